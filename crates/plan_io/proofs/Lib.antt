@@ -1,0 +1,3 @@
+mod Examples
+pub mod Files
+pub mod Written

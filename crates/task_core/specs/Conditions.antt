@@ -1,0 +1,38 @@
+-- Where a condition holds.
+use Rattle.std.specs.Prelude.{ℕ, Bool, true, false, not, nat_lt}
+use Rattle.std.specs.List.{list_all, list_any}
+use Rattle.task_core.specs.States.{truth}
+use Rattle.task_core.specs.declared.states.State.{State}
+use Rattle.task_core.specs.declared.conditions.Cond.{Cond}
+use Rattle.task_core.specs.declared.conditions.Cond.TheOpen.{Cond-F, Yes, No, Is, Not, All, Any}
+use Rattle.task_core.specs.declared.conditions.Cond.TheFolds.{fold-Cond}
+
+-- one layer of a condition at the values of the fluents, with the meaning of each part in its place
+abbrev pub holds_step : Cond-F ((ℕ → Bool) → Bool) → (ℕ → Bool) → Bool
+holds_step Yes value = true
+holds_step No value = false
+holds_step (Is f) value = value f.0
+holds_step (Not part) value = not (part.value value)
+holds_step (All parts) value = list_all (λ part. part value) parts.items
+holds_step (Any parts) value = list_any (λ part. part value) parts.items
+
+-- whether a condition holds where the fluents have these values
+abbrev pub holds : Cond → (ℕ → Bool) → Bool
+holds = fold-Cond ((ℕ → Bool) → Bool) holds_step
+
+-- whether it holds in a state
+abbrev pub holds_in : Cond → State → Bool
+holds_in cond state = holds cond (truth state)
+
+-- one layer of the test whether every fluent is below n
+abbrev pub below_step : ℕ → Cond-F Bool → Bool
+below_step n Yes = true
+below_step n No = true
+below_step n (Is f) = nat_lt f.0 n
+below_step n (Not part) = part.value
+below_step n (All parts) = list_all (λ part. part) parts.items
+below_step n (Any parts) = list_all (λ part. part) parts.items
+
+-- whether every fluent that the condition names is below n
+abbrev pub ids_below : ℕ → Cond → Bool
+ids_below n = fold-Cond Bool (below_step n)

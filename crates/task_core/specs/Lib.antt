@@ -1,0 +1,9 @@
+pub mod Vectors
+pub mod Systems
+pub mod Tables
+pub mod Solutions
+pub mod Cubes
+pub mod States
+pub mod Conditions
+pub mod Actions
+pub mod Tasks

@@ -1,0 +1,33 @@
+//! Actions and what they may do.
+
+use crate::{Cond, Lit, State};
+
+/// What one part of an outcome does: where `cond` holds in the old state, `lit` adds its fluent (makes it
+/// true) or deletes it (makes it false).
+#[derive(Debug, Drop)]
+pub struct Change {
+    pub cond: Cond,
+    pub lit: Lit,
+}
+
+/// One thing that an action may do. Every condition is read in the old state; a fluent that is both added
+/// and deleted becomes true, and one that is neither keeps its value.
+#[derive(Debug, Drop)]
+pub struct Outcome {
+    pub changes: Vec<Change>,
+}
+
+/// An action without parameters: its name as a list of words, where it can be executed, and what it
+/// may do, outcomes numbered from 0.
+#[derive(Debug, Drop)]
+pub struct GroundAction {
+    pub name: Vec<String>,
+    pub exec: Cond,
+    pub outcomes: Vec<Outcome>,
+}
+
+/// The initial state.
+#[derive(Debug, Drop)]
+pub struct InitSpec {
+    pub facts: State,
+}

@@ -1,0 +1,51 @@
+//! Conditions on a state.
+
+ghost use Rattle.std.specs.Prelude.{◌≡◌, ◌≤◌, IsTrue};
+ghost use Rattle.task_core.specs.Conditions.{holds_in, ids_below};
+
+use crate::{FluentId, State};
+
+/// A condition on a state, built from the values of fluents.
+#[derive(Debug, Drop)]
+pub enum Cond {
+    /// Holds always.
+    Yes,
+    /// Holds never.
+    No,
+    /// Holds where the fluent is true.
+    Is(FluentId),
+    Not(Box<Cond>),
+    /// Holds where each part does; without parts always.
+    All(Vec<Cond>),
+    /// Holds where some part does; without parts never.
+    Any(Vec<Cond>),
+}
+
+/// Whether a condition holds in a state. Its fluents are below 256.
+pub fn cond_holds(cond: &Cond, state: &State) -> bool
+    requires { IsTrue (ids_below 256 cond.now) }
+    ensures value { result ≡ holds_in cond.now state.now }
+{
+    match cond {
+        Cond::Yes => true,
+        Cond::No => false,
+        Cond::Is(f) => state.get(*f),
+        Cond::Not(part) => !cond_holds(part, state),
+        Cond::All(parts) => {
+            for part in parts {
+                if !cond_holds(part, state) {
+                    return false;
+                }
+            }
+            true
+        }
+        Cond::Any(parts) => {
+            for part in parts {
+                if cond_holds(part, state) {
+                    return true;
+                }
+            }
+            false
+        }
+    }
+}

@@ -1,0 +1,24 @@
+//! Laws of the definitions, each as the contract of a function that does nothing.
+
+ghost use Rattle.std.specs.Prelude.{◌≡◌, ℕ, Bool, ◌++◌, length};
+ghost use Rattle.std.specs.List.{list_any};
+ghost use Rattle.task_core.specs.Vectors.{Vector};
+ghost use Rattle.task_core.specs.Systems.{IsSystem};
+ghost use Rattle.task_core.specs.Cubes.{matches, cubes_from, cubes_of};
+ghost use Rattle.task_core.specs.Tasks.{system_of};
+
+use crate::Task;
+
+/// The cubes of a set of states match exactly the states in it. The cubes over the fluents from `first` on
+/// do so behind the values of the fluents before.
+pub fn cubes_match_their_set()
+    ensures all_fluents { (n : ℕ) (set : Vector → Bool) (v : Vector) → length v ≡ n → list_any (λ cube. matches cube v) (cubes_of n set) ≡ set v }
+    ensures later_fluents { (first : ℕ) (n : ℕ) (set : Vector → Bool) (before : Vector) (v : Vector) → length before ≡ first → length v ≡ n
+        → list_any (λ cube. matches cube (before ++ v)) (cubes_from first n set) ≡ set v }
+{}
+
+/// The parts of a task's system fit together: its initial and goal states and its outcomes are states over
+/// its fluents, and only its actions can be executed.
+pub fn tasks_have_systems(task: &Task)
+    ensures { IsSystem (system_of task.now) }
+{}

@@ -1,0 +1,27 @@
+//! What a planner speaks of: states as lists of truth values, conditions on them, actions with
+//! several outcomes, and, for proofs, the systems, tables and solutions that a task has.
+//!
+//! The notions are those of Cimatti, Pistore, Roveri and Traverso, "Weak, strong, and strong cyclic
+//! planning via symbolic model checking" (Artificial Intelligence 147, 2003). `specs/` has them:
+//! `Vectors` (a state as a list of truth values), `Systems`, `Tables` (state-action tables and their
+//! paths), `Solutions`, `Cubes`; `States`, `Conditions`, `Actions` and `Tasks` say what the types
+//! below mean.
+#![tactic(auto)]
+
+mod actions;
+mod conditions;
+mod laws;
+mod literals;
+mod states;
+mod steps;
+mod tasks;
+#[cfg(test)]
+mod tests;
+
+pub use actions::{Change, GroundAction, InitSpec, Outcome};
+pub use conditions::{Cond, cond_holds};
+pub use laws::{cubes_match_their_set, tasks_have_systems};
+pub use literals::{ActionId, FluentId, Lit};
+pub use states::State;
+pub use steps::{is_exec, step};
+pub use tasks::Task;
