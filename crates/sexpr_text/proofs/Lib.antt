@@ -1,0 +1,12 @@
+pub mod Lines
+pub mod Depths
+pub mod Between
+pub mod Unique
+pub mod Reading
+pub mod Steps
+pub mod Ends
+pub mod OneAnswer
+pub mod Forests
+pub mod Turns
+pub mod Shapes
+pub mod Examples

@@ -1,0 +1,28 @@
+//! S-expressions with places: the forms that a text spells, or its first lexical fault.
+//!
+//! A text is a list of bytes. White space is the bytes 9 to 13 and 32. A `;` begins a comment that
+//! runs up to and without the next line feed, or to the end, and may hold any bytes. `(` and `)`
+//! are parentheses. A word is a longest run of the bytes 33 to 126 other than `(`, `)` and `;`, and
+//! its text is that run in lower case. Every other byte outside a comment is a fault.
+//!
+//! `specs/Lexis.antt` says what stands at an offset, `specs/Spelling.antt` which forms a text
+//! spells, `specs/Faults.antt` which fault it has, and `specs/Formed.antt` what holds of every form
+//! that was read. `laws` says that a text has exactly one of the two.
+#![tactic(auto)]
+
+mod bytes;
+mod faults;
+mod forms;
+mod laws;
+mod nest;
+mod read;
+mod scan;
+#[cfg(test)]
+mod tests;
+mod texts;
+
+pub use faults::{FaultKind, InputFault, ReadErr};
+pub use forms::{Form, Place, Span};
+pub use laws::{fault_rules_out_forms, one_fault, one_spelling, spelled_or_faulty};
+pub use read::{MAX_BYTES, MAX_DEPTH, read_forms};
+pub use texts::Text;
