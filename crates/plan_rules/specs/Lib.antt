@@ -1,0 +1,7 @@
+pub mod Rules
+pub mod Denoted
+pub mod Texts
+pub mod Names
+pub mod Plans
+pub mod Rows
+pub mod Readings
