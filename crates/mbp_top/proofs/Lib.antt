@@ -1,0 +1,10 @@
+pub mod Causes
+pub mod FourWords
+pub mod Later
+pub mod PlanAnswers
+pub mod Spellable
+pub mod SpelledNames
+pub mod Statuses
+pub mod Told
+mod ToldExamples
+mod PlanExamples

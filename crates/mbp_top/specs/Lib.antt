@@ -1,0 +1,9 @@
+pub mod Words
+pub mod Files
+pub mod Plans
+pub mod Answers
+pub mod Delivery
+pub mod Heard
+pub mod Replies
+pub mod Stops
+pub mod Told

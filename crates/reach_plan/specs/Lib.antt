@@ -1,0 +1,5 @@
+pub mod Layers
+pub mod Printed
+pub mod Listed
+pub mod LayerLists
+pub mod Found

@@ -1,0 +1,11 @@
+mod RowLemmas
+mod EachLemmas
+mod NameTests
+mod NameLemmas
+mod Words
+mod Outcomes
+mod Examples
+pub mod Grammar
+pub mod Answered
+pub mod Systems
+pub mod TaskNames

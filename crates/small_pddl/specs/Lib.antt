@@ -1,0 +1,8 @@
+pub mod Trees
+pub mod Rows
+pub mod Spelled
+pub mod Meaning
+pub mod Values
+pub mod Limits
+pub mod Reading
+pub mod Grounding

@@ -1,0 +1,32 @@
+-- The forms of a text without their places.
+use Rattle.std.specs.Prelude.{ℕ, List, [], ◌∷◌, ⊤}
+use Rattle.sexpr_text.specs.declared.forms.Form.{Form}
+use Rattle.sexpr_text.specs.Forest.{Forest, nothing, word as placed_word, group as placed_group, form_then, forest_of}
+
+-- forms in a row: none; or a word and the row that follows it; or the row between two parentheses and
+-- the row that follows them
+pub data Row : Type 0 where
+  nil : Row
+  word : List ℕ → Row → Row
+  group : Row → Row → Row
+
+-- the forms of trees with places
+abbrev pub row_of : Forest → Row
+row_of nothing = nil
+row_of (placed_word span text rest) = word text (row_of rest)
+row_of (placed_group span parts rest) = group (row_of parts) (row_of rest)
+
+-- the same of a list of forms, and of one form
+abbrev pub row_of_forms : List Form → Row
+row_of_forms forms = row_of (forest_of forms)
+
+abbrev pub row_of_form : Form → Row
+row_of_form form = row_of (form_then form nothing)
+
+-- a row of groups, one for each item and in their order, where R says what a group's parts say of its item
+abbrev pub EachGroup : {X : Type 0} → (Row → X → Type 0) → Row → List X → Type 0
+EachGroup R nil [] = ⊤
+EachGroup R nil (x ∷ xs) = ⊥
+EachGroup R (word text rest) xs = ⊥
+EachGroup R (group parts rest) [] = ⊥
+EachGroup R (group parts rest) (x ∷ xs) = R parts x × EachGroup R rest xs
