@@ -1,0 +1,4 @@
+pub mod Laws
+pub mod NodeList
+pub mod Subfunctions
+pub mod Table

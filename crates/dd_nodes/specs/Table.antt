@@ -1,0 +1,17 @@
+-- What callers see of a node table.
+use Rattle.std.specs.Prelude.{ℕ, ◌≤◌, List, length}
+use Rattle.dd_nodes.specs.declared.node.Node.{Node}
+use Rattle.dd_nodes.specs.NodeList.{IsReduced}
+
+-- the number of variables, the largest number of nodes, and the nodes, in the order of their numbers
+pub record Table : Type 0 where
+  pub vars : ℕ
+  pub limit : ℕ
+  pub nodes : List Node
+
+-- what is true of every table
+pub record IsTable (table : Table) : Type 0 where
+  pub few_vars : table.vars ≤ 256
+  pub small_limit : table.limit ≤ 16777216
+  pub within_limit : length table.nodes ≤ table.limit
+  pub reduced : IsReduced table.vars table.nodes

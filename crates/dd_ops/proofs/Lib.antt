@@ -1,0 +1,24 @@
+pub mod CofactorLemmas
+pub mod ErrorLemmas
+pub mod GrowthAgree
+pub mod GrowthAnswers
+pub mod GrowthBounds
+pub mod GrowthCount
+pub mod GrowthCounting
+mod GrowthExamples
+pub mod GrowthFixed
+pub mod GrowthHalves
+pub mod GrowthOps
+pub mod GrowthParts
+pub mod GrowthReached
+pub mod GrowthReplaced
+pub mod GrowthSteps
+pub mod GrowthSubst
+pub mod GrowthSubstSteps
+pub mod GrowthTables
+pub mod HalvesLemmas
+pub mod MemoLemmas
+pub mod QuestionEq
+pub mod QuestionLemmas
+pub mod SubstLemmas
+pub mod ValueLemmas

@@ -1,0 +1,95 @@
+-- The functions of the operations that are one if-then-else with constants.
+use Rattle.std.proofs.Common.{length, length-append, arith, ◌≤◌, ◌+◌, ◌≡◌, ℕ, Bool, true, false, not, ◌&&◌, ◌||◌, cond, List, refl, sym, ap, ◌∙◌, if◌then◌else◌}
+use Rattle.dd_nodes.specs.declared.node.Node.{Node}
+use Rattle.std.proofs.Common.{Result, Ok, Err, IfOk, subst}
+use Rattle.dd_nodes.specs.NodeList.{Values, function, IsNumber}
+use Rattle.dd_nodes.specs.Table.{Table, IsTable}
+use Rattle.dd_nodes.proofs.Extending.{extends_function}
+use Rattle.dd_ops.specs.declared.question.Question.{Question}
+use Rattle.dd_ops.specs.Answers.{AreNumbers, IsAsked, IsAnswer, IsCofactor, IsReplaced}
+use Rattle.dd_nodes.specs.declared.node.Ref.{Ref}
+use Rattle.dd_ops.proofs.SubstLemmas.{subst_extends}
+use Rattle.dd_ops.proofs.QuestionLemmas.{asked_function}
+use Rattle.dd_nodes.specs.Subfunctions.{Function}
+use Rattle.dd_nodes.proofs.NodeLemmas.{function_false, function_true}
+use Rattle.dd_ops.specs.Operations.{variable, not_of, and_of, or_of, minus_of, ite_of, cofactor_of, subst_of, Keeps}
+
+module _ (nodes : List Node) where
+  false_number : function nodes 0 ≡ (λ _. false)
+  false_number = λ i values. function_false nodes values i
+
+  true_number : function nodes 1 ≡ (λ _. true)
+  true_number = λ i values. function_true nodes values i
+
+  pub ite_not : (f : Function) → ite_of f (function nodes 0) (function nodes 1) ≡ not_of f
+  ite_not f = (λ i. ite_of f (false_number i) (true_number i)) ∙ (λ i values. by (f values) i)
+    where
+      by : (b : Bool) → cond b false true ≡ not b
+      by true = refl
+      by false = refl
+
+  pub ite_and : (f g : Function) → ite_of f g (function nodes 0) ≡ and_of f g
+  ite_and f g = (λ i. ite_of f g (false_number i)) ∙ (λ i values. by (f values) (g values) i)
+    where
+      by : (b c : Bool) → cond b c false ≡ (b && c)
+      by true c = refl
+      by false c = refl
+
+  pub ite_or : (f g : Function) → ite_of f (function nodes 1) g ≡ or_of f g
+  ite_or f g = (λ i. ite_of f (true_number i) g) ∙ (λ i values. by (f values) (g values) i)
+    where
+      by : (b c : Bool) → cond b true c ≡ (b || c)
+      by true c = refl
+      by false c = refl
+
+  pub ite_minus : (f g : Function) → ite_of g (function nodes 0) f ≡ minus_of f g
+  ite_minus f g = (λ i. ite_of g (false_number i) f) ∙ (λ i values. by (f values) (g values) i)
+    where
+      by : (b c : Bool) → cond c false b ≡ (b && not c)
+      by true true = refl
+      by true false = refl
+      by false true = refl
+      by false false = refl
+
+  -- a node whose children are the constants
+  pub node_variable : (v : ℕ) (values : Values) → (if values v then function nodes 1 values else function nodes 0 values) ≡ variable v values
+  node_variable v values = (λ i. cond (values v) (function_true nodes values i) (function_false nodes values i)) ∙ by (values v)
+    where
+      by : (b : Bool) → cond b true false ≡ b
+      by true = refl
+      by false = refl
+
+-- what follows of the value of an `Ok`
+pub ok_then : {X Y : Type 0} {P Q : X → Type 0} (r : Result X Y) → IfOk r P → ((x : X) → P x → Q x) → IfOk r Q
+ok_then (Ok x) p follows = follows x p
+ok_then (Err y) p follows = tt
+
+-- a table that a value shows, and what a call leaves of it
+module _ (inside now after : Table) (is : inside ≡ now) (table : IsTable inside) (kept : Keeps inside after) where
+  pub earlier_function : (n : ℕ) → IsNumber now.nodes n → function after.nodes n ≡ function now.nodes n
+  earlier_function n number =
+      extends_function inside.nodes after.nodes kept.nodes inside.vars table.reduced n (subst (λ (t : Table). IsNumber t.nodes n) (sym is) number)
+      ∙ ap (λ (t : Table). function t.nodes n) is
+
+  pub longer : length now.nodes ≤ length after.nodes
+  longer =
+      let grown : length after.nodes ≡ length inside.nodes + length kept.nodes.more = ap length kept.nodes.appended ∙ length-append inside.nodes kept.nodes.more in
+      let same : length inside.nodes ≡ length now.nodes = ap (λ (t : Table). length t.nodes) is in
+      omega arith
+
+  pub answer_function : (q : Question) → IsAsked now.nodes q → (r : ℕ) → IsAnswer after.nodes q r
+      → function after.nodes r ≡ ite_of (function now.nodes q.f.0) (function now.nodes q.g.0) (function now.nodes q.h.0)
+  answer_function q asked r answer =
+      answer.value
+      ∙ asked_function inside.nodes after.nodes kept.nodes inside.vars table.reduced q (subst (λ (t : Table). IsAsked t.nodes q) (sym is) asked)
+      ∙ ap (λ (t : Table). ite_of (function t.nodes q.f.0) (function t.nodes q.g.0) (function t.nodes q.h.0)) is
+
+  pub cofactor_function : (f v : ℕ) (b : Bool) → IsNumber now.nodes f → (r : ℕ) → IsCofactor after.nodes v b f r → function after.nodes r ≡ cofactor_of (function now.nodes f) v b
+  cofactor_function f v b number r answer = answer.value ∙ ap (λ g. cofactor_of g v b) (earlier_function f number)
+
+  pub subst_function : (map : List (ℕ × Ref)) → AreNumbers now.nodes map → (f : ℕ) → IsNumber now.nodes f → (r : ℕ) → IsReplaced after.nodes map f r
+      → function after.nodes r ≡ subst_of now.nodes map (function now.nodes f)
+  subst_function map numbers f number r answer =
+      answer.value
+      ∙ subst_extends inside.nodes after.nodes kept.nodes inside.vars table.reduced map (subst (λ (t : Table). AreNumbers t.nodes map) (sym is) numbers) f (subst (λ (t : Table). IsNumber t.nodes f) (sym is) number)
+      ∙ ap (λ (t : Table). subst_of t.nodes map (function t.nodes f)) is

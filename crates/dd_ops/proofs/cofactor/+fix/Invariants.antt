@@ -1,0 +1,7 @@
+-- Each child looks only at greater variables.
+use Rattle.std.proofs.Common.{◌-◌}
+use Rattle.dd_ops.specs.Answers.{level_of}
+use Rattle.dd_ops.proofs.cofactor.+fix.Given as goal
+
+abbrev pub decreases-fix : goal.decreases-fix
+decreases-fix l = 256 - level_of l.dd.now.nodes l.f.0

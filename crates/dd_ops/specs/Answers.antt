@@ -1,0 +1,93 @@
+-- What the steps within a call answer.
+use Rattle.std.specs.Prelude.{◌≡◌, ℕ, ◌<◌, ◌≤◌, min, Bool, true, false, List, Some, slice_get}
+use Rattle.std.specs.Option.{option_map_or}
+use Rattle.dd_nodes.specs.declared.node.Node.{Node}
+use Rattle.dd_nodes.specs.declared.node.Ref.{Ref}
+use Rattle.dd_nodes.specs.NodeList.{IsNumber, node_at, function, StandsBelow, StandsFrom}
+use Rattle.dd_nodes.specs.Table.{Table}
+use Rattle.dd_ops.specs.declared.question.Question.{Question}
+use Rattle.dd_ops.specs.Operations.{ite_of, cofactor_of, listed, subst_of}
+
+-- a memo has an entry
+abbrev pub HasEntry : List (Ref × Ref) → Ref → Ref → Type 0
+HasEntry entries f r = (i : ℕ) × (slice_get entries i ≡ Some (f, r))
+
+-- the variable of a number; the constants stand below every variable
+abbrev pub level_of : List Node → ℕ → ℕ
+level_of nodes n = option_map_or (λ node. node.var) (node_at nodes n) 256
+
+-- the least variable of the three numbers of a question
+abbrev pub top_of : List Node → Question → ℕ
+top_of nodes q = min (min (level_of nodes q.f.0) (level_of nodes q.g.0)) (level_of nodes q.h.0)
+
+-- the numbers of a question are in the list
+pub record IsAsked (nodes : List Node) (q : Question) : Type 0 where
+  pub f : IsNumber nodes q.f.0
+  pub g : IsNumber nodes q.g.0
+  pub h : IsNumber nodes q.h.0
+
+-- the numbers of a question stand from variable v on
+pub record AsksFrom (nodes : List Node) (v : ℕ) (q : Question) : Type 0 where
+  pub f : StandsFrom nodes v q.f.0
+  pub g : StandsFrom nodes v q.g.0
+  pub h : StandsFrom nodes v q.h.0
+
+-- r answers the question: it is g where f is true and h where it is false, and stands as deep as they do
+pub record IsAnswer (nodes : List Node) (q : Question) (r : ℕ) : Type 0 where
+  pub asked : IsAsked nodes q
+  pub number : IsNumber nodes r
+  pub value : function nodes r ≡ ite_of (function nodes q.f.0) (function nodes q.g.0) (function nodes q.h.0)
+  pub from : (v : ℕ) → AsksFrom nodes v q → StandsFrom nodes v r
+
+-- c is n where variable v has the value b, and stands below v
+pub record IsBranch (nodes : List Node) (v : ℕ) (b : Bool) (n c : ℕ) : Type 0 where
+  pub number : IsNumber nodes c
+  pub below : StandsBelow nodes v c
+  pub value : function nodes c ≡ cofactor_of (function nodes n) v b
+  pub from : (w : ℕ) → StandsFrom nodes w n → StandsFrom nodes w c
+
+-- the same for each number of a question
+pub record IsHalf (nodes : List Node) (v : ℕ) (b : Bool) (q p : Question) : Type 0 where
+  pub f : IsBranch nodes v b q.f.0 p.f.0
+  pub g : IsBranch nodes v b q.g.0 p.g.0
+  pub h : IsBranch nodes v b q.h.0 p.h.0
+
+-- lo and hi answer the halves of a question at v, the least variable that it looks at, and stand below v
+pub record AreHalfAnswers (table : Table) (q : Question) (v lo hi : ℕ) : Type 0 where
+  pub in_range : v < table.vars
+  pub least : (w : ℕ) → AsksFrom table.nodes w q → w ≤ v
+  pub lo_number : IsNumber table.nodes lo
+  pub hi_number : IsNumber table.nodes hi
+  pub lo_below : StandsBelow table.nodes v lo
+  pub hi_below : StandsBelow table.nodes v hi
+  pub lo_value : function table.nodes lo ≡ cofactor_of (ite_of (function table.nodes q.f.0) (function table.nodes q.g.0) (function table.nodes q.h.0)) v false
+  pub hi_value : function table.nodes hi ≡ cofactor_of (ite_of (function table.nodes q.f.0) (function table.nodes q.g.0) (function table.nodes q.h.0)) v true
+
+-- each entry of a memo is an answer
+abbrev pub Remembers : List Node → List (Question × Ref) → Type 0
+Remembers nodes entries = (i : ℕ) (q : Question) (r : Ref) → slice_get entries i ≡ Some (q, r) → IsAnswer nodes q r.0
+
+-- r has the function of f with variable v fixed at b, and stands as deep as f does
+pub record IsCofactor (nodes : List Node) (v : ℕ) (b : Bool) (f r : ℕ) : Type 0 where
+  pub asked : IsNumber nodes f
+  pub number : IsNumber nodes r
+  pub value : function nodes r ≡ cofactor_of (function nodes f) v b
+  pub from : (w : ℕ) → StandsFrom nodes w f → StandsFrom nodes w r
+
+-- each entry of a memo is a cofactor
+abbrev pub RemembersCofactors : List Node → ℕ → Bool → List (Ref × Ref) → Type 0
+RemembersCofactors nodes v b entries = (f r : Ref) → HasEntry entries f r → IsCofactor nodes v b f.0 r.0
+
+-- each number that the list of replacements gives is in the table
+abbrev pub AreNumbers : List Node → List (ℕ × Ref) → Type 0
+AreNumbers nodes map = (v : ℕ) (g : Ref) → listed map v ≡ Some g → IsNumber nodes g.0
+
+-- r has the function of f with all listed variables replaced
+pub record IsReplaced (nodes : List Node) (map : List (ℕ × Ref)) (f r : ℕ) : Type 0 where
+  pub asked : IsNumber nodes f
+  pub number : IsNumber nodes r
+  pub value : function nodes r ≡ subst_of nodes map (function nodes f)
+
+-- each entry of a memo is such a number
+abbrev pub RemembersReplaced : List Node → List (ℕ × Ref) → List (Ref × Ref) → Type 0
+RemembersReplaced nodes map entries = (f r : Ref) → HasEntry entries f r → IsReplaced nodes map f.0 r.0

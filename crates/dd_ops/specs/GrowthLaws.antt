@@ -1,0 +1,52 @@
+-- The laws of growth.
+use Rattle.std.specs.Prelude.{◌≡◌, ◌≢◌, ◌↔◌, Some, ℕ, ◌+◌, ◌^◌, ◌<◌, ◌≤◌, Bool, true, List, [], ◌∷◌, ◌++◌, length}
+use Rattle.dd_nodes.specs.declared.node.Node.{Node}
+use Rattle.dd_nodes.specs.NodeList.{Values, node_at, IsNumber, IsReduced, StandsBelow, Lacks, function}
+use Rattle.dd_nodes.specs.Subfunctions.{Function, IsSubfunction}
+use Rattle.dd_ops.specs.Operations.{variable, ite_of}
+use Rattle.dd_ops.specs.Growth.{grow, DependsOnly, AddsParts, LacksPart, depends_on, subst_pieces, IsReached}
+
+-- a list that adds parts of the pieces alone adds no more nodes than `grow` counts
+abbrev pub GrowsWithin : Type 0
+GrowsWithin =
+    (vars : ℕ) (pieces : List Function) (before after : List Node) → IsReduced vars before → AddsParts vars pieces before after
+    → length after ≤ length before + grow vars before pieces
+
+-- and fewer where it still lacks a part: if it holds `limit` nodes, it held more than `limit` less `grow` before
+abbrev pub FullOnlyBeyond : Type 0
+FullOnlyBeyond =
+    (vars : ℕ) (pieces : List Function) (before after : List Node) → IsReduced vars before → AddsParts vars pieces before after → LacksPart vars pieces after
+    → (limit : ℕ) → length after ≡ limit → limit < length before + grow vars before pieces
+
+-- the function that a node would have which the list lacks is that of no number
+abbrev pub RefusedNodeIsMissing : Type 0
+RefusedNodeIsMissing =
+    (vars : ℕ) (nodes : List Node) (node : Node) → IsReduced vars nodes → node.var < vars → node.lo ≢ node.hi → Lacks nodes node
+    → IsNumber nodes node.lo.0 → IsNumber nodes node.hi.0 → StandsBelow nodes node.var node.lo.0 → StandsBelow nodes node.var node.hi.0
+    → LacksPart vars (ite_of (variable node.var) (function nodes node.hi.0) (function nodes node.lo.0) ∷ []) nodes
+
+-- one piece needs fewer nodes than there are lists of truth values, and more pieces need no more than each alone
+abbrev pub PieceGrowsBelow : Type 0
+PieceGrowsBelow = (vars : ℕ) (before : List Node) (piece : Function) → grow vars before (piece ∷ []) < 2 ^ vars
+
+abbrev pub PiecesGrowTogether : Type 0
+PiecesGrowTogether =
+    (vars : ℕ) (before : List Node) (pieces others : List Function) → grow vars before (pieces ++ others) ≤ grow vars before pieces + grow vars before others
+
+-- a substitution needs at most the square of the number of lists of truth values
+abbrev pub SubstitutionGrowsWithin : Type 0
+SubstitutionGrowsWithin =
+    (vars : ℕ) (before : List Node) (f : Function) (is_listed : ℕ → Bool) (replaced : Values → Values) → DependsOnly 0 vars f
+    → grow vars before (subst_pieces vars f is_listed replaced) ≤ 4 ^ vars
+
+-- the pieces of a substitution by numbers: the subfunctions of a number's function are the functions of the numbers that are
+-- reached from it, and the variables on which it depends are those of their nodes
+abbrev pub SubfunctionsAreReached : Type 0
+SubfunctionsAreReached =
+    (vars : ℕ) (nodes : List Node) → IsReduced vars nodes → (n : ℕ) → IsNumber nodes n → (g : Function)
+    → IsSubfunction vars (function nodes n) g ↔ ((m : ℕ) × IsReached nodes n m × (function nodes m ≡ g))
+
+abbrev pub VariablesAreReached : Type 0
+VariablesAreReached =
+    (vars : ℕ) (nodes : List Node) → IsReduced vars nodes → (n : ℕ) → IsNumber nodes n → (v : ℕ)
+    → (depends_on vars (function nodes n) v ≡ true) ↔ ((m : ℕ) × (node : Node) × IsReached nodes n m × (node_at nodes m ≡ Some node) × (node.var ≡ v))

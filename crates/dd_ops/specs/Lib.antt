@@ -1,0 +1,4 @@
+pub mod Answers
+pub mod Growth
+pub mod GrowthLaws
+pub mod Operations

@@ -1,0 +1,62 @@
+//! If-then-else, on which the other operations stand.
+ghost use Rattle.std.specs.Prelude.{◌≡◌, ◌<◌, [], ◌∷◌, IfOk, IsErrOf};
+ghost use Rattle.dd_nodes.specs.Table.{IsTable};
+ghost use Rattle.dd_ops.specs.Answers.{IsAsked, IsAnswer, AreHalfAnswers, Remembers};
+ghost use Rattle.dd_ops.specs.Growth.{AddsParts, IsFullFor, asked_of};
+ghost use Rattle.dd_ops.specs.Operations.{Keeps};
+
+use crate::memo::{recall, remember};
+use crate::question::{Question, half, shortcut, top};
+use dd_nodes::{Dd, DdErr, Ref};
+use indexmap::IndexMap;
+
+/// The answer to a question, by the answers to its halves.
+///
+/// Each half looks only at greater variables, so the calls are nested at most 256 deep.
+pub fn answer(dd: &mut Dd, memo: &mut IndexMap<Question, Ref>, q: Question) -> Result<Ref, DdErr>
+    requires table { IsTable dd.old }
+    requires asked { IsAsked dd.old.nodes q }
+    requires memo { Remembers dd.old.nodes memo.old.entries }
+    ensures answer { IfOk result (λ r. IsAnswer dd.new.nodes q r.0) }
+    ensures kept { Keeps dd.old dd.new }
+    ensures table { IsTable dd.new }
+    ensures memo { Remembers dd.new.nodes memo.new.entries }
+    ensures adds { AddsParts dd.old.vars (asked_of dd.old.nodes q ∷ []) dd.old.nodes dd.new.nodes }
+    ensures full { IsErrOf result DdErr.Full → IsFullFor (asked_of dd.old.nodes q ∷ []) dd.new }
+{
+    if let Some(r) = shortcut(q) {
+        return Ok(r);
+    }
+    if let Some(r) = recall(memo, q) {
+        return Ok(r);
+    }
+    let var = top(dd, q);
+    let lo = answer(dd, memo, half(dd, q, var, false))?;
+    let hi = answer(dd, memo, half(dd, q, var, true))?;
+    join(dd, memo, q, var, lo, hi)
+}
+
+/// The answer to a question, by the answers to its halves at `var`, which the memo keeps.
+fn join(
+    dd: &mut Dd,
+    memo: &mut IndexMap<Question, Ref>,
+    q: Question,
+    var: u32,
+    lo: Ref,
+    hi: Ref,
+) -> Result<Ref, DdErr>
+    requires table { IsTable dd.old }
+    requires asked { IsAsked dd.old.nodes q }
+    requires halves { AreHalfAnswers dd.old q var lo.0 hi.0 }
+    requires memo { Remembers dd.old.nodes memo.old.entries }
+    ensures answer { IfOk result (λ r. IsAnswer dd.new.nodes q r.0) }
+    ensures kept { Keeps dd.old dd.new }
+    ensures table { IsTable dd.new }
+    ensures memo { Remembers dd.new.nodes memo.new.entries }
+    ensures adds { AddsParts dd.old.vars (asked_of dd.old.nodes q ∷ []) dd.old.nodes dd.new.nodes }
+    ensures full { IsErrOf result DdErr.Full → IsFullFor (asked_of dd.old.nodes q ∷ []) dd.new }
+{
+    let r = dd.mk(var, lo, hi)?;
+    remember(memo, q, r)?;
+    Ok(r)
+}
