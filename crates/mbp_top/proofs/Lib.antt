@@ -3,7 +3,6 @@ pub mod FourWords
 pub mod Later
 pub mod PlanAnswers
 pub mod Spellable
-pub mod SpelledNames
 pub mod Statuses
 pub mod Told
 mod ToldExamples

@@ -6,7 +6,7 @@ use Rattle.plan_rules.specs.Readings.{IsWordText, IsSpellable, AreSpellable, fir
 use Rattle.small_pddl.specs.Trees.{Domain}
 use Rattle.small_pddl.specs.Spelled.{SpellsDomain}
 use Rattle.small_pddl.specs.Meaning.{fluent_names, action_names}
-use Rattle.mbp_top.proofs.SpelledNames.{IsFluentWord, IsOneLowerWord, fluent_names-words, action_names-words}
+use Rattle.small_pddl.proofs.SpelledNames.{IsFluentWord, IsOneLowerWord, fluent_names-words, action_names-words}
 
 cons-some : (w : List ℕ) (rest : List (List ℕ)) → w ∷ rest ≢ []
 cons-some w rest e = cc

@@ -4,7 +4,7 @@ use Rattle.std.specs.Prelude.{if◌then◌else◌}
 use Rattle.task_core.specs.Cubes.{literal}
 use Rattle.task_core.specs.declared.literals.Lit.{Lit}
 use Rattle.plan_rules.specs.Readings.{IsNameOf, IsLiteral, IsRule, first_word}
-use Rattle.plan_rules.specs.Rows.{Row, nil, word, group, words, IsFirstGroup}
+use Rattle.sexpr_text.specs.Rows.{Row, nil, word, group, words, IsFirstGroup}
 use Rattle.plan_rules.specs.Rules.{PlanRule}
 use Rattle.plan_rules.specs.Texts.{Name, name_at, literal_text, rule_text, table_text}
 use Rattle.plan_rules.specs.declared.rules.Class.TheVariants.{Cyclic}

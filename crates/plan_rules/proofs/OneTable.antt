@@ -5,7 +5,7 @@ use Rattle.task_core.specs.declared.literals.Lit.{Lit}
 use Rattle.task_core.specs.Cubes.{Cube, literal}
 use Rattle.sexpr_text.proofs.OneAnswer.{spells_trees-unique}
 use Rattle.plan_rules.specs.Readings.{IsNameOf, IsLiteral, IsRule, IsTable, SpellsTable, AreDistinct}
-use Rattle.plan_rules.specs.Rows.{Row, nil, word, group, row_of, words, EachGroup, IsFirstGroup}
+use Rattle.sexpr_text.specs.Rows.{Row, nil, word, group, row_of, words, EachGroup, IsFirstGroup}
 use Rattle.plan_rules.specs.Rules.{PlanRule}
 use Rattle.plan_rules.specs.Texts.{Name, name_at, class_word}
 use Rattle.plan_rules.specs.declared.rules.Class.{Class}

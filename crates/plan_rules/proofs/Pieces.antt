@@ -19,7 +19,7 @@ use Rattle.sexpr_text.proofs.Ends.{found-spelling}
 use Rattle.sexpr_text.proofs.Reading.{IsReading}
 use Rattle.sexpr_text.proofs.Steps.{read-start, read-space, read-word, read-open, read-close}
 use Rattle.plan_rules.specs.Readings.{IsWordText}
-use Rattle.plan_rules.specs.Rows.{Row, nil, word, group, row_of}
+use Rattle.sexpr_text.specs.Rows.{Row, nil, word, group, row_of}
 use Rattle.plan_rules.specs.Texts.{in_parentheses}
 
 -- one row after another

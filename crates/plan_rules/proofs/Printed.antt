@@ -11,7 +11,7 @@ use Rattle.sexpr_text.specs.Formed.{is_lower_word_byte}
 use Rattle.plan_rules.specs.Names.{name_bytes, name_of, fluent_names, action_names}
 use Rattle.plan_rules.specs.Plans.{IsRuleOf, IsPlanOf, plan_text}
 use Rattle.plan_rules.specs.Readings.{IsNameOf, IsLiteral, IsRule, SpellsTable, SpellsPlan, IsWordText, IsSpellable, AreSpellable}
-use Rattle.plan_rules.specs.Rows.{Row, nil, word, group, words, EachGroup, IsFirstGroup}
+use Rattle.sexpr_text.specs.Rows.{Row, nil, word, group, words, EachGroup, IsFirstGroup}
 use Rattle.plan_rules.specs.Rules.{PlanRule, rules_of}
 use Rattle.plan_rules.specs.Texts.{Name, name_at, spaced, line_feed, in_parentheses, atom_text, literal_text, cube_text, rule_text, class_word, table_text}
 use Rattle.plan_rules.specs.declared.rules.Class.{Class}

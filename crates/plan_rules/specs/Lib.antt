@@ -3,5 +3,4 @@ pub mod Denoted
 pub mod Texts
 pub mod Names
 pub mod Plans
-pub mod Rows
 pub mod Readings

@@ -6,7 +6,7 @@ use Rattle.task_core.specs.declared.literals.Lit.{Lit}
 use Rattle.sexpr_text.specs.Forest.{Forest}
 use Rattle.sexpr_text.specs.Formed.{is_lower_word_byte}
 use Rattle.sexpr_text.specs.Spelling.{SpellsTrees}
-use Rattle.plan_rules.specs.Rows.{Row, nil, word, group, row_of, words, EachGroup, IsFirstGroup}
+use Rattle.sexpr_text.specs.Rows.{Row, nil, word, group, row_of, words, EachGroup, IsFirstGroup}
 use Rattle.plan_rules.specs.Rules.{PlanRule, rules_of}
 use Rattle.plan_rules.specs.Texts.{Name, name_at, class_word}
 use Rattle.plan_rules.specs.declared.rules.Class.{Class}

@@ -2,6 +2,7 @@ pub mod Lexis
 pub mod Classes
 pub mod Forest
 pub mod Spelling
+pub mod Rows
 pub mod Kinds
 pub mod Faults
 pub mod Formed

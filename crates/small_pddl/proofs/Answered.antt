@@ -16,7 +16,7 @@ use Rattle.sexpr_text.specs.Lexis.{is_word_byte}
 use Rattle.sexpr_text.specs.Spelling.{Spells, SpellsTrees}
 use Rattle.sexpr_text.proofs.OneAnswer.{spells_trees-unique, fault-no_spelling}
 use Rattle.small_pddl.specs.Trees.{Literal, Domain, Problem}
-use Rattle.small_pddl.specs.Rows.{Row, nil, word, group, row_of, row_of_forms, EachGroup}
+use Rattle.sexpr_text.specs.Rows.{Row, nil, word, group, row_of, row_of_forms, EachGroup}
 use Rattle.small_pddl.specs.Limits.{is_word, AreWords, are_distinct, is_small_action}
 use Rattle.small_pddl.specs.Spelled.{SpellsDomain, SpellsProblem, IsAction, IsEffect, IsAtom}
 use Rattle.small_pddl.specs.Reading.{read_domain, read_problem, read_predicates, read_actions, domain_parts, is_predicate_name}

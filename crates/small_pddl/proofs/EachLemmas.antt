@@ -5,7 +5,7 @@ use Rattle.std.proofs.lemmas.List.{append-nil}
 use Rattle.std.specs.Option.{option_map, option_and_then}
 use Rattle.sexpr_text.specs.declared.forms.Form.{Form}
 use Rattle.sexpr_text.specs.Forest.{nothing, forest_of}
-use Rattle.small_pddl.specs.Rows.{Row, nil, word, row_of_form, row_of_forms}
+use Rattle.sexpr_text.specs.Rows.{Row, nil, word, row_of_form, row_of_forms}
 use Rattle.small_pddl.specs.Reading.{only_group, each_group}
 use Rattle.small_pddl.proofs.RowLemmas.{is_word, is_group, item_of}
 

@@ -1,7 +1,7 @@
 -- Worked examples of the grammar and of what domains and problems mean.
 use Rattle.std.proofs.Common.{◌≡◌, ℕ, true, false, List, [], ◌∷◌, Some, codes, refl}
 use Rattle.small_pddl.specs.Trees.{Literal, Action, Domain, Problem}
-use Rattle.small_pddl.specs.Rows.{Row, nil, word, group}
+use Rattle.sexpr_text.specs.Rows.{Row, nil, word, group}
 use Rattle.small_pddl.specs.Spelled.{IsDomain, IsProblem}
 use Rattle.small_pddl.specs.Meaning.{fluents, fluent_names, action_names, value_in, system}
 use Rattle.small_pddl.proofs.Grammar.{domain-found, problem-found}

@@ -8,7 +8,7 @@ use Rattle.std.proofs.lemmas.Bool.{and_parts, and_from, cases_Bool, leb-true, le
 use Rattle.std.proofs.lemmas.List.Elements.{All-contains}
 use Rattle.small_pddl.specs.Trees.{Literal, Action, Domain, Problem}
 use Rattle.small_pddl.specs.Limits.{are_distinct}
-use Rattle.small_pddl.specs.Rows.{Row, nil, word, group, EachGroup}
+use Rattle.sexpr_text.specs.Rows.{Row, nil, word, group, EachGroup}
 use Rattle.small_pddl.specs.Spelled.{most_predicates, most_actions, most_outcomes, IsReserved, IsAtom, IsLiteral, IsOneLiteral, IsAnd, IsConjunction, IsEffect, IsAction, names_of, ArePredicates, AreActions, IsDomain, IsProblem}
 use Rattle.small_pddl.specs.Reading.{is_nil, only_word, only_group, first_word, first_group, only_if, after_word, word_after, group_after, each_group, negated_word, signed_word, is_listed, read_literal, read_conjunction, read_oneof, read_effect, is_name, action_parts, read_action, read_actions, are_predicates, is_predicate_name, read_predicates, definition, domain_parts, read_domain, init_and_goal, problem_parts, read_facts, read_problem}
 use Rattle.small_pddl.proofs.NameTests.{same_bytes, same_itself, differing_bytes, listed-contains, contains-listed, name-is, is-name, distinct-are, are-distinct, predicate_names-are, are-predicate_names, listed_all, all-listed}

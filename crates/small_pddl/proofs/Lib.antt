@@ -9,3 +9,4 @@ pub mod Grammar
 pub mod Answered
 pub mod Systems
 pub mod TaskNames
+pub mod SpelledNames

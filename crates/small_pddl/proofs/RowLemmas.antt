@@ -6,7 +6,7 @@ use Rattle.sexpr_text.specs.declared.forms.Form.TheOpen.{Form-F, Word as word_la
 use Rattle.sexpr_text.specs.declared.forms.Form.TheViews.{out-Form}
 use Rattle.sexpr_text.specs.declared.forms.Form.TheFolds.{map-Form, fold_out-Form}
 use Rattle.sexpr_text.specs.Forest.{Forest, nothing, put_before, form_then, form_step, forest_of}
-use Rattle.small_pddl.specs.Rows.{Row, word, group, row_of, row_of_forms}
+use Rattle.sexpr_text.specs.Rows.{Row, word, group, row_of, row_of_forms}
 use Rattle.small_pddl.specs.Reading.{is_nil, only_word, only_group, after_word, read_literal, read_conjunction}
 
 -- a form before the rest of a forest: one word, or one group

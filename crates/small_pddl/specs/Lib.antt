@@ -1,5 +1,4 @@
 pub mod Trees
-pub mod Rows
 pub mod Spelled
 pub mod Meaning
 pub mod Values

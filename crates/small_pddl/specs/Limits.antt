@@ -3,7 +3,7 @@ use Rattle.std.specs.Prelude.{◌≡◌, ℕ, Bool, true, ◌&&◌, not, nat_le,
 use Rattle.std.specs.List.{list_any, list_all}
 use Rattle.std.specs.Str.{bytes_eq}
 use Rattle.sexpr_text.specs.Lexis.{is_word_byte}
-use Rattle.small_pddl.specs.Rows.{Row, nil, word, group}
+use Rattle.sexpr_text.specs.Rows.{Row, nil, word, group}
 use Rattle.small_pddl.specs.declared.trees.SmallAction.{SmallAction}
 
 -- whether these are the bytes of a word: some, each of 33 to 126 and none of `(`, `)` and `;`

@@ -5,7 +5,7 @@ use Rattle.std.specs.List.{list_any, list_all}
 use Rattle.std.specs.Option.{option_map, option_map_or, option_and_then}
 use Rattle.std.specs.Str.{bytes_eq}
 use Rattle.small_pddl.specs.Trees.{Literal, Action, Domain, Problem}
-use Rattle.small_pddl.specs.Rows.{Row, nil, word, group}
+use Rattle.sexpr_text.specs.Rows.{Row, nil, word, group}
 use Rattle.small_pddl.specs.Limits.{are_distinct}
 use Rattle.small_pddl.specs.Spelled.{reserved_words, names_of, most_predicates, most_actions, most_outcomes}
 

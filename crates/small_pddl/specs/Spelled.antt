@@ -6,7 +6,7 @@ use Rattle.std.specs.List.{All, AllPairs, Contains}
 use Rattle.sexpr_text.specs.Forest.{Forest}
 use Rattle.sexpr_text.specs.Spelling.{SpellsTrees}
 use Rattle.small_pddl.specs.Trees.{Literal, Action, Domain, Problem}
-use Rattle.small_pddl.specs.Rows.{Row, nil, word, group, row_of, EachGroup}
+use Rattle.sexpr_text.specs.Rows.{Row, nil, word, group, row_of, EachGroup}
 
 -- how many predicates, actions and outcomes of an action there may be
 abbrev pub most_predicates : ℕ

@@ -5,7 +5,7 @@ ghost use Rattle.std.specs.List.{list_any};
 ghost use Rattle.std.specs.Option.{option_map};
 ghost use Rattle.std.specs.Str.{bytes_eq};
 ghost use Rattle.small_pddl.specs.Limits.{are_distinct};
-ghost use Rattle.small_pddl.specs.Rows.{row_of_forms};
+ghost use Rattle.sexpr_text.specs.Rows.{row_of_forms};
 ghost use Rattle.small_pddl.specs.Reading as read;
 ghost use Rattle.small_pddl.specs.Spelled.{names_of};
 ghost use Rattle.small_pddl.specs.Values.{literal_tree, action_tree};

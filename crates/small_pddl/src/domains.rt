@@ -4,7 +4,7 @@ ghost use Rattle.std.specs.Prelude.{◌≡◌, ◌≤◌, IfOk, MatchOption, map
 ghost use Rattle.std.specs.Option.{option_map};
 ghost use Rattle.small_pddl.specs.Limits.{AreWords};
 ghost use Rattle.small_pddl.specs.Reading as read;
-ghost use Rattle.small_pddl.specs.Rows.{row_of_forms};
+ghost use Rattle.sexpr_text.specs.Rows.{row_of_forms};
 ghost use Rattle.small_pddl.specs.Spelled.{SpellsDomain};
 ghost use Rattle.small_pddl.specs.Trees.{Domain};
 ghost use Rattle.small_pddl.specs.Values.{domain_tree};

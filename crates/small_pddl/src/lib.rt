@@ -14,6 +14,7 @@ mod grounding;
 mod laws;
 mod literals;
 mod names;
+mod names_law;
 mod problems;
 mod rows;
 mod tasks;
@@ -23,6 +24,7 @@ mod trees;
 
 pub use domains::read_small_domain;
 pub use laws::{names_are_words, one_domain, one_problem};
+pub use names_law::spelled_names;
 pub use problems::read_small_problem;
 pub use tasks::small_task;
 pub use trees::{SmallAction, SmallDomain, SmallLiteral, SmallProblem};

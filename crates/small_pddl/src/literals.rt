@@ -2,7 +2,7 @@
 
 ghost use Rattle.std.specs.Prelude.{◌≡◌, IfOk, map, Bool};
 ghost use Rattle.std.specs.Option.{option_copied, option_map};
-ghost use Rattle.small_pddl.specs.Rows.{row_of_forms};
+ghost use Rattle.sexpr_text.specs.Rows.{row_of_forms};
 ghost use Rattle.small_pddl.specs.Reading as read;
 ghost use Rattle.small_pddl.specs.Values.{literal_tree};
 

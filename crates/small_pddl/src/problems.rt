@@ -3,7 +3,7 @@
 ghost use Rattle.std.specs.Prelude.{◌≡◌, ◌≤◌, IfOk, MatchOption, map, length, List};
 ghost use Rattle.std.specs.Option.{option_map};
 ghost use Rattle.small_pddl.specs.Reading as read;
-ghost use Rattle.small_pddl.specs.Rows.{row_of_forms};
+ghost use Rattle.sexpr_text.specs.Rows.{row_of_forms};
 ghost use Rattle.small_pddl.specs.Spelled.{SpellsProblem};
 ghost use Rattle.small_pddl.specs.Trees.{Problem};
 ghost use Rattle.small_pddl.specs.Values.{domain_tree, problem_tree};

@@ -2,7 +2,7 @@
 
 ghost use Rattle.std.specs.Prelude.{◌≡◌, Bool};
 ghost use Rattle.std.specs.Option.{option_copied, option_map};
-ghost use Rattle.small_pddl.specs.Rows.{Row, row_of_form, row_of_forms};
+ghost use Rattle.sexpr_text.specs.Rows.{Row, row_of_form, row_of_forms};
 ghost use Rattle.small_pddl.specs.Reading as read;
 
 use sexpr_text::{Form, Text};

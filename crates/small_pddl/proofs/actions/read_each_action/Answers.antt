@@ -2,7 +2,7 @@ use Rattle.std.proofs.Common.{map, ap, sym, ◌∙◌}
 use Rattle.std.specs.Option.{option_map}
 use Rattle.std.proofs.lemmas.List.{map-append}
 use Rattle.small_pddl.specs.Reading as read
-use Rattle.small_pddl.specs.Rows.{row_of_forms}
+use Rattle.sexpr_text.specs.Rows.{row_of_forms}
 use Rattle.small_pddl.specs.Values.{action_tree}
 use Rattle.small_pddl.proofs.EachLemmas.{read-start, read-more}
 use Rattle.small_pddl.proofs.actions.read_each_action.Goals as goal

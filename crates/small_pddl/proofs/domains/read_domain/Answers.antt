@@ -1,7 +1,7 @@
 use Rattle.std.proofs.Common.{◌≡◌, ℕ, List, map, Some, ap, sym, ◌∙◌, Vec, Global}
 use Rattle.std.specs.Option.{option_map}
 use Rattle.small_pddl.specs.Reading.{read_predicates, read_actions}
-use Rattle.small_pddl.specs.Rows.{row_of_forms}
+use Rattle.sexpr_text.specs.Rows.{row_of_forms}
 use Rattle.small_pddl.specs.Values.{action_tree}
 use Rattle.small_pddl.specs.declared.trees.SmallAction.{SmallAction}
 use Rattle.small_pddl.proofs.Answered.{PredicatesFit, ActionsFit, parts-words, predicates-fit, actions-fit}

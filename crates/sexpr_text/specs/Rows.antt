@@ -1,6 +1,7 @@
--- The forms of a text without their places.
+-- Forms without their places: what a grammar over the forms of a text speaks of.
 use Rattle.std.specs.Prelude.{◌≡◌, ◌⊎◌, ℕ, List, [], ◌∷◌, ⊤}
-use Rattle.sexpr_text.specs.Forest.{Forest, nothing, word as placed_word, group as placed_group}
+use Rattle.sexpr_text.specs.declared.forms.Form.{Form}
+use Rattle.sexpr_text.specs.Forest.{Forest, nothing, word as placed_word, group as placed_group, form_then, forest_of}
 
 -- forms in a row: none; or a word and the row that follows it; or the row between two parentheses and
 -- the row that follows them
@@ -14,6 +15,13 @@ abbrev pub row_of : Forest → Row
 row_of nothing = nil
 row_of (placed_word span text rest) = word text (row_of rest)
 row_of (placed_group span parts rest) = group (row_of parts) (row_of rest)
+
+-- the same of a list of forms, and of one form
+abbrev pub row_of_forms : List Form → Row
+row_of_forms forms = row_of (forest_of forms)
+
+abbrev pub row_of_form : Form → Row
+row_of_form form = row_of (form_then form nothing)
 
 -- these words, as `at a b`
 abbrev pub words : List (List ℕ) → Row

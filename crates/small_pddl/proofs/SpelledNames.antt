@@ -17,7 +17,7 @@ use Rattle.sexpr_text.specs.Spelling.{IsWord, IsBetween, SpellsTrees}
 use Rattle.sexpr_text.specs.Formed.{is_lower_word_byte}
 use Rattle.sexpr_text.proofs.Between.{IsBetween-le}
 use Rattle.small_pddl.specs.Trees.{Action, Domain}
-use Rattle.small_pddl.specs.Rows.{Row, nil, word, group, row_of, EachGroup}
+use Rattle.sexpr_text.specs.Rows.{Row, nil, word, group, row_of, EachGroup}
 use Rattle.small_pddl.specs.Spelled.{IsReserved, AreDistinct, IsAtom, IsAction, names_of, SpellsDomain}
 use Rattle.small_pddl.specs.Meaning.{is_changeable, fluents, fluent_names, action_names}
 
