@@ -1,8 +1,9 @@
 -- Worked examples of the definitions that the contracts cite.
-use Rattle.std.proofs.Common.{◌≡◌, ℕ, ◌-◌, ◌^◌, List, [], codes, refl, ap, ◌∙◌, lit<, lit≤, arith}
+use Rattle.std.proofs.Common.{◌≡◌, ℕ, ◌+◌, ◌-◌, ◌^◌, List, [], ◌∷◌, codes, refl, ap, ◌∙◌, lit<, lit≤, arith}
 use Rattle.std.specs.Cmp.Lexicographic.{nat_list_cmp_total}
 use Rattle.std.specs.FinMap as finite
 use Rattle.plan_io.specs.Counts.{raised, Rose}
+use Rattle.plan_io.specs.Fetches.{Fetches, FetchesFirst}
 use Rattle.plan_io.specs.Held.{Holds, Missing, Gives, MayExceed, Exceeds}
 use Rattle.plan_io.specs.MemShelf.{told, held_of}
 use Rattle.plan_io.specs.MemSink.{MemSinkState, taken_of}
@@ -57,3 +58,10 @@ takes_what_has_room = refl
 takes_the_piece : taken_of (sink_with 4 (codes "xy")) (codes "a") ≡ 1
 unfolding sink_with
 takes_the_piece = refl
+
+-- two fetches, each of which counts one more, lead from 0 to 2; the source failed in none of them
+two_fetches : Fetches (λ before name after. after ≡ before + 1) (codes "d" ∷ codes "p" ∷ []) 0 2
+two_fetches = (1, refl, (2, refl, refl))
+
+only_the_first : FetchesFirst (λ before name after. after ≡ before + 1) (codes "d" ∷ codes "p" ∷ []) 0 1
+only_the_first = record { count = 1; fetches = (1, refl, refl) }

@@ -1,4 +1,5 @@
 pub mod Counts
+pub mod Fetches
 pub mod Held
 pub mod MemShelf
 pub mod MemSink

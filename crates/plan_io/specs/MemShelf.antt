@@ -1,5 +1,5 @@
 -- What a shelf in memory has: its meaning, as clauses see it.
-use Rattle.std.specs.Prelude.{ℕ, List, Option, None, Some, Contains, String, Vec, string_bytes, map, refl}
+use Rattle.std.specs.Prelude.{◌≡◌, ℕ, List, Option, None, Some, Contains, String, Vec, string_bytes, map, refl}
 use Rattle.std.specs.Cmp.Lexicographic.{slice_cmp}
 use Rattle.std.specs.Ordering.{nat_cmp}
 use Rattle.std.specs.FinMap as finite
@@ -45,6 +45,18 @@ held_in state name = held_of state.files name
 -- the next fetch fails by its number, counted from 1
 abbrev pub FetchFails : MemShelfState → Type 0
 FetchFails state = Contains state.failing (raised state.calls)
+
+-- the state after a fetch that doesn't fail by its number, and after one that does
+abbrev pub counted : MemShelfState → MemShelfState
+counted state = record state { calls = raised state.calls }
+
+abbrev pub struck : MemShelfState → MemShelfState
+struck state = record state { calls = raised state.calls; faults = raised state.faults }
+
+-- one state came of the other by one fetch, of whatever file
+pub record IsFetched (before after : MemShelfState) : Type 0 where
+  pub failed : FetchFails before → after ≡ struck before
+  pub done : (¬ FetchFails before) → after ≡ counted before
 
 -- the files that a map from texts to vectors stores
 abbrev pub files_of : BTreeMap (String Global) (Vec ℕ Global) → Files

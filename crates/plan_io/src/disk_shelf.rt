@@ -1,5 +1,5 @@
 //! The shelf over real files: the trusted edge.
-ghost use Rattle.std.specs.Prelude.{◌≡◌, ◌≤◌, IfOk, OnOk, OnErr, vec_len};
+ghost use Rattle.std.specs.Prelude.{◌≡◌, ◌≤◌, IfOk, IsErrOf, OnOk, vec_len};
 ghost use Rattle.plan_io.specs.Counts.{raised};
 ghost use Rattle.plan_io.specs.Held.{Untold};
 
@@ -11,7 +11,7 @@ use std::rt::Files;
 use std::{fs, io};
 
 /// Real files, each under its path. It tells nothing of what they hold. Contracts see it as its
-/// count of refusals, of every kind, in 64 bits.
+/// count of fetches that failed or found no memory, in 64 bits.
 #[derive(Drop)]
 pub struct DiskShelf<R> {
     files: R,
@@ -44,20 +44,23 @@ impl<R: Files> Shelf for DiskShelf<R> {
     /// file that cannot be opened or read, is Failed.
     fn fetch(&mut self, alloc: Global, name: &str, limit: usize) -> Result<Vec<u8>, FetchErr>
         ensures within { IfOk result (λ file. vec_len file ≤ limit) }
-        ensures counted { OnErr result (self.new ≡ raised self.old) }
-        ensures uncounted { OnOk result (self.new ≡ self.old) }
+        ensures failed { IsErrOf result FetchErr.Failed → self.new ≡ raised self.old }
+        ensures no_memory { IsErrOf result FetchErr.Memory → self.new ≡ raised self.old }
+        ensures given { OnOk result (self.new ≡ self.old) }
+        ensures measured { IsErrOf result FetchErr.TooLong → self.new ≡ self.old }
         ensures later { self.old ≤ self.new }
     {
-        let answer = match read_front(&self.files, alloc, name, limit) {
+        match read_front(&self.files, alloc, name, limit) {
             Ok(bytes) if bytes.len() <= limit => Ok(bytes),
             Ok(_) => Err(FetchErr::TooLong),
-            Err(error) if error.kind() == io::ErrorKind::OutOfMemory => Err(FetchErr::Memory),
-            Err(_) => Err(FetchErr::Failed),
-        };
-        if answer.is_err() {
-            self.faults = self.faults.saturating_add(1);
+            Err(error) => {
+                self.faults = self.faults.saturating_add(1);
+                Err(match error.kind() {
+                    io::ErrorKind::OutOfMemory => FetchErr::Memory,
+                    _ => FetchErr::Failed,
+                })
+            }
         }
-        answer
     }
 }
 

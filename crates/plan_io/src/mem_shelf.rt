@@ -4,7 +4,7 @@ ghost use Rattle.std.specs.FinMap as finite;
 ghost use Rattle.std.specs.Option.{option_map};
 ghost use Rattle.plan_io.specs.Counts.{raised, Rose};
 ghost use Rattle.plan_io.specs.Held.{Missing, Gives, MayExceed, Exceeds};
-ghost use Rattle.plan_io.specs.MemShelf.{held_in, held_of, told, files_of, FetchFails};
+ghost use Rattle.plan_io.specs.MemShelf.{held_in, held_of, told, files_of, FetchFails, IsFetched, counted, struck};
 
 use crate::schedule::Schedule;
 use crate::shelves::{FetchErr, Shelf};
@@ -75,6 +75,8 @@ impl Shelf for MemShelf {
 
     ghost faults = { λ s. s.faults };
 
+    ghost fetched = { λ before _ after. IsFetched before after };
+
     /// Fails exactly at the numbers that were given and for a name that isn't held.
     fn fetch(&mut self, alloc: Global, name: &str, limit: usize) -> Result<Vec<u8>, FetchErr>
         // As for every shelf.
@@ -88,6 +90,9 @@ impl Shelf for MemShelf {
         ensures exceeding { Exceeds limit (held_in self.old name.now)
             → Rose self.old.faults self.new.faults
             ⊎ (IsErrOf result FetchErr.TooLong ⊎ IsErrOf result FetchErr.Memory) }
+        ensures given { OnOk result (self.new.faults ≡ self.old.faults) }
+        ensures measured { IsErrOf result FetchErr.TooLong → self.new.faults ≡ self.old.faults }
+        ensures fetch { IsFetched self.old self.new }
         ensures kept { (file : List ℕ) → held_in self.new file ≡ held_in self.old file }
         ensures later { self.old.faults ≤ self.new.faults }
 
@@ -98,10 +103,8 @@ impl Shelf for MemShelf {
             ↔ ((¬ FetchFails self.old) × Exceeds limit (held_in self.old name.now)) }
 
         // What a fetch changes: the counts alone.
-        ensures struck { FetchFails self.old → self.new
-            ≡ record self.old { calls = raised self.old.calls; faults = raised self.old.faults } }
-        ensures counted { (¬ FetchFails self.old)
-            → self.new ≡ record self.old { calls = raised self.old.calls } }
+        ensures struck { FetchFails self.old → self.new ≡ struck self.old }
+        ensures counted { (¬ FetchFails self.old) → self.new ≡ counted self.old }
     {
         if self.schedule.begin() {
             self.schedule.raise();

@@ -90,6 +90,7 @@ impl Sink for MemSink {
         ensures within { IfOk result (λ n. n ≤ length piece.now) }
         ensures progress { IfOk result (λ n. 0 < length piece.now → 0 < n) }
         ensures failed { OnErr result (Rose self.old.faults self.new.faults) }
+        ensures quiet { OnOk result (self.new.faults ≡ self.old.faults) }
         ensures unwritten { OnErr result (Some self.new.bytes ≡ Some self.old.bytes) }
         ensures later { self.old.faults ≤ self.new.faults }
 

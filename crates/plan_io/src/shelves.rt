@@ -1,5 +1,5 @@
 //! Shelves: where files come from.
-ghost use Rattle.std.specs.Prelude.{◌≡◌, ℕ, ◌≤◌, ◌⊎◌, List, IfOk, IsErrOf, vec_len};
+ghost use Rattle.std.specs.Prelude.{◌≡◌, ℕ, ◌≤◌, ◌⊎◌, List, IfOk, OnOk, IsErrOf, vec_len};
 ghost use Rattle.plan_io.specs.Counts.{Rose};
 ghost use Rattle.plan_io.specs.Held.{Held, Missing, Gives, MayExceed, Exceeds};
 
@@ -22,14 +22,23 @@ pub enum FetchErr {
 
 /// A source of files, each under a name.
 ///
-/// Its contract speaks of two meanings. `held` is what the shelf tells of the file under a name:
+/// Its contract speaks of three meanings. `held` is what the shelf tells of the file under a name:
 /// its bytes, that there is none, or nothing at all. `faults` counts the times that the source
 /// itself failed. A shelf that keeps the count in 64 bits leaves it at its last value; that the
-/// count rose is therefore said also of a count that stands there.
+/// count rose is therefore said also of a count that stands there. `fetched` says of two states of
+/// the shelf that the second came of a fetch of the file under a name in the first: by it a caller
+/// can say which files it fetched, in which order, and in which fetch the source failed. It holds
+/// of any two states where a shelf says no more.
+///
+/// To those who write a shelf: count your refusals, and nothing else. A fetch that gives the file,
+/// and one that finds it too long, leaves the count as it was; so does no fetch that tried again
+/// after a failure.
 pub trait Shelf {
     ghost held: { Self → List ℕ → Held };
 
     ghost faults: { Self → ℕ };
+
+    ghost fetched: { Self → List ℕ → Self → Type 0 } = { λ _ _ _. Unit {0} };
 
     /// Gives the bytes of the file under `name`, if they are at most `limit` bytes.
     ///
@@ -51,7 +60,12 @@ pub trait Shelf {
             → Rose (faults self.old) (faults self.new)
             ⊎ (IsErrOf result FetchErr.TooLong ⊎ IsErrOf result FetchErr.Memory) }
 
-        // No call changes what is held, and the count never falls.
+        // Nothing that was given or measured had a fault.
+        ensures given { OnOk result (faults self.new ≡ faults self.old) }
+        ensures measured { IsErrOf result FetchErr.TooLong → faults self.new ≡ faults self.old }
+
+        // This was a fetch of that file. It changes nothing that is held, and the count never falls.
+        ensures fetch { fetched self.old name.now self.new }
         ensures kept { (file : List ℕ) → held self.new file ≡ held self.old file }
         ensures later { faults self.old ≤ faults self.new };
 }

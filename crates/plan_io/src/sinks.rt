@@ -19,6 +19,9 @@ pub enum PutErr {
 /// their order, or nothing where the sink does not tell. `faults` counts the times that the device
 /// failed. A sink that keeps the count in 64 bits leaves it at its last value; that the count rose
 /// is therefore said also of a count that stands there.
+///
+/// To those who write a sink: count your refusals, and nothing else. A put that takes what it says
+/// leaves the count as it was; so does no put that tried again after a failure.
 pub trait Sink {
     ghost written: { Self → Option (List ℕ) };
 
@@ -32,8 +35,9 @@ pub trait Sink {
         ensures within { IfOk result (λ n. n ≤ length piece.now) }
         ensures progress { IfOk result (λ n. 0 < length piece.now → 0 < n) }
 
-        // A refusal comes of a fault, and nothing was taken.
+        // A refusal comes of a fault, and nothing was taken; what was taken had no fault.
         ensures failed { OnErr result (Rose (faults self.old) (faults self.new)) }
+        ensures quiet { OnOk result (faults self.new ≡ faults self.old) }
         ensures unwritten { OnErr result (written self.new ≡ written self.old) }
 
         // The count never falls.
@@ -56,8 +60,9 @@ pub fn put_all<O: Sink>(sink: &mut O, bytes: &[u8]) -> Result<(), Stopped>
         (λ stop. O.written sink.new ≡ append_known (O.written sink.old) (take stop.taken bytes.now)) }
     ensures cut { IfErr result (λ stop. stop.taken < length bytes.now) }
 
-    // It stops only by a fault of the sink, whose count never falls.
+    // It stops by the first fault of the sink, and only so. The count never falls.
     ensures cause { OnErr result (Rose (O.faults sink.old) (O.faults sink.new)) }
+    ensures quiet { OnOk result (O.faults sink.new ≡ O.faults sink.old) }
     ensures later { O.faults sink.old ≤ O.faults sink.new }
 
     // An empty text leaves the sink alone.

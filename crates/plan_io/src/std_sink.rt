@@ -43,7 +43,7 @@ impl<W: Write> Sink for StdSink<W> {
         ensures within { IfOk result (λ n. n ≤ length piece.now) }
         ensures progress { IfOk result (λ n. 0 < length piece.now → 0 < n) }
         ensures counted { OnErr result (self.new ≡ raised self.old) }
-        ensures uncounted { OnOk result (self.new ≡ self.old) }
+        ensures quiet { OnOk result (self.new ≡ self.old) }
         ensures later { self.old ≤ self.new }
     {
         match write_once(&mut self.writer, piece) {

@@ -6,7 +6,7 @@ abbrev pub invariant-loop-taken : goal.invariant-loop-taken
 invariant-loop-taken g l = record {
   within : l.taken ≤ length l.bytes;
   written : g.O.Sink.written l.sink ≡ append_known (g.O.Sink.written l.initial.sink) (take l.taken l.bytes);
-  later : g.O.Sink.faults l.initial.sink ≤ g.O.Sink.faults l.sink;
+  quiet : g.O.Sink.faults l.sink ≡ g.O.Sink.faults l.initial.sink;
   empty : l.bytes ≡ [] → l.sink ≡ l.initial.sink;
 }
 
