@@ -1,38 +1,49 @@
--- What a shelf tells stays, and its count of faults never falls: what was wrong in a later part of a call
--- was wrong in the call.
-use Rattle.std.proofs.Common.{◌≡◌, ℕ, ◌≤◌, subst, inl, inr, arith}
-use Rattle.plan_io.specs.Counts.{Rose}
+-- What a shelf tells stays: what a later step of a command says of its file holds from the command's start.
+use Rattle.std.proofs.Common.{◌≡◌, ◌⊎◌, ℕ, List, ◌∷◌, inl, inr, refl, subst, ap, ◌∙◌}
+use Rattle.plan_io.specs.Fetches.{FailedLast}
 use Rattle.plan_io.specs.Held.{Held}
-use Rattle.small_pddl.specs.Trees.{Domain, Problem}
+use Rattle.mbp_top.specs.Answers.{Answer, refused, Refusal, no_memory}
+use Rattle.mbp_top.specs.Reading.{Holds, IsRefusedFile, ReadThen}
 use Rattle.mbp_top.specs.Words.{Bytes}
-use Rattle.mbp_top.specs.Files.{HoldsProblem}
-use Rattle.mbp_top.specs.Answers.{Answer, IsWrongProblem, CannotRead, IsUnread}
 
 -- shelves that tell the same
-pub same_told : (held held' : Bytes → Held) → ((file : Bytes) → held' file ≡ held file) → held' ≡ held
+same_told : (held held' : Bytes → Held) → ((file : Bytes) → held' file ≡ held file) → held' ≡ held
 same_told held held' same = λ i. λ file. same file i
 
-pub rose_over : (a b c : ℕ) → a ≤ b → Rose b c → Rose a c
-rose_over a b c h k = omega arith
+-- the last fetch after a fetch that had no fault is the last of both
+pub failed_over : {S : Type 0} (fetched : S → List ℕ → S → Type 0) (faults : S → ℕ) (before between after : S) (first name : List ℕ)
+    → fetched before first between → faults between ≡ faults before → FailedLast fetched faults between after name → FailedLast fetched faults before after name
+failed_over fetched faults before between after first name fetch quiet failed = record {
+  earlier = first ∷ failed.earlier;
+  between = failed.between;
+  came = (between, fetch, failed.came);
+  quiet = failed.quiet ∙ quiet;
+  fetch = failed.fetch;
+  rose = failed.rose;
+}
 
-cannot_read_over : (held : Bytes → Held) (early late : Type 0) (name : Bytes) → (late → early) → CannotRead held late name → CannotRead held early name
-cannot_read_over held early late name f (inl missing) = inl missing
-cannot_read_over held early late name f (inr rose) = inr (f rose)
+pub holds_over : {X : Type 0} (held held' : Bytes → Held) (Spells : Bytes → X → Type 0) (name : Bytes) (tree : X)
+    → ((file : Bytes) → held' file ≡ held file) → Holds held' Spells name tree → Holds held Spells name tree
+holds_over held held' Spells name tree same holds = subst (λ h. Holds h Spells name tree) (same_told held held' same) holds
 
-unread_over : (held : Bytes → Held) (early late : Type 0) (name : Bytes) (answer : Answer) → (late → early) → IsUnread held late name answer → IsUnread held early name answer
-unread_over held early late name answer f (inl long) = inl long
-unread_over held early late name answer f (inr (is, why)) = inr (is, cannot_read_over held early late name f why)
+refused_over : (held : Bytes → Held) (failed failed' : Bytes → Type 0) (Wrong : Bytes → Bytes → Refusal → Type 0) (name : Bytes) (r : Refusal)
+    → (failed' name → failed name) → IsRefusedFile held failed' Wrong name r → IsRefusedFile held failed Wrong name r
+refused_over held failed failed' Wrong name r over (inl (is, inl missing)) = inl (is, inl missing)
+refused_over held failed failed' Wrong name r over (inl (is, inr fault)) = inl (is, inr (over fault))
+refused_over held failed failed' Wrong name r over (inr other) = inr other
 
-pub wrong_problem_over : (held held' : Bytes → Held) (early late : Type 0) (name : Bytes) (domain : Domain) (answer : Answer)
-    → ((file : Bytes) → held' file ≡ held file) → (late → early)
-    → IsWrongProblem held' late name domain answer → IsWrongProblem held early name domain answer
-wrong_problem_over held held' early late name domain answer same f wrong =
-    let here = subst (λ h. IsWrongProblem h late name domain answer) (same_told held held' same) wrong in
-    over here where
-      over : IsWrongProblem held late name domain answer → IsWrongProblem held early name domain answer
-      over (inl unread) = inl (unread_over held early late name answer f unread)
-      over (inr spelled) = inr spelled
+-- a file that is refused later on
+pub refused_later : {X : Type 0} (held held' : Bytes → Held) (failed failed' : Bytes → Type 0) (name : Bytes) (Spells : Bytes → X → Type 0) (Wrong : Bytes → Bytes → Refusal → Type 0)
+    (Then : X → Answer → Type 0) (r : Refusal) → ((file : Bytes) → held' file ≡ held file) → (failed' name → failed name)
+    → (r ≡ no_memory) ⊎ IsRefusedFile held' failed' Wrong name r → (refused r ≡ refused no_memory) ⊎ ReadThen held failed name Spells Wrong Then (refused r)
+refused_later held held' failed failed' name Spells Wrong Then r same over (inl memory) = inl (ap refused memory)
+refused_later held held' failed failed' name Spells Wrong Then r same over (inr why) =
+    let here = subst (λ h. IsRefusedFile h failed' Wrong name r) (same_told held held' same) why in
+    inr (inl (r, refl, refused_over held failed failed' Wrong name r over here))
 
-pub problem_over : (held held' : Bytes → Held) (name : Bytes) (domain : Domain) (problem : Problem)
-    → ((file : Bytes) → held' file ≡ held file) → HoldsProblem held' name domain problem → HoldsProblem held name domain problem
-problem_over held held' name domain problem same h = subst (λ k. HoldsProblem k name domain problem) (same_told held held' same) h
+-- an answer that comes after a file was read
+pub next_answer : {X : Type 0} (held : Bytes → Held) (failed : Bytes → Type 0) (name : Bytes) (Spells : Bytes → X → Type 0) (Wrong : Bytes → Bytes → Refusal → Type 0)
+    (Then : X → Answer → Type 0) (tree : X) (a : Answer) → Holds held Spells name tree → (a ≡ refused no_memory) ⊎ Then tree a
+    → (a ≡ refused no_memory) ⊎ ReadThen held failed name Spells Wrong Then a
+next_answer held failed name Spells Wrong Then tree a holds (inl memory) = inl memory
+next_answer held failed name Spells Wrong Then tree a holds (inr then) = inr (inr (tree, holds, then))

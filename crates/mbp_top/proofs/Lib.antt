@@ -1,9 +1,9 @@
-pub mod Causes
-pub mod FourWords
-pub mod Later
-pub mod PlanAnswers
-pub mod Spellable
+pub mod Deciding
+pub mod PlanDecides
+pub mod ByCommand
 pub mod Statuses
-pub mod Told
-mod ToldExamples
-mod PlanExamples
+pub mod Spellable
+pub mod PlanAnswers
+pub mod Later
+pub mod Refusals
+pub mod WordLists

@@ -1,9 +1,9 @@
 pub mod Words
-pub mod Files
-pub mod Plans
 pub mod Answers
-pub mod Delivery
-pub mod Heard
-pub mod Replies
-pub mod Stops
+pub mod Reading
+pub mod SmallTexts
+pub mod PlanCommand
+pub mod Causes
 pub mod Told
+pub mod Delivery
+pub mod Values

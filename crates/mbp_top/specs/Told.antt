@@ -1,24 +1,21 @@
 -- What the words and the files alone decide. `held` is what the shelf tells of each name.
-use Rattle.std.specs.Prelude.{◌≢◌, ℕ, List, [], ◌∷◌, Contains}
+use Rattle.std.specs.Prelude.{◌≢◌, ℕ, List, Contains}
 use Rattle.plan_io.specs.Counts.{Rose}
 use Rattle.plan_io.specs.Held.{Held, Untold}
-use Rattle.mbp_top.specs.Words.{Bytes, Command, PlanWeak, Says}
-use Rattle.mbp_top.specs.Answers.{Answer, no_memory, HasCause}
-
--- the files that a command names
-abbrev pub files_of : Command → List Bytes
-files_of (PlanWeak domain problem) = domain ∷ problem ∷ []
+use Rattle.mbp_top.specs.Answers.{Answer, refused, no_memory}
+use Rattle.mbp_top.specs.Causes.{HasCause}
+use Rattle.mbp_top.specs.Words.{Bytes, Command, Says, files_of}
 
 -- of each file that the words name, the shelf tells its bytes, or that there is none
 abbrev pub AreFilesTold : (Bytes → Held) → List Bytes → Type 0
 AreFilesTold held words =
     (command : Command) (file : Bytes) → Says words command → Contains (files_of command) file → held file ≢ Untold
 
--- the words and the files alone call for this answer: no rise of the shelf's faults is a part of its cause, and it
+-- the words and the files alone call for this answer: no fault of the shelf is a part of its cause, and it
 -- isn't want of memory
 pub record IsDue (held : Bytes → Held) (words : List Bytes) (answer : Answer) : Type 0 where
-  pub cause : HasCause held ⊥ words answer
-  pub not_memory : answer ≢ no_memory
+  pub cause : HasCause held (λ file. ⊥) words answer
+  pub not_memory : answer ≢ refused no_memory
 
 -- no fault came: the count of faults didn't rise
 abbrev pub NoFault : ℕ → ℕ → Type 0

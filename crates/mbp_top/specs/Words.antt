@@ -1,18 +1,41 @@
 -- The command words: which commands there are, and which words say them.
-use Rattle.std.specs.Prelude.{◌≡◌, ℕ, List, [], ◌∷◌, codes}
+use Rattle.std.specs.Prelude.{◌≡◌, ℕ, List, [], ◌∷◌, codes, ⊤}
+use Rattle.plan_rules.specs.Texts.{class_word}
+use Rattle.plan_rules.specs.declared.rules.Class.{Class}
+use Rattle.plan_rules.specs.declared.rules.Class.TheVariants.{Weak, Strong, Cyclic}
 
 -- a text, as its bytes
 abbrev pub Bytes : Type 0
 Bytes = List ℕ
 
--- a command: find a weak plan, for the domain and the problem in the files of these names
-pub data Command : Type 0 where
-  PlanWeak : (domain problem : Bytes) → Command
+-- what `plan` is asked: a plan of this class, for the domain and the problem in the files of these names
+pub record PlanWords : Type 0 where
+  pub class : Class
+  pub domain : Bytes
+  pub problem : Bytes
 
--- the words say the command. Fixed words are compared exactly, and names may be any words
+pub data Command : Type 0 where
+  plan : PlanWords → Command
+
+-- the classes of which plans are looked for, so far
+abbrev pub IsPlanned : Class → Type 0
+IsPlanned Weak = ⊤
+IsPlanned Strong = ⊥
+IsPlanned Cyclic = ⊥
+
+-- `plan CLASS DOMAIN PROBLEM`
+pub record SaysPlan (words : List Bytes) (asked : PlanWords) : Type 0 where
+  pub planned : IsPlanned asked.class
+  pub written : words ≡ codes "plan" ∷ class_word asked.class ∷ asked.domain ∷ asked.problem ∷ []
+
+-- the words say the command. Fixed words are compared exactly, with case, and names may be any words
 abbrev pub Says : List Bytes → Command → Type 0
-Says words (PlanWeak domain problem) = words ≡ codes "plan" ∷ codes "weak" ∷ domain ∷ problem ∷ []
+Says words (plan asked) = SaysPlan words asked
 
 -- the words say no command
 abbrev pub SayNothing : List Bytes → Type 0
 SayNothing words = (command : Command) → Says words command → ⊥
+
+-- the files that a command names, in the order in which it reads them
+abbrev pub files_of : Command → List Bytes
+files_of (plan asked) = asked.domain ∷ asked.problem ∷ []

@@ -1,79 +1,34 @@
-//! The commands.
+//! From the words to the answer.
 
-ghost use Rattle.mbp_top.specs.Answers.{Answer, HasCause, IsSmallAnswer, IsWeakAnswer, plan as plan_answer};
-ghost use Rattle.mbp_top.specs.Replies.{IsReply};
-ghost use Rattle.mbp_top.specs.Stops.{IfRefused};
-ghost use Rattle.plan_io.specs.Counts.{Rose};
-ghost use Rattle.plan_rules.specs.Names.{action_names, fluent_names};
-ghost use Rattle.plan_rules.specs.Plans.{IsPlanOf, plan_text};
-ghost use Rattle.plan_rules.specs.Readings.{AreSpellable};
-ghost use Rattle.small_pddl.specs.Meaning as small;
-ghost use Rattle.task_core.specs.Tasks.{system_of};
-ghost use Rattle.small_pddl.specs.Values.{domain_tree, problem_tree};
-ghost use Rattle.std.specs.Prelude.{◌≡◌, ◌≤◌, [], ◌∷◌, IfErr, IfOk, IsSome, List, length, codes, ℕ};
+ghost use Rattle.mbp_top.specs.Causes.{HasCause, IsQuietAt};
+ghost use Rattle.mbp_top.specs.Values.{answer_of};
+ghost use Rattle.mbp_top.specs.Words.{Command as SaidCommand, SayNothing, Says, files_of};
+ghost use Rattle.plan_io.specs.Fetches.{FailedLast, FetchesFirst};
+ghost use Rattle.std.specs.Prelude.{◌≡◌, ◌≤◌, List, map, string_bytes, ℕ};
 
-use crate::files::{Stop, fetch_domain, fetch_problem};
-use crate::replies::Reply;
+use crate::answers::{Refusal, Shown};
+use crate::plan_command::plan_files;
+use crate::words::{Command, read_words};
 use plan_io::Shelf;
-use plan_rules::{Plan, write_plan};
-use reach_plan::{Found, plan_weak};
-use small_pddl::{SmallDomain, SmallProblem, small_task};
-use std::alloc::{AllocError, Global};
-use task_core::Task;
+use std::alloc::Global;
 
-/// The reply for a task: its weak plan, or that there is none.
-fn task_reply(alloc: Global, task: &Task) -> Result<Reply, AllocError>
-    requires goal { IsSome task.now.goal }
-    requires small { length task.now.fluents.items ≤ 8 }
-    requires spellable { AreSpellable (fluent_names task.now) (action_names task.now) }
-    ensures { IfOk result (λ reply. (answer : Answer) × IsReply reply answer
-        × IsWeakAnswer (system_of task.now) (fluent_names task.now) (action_names task.now) answer) }
-{
-    match plan_weak(alloc, task)? {
-        Found::Plan(table) => plan_reply(alloc, &Plan::Table(table), task),
-        Found::NoPlan => Ok(Reply::no_plan()),
-    }
-}
-
-/// The reply for a plan.
-fn plan_reply(alloc: Global, plan: &Plan, task: &Task) -> Result<Reply, AllocError>
-    requires { IsPlanOf (length task.now.fluents.items) (length task.now.actions.items) plan.now }
-    ensures { IfOk result (λ reply. IsReply reply (plan_answer (plan_text (fluent_names task.now) (action_names task.now) plan.now))) }
-{
-    Ok(Reply::plan(write_plan(alloc, plan, task)?))
-}
-
-/// The reply for a small problem.
-fn small_reply(
+/// Does what the words say, and gives the answer.
+pub(crate) fn answer<S: Shelf>(
     alloc: Global,
-    domain: &SmallDomain,
-    problem: &SmallProblem,
-) -> Result<Reply, AllocError>
-    requires { AreSpellable (small.fluent_names (domain_tree domain.now)) (small.action_names (domain_tree domain.now)) }
-    ensures { IfOk result (λ reply. (answer : Answer) × IsReply reply answer
-        × IsSmallAnswer (domain_tree domain.now) (problem_tree problem.now) answer) }
-{
-    let task = small_task(alloc, domain, problem)?;
-    task_reply(alloc, &task)
-}
-
-/// `plan weak`: the weak plan for the domain and the problem in two files.
-pub(crate) fn plan_weak_files<S: Shelf>(
-    alloc: Global,
+    words: &[String],
     shelf: &mut S,
-    domain_name: &str,
-    problem_name: &str,
-) -> Result<Reply, Stop>
-    ensures reply { IfOk result (λ reply. (answer : Answer) × IsReply reply answer
-        × HasCause (S.held shelf.old) (Rose (S.faults shelf.old) (S.faults shelf.new))
-        (codes "plan" ∷ codes "weak" ∷ domain_name.now ∷ problem_name.now ∷ []) answer) }
-    ensures refused { IfErr result (λ stop. IfRefused stop (λ reply. (answer : Answer) × IsReply reply answer
-        × HasCause (S.held shelf.old) (Rose (S.faults shelf.old) (S.faults shelf.new))
-        (codes "plan" ∷ codes "weak" ∷ domain_name.now ∷ problem_name.now ∷ []) answer)) }
+) -> Result<Shown, Refusal>
+    ensures cause { let failed = FailedLast S.fetched S.faults shelf.old shelf.new in
+        HasCause (S.held shelf.old) failed (map string_bytes words.now) (answer_of result) }
+    ensures fetches { (command : SaidCommand) → Says (map string_bytes words.now) command
+        → FetchesFirst S.fetched (files_of command) shelf.old shelf.new }
+    ensures no_fetch { SayNothing (map string_bytes words.now) → shelf.new ≡ shelf.old }
+    ensures quiet_at { IsQuietAt (answer_of result) (S.faults shelf.old) (S.faults shelf.new) }
     ensures kept { (file : List ℕ) → S.held shelf.new file ≡ S.held shelf.old file }
     ensures later { S.faults shelf.old ≤ S.faults shelf.new }
 {
-    let domain = fetch_domain(alloc, shelf, domain_name)?;
-    let problem = fetch_problem(alloc, shelf, problem_name, &domain)?;
-    Ok(small_reply(alloc, &domain, &problem)?)
+    match read_words(words) {
+        Command::Plan(asked) => plan_files(alloc, shelf, &asked),
+        Command::Nothing => Err(Refusal::NoCommand),
+    }
 }

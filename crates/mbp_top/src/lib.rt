@@ -1,21 +1,20 @@
 //! The program as one call: `run`.
 //!
-//! `specs/` says what the call answers: `Words` the commands, `Files` what the files of a command are,
-//! `Plans` when a text is a plan, `Answers` each answer with its status, its text and its cause, and
-//! `Delivery` what is written of it.
+//! `specs/` says what the call answers: `Words` the commands, `Answers` each answer with its status and its
+//! text, `Reading` how a command reads its files, `PlanCommand` the answers of `plan`, `Causes` the cause of
+//! each answer, `Told` what the words and the files alone decide, and `Delivery` what is written.
 #![tactic(auto)]
 
-mod answer;
+mod answers;
 mod commands;
 mod delivery;
 mod files;
-mod replies;
+mod plan_command;
+mod small_texts;
 #[cfg(test)]
 mod tests;
 mod top;
 mod words;
 
+pub use answers::NO_MEMORY;
 pub use top::run;
-
-/// The longest file that is read, in bytes.
-pub const FILE_LIMIT: usize = 1_048_576;

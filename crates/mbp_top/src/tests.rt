@@ -1,7 +1,8 @@
-//! Whole runs over files and sinks in memory.
+//! Whole runs over files and sinks in memory: what no clause says, that memory is there.
 
-use crate::{FILE_LIMIT, run};
+use crate::run;
 use plan_io::{MemShelf, MemSink};
+use sexpr_text::MAX_BYTES;
 use std::alloc::Global;
 use std::test::Fail;
 
@@ -12,22 +13,54 @@ const COIN: &str = "(define (domain coin)
 
 const UP: &str = "(define (problem c) (:domain coin) (:init) (:goal (up)))\n";
 
-const UP_AT_ONCE: &str = "(define (problem c) (:domain coin) (:init (up)) (:goal (up)))\n";
-
 const DOWN: &str = "(define (problem c) (:domain coin) (:init (up)) (:goal (not (up))))\n";
+
+/// As many predicates as a small domain may have, each of them lit by its own action.
+const EIGHT: &str = "(define (domain eight)
+  (:predicates (a) (b) (c) (d) (e) (f) (g) (h))
+  (:action la :effect (a)) (:action lb :effect (b)) (:action lc :effect (c)) (:action ld :effect (d))
+  (:action le :effect (e)) (:action lf :effect (f)) (:action lg :effect (g)) (:action lh :effect (h)))
+";
+
+const ONE_DARK: &str = "(define (problem o) (:domain eight)
+  (:init (a) (b) (c) (d) (e) (f) (g))
+  (:goal (and (a) (b) (c) (d) (e) (f) (g) (h))))
+";
 
 const PLAN: &str = "(plan table weak\n  (rule ((not (up))) (flip))\n)\n";
 
+const EIGHT_PLAN: &str = "(plan table weak
+  (rule ((not (a)) (b) (c) (d) (e) (f) (g) (h)) (la))
+  (rule ((a) (not (b)) (c) (d) (e) (f) (g) (h)) (lb))
+  (rule ((a) (b) (not (c)) (d) (e) (f) (g) (h)) (lc))
+  (rule ((a) (b) (c) (not (d)) (e) (f) (g) (h)) (ld))
+  (rule ((a) (b) (c) (d) (not (e)) (f) (g) (h)) (le))
+  (rule ((a) (b) (c) (d) (e) (not (f)) (g) (h)) (lf))
+  (rule ((a) (b) (c) (d) (e) (f) (not (g)) (h)) (lg))
+  (rule ((a) (b) (c) (d) (e) (f) (g) (not (h))) (lh))
+)
+";
+
 const NO_COMMAND: &str = "mbp: the words are none of the command forms\n";
 
-/// A shelf with the coin's domain and three problems, and a file that is one byte too long.
+/// The text, and spaces up to so many bytes.
+fn padded(alloc: Global, text: &str, length: usize) -> Result<Vec<u8>, Fail> {
+    let mut bytes = Vec::from_slice(alloc, text.as_bytes())?;
+    bytes.resize(length, b' ')?;
+    Ok(bytes)
+}
+
+/// A shelf with two domains and their problems, and files of the longest length and one byte more.
 fn shelf(alloc: Global) -> Result<MemShelf, Fail> {
     let mut shelf = MemShelf::new(alloc);
     shelf.add("coin-d", COIN.as_bytes())?;
     shelf.add("up", UP.as_bytes())?;
-    shelf.add("up-at-once", UP_AT_ONCE.as_bytes())?;
     shelf.add("down", DOWN.as_bytes())?;
-    shelf.add("long", vec![in alloc; b' '; FILE_LIMIT + 1]?.as_slice())?;
+    shelf.add("eight-d", EIGHT.as_bytes())?;
+    shelf.add("one-dark", ONE_DARK.as_bytes())?;
+    shelf.add("longest-d", &padded(alloc, COIN, MAX_BYTES)?)?;
+    shelf.add("longest-up", &padded(alloc, UP, MAX_BYTES)?)?;
+    shelf.add("too-long", &padded(alloc, UP, MAX_BYTES + 1)?)?;
     Ok(shelf)
 }
 
@@ -46,19 +79,16 @@ fn split(alloc: Global, line: &str) -> Result<Vec<String>, Fail> {
 fn each_answer_goes_where_it_belongs(rt: HostRuntime) -> Result<(), Fail> {
     let wanted = [
         ("plan weak coin-d up", 0, PLAN, ""),
-        (
-            "plan weak coin-d up-at-once",
-            0,
-            "(plan table weak\n)\n",
-            "",
-        ),
+        ("plan weak eight-d one-dark", 0, EIGHT_PLAN, ""),
+        ("plan weak longest-d longest-up", 0, PLAN, ""),
         ("plan weak coin-d down", 1, "no plan\n", ""),
         ("", 2, "", NO_COMMAND),
         ("plan", 2, "", NO_COMMAND),
         ("plan Weak coin-d up", 2, "", NO_COMMAND),
+        ("plan strong coin-d up", 2, "", NO_COMMAND),
         ("plan weak coin-d up --nodes", 2, "", NO_COMMAND),
-        ("plan weak long up", 4, "", "limit file\n"),
-        ("plan weak coin-d long", 4, "", "limit file\n"),
+        ("plan weak too-long up", 4, "", "limit file\n"),
+        ("plan weak coin-d too-long", 4, "", "limit file\n"),
         ("plan weak nowhere up", 6, "", "read fault nowhere\n"),
         ("plan weak coin-d nowhere", 6, "", "read fault nowhere\n"),
         ("plan weak up nowhere", 10, "", "not built up\n"),
@@ -83,22 +113,35 @@ fn each_answer_goes_where_it_belongs(rt: HostRuntime) -> Result<(), Fail> {
 }
 
 #[test]
-fn faults_stop_the_text(rt: HostRuntime) -> Result<(), Fail> {
-    // The words, the put of `out` and of `err` that fails (0: none), the status, and what is written.
+fn faults_stop_the_work_and_the_text(rt: HostRuntime) -> Result<(), Fail> {
+    // The words, the fetch and the puts of `out` and `err` that fail (0: none), the status, and what is
+    // written. No file is fetched twice, so no fetch has the number 3.
     let wanted = [
-        ("plan weak coin-d up", 2, 0, 7, "(plan ta", "write fault\n"),
-        ("plan weak coin-d up", 1, 0, 7, "", "write fault\n"),
-        ("plan weak coin-d up", 2, 2, 7, "(plan ta", "write fa"),
-        ("plan weak coin-d down", 1, 1, 7, "", ""),
-        ("plan", 0, 3, 7, "", "mbp: the words a"),
-        ("plan weak coin-d nowhere", 0, 2, 7, "", "read fau"),
+        ("plan weak coin-d up", 1, 0, 0, 6, "", "read fault coin-d\n"),
+        ("plan weak coin-d up", 2, 0, 0, 6, "", "read fault up\n"),
+        ("plan weak coin-d up", 3, 0, 0, 0, PLAN, ""),
+        (
+            "plan weak coin-d up",
+            0,
+            2,
+            0,
+            7,
+            "(plan ta",
+            "write fault\n",
+        ),
+        ("plan weak coin-d up", 0, 1, 0, 7, "", "write fault\n"),
+        ("plan weak coin-d up", 0, 2, 2, 7, "(plan ta", "write fa"),
+        ("plan weak coin-d down", 0, 1, 1, 7, "", ""),
+        ("plan", 0, 0, 3, 7, "", "mbp: the words a"),
+        ("plan weak coin-d nowhere", 0, 0, 2, 7, "", "read fau"),
     ];
-    for (line, out_call, err_call, status, text, errors) in wanted {
+    for (line, fetch, out_put, err_put, status, text, errors) in wanted {
         let mut shelf = shelf(rt.alloc())?;
         let mut out = MemSink::new(rt.alloc(), 8, 100)?;
         let mut err = MemSink::new(rt.alloc(), 8, 100)?;
-        out.fail_at(out_call)?;
-        err.fail_at(err_call)?;
+        shelf.fail_at(fetch)?;
+        out.fail_at(out_put)?;
+        err.fail_at(err_put)?;
         let got = run(
             rt.alloc(),
             &split(rt.alloc(), line)?,
@@ -109,21 +152,6 @@ fn faults_stop_the_text(rt: HostRuntime) -> Result<(), Fail> {
         assert_eq!(rt; got, status, "{line}");
         assert!(rt; out.bytes() == text.as_bytes(), "{line}");
         assert!(rt; err.bytes() == errors.as_bytes(), "{line}");
-    }
-    Ok(())
-}
-
-#[test]
-fn a_fetch_that_fails_is_a_read_fault(rt: HostRuntime) -> Result<(), Fail> {
-    for (call, line) in [(1, "read fault coin-d\n"), (2, "read fault up\n")] {
-        let mut shelf = shelf(rt.alloc())?;
-        shelf.fail_at(call)?;
-        let mut out = MemSink::new(rt.alloc(), 100, 1000)?;
-        let mut err = MemSink::new(rt.alloc(), 100, 1000)?;
-        let words = split(rt.alloc(), "plan weak coin-d up")?;
-        assert_eq!(rt; run(rt.alloc(), &words, &mut shelf, &mut out, &mut err), 6);
-        assert!(rt; out.bytes().is_empty());
-        assert!(rt; err.bytes() == line.as_bytes());
     }
     Ok(())
 }

@@ -1,24 +1,65 @@
 //! The command words.
 
-ghost use Rattle.mbp_top.specs.Words.{SayNothing, Says};
-ghost use Rattle.mbp_top.specs.Heard.{command_of};
-ghost use Rattle.std.specs.Prelude.{◌≡◌, MatchOption, map, string_bytes};
+ghost use Rattle.mbp_top.specs.Values.{IsSaid, plan_words_of};
+ghost use Rattle.mbp_top.specs.Words.{IsPlanned, PlanWords as AskedPlan, SaysPlan};
+ghost use Rattle.plan_rules.specs.Texts.{class_word};
+ghost use Rattle.std.specs.Prelude.{◌≡◌, ◌∷◌, MatchOption, codes, map, string_bytes};
+
+use plan_rules::Class;
 
 /// What the words say to do.
 pub(crate) enum Command<'a> {
-    /// Find a weak plan for the domain and the problem in the files of these names.
-    PlanWeak { domain: &'a str, problem: &'a str },
+    Plan(PlanWords<'a>),
+    /// The words are none of the commands.
+    Nothing,
 }
 
-/// The command that the words say, if they say one.
-pub(crate) fn read_words<'a>(words: &'a [String]) -> Option<Command<'a>>
-    ensures { MatchOption result (SayNothing (map string_bytes words.now)) (λ c. Says (map string_bytes words.now) (command_of c)) }
+/// What `plan` is asked: a plan of this class, for the domain and the problem in the files of these names.
+#[derive(Clone, Copy)]
+pub(crate) struct PlanWords<'a> {
+    pub(crate) class: Class,
+    pub(crate) domain: &'a str,
+    pub(crate) problem: &'a str,
+}
+
+/// The command that the words say.
+pub(crate) fn read_words<'a>(words: &'a [String]) -> Command<'a>
+    ensures { IsSaid (map string_bytes words.now) result }
 {
-    if words.len() == 4 && words[0].as_str() == "plan" && words[1].as_str() == "weak" {
-        return Some(Command::PlanWeak {
-            domain: &words[2],
-            problem: &words[3],
-        });
+    let [command, rest @ ..] = words else {
+        return Command::Nothing;
+    };
+    if command.as_str() == "plan" {
+        return match plan_words(rest) {
+            Some(asked) => Command::Plan(asked),
+            None => Command::Nothing,
+        };
+    }
+    Command::Nothing
+}
+
+/// `plan`, and these words after it.
+fn plan_words<'a>(words: &'a [String]) -> Option<PlanWords<'a>>
+    ensures { let said = codes "plan" ∷ map string_bytes words.now in
+        MatchOption result ((asked : AskedPlan) → SaysPlan said asked → ⊥) (λ asked. SaysPlan said (plan_words_of asked)) }
+{
+    match words {
+        [class, domain, problem] => Some(PlanWords {
+            class: planned_class(class)?,
+            domain,
+            problem,
+        }),
+        _ => None,
+    }
+}
+
+/// The class of this name, if plans of it are looked for.
+fn planned_class(word: &str) -> Option<Class>
+    ensures { MatchOption result ((class : Class) → IsPlanned class → word.now ≡ class_word class → ⊥)
+        (λ class. IsPlanned class × (word.now ≡ class_word class)) }
+{
+    if word == "weak" {
+        return Some(Class::Weak);
     }
     None
 }

@@ -15,11 +15,12 @@ pub record FetchesFirst {S : Type 0} (fetched : S → List ℕ → S → Type 0)
   pub count : ℕ
   pub fetches : Fetches fetched (take count names) before after
 
--- the last fetch that led from the state before to the state after was of this file, and in it the count of
--- faults rose
+-- the last fetch that led from the state before to the state after was of this file, and in it, and in none
+-- before it, the count of faults rose
 pub record FailedLast {S : Type 0} (fetched : S → List ℕ → S → Type 0) (faults : S → ℕ) (before after : S) (name : List ℕ) : Type 0 where
   pub earlier : List (List ℕ)
   pub between : S
   pub came : Fetches fetched earlier before between
+  pub quiet : faults between ≡ faults before
   pub fetch : fetched between name after
   pub rose : Rose (faults between) (faults after)

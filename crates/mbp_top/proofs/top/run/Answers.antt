@@ -1,39 +1,242 @@
-use Rattle.mbp_top.proofs.Statuses.{of_delivery, missing_command, at_eight, cut_delivery}
-use Rattle.mbp_top.proofs.Told.{due_answer, due_status, small_status}
+use Rattle.std.proofs.Common.{map, string_bytes}
+use Rattle.plan_io.specs.Fetches.{FailedLast}
+use Rattle.mbp_top.specs.Delivery.{seen}
+use Rattle.mbp_top.proofs.PlanDecides.{SpellOnce}
+use Rattle.mbp_top.proofs.Statuses.{
+  done,
+  of_delivery,
+  whole_delivery,
+  cut_delivery,
+  quiet_shelf,
+  quiet_sinks,
+  no_failure,
+  due_status,
+  plan_written,
+  no_plan_written,
+  plan_status,
+}
+use Rattle.mbp_top.proofs.ByCommand.{due_answer}
 use Rattle.mbp_top.proofs.top.run.Goals as goal
+
+-- In each answer: what the shelf told, in which fetch it failed, the words, its counts, and what the sinks
+-- showed; and then the answer that was given, with its cause and its delivery.
+
+pub returns-clause-answered : goal.returns-clause-answered
+returns-clause-answered g c =
+    let held = g.S.Shelf.held c.args.shelf.now in
+    let failed = FailedLast g.S.Shelf.fetched g.S.Shelf.faults c.args.shelf.now c.answer-found.new.shelf in
+    let words = map string_bytes c.args.words.now in
+    let before = g.S.Shelf.faults c.args.shelf.now in
+    let after = g.S.Shelf.faults c.answer-found.new.shelf in
+    let out = seen (g.O.Sink.written c.args.out.now) (g.O.Sink.faults c.args.out.now) in
+    let out' = seen (g.O.Sink.written c.deliver.new.out) (g.O.Sink.faults c.deliver.new.out) in
+    let err = seen (g.E.Sink.written c.args.err.now) (g.E.Sink.faults c.args.err.now) in
+    let err' = seen (g.E.Sink.written c.deliver.new.err) (g.E.Sink.faults c.deliver.new.err) in
+    let status = c.deliver.result in
+    let given = c.deliver.ensures.0 in
+    let d = done held failed words before after out out' err err' status _ given c.answer-found.ensures.cause c.answer-found.ensures.quiet_at c.deliver.ensures.1 c.deliver.ensures.2 in
+    (given, d.cause, d.delivered)
 
 pub returns-clause-statuses : goal.returns-clause-statuses
 returns-clause-statuses g c =
-    let reply = c.answer-reply.ensures.reply in
-    of_delivery reply.0 _ _ _ _ c.deliver.result (c.deliver.ensures reply.0 reply.1)
+    let held = g.S.Shelf.held c.args.shelf.now in
+    let failed = FailedLast g.S.Shelf.fetched g.S.Shelf.faults c.args.shelf.now c.answer-found.new.shelf in
+    let words = map string_bytes c.args.words.now in
+    let before = g.S.Shelf.faults c.args.shelf.now in
+    let after = g.S.Shelf.faults c.answer-found.new.shelf in
+    let out = seen (g.O.Sink.written c.args.out.now) (g.O.Sink.faults c.args.out.now) in
+    let out' = seen (g.O.Sink.written c.deliver.new.out) (g.O.Sink.faults c.deliver.new.out) in
+    let err = seen (g.E.Sink.written c.args.err.now) (g.E.Sink.faults c.args.err.now) in
+    let err' = seen (g.E.Sink.written c.deliver.new.err) (g.E.Sink.faults c.deliver.new.err) in
+    let status = c.deliver.result in
+    let given = c.deliver.ensures.0 in
+    let d = done held failed words before after out out' err err' status _ given c.answer-found.ensures.cause c.answer-found.ensures.quiet_at c.deliver.ensures.1 c.deliver.ensures.2 in
+    of_delivery given out out' err err' status d.delivered
 
-pub returns-clause-command_missing : goal.returns-clause-command_missing
-returns-clause-command_missing g c =
-    let reply = c.answer-reply.ensures.reply in
-    missing_command _ _ _ reply.0 _ _ _ _ c.deliver.result reply.2 (c.deliver.ensures reply.0 reply.1)
+pub returns-clause-whole : goal.returns-clause-whole
+returns-clause-whole g c not =
+    let held = g.S.Shelf.held c.args.shelf.now in
+    let failed = FailedLast g.S.Shelf.fetched g.S.Shelf.faults c.args.shelf.now c.answer-found.new.shelf in
+    let words = map string_bytes c.args.words.now in
+    let before = g.S.Shelf.faults c.args.shelf.now in
+    let after = g.S.Shelf.faults c.answer-found.new.shelf in
+    let out = seen (g.O.Sink.written c.args.out.now) (g.O.Sink.faults c.args.out.now) in
+    let out' = seen (g.O.Sink.written c.deliver.new.out) (g.O.Sink.faults c.deliver.new.out) in
+    let err = seen (g.E.Sink.written c.args.err.now) (g.E.Sink.faults c.args.err.now) in
+    let err' = seen (g.E.Sink.written c.deliver.new.err) (g.E.Sink.faults c.deliver.new.err) in
+    let status = c.deliver.result in
+    let given = c.deliver.ensures.0 in
+    let d = done held failed words before after out out' err err' status _ given c.answer-found.ensures.cause c.answer-found.ensures.quiet_at c.deliver.ensures.1 c.deliver.ensures.2 in
+    let whole = whole_delivery given out out' err err' status d.delivered not in
+    (given, d.cause, whole.0, whole.1)
+
+pub returns-clause-cut : goal.returns-clause-cut
+returns-clause-cut g c is =
+    let held = g.S.Shelf.held c.args.shelf.now in
+    let failed = FailedLast g.S.Shelf.fetched g.S.Shelf.faults c.args.shelf.now c.answer-found.new.shelf in
+    let words = map string_bytes c.args.words.now in
+    let before = g.S.Shelf.faults c.args.shelf.now in
+    let after = g.S.Shelf.faults c.answer-found.new.shelf in
+    let out = seen (g.O.Sink.written c.args.out.now) (g.O.Sink.faults c.args.out.now) in
+    let out' = seen (g.O.Sink.written c.deliver.new.out) (g.O.Sink.faults c.deliver.new.out) in
+    let err = seen (g.E.Sink.written c.args.err.now) (g.E.Sink.faults c.args.err.now) in
+    let err' = seen (g.E.Sink.written c.deliver.new.err) (g.E.Sink.faults c.deliver.new.err) in
+    let status = c.deliver.result in
+    let given = c.deliver.ensures.0 in
+    let d = done held failed words before after out out' err err' status _ given c.answer-found.ensures.cause c.answer-found.ensures.quiet_at c.deliver.ensures.1 c.deliver.ensures.2 in
+    (given, d.cause, d.quiet, cut_delivery given out out' err err' status d.delivered is)
+
+pub returns-clause-plan_solves : goal.returns-clause-plan_solves
+returns-clause-plan_solves g c asked says zero =
+    let held = g.S.Shelf.held c.args.shelf.now in
+    let failed = FailedLast g.S.Shelf.fetched g.S.Shelf.faults c.args.shelf.now c.answer-found.new.shelf in
+    let words = map string_bytes c.args.words.now in
+    let before = g.S.Shelf.faults c.args.shelf.now in
+    let after = g.S.Shelf.faults c.answer-found.new.shelf in
+    let out = seen (g.O.Sink.written c.args.out.now) (g.O.Sink.faults c.args.out.now) in
+    let out' = seen (g.O.Sink.written c.deliver.new.out) (g.O.Sink.faults c.deliver.new.out) in
+    let err = seen (g.E.Sink.written c.args.err.now) (g.E.Sink.faults c.args.err.now) in
+    let err' = seen (g.E.Sink.written c.deliver.new.err) (g.E.Sink.faults c.deliver.new.err) in
+    let status = c.deliver.result in
+    let given = c.deliver.ensures.0 in
+    let d = done held failed words before after out out' err err' status _ given c.answer-found.ensures.cause c.answer-found.ensures.quiet_at c.deliver.ensures.1 c.deliver.ensures.2 in
+    let w = plan_written held failed words before after out out' err err' status given asked d says zero in
+    (w.domain, w.problem, w.text, w.both, w.solves, w.written)
+
+pub returns-clause-plan_printed : goal.returns-clause-plan_printed
+returns-clause-plan_printed g c asked says zero =
+    let held = g.S.Shelf.held c.args.shelf.now in
+    let failed = FailedLast g.S.Shelf.fetched g.S.Shelf.faults c.args.shelf.now c.answer-found.new.shelf in
+    let words = map string_bytes c.args.words.now in
+    let before = g.S.Shelf.faults c.args.shelf.now in
+    let after = g.S.Shelf.faults c.answer-found.new.shelf in
+    let out = seen (g.O.Sink.written c.args.out.now) (g.O.Sink.faults c.args.out.now) in
+    let out' = seen (g.O.Sink.written c.deliver.new.out) (g.O.Sink.faults c.deliver.new.out) in
+    let err = seen (g.E.Sink.written c.args.err.now) (g.E.Sink.faults c.args.err.now) in
+    let err' = seen (g.E.Sink.written c.deliver.new.err) (g.E.Sink.faults c.deliver.new.err) in
+    let status = c.deliver.result in
+    let given = c.deliver.ensures.0 in
+    let d = done held failed words before after out out' err err' status _ given c.answer-found.ensures.cause c.answer-found.ensures.quiet_at c.deliver.ensures.1 c.deliver.ensures.2 in
+    let w = plan_written held failed words before after out out' err err' status given asked d says zero in
+    (w.domain, w.problem, w.text, w.both, w.printed, w.written)
+
+pub returns-clause-no_plan : goal.returns-clause-no_plan
+returns-clause-no_plan g c asked says one =
+    let held = g.S.Shelf.held c.args.shelf.now in
+    let failed = FailedLast g.S.Shelf.fetched g.S.Shelf.faults c.args.shelf.now c.answer-found.new.shelf in
+    let words = map string_bytes c.args.words.now in
+    let before = g.S.Shelf.faults c.args.shelf.now in
+    let after = g.S.Shelf.faults c.answer-found.new.shelf in
+    let out = seen (g.O.Sink.written c.args.out.now) (g.O.Sink.faults c.args.out.now) in
+    let out' = seen (g.O.Sink.written c.deliver.new.out) (g.O.Sink.faults c.deliver.new.out) in
+    let err = seen (g.E.Sink.written c.args.err.now) (g.E.Sink.faults c.args.err.now) in
+    let err' = seen (g.E.Sink.written c.deliver.new.err) (g.E.Sink.faults c.deliver.new.err) in
+    let status = c.deliver.result in
+    let given = c.deliver.ensures.0 in
+    let d = done held failed words before after out out' err err' status _ given c.answer-found.ensures.cause c.answer-found.ensures.quiet_at c.deliver.ensures.1 c.deliver.ensures.2 in
+    let w = no_plan_written held failed words before after out out' err err' status given asked d says one in
+    (w.domain, w.problem, w.both, w.none, w.written)
+
+pub returns-clause-plan_complete : goal.returns-clause-plan_complete
+returns-clause-plan_complete g c asked domain problem says both told no_rise no_out no_err =
+    let held = g.S.Shelf.held c.args.shelf.now in
+    let failed = FailedLast g.S.Shelf.fetched g.S.Shelf.faults c.args.shelf.now c.answer-found.new.shelf in
+    let words = map string_bytes c.args.words.now in
+    let before = g.S.Shelf.faults c.args.shelf.now in
+    let after = g.S.Shelf.faults c.answer-found.new.shelf in
+    let out = seen (g.O.Sink.written c.args.out.now) (g.O.Sink.faults c.args.out.now) in
+    let out' = seen (g.O.Sink.written c.deliver.new.out) (g.O.Sink.faults c.deliver.new.out) in
+    let err = seen (g.E.Sink.written c.args.err.now) (g.E.Sink.faults c.args.err.now) in
+    let err' = seen (g.E.Sink.written c.deliver.new.err) (g.E.Sink.faults c.deliver.new.err) in
+    let status = c.deliver.result in
+    let given = c.deliver.ensures.0 in
+    let d = done held failed words before after out out' err err' status _ given c.answer-found.ensures.cause c.answer-found.ensures.quiet_at c.deliver.ensures.1 c.deliver.ensures.2 in
+    let once : SpellOnce = record { one_domain = c.one_domain.ensures; one_problem = c.one_problem.ensures } in
+    plan_status once held failed words before after out out' err err' status given asked domain problem d says both told
+    (λ file. no_failure g.S.Shelf.fetched g.S.Shelf.faults c.args.shelf.now c.answer-found.new.shelf file no_rise) no_out no_err
 
 pub returns-clause-due : goal.returns-clause-due
-returns-clause-due g c = λ answer told due no_rise.
-    let reply = c.answer-reply.ensures.reply in
-    (reply.0, due_answer c.one_domain.ensures c.one_problem.ensures _ _ _ reply.0 answer reply.2 told due no_rise, c.deliver.ensures reply.0 reply.1)
+returns-clause-due g c answer is told no_rise =
+    let held = g.S.Shelf.held c.args.shelf.now in
+    let failed = FailedLast g.S.Shelf.fetched g.S.Shelf.faults c.args.shelf.now c.answer-found.new.shelf in
+    let words = map string_bytes c.args.words.now in
+    let before = g.S.Shelf.faults c.args.shelf.now in
+    let after = g.S.Shelf.faults c.answer-found.new.shelf in
+    let out = seen (g.O.Sink.written c.args.out.now) (g.O.Sink.faults c.args.out.now) in
+    let out' = seen (g.O.Sink.written c.deliver.new.out) (g.O.Sink.faults c.deliver.new.out) in
+    let err = seen (g.E.Sink.written c.args.err.now) (g.E.Sink.faults c.args.err.now) in
+    let err' = seen (g.E.Sink.written c.deliver.new.err) (g.E.Sink.faults c.deliver.new.err) in
+    let status = c.deliver.result in
+    let given = c.deliver.ensures.0 in
+    let d = done held failed words before after out out' err err' status _ given c.answer-found.ensures.cause c.answer-found.ensures.quiet_at c.deliver.ensures.1 c.deliver.ensures.2 in
+    let once : SpellOnce = record { one_domain = c.one_domain.ensures; one_problem = c.one_problem.ensures } in
+    (given, due_answer once held failed words given answer d.cause is told (λ file. no_failure g.S.Shelf.fetched g.S.Shelf.faults c.args.shelf.now c.answer-found.new.shelf file no_rise), d.delivered)
 
 pub returns-clause-determined : goal.returns-clause-determined
-returns-clause-determined g c = λ answer.
-    let reply = c.answer-reply.ensures.reply in
-    due_status c.one_domain.ensures c.one_problem.ensures _ _ _ reply.0 answer _ _ _ _ c.deliver.result reply.2 (c.deliver.ensures reply.0 reply.1)
+returns-clause-determined g c answer is told no_rise no_out no_err =
+    let held = g.S.Shelf.held c.args.shelf.now in
+    let failed = FailedLast g.S.Shelf.fetched g.S.Shelf.faults c.args.shelf.now c.answer-found.new.shelf in
+    let words = map string_bytes c.args.words.now in
+    let before = g.S.Shelf.faults c.args.shelf.now in
+    let after = g.S.Shelf.faults c.answer-found.new.shelf in
+    let out = seen (g.O.Sink.written c.args.out.now) (g.O.Sink.faults c.args.out.now) in
+    let out' = seen (g.O.Sink.written c.deliver.new.out) (g.O.Sink.faults c.deliver.new.out) in
+    let err = seen (g.E.Sink.written c.args.err.now) (g.E.Sink.faults c.args.err.now) in
+    let err' = seen (g.E.Sink.written c.deliver.new.err) (g.E.Sink.faults c.deliver.new.err) in
+    let status = c.deliver.result in
+    let given = c.deliver.ensures.0 in
+    let d = done held failed words before after out out' err err' status _ given c.answer-found.ensures.cause c.answer-found.ensures.quiet_at c.deliver.ensures.1 c.deliver.ensures.2 in
+    let once : SpellOnce = record { one_domain = c.one_domain.ensures; one_problem = c.one_problem.ensures } in
+    due_status once held failed words before after out out' err err' status given answer d is told
+    (λ file. no_failure g.S.Shelf.fetched g.S.Shelf.faults c.args.shelf.now c.answer-found.new.shelf file no_rise) no_out no_err
 
-pub returns-clause-complete : goal.returns-clause-complete
-returns-clause-complete g c = λ domain problem.
-    let reply = c.answer-reply.ensures.reply in
-    small_status c.one_domain.ensures _ _ _ reply.0 domain problem _ _ _ _ c.deliver.result reply.2 (c.deliver.ensures reply.0 reply.1)
+pub returns-clause-shelf_quiet : goal.returns-clause-shelf_quiet
+returns-clause-shelf_quiet g c six seven eight =
+    let held = g.S.Shelf.held c.args.shelf.now in
+    let failed = FailedLast g.S.Shelf.fetched g.S.Shelf.faults c.args.shelf.now c.answer-found.new.shelf in
+    let words = map string_bytes c.args.words.now in
+    let before = g.S.Shelf.faults c.args.shelf.now in
+    let after = g.S.Shelf.faults c.answer-found.new.shelf in
+    let out = seen (g.O.Sink.written c.args.out.now) (g.O.Sink.faults c.args.out.now) in
+    let out' = seen (g.O.Sink.written c.deliver.new.out) (g.O.Sink.faults c.deliver.new.out) in
+    let err = seen (g.E.Sink.written c.args.err.now) (g.E.Sink.faults c.args.err.now) in
+    let err' = seen (g.E.Sink.written c.deliver.new.err) (g.E.Sink.faults c.deliver.new.err) in
+    let status = c.deliver.result in
+    let given = c.deliver.ensures.0 in
+    let d = done held failed words before after out out' err err' status _ given c.answer-found.ensures.cause c.answer-found.ensures.quiet_at c.deliver.ensures.1 c.deliver.ensures.2 in
+    let whole = whole_delivery given out out' err err' status d.delivered seven in
+    quiet_shelf given before after status d.quiet whole.0 six eight
 
-pub returns-clause-cut_answer : goal.returns-clause-cut_answer
-returns-clause-cut_answer g c is =
-    let reply = c.answer-reply.ensures.reply in
-    (reply.0, reply.2, cut_delivery reply.0 _ _ _ _ c.deliver.result (c.deliver.ensures reply.0 reply.1) is)
+pub returns-clause-out_quiet : goal.returns-clause-out_quiet
+returns-clause-out_quiet g c seven =
+    let held = g.S.Shelf.held c.args.shelf.now in
+    let failed = FailedLast g.S.Shelf.fetched g.S.Shelf.faults c.args.shelf.now c.answer-found.new.shelf in
+    let words = map string_bytes c.args.words.now in
+    let before = g.S.Shelf.faults c.args.shelf.now in
+    let after = g.S.Shelf.faults c.answer-found.new.shelf in
+    let out = seen (g.O.Sink.written c.args.out.now) (g.O.Sink.faults c.args.out.now) in
+    let out' = seen (g.O.Sink.written c.deliver.new.out) (g.O.Sink.faults c.deliver.new.out) in
+    let err = seen (g.E.Sink.written c.args.err.now) (g.E.Sink.faults c.args.err.now) in
+    let err' = seen (g.E.Sink.written c.deliver.new.err) (g.E.Sink.faults c.deliver.new.err) in
+    let status = c.deliver.result in
+    let given = c.deliver.ensures.0 in
+    let d = done held failed words before after out out' err err' status _ given c.answer-found.ensures.cause c.answer-found.ensures.quiet_at c.deliver.ensures.1 c.deliver.ensures.2 in
+    let whole = whole_delivery given out out' err err' status d.delivered seven in
+    (quiet_sinks given out out' err err' whole.1).0
 
-pub returns-clause-no_memory : goal.returns-clause-no_memory
-returns-clause-no_memory g c is =
-    let reply = c.answer-reply.ensures.reply in
-    let wanted = at_eight _ _ _ reply.0 _ _ _ _ c.deliver.result reply.2 (c.deliver.ensures reply.0 reply.1) is in
-    (wanted.command, wanted.says, wanted.errors, wanted.output)
+pub returns-clause-err_quiet : goal.returns-clause-err_quiet
+returns-clause-err_quiet g c seven =
+    let held = g.S.Shelf.held c.args.shelf.now in
+    let failed = FailedLast g.S.Shelf.fetched g.S.Shelf.faults c.args.shelf.now c.answer-found.new.shelf in
+    let words = map string_bytes c.args.words.now in
+    let before = g.S.Shelf.faults c.args.shelf.now in
+    let after = g.S.Shelf.faults c.answer-found.new.shelf in
+    let out = seen (g.O.Sink.written c.args.out.now) (g.O.Sink.faults c.args.out.now) in
+    let out' = seen (g.O.Sink.written c.deliver.new.out) (g.O.Sink.faults c.deliver.new.out) in
+    let err = seen (g.E.Sink.written c.args.err.now) (g.E.Sink.faults c.args.err.now) in
+    let err' = seen (g.E.Sink.written c.deliver.new.err) (g.E.Sink.faults c.deliver.new.err) in
+    let status = c.deliver.result in
+    let given = c.deliver.ensures.0 in
+    let d = done held failed words before after out out' err err' status _ given c.answer-found.ensures.cause c.answer-found.ensures.quiet_at c.deliver.ensures.1 c.deliver.ensures.2 in
+    let whole = whole_delivery given out out' err err' status d.delivered seven in
+    (quiet_sinks given out out' err err' whole.1).1

@@ -1,12 +1,15 @@
-use Rattle.std.proofs.Common.{◌≡◌, codes, string_bytes, sym, ◌∙◌}
+use Rattle.std.proofs.Common.{◌≡◌, ℕ, ◌∷◌, List, codes, map, string_bytes, length, take, drop, ◌-◌, subst, sym, ap, ◌∙◌}
 use Rattle.std.specs.declared.alloc.Global.{Global}
 use Rattle.std.proofs.lemmas.Slice.Eq.{bytes_eq-Decides}
-use Rattle.mbp_top.proofs.FourWords.{four_items}
+use Rattle.mbp_top.specs.Values.{plan_words_of}
+use Rattle.mbp_top.specs.Words.{SaysPlan}
+use Rattle.mbp_top.proofs.WordLists.{first_and_rest}
 use Rattle.mbp_top.proofs.words.read_words.Goals as goal
 
-pub returns-then-eq-2 : goal.returns-then-eq-2
-returns-then-eq-2 c =
-    let words = four_items (string_bytes {Z = Global}) c.args.words.now c.index-words-0.result c.index-words-1.result c.index-words-2.result c.index-words-3.result c.if-words-eq4.true c.index-words-0.is c.index-words-1.is c.index-words-2.is c.index-words-3.is in
-    let first : string_bytes c.index-words-0.result ≡ codes "plan" = sym c.as_str.ensures.value ∙ (bytes_eq-Decides c.as_str.result.now (codes "plan")).0 (sym c.if-eq.ensures) in
-    let second : string_bytes c.index-words-1.result ≡ codes "weak" = sym c.as_str-then-eq.ensures.value ∙ (bytes_eq-Decides c.as_str-then-eq.result.now (codes "weak")).0 (sym c.if-eq-2.ensures) in
-    cc (words, first, second)
+pub returns-in-Some : goal.returns-in-Some
+returns-in-Some c =
+    let words = c.args.words.now in
+    let parts = first_and_rest (string_bytes {Z = Global}) words c.command-item.result c.in-len1-up.len_at_least c.command-item.is in
+    let first : string_bytes c.command-item.result ≡ codes "plan" = sym c.as_str.ensures.value ∙ (bytes_eq-Decides c.as_str.result.now (codes "plan")).0 (sym c.if-eq.ensures) in
+    let rest = map (string_bytes {Z = Global}) (take (length words - 1) (drop 1 words)) in
+    subst (λ (ws : List (List ℕ)). SaysPlan ws (plan_words_of c.in-Some.asked)) (sym (parts ∙ ap (λ (w : List ℕ). w ∷ rest) first)) c.in-Some.ensures

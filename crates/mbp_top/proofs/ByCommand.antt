@@ -1,0 +1,66 @@
+-- Causes, command by command: the words say one command at most, and it has one answer at most.
+use Rattle.std.proofs.Common.{◌≡◌, ◌≢◌, List, ◌⊎◌, inl, inr, refl, subst, sym, ◌∙◌, ap, arith, get_or, []}
+use Rattle.plan_rules.specs.declared.rules.Class.{Class}
+use Rattle.plan_rules.specs.declared.rules.Class.TheVariants.{Weak, Strong, Cyclic}
+use Rattle.plan_io.specs.Held.{Held}
+use Rattle.mbp_top.specs.Answers.{Answer, refused, no_command, no_memory}
+use Rattle.mbp_top.specs.Causes.{IsAnswerOf, HasCause}
+use Rattle.mbp_top.specs.Told.{AreFilesTold, IsDue}
+use Rattle.mbp_top.specs.Words.{Bytes, Command, plan, PlanWords, IsPlanned, Says, SaysPlan}
+use Rattle.mbp_top.proofs.Deciding.{Decides}
+use Rattle.mbp_top.proofs.PlanDecides.{SpellOnce, plan_decides}
+
+one_planned : (c d : Class) → IsPlanned c → IsPlanned d → c ≡ d
+one_planned Weak Weak is is' = refl
+one_planned Weak Strong is is' = absurd is'
+one_planned Weak Cyclic is is' = absurd is'
+one_planned Strong d is is' = absurd is
+one_planned Cyclic d is is' = absurd is
+
+same_plan : (words : List Bytes) (v w : PlanWords) → SaysPlan words v → SaysPlan words w → v ≡ w
+same_plan words v w says says' =
+    let classes = one_planned v.class w.class says.planned says'.planned in
+    let both = sym says.written ∙ says'.written in
+    let domains : v.domain ≡ w.domain = ap (λ (ws : List Bytes). get_or ws 2 []) both in
+    let problems : v.problem ≡ w.problem = ap (λ (ws : List Bytes). get_or ws 3 []) both in
+    λ i. record { class = classes i; domain = domains i; problem = problems i }
+
+-- the words say one command at most
+pub one_command : (words : List Bytes) (c d : Command) → Says words c → Says words d → c ≡ d
+one_command words (plan v) (plan w) says says' = ap plan (same_plan words v w says says')
+
+-- the words and the files decide the answer of a command
+one_answer : SpellOnce → (held : Bytes → Held) (failed failed' : Bytes → Type 0) (words : List Bytes) (command : Command)
+    → Says words command → AreFilesTold held words → ((file : Bytes) → failed file → ⊥) → ((file : Bytes) → failed' file → ⊥)
+    → Decides (IsAnswerOf held failed command) (IsAnswerOf held failed' command)
+one_answer once held failed failed' words (plan asked) says told quiet quiet' =
+    plan_decides once held failed failed' asked (told (plan asked) asked.domain says (0, omega arith, refl)) (told (plan asked) asked.problem says (1, omega arith, refl)) quiet quiet'
+
+-- where the words say a command, an answer that has its cause is that command's, or want of memory
+pub of_command : (held : Bytes → Held) (failed : Bytes → Type 0) (words : List Bytes) (command : Command) (a : Answer)
+    → Says words command → HasCause held failed words a → (a ≡ refused no_memory) ⊎ IsAnswerOf held failed command a
+of_command held failed words command a says (inl (nothing, is)) = absurd (nothing command says)
+of_command held failed words command a says (inr (said, says', inl memory)) = inl memory
+of_command held failed words command a says (inr (said, says', inr is)) =
+    inr (subst (λ c. IsAnswerOf held failed c a) (one_command words said command says' says) is)
+
+-- an answer that has its cause is the one that is due, or want of memory
+pub due_answer : SpellOnce → (held : Bytes → Held) (failed : Bytes → Type 0) (words : List Bytes) (a b : Answer)
+    → HasCause held failed words a → IsDue held words b → AreFilesTold held words → ((file : Bytes) → failed file → ⊥)
+    → (a ≡ b) ⊎ (a ≡ refused no_memory)
+due_answer once held failed words a b (inl (nothing, is)) due told quiet = none due.cause where
+  none : HasCause held (λ file. ⊥) words b → (a ≡ b) ⊎ (a ≡ refused no_memory)
+  none (inl (nothing', is')) = inl (is ∙ sym is')
+  none (inr (said, says, why)) = absurd (nothing said says)
+due_answer once held failed words a b (inr (said, says, inl memory)) due told quiet = inr memory
+due_answer once held failed words a b (inr (said, says, inr is)) due told quiet =
+    inl (same (of_command held (λ file. ⊥) words said b says due.cause)) where
+      same : (b ≡ refused no_memory) ⊎ IsAnswerOf held (λ file. ⊥) said b → a ≡ b
+      same (inl memory) = absurd (due.not_memory memory)
+      same (inr is') = one_answer once held failed (λ file. ⊥) words said says told quiet (λ file never. never) a b is is'
+
+-- want of memory may come in place of an answer of a command
+pub memory_instead : (held : Bytes → Held) (failed : Bytes → Type 0) (words : List Bytes) (a : Answer)
+    → a ≢ refused no_command → HasCause held failed words a → HasCause held failed words (refused no_memory)
+memory_instead held failed words a said (inl (nothing, is)) = absurd (said is)
+memory_instead held failed words a said (inr (command, says, why)) = inr (command, says, inl refl)

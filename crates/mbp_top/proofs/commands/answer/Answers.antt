@@ -1,0 +1,18 @@
+use Rattle.std.proofs.Common.{map, string_bytes, inr, subst}
+use Rattle.plan_io.specs.Fetches.{FetchesFirst}
+use Rattle.mbp_top.specs.Values.{plan_words_of}
+use Rattle.mbp_top.specs.Words.{Command, plan, files_of}
+use Rattle.mbp_top.proofs.ByCommand.{one_command}
+use Rattle.mbp_top.proofs.commands.answer.Goals as goal
+
+pub returns-in-Plan-clause-cause : goal.returns-in-Plan-clause-cause
+returns-in-Plan-clause-cause g c = inr (plan (plan_words_of c.in-Plan.asked), c.in-Plan.ensures, c.plan_files.ensures.answer)
+
+pub returns-in-Plan-clause-fetches : goal.returns-in-Plan-clause-fetches
+returns-in-Plan-clause-fetches g c = λ command says.
+    subst (λ (said : Command). FetchesFirst g.S.Shelf.fetched (files_of said) c.args.shelf.now c.plan_files.new.shelf)
+    (one_command (map string_bytes c.args.words.now) (plan (plan_words_of c.in-Plan.asked)) command c.in-Plan.ensures says)
+    c.plan_files.ensures.fetches
+
+pub returns-in-Plan-clause-no_fetch : goal.returns-in-Plan-clause-no_fetch
+returns-in-Plan-clause-no_fetch g c = λ nothing. absurd (nothing (plan (plan_words_of c.in-Plan.asked)) c.in-Plan.ensures)

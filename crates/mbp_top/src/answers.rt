@@ -1,0 +1,142 @@
+//! Answers: what a command shows, or a refusal; each with its exit status and its text.
+
+ghost use Rattle.mbp_top.specs.Answers.{line_of, no_command, no_memory, status_of, status_of_refusal, text_of};
+ghost use Rattle.mbp_top.specs.Values.{bytes_of, limit_of, refusal_of, shown_of};
+ghost use Rattle.plan_rules.specs.Texts.{line_feed};
+ghost use Rattle.std.specs.Prelude.{◌≡◌, ◌++◌, IfOk, IsOk};
+
+use std::alloc::{AllocError, Global};
+
+/// The exit status where there is not enough memory.
+pub const NO_MEMORY: u8 = 8;
+
+/// The line about that.
+pub(crate) const NO_MEMORY_LINE: &str = "no memory\n";
+
+/// The exit status where the text of an answer can't be written whole.
+pub(crate) const WRITE_FAULT: u8 = 7;
+
+/// A text: one that is always the same, or one that was made.
+#[derive(Drop)]
+pub(crate) enum Text {
+    Fixed(&'static str),
+    Made(Vec<u8>),
+}
+
+impl Text {
+    pub(crate) fn as_bytes(&self) -> &[u8]
+        ensures { result.now ≡ bytes_of self.now }
+    {
+        match self {
+            Text::Fixed(text) => text.as_bytes(),
+            Text::Made(bytes) => bytes.as_slice(),
+        }
+    }
+}
+
+/// What a command shows on standard output, with its text.
+#[derive(Drop)]
+pub(crate) enum Shown {
+    /// It says yes: a plan.
+    Affirmed(Text),
+    /// It says no: that there is no plan.
+    Denied(Text),
+}
+
+impl Shown {
+    /// The exit status.
+    pub(crate) fn status(&self) -> u8
+        ensures { result ≡ status_of (shown_of self.now) }
+    {
+        match self {
+            Shown::Affirmed(_) => 0,
+            Shown::Denied(_) => 1,
+        }
+    }
+
+    pub(crate) fn as_bytes(&self) -> &[u8]
+        ensures { result.now ≡ text_of (shown_of self.now) }
+    {
+        match self {
+            Shown::Affirmed(text) => text.as_bytes(),
+            Shown::Denied(text) => text.as_bytes(),
+        }
+    }
+}
+
+/// What must not be passed.
+#[derive(Clone, Copy)]
+pub(crate) enum Limit {
+    /// The bytes of a file.
+    File,
+}
+
+impl Limit {
+    pub(crate) fn name(self) -> &'static str
+        ensures { result.now ≡ limit_of self }
+    {
+        match self {
+            Limit::File => "file",
+        }
+    }
+}
+
+/// Why a command, or what is no command, is refused: one line on standard error.
+#[derive(Drop)]
+pub(crate) enum Refusal {
+    /// The words are none of the commands.
+    NoCommand,
+    /// This limit is passed.
+    OverLimit(Limit),
+    /// The file of this name can't be read.
+    ReadFault(String),
+    NoMemory,
+    /// The file of this name spells nothing that the program takes so far.
+    NotBuilt(String),
+}
+
+impl From<AllocError> for Refusal {
+    ghost use Rattle.mbp_top.specs.declared.answers.Refusal.TheVariants.{NoMemory};
+
+    ghost from_gives = { λ _ refusal. refusal ≡ NoMemory };
+
+    fn from(_: AllocError) -> Refusal {
+        Refusal::NoMemory
+    }
+}
+
+impl Refusal {
+    /// The exit status.
+    pub(crate) fn status(&self) -> u8
+        ensures { result ≡ status_of_refusal (refusal_of self.now) }
+    {
+        match self {
+            Refusal::NoCommand => 2,
+            Refusal::OverLimit(_) => 4,
+            Refusal::ReadFault(_) => 6,
+            Refusal::NoMemory => NO_MEMORY,
+            Refusal::NotBuilt(_) => 10,
+        }
+    }
+
+    /// The line, with its end.
+    pub(crate) fn line(&self, alloc: Global) -> Result<Text, AllocError>
+        ensures line { IfOk result (λ line. bytes_of line ≡ line_of (refusal_of self.now) ++ line_feed) }
+        ensures no_command { refusal_of self.now ≡ no_command → IsOk result }
+    {
+        Ok(match self {
+            Refusal::NoCommand => Text::Fixed("mbp: the words are none of the command forms\n"),
+            Refusal::OverLimit(limit) => {
+                let name = limit.name();
+                Text::Made(format!(in alloc; "limit {name}\n")?.into_bytes())
+            }
+            Refusal::ReadFault(file) => {
+                Text::Made(format!(in alloc; "read fault {file}\n")?.into_bytes())
+            }
+            Refusal::NoMemory => Text::Fixed(NO_MEMORY_LINE),
+            Refusal::NotBuilt(file) => {
+                Text::Made(format!(in alloc; "not built {file}\n")?.into_bytes())
+            }
+        })
+    }
+}
