@@ -42,16 +42,18 @@ abbrev pub greatest : List ℕ → ℕ
 greatest [] = 0
 greatest (n ∷ ns) = max n (greatest ns)
 
--- one layer of the depth: each constructor counts one above the deepest of its parts
+-- one layer of the depth: an `All` and an `Any` count one above the deepest of their parts; a `Not`
+-- doesn't count, so that an implication, which is an `Any` of a `Not`, counts once
 abbrev pub depth_step : Cond-F ℕ → ℕ
 depth_step Yes = 1
 depth_step No = 1
 depth_step (Is f) = 1
-depth_step (Not part) = 1 + part.value
+depth_step (Not part) = part.value
 depth_step (All parts) = 1 + greatest parts.items
 depth_step (Any parts) = 1 + greatest parts.items
 
--- how many constructors of a condition stand in one another at most
+-- how many `All`s and `Any`s of a condition stand in one another at most, and one more for what is
+-- innermost
 abbrev pub depth : Cond → ℕ
 depth = fold-Cond ℕ depth_step
 

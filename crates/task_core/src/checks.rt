@@ -201,13 +201,13 @@ fn ids_below(cond: &Cond, fluents: usize) -> bool
 fn is_within_depth(cond: &Cond, levels: u32) -> bool
     ensures { result ≡ nat_le (depth cond.now) levels }
 {
-    if levels == 0 {
-        return false;
-    }
     match cond {
-        Cond::Yes | Cond::No | Cond::Is(_) => true,
-        Cond::Not(part) => is_within_depth(part, levels - 1),
+        Cond::Yes | Cond::No | Cond::Is(_) => levels > 0,
+        Cond::Not(part) => is_within_depth(part, levels),
         Cond::All(parts) | Cond::Any(parts) => {
+            if levels == 0 {
+                return false;
+            }
             for part in parts {
                 if !is_within_depth(part, levels - 1) {
                     return false;

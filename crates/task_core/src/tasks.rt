@@ -25,7 +25,8 @@ use crate::{Cond, GroundAction, InitSpec};
 /// condition, a change or an entry names is one of the task's, and only fluents of the task are
 /// facts. Names are lists of one word at least, each of bytes 33 to 126 without `(`, `)`, `;` and
 /// `A` to `Z`; no fluent's name begins with the word `not`; no two fluents have one name, and no
-/// two actions. Conditions are at most 200 deep.
+/// two actions. Conditions are at most 200 deep, where an `All` or an `Any` counts one above its
+/// parts and a `Not` doesn't count.
 #[derive(Debug, Drop)]
 pub struct Task {
     pub fluents: Vec<Vec<String>>,
