@@ -1,13 +1,10 @@
 //! The program `mbp`: its words, the real files and the standard streams, handed to `mbp_top::run`.
 #![tactic(auto)]
 
-use mbp_top::run;
+use mbp_top::{NO_MEMORY, run};
 use plan_io::{DiskShelf, StdSink};
 use std::process::ExitCode;
 use std::{env, io};
-
-/// The status where there is not enough memory for the words.
-const NO_MEMORY: u8 = 8;
 
 fn main(rt: HostRuntime) -> ExitCode {
     match command_words(&rt) {

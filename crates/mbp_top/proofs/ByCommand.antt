@@ -1,7 +1,7 @@
 -- Causes, command by command: the words say one command at most, and it has one answer at most.
 use Rattle.std.proofs.Common.{◌≡◌, ◌≢◌, List, ◌⊎◌, inl, inr, refl, subst, sym, ◌∙◌, ap, arith, get_or, []}
-use Rattle.plan_rules.specs.declared.rules.Class.{Class}
-use Rattle.plan_rules.specs.declared.rules.Class.TheVariants.{Weak, Strong, Cyclic}
+use Rattle.task_core.specs.declared.classes.Class.{Class}
+use Rattle.task_core.specs.declared.classes.Class.TheVariants.{Weak, Strong, Cyclic}
 use Rattle.plan_io.specs.Held.{Held}
 use Rattle.mbp_top.specs.Answers.{Answer, refused, no_command, no_memory}
 use Rattle.mbp_top.specs.Causes.{IsAnswerOf, HasCause}

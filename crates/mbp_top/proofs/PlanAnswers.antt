@@ -5,7 +5,7 @@ use Rattle.std.proofs.lemmas.List.{length-map}
 use Rattle.task_core.specs.Systems.{System}
 use Rattle.task_core.specs.Tables.{IsTable}
 use Rattle.task_core.specs.Tasks.{action_count, fluent_count}
-use Rattle.task_core.specs.Solutions.{IsWeakSolution}
+use Rattle.task_core.specs.Solutions.{IsSolution}
 use Rattle.task_core.specs.declared.tasks.Task.{Task}
 use Rattle.plan_rules.specs.Denoted.{denoted, IsExecutable}
 use Rattle.plan_rules.specs.Names.{action_names, fluent_names, name_bytes, name_of}
@@ -13,7 +13,7 @@ use Rattle.plan_rules.specs.Plans.{IsRuleOf}
 use Rattle.plan_rules.specs.Readings.{SpellsTable}
 use Rattle.plan_rules.specs.Rules.{PlanRule, rules_of}
 use Rattle.plan_rules.specs.Texts.{Name, table_text}
-use Rattle.plan_rules.specs.declared.rules.Class.{Class}
+use Rattle.task_core.specs.declared.classes.Class.{Class}
 use Rattle.plan_rules.specs.declared.rules.TablePlan.{TablePlan}
 use Rattle.reach_plan.specs.Layers.{IsLastLayer}
 use Rattle.reach_plan.specs.Printed.{printed_rules}
@@ -29,8 +29,8 @@ names_in_range task rules all =
     (subst (λ n. All (IsRuleOf (fluent_count task) n) rules) (sym (length-map task.actions.items name_of)) all)
 
 pub plan_is_result : (class : Class) (sys : System) (fluents actions : List Name) (p : TablePlan) (text : Bytes) → p.class ≡ class
-    → (K : ℕ) × IsLastLayer sys K × (rules_of p ≡ printed_rules sys K)
-    → IsTable sys (denoted sys (rules_of p)) → IsWeakSolution sys (denoted sys (rules_of p)) → IsExecutable sys (rules_of p)
+    → (K : ℕ) × IsLastLayer class sys K × (rules_of p ≡ printed_rules class sys K)
+    → IsTable sys (denoted sys (rules_of p)) → IsSolution class sys (denoted sys (rules_of p)) → IsExecutable sys (rules_of p)
     → SpellsTable fluents actions (table_text fluents actions p.class (rules_of p)) p.class (rules_of p)
     → text ≡ table_text fluents actions p.class (rules_of p)
     → IsPlanResult class sys fluents actions (affirmed text)

@@ -4,7 +4,7 @@ use Rattle.plan_io.specs.Held.{Held, Untold}
 use Rattle.task_core.specs.Systems.{System}
 use Rattle.plan_rules.specs.Denoted.{denoted}
 use Rattle.plan_rules.specs.Texts.{Name, table_text}
-use Rattle.plan_rules.specs.declared.rules.Class.{Class}
+use Rattle.task_core.specs.declared.classes.Class.{Class}
 use Rattle.reach_plan.specs.Layers.{IsLastLayer}
 use Rattle.reach_plan.specs.Printed.{printed_rules}
 use Rattle.small_pddl.specs.Meaning.{system, fluent_names, action_names}
@@ -38,19 +38,19 @@ problem_grammar once domain_text domain spelled = record {
 }
 
 -- there is one last layer at most
-no_later_last : (sys : System) (K L : ℕ) → IsLastLayer sys K → IsLastLayer sys L → K < L → ⊥
-no_later_last sys K L first second less =
+no_later_last : (class : Class) (sys : System) (K L : ℕ) → IsLastLayer class sys K → IsLastLayer class sys L → K < L → ⊥
+no_later_last class sys K L first second less =
     let contrary : true ≡ false = sym first.covered ∙ second.first K less in
     cc
 
-one_last : (sys : System) (K L : ℕ) → IsLastLayer sys K → IsLastLayer sys L → K ≡ L
-one_last sys K L first second = omega (arith, no_later_last sys K L first second, no_later_last sys L K second first)
+one_last : (class : Class) (sys : System) (K L : ℕ) → IsLastLayer class sys K → IsLastLayer class sys L → K ≡ L
+one_last class sys K L first second = omega (arith, no_later_last class sys K L first second, no_later_last class sys L K second first)
 
 -- one text at most is printed
 one_printed : (class : Class) (sys : System) (fluents actions : List Name) (text other : Bytes)
     → IsPrintedText class sys fluents actions text → IsPrintedText class sys fluents actions other → text ≡ other
 one_printed class sys fluents actions text other first second =
-    first.spelled ∙ ap (λ last. table_text fluents actions class (printed_rules sys last)) (one_last sys first.last second.last first.is_last second.is_last) ∙ sym second.spelled
+    first.spelled ∙ ap (λ last. table_text fluents actions class (printed_rules class sys last)) (one_last class sys first.last second.last first.is_last second.is_last) ∙ sym second.spelled
 
 result_decides : (class : Class) (sys : System) (fluents actions : List Name)
     → Decides (IsPlanResult class sys fluents actions) (IsPlanResult class sys fluents actions)

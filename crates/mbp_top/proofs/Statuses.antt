@@ -6,9 +6,9 @@ use Rattle.plan_io.specs.Counts.{Rose}
 use Rattle.plan_io.specs.Fetches.{FailedLast}
 use Rattle.plan_io.specs.Held.{Held}
 use Rattle.plan_rules.specs.Texts.{Name}
-use Rattle.plan_rules.specs.declared.rules.Class.{Class}
+use Rattle.task_core.specs.declared.classes.Class.{Class}
 use Rattle.task_core.specs.Systems.{System}
-use Rattle.reach_plan.specs.Found.{HasNoWeakSolution}
+use Rattle.task_core.specs.Solutions.{HasNoSolution}
 use Rattle.small_pddl.specs.Meaning.{system, fluent_names, action_names}
 use Rattle.small_pddl.specs.Trees.{Domain, Problem}
 use Rattle.mbp_top.specs.Answers.{Answer, affirmed, denied, refused, Refusal, no_command, over_limit, read_fault, no_memory, not_built, status_of, text_of, is_shown}
@@ -135,7 +135,7 @@ pub record PlanFor (held : Bytes → Held) (asked : PlanWords) (answer : Answer)
   pub both : HoldBoth held asked.domain asked.problem domain problem
   pub result : IsPlanResult asked.class (system domain problem) (fluent_names domain) (action_names domain) answer
 
-not_refused : (refusal : Refusal) (a : Answer) → a ≡ refused refusal → is_shown a ≡ true → ⊥
+pub not_refused : (refusal : Refusal) (a : Answer) → a ≡ refused refusal → is_shown a ≡ true → ⊥
 not_refused refusal a is shown = cc (subst (λ k. is_shown k ≡ true) is shown)
 
 plan_trees : (held : Bytes → Held) (failed : Bytes → Type 0) (asked : PlanWords) (a : Answer) → is_shown a ≡ true
@@ -155,7 +155,7 @@ shown_plan held failed asked a shown (inl is) = absurd (not_refused no_memory a 
 shown_plan held failed asked a shown (inr is) = plan_trees held failed asked a shown is
 
 -- status 0 and 1 are those of shown answers
-shown_at : (a : Answer) → (status_of a ≡ 0) ⊎ (status_of a ≡ 1) → is_shown a ≡ true
+pub shown_at : (a : Answer) → (status_of a ≡ 0) ⊎ (status_of a ≡ 1) → is_shown a ≡ true
 shown_at (affirmed text) is = refl
 shown_at (denied text) is = refl
 shown_at (refused no_command) is = grind arith
@@ -205,7 +205,7 @@ pub record NoPlanWritten (held : Bytes → Held) (asked : PlanWords) (out out' :
   pub domain : Domain
   pub problem : Problem
   pub both : HoldBoth held asked.domain asked.problem domain problem
-  pub none : HasNoWeakSolution (system domain problem)
+  pub none : HasNoSolution asked.class (system domain problem)
   pub written : out'.written ≡ append_known out.written no_plan_text
 
 pub no_plan_written : (held : Bytes → Held) (failed : Bytes → Type 0) (words : List Bytes) (before after : ℕ) (out out' err err' : Seen) (status : ℕ) (a : Answer) (asked : PlanWords)

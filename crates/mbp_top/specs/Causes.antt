@@ -1,5 +1,5 @@
--- The cause of each answer: the words say no command; or they say one, and the answer is that command's, or
--- want of memory, which has no further cause. `held` and `failed` are as in Reading.
+-- The cause of each answer: the words say no command; or they say one, and the answer is that
+-- command's, or want of memory, which has no further cause. `held` and `failed` are as in Reading.
 use Rattle.std.specs.Prelude.{◌≡◌, ℕ, ◌⊎◌, ⊤, List}
 use Rattle.plan_io.specs.Held.{Held}
 use Rattle.mbp_top.specs.Answers.{Answer, affirmed, denied, refused, Refusal, no_command, over_limit, read_fault, no_memory, not_built}
@@ -13,10 +13,11 @@ IsAnswerOf held failed (plan asked) = IsPlanAnswer held failed asked
 abbrev pub HasCause : (Bytes → Held) → (Bytes → Type 0) → List Bytes → Answer → Type 0
 HasCause held failed words answer =
     (SayNothing words × (answer ≡ refused no_command))
-    ⊎ ((command : Command) × Says words command × ((answer ≡ refused no_memory) ⊎ IsAnswerOf held failed command answer))
+    ⊎ ((command : Command) × Says words command
+    × ((answer ≡ refused no_memory) ⊎ IsAnswerOf held failed command answer))
 
--- the answers at which the shelf's count of faults may have risen: that a file can't be read, and want of
--- memory
+-- the answers at which the shelf's count of faults may have risen: that a file can't be read, and
+-- want of memory
 abbrev pub IsFault : Refusal → Type 0
 IsFault no_command = ⊥
 IsFault (over_limit name) = ⊥

@@ -1,5 +1,5 @@
--- What is written of an answer, and the status that comes of it. Of a sink we know its count of faults
--- and, where it tells, the bytes written to it.
+-- What is written of an answer, and the status that comes of it. Of a sink we know its count of
+-- faults and, where it tells, the bytes written to it.
 use Rattle.std.specs.Prelude.{◌≡◌, ℕ, ◌<◌, ◌⊎◌, true, false, Option, List, length, take, codes, ◌++◌}
 use Rattle.std.specs.Io.KnownBytes.{append_known}
 use Rattle.plan_io.specs.Counts.{Rose}
@@ -47,7 +47,8 @@ pub record Refused (answer : Answer) (out out' err err' : Seen) : Type 0 where
   pub output : IsUntouched out out'
   pub errors : Takes (text_of answer) err err'
 
--- standard output took only a part, and the line about that went to standard error, as far as it took it
+-- standard output took only a part, and the line about that went to standard error, as far as it
+-- took it
 pub record CutOutput (answer : Answer) (out out' err err' : Seen) : Type 0 where
   pub shown : is_shown answer ≡ true
   pub output : TakesPart (text_of answer) out out'
@@ -61,11 +62,13 @@ pub record CutErrors (answer : Answer) (out out' err err' : Seen) : Type 0 where
 
 -- the whole answer was written where it belongs, and nothing else
 abbrev pub IsWhole : Answer → Seen → Seen → Seen → Seen → Type 0
-IsWhole answer out out' err err' = Showed answer out out' err err' ⊎ Refused answer out out' err err'
+IsWhole answer out out' err err' =
+    Showed answer out out' err err' ⊎ Refused answer out out' err err'
 
 -- a sink had a fault, and only a part of the answer was written
 abbrev pub IsCut : Answer → Seen → Seen → Seen → Seen → Type 0
-IsCut answer out out' err err' = CutOutput answer out out' err err' ⊎ CutErrors answer out out' err err'
+IsCut answer out out' err err' =
+    CutOutput answer out out' err err' ⊎ CutErrors answer out out' err err'
 
 -- what became of the answer, and the status that comes of it
 abbrev pub IsDelivered : Answer → Seen → Seen → Seen → Seen → ℕ → Type 0

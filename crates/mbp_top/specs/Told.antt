@@ -9,10 +9,11 @@ use Rattle.mbp_top.specs.Words.{Bytes, Command, Says, files_of}
 -- of each file that the words name, the shelf tells its bytes, or that there is none
 abbrev pub AreFilesTold : (Bytes → Held) → List Bytes → Type 0
 AreFilesTold held words =
-    (command : Command) (file : Bytes) → Says words command → Contains (files_of command) file → held file ≢ Untold
+    (command : Command) (file : Bytes) → Says words command → Contains (files_of command) file
+    → held file ≢ Untold
 
--- the words and the files alone call for this answer: no fault of the shelf is a part of its cause, and it
--- isn't want of memory
+-- the words and the files alone call for this answer: no fault of the shelf is a part of its cause,
+-- and it isn't want of memory
 pub record IsDue (held : Bytes → Held) (words : List Bytes) (answer : Answer) : Type 0 where
   pub cause : HasCause held (λ file. ⊥) words answer
   pub not_memory : answer ≢ refused no_memory

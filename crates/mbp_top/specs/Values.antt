@@ -37,7 +37,8 @@ answer_of (Ok shown) = shown_of shown
 answer_of (Err refusal) = refused (refusal_of refusal)
 
 abbrev pub plan_words_of : CodePlanWords → PlanWords
-plan_words_of words = record { class = words.class; domain = words.domain.now; problem = words.problem.now }
+plan_words_of words =
+    record { class = words.class; domain = words.domain.now; problem = words.problem.now }
 
 -- the words say the command
 abbrev pub IsSaid : List Bytes → CodeCommand → Type 0

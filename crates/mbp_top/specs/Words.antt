@@ -1,14 +1,15 @@
 -- The command words: which commands there are, and which words say them.
 use Rattle.std.specs.Prelude.{◌≡◌, ℕ, List, [], ◌∷◌, codes, ⊤}
 use Rattle.plan_rules.specs.Texts.{class_word}
-use Rattle.plan_rules.specs.declared.rules.Class.{Class}
-use Rattle.plan_rules.specs.declared.rules.Class.TheVariants.{Weak, Strong, Cyclic}
+use Rattle.task_core.specs.declared.classes.Class.{Class}
+use Rattle.task_core.specs.declared.classes.Class.TheVariants.{Weak, Strong, Cyclic}
 
 -- a text, as its bytes
 abbrev pub Bytes : Type 0
 Bytes = List ℕ
 
--- what `plan` is asked: a plan of this class, for the domain and the problem in the files of these names
+-- what `plan` is asked: a plan of this class, for the domain and the problem in the files of these
+-- names
 pub record PlanWords : Type 0 where
   pub class : Class
   pub domain : Bytes
@@ -28,7 +29,8 @@ pub record SaysPlan (words : List Bytes) (asked : PlanWords) : Type 0 where
   pub planned : IsPlanned asked.class
   pub written : words ≡ codes "plan" ∷ class_word asked.class ∷ asked.domain ∷ asked.problem ∷ []
 
--- the words say the command. Fixed words are compared exactly, with case, and names may be any words
+-- the words say the command. Fixed words are compared exactly, with case, and names may be any
+-- words
 abbrev pub Says : List Bytes → Command → Type 0
 Says words (plan asked) = SaysPlan words asked
 

@@ -1,6 +1,13 @@
 //! Answers: what a command shows, or a refusal; each with its exit status and its text.
 
-ghost use Rattle.mbp_top.specs.Answers.{line_of, no_command, no_memory, status_of, status_of_refusal, text_of};
+ghost use Rattle.mbp_top.specs.Answers.{
+  line_of,
+  no_command,
+  no_memory,
+  status_of,
+  status_of_refusal,
+  text_of,
+};
 ghost use Rattle.mbp_top.specs.Values.{bytes_of, limit_of, refusal_of, shown_of};
 ghost use Rattle.plan_rules.specs.Texts.{line_feed};
 ghost use Rattle.std.specs.Prelude.{◌≡◌, ◌++◌, IfOk, IsOk};
@@ -121,7 +128,8 @@ impl Refusal {
 
     /// The line, with its end.
     pub(crate) fn line(&self, alloc: Global) -> Result<Text, AllocError>
-        ensures line { IfOk result (λ line. bytes_of line ≡ line_of (refusal_of self.now) ++ line_feed) }
+        ensures line { IfOk result (λ line. bytes_of line
+            ≡ line_of (refusal_of self.now) ++ line_feed) }
         ensures no_command { refusal_of self.now ≡ no_command → IsOk result }
     {
         Ok(match self {

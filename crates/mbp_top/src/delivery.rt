@@ -1,7 +1,22 @@
 //! Writing an answer out.
 
-ghost use Rattle.mbp_top.specs.Answers.{Answer, is_shown, no_command, no_memory, refused, status_of, text_of};
-ghost use Rattle.mbp_top.specs.Delivery.{IsDelivered, Seen, Takes, TakesPart, seen, write_fault_line};
+ghost use Rattle.mbp_top.specs.Answers.{
+  Answer,
+  is_shown,
+  no_command,
+  no_memory,
+  refused,
+  status_of,
+  text_of,
+};
+ghost use Rattle.mbp_top.specs.Delivery.{
+  IsDelivered,
+  Seen,
+  Takes,
+  TakesPart,
+  seen,
+  write_fault_line,
+};
 ghost use Rattle.mbp_top.specs.Values.{answer_of};
 ghost use Rattle.std.specs.Prelude.{◌≡◌, ◌≢◌, ◌⊎◌, false, true};
 
@@ -9,8 +24,8 @@ use crate::answers::{NO_MEMORY, NO_MEMORY_LINE, Refusal, Shown, WRITE_FAULT};
 use plan_io::{Sink, put_all};
 use std::alloc::{AllocError, Global};
 
-/// Writes an answer where it belongs, and gives the exit status that comes of it. Where there is no memory
-/// for the line of a refusal, that is the answer.
+/// Writes an answer where it belongs, and gives the exit status that comes of it. Where there is no
+/// memory for the line of a refusal, that is the answer.
 pub(crate) fn deliver<O: Sink, E: Sink>(
     alloc: Global,
     answer: &Result<Shown, Refusal>,
@@ -18,10 +33,12 @@ pub(crate) fn deliver<O: Sink, E: Sink>(
     err: &mut E,
 ) -> u8
     ensures { (given : Answer)
-        × ((given ≡ answer_of answer.now) ⊎ ((given ≡ refused no_memory) × (answer_of answer.now ≢ refused no_command)))
+        × ((given ≡ answer_of answer.now)
+        ⊎ ((given ≡ refused no_memory) × (answer_of answer.now ≢ refused no_command)))
         × IsDelivered given
         (seen (O.written out.old) (O.faults out.old)) (seen (O.written out.new) (O.faults out.new))
-        (seen (E.written err.old) (E.faults err.old)) (seen (E.written err.new) (E.faults err.new)) result }
+        (seen (E.written err.old) (E.faults err.old))
+        (seen (E.written err.new) (E.faults err.new)) result }
 {
     match answer {
         Ok(shown) => show(shown.status(), shown.as_bytes(), out, err),
@@ -34,10 +51,12 @@ pub(crate) fn deliver<O: Sink, E: Sink>(
 
 /// Writes a text to standard output, and where that fails a line about it to standard error.
 fn show<O: Sink, E: Sink>(status: u8, text: &[u8], out: &mut O, err: &mut E) -> u8
-    ensures { (answer : Answer) → status ≡ status_of answer → text.now ≡ text_of answer → is_shown answer ≡ true
+    ensures { (answer : Answer) → status ≡ status_of answer → text.now ≡ text_of answer
+        → is_shown answer ≡ true
         → IsDelivered answer
         (seen (O.written out.old) (O.faults out.old)) (seen (O.written out.new) (O.faults out.new))
-        (seen (E.written err.old) (E.faults err.old)) (seen (E.written err.new) (E.faults err.new)) result }
+        (seen (E.written err.old) (E.faults err.old))
+        (seen (E.written err.new) (E.faults err.new)) result }
 {
     match put_all(out, text) {
         Ok(()) => status,
@@ -50,8 +69,10 @@ fn show<O: Sink, E: Sink>(status: u8, text: &[u8], out: &mut O, err: &mut E) -> 
 
 /// Puts the line about a write fault, whatever comes of it.
 fn put_fault_line<E: Sink>(err: &mut E)
-    ensures { Takes write_fault_line (seen (E.written err.old) (E.faults err.old)) (seen (E.written err.new) (E.faults err.new))
-        ⊎ TakesPart write_fault_line (seen (E.written err.old) (E.faults err.old)) (seen (E.written err.new) (E.faults err.new)) }
+    ensures { Takes write_fault_line (seen (E.written err.old) (E.faults err.old))
+        (seen (E.written err.new) (E.faults err.new))
+        ⊎ TakesPart write_fault_line (seen (E.written err.old) (E.faults err.old))
+        (seen (E.written err.new) (E.faults err.new)) }
 {
     match put_all(err, b"write fault\n") {
         Ok(()) => {}
@@ -61,9 +82,11 @@ fn put_fault_line<E: Sink>(err: &mut E)
 
 /// Writes a line to standard error; nothing is written to standard output.
 fn refuse<E: Sink>(status: u8, line: &[u8], err: &mut E) -> u8
-    ensures { (answer : Answer) (out : Seen) → status ≡ status_of answer → line.now ≡ text_of answer → is_shown answer ≡ false
+    ensures { (answer : Answer) (out : Seen) → status ≡ status_of answer → line.now ≡ text_of answer
+        → is_shown answer ≡ false
         → IsDelivered answer out out
-        (seen (E.written err.old) (E.faults err.old)) (seen (E.written err.new) (E.faults err.new)) result }
+        (seen (E.written err.old) (E.faults err.old))
+        (seen (E.written err.new) (E.faults err.new)) result }
 {
     match put_all(err, line) {
         Ok(()) => status,

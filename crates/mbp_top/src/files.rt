@@ -21,7 +21,9 @@ pub(crate) fn fetch<S: Shelf>(alloc: Global, shelf: &mut S, name: &str) -> Resul
         ⊎ IsTooLong (S.held shelf.old) name.now (refusal_of refusal)) }
     ensures fetch { S.fetched shelf.old name.now shelf.new }
     ensures quiet { OnOk result (S.faults shelf.new ≡ S.faults shelf.old) }
-    ensures quiet_at { IfErr result (λ refusal. IsQuietAt (refused (refusal_of refusal)) (S.faults shelf.old) (S.faults shelf.new)) }
+    ensures quiet_at { IfErr result
+        (λ refusal. IsQuietAt (refused (refusal_of refusal)) (S.faults shelf.old)
+        (S.faults shelf.new)) }
     ensures kept { (file : List ℕ) → S.held shelf.new file ≡ S.held shelf.old file }
     ensures later { S.faults shelf.old ≤ S.faults shelf.new }
 {

@@ -4,11 +4,11 @@ ghost use Rattle.mbp_top.specs.Answers.{no_memory, refused};
 ghost use Rattle.mbp_top.specs.Causes.{IsQuietAt};
 ghost use Rattle.mbp_top.specs.PlanCommand.{IsPlanAnswer, IsPlanResult};
 ghost use Rattle.mbp_top.specs.Values.{answer_of, bytes_of, plan_words_of, shown_of};
-ghost use Rattle.mbp_top.specs.Words.{IsPlanned};
+ghost use Rattle.mbp_top.specs.Words.{Bytes, IsPlanned};
 ghost use Rattle.plan_io.specs.Fetches.{FailedLast, FetchesFirst};
 ghost use Rattle.plan_rules.specs.Names.{action_names, fluent_names};
 ghost use Rattle.plan_rules.specs.Plans.{IsPlanOf, plan_text};
-ghost use Rattle.plan_rules.specs.Readings.{AreSpellable};
+ghost use Rattle.small_pddl.specs.Spelled.{SpellsDomain};
 ghost use Rattle.small_pddl.specs.Meaning as small;
 ghost use Rattle.small_pddl.specs.Values.{domain_tree, problem_tree};
 ghost use Rattle.std.specs.Prelude.{◌≡◌, ◌≤◌, ◌⊎◌, [], ◌∷◌, IfOk, IsSome, List, length, ℕ};
@@ -34,7 +34,8 @@ pub(crate) fn plan_files<S: Shelf>(
     ensures answer { let failed = FailedLast S.fetched S.faults shelf.old shelf.new in
         (answer_of result ≡ refused no_memory)
         ⊎ IsPlanAnswer (S.held shelf.old) failed (plan_words_of asked.now) (answer_of result) }
-    ensures fetches { FetchesFirst S.fetched (asked.now.domain.now ∷ asked.now.problem.now ∷ []) shelf.old shelf.new }
+    ensures fetches { FetchesFirst S.fetched
+        (asked.now.domain.now ∷ asked.now.problem.now ∷ []) shelf.old shelf.new }
     ensures quiet_at { IsQuietAt (answer_of result) (S.faults shelf.old) (S.faults shelf.new) }
     ensures kept { (file : List ℕ) → S.held shelf.new file ≡ S.held shelf.old file }
     ensures later { S.faults shelf.old ≤ S.faults shelf.new }
@@ -52,7 +53,7 @@ fn plan_small(
     problem: &SmallProblem,
 ) -> Result<Shown, AllocError>
     requires planned { IsPlanned class }
-    requires spellable { AreSpellable (small.fluent_names (domain_tree domain.now)) (small.action_names (domain_tree domain.now)) }
+    requires spelled { (bytes : Bytes) × SpellsDomain bytes (domain_tree domain.now) }
     ensures { let tree = domain_tree domain.now in
         IfOk result (λ shown. IsPlanResult class (small.system tree (problem_tree problem.now))
         (small.fluent_names tree) (small.action_names tree) (shown_of shown)) }
@@ -66,8 +67,9 @@ fn plan_task(alloc: Global, class: Class, task: &Task) -> Result<Shown, AllocErr
     requires planned { IsPlanned class }
     requires goal { IsSome task.now.goal }
     requires small { length task.now.fluents.items ≤ 8 }
-    requires spellable { AreSpellable (fluent_names task.now) (action_names task.now) }
-    ensures { IfOk result (λ shown. IsPlanResult class (system_of task.now) (fluent_names task.now) (action_names task.now) (shown_of shown)) }
+    ensures { IfOk result
+        (λ shown. IsPlanResult class (system_of task.now) (fluent_names task.now)
+        (action_names task.now) (shown_of shown)) }
 {
     let found = match class {
         Class::Weak => plan_weak(alloc, task)?,
@@ -82,7 +84,8 @@ fn plan_task(alloc: Global, class: Class, task: &Task) -> Result<Shown, AllocErr
 /// The text of a plan.
 fn text_of_plan(alloc: Global, plan: &Plan, task: &Task) -> Result<Text, AllocError>
     requires { IsPlanOf (length task.now.fluents.items) (length task.now.actions.items) plan.now }
-    ensures { IfOk result (λ text. bytes_of text ≡ plan_text (fluent_names task.now) (action_names task.now) plan.now) }
+    ensures { IfOk result (λ text. bytes_of text
+        ≡ plan_text (fluent_names task.now) (action_names task.now) plan.now) }
 {
     Ok(Text::Made(write_plan(alloc, plan, task)?))
 }

@@ -22,13 +22,16 @@ pub(crate) fn read_domain_file<S: Shelf>(
     shelf: &mut S,
     name: &str,
 ) -> Result<SmallDomain, Refusal>
-    ensures holds { IfOk result (λ d. Holds (S.held shelf.old) SpellsDomain name.now (domain_tree d)) }
+    ensures holds { IfOk result
+        (λ d. Holds (S.held shelf.old) SpellsDomain name.now (domain_tree d)) }
     ensures refused { let failed = FailedLast S.fetched S.faults shelf.old shelf.new in
         IfErr result (λ refusal. (refusal_of refusal ≡ no_memory)
         ⊎ IsRefusedFile (S.held shelf.old) failed IsNoDomain name.now (refusal_of refusal)) }
     ensures fetch { S.fetched shelf.old name.now shelf.new }
     ensures quiet { OnOk result (S.faults shelf.new ≡ S.faults shelf.old) }
-    ensures quiet_at { IfErr result (λ refusal. IsQuietAt (refused (refusal_of refusal)) (S.faults shelf.old) (S.faults shelf.new)) }
+    ensures quiet_at { IfErr result
+        (λ refusal. IsQuietAt (refused (refusal_of refusal)) (S.faults shelf.old)
+        (S.faults shelf.new)) }
     ensures kept { (file : List ℕ) → S.held shelf.new file ≡ S.held shelf.old file }
     ensures later { S.faults shelf.old ≤ S.faults shelf.new }
 {
@@ -46,13 +49,18 @@ pub(crate) fn read_problem_file<S: Shelf>(
     name: &str,
     domain: &SmallDomain,
 ) -> Result<SmallProblem, Refusal>
-    ensures holds { IfOk result (λ p. Holds (S.held shelf.old) (SpellsProblemOf (domain_tree domain.now)) name.now (problem_tree p)) }
+    ensures holds { IfOk result
+        (λ p. Holds (S.held shelf.old) (SpellsProblemOf (domain_tree domain.now)) name.now
+        (problem_tree p)) }
     ensures refused { let failed = FailedLast S.fetched S.faults shelf.old shelf.new in
         IfErr result (λ refusal. (refusal_of refusal ≡ no_memory)
-        ⊎ IsRefusedFile (S.held shelf.old) failed (IsNoProblem (domain_tree domain.now)) name.now (refusal_of refusal)) }
+        ⊎ IsRefusedFile (S.held shelf.old) failed (IsNoProblem (domain_tree domain.now)) name.now
+        (refusal_of refusal)) }
     ensures fetch { S.fetched shelf.old name.now shelf.new }
     ensures quiet { OnOk result (S.faults shelf.new ≡ S.faults shelf.old) }
-    ensures quiet_at { IfErr result (λ refusal. IsQuietAt (refused (refusal_of refusal)) (S.faults shelf.old) (S.faults shelf.new)) }
+    ensures quiet_at { IfErr result
+        (λ refusal. IsQuietAt (refused (refusal_of refusal)) (S.faults shelf.old)
+        (S.faults shelf.new)) }
     ensures kept { (file : List ℕ) → S.held shelf.new file ≡ S.held shelf.old file }
     ensures later { S.faults shelf.old ≤ S.faults shelf.new }
 {

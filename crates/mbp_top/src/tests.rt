@@ -18,8 +18,9 @@ const DOWN: &str = "(define (problem c) (:domain coin) (:init (up)) (:goal (not 
 /// As many predicates as a small domain may have, each of them lit by its own action.
 const EIGHT: &str = "(define (domain eight)
   (:predicates (a) (b) (c) (d) (e) (f) (g) (h))
-  (:action la :effect (a)) (:action lb :effect (b)) (:action lc :effect (c)) (:action ld :effect (d))
-  (:action le :effect (e)) (:action lf :effect (f)) (:action lg :effect (g)) (:action lh :effect (h)))
+  (:action la :effect (a)) (:action lb :effect (b)) (:action lc :effect (c))
+  (:action ld :effect (d)) (:action le :effect (e)) (:action lf :effect (f))
+  (:action lg :effect (g)) (:action lh :effect (h)))
 ";
 
 const ONE_DARK: &str = "(define (problem o) (:domain eight)
@@ -114,8 +115,8 @@ fn each_answer_goes_where_it_belongs(rt: HostRuntime) -> Result<(), Fail> {
 
 #[test]
 fn faults_stop_the_work_and_the_text(rt: HostRuntime) -> Result<(), Fail> {
-    // The words, the fetch and the puts of `out` and `err` that fail (0: none), the status, and what is
-    // written. No file is fetched twice, so no fetch has the number 3.
+    // The words, the fetch and the puts of `out` and `err` that fail (0: none), the status, and
+    // what is written. No file is fetched twice, so no fetch has the number 3.
     let wanted = [
         ("plan weak coin-d up", 1, 0, 0, 6, "", "read fault coin-d\n"),
         ("plan weak coin-d up", 2, 0, 0, 6, "", "read fault up\n"),

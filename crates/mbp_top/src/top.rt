@@ -6,14 +6,34 @@ ghost use Rattle.mbp_top.specs.Delivery.{IsCut, IsDelivered, IsWhole, seen};
 ghost use Rattle.mbp_top.specs.PlanCommand.{IsPrintedText, IsSolvingText, no_plan_text};
 ghost use Rattle.mbp_top.specs.SmallTexts.{HoldBoth};
 ghost use Rattle.mbp_top.specs.Told.{AreFilesTold, IsDue, NoFault};
-ghost use Rattle.mbp_top.specs.Words.{Bytes, Command, PlanWords, SayNothing, Says, SaysPlan, files_of};
+ghost use Rattle.mbp_top.specs.Words.{
+  Bytes,
+  Command,
+  PlanWords,
+  SayNothing,
+  Says,
+  SaysPlan,
+  files_of,
+};
 ghost use Rattle.mbp_top.specs.Answers as answers;
 ghost use Rattle.plan_io.specs.Fetches.{FailedLast, FetchesFirst};
-ghost use Rattle.reach_plan.specs.Found.{HasNoWeakSolution};
 ghost use Rattle.small_pddl.specs.Meaning.{action_names, fluent_names, system};
 ghost use Rattle.small_pddl.specs.Trees.{Domain, Problem};
+ghost use Rattle.task_core.specs.Solutions.{HasNoSolution};
 ghost use Rattle.std.specs.Io.KnownBytes.{append_known};
-ghost use Rattle.std.specs.Prelude.{◌≡◌, ◌≢◌, ◌≤◌, ◌⊎◌, [], ◌∷◌, Contains, List, map, string_bytes, ℕ};
+ghost use Rattle.std.specs.Prelude.{
+  ◌≡◌,
+  ◌≢◌,
+  ◌≤◌,
+  ◌⊎◌,
+  [],
+  ◌∷◌,
+  Contains,
+  List,
+  map,
+  string_bytes,
+  ℕ,
+};
 
 use crate::commands::answer;
 use crate::delivery::deliver;
@@ -36,9 +56,9 @@ use std::alloc::Global;
 /// - 8: there is not enough memory;
 /// - 10: a file spells no small domain or problem, the only ones that are taken so far.
 ///
-/// The clauses speak of what the shelf tells of its files (`held`) and of their fetches (`fetched`), of
-/// what the sinks tell that was written to them (`written`), and of their counts of faults. Want of
-/// memory alone has no stated cause.
+/// The clauses speak of what the shelf tells of its files (`held`) and of their fetches
+/// (`fetched`), of what the sinks tell that was written to them (`written`), and of their counts of
+/// faults. Want of memory alone has no stated cause.
 pub fn run<S: Shelf, O: Sink, E: Sink>(
     alloc: Global,
     words: &[String],
@@ -51,7 +71,8 @@ pub fn run<S: Shelf, O: Sink, E: Sink>(
         (answer : Answer) × HasCause (S.held shelf.old) failed (map string_bytes words.now) answer
         × IsDelivered answer
         (seen (O.written out.old) (O.faults out.old)) (seen (O.written out.new) (O.faults out.new))
-        (seen (E.written err.old) (E.faults err.old)) (seen (E.written err.new) (E.faults err.new)) result }
+        (seen (E.written err.old) (E.faults err.old))
+        (seen (E.written err.new) (E.faults err.new)) result }
     ensures statuses { Contains (0 ∷ 1 ∷ 2 ∷ 4 ∷ 6 ∷ 7 ∷ 8 ∷ 10 ∷ []) result }
 
     // At each status but 7 that is the answer's, and the answer is written whole.
@@ -61,7 +82,8 @@ pub fn run<S: Shelf, O: Sink, E: Sink>(
         × (result ≡ status_of answer)
         × IsWhole answer
         (seen (O.written out.old) (O.faults out.old)) (seen (O.written out.new) (O.faults out.new))
-        (seen (E.written err.old) (E.faults err.old)) (seen (E.written err.new) (E.faults err.new)) }
+        (seen (E.written err.old) (E.faults err.old))
+        (seen (E.written err.new) (E.faults err.new)) }
 
     // Status 7: a sink had a fault, and took only a part of the answer.
     ensures cut { let failed = FailedLast S.fetched S.faults shelf.old shelf.new in
@@ -70,62 +92,74 @@ pub fn run<S: Shelf, O: Sink, E: Sink>(
         × IsQuietAt answer (S.faults shelf.old) (S.faults shelf.new)
         × IsCut answer
         (seen (O.written out.old) (O.faults out.old)) (seen (O.written out.new) (O.faults out.new))
-        (seen (E.written err.old) (E.faults err.old)) (seen (E.written err.new) (E.faults err.new)) }
+        (seen (E.written err.old) (E.faults err.old))
+        (seen (E.written err.new) (E.faults err.new)) }
 
-    // `plan`, status 0: the text that was written spells a plan that solves the problem that the two files spell.
-    ensures plan_solves { (asked : PlanWords) → SaysPlan (map string_bytes words.now) asked → result ≡ 0
+    // `plan`, status 0: the text that was written spells a plan that solves the problem that the
+    // two files spell.
+    ensures plan_solves { (asked : PlanWords) → SaysPlan (map string_bytes words.now) asked
+        → result ≡ 0
         → (domain : Domain) × (problem : Problem) × (text : Bytes)
         × HoldBoth (S.held shelf.old) asked.domain asked.problem domain problem
-        × IsSolvingText asked.class (system domain problem) (fluent_names domain) (action_names domain) text
+        × IsSolvingText asked.class (system domain problem) (fluent_names domain)
+        (action_names domain) text
         × (O.written out.new ≡ append_known (O.written out.old) text) }
 
     // And that text is the one that is defined, byte for byte.
-    ensures plan_printed { (asked : PlanWords) → SaysPlan (map string_bytes words.now) asked → result ≡ 0
+    ensures plan_printed { (asked : PlanWords) → SaysPlan (map string_bytes words.now) asked
+        → result ≡ 0
         → (domain : Domain) × (problem : Problem) × (text : Bytes)
         × HoldBoth (S.held shelf.old) asked.domain asked.problem domain problem
-        × IsPrintedText asked.class (system domain problem) (fluent_names domain) (action_names domain) text
+        × IsPrintedText asked.class (system domain problem) (fluent_names domain)
+        (action_names domain) text
         × (O.written out.new ≡ append_known (O.written out.old) text) }
 
     // `plan`, status 1: no table at all is a solution of the problem that the two files spell.
     ensures no_plan { (asked : PlanWords) → SaysPlan (map string_bytes words.now) asked → result ≡ 1
         → (domain : Domain) × (problem : Problem)
         × HoldBoth (S.held shelf.old) asked.domain asked.problem domain problem
-        × HasNoWeakSolution (system domain problem)
+        × HasNoSolution asked.class (system domain problem)
         × (O.written out.new ≡ append_known (O.written out.old) no_plan_text) }
 
-    // `plan` of two files that spell a problem: there is a plan or there is none, if no fault comes.
+    // `plan` of two files that spell a problem: there is a plan or there is none, if no fault
+    // comes.
     ensures plan_complete { (asked : PlanWords) (domain : Domain) (problem : Problem)
         → SaysPlan (map string_bytes words.now) asked
         → HoldBoth (S.held shelf.old) asked.domain asked.problem domain problem
         → AreFilesTold (S.held shelf.old) (map string_bytes words.now)
         → NoFault (S.faults shelf.old) (S.faults shelf.new)
-        → NoFault (O.faults out.old) (O.faults out.new) → NoFault (E.faults err.old) (E.faults err.new)
+        → NoFault (O.faults out.old) (O.faults out.new)
+        → NoFault (E.faults err.old) (E.faults err.new)
         → (result ≡ 0) ⊎ (result ≡ 1) ⊎ (result ≡ 8) }
 
-    // Where the shelf tells of the files and has no fault, the words and the files alone decide the answer and
-    // so the status, but for want of memory.
+    // Where the shelf tells of the files and has no fault, the words and the files alone decide the
+    // answer and so the status, but for want of memory.
     ensures due { (answer : Answer) → IsDue (S.held shelf.old) (map string_bytes words.now) answer
         → AreFilesTold (S.held shelf.old) (map string_bytes words.now)
         → NoFault (S.faults shelf.old) (S.faults shelf.new)
         → (given : Answer) × ((given ≡ answer) ⊎ (given ≡ answers.refused answers.no_memory))
         × IsDelivered given
         (seen (O.written out.old) (O.faults out.old)) (seen (O.written out.new) (O.faults out.new))
-        (seen (E.written err.old) (E.faults err.old)) (seen (E.written err.new) (E.faults err.new)) result }
-    ensures determined { (answer : Answer) → IsDue (S.held shelf.old) (map string_bytes words.now) answer
+        (seen (E.written err.old) (E.faults err.old))
+        (seen (E.written err.new) (E.faults err.new)) result }
+    ensures determined { (answer : Answer)
+        → IsDue (S.held shelf.old) (map string_bytes words.now) answer
         → AreFilesTold (S.held shelf.old) (map string_bytes words.now)
         → NoFault (S.faults shelf.old) (S.faults shelf.new)
-        → NoFault (O.faults out.old) (O.faults out.new) → NoFault (E.faults err.old) (E.faults err.new)
+        → NoFault (O.faults out.old) (O.faults out.new)
+        → NoFault (E.faults err.old) (E.faults err.new)
         → (result ≡ status_of answer) ⊎ (result ≡ 8) }
 
-    // The files of the command are fetched in their order, each once, as far as they are needed; none without
-    // a command.
+    // The files of the command are fetched in their order, each once, as far as they are needed;
+    // none without a command.
     ensures fetches { (command : Command) → Says (map string_bytes words.now) command
         → FetchesFirst S.fetched (files_of command) shelf.old shelf.new }
     ensures no_fetch { SayNothing (map string_bytes words.now) → shelf.new ≡ shelf.old }
 
-    // A count of faults is as it was: the shelf's unless a file can't be read, the answer can't be written or
-    // memory is wanted; and those of the sinks unless the answer can't be written.
-    ensures shelf_quiet { result ≢ 6 → result ≢ 7 → result ≢ 8 → S.faults shelf.new ≡ S.faults shelf.old }
+    // A count of faults is as it was: the shelf's unless a file can't be read, the answer can't be
+    // written or memory is wanted; and those of the sinks unless the answer can't be written.
+    ensures shelf_quiet { result ≢ 6 → result ≢ 7 → result ≢ 8
+        → S.faults shelf.new ≡ S.faults shelf.old }
     ensures out_quiet { result ≢ 7 → O.faults out.new ≡ O.faults out.old }
     ensures err_quiet { result ≢ 7 → E.faults err.new ≡ E.faults err.old }
 

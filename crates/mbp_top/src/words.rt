@@ -14,7 +14,8 @@ pub(crate) enum Command<'a> {
     Nothing,
 }
 
-/// What `plan` is asked: a plan of this class, for the domain and the problem in the files of these names.
+/// What `plan` is asked: a plan of this class, for the domain and the problem in the files of these
+/// names.
 #[derive(Clone, Copy)]
 pub(crate) struct PlanWords<'a> {
     pub(crate) class: Class,
@@ -41,7 +42,8 @@ pub(crate) fn read_words<'a>(words: &'a [String]) -> Command<'a>
 /// `plan`, and these words after it.
 fn plan_words<'a>(words: &'a [String]) -> Option<PlanWords<'a>>
     ensures { let said = codes "plan" ∷ map string_bytes words.now in
-        MatchOption result ((asked : AskedPlan) → SaysPlan said asked → ⊥) (λ asked. SaysPlan said (plan_words_of asked)) }
+        MatchOption result ((asked : AskedPlan) → SaysPlan said asked → ⊥)
+        (λ asked. SaysPlan said (plan_words_of asked)) }
 {
     match words {
         [class, domain, problem] => Some(PlanWords {
@@ -55,7 +57,8 @@ fn plan_words<'a>(words: &'a [String]) -> Option<PlanWords<'a>>
 
 /// The class of this name, if plans of it are looked for.
 fn planned_class(word: &str) -> Option<Class>
-    ensures { MatchOption result ((class : Class) → IsPlanned class → word.now ≡ class_word class → ⊥)
+    ensures { MatchOption result
+        ((class : Class) → IsPlanned class → word.now ≡ class_word class → ⊥)
         (λ class. IsPlanned class × (word.now ≡ class_word class)) }
 {
     if word == "weak" {

@@ -1,5 +1,6 @@
--- The fetches of a call, as the shelf tells of them. `fetched` says of two states of the shelf that the
--- second came of a fetch of the file of this name in the first; `faults` is the count of faults.
+-- The fetches of a call, as the shelf tells of them. `fetched` says of two states of the shelf that
+-- the second came of a fetch of the file of this name in the first; `faults` is the count of
+-- faults.
 use Rattle.std.specs.Prelude.{◌≡◌, ℕ, List, [], ◌∷◌, take}
 use Rattle.plan_io.specs.Counts.{Rose}
 
@@ -9,15 +10,17 @@ Fetches fetched [] before after = after ≡ before
 Fetches {S} fetched (name ∷ names) before after =
     (between : S) × fetched before name between × Fetches fetched names between after
 
--- one fetch of each of the first of these files, in this order, and no other fetch, led from the state
--- before to the state after
-pub record FetchesFirst {S : Type 0} (fetched : S → List ℕ → S → Type 0) (names : List (List ℕ)) (before after : S) : Type 0 where
+-- one fetch of each of the first of these files, in this order, and no other fetch, led from the
+-- state before to the state after
+pub record FetchesFirst {S : Type 0} (fetched : S → List ℕ → S → Type 0) (names : List (List ℕ))
+    (before after : S) : Type 0 where
   pub count : ℕ
   pub fetches : Fetches fetched (take count names) before after
 
--- the last fetch that led from the state before to the state after was of this file, and in it, and in none
--- before it, the count of faults rose
-pub record FailedLast {S : Type 0} (fetched : S → List ℕ → S → Type 0) (faults : S → ℕ) (before after : S) (name : List ℕ) : Type 0 where
+-- the last fetch that led from the state before to the state after was of this file, and in it, and
+-- in none before it, the count of faults rose
+pub record FailedLast {S : Type 0} (fetched : S → List ℕ → S → Type 0) (faults : S → ℕ)
+    (before after : S) (name : List ℕ) : Type 0 where
   pub earlier : List (List ℕ)
   pub between : S
   pub came : Fetches fetched earlier before between

@@ -7,13 +7,15 @@ pub data Held : Type 0 where
   Missing : Held
   Holds : List ℕ → Held
 
--- these bytes can be the file: any can where nothing is told, none where there is no such file, and else its own alone
+-- these bytes can be the file: any can where nothing is told, none where there is no such file, and
+-- else its own alone
 abbrev pub Gives : Held → List ℕ → Type 0
 Gives Untold bytes = ⊤
 Gives Missing bytes = ⊥
 Gives (Holds file) bytes = bytes ≡ file
 
--- the file can have more than limit bytes: it can where nothing is told, and a told file does where it is that long
+-- the file can have more than limit bytes: it can where nothing is told, and a told file does where
+-- it is that long
 abbrev pub MayExceed : ℕ → Held → Type 0
 MayExceed limit Untold = ⊤
 MayExceed limit Missing = ⊥

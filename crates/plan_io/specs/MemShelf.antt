@@ -24,7 +24,9 @@ pub record MemShelfState : Type 0 where
 -- a state is stored as the tuple of its fields
 abbrev pub state_code : Coded MemShelfState
 state_code =
-    code_by (Files × (ℕ × (List ℕ × ℕ))) (coded× (finite.code (coded_list coded_ℕ) (coded_list coded_ℕ)) (coded× coded_ℕ (coded× (coded_list coded_ℕ) coded_ℕ)))
+    code_by (Files × (ℕ × (List ℕ × ℕ)))
+    (coded× (finite.code (coded_list coded_ℕ) (coded_list coded_ℕ))
+    (coded× coded_ℕ (coded× (coded_list coded_ℕ) coded_ℕ)))
     (λ s. (s.files, (s.calls, (s.failing, s.faults))))
     (λ t. record { files = t.0; calls = t.1.0; failing = t.1.1.0; faults = t.1.1.1 })
     (λ _. refl)

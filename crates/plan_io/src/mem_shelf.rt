@@ -1,10 +1,34 @@
 //! The shelf in memory, which tells all that it holds and fails at the fetches that it is told to.
-ghost use Rattle.std.specs.Prelude.{◌≡◌, ◌≤◌, ◌⊎◌, ◌↔◌, ◌++◌, ◌∷◌, ℕ, List, [], IfOk, OnOk, OnErr, IsErrOf, vec_len};
+ghost use Rattle.std.specs.Prelude.{
+  ◌≡◌,
+  ◌≤◌,
+  ◌⊎◌,
+  ◌↔◌,
+  ◌++◌,
+  ◌∷◌,
+  ℕ,
+  List,
+  [],
+  IfOk,
+  OnOk,
+  OnErr,
+  IsErrOf,
+  vec_len,
+};
 ghost use Rattle.std.specs.FinMap as finite;
 ghost use Rattle.std.specs.Option.{option_map};
 ghost use Rattle.plan_io.specs.Counts.{raised, Rose};
 ghost use Rattle.plan_io.specs.Held.{Missing, Gives, MayExceed, Exceeds};
-ghost use Rattle.plan_io.specs.MemShelf.{held_in, held_of, told, files_of, FetchFails, IsFetched, counted, struck};
+ghost use Rattle.plan_io.specs.MemShelf.{
+  held_in,
+  held_of,
+  told,
+  files_of,
+  FetchFails,
+  IsFetched,
+  counted,
+  struck,
+};
 
 use crate::schedule::Schedule;
 use crate::shelves::{FetchErr, Shelf};
@@ -84,7 +108,8 @@ impl Shelf for MemShelf {
         ensures within { IfOk result (λ file. vec_len file ≤ limit) }
         ensures failed { IsErrOf result FetchErr.Failed
             → Rose self.old.faults self.new.faults ⊎ (held_in self.old name.now ≡ Missing) }
-        ensures too_long { IsErrOf result FetchErr.TooLong → MayExceed limit (held_in self.old name.now) }
+        ensures too_long { IsErrOf result FetchErr.TooLong
+            → MayExceed limit (held_in self.old name.now) }
         ensures missing { held_in self.old name.now ≡ Missing
             → IsErrOf result FetchErr.Failed ⊎ IsErrOf result FetchErr.Memory }
         ensures exceeding { Exceeds limit (held_in self.old name.now)
@@ -121,10 +146,13 @@ fn copy_of(
     name: &str,
     limit: usize,
 ) -> Result<Vec<u8>, FetchErr>
-    ensures bytes { IfOk result (λ file. Gives (held_of (files_of stored.now) name.now) file.items) }
+    ensures bytes { IfOk result
+        (λ file. Gives (held_of (files_of stored.now) name.now) file.items) }
     ensures within { IfOk result (λ file. vec_len file ≤ limit) }
-    ensures failed { IsErrOf result FetchErr.Failed ↔ (held_of (files_of stored.now) name.now ≡ Missing) }
-    ensures too_long { IsErrOf result FetchErr.TooLong ↔ Exceeds limit (held_of (files_of stored.now) name.now) }
+    ensures failed { IsErrOf result FetchErr.Failed
+        ↔ (held_of (files_of stored.now) name.now ≡ Missing) }
+    ensures too_long { IsErrOf result FetchErr.TooLong
+        ↔ Exceeds limit (held_of (files_of stored.now) name.now) }
 {
     let Some(file) = find(stored, name) else {
         return Err(FetchErr::Failed);

@@ -1,5 +1,23 @@
 //! The sink in memory, which keeps what it took and fails at the puts that it is told to.
-ghost use Rattle.std.specs.Prelude.{◌≡◌, ◌≤◌, ◌<◌, ◌⊎◌, ◌↔◌, ◌++◌, ◌∷◌, ℕ, List, [], length, take, Some, IfOk, OnOk, OnErr, IsErr};
+ghost use Rattle.std.specs.Prelude.{
+  ◌≡◌,
+  ◌≤◌,
+  ◌<◌,
+  ◌⊎◌,
+  ◌↔◌,
+  ◌++◌,
+  ◌∷◌,
+  ℕ,
+  List,
+  [],
+  length,
+  take,
+  Some,
+  IfOk,
+  OnOk,
+  OnErr,
+  IsErr,
+};
 ghost use Rattle.std.specs.Io.KnownBytes.{append_known};
 ghost use Rattle.plan_io.specs.Counts.{raised, Rose};
 ghost use Rattle.plan_io.specs.MemSink.{PutFails, HasNoRoom, taken_of};

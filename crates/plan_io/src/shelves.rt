@@ -51,7 +51,8 @@ pub trait Shelf {
         // When each refusal comes.
         ensures failed { IsErrOf result FetchErr.Failed
             → Rose (faults self.old) (faults self.new) ⊎ (held self.old name.now ≡ Missing) }
-        ensures too_long { IsErrOf result FetchErr.TooLong → MayExceed limit (held self.old name.now) }
+        ensures too_long { IsErrOf result FetchErr.TooLong
+            → MayExceed limit (held self.old name.now) }
 
         // What a told file comes to, where the source does not fail and memory suffices.
         ensures missing { held self.old name.now ≡ Missing
@@ -64,7 +65,8 @@ pub trait Shelf {
         ensures given { OnOk result (faults self.new ≡ faults self.old) }
         ensures measured { IsErrOf result FetchErr.TooLong → faults self.new ≡ faults self.old }
 
-        // This was a fetch of that file. It changes nothing that is held, and the count never falls.
+        // This was a fetch of that file. It changes nothing that is held, and the count never
+        // falls.
         ensures fetch { fetched self.old name.now self.new }
         ensures kept { (file : List ℕ) → held self.new file ≡ held self.old file }
         ensures later { faults self.old ≤ faults self.new };

@@ -1,5 +1,19 @@
 //! Sinks: where text goes.
-ghost use Rattle.std.specs.Prelude.{◌≡◌, ℕ, ◌≤◌, ◌<◌, Option, List, [], length, take, IfOk, OnOk, IfErr, OnErr};
+ghost use Rattle.std.specs.Prelude.{
+  ◌≡◌,
+  ℕ,
+  ◌≤◌,
+  ◌<◌,
+  Option,
+  List,
+  [],
+  length,
+  take,
+  IfOk,
+  OnOk,
+  IfErr,
+  OnErr,
+};
 ghost use Rattle.std.specs.Io.KnownBytes.{append_known};
 ghost use Rattle.plan_io.specs.Counts.{Rose};
 
@@ -57,7 +71,8 @@ pub fn put_all<O: Sink>(sink: &mut O, bytes: &[u8]) -> Result<(), Stopped>
     // What is written: the whole text, or the front that was taken before the fault.
     ensures whole { OnOk result (O.written sink.new ≡ append_known (O.written sink.old) bytes.now) }
     ensures front { IfErr result
-        (λ stop. O.written sink.new ≡ append_known (O.written sink.old) (take stop.taken bytes.now)) }
+        (λ stop. O.written sink.new
+        ≡ append_known (O.written sink.old) (take stop.taken bytes.now)) }
     ensures cut { IfErr result (λ stop. stop.taken < length bytes.now) }
 
     // It stops by the first fault of the sink, and only so. The count never falls.

@@ -7,7 +7,7 @@ use Rattle.plan_rules.specs.Readings.{IsNameOf, IsLiteral, IsRule, first_word}
 use Rattle.sexpr_text.specs.Rows.{Row, nil, word, group, words, IsFirstGroup}
 use Rattle.plan_rules.specs.Rules.{PlanRule}
 use Rattle.plan_rules.specs.Texts.{Name, name_at, literal_text, rule_text, table_text}
-use Rattle.plan_rules.specs.declared.rules.Class.TheVariants.{Cyclic}
+use Rattle.task_core.specs.declared.classes.Class.TheVariants.{Cyclic}
 use Rattle.plan_rules.proofs.OneTable.{words-unique}
 
 -- two fluents, `at a` and `up`, and two actions, `go a b` and `flip`

@@ -8,8 +8,8 @@ use Rattle.plan_rules.specs.Readings.{IsNameOf, IsLiteral, IsRule, IsTable, Spel
 use Rattle.sexpr_text.specs.Rows.{Row, nil, word, group, row_of, words, EachGroup, IsFirstGroup}
 use Rattle.plan_rules.specs.Rules.{PlanRule}
 use Rattle.plan_rules.specs.Texts.{Name, name_at, class_word}
-use Rattle.plan_rules.specs.declared.rules.Class.{Class}
-use Rattle.plan_rules.specs.declared.rules.Class.TheVariants.{Weak, Strong, Cyclic}
+use Rattle.task_core.specs.declared.classes.Class.{Class}
+use Rattle.task_core.specs.declared.classes.Class.TheVariants.{Weak, Strong, Cyclic}
 
 pub words-unique : (v w : Name) → words v ≡ words w → v ≡ w
 words-unique [] [] e = refl

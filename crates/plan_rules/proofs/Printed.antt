@@ -14,10 +14,10 @@ use Rattle.plan_rules.specs.Readings.{IsNameOf, IsLiteral, IsRule, SpellsTable, 
 use Rattle.sexpr_text.specs.Rows.{Row, nil, word, group, words, EachGroup, IsFirstGroup}
 use Rattle.plan_rules.specs.Rules.{PlanRule, rules_of}
 use Rattle.plan_rules.specs.Texts.{Name, name_at, spaced, line_feed, in_parentheses, atom_text, literal_text, cube_text, rule_text, class_word, table_text}
-use Rattle.plan_rules.specs.declared.rules.Class.{Class}
+use Rattle.task_core.specs.declared.classes.Class.{Class}
 use Rattle.plan_rules.specs.declared.rules.Plan.{Plan}
 use Rattle.plan_rules.specs.declared.rules.Plan.TheVariants.{Table}
-use Rattle.plan_rules.specs.declared.rules.Class.TheVariants.{Weak, Strong, Cyclic}
+use Rattle.task_core.specs.declared.classes.Class.TheVariants.{Weak, Strong, Cyclic}
 use Rattle.plan_rules.proofs.Pieces.{Stops, Reads, reads_none, reads_space, reads_word, reads_then, reads_group, spelled_whole}
 
 both : (v w : Bool) → (v && w) ≡ true → (v ≡ true) × (w ≡ true)

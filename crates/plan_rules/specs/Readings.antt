@@ -9,7 +9,7 @@ use Rattle.sexpr_text.specs.Spelling.{SpellsTrees}
 use Rattle.sexpr_text.specs.Rows.{Row, nil, word, group, row_of, words, EachGroup, IsFirstGroup}
 use Rattle.plan_rules.specs.Rules.{PlanRule, rules_of}
 use Rattle.plan_rules.specs.Texts.{Name, name_at, class_word}
-use Rattle.plan_rules.specs.declared.rules.Class.{Class}
+use Rattle.task_core.specs.declared.classes.Class.{Class}
 use Rattle.plan_rules.specs.declared.rules.Plan.{Plan}
 use Rattle.plan_rules.specs.declared.rules.Plan.TheVariants.{Table}
 

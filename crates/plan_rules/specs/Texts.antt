@@ -4,8 +4,8 @@ use Rattle.std.specs.List.{flat_map, join_with_byte}
 use Rattle.task_core.specs.declared.literals.Lit.{Lit}
 use Rattle.task_core.specs.Cubes.{Cube}
 use Rattle.plan_rules.specs.Rules.{PlanRule}
-use Rattle.plan_rules.specs.declared.rules.Class.{Class}
-use Rattle.plan_rules.specs.declared.rules.Class.TheVariants.{Weak, Strong, Cyclic}
+use Rattle.task_core.specs.declared.classes.Class.{Class}
+use Rattle.task_core.specs.declared.classes.Class.TheVariants.{Weak, Strong, Cyclic}
 
 -- a name is a list of words, and a word a list of bytes
 abbrev pub Name : Type 0

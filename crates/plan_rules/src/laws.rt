@@ -6,7 +6,7 @@ ghost use Rattle.plan_rules.specs.Plans.{IsRuleOf};
 ghost use Rattle.plan_rules.specs.Readings.{AreDistinct, AreSpellable, SpellsTable};
 ghost use Rattle.plan_rules.specs.Rules.{PlanRule};
 ghost use Rattle.plan_rules.specs.Texts.{Name, table_text};
-ghost use Rattle.plan_rules.specs.declared.rules.Class.{Class};
+ghost use Rattle.task_core.specs.declared.classes.Class.{Class};
 
 /// The text that is printed of a table plan spells that plan, where the names of fluents and actions can
 /// be spelled and the plan's numbers are theirs.

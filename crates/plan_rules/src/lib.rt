@@ -16,5 +16,6 @@ mod tests;
 mod text;
 
 pub use laws::{one_table, printed_spells};
-pub use rules::{Class, Plan, Rule, TablePlan};
+pub use rules::{Plan, Rule, TablePlan};
+pub use task_core::Class;
 pub use text::write_plan;

@@ -1,15 +1,6 @@
 //! The plans.
 
-use task_core::{ActionId, Lit};
-
-/// The classes of plans: whether a plan may reach the goal, is sure to reach it in bounded time, or is
-/// sure to reach it under fair outcomes.
-#[derive(Clone, Copy, Debug, PartialEq, Eq)]
-pub enum Class {
-    Weak,
-    Strong,
-    Cyclic,
-}
+use task_core::{ActionId, Class, Lit};
 
 /// In each state that the cube matches, take the action.
 #[derive(Debug, Drop)]

@@ -32,20 +32,18 @@ ghost use Rattle.std.specs.Prelude.{
 };
 ghost use Rattle.std.specs.List.{flat_map};
 
-use crate::{Class, Plan, Rule};
+use crate::{Plan, Rule};
 use std::alloc::{AllocError, Global};
-use task_core::{GroundAction, Lit, Task};
+use task_core::{Class, GroundAction, Lit, Task};
 
-impl Class {
-    /// The word for the class in a plan's text.
-    pub fn word(self) -> &'static str
-        ensures { result.now ≡ class_word self }
-    {
-        match self {
-            Class::Weak => "weak",
-            Class::Strong => "strong",
-            Class::Cyclic => "cyclic",
-        }
+/// The word for a class in a plan's text.
+fn word_of(class: Class) -> &'static str
+    ensures { result.now ≡ class_word class }
+{
+    match class {
+        Class::Weak => "weak",
+        Class::Strong => "strong",
+        Class::Cyclic => "cyclic",
     }
 }
 
@@ -171,7 +169,7 @@ pub fn write_plan(alloc: Global, plan: &Plan, task: &Task) -> Result<Vec<u8>, Al
     let Plan::Table(table) = plan;
     let mut out = String::new(alloc);
     out.push_str("(plan table ")?;
-    out.push_str(table.class.word())?;
+    out.push_str(word_of(table.class))?;
     out.push('\n')?;
     push_rules(&mut out, &task.fluents, &task.actions, &table.rules)?;
     out.push_str(")\n")?;

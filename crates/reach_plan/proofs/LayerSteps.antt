@@ -27,6 +27,7 @@ use Rattle.reach_plan.proofs.LayersChosen.{chosen_zero, step_choice}
 use Rattle.reach_plan.proofs.ListedSets.{map-map}
 use Rattle.reach_plan.proofs.Weak.{layer-zero, layer-zero_goal}
 use Rattle.reach_plan.specs.Listed.{Lists, ListsChoices, ListsStates, number_of}
+use Rattle.task_core.specs.declared.classes.Class.TheVariants.{Weak}
 
 -- the answer at the place of a vector, and the choice there
 pub answer_at : (n : ℕ) (set : SetOfVectors) (answers : List Bool) (p : ℕ) (v : Vector) (d : Bool) → Lists n set answers → slice_get (all_vectors n) p ≡ Some v → get_or answers p d ≡ set v
@@ -109,8 +110,8 @@ listed-more f xs i v ys y at before is =
 
 -- the entries of the layer after layer k, of the first i states
 pub record IsLayerBelow (sys : System) (k i : ℕ) (inside : List Bool) (choices : List (Option ActionId)) : Type 0 where
-  pub inside_is : map (layer sys (suc k)) (take i (all_vectors sys.fluents)) ≡ inside
-  pub choices_is : map (chosen_action sys (suc k)) (take i (all_vectors sys.fluents)) ≡ map number_of choices
+  pub inside_is : map (layer Weak sys (suc k)) (take i (all_vectors sys.fluents)) ≡ inside
+  pub choices_is : map (chosen_action Weak sys (suc k)) (take i (all_vectors sys.fluents)) ≡ map number_of choices
 
 -- whether there is a first that passes
 pub is_some-find : {X : Type 0} (p : X → Bool) (xs : List X) → is_some (find p xs) ≡ list_any p xs
@@ -123,32 +124,32 @@ is_some-number None = refl
 is_some-number (Some a) = refl
 
 -- the entry of a state that the last layer holds, and of another
-module _ (sys : System) (k : ℕ) (last : Layer) (at : ℕ) (v : Vector) (is_layer : IsLayer sys k last) (place : slice_get (all_vectors sys.fluents) at ≡ Some v) where
-  pub stays_inside : (d : Bool) → get_or last.inside.items at d ≡ true → true ≡ layer sys (suc k) v
+module _ (sys : System) (k : ℕ) (last : Layer) (at : ℕ) (v : Vector) (is_layer : IsLayer Weak sys k last) (place : slice_get (all_vectors sys.fluents) at ≡ Some v) where
+  pub stays_inside : (d : Bool) → get_or last.inside.items at d ≡ true → true ≡ layer Weak sys (suc k) v
   stays_inside d inside =
-      let before : layer sys k v ≡ true = sym (answer_at sys.fluents (layer sys k) last.inside.items at v d is_layer.inside place) ∙ inside in
-      sym (or_left (layer sys k v) (list_any (may_lead sys (layer sys k) v) (action_numbers sys)) before)
+      let before : layer Weak sys k v ≡ true = sym (answer_at sys.fluents (layer Weak sys k) last.inside.items at v d is_layer.inside place) ∙ inside in
+      sym (or_left (layer Weak sys k v) (list_any (may_lead sys (layer Weak sys k) v) (action_numbers sys)) before)
 
-  pub stays_chosen : (d : Bool) (e : Option ActionId) → at < length last.choices.items → get_or last.inside.items at d ≡ true → number_of (get_or last.choices.items at e) ≡ chosen_action sys (suc k) v
+  pub stays_chosen : (d : Bool) (e : Option ActionId) → at < length last.choices.items → get_or last.inside.items at d ≡ true → number_of (get_or last.choices.items at e) ≡ chosen_action Weak sys (suc k) v
   stays_chosen d e within inside =
-      let before : layer sys k v ≡ true = sym (answer_at sys.fluents (layer sys k) last.inside.items at v d is_layer.inside place) ∙ inside in
-      choice_at sys.fluents (chosen_action sys k) last.choices.items at v e is_layer.choices within place
-      ∙ sym (step_choice sys k v ∙ cond-true (layer sys k v) _ _ before)
+      let before : layer Weak sys k v ≡ true = sym (answer_at sys.fluents (layer Weak sys k) last.inside.items at v d is_layer.inside place) ∙ inside in
+      choice_at sys.fluents (chosen_action Weak sys k) last.choices.items at v e is_layer.choices within place
+      ∙ sym (step_choice sys k v ∙ cond-true (layer Weak sys k v) _ _ before)
 
-  pub comes_inside : (d : Bool) (choice : Option ActionId) → get_or last.inside.items at d ≡ false → number_of choice ≡ find (may_lead sys (layer sys k) v) (action_numbers sys) → is_some choice ≡ layer sys (suc k) v
+  pub comes_inside : (d : Bool) (choice : Option ActionId) → get_or last.inside.items at d ≡ false → number_of choice ≡ find (may_lead sys (layer Weak sys k) v) (action_numbers sys) → is_some choice ≡ layer Weak sys (suc k) v
   comes_inside d choice outside first =
-      let before : layer sys k v ≡ false = sym (answer_at sys.fluents (layer sys k) last.inside.items at v d is_layer.inside place) ∙ outside in
+      let before : layer Weak sys k v ≡ false = sym (answer_at sys.fluents (layer Weak sys k) last.inside.items at v d is_layer.inside place) ∙ outside in
       is_some-number choice ∙ (ap is_some first
-      ∙ (is_some-find (may_lead sys (layer sys k) v) (action_numbers sys)
-      ∙ sym (ap (λ b. b || list_any (may_lead sys (layer sys k) v) (action_numbers sys)) before)))
+      ∙ (is_some-find (may_lead sys (layer Weak sys k) v) (action_numbers sys)
+      ∙ sym (ap (λ b. b || list_any (may_lead sys (layer Weak sys k) v) (action_numbers sys)) before)))
 
-  pub comes_chosen : (d : Bool) (choice : Option ActionId) → get_or last.inside.items at d ≡ false → number_of choice ≡ find (may_lead sys (layer sys k) v) (action_numbers sys) → number_of choice ≡ chosen_action sys (suc k) v
+  pub comes_chosen : (d : Bool) (choice : Option ActionId) → get_or last.inside.items at d ≡ false → number_of choice ≡ find (may_lead sys (layer Weak sys k) v) (action_numbers sys) → number_of choice ≡ chosen_action Weak sys (suc k) v
   comes_chosen d choice outside first =
-      let before : layer sys k v ≡ false = sym (answer_at sys.fluents (layer sys k) last.inside.items at v d is_layer.inside place) ∙ outside in
-      first ∙ sym (step_choice sys k v ∙ cond-false (layer sys k v) _ _ before)
+      let before : layer Weak sys k v ≡ false = sym (answer_at sys.fluents (layer Weak sys k) last.inside.items at v d is_layer.inside place) ∙ outside in
+      first ∙ sym (step_choice sys k v ∙ cond-false (layer Weak sys k v) _ _ before)
 
 -- the goal as layer 0
-goal_layer_at : (task : Task) (goal : Cond) (v : Vector) → task.goal ≡ Some goal → length v ≡ fluent_count task → layer (system_of task) 0 v ≡ holds goal (value_of v)
+goal_layer_at : (task : Task) (goal : Cond) (v : Vector) → task.goal ≡ Some goal → length v ≡ fluent_count task → layer Weak (system_of task) 0 v ≡ holds goal (value_of v)
 goal_layer_at task goal v is_goal l =
     let sys = system_of task in
     let states : goal_states sys ≡ states_where (fluent_count task) goal = ap (λ o. unwrap_or (option_map (states_where (fluent_count task)) o) []) is_goal in
@@ -157,7 +158,7 @@ goal_layer_at task goal v is_goal l =
     (λ (h : holds goal (value_of v) ≡ true).
     layer-zero sys v (subst P (sym states) (states_where_has (fluent_count task) goal v l h)) ∙ sym h)
     (λ (h : holds goal (value_of v) ≡ false).
-    false_from_ne_true (layer sys 0 v) (λ e. both_ways (holds goal (value_of v)) h ((states_where_holds (fluent_count task) goal v (subst P states (layer-zero_goal sys v e))).1)) ∙ sym h)
+    false_from_ne_true (layer Weak sys 0 v) (λ e. both_ways (holds goal (value_of v)) h ((states_where_holds (fluent_count task) goal v (subst P states (layer-zero_goal sys v e))).1)) ∙ sym h)
     (cases_Bool (holds goal (value_of v)))
 
 map_agree_all : {X Y : Type 0} (P : X → Type 0) (f g : X → Y) (xs : List X) → All P xs → ((x : X) → P x → f x ≡ g x) → map f xs ≡ map g xs
@@ -168,10 +169,10 @@ map_agree_all P f g (x ∷ xs) all same =
     cc
 
 pub goal_layer-inside : (task : Task) (goal : Cond) (states : List State) (answers : List Bool) → task.goal ≡ Some goal → ListsStates (fluent_count task) states → answers ≡ map (holds_in goal) states
-    → Lists (fluent_count task) (layer (system_of task) 0) answers
+    → Lists (fluent_count task) (layer Weak (system_of task) 0) answers
 goal_layer-inside task goal states answers is_goal lists is =
     let n = fluent_count task in
-    let f = layer (system_of task) 0 in
+    let f = layer Weak (system_of task) 0 in
     ap (map f) (sym lists.vectors)
     ∙ (map-map f (vector n) states
     ∙ (map_agree_all (IsWithin n) (λ s. f (vector n s)) (holds_in goal) states lists.within
@@ -190,10 +191,10 @@ numbers_none zero = refl
 numbers_none (suc n) = ap (λ ys. None ∷ ys) (numbers_none n)
 
 pub goal_layer-choices : (task : Task) (states : List State) (choices : List (Option ActionId)) → ListsStates (fluent_count task) states → choices ≡ replicate (length states) None
-    → ListsChoices (fluent_count task) (chosen_action (system_of task) 0) choices
+    → ListsChoices (fluent_count task) (chosen_action Weak (system_of task) 0) choices
 goal_layer-choices task states choices lists is =
     let n = fluent_count task in
-    map_agree_all (λ v. Unit {0}) (chosen_action (system_of task) 0) no_choice (all_vectors n) (λ k d h. tt) (λ v h. chosen_zero (system_of task) v)
+    map_agree_all (λ v. Unit {0}) (chosen_action Weak (system_of task) 0) no_choice (all_vectors n) (λ k d h. tt) (λ v h. chosen_zero (system_of task) v)
     ∙ (map_none (all_vectors n)
     ∙ (ap (λ (m : ℕ). replicate m None) (ap length (sym lists.vectors) ∙ length-map states (vector n))
     ∙ (numbers_none (length states) ∙ ap (map number_of) (sym is))))
@@ -203,17 +204,17 @@ layer_below-none sys k = record { inside_is = refl; choices_is = refl }
 
 pub layer_below-more : (sys : System) (k i : ℕ) (v : Vector) (inside inside' : List Bool) (choices choices' : List (Option ActionId)) (b : Bool) (choice : Option ActionId)
     → slice_get (all_vectors sys.fluents) i ≡ Some v → IsLayerBelow sys k i inside choices → inside' ≡ inside ++ b ∷ [] → choices' ≡ choices ++ choice ∷ []
-    → b ≡ layer sys (suc k) v → number_of choice ≡ chosen_action sys (suc k) v → IsLayerBelow sys k (i + 1) inside' choices'
+    → b ≡ layer Weak sys (suc k) v → number_of choice ≡ chosen_action Weak sys (suc k) v → IsLayerBelow sys k (i + 1) inside' choices'
 layer_below-more sys k i v inside inside' choices choices' b choice at before more_inside more_choices b_is choice_is = record {
-  inside_is = listed-more (layer sys (suc k)) (all_vectors sys.fluents) i v inside b at before.inside_is b_is ∙ sym more_inside;
-  choices_is = listed-more (chosen_action sys (suc k)) (all_vectors sys.fluents) i v (map number_of choices) (number_of choice) at before.choices_is choice_is
+  inside_is = listed-more (layer Weak sys (suc k)) (all_vectors sys.fluents) i v inside b at before.inside_is b_is ∙ sym more_inside;
+  choices_is = listed-more (chosen_action Weak sys (suc k)) (all_vectors sys.fluents) i v (map number_of choices) (number_of choice) at before.choices_is choice_is
       ∙ (sym (map-append number_of choices (choice ∷ [])) ∙ ap (map number_of) (sym more_choices));
 }
 
-pub layer_below-all : (sys : System) (k i : ℕ) (states : List State) (next : Layer) → ListsStates sys.fluents states → length states ≤ i → IsLayerBelow sys k i next.inside.items next.choices.items → IsLayer sys (suc k) next
+pub layer_below-all : (sys : System) (k i : ℕ) (states : List State) (next : Layer) → ListsStates sys.fluents states → length states ≤ i → IsLayerBelow sys k i next.inside.items next.choices.items → IsLayer Weak sys (suc k) next
 layer_below-all sys k i states next lists past all =
     let count : length (all_vectors sys.fluents) ≤ i = omega (arith, ap length lists.vectors, length-map states (vector sys.fluents)) in
     record {
-      inside = ap (map (layer sys (suc k))) (sym (take_all i (all_vectors sys.fluents) count)) ∙ all.inside_is;
-      choices = ap (map (chosen_action sys (suc k))) (sym (take_all i (all_vectors sys.fluents) count)) ∙ all.choices_is;
+      inside = ap (map (layer Weak sys (suc k))) (sym (take_all i (all_vectors sys.fluents) count)) ∙ all.inside_is;
+      choices = ap (map (chosen_action Weak sys (suc k))) (sym (take_all i (all_vectors sys.fluents) count)) ∙ all.choices_is;
     }

@@ -6,6 +6,7 @@ use Rattle.task_core.specs.Systems.{System}
 use Rattle.task_core.specs.Cubes.{literal}
 use Rattle.reach_plan.specs.Layers.{covers, rank_within}
 use Rattle.reach_plan.specs.Printed.{chosen_action, printed_rules}
+use Rattle.task_core.specs.declared.classes.Class.TheVariants.{Strong, Weak}
 
 -- A coin that is flipped until it shows its face up: one action with two outcomes, up and as before.
 abbrev flips : Vector → ℕ → List Vector
@@ -15,28 +16,28 @@ flips v (suc a) = []
 abbrev coin : System
 coin = record { fluents = 1; actions = 1; outcomes = λ a. 2; initial = (false ∷ []) ∷ []; goal = Some ((true ∷ []) ∷ []); next = flips }
 
-coin-uncovered : covers coin 0 ≡ false
+coin-uncovered : covers Weak coin 0 ≡ false
 coin-uncovered = refl
 
-coin-covered : covers coin 1 ≡ true
+coin-covered : covers Weak coin 1 ≡ true
 coin-covered = refl
 
-coin-rank : rank_within coin 1 (false ∷ []) ≡ Some 1
+coin-rank : rank_within Weak coin 1 (false ∷ []) ≡ Some 1
 coin-rank = refl
 
 -- where the coin shows its other face, flip it; where it shows the wanted one, do nothing
-coin-rules : printed_rules coin 1 ≡ record { cube = literal 0 false ∷ []; action = 0 } ∷ []
+coin-rules : printed_rules Weak coin 1 ≡ record { cube = literal 0 false ∷ []; action = 0 } ∷ []
 coin-rules = refl
 
 -- a goal that holds at once has no rules
 coin_done : System
 coin_done = record coin { initial = (true ∷ []) ∷ [] }
 
-coin_done-covered : covers coin_done 0 ≡ true
+coin_done-covered : covers Weak coin_done 0 ≡ true
 unfolding coin_done
 coin_done-covered = refl
 
-coin_done-rules : printed_rules coin_done 0 ≡ []
+coin_done-rules : printed_rules Weak coin_done 0 ≡ []
 unfolding coin_done
 coin_done-rules = refl
 
@@ -56,15 +57,23 @@ sets _ a = []
 abbrev switches : System
 switches = record { fluents = 2; actions = 4; outcomes = λ a. if a == 1 then 2 else 1; initial = (false ∷ false ∷ []) ∷ []; goal = Some ((true ∷ true ∷ []) ∷ []); next = sets }
 
-switches-uncovered : covers switches 1 ≡ false
+switches-uncovered : covers Weak switches 1 ≡ false
 switches-uncovered = refl
 
-switches-covered : covers switches 2 ≡ true
+switches-covered : covers Weak switches 2 ≡ true
 switches-covered = refl
 
 -- with both off, either switch leads on, and the least-numbered action is taken: so it is wherever f is off
-switches-rules : printed_rules switches 2 ≡ record { cube = literal 0 false ∷ []; action = 1 } ∷ record { cube = literal 0 true ∷ literal 1 false ∷ []; action = 2 } ∷ []
+switches-rules : printed_rules Weak switches 2 ≡ record { cube = literal 0 false ∷ []; action = 1 } ∷ record { cube = literal 0 true ∷ literal 1 false ∷ []; action = 2 } ∷ []
 switches-rules = refl
 
-switches-chosen : chosen_action switches 2 (true ∷ true ∷ []) ≡ None
+switches-chosen : chosen_action Weak switches 2 (true ∷ true ∷ []) ≡ None
 switches-chosen = refl
+
+-- no flip is sure to turn the coin up, so for strong plans no layer holds the initial state; setting a switch
+-- is sure
+coin-unsure : covers Strong coin 3 ≡ false
+coin-unsure = refl
+
+switches-sure : rank_within Strong switches 2 (true ∷ false ∷ []) ≡ Some 1
+switches-sure = refl

@@ -1,8 +1,5 @@
 -- What a search for a plan found.
 use Rattle.std.specs.Prelude.{⊤}
-use Rattle.task_core.specs.Systems.{System}
-use Rattle.task_core.specs.Tables.{Table, IsTable}
-use Rattle.task_core.specs.Solutions.{IsWeakSolution}
 use Rattle.plan_rules.specs.declared.rules.TablePlan.{TablePlan}
 use Rattle.reach_plan.specs.declared.planner.Found.{Found}
 use Rattle.reach_plan.specs.declared.planner.Found.TheVariants.{Plan, NoPlan}
@@ -16,7 +13,3 @@ IfPlan NoPlan P = ⊤
 abbrev pub IfNoPlan : Found → Type 0 → Type 0
 IfNoPlan (Plan p) Q = ⊤
 IfNoPlan NoPlan Q = Q
-
--- no table of the system is a weak solution
-abbrev pub HasNoWeakSolution : System → Type 0
-HasNoWeakSolution sys = (table : Table) → IsTable sys table → IsWeakSolution sys table → ⊥

@@ -1,5 +1,5 @@
--- Lists that say something of each vector of n values, in the order of all_vectors: which are in a set,
--- which action is chosen at each, and by which states they are represented.
+-- Private: lists that say something of each vector of n values, in the order of all_vectors: which
+-- are in a set, which action is chosen at each, and by which states they are represented.
 use Rattle.std.specs.Prelude.{◌≡◌, ℕ, ◌++◌, Bool, List, map, Option}
 use Rattle.std.specs.List.{All}
 use Rattle.std.specs.Option.{option_map}
@@ -34,4 +34,5 @@ rule_with given a cube = record { cube = given ++ cube; action = a }
 
 -- the rules that take the action where it is chosen, over n fluents
 abbrev pub rules_choosing : ℕ → (Vector → Option ℕ) → ℕ → List PlanRule
-rules_choosing n choice a = map (λ cube. record { cube = cube; action = a }) (cubes_of n (λ v. is_action a (choice v)))
+rules_choosing n choice a =
+    map (λ cube. record { cube = cube; action = a }) (cubes_of n (λ v. is_action a (choice v)))

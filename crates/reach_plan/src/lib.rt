@@ -1,10 +1,10 @@
 //! Weak plans: plans that may reach the goal.
 //!
-//! `plan_weak` searches back from the goal over all states of a small task. Which plan it gives is said
-//! in `specs/`: `Layers` (the states from which the goal may be reached in so many steps) and `Printed`
-//! (the rules, from the least-numbered action of each state); `Found`, `Listed` and `LayerLists` have the
-//! words of the contracts. The laws of weak planning that the planner rests on are the contracts of
-//! functions that do nothing.
+//! `plan_weak` searches back from the goal over all states of a small task. Which plan it gives is
+//! said in `specs/`: `Layers` (the states from which the goal may be reached in so many steps) and
+//! `Printed` (the rules, from the least-numbered action of each state); `Found`, `Listed` and
+//! `LayerLists` have the words of the contracts. The laws of weak planning that the planner rests
+//! on are the contracts of functions that do nothing.
 #![tactic(auto)]
 
 mod cube_rules;

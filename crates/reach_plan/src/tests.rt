@@ -1,9 +1,6 @@
 //! Small tasks, and the plans worked out for them by hand.
 
-ghost use Rattle.std.specs.Prelude.{◌≡◌, ◌<◌, ◌≤◌, ◌^◌, IfOk, IsSome, Some, true, length};
-ghost use Rattle.std.specs.List.{list_all};
-ghost use Rattle.task_core.specs.Actions.{action_within, outcome_within};
-ghost use Rattle.task_core.specs.Conditions.{ids_below};
+ghost use Rattle.std.specs.Prelude.{◌≡◌, ◌≤◌, IfOk, IsSome, Some};
 ghost use Rattle.task_core.specs.Tasks.{fluent_count};
 
 use crate::{Found, plan_weak};
@@ -11,10 +8,9 @@ use plan_rules::{Rule, TablePlan};
 use std::alloc::{AllocError, Global};
 use std::test::Fail;
 use task_core::{
-    ActionId, Change, Cond, FluentId, GroundAction, InitSpec, Lit, Outcome, State, Task,
+    ActionId, Alternative, Change, Cond, FluentId, GroundAction, InitSpec, Lit, Outcome, State,
+    Task,
 };
-
-const FLUENTS: u32 = 2;
 
 fn literal(fluent: u32, positive: bool) -> Lit {
     Lit {
@@ -23,18 +19,12 @@ fn literal(fluent: u32, positive: bool) -> Lit {
     }
 }
 
-fn is(fluent: u32) -> Cond
-    requires { fluent < FLUENTS }
-    ensures { ids_below 2 result ≡ true }
-{
+fn is(fluent: u32) -> Cond {
     Cond::Is(FluentId(fluent))
 }
 
-// The outcome that adds a fluent, or deletes it.
-fn outcome(alloc: Global, fluent: u32, positive: bool) -> Result<Outcome, AllocError>
-    requires { fluent < FLUENTS }
-    ensures { IfOk result (λ o. outcome_within 2 o ≡ true) }
-{
+/// The outcome that adds a fluent, or deletes it.
+fn outcome(alloc: Global, fluent: u32, positive: bool) -> Result<Outcome, AllocError> {
     let change = Change {
         cond: Cond::Yes,
         lit: Lit {
@@ -47,45 +37,62 @@ fn outcome(alloc: Global, fluent: u32, positive: bool) -> Result<Outcome, AllocE
     })
 }
 
-// The outcome that changes nothing.
-fn nothing(alloc: Global) -> Outcome
-    ensures { outcome_within 2 result ≡ true }
-{
+/// The outcome that changes nothing.
+fn nothing(alloc: Global) -> Outcome {
     Outcome {
         changes: Vec::new(alloc),
     }
 }
 
-fn action(alloc: Global, exec: Cond, outcomes: Vec<Outcome>) -> GroundAction
-    requires exec { ids_below 2 exec ≡ true }
-    requires outcomes { list_all (outcome_within 2) outcomes.items ≡ true }
-    requires some { 0 < length outcomes.items }
-    requires few { length outcomes.items < 2 ^ 32 }
-    ensures { action_within 2 result ≡ true }
-{
-    GroundAction {
-        name: Vec::new(alloc),
-        exec,
-        outcomes,
-    }
+/// A name of one word.
+fn name(alloc: Global, word: &str) -> Result<Vec<String>, AllocError> {
+    Ok(vec![in alloc; String::from_str(alloc, word)?]?)
 }
 
-// A task over two fluents that are false at first.
-fn task(alloc: Global, actions: Vec<GroundAction>, goal: Cond) -> Result<Task, AllocError>
-    requires actions { list_all (action_within 2) actions.items ≡ true }
-    requires few { length actions.items < 2 ^ 32 }
-    requires goal { ids_below 2 goal ≡ true }
+fn action(
+    alloc: Global,
+    word: &str,
+    exec: Cond,
+    outcomes: Vec<Outcome>,
+) -> Result<GroundAction, AllocError> {
+    Ok(GroundAction {
+        name: name(alloc, word)?,
+        exec,
+        outcomes,
+    })
+}
+
+/// A task over two fluents. Both are false at first, and where `free` says so the second may be
+/// true too.
+fn task(alloc: Global, actions: Vec<GroundAction>, goal: Cond, free: bool) -> Result<Task, Fail>
     ensures fluents { IfOk result (λ t. fluent_count t ≡ 2) }
     ensures goal { IfOk result (λ t. t.goal ≡ Some goal) }
 {
-    let fluents = vec![in alloc; Vec::new(alloc), Vec::new(alloc)]?;
+    let fluents = vec![in alloc; name(alloc, "p")?, name(alloc, "q")?]?;
     let init = InitSpec {
         facts: State::none(),
+        entries: if free {
+            either(alloc)?
+        } else {
+            Vec::new(alloc)
+        },
     };
-    Ok(Task::new(fluents, actions, init, Some(goal)))
+    let task = Task::try_new(fluents, actions, init, Some(goal));
+    Ok(task.ok_or("these are the parts of a task")?)
 }
 
-// The rules of the plan that is found; none where there is no plan.
+/// One entry: the second fluent is false, or true.
+fn either(alloc: Global) -> Result<Vec<Vec<Alternative>>, AllocError> {
+    let mut entry = Vec::new(alloc);
+    for positive in [false, true] {
+        entry.push(Alternative {
+            lits: Vec::from_slice(alloc, &[literal(1, positive)])?,
+        })?;
+    }
+    Ok(vec![in alloc; entry]?)
+}
+
+/// The rules of the plan that is found; none where there is no plan.
 fn rules_found(alloc: Global, task: &Task) -> Result<Option<Vec<Rule>>, AllocError>
     requires small { fluent_count task.now ≤ 8 }
     requires goal { IsSome task.now.goal }
@@ -103,12 +110,9 @@ fn is_rule(rule: &Rule, cube: &[Lit], action: u32) -> bool {
 #[test]
 fn flips_a_coin(rt: HostRuntime) -> Result<(), Fail> {
     let alloc = rt.alloc();
-    let flip = action(
-        alloc,
-        Cond::Yes,
-        vec![in alloc; outcome(alloc, 0, true)?, nothing(alloc)]?,
-    );
-    let coin = task(alloc, vec![in alloc; flip]?, is(0))?;
+    let outcomes = vec![in alloc; outcome(alloc, 0, true)?, nothing(alloc)]?;
+    let flip = action(alloc, "flip", Cond::Yes, outcomes)?;
+    let coin = task(alloc, vec![in alloc; flip]?, is(0), false)?;
     let rules = rules_found(alloc, &coin)?.expect(&rt, "a plan");
     assert_eq!(rt; rules.len(), 1);
     assert!(rt; is_rule(&rules[0], &[literal(0, false)], 0));
@@ -118,23 +122,22 @@ fn flips_a_coin(rt: HostRuntime) -> Result<(), Fail> {
 #[test]
 fn needs_no_rule_in_the_goal(rt: HostRuntime) -> Result<(), Fail> {
     let alloc = rt.alloc();
-    let set = action(alloc, Cond::Yes, vec![in alloc; outcome(alloc, 0, true)?]?);
-    let done = task(alloc, vec![in alloc; set]?, Cond::Yes)?;
+    let outcomes = vec![in alloc; outcome(alloc, 0, true)?]?;
+    let set = action(alloc, "set", Cond::Yes, outcomes)?;
+    let done = task(alloc, vec![in alloc; set]?, Cond::Yes, true)?;
     let rules = rules_found(alloc, &done)?.expect(&rt, "a plan");
     assert_eq!(rt; rules.len(), 0);
     Ok(())
 }
 
+// The action needs the second fluent, which nothing sets: with it the goal is reached, without it
+// not. So there is no plan from both.
 #[test]
-fn finds_no_way(rt: HostRuntime) -> Result<(), Fail> {
+fn plans_from_each_initial_state(rt: HostRuntime) -> Result<(), Fail> {
     let alloc = rt.alloc();
-    let clear = action(
-        alloc,
-        Cond::Yes,
-        vec![in alloc; outcome(alloc, 0, false)?, nothing(alloc)]?,
-    );
-    let set_from_set = action(alloc, is(0), vec![in alloc; outcome(alloc, 0, true)?]?);
-    let stuck = task(alloc, vec![in alloc; clear, set_from_set]?, is(0))?;
+    let outcomes = vec![in alloc; outcome(alloc, 0, true)?]?;
+    let set = action(alloc, "set", is(1), outcomes)?;
+    let stuck = task(alloc, vec![in alloc; set]?, is(0), true)?;
     assert!(rt; rules_found(alloc, &stuck)?.is_none());
     Ok(())
 }
@@ -143,19 +146,15 @@ fn finds_no_way(rt: HostRuntime) -> Result<(), Fail> {
 #[test]
 fn takes_the_first_action(rt: HostRuntime) -> Result<(), Fail> {
     let alloc = rt.alloc();
-    let wait = action(alloc, Cond::Yes, vec![in alloc; nothing(alloc)]?);
-    let set_from_second = action(alloc, is(1), vec![in alloc; outcome(alloc, 0, true)?]?);
-    let set = action(
-        alloc,
-        Cond::Yes,
-        vec![in alloc; outcome(alloc, 1, false)?, outcome(alloc, 0, true)?]?,
-    );
-    let set_too = action(alloc, Cond::Yes, vec![in alloc; outcome(alloc, 0, true)?]?);
-    let ordered = task(
-        alloc,
-        vec![in alloc; wait, set_from_second, set, set_too]?,
-        is(0),
-    )?;
+    let wait = action(alloc, "wait", Cond::Yes, vec![in alloc; nothing(alloc)]?)?;
+    let sets = vec![in alloc; outcome(alloc, 0, true)?]?;
+    let set_from_second = action(alloc, "set-from-second", is(1), sets)?;
+    let may_set = vec![in alloc; outcome(alloc, 1, false)?, outcome(alloc, 0, true)?]?;
+    let set = action(alloc, "set", Cond::Yes, may_set)?;
+    let sets_too = vec![in alloc; outcome(alloc, 0, true)?]?;
+    let set_too = action(alloc, "set-too", Cond::Yes, sets_too)?;
+    let actions = vec![in alloc; wait, set_from_second, set, set_too]?;
+    let ordered = task(alloc, actions, is(0), true)?;
     let rules = rules_found(alloc, &ordered)?.expect(&rt, "a plan");
     assert_eq!(rt; rules.len(), 2);
     assert!(rt; is_rule(&rules[0], &[literal(0, false), literal(1, true)], 1));

@@ -10,3 +10,5 @@ pub mod Answered
 pub mod Systems
 pub mod TaskNames
 pub mod SpelledNames
+pub mod Shallow
+pub mod NamesOfTasks

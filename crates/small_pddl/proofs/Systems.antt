@@ -11,7 +11,8 @@ use Rattle.std.proofs.lemmas.Option.{slice_get_past}
 use Rattle.task_core.specs.Actions.{after, change_within, outcome_within, action_within}
 use Rattle.task_core.specs.Conditions.{holds, ids_below}
 use Rattle.task_core.specs.States.{truth, vector}
-use Rattle.task_core.specs.Tasks.{system_of, next_states, states_where}
+use Rattle.task_core.specs.Initial.{after_entries, entries_of}
+use Rattle.task_core.specs.Tasks.{initial_states, system_of, next_states, states_where}
 use Rattle.task_core.specs.Vectors.{Vector, value_of, all_vectors}
 use Rattle.task_core.specs.declared.actions.Outcome.{Outcome}
 use Rattle.task_core.specs.declared.actions.GroundAction.{GroundAction}
@@ -176,14 +177,16 @@ goal-same d p v (l ∷ ls) = ap (λ b. literal_holds (meaning.fluents (domain_tr
 pub record SaysSystem (d : SmallDomain) (p : SmallProblem) (task : Task) (goal : Cond) : Type 0 where
   pub count : length task.fluents.items ≡ length (meaning.fluents (domain_tree d))
   pub actions : map parts_of task.actions.items ≡ map (parts_for (meaning.fluents (domain_tree d))) d.actions.items
+  pub certain : entries_of task.init ≡ []
   pub init : (f : ℕ) → truth task.init.facts f ≡ initial_value (meaning.fluents (domain_tree d)) p.facts.items f
   pub goal_is : task.goal ≡ Some goal
   pub goal_holds : (value : ℕ → Bool) → holds goal value ≡ list_all (literal_holds (meaning.fluents (domain_tree d)) p.facts.items value) p.goal.items
 
 initial-same : (d : SmallDomain) (p : SmallProblem) (task : Task) (goal : Cond) → SaysSystem d p task goal
-    → vector (length task.fluents.items) task.init.facts ∷ [] ≡ meaning.initial_state (domain_tree d) (problem_tree p) ∷ []
+    → initial_states task ≡ meaning.initial_state (domain_tree d) (problem_tree p) ∷ []
 initial-same d p task goal h =
-    ap (λ (n : ℕ). vector n task.init.facts ∷ []) h.count
+    ap (after_entries (length task.fluents.items) (vector (length task.fluents.items) task.init.facts)) h.certain
+    ∙ ap (λ (n : ℕ). vector n task.init.facts ∷ []) h.count
     ∙ ap (λ (v : Vector). v ∷ []) (range-same (is_listed p.facts.items) false (meaning.fluents (domain_tree d)) (truth task.init.facts) 0
     (λ k. ap (truth task.init.facts) (omega arith) ∙ h.init k))
 

@@ -1,9 +1,10 @@
--- What a small domain and a small problem become in a task.
-use Rattle.std.specs.Prelude.{ℕ, Bool, false, List, [], ◌∷◌, map, Option, slice_get, string_bytes}
+-- Private: what a small domain and a small problem become in a task.
+use Rattle.std.specs.Prelude.{ℕ, Bool, false, List, [], ◌∷◌, map, Option, nat_le, slice_get, string_bytes}
 use Rattle.std.specs.List.{filter_map, position, list_any}
 use Rattle.std.specs.Option.{option_map, option_map_or}
 use Rattle.std.specs.Str.{bytes_eq}
 use Rattle.task_core.specs.Vectors.{same_value}
+use Rattle.task_core.specs.Conditions.{depth}
 use Rattle.task_core.specs.declared.conditions.Cond.{Cond}
 use Rattle.task_core.specs.declared.conditions.Cond.TheVariants.{Yes}
 use Rattle.task_core.specs.declared.actions.Change.{Change}
@@ -53,3 +54,7 @@ initial_value fluents facts f = option_map_or (is_listed facts) (slice_get fluen
 -- whether a literal holds where the fluents have these values and the other predicates their initial ones
 abbrev pub literal_holds : List (List ℕ) → List (List ℕ) → (ℕ → Bool) → SmallLiteral → Bool
 literal_holds fluents facts value l = same_value (option_map_or value (place_of fluents l.name) (is_listed facts l.name)) l.positive
+
+-- a condition without `All` and `Any`, as of a literal
+abbrev pub is_flat : Cond → Bool
+is_flat c = nat_le (depth c) 1

@@ -2,9 +2,9 @@
 
 ghost use Rattle.std.specs.Prelude.{◌≡◌, ℕ, ◌≤◌, Bool, true, IfOk, length};
 ghost use Rattle.std.specs.List.{list_all};
-ghost use Rattle.task_core.specs.Conditions.{holds, ids_below};
+ghost use Rattle.task_core.specs.Conditions.{holds, ids_below, is_shallow};
 ghost use Rattle.task_core.specs.States.{truth};
-ghost use Rattle.small_pddl.specs.Grounding.{initial_value, literal_holds};
+ghost use Rattle.small_pddl.specs.Grounding.{initial_value, is_flat, literal_holds};
 
 use crate::fluents::place_of;
 use crate::names::is_listed;
@@ -35,6 +35,7 @@ fn literal_condition(
     requires { length fluents.now ≤ 256 }
     ensures value { IfOk result (λ c. (value : ℕ → Bool) → holds c value ≡ literal_holds fluents.now facts.now value literal.now) }
     ensures within { IfOk result (λ c. ids_below (length fluents.now) c ≡ true) }
+    ensures flat { IfOk result (λ c. is_flat c ≡ true) }
 {
     match place_of(fluents, &literal.name) {
         Some(fluent) => {
@@ -64,6 +65,7 @@ pub(crate) fn all_hold(
     requires { length fluents.now ≤ 256 }
     ensures value { IfOk result (λ c. (value : ℕ → Bool) → holds c value ≡ list_all (literal_holds fluents.now facts.now value) literals.now) }
     ensures within { IfOk result (λ c. ids_below (length fluents.now) c ≡ true) }
+    ensures shallow { IfOk result (λ c. is_shallow c ≡ true) }
 {
     let mut parts = Vec::new(alloc);
     for literal in literals {

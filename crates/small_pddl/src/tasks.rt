@@ -1,9 +1,10 @@
 //! The planning task that a small domain and a small problem say.
 
-ghost use Rattle.std.specs.Prelude.{◌≡◌, ◌≤◌, ◌∷◌, [], IfOk, map, length, true, IsSome, string_bytes};
+ghost use Rattle.std.specs.Prelude.{◌≡◌, ◌≤◌, ◌∷◌, [], IfOk, map, length, true, IsSome, List, string_bytes, ℕ};
 ghost use Rattle.std.specs.List.{list_all};
 ghost use Rattle.task_core.specs.Tasks.{system_of};
 ghost use Rattle.small_pddl.specs.Limits.{is_word};
+ghost use Rattle.small_pddl.specs.Spelled.{SpellsDomain};
 ghost use Rattle.small_pddl.specs.Meaning.{system, fluent_names, action_names};
 ghost use Rattle.small_pddl.specs.Values.{domain_tree, problem_tree};
 
@@ -29,12 +30,14 @@ fn fluent_words(alloc: Global, fluents: &[Text]) -> Result<Vec<Vec<String>>, All
 
 /// The planning task that the domain and the problem say: a fluent for each predicate that some effect
 /// names, in the order of the domain's predicates, and the actions in the domain's order. A predicate that
-/// no effect names keeps its initial value, so a goal that names it has that value in its place.
+/// no effect names keeps its initial value, so a goal that names it has that value in its place. The domain
+/// is one that a text spells, so its names are those of a task.
 pub fn small_task(
     alloc: Global,
     domain: &SmallDomain,
     problem: &SmallProblem,
 ) -> Result<Task, AllocError>
+    requires { (bytes : List ℕ) × SpellsDomain bytes (domain_tree domain.now) }
     ensures system { IfOk result (λ task. system_of task ≡ system (domain_tree domain.now) (problem_tree problem.now)) }
     ensures fluents { IfOk result (λ task. map (λ name. map string_bytes name.items) task.fluents.items ≡ fluent_names (domain_tree domain.now)) }
     ensures actions { IfOk result (λ task. map (λ action. map string_bytes action.name.items) task.actions.items ≡ action_names (domain_tree domain.now)) }
@@ -46,5 +49,6 @@ pub fn small_task(
     let actions = ground_actions(alloc, &domain.actions, &fluents)?;
     let facts = initial_state(&fluents, &problem.facts);
     let goal = all_hold(alloc, &problem.goal, &fluents, &problem.facts)?;
-    Ok(Task::new(names, actions, InitSpec { facts }, Some(goal)))
+    let entries = Vec::new(alloc);
+    Ok(Task::new(names, actions, InitSpec { facts, entries }, Some(goal)))
 }

@@ -1,9 +1,10 @@
 //! Texts that are small domains and problems, and texts that are not, with answers worked out by hand.
 
-use crate::{
-    SmallDomain, names_are_words, one_domain, one_problem, read_small_domain, read_small_problem,
-    small_task,
-};
+ghost use Rattle.small_pddl.specs.Spelled.{SpellsDomain};
+ghost use Rattle.small_pddl.specs.Values.{domain_tree};
+ghost use Rattle.std.specs.Prelude.{IfOk, IfSome};
+
+use crate::{SmallDomain, read_small_domain, read_small_problem, small_task};
 use sexpr_text::MAX_BYTES;
 use std::alloc::{AllocError, Global};
 use std::test::Fail;
@@ -18,7 +19,9 @@ const LAMP: &str =
 const SLIP: &str =
     "(define (domain slip) (:predicates (at ?x)) (:action go :parameters (?x) :effect (at ?x)))";
 
-fn domain_of(alloc: Global, text: &str) -> Result<Option<SmallDomain>, AllocError> {
+fn domain_of(alloc: Global, text: &str) -> Result<Option<SmallDomain>, AllocError>
+    ensures { IfOk result (λ o. IfSome o (λ d. SpellsDomain text.now (domain_tree d))) }
+{
     if text.len() > MAX_BYTES {
         return Ok(None);
     }
@@ -182,9 +185,6 @@ fn texts_and_whether_they_are_small_problems(rt: HostRuntime) -> Result<(), Fail
     for (text, want) in table {
         assert_eq!(rt; is_problem(rt.alloc(), COIN, text)?, want);
     }
-    one_domain();
-    one_problem();
-    names_are_words();
     Ok(())
 }
 

@@ -10,7 +10,6 @@ use Rattle.mbp_top.specs.Reading.{ReadThen}
 use Rattle.mbp_top.specs.SmallTexts.{SpellsProblemOf, IsNoDomain, IsNoProblem}
 use Rattle.mbp_top.specs.Values.{refusal_of}
 use Rattle.mbp_top.proofs.Later.{failed_over, holds_over, refused_later, next_answer}
-use Rattle.mbp_top.proofs.Spellable.{domain-spellable}
 use Rattle.mbp_top.proofs.plan_command.plan_files.Goals as goal
 
 pub returns-in_err-problem-clause-answer : goal.returns-in_err-problem-clause-answer
@@ -40,9 +39,8 @@ returns-in_err-problem-clause-fetches g c = record {
   fetches = (c.read_domain_file.new.shelf, c.in_ok-domain.ensures.fetch, (c.read_problem_file.new.shelf, c.in_err-problem.ensures.fetch, refl));
 }
 
-pub plan_small-requires-clause-spellable : goal.plan_small-requires-clause-spellable
-plan_small-requires-clause-spellable g c =
-    domain-spellable c.in_ok-domain.ensures.holds.bytes (domain_tree c.in_ok-domain.domain) c.in_ok-domain.ensures.holds.spelled
+pub plan_small-requires-clause-spelled : goal.plan_small-requires-clause-spelled
+plan_small-requires-clause-spelled g c = (c.in_ok-domain.ensures.holds.bytes, c.in_ok-domain.ensures.holds.spelled)
 
 pub returns-in_err-plan_small-clause-fetches : goal.returns-in_err-plan_small-clause-fetches
 returns-in_err-plan_small-clause-fetches g c = record {

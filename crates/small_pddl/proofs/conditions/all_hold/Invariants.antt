@@ -8,4 +8,5 @@ abbrev pub invariant-loop-literal : goal.invariant-loop-literal
 invariant-loop-literal l = record {
   value : (value : ℕ → Bool) → list_all (λ part. holds part value) l.parts.items ≡ list_all (ground.literal_holds l.fluents l.facts value) (take l.literal-index l.literals);
   within : list_all (ids_below (length l.fluents)) l.parts.items ≡ true;
+  flat : list_all ground.is_flat l.parts.items ≡ true;
 }

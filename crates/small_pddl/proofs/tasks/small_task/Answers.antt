@@ -2,13 +2,18 @@ use Rattle.std.proofs.Common.{◌≡◌, ℕ, ◌≤◌, true, List, [], ◌∷�
 use Rattle.std.specs.Prelude.{string_bytes}
 use Rattle.std.specs.List.{list_all}
 use Rattle.task_core.specs.Actions.{action_within}
+use Rattle.task_core.specs.Initial.{entries_of, entry_of}
+use Rattle.task_core.specs.Names.{AreActionNames, AreFluentNames}
 use Rattle.task_core.specs.States.{truth}
+use Rattle.task_core.specs.declared.actions.Alternative.{Alternative}
 use Rattle.task_core.specs.declared.actions.GroundAction.{GroundAction}
 use Rattle.task_core.specs.declared.actions.InitSpec.{InitSpec}
 use Rattle.small_pddl.specs.Grounding.{parts_of, parts_for, initial_value, literal_holds}
 use Rattle.small_pddl.specs.Meaning.{fluents}
 use Rattle.small_pddl.specs.Values.{domain_tree}
 use Rattle.small_pddl.proofs.Systems.{SaysSystem, system-same, names-same, actions-within, initial-past, fluents-read, few-fluents, fluent-words, mapped-length, actions-read}
+use Rattle.small_pddl.proofs.NamesOfTasks.{are_action_names, are_fluent_names}
+use Rattle.small_pddl.proofs.Shallow.{actions_shallow}
 use Rattle.small_pddl.proofs.tasks.small_task.Goals as goal
 use Rattle.small_pddl.proofs.tasks.small_task.Goals.{In_ok-fluents, In_ok-goal}
 
@@ -83,6 +88,8 @@ returns-clause-system c =
     let says : SaysSystem c.args.domain.now c.args.problem.now c.new.result c.in_ok-goal.goal = record {
       count = ap (λ (v : Vec (Vec (String Global) Global) Global). length v.items) c.new.ensures.fluents ∙ name_count at;
       actions = ap (λ (v : Vec GroundAction Global). map parts_of v.items) c.new.ensures.actions ∙ read_actions at;
+      certain = ap entries_of c.new.ensures.init
+          ∙ ap (λ (entries : List (Vec Alternative Global)). map (λ (entry : Vec Alternative Global). entry_of entry.items) entries) c.new-entries.ensures.items;
       init = λ f. ap (λ (s : InitSpec). truth s.facts f) c.new.ensures.init ∙ read_facts at f;
       goal_is = c.new.ensures.goal;
       goal_holds = λ value. c.in_ok-goal.ensures.value value
@@ -111,3 +118,22 @@ returns-clause-few_fluents c =
     let same : length c.new.result.fluents.items ≡ length (fluents (domain_tree c.args.domain.now)) =
     ap (λ (v : Vec (Vec (String Global) Global) Global). length v.items) c.new.ensures.fluents ∙ name_count at in
     omega arith
+
+pub new-requires-clause-fluent_names : goal.new-requires-clause-fluent_names
+new-requires-clause-fluent_names c =
+    let at = (goal.at.new-requires-clause-fluent_names c).In_ok-goal in
+    subst AreFluentNames
+    (sym (c.in_ok-names.ensures ∙ ap (map (λ (word : List ℕ). word ∷ [])) (c.deref-3.ensures.value ∙ fluents_at at)))
+    (are_fluent_names c.requires.0 (domain_tree c.args.domain.now) c.requires.1)
+
+pub new-requires-clause-action_names : goal.new-requires-clause-action_names
+new-requires-clause-action_names c =
+    let at = (goal.at.new-requires-clause-action_names c).In_ok-goal in
+    subst AreActionNames
+    (sym (names-same (fluents (domain_tree c.args.domain.now)) c.in_ok-actions.actions.items c.args.domain.now.actions.items (read_actions at)))
+    (are_action_names c.requires.0 (domain_tree c.args.domain.now) c.requires.1)
+
+pub new-requires-clause-shallow_actions : goal.new-requires-clause-shallow_actions
+new-requires-clause-shallow_actions c =
+    let at = (goal.at.new-requires-clause-shallow_actions c).In_ok-goal in
+    actions_shallow (fluents (domain_tree c.args.domain.now)) c.in_ok-actions.actions.items c.args.domain.now.actions.items (read_actions at)
