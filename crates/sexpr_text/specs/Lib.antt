@@ -5,5 +5,6 @@ pub mod Spelling
 pub mod Rows
 pub mod Kinds
 pub mod Faults
+pub mod Flaws
 pub mod Formed
 pub mod Pending
