@@ -1,3 +1,4 @@
+pub mod EntryStates
 pub mod Vectors
 pub mod Cubes
 pub mod Bits
@@ -5,4 +6,3 @@ pub mod Agreement
 pub mod Changes
 pub mod TaskSystem
 pub mod Holds
-pub mod Examples

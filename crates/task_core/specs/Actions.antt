@@ -2,7 +2,7 @@
 use Rattle.std.specs.Prelude.{ℕ, ◌^◌, Bool, true, false, ◌&&◌, if◌then◌else◌, ◌==◌, nat_lt, map, length, Option, Some, None}
 use Rattle.std.specs.List.{list_all, list_any, range_with_len}
 use Rattle.task_core.specs.Vectors.{Vector, value_of, same_value}
-use Rattle.task_core.specs.Conditions.{holds, ids_below}
+use Rattle.task_core.specs.Conditions.{holds, ids_below, is_shallow}
 use Rattle.task_core.specs.declared.conditions.Cond.{Cond}
 use Rattle.task_core.specs.declared.actions.Change.{Change}
 use Rattle.task_core.specs.declared.actions.Outcome.{Outcome}
@@ -47,3 +47,12 @@ action_within n a =
 abbrev pub goal_within : ℕ → Option Cond → Bool
 goal_within n None = true
 goal_within n (Some goal) = ids_below n goal
+
+-- whether every condition of an action, or of a goal where there is one, is at most 200 deep
+abbrev pub action_is_shallow : GroundAction → Bool
+action_is_shallow a =
+    is_shallow a.exec && list_all (λ o. list_all (λ c. is_shallow c.cond) o.changes.items) a.outcomes.items
+
+abbrev pub goal_is_shallow : Option Cond → Bool
+goal_is_shallow None = true
+goal_is_shallow (Some goal) = is_shallow goal

@@ -1,6 +1,6 @@
--- Where a condition holds.
-use Rattle.std.specs.Prelude.{ℕ, Bool, true, false, not, nat_lt}
-use Rattle.std.specs.List.{list_all, list_any}
+-- Where a condition holds, which fluents it names, and how deep it is.
+use Rattle.std.specs.Prelude.{ℕ, ◌+◌, Bool, true, false, not, nat_lt, nat_le, max}
+use Rattle.std.specs.List.{fold, list_all, list_any}
 use Rattle.task_core.specs.States.{truth}
 use Rattle.task_core.specs.declared.states.State.{State}
 use Rattle.task_core.specs.declared.conditions.Cond.{Cond}
@@ -36,3 +36,20 @@ below_step n (Any parts) = list_all (λ part. part) parts.items
 -- whether every fluent that the condition names is below n
 abbrev pub ids_below : ℕ → Cond → Bool
 ids_below n = fold-Cond Bool (below_step n)
+
+-- one layer of the depth: each constructor counts one above the deepest of its parts
+abbrev pub depth_step : Cond-F ℕ → ℕ
+depth_step Yes = 1
+depth_step No = 1
+depth_step (Is f) = 1
+depth_step (Not part) = 1 + part.value
+depth_step (All parts) = 1 + fold max 0 parts.items
+depth_step (Any parts) = 1 + fold max 0 parts.items
+
+-- how many constructors of a condition stand in one another at most
+abbrev pub depth : Cond → ℕ
+depth = fold-Cond ℕ depth_step
+
+-- whether a condition is at most 200 deep
+abbrev pub is_shallow : Cond → Bool
+is_shallow cond = nat_le (depth cond) 200

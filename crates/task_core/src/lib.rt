@@ -9,17 +9,19 @@
 #![tactic(auto)]
 
 mod actions;
+mod classes;
 mod conditions;
+mod initial;
 mod laws;
 mod literals;
 mod states;
 mod steps;
 mod tasks;
-#[cfg(test)]
-mod tests;
 
-pub use actions::{Change, GroundAction, InitSpec, Outcome};
+pub use actions::{Alternative, Change, GroundAction, InitSpec, Outcome};
+pub use classes::Class;
 pub use conditions::{Cond, cond_holds};
+pub use initial::{InitErr, init_states};
 pub use laws::{cubes_match_their_set, tasks_have_systems};
 pub use literals::{ActionId, FluentId, Lit};
 pub use states::State;

@@ -1,0 +1,32 @@
+use Rattle.std.proofs.Common.{rules, ◌≡◌, ◌≢◌, ℕ, ◌<◌, ◌≤◌, Bool, true, false, if◌then◌else◌, List, [], ◌∷◌, map, length, IfOk, OnOk, IsErrOf, ◌+◌, ◌-◌, ◌*◌, ◌/◌, ◌%◌, nat_eq, nat_lt, ◌++◌, slice_index_or, slice_set, bit_and, bit_or, Fits, w8, w32, w64, Bor, MutBor}
+use Rattle.std.specs.List.{All, AllPairs, flat_map, fold, list_all}
+use Rattle.task_core.specs.Vectors.{Vector}
+use Rattle.task_core.specs.States.{IsWithin, ShowsVectors, truth, vector}
+use Rattle.task_core.specs.Initial.{Entry, add_state, after_entry, applied, applied_value, entries_of, entry_of, entry_within, lit_within, names_it}
+use Rattle.task_core.specs.Tasks.{fluent_count, initial_states, states_after_entries}
+use Rattle.task_core.proofs.initial.states_after.Goals as goal
+
+-- src/initial.rt:105:5
+pub loop-state-init : goal.loop-state-init
+loop-state-init c = ?
+
+-- src/initial.rt:106:9
+pub add_alternatives-requires-clause-few : goal.add_alternatives-requires-clause-few
+add_alternatives-requires-clause-few c = ?
+
+-- src/initial.rt:106:9
+pub returns-in_err-add_alternatives-clause-too_many :
+    goal.returns-in_err-add_alternatives-clause-too_many
+returns-in_err-add_alternatives-clause-too_many c = ?
+
+-- src/initial.rt:105:5
+pub loop-state-preserved : goal.loop-state-preserved
+loop-state-preserved c = ?
+
+-- src/initial.rt:90:1
+pub returns-clause-list : goal.returns-clause-list
+returns-clause-list c = ?
+
+-- src/initial.rt:90:1
+pub returns-clause-few : goal.returns-clause-few
+returns-clause-few c = ?
