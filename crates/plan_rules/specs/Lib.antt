@@ -1,6 +1,9 @@
 pub mod Rules
 pub mod Denoted
 pub mod Texts
-pub mod Names
 pub mod Plans
+pub mod Items
 pub mod Readings
+pub mod NameKeys
+pub mod NameTable
+pub mod PartsViews
