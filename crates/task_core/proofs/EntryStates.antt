@@ -38,7 +38,7 @@ applied_are n v entry s c =
     sym (ap length image.is) ∙ length-map-range_with_len (applied_value image.from (value_of v)) 0 n
 
 made_are : (n : ℕ) (entry : Entry) (vs : List Vector) → AreStates n (flat_map (λ v. map (applied n v) entry) vs)
-made_are n entry [] = none_are n
+made_are n entry [] s c = none_are n s c
 made_are n entry (v ∷ vs) s c =
     ⊎_elim (applied_are n v entry s) (made_are n entry vs s)
     (Contains-append_cases (map (applied n v) entry) (flat_map (λ w. map (applied n w) entry) vs) s c)

@@ -1,4 +1,5 @@
 pub mod EntryStates
+pub mod StateLists
 pub mod Vectors
 pub mod Cubes
 pub mod Bits

@@ -26,7 +26,7 @@ use Rattle.task_core.proofs.Agreement.{holds_agree, ids_below_widen}
 use Rattle.task_core.proofs.Changes.{outcome_widen, after_value_above}
 
 -- the element at a place of a list passes what each does
-element_passes : {X : Type 0} (p : X → Bool) (xs : List X) (i : ℕ) (x : X) → list_all p xs ≡ true → i < length xs → x ≡ get_or xs i x → p x ≡ true
+pub element_passes : {X : Type 0} (p : X → Bool) (xs : List X) (i : ℕ) (x : X) → list_all p xs ≡ true → i < length xs → x ≡ get_or xs i x → p x ≡ true
 element_passes p xs i x all within is =
     subst (λ y. p y ≡ true) (sym is) (list_all_contains p xs (get_or xs i x) all (Contains-get_or xs i x within))
 

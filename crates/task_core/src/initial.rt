@@ -94,18 +94,24 @@ fn states_after(
     limit: usize,
 ) -> Result<Vec<State>, InitErr>
     requires { entry_within 256 (entry_of entry.now) ≡ true }
-    ensures list { IfOk result (λ after. (n : ℕ) (vs : List Vector) → n ≤ 256 → entry_within n (entry_of entry.now) ≡ true
+    ensures list { IfOk result (λ after. (n : ℕ) (vs : List Vector) → entry_within n (entry_of entry.now) ≡ true
         → ShowsVectors n states.now vs → ShowsVectors n after.items (after_entry n vs (entry_of entry.now))) }
     ensures few { IfOk result (λ after. length after.items ≤ limit) }
-    ensures too_many { IsErrOf result InitErr.TooMany → (n : ℕ) (vs : List Vector) → n ≤ 256
-        → entry_within n (entry_of entry.now) ≡ true → ShowsVectors n states.now vs
+    ensures too_many { IsErrOf result InitErr.TooMany → (n : ℕ) (vs : List Vector) → entry_within n (entry_of entry.now) ≡ true → ShowsVectors n states.now vs
         → limit < length (after_entry n vs (entry_of entry.now)) }
 {
     let mut found = IndexSet::new(alloc);
     for state in states {
         add_alternatives(&mut found, state, entry, limit)?;
     }
-    Ok(found.into_iter().collect(alloc)?)
+    Ok(list_of(alloc, &found)?)
+}
+
+// The states of a set, in its order.
+fn list_of(alloc: Global, set: &IndexSet<State>) -> Result<Vec<State>, AllocError>
+    ensures { IfOk result (λ states. states.items ≡ set.now.keys) }
+{
+    set.iter().copied().collect(alloc)
 }
 
 // Adds, for each alternative, the state with it applied.
@@ -117,12 +123,11 @@ fn add_alternatives(
 ) -> Result<(), InitErr>
     requires entry { list_all (list_all (lit_within 256)) (entry_of entry.now) ≡ true }
     requires few { length found.old.keys ≤ limit }
-    ensures list { OnOk result ((n : ℕ) (vs : List Vector) → n ≤ 256 → list_all (list_all (lit_within n)) (entry_of entry.now) ≡ true
+    ensures list { OnOk result ((n : ℕ) (vs : List Vector) → list_all (list_all (lit_within n)) (entry_of entry.now) ≡ true
         → IsWithin n state.now → ShowsVectors n found.old.keys vs
         → ShowsVectors n found.new.keys (fold add_state vs (map (applied n (vector n state.now)) (entry_of entry.now)))) }
     ensures few { OnOk result (length found.new.keys ≤ limit) }
-    ensures too_many { IsErrOf result InitErr.TooMany → (n : ℕ) (vs : List Vector) → n ≤ 256
-        → list_all (list_all (lit_within n)) (entry_of entry.now) ≡ true
+    ensures too_many { IsErrOf result InitErr.TooMany → (n : ℕ) (vs : List Vector) → list_all (list_all (lit_within n)) (entry_of entry.now) ≡ true
         → IsWithin n state.now → ShowsVectors n found.old.keys vs
         → limit < length (fold add_state vs (map (applied n (vector n state.now)) (entry_of entry.now))) }
 {
@@ -135,10 +140,10 @@ fn add_alternatives(
 // Adds a state, if it isn't there.
 fn add(found: &mut IndexSet<State>, state: State, limit: usize) -> Result<(), InitErr>
     requires few { length found.old.keys ≤ limit }
-    ensures list { OnOk result ((n : ℕ) (vs : List Vector) → n ≤ 256 → IsWithin n state
+    ensures list { OnOk result ((n : ℕ) (vs : List Vector) → IsWithin n state
         → ShowsVectors n found.old.keys vs → ShowsVectors n found.new.keys (add_state vs (vector n state))) }
     ensures few { OnOk result (length found.new.keys ≤ limit) }
-    ensures too_many { IsErrOf result InitErr.TooMany → (n : ℕ) (vs : List Vector) → n ≤ 256 → IsWithin n state
+    ensures too_many { IsErrOf result InitErr.TooMany → (n : ℕ) (vs : List Vector) → IsWithin n state
         → ShowsVectors n found.old.keys vs → limit < length (add_state vs (vector n state)) }
 {
     match found.insert_full(state) {

@@ -1,15 +1,16 @@
-use Rattle.std.proofs.Common.{rules, ◌≡◌, ◌≢◌, ℕ, ◌<◌, ◌≤◌, Bool, true, false, if◌then◌else◌, List, [], ◌∷◌, map, length, IfOk, OnOk, IsErrOf, ◌+◌, ◌-◌, ◌*◌, ◌/◌, ◌%◌, nat_eq, nat_lt, ◌++◌, slice_index_or, slice_set, bit_and, bit_or, Fits, w8, w32, w64, Bor, MutBor}
-use Rattle.std.specs.List.{All, AllPairs, flat_map, fold, list_all}
-use Rattle.task_core.specs.Vectors.{Vector}
-use Rattle.task_core.specs.States.{IsWithin, ShowsVectors, truth, vector}
-use Rattle.task_core.specs.Initial.{Entry, add_state, after_entry, applied, applied_value, entries_of, entry_of, entry_within, lit_within, names_it}
-use Rattle.task_core.specs.Tasks.{fluent_count, initial_states, states_after_entries}
+use Rattle.std.proofs.Common.{◌<◌, ◌∙◌, subst, ap, sym, length}
+use Rattle.task_core.specs.States.{ShowsVectors, vector}
+use Rattle.task_core.specs.Initial.{add_state}
+use Rattle.task_core.proofs.StateLists.{shows_added, length_shown}
 use Rattle.task_core.proofs.initial.add.Goals as goal
 
--- src/initial.rt:136:1
 pub returns-in-Ok-clause-list : goal.returns-in-Ok-clause-list
-returns-in-Ok-clause-list c = ?
+returns-in-Ok-clause-list c = λ n vs within shows.
+    subst (λ keys. ShowsVectors n keys (add_state vs (vector n c.args.state))) (sym c.in-Ok.ensures.keys)
+    (shows_added n c.args.found.now.keys vs c.args.state within shows)
 
--- src/initial.rt:136:1
 pub returns-in-Ok-2-clause-too_many : goal.returns-in-Ok-2-clause-too_many
-returns-in-Ok-2-clause-too_many c = ?
+returns-in-Ok-2-clause-too_many c = λ _ n vs within shows.
+    let added = shows_added n c.args.found.now.keys vs c.args.state within shows in
+    let count = c.len.ensures.len ∙ ap length c.in-Ok-2.ensures.keys ∙ length_shown n _ _ added in
+    subst (λ k. c.args.limit < k) count c.if-len-limit.false

@@ -1,10 +1,14 @@
-use Rattle.std.proofs.Common.{◌≡◌, ◌≢◌, ℕ, ◌<◌, ◌≤◌, Bool, true, false, if◌then◌else◌, List, [], ◌∷◌, map, length, IfOk, OnOk, IsErrOf, ◌+◌, ◌-◌, ◌*◌}
-use Rattle.std.specs.List.{All, AllPairs, flat_map, fold, list_all}
+-- The set has the states of before and those with an alternative so far applied.
+use Rattle.std.proofs.Common.{◌≡◌, ℕ, ◌≤◌, true, List, map, length, take}
+use Rattle.std.specs.List.{fold, list_all}
 use Rattle.task_core.specs.Vectors.{Vector}
-use Rattle.task_core.specs.States.{IsWithin, ShowsVectors, truth, vector}
-use Rattle.task_core.specs.Initial.{Entry, add_state, after_entry, applied, applied_value, entries_of, entry_of, entry_within, lit_within, names_it}
-use Rattle.task_core.specs.Tasks.{fluent_count, initial_states, states_after_entries}
+use Rattle.task_core.specs.States.{IsWithin, ShowsVectors, vector}
+use Rattle.task_core.specs.Initial.{add_state, applied, entry_of, lit_within}
 use Rattle.task_core.proofs.initial.add_alternatives.Given as goal
 
 abbrev pub invariant-loop-alternative : goal.invariant-loop-alternative
-invariant-loop-alternative l = ?
+invariant-loop-alternative l = record {
+  few : length l.found.keys ≤ l.limit;
+  shown : (n : ℕ) (vs : List Vector) → list_all (list_all (lit_within n)) (entry_of l.entry) ≡ true → IsWithin n l.state → ShowsVectors n l.fn.found.keys vs
+      → ShowsVectors n l.found.keys (fold add_state vs (map (applied n (vector n l.state)) (take l.alternative-index (entry_of l.entry))));
+}

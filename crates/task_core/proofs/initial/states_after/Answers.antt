@@ -1,32 +1,46 @@
-use Rattle.std.proofs.Common.{rules, ◌≡◌, ◌≢◌, ℕ, ◌<◌, ◌≤◌, Bool, true, false, if◌then◌else◌, List, [], ◌∷◌, map, length, IfOk, OnOk, IsErrOf, ◌+◌, ◌-◌, ◌*◌, ◌/◌, ◌%◌, nat_eq, nat_lt, ◌++◌, slice_index_or, slice_set, bit_and, bit_or, Fits, w8, w32, w64, Bor, MutBor}
-use Rattle.std.specs.List.{All, AllPairs, flat_map, fold, list_all}
+use Rattle.std.proofs.Common.{arith, sym, ◌≡◌, ◌∙◌, ℕ, List, [], subst, ap, length, map, take, take_all, ◌+◌, ◌<◌, ◌≤◌}
+use Rattle.std.specs.List.{fold}
+use Rattle.std.proofs.lemmas.Result.{err_from_is_err_and}
 use Rattle.task_core.specs.Vectors.{Vector}
-use Rattle.task_core.specs.States.{IsWithin, ShowsVectors, truth, vector}
-use Rattle.task_core.specs.Initial.{Entry, add_state, after_entry, applied, applied_value, entries_of, entry_of, entry_within, lit_within, names_it}
-use Rattle.task_core.specs.Tasks.{fluent_count, initial_states, states_after_entries}
+use Rattle.task_core.specs.States.{ShowsVectors, vector}
+use Rattle.task_core.specs.Initial.{add_state, applied, after_entry, entry_of}
+use Rattle.task_core.proofs.StateLists.{made, one_state, states_grow, same_error, shown_at, length_shown, alternatives_within}
 use Rattle.task_core.proofs.initial.states_after.Goals as goal
 
--- src/initial.rt:105:5
-pub loop-state-init : goal.loop-state-init
-loop-state-init c = ?
+pub returns-in_err-add_alternatives-clause-too_many : goal.returns-in_err-add_alternatives-clause-too_many
+returns-in_err-add_alternatives-clause-too_many c =
+    let p = err_from_is_err_and c.from_residual.result c.from_residual.ensures.1 in
+    let entry = entry_of c.args.entry.now in
+    let i = c.loop-state.state-index in
+    let s = c.state-item.result in
+    rw (p.1, p.2) (λ is n vs all shows.
+    let at = shown_at n c.args.states.now vs i s shows c.loop-state-test.true c.state-item.is in
+    let so_far = fold add_state [] (made n entry (take i vs)) in
+    let more : c.args.limit < length (fold add_state so_far (map (applied n (vector n s)) entry)) =
+    c.in_err-add_alternatives.ensures.too_many (same_error _ _ is) n so_far (alternatives_within n entry all) at.2 (c.loop-state.invariant.shown n vs all shows) in
+    let more_now = subst (λ ys. c.args.limit < length ys) (sym (one_state n entry vs i (vector n s) at.0 at.1)) more in
+    let front = states_grow n entry vs (i + 1) in
+    let goal_is : c.args.limit < length (fold add_state [] (made n entry vs)) = omega (arith, more_now, front) in
+    goal_is)
 
--- src/initial.rt:106:9
-pub add_alternatives-requires-clause-few : goal.add_alternatives-requires-clause-few
-add_alternatives-requires-clause-few c = ?
-
--- src/initial.rt:106:9
-pub returns-in_err-add_alternatives-clause-too_many :
-    goal.returns-in_err-add_alternatives-clause-too_many
-returns-in_err-add_alternatives-clause-too_many c = ?
-
--- src/initial.rt:105:5
 pub loop-state-preserved : goal.loop-state-preserved
-loop-state-preserved c = ?
+loop-state-preserved c =
+    let entry = entry_of c.args.entry.now in
+    let i = c.loop-state.state-index in
+    let s = c.state-item.result in
+    record {
+      few = c.in_ok-add_alternatives.ensures.few;
+      shown = λ n vs all shows.
+          let at = shown_at n c.args.states.now vs i s shows c.loop-state-test.true c.state-item.is in
+          let so_far = fold add_state [] (made n entry (take i vs)) in
+          subst (λ ys. ShowsVectors n c.add_alternatives.new.found.keys ys) (sym (one_state n entry vs i (vector n s) at.0 at.1))
+          (c.in_ok-add_alternatives.ensures.list n so_far (alternatives_within n entry all) at.2 (c.loop-state.invariant.shown n vs all shows));
+    }
 
--- src/initial.rt:90:1
 pub returns-clause-list : goal.returns-clause-list
-returns-clause-list c = ?
-
--- src/initial.rt:90:1
-pub returns-clause-few : goal.returns-clause-few
-returns-clause-few c = ?
+returns-clause-list c = λ n vs all shows.
+    let entry = entry_of c.args.entry.now in
+    let i = c.loop-state.state-index in
+    let few : length vs ≤ i = omega (arith, length_shown n c.args.states.now vs shows, c.loop-state-test.false) in
+    let found = subst (λ ys. ShowsVectors n c.loop-state.found.keys (fold add_state [] (made n entry ys))) (take_all i vs few) (c.loop-state.invariant.shown n vs all shows) in
+    subst (λ ks. ShowsVectors n ks (after_entry n vs entry)) (sym c.in_ok-list_of.ensures) found

@@ -1,19 +1,29 @@
-use Rattle.std.proofs.Common.{rules, ◌≡◌, ◌≢◌, ℕ, ◌<◌, ◌≤◌, Bool, true, false, if◌then◌else◌, List, [], ◌∷◌, map, length, IfOk, OnOk, IsErrOf, ◌+◌, ◌-◌, ◌*◌, ◌/◌, ◌%◌, nat_eq, nat_lt, ◌++◌, slice_index_or, slice_set, bit_and, bit_or, Fits, w8, w32, w64, Bor, MutBor}
-use Rattle.std.specs.List.{All, AllPairs, flat_map, fold, list_all}
-use Rattle.task_core.specs.Vectors.{Vector}
-use Rattle.task_core.specs.States.{IsWithin, ShowsVectors, truth, vector}
-use Rattle.task_core.specs.Initial.{Entry, add_state, after_entry, applied, applied_value, entries_of, entry_of, entry_within, lit_within, names_it}
-use Rattle.task_core.specs.Tasks.{fluent_count, initial_states, states_after_entries}
+use Rattle.std.proofs.Common.{◌≡◌, false, cond, get_or, sym, ◌∙◌, ap}
+use Rattle.task_core.specs.States.{truth}
+use Rattle.task_core.specs.Cubes.{literal}
+use Rattle.task_core.proofs.Changes.{beq_same}
+use Rattle.task_core.proofs.StateLists.{lit_names, one_literal, literal_written, literal_unwritten}
 use Rattle.task_core.proofs.initial.with_signed.Goals as goal
+use Rattle.task_core.proofs.initial.with_signed.Goals.{then-lit-positive, else-lit-positive}
 
--- src/initial.rt:167:5
-pub loop-lit-init : goal.loop-lit-init
-loop-lit-init c = ?
-
--- src/initial.rt:167:5
 pub loop-lit-preserved : goal.loop-lit-preserved
-loop-lit-preserved c = ?
-
--- src/initial.rt:161:1
-pub returns : goal.returns
-returns c = ?
+loop-lit-preserved c = λ f.
+    let d = literal 0 false in
+    let x = get_or c.args.lits.now c.loop-lit.lit-index d in
+    let p = c.args.positive in
+    let before = truth c.loop-lit.state in
+    let now = truth c.if-lit-positive.state in
+    let this : now f ≡ cond (lit_names p f x) p (before f) =
+    elim c.if-lit-positive.branch [
+      | then-lit-positive w ↦
+          ap (λ s. truth s f) w.state-is
+          ∙ literal_written x p before (truth w.with-state.result) f
+          (sym (beq_same x.positive p) ∙ w.if-lit-positive.true)
+          w.with-state.ensures.changed
+          w.with-state.ensures.others
+      | else-lit-positive w ↦
+          ap (λ s. truth s f) w.state-is
+          ∙ literal_unwritten x p (before f) f (sym (beq_same x.positive p) ∙ w.if-lit-positive.false)
+    ] in
+    one_literal c.args.lits.now c.loop-lit.lit-index d p f (truth c.args.state f) (before f) (now f)
+    c.loop-lit-test.true (c.loop-lit.invariant f) this

@@ -1,10 +1,8 @@
-use Rattle.std.proofs.Common.{◌≡◌, ◌≢◌, ℕ, ◌<◌, ◌≤◌, Bool, true, false, if◌then◌else◌, List, [], ◌∷◌, map, length, IfOk, OnOk, IsErrOf, ◌+◌, ◌-◌, ◌*◌}
-use Rattle.std.specs.List.{All, AllPairs, flat_map, fold, list_all}
-use Rattle.task_core.specs.Vectors.{Vector}
-use Rattle.task_core.specs.States.{IsWithin, ShowsVectors, truth, vector}
-use Rattle.task_core.specs.Initial.{Entry, add_state, after_entry, applied, applied_value, entries_of, entry_of, entry_within, lit_within, names_it}
-use Rattle.task_core.specs.Tasks.{fluent_count, initial_states, states_after_entries}
+-- Each fluent is as the literals so far leave it.
+use Rattle.std.proofs.Common.{◌≡◌, ℕ, take, cond}
+use Rattle.task_core.specs.States.{truth}
+use Rattle.task_core.specs.Initial.{names_it}
 use Rattle.task_core.proofs.initial.with_signed.Given as goal
 
 abbrev pub invariant-loop-lit : goal.invariant-loop-lit
-invariant-loop-lit l = ?
+invariant-loop-lit l = (f : ℕ) → truth l.state f ≡ cond (names_it l.positive f (take l.lit-index l.lits)) l.positive (truth l.fn.state f)
