@@ -7,3 +7,5 @@ pub mod Readings
 pub mod NameKeys
 pub mod NameTable
 pub mod PartsViews
+pub mod Kinds
+pub mod Named

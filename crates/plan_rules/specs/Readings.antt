@@ -19,10 +19,11 @@ use Rattle.task_core.specs.declared.classes.Class.{Class}
 use Rattle.task_core.specs.declared.classes.Class.TheVariants.{Weak, Strong, Cyclic}
 use Rattle.task_core.specs.declared.literals.Lit.{Lit}
 use Rattle.task_core.specs.Cubes.{Cube, literal}
-use Rattle.task_core.specs.Names.{Name}
+use Rattle.task_core.specs.Names.{Name, AreFluentNames, AreActionNames}
 use Rattle.plan_rules.specs.Items.{Item, of_word, of_group, item_span, only_if, first_item, split_group}
 use Rattle.plan_rules.specs.Plans.{most_contexts}
-use Rattle.plan_rules.specs.Rules.{PlanRule, PlanCase, PlanNext, always, by_cases, ContextRule, PlainPlan, table, automaton}
+use Rattle.plan_rules.specs.Rules.{PlanRule, PlanCase, PlanNext, always, by_cases, ContextRule, PlainPlan, table, automaton, plain_of}
+use Rattle.plan_rules.specs.declared.rules.Plan.{Plan}
 
 -- a flaw of this kind at the form, unless the test holds
 abbrev pub flaw_unless : Bool → Span → FaultKind → List Flaw
@@ -183,10 +184,17 @@ table_flaws fluents actions span row =
     else flaw_at (item_span class.0) BadForm ∷ [])
     (first_item row) (flaw_at span BadForm ∷ [])
 
+abbrev pub table_of : Item → List PlanRule → PlainPlan
+table_of class rules = table (unwrap_or (class_named class) Weak) rules
+
+-- a plan where the text spells none: it does not count
+abbrev pub no_table : PlainPlan
+no_table = table Weak []
+
 abbrev pub table_tree : List Name → List Name → Forest → PlainPlan
 table_tree fluents actions row =
-    option_map_or (λ (class : Item × Forest). table (unwrap_or (class_named class.0) Weak) (each_group (table_rule_tree fluents actions) class.1))
-    (first_item row) (table Weak [])
+    option_map_or (λ (class : Item × Forest). table_of class.0 (each_group (table_rule_tree fluents actions) class.1))
+    (first_item row) no_table
 
 -- what follows `plan automaton` in the list at `span`: a number of contexts, and a rule an item
 abbrev pub contexts_flaws : List Name → List Name → Item → Forest → List Flaw
@@ -203,10 +211,13 @@ automaton_flaws fluents actions span row =
 abbrev pub contexts_tree : List Name → List Name → ℕ → Forest → PlainPlan
 contexts_tree fluents actions contexts row = automaton contexts (each_group (context_rule_tree fluents actions contexts) row)
 
+abbrev pub no_automaton : PlainPlan
+no_automaton = automaton 1 []
+
 abbrev pub automaton_tree : List Name → List Name → Forest → PlainPlan
 automaton_tree fluents actions row =
     option_map_or (λ (contexts : Item × Forest). contexts_tree fluents actions (number_tree most_contexts contexts.0) contexts.1)
-    (first_item row) (automaton 0 [])
+    (first_item row) no_automaton
 
 -- the kinds of plans
 pub data Kind : Type 0 where
@@ -237,8 +248,8 @@ plan_flaws fluents actions span row =
 
 abbrev pub plan_tree : List Name → List Name → Forest → PlainPlan
 plan_tree fluents actions row =
-    option_map_or (λ (kind : Item × Forest). option_map_or (λ k. tree_of_kind k fluents actions kind.1) (kind_named kind.0) (table Weak []))
-    (first_item row) (table Weak [])
+    option_map_or (λ (kind : Item × Forest). option_map_or (λ k. tree_of_kind k fluents actions kind.1) (kind_named kind.0) no_table)
+    (first_item row) no_table
 
 -- the first top-level list that begins with the word `plan`: its span and its parts
 abbrev pub plan_list : Forest → Option (Span × Forest)
@@ -248,11 +259,14 @@ plan_list trees = first_group_with (begins_with (codes "plan")) trees
 abbrev pub no_plan : Flaw
 no_plan = record { offset = 0; fault = record { kind = NoDefine; place = record { line = 1; column = 1 } } }
 
--- the only pass after the lexis
-abbrev pub plan_passes : List Name → List Name → Forest → List (List Flaw)
-plan_passes fluents actions trees =
+-- the flaws of a text's forms
+abbrev pub text_flaws : List Name → List Name → Forest → List Flaw
+text_flaws fluents actions trees =
     option_map_or (λ (found : Span × Forest). plan_flaws fluents actions found.0 (after_first found.1)) (plan_list trees) (no_plan ∷ [])
-    ∷ []
+
+-- they are those of the only pass after the lexis
+abbrev pub plan_passes : List Name → List Name → Forest → List (List Flaw)
+plan_passes fluents actions trees = text_flaws fluents actions trees ∷ []
 
 -- the plan and the place of its list
 abbrev pub plan_read : List Name → List Name → Forest → Option (PlainPlan × Place)
@@ -275,3 +289,12 @@ SpellsTable fluents actions bytes class rules = SpellsPlain fluents actions byte
 -- the bytes have this fault as the text of a plan
 abbrev pub HasPlanFault : List Name → List Name → List ℕ → InputFault → Type 0
 HasPlanFault fluents actions = HasFaultBy (plan_passes fluents actions)
+
+-- the bytes spell this plan, as the program holds it
+abbrev pub SpellsPlan : List Name → List Name → List ℕ → Plan → Type 0
+SpellsPlan fluents actions bytes plan = SpellsPlain fluents actions bytes (plain_of plan)
+
+-- names that plan texts can spell
+pub record AreSpellable (fluents actions : List Name) : Type 0 where
+  pub fluents_are : AreFluentNames fluents
+  pub actions_are : AreActionNames actions

@@ -1,9 +1,10 @@
 //! Reads automata.
 
-ghost use Rattle.std.specs.Prelude.{◌≡◌, ℕ, [], Some, IfOk, IfErr};
+ghost use Rattle.std.specs.Prelude.{◌≡◌, ℕ, [], Some, IfOk, IfErr, map};
 ghost use Rattle.std.specs.Option.{option_map};
 ghost use Rattle.sexpr_text.specs.Flaws.{first_listed};
 ghost use Rattle.sexpr_text.specs.Forest.{forest_of};
+ghost use Rattle.sexpr_text.specs.Parts.{each_group, flaws_of_groups};
 ghost use Rattle.sexpr_text.specs.Passes.{IfFault};
 ghost use Rattle.plan_rules.specs.Items.{item_of};
 ghost use Rattle.plan_rules.specs.NameTable.{names_in};
@@ -11,7 +12,9 @@ ghost use Rattle.plan_rules.specs.PartsViews.{context_rule_view};
 ghost use Rattle.plan_rules.specs.Readings.{
   automaton_flaws,
   automaton_tree,
+  case_flaws,
   case_parts,
+  case_tree,
   context_rule_parts,
   contexts_flaws,
   contexts_tree,
@@ -19,7 +22,7 @@ ghost use Rattle.plan_rules.specs.Readings.{
   next_tree,
   number_tree,
 };
-ghost use Rattle.plan_rules.specs.Rules.{next_of, plain_of};
+ghost use Rattle.plan_rules.specs.Rules.{case_of, next_of, plain_of};
 
 use crate::items::{ContextRuleParts, first_item, split_group};
 use crate::literals::{number_within, read_action, read_cube, read_number};
@@ -95,12 +98,25 @@ fn read_next(
 {
     match form {
         View::Word(_, _) => Ok(Next::One(read_number(contexts, form)?)),
-        View::Group(_, parts) => Ok(Next::Cases(read_groups(
-            alloc,
-            &CaseReader { fluents, contexts },
-            parts,
-        )?)),
+        View::Group(_, parts) => Ok(Next::Cases(read_cases(alloc, fluents, contexts, parts)?)),
     }
+}
+
+// The cases that say the next context.
+fn read_cases(
+    alloc: Global,
+    fluents: &NameTable,
+    contexts: u32,
+    row: &[Form],
+) -> Result<Vec<Case>, ReadErr>
+    ensures sound { IfOk result (λ cases.
+        flaws_of_groups (case_flaws (names_in fluents.now) contexts) (forest_of row.now) ≡ []) }
+    ensures read { IfOk result (λ cases.
+        map case_of cases.items ≡ each_group (case_tree (names_in fluents.now) contexts) (forest_of row.now)) }
+    ensures fault { IfErr result (λ e. IfFault e (λ fault.
+        first_listed (flaws_of_groups (case_flaws (names_in fluents.now) contexts) (forest_of row.now)) ≡ Some fault)) }
+{
+    read_groups(alloc, &CaseReader { fluents, contexts }, row)
 }
 
 /// Reads the rules of an automaton.

@@ -12,9 +12,16 @@
 
 mod auto_reader;
 mod items;
+mod laws;
 mod literals;
 mod names;
+mod reader;
 mod rules;
 mod table_reader;
+mod text;
 
+pub use auto_reader::MAX_CONTEXTS;
+pub use laws::{one_plan, plan_or_fault, printed_spells};
+pub use reader::read_plan;
+pub use text::write_plan;
 pub use rules::{AutoPlan, AutoRule, Case, Class, Next, Plan, PlanRead, Rule, TablePlan};
