@@ -1,12 +1,14 @@
 -- The initial states: each list of states after entries is a list of states over the task's fluents.
-use Rattle.std.proofs.Common.{◌≡◌, ℕ, zero, suc, ◌+◌, ◌<◌, ◌≤◌, Bool, true, false, cond, List, [], ◌∷◌, ◌++◌, map, length, take, drop, refl, sym, ◌∙◌, ap, subst, ⊎_elim, arith}
-use Rattle.std.specs.List.{All, Contains, flat_map, fold, list_any, range_with_len}
-use Rattle.std.proofs.lemmas.List.Elements.{Contains-append_cases}
+use Rattle.std.proofs.Common.{◌≡◌, ◌≢◌, ℕ, zero, suc, ◌+◌, ◌<◌, ◌≤◌, Bool, true, false, cond, List, [], ◌∷◌, ◌++◌, map, length, get_or, refl, sym, ◌∙◌, ap, subst, ⊎_elim, arith}
+use Rattle.std.specs.List.{AllPairs, Contains, flat_map, fold, list_any, range_with_len}
+use Rattle.std.proofs.lemmas.List.Elements.{Contains-append_cases, Contains-get_or}
+use Rattle.std.proofs.lemmas.List.Quantifiers.{all_pairs_push}
+use Rattle.std.proofs.lemmas.Bool.{false≢true}
 use Rattle.std.proofs.lemmas.List.FromFn.{length-map-range_with_len}
 use Rattle.task_core.specs.Vectors.{Vector, value_of, same_vector}
 use Rattle.task_core.specs.Cubes.{Cube}
 use Rattle.task_core.specs.Initial.{Entry, add_state, after_entry, after_entries, applied, applied_value}
-use Rattle.task_core.proofs.Vectors.{Contains-map_image}
+use Rattle.task_core.proofs.Vectors.{Contains-map_image, list_any_contains, same_vector_refl}
 
 -- each state of a list has n values
 abbrev pub AreStates : ℕ → List Vector → Type 0
@@ -52,3 +54,34 @@ entries_are n vs (entry ∷ entries) are = entries_are n (after_entry n vs entry
 
 pub after_entries_are : (n : ℕ) (facts : Vector) (entries : List Entry) → length facts ≡ n → AreStates n (after_entries n facts entries)
 after_entries_are n facts entries l = entries_are n (facts ∷ []) entries (λ s c. sym (ap length (one_is facts s c)) ∙ l)
+
+-- no state is listed twice
+abbrev AreDifferent : List Vector → Type 0
+AreDifferent = AllPairs (λ v w. v ≢ w)
+
+added_differ : (vs : List Vector) (v : Vector) → AreDifferent vs → AreDifferent (add_state vs v)
+added_differ vs v differ =
+    elim (list_any (same_vector v) vs) as (λ b. (list_any (same_vector v) vs ≡ b) → AreDifferent (cond b vs (vs ++ v ∷ []))) [
+      | true ↦ λ _. differ
+      | false ↦ λ e. all_pairs_push (λ w u. w ≢ u) vs v differ (λ k d h is.
+          let other : same_vector v (get_or vs k d) ≡ false = list_any_contains (same_vector v) vs (get_or vs k d) e (Contains-get_or vs k d h) in
+          false≢true (sym other ∙ ap (same_vector v) is ∙ same_vector_refl v))
+    ] refl
+
+all_added_differ : (xs vs : List Vector) → AreDifferent vs → AreDifferent (fold add_state vs xs)
+all_added_differ [] vs differ = differ
+all_added_differ (x ∷ xs) vs differ = all_added_differ xs (add_state vs x) (added_differ vs x differ)
+
+none_differ : AreDifferent []
+none_differ i j d l h = absurd (omega arith)
+
+one_differs : (v : Vector) → AreDifferent (v ∷ [])
+one_differs v i j d l h = absurd (omega arith)
+
+entries_differ : (n : ℕ) (entries : List Entry) (vs : List Vector) → AreDifferent vs → AreDifferent (fold (after_entry n) vs entries)
+entries_differ n [] vs differ = differ
+entries_differ n (entry ∷ entries) vs differ =
+    entries_differ n entries (after_entry n vs entry) (all_added_differ (flat_map (λ v. map (applied n v) entry) vs) [] none_differ)
+
+pub after_entries_differ : (n : ℕ) (facts : Vector) (entries : List Entry) → AllPairs (λ v w. v ≢ w) (after_entries n facts entries)
+after_entries_differ n facts entries = entries_differ n entries (facts ∷ []) (one_differs facts)

@@ -7,3 +7,5 @@ pub mod Agreement
 pub mod Changes
 pub mod TaskSystem
 pub mod Holds
+pub mod NameChecks
+pub mod Examples

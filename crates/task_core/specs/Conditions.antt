@@ -1,6 +1,6 @@
 -- Where a condition holds, which fluents it names, and how deep it is.
-use Rattle.std.specs.Prelude.{ℕ, ◌+◌, Bool, true, false, not, nat_lt, nat_le, max}
-use Rattle.std.specs.List.{fold, list_all, list_any}
+use Rattle.std.specs.Prelude.{ℕ, ◌+◌, Bool, true, false, not, List, [], ◌∷◌, nat_lt, nat_le, max}
+use Rattle.std.specs.List.{list_all, list_any}
 use Rattle.task_core.specs.States.{truth}
 use Rattle.task_core.specs.declared.states.State.{State}
 use Rattle.task_core.specs.declared.conditions.Cond.{Cond}
@@ -37,16 +37,23 @@ below_step n (Any parts) = list_all (λ part. part) parts.items
 abbrev pub ids_below : ℕ → Cond → Bool
 ids_below n = fold-Cond Bool (below_step n)
 
--- one layer of the depth: each constructor counts one above the deepest of its parts
+-- the greatest of some numbers; 0 where there are none
+abbrev pub greatest : List ℕ → ℕ
+greatest [] = 0
+greatest (n ∷ ns) = max n (greatest ns)
+
+-- one layer of the depth: an `All` and an `Any` count one above the deepest of their parts; a `Not`
+-- doesn't count, so that an implication, which is an `Any` of a `Not`, counts once
 abbrev pub depth_step : Cond-F ℕ → ℕ
 depth_step Yes = 1
 depth_step No = 1
 depth_step (Is f) = 1
-depth_step (Not part) = 1 + part.value
-depth_step (All parts) = 1 + fold max 0 parts.items
-depth_step (Any parts) = 1 + fold max 0 parts.items
+depth_step (Not part) = part.value
+depth_step (All parts) = 1 + greatest parts.items
+depth_step (Any parts) = 1 + greatest parts.items
 
--- how many constructors of a condition stand in one another at most
+-- how many `All`s and `Any`s of a condition stand in one another at most, and one more for what is
+-- innermost
 abbrev pub depth : Cond → ℕ
 depth = fold-Cond ℕ depth_step
 

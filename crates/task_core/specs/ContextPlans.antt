@@ -1,12 +1,12 @@
--- Plans with contexts, and how they are executed (Pistore, Traverso, "Planning as model checking for
--- extended goals in non-deterministic domains", IJCAI 2001).
+-- Plans with contexts, and how they are executed (Pistore, Traverso, "Planning as model checking
+-- for extended goals in non-deterministic domains", IJCAI 2001).
 use Rattle.std.specs.Prelude.{◌≡◌, ℕ, ◌≤◌, List, [], ◌∷◌, Option, Some, None, IsSome, ⊤}
 use Rattle.std.specs.List.{Contains}
 use Rattle.task_core.specs.Vectors.{Vector}
 use Rattle.task_core.specs.Systems.{System, Exec, HasOutcome}
 
--- the action to take in a state and a context, and the context to go on in from a state and a context when
--- the action has led to a new state. Contexts are numbers
+-- the action to take in a state and a context, and the context to go on in from a state and a
+-- context when the action has led to a new state. Contexts are numbers
 pub record ContextPlan : Type 0 where
   pub act : Vector → ℕ → Option ℕ
   pub ctxt : Vector → ℕ → Vector → Option ℕ
@@ -29,8 +29,8 @@ pub record IsInitial (sys : System) (x : Configuration) : Type 0 where
   pub state : Contains sys.initial x.state
   pub context : x.context ≡ first_context
 
--- y follows x: the plan has an action at x, which can be executed there, and y has the state of an outcome of
--- it with the context that the plan goes on in
+-- y follows x: the plan has an action at x, which can be executed there, and y has the state of an
+-- outcome of it with the context that the plan goes on in
 pub record Follows (sys : System) (plan : ContextPlan) (x y : Configuration) : Type 0 where
   pub action : ℕ
   pub acts : plan.act x.state x.context ≡ Some action
@@ -55,12 +55,14 @@ pub record IsReachable (sys : System) (plan : ContextPlan) (x : Configuration) :
   pub path : IsRun sys plan start rest
   pub ends : last_configuration start rest ≡ x
 
--- the plan goes on at x: it has an action, which can be executed there, and a next context for each outcome
+-- the plan goes on at x: it has an action, which can be executed there, and a next context for each
+-- outcome
 pub record GoesOn (sys : System) (plan : ContextPlan) (x : Configuration) : Type 0 where
   pub action : ℕ
   pub acts : plan.act x.state x.context ≡ Some action
   pub executable : Exec sys x.state action
-  pub contexts : (t : Vector) → HasOutcome sys x.state action t → IsSome (plan.ctxt x.state x.context t)
+  pub contexts : (t : Vector) → HasOutcome sys x.state action t
+      → IsSome (plan.ctxt x.state x.context t)
 
 -- the plan goes on at each configuration that it may reach
 abbrev pub IsComplete : System → ContextPlan → Type 0

@@ -1,4 +1,5 @@
--- The initial states of a task: facts that are known, and uncertain entries that act on them in order.
+-- The initial states of a task: facts that are known, and uncertain entries that act on them in
+-- order.
 use Rattle.std.specs.Prelude.{ℕ, ◌==◌, Bool, true, false, ◌&&◌, if◌then◌else◌, List, [], ◌∷◌, ◌++◌, map, length, nat_lt}
 use Rattle.std.specs.List.{flat_map, fold, list_all, list_any, range_with_len}
 use Rattle.task_core.specs.Vectors.{Vector, value_of, same_value, same_vector}
@@ -8,13 +9,15 @@ use Rattle.task_core.specs.declared.literals.Lit.{Lit}
 use Rattle.task_core.specs.declared.actions.Alternative.{Alternative}
 use Rattle.task_core.specs.declared.actions.InitSpec.{InitSpec}
 
--- the value of fluent f after literals are applied where the fluents have these values: true where one adds
--- it, else false where one deletes it, else as before
+-- the value of fluent f after literals are applied where the fluents have these values: true where
+-- one adds it, else false where one deletes it, else as before
 abbrev pub names_it : Bool → ℕ → Cube → Bool
-names_it positive f lits = list_any (λ lit. lit.fluent.0 == f && same_value lit.positive positive) lits
+names_it positive f lits =
+    list_any (λ lit. lit.fluent.0 == f && same_value lit.positive positive) lits
 
 abbrev pub applied_value : Cube → (ℕ → Bool) → ℕ → Bool
-applied_value lits value f = if names_it true f lits then true else if names_it false f lits then false else value f
+applied_value lits value f =
+    if names_it true f lits then true else if names_it false f lits then false else value f
 
 -- the state over n fluents with an alternative's literals applied
 abbrev pub applied : ℕ → Vector → Cube → Vector

@@ -10,4 +10,6 @@ pub mod Conditions
 pub mod Actions
 pub mod Names
 pub mod Initial
+pub mod Parts
+pub mod Checks
 pub mod Tasks

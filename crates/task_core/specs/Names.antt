@@ -10,7 +10,9 @@ Name = List (List ℕ)
 
 -- a byte of a word: 33 to 126, but no parenthesis, no `;` and no letter `A` to `Z`
 abbrev pub is_name_byte : ℕ → Bool
-is_name_byte c = nat_le 33 c && nat_le c 126 && not (c == 40) && not (c == 41) && not (c == 59) && not (nat_le 65 c && nat_le c 90)
+is_name_byte c =
+    nat_le 33 c && nat_le c 126 && not (c == 40) && not (c == 41) && not (c == 59)
+    && not (nat_le 65 c && nat_le c 90)
 
 -- a word: one such byte at least
 pub record IsWord (text : List ℕ) : Type 0 where
@@ -35,8 +37,8 @@ pub record AreActionNames (names : List Name) : Type 0 where
   pub each : All IsName names
   pub distinct : AreDistinct names
 
--- what the names of a task's fluents are; none begins with `not`, so that a negative literal can be told
--- from a fluent
+-- what the names of a task's fluents are; none begins with `not`, so that a negative literal can be
+-- told from a fluent
 pub record AreFluentNames (names : List Name) : Type 0 where
   pub each : All IsName names
   pub no_not : All (λ name. first_word name ≢ codes "not") names

@@ -1,5 +1,5 @@
--- When a table solves a planning problem: weak, strong and strong cyclic solutions (Cimatti, Pistore,
--- Roveri, Traverso 2003). They speak of the paths of a given table, and of no planner.
+-- When a table solves a planning problem: weak, strong and strong cyclic solutions (Cimatti,
+-- Pistore, Roveri, Traverso 2003). They speak of the paths of a given table, and of no planner.
 use Rattle.std.specs.Prelude.{◌≢◌, List, ◌∷◌}
 use Rattle.std.specs.List.{Contains}
 use Rattle.task_core.specs.Vectors.{Vector}
@@ -29,11 +29,13 @@ pub record IsReached (sys : System) (table : Table) (s : Vector) : Type 0 where
 
 -- each state of the execution structure that is terminal is a goal state
 abbrev pub EndsInGoal : System → Table → Type 0
-EndsInGoal sys table = (s : Vector) → IsReached sys table s → IsTerminal table s → Contains (goal_states sys) s
+EndsInGoal sys table =
+    (s : Vector) → IsReached sys table s → IsTerminal table s → Contains (goal_states sys) s
 
 -- no path of one step or more from a state of the execution structure ends where it began
 abbrev pub HasNoCycle : System → Table → Type 0
-HasNoCycle sys table = (s t : Vector) (rest : List Vector) → IsReached sys table s → IsPath sys table s (t ∷ rest) → last_state t rest ≢ s
+HasNoCycle sys table = (s t : Vector) (rest : List Vector) → IsReached sys table s
+    → IsPath sys table s (t ∷ rest) → last_state t rest ≢ s
 
 -- a weak solution: it may reach the goal from each initial state
 abbrev pub IsWeakSolution : System → Table → Type 0
@@ -44,7 +46,8 @@ pub record IsStrongSolution (sys : System) (table : Table) : Type 0 where
   pub no_cycle : HasNoCycle sys table
   pub ends_in_goal : EndsInGoal sys table
 
--- a strong cyclic solution: its executions end only in the goal, and from wherever they are they may end
+-- a strong cyclic solution: its executions end only in the goal, and from wherever they are they
+-- may end
 pub record IsStrongCyclicSolution (sys : System) (table : Table) : Type 0 where
   pub ends_in_goal : EndsInGoal sys table
   pub may_end : (s : Vector) → IsReached sys table s → MayEnd sys table s
@@ -55,7 +58,7 @@ IsSolution Weak = IsWeakSolution
 IsSolution Strong = IsStrongSolution
 IsSolution Cyclic = IsStrongCyclicSolution
 
--- no table is a solution of the class: not one with several actions for a state, nor one with actions in
--- goal states
+-- no table is a solution of the class: not one with several actions for a state, nor one with
+-- actions in goal states
 abbrev pub HasNoSolution : Class → System → Type 0
 HasNoSolution class sys = (table : Table) → IsTable sys table → IsSolution class sys table → ⊥

@@ -21,13 +21,16 @@ action_count task = length task.actions.items
 
 -- the outcomes of action a; none past the last action
 abbrev pub outcomes_at : Task → ℕ → List Outcome
-outcomes_at task a = option_map_or (λ action. action.outcomes.items) (slice_get task.actions.items a) []
+outcomes_at task a =
+    option_map_or (λ action. action.outcomes.items) (slice_get task.actions.items a) []
 
 -- whether action a can be executed in the state v
 abbrev pub is_executable : Task → Vector → ℕ → Bool
-is_executable task v a = option_map_or (λ action. holds action.exec (value_of v)) (slice_get task.actions.items a) false
+is_executable task v a =
+    option_map_or (λ action. holds action.exec (value_of v)) (slice_get task.actions.items a) false
 
--- the states after the outcomes of action a from v, in their order, wherever the action can be executed
+-- the states after the outcomes of action a from v, in their order, wherever the action can be
+-- executed
 abbrev pub states_after : Task → Vector → ℕ → List Vector
 states_after task v a = map (λ o. after (fluent_count task) o v) (outcomes_at task a)
 
@@ -48,11 +51,13 @@ action_names task = map name_of task.actions.items
 
 -- the states after the first k of the uncertain entries
 abbrev pub states_after_entries : Task → ℕ → List Vector
-states_after_entries task k = after_entries (fluent_count task) (facts_of (fluent_count task) task.init) (take k (entries_of task.init))
+states_after_entries task k = let n = fluent_count task in
+    after_entries n (facts_of n task.init) (take k (entries_of task.init))
 
 -- the initial states: those after all entries
 abbrev pub initial_states : Task → List Vector
-initial_states task = after_entries (fluent_count task) (facts_of (fluent_count task) task.init) (entries_of task.init)
+initial_states task = let n = fluent_count task in
+    after_entries n (facts_of n task.init) (entries_of task.init)
 
 -- the system of a task
 abbrev pub system_of : Task → System

@@ -64,15 +64,17 @@ impl From<AllocError> for InitErr {
 
 /// The initial states of a task, each once, in the order in which the entries give them.
 ///
-/// `TooMany` comes exactly where there are more than `limit` different states after some of the first
-/// entries (none and all of them included), memory aside. A limit of 0 always refuses. The time grows with
-/// the number of states after each entry times the number of the next entry's alternatives.
+/// `TooMany` comes exactly where there are more than `limit` different states after some of the
+/// first entries (none and all of them included), memory aside. A limit of 0 always refuses. The
+/// time grows with the number of states after each entry times the number of the next entry's
+/// alternatives.
 pub fn init_states(alloc: Global, task: &Task, limit: usize) -> Result<Vec<State>, InitErr>
     ensures list { let n = fluent_count task.now in
         IfOk result (λ states. map (vector n) states.items ≡ initial_states task.now) }
     ensures within { IfOk result (λ states. All (IsWithin (fluent_count task.now)) states.items) }
     ensures too_many { IsErrOf result InitErr.TooMany
-        → (k : ℕ) × (k ≤ length (entries_of task.now.init)) × (limit < length (states_after_entries task.now k)) }
+        → (k : ℕ) × (k ≤ length (entries_of task.now.init))
+        × (limit < length (states_after_entries task.now k)) }
     ensures few { OnOk result ((k : ℕ) → k ≤ length (entries_of task.now.init)
         → length (states_after_entries task.now k) ≤ limit) }
 {
@@ -94,10 +96,12 @@ fn states_after(
     limit: usize,
 ) -> Result<Vec<State>, InitErr>
     requires { entry_within 256 (entry_of entry.now) ≡ true }
-    ensures list { IfOk result (λ after. (n : ℕ) (vs : List Vector) → entry_within n (entry_of entry.now) ≡ true
-        → ShowsVectors n states.now vs → ShowsVectors n after.items (after_entry n vs (entry_of entry.now))) }
+    ensures list { IfOk result (λ after. (n : ℕ) (vs : List Vector)
+        → entry_within n (entry_of entry.now) ≡ true → ShowsVectors n states.now vs
+        → ShowsVectors n after.items (after_entry n vs (entry_of entry.now))) }
     ensures few { IfOk result (λ after. length after.items ≤ limit) }
-    ensures too_many { IsErrOf result InitErr.TooMany → (n : ℕ) (vs : List Vector) → entry_within n (entry_of entry.now) ≡ true → ShowsVectors n states.now vs
+    ensures too_many { IsErrOf result InitErr.TooMany → (n : ℕ) (vs : List Vector)
+        → entry_within n (entry_of entry.now) ≡ true → ShowsVectors n states.now vs
         → limit < length (after_entry n vs (entry_of entry.now)) }
 {
     let mut found = IndexSet::new(alloc);
@@ -123,13 +127,17 @@ fn add_alternatives(
 ) -> Result<(), InitErr>
     requires entry { list_all (list_all (lit_within 256)) (entry_of entry.now) ≡ true }
     requires few { length found.old.keys ≤ limit }
-    ensures list { OnOk result ((n : ℕ) (vs : List Vector) → list_all (list_all (lit_within n)) (entry_of entry.now) ≡ true
+    ensures list { OnOk result ((n : ℕ) (vs : List Vector)
+        → list_all (list_all (lit_within n)) (entry_of entry.now) ≡ true
         → IsWithin n state.now → ShowsVectors n found.old.keys vs
-        → ShowsVectors n found.new.keys (fold add_state vs (map (applied n (vector n state.now)) (entry_of entry.now)))) }
+        → ShowsVectors n found.new.keys
+        (fold add_state vs (map (applied n (vector n state.now)) (entry_of entry.now)))) }
     ensures few { OnOk result (length found.new.keys ≤ limit) }
-    ensures too_many { IsErrOf result InitErr.TooMany → (n : ℕ) (vs : List Vector) → list_all (list_all (lit_within n)) (entry_of entry.now) ≡ true
+    ensures too_many { IsErrOf result InitErr.TooMany → (n : ℕ) (vs : List Vector)
+        → list_all (list_all (lit_within n)) (entry_of entry.now) ≡ true
         → IsWithin n state.now → ShowsVectors n found.old.keys vs
-        → limit < length (fold add_state vs (map (applied n (vector n state.now)) (entry_of entry.now))) }
+        → let made = map (applied n (vector n state.now)) (entry_of entry.now) in
+        limit < length (fold add_state vs made) }
 {
     for alternative in entry {
         add(found, with_literals(state, &alternative.lits), limit)?;
@@ -141,9 +149,11 @@ fn add_alternatives(
 fn add(found: &mut IndexSet<State>, state: State, limit: usize) -> Result<(), InitErr>
     requires few { length found.old.keys ≤ limit }
     ensures list { OnOk result ((n : ℕ) (vs : List Vector) → IsWithin n state
-        → ShowsVectors n found.old.keys vs → ShowsVectors n found.new.keys (add_state vs (vector n state))) }
+        → ShowsVectors n found.old.keys vs
+        → ShowsVectors n found.new.keys (add_state vs (vector n state))) }
     ensures few { OnOk result (length found.new.keys ≤ limit) }
-    ensures too_many { IsErrOf result InitErr.TooMany → (n : ℕ) (vs : List Vector) → IsWithin n state
+    ensures too_many { IsErrOf result InitErr.TooMany → (n : ℕ) (vs : List Vector)
+        → IsWithin n state
         → ShowsVectors n found.old.keys vs → limit < length (add_state vs (vector n state)) }
 {
     match found.insert_full(state) {
