@@ -1,5 +1,5 @@
 -- The reader of a text's forms, with the names of a task.
-use Rattle.std.proofs.Common.{◌≡◌, List, length, map, subst, sym}
+use Rattle.std.proofs.Common.{◌≡◌, List, length, subst}
 use Rattle.std.specs.Prelude.{Result, IfOk}
 use Rattle.std.proofs.lemmas.List.{length-map}
 use Rattle.sexpr_text.specs.declared.faults.ReadErr.{ReadErr}
@@ -9,8 +9,7 @@ use Rattle.task_core.specs.Names.{Name, name_bytes, name_of}
 use Rattle.task_core.specs.Tasks.{fluent_names, action_names, fluent_count, action_count}
 use Rattle.task_core.specs.declared.tasks.Task.{Task}
 use Rattle.plan_rules.specs.declared.rules.PlanRead.{PlanRead}
-use Rattle.plan_rules.specs.Plans.{IsPlanOf, IsPlainPlanOf}
-use Rattle.plan_rules.specs.Rules.{plain_of}
+use Rattle.plan_rules.specs.Plans.{IsPlanOf}
 use Rattle.plan_rules.proofs.Whole.{IsReadFrom, whole-in_task}
 
 pub with_names : (fs gs acts bs : List Name) (xs ys : List Form) (r : Result PlanRead ReadErr) → fs ≡ gs → acts ≡ bs → xs ≡ ys

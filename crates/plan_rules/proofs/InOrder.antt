@@ -1,12 +1,11 @@
 -- The flaws of a plan stand in the order of the text.
-use Rattle.std.proofs.Common.{◌≡◌, ℕ, suc, ◌+◌, ◌-◌, ◌<◌, ◌≤◌, Bool, true, false, not, ◌&&◌, List, [], ◌∷◌, ◌++◌, length, All, codes, refl, arith}
+use Rattle.std.proofs.Common.{ℕ, ◌+◌, ◌-◌, ◌<◌, ◌≤◌, Bool, true, false, not, ◌&&◌, List, [], ◌∷◌, ◌++◌, codes, arith}
 use Rattle.std.specs.Prelude.{Option, Some, None, IfSome, is_some, if◌then◌else◌}
-use Rattle.std.specs.Option.{option_map, option_map_or, option_and_then}
-use Rattle.std.specs.Str.{bytes_eq}
+use Rattle.std.specs.Option.{option_map_or, option_and_then}
 use Rattle.sexpr_text.specs.declared.forms.Span.{Span}
 use Rattle.sexpr_text.specs.declared.faults.FaultKind.{FaultKind}
 use Rattle.sexpr_text.specs.declared.faults.FaultKind.TheVariants.{BadForm, UnknownName, UnknownAction, BadNumber}
-use Rattle.sexpr_text.specs.Flaws.{Flaw, flaw_at, IsInOrder}
+use Rattle.sexpr_text.specs.Flaws.{flaw_at, IsInOrder}
 use Rattle.sexpr_text.specs.Forest.{Forest, nothing, word, group}
 use Rattle.sexpr_text.specs.Formed.{IsRising}
 use Rattle.sexpr_text.specs.Ordered.{AreGroupFlaws}
@@ -187,7 +186,7 @@ table_rule fluents actions span parts wide h =
     (λ (p : read.TableRuleParts). read.cube_flaws fluents p.cube ++ read.action_flaws actions p.action_span p.action)
     (flaw_at span BadForm ∷ []) (read.table_rule_parts parts)
     (table_rule-within (span.start + 1) (span.end - 1) parts h)
-    (λ p within. 
+    (λ p within.
     let to : p.action_span.start < span.end - 1 = within.to in
     in_order-append span.start within.mid span.end (read.cube_flaws fluents p.cube) (read.action_flaws actions p.action_span p.action)
     (in_order-from span.start (span.start + 1) within.mid (read.cube_flaws fluents p.cube) (omega arith) (within.cubes fluents))

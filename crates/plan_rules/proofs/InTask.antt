@@ -1,6 +1,6 @@
 -- A plan that is read without flaws is one of the task: its fluents, its actions and its contexts are.
-use Rattle.std.proofs.Common.{◌≡◌, ℕ, suc, ◌+◌, ◌<◌, ◌≤◌, Bool, true, false, not, ◌&&◌, List, [], ◌∷◌, ◌++◌, length, codes, get_or, refl, ap, sym, subst, ◌∙◌, arith}
-use Rattle.std.specs.Prelude.{Option, Some, None, is_some, unwrap_or, if◌then◌else◌, nat_le, position}
+use Rattle.std.proofs.Common.{◌≡◌, ℕ, ◌<◌, Bool, true, false, not, ◌&&◌, List, [], ◌∷◌, ◌++◌, length, codes, refl, ap, sym, subst, ◌∙◌, arith}
+use Rattle.std.specs.Prelude.{Option, Some, None, is_some, unwrap_or, if◌then◌else◌, nat_le}
 use Rattle.std.specs.Option.{option_map, option_map_or, option_and_then}
 use Rattle.std.specs.List.{All}
 use Rattle.std.specs.Str.{bytes_eq}
@@ -21,7 +21,7 @@ use Rattle.task_core.specs.declared.literals.Lit.{Lit}
 use Rattle.task_core.specs.Names.{Name}
 use Rattle.plan_rules.specs.Items.{Item, of_word, of_group, item_span, only_if, first_item}
 use Rattle.plan_rules.specs.Plans.{most_contexts, IsCubeOf, IsRuleOf, IsContextOf, IsCaseOf, IsNextOf, IsContextRuleOf, IsAutomatonOf, IsPlainPlanOf}
-use Rattle.plan_rules.specs.Rules.{PlanRule, PlanCase, PlanNext, ContextRule, PlainPlan}
+use Rattle.plan_rules.specs.Rules.{PlainPlan}
 use Rattle.plan_rules.specs.Readings as read
 
 nil-first : (xs ys : List Flaw) → xs ++ ys ≡ [] → xs ≡ []
@@ -88,6 +88,7 @@ within most text n e = by_numeral (numeral text) e
         let low : nat_le 1 m ≡ true = grind arith in
         let high : nat_le m most ≡ true = grind arith in
         record { first = grind (arith, nat_tests); last = grind (arith, nat_tests) }
+
     by_numeral : (o : Option ℕ) → option_and_then (λ m. only_if (nat_le 1 m && nat_le m most) m) o ≡ Some n → IsContextOf most n
     by_numeral None e = absurd (let none : ⊥ = cc in none)
     by_numeral (Some m) e = by_test m (nat_le 1 m && nat_le m most) refl e
@@ -206,5 +207,5 @@ read-in_task fluents actions trees p place h e = by_list (read.plan_list trees) 
     by_list None f g = a_flaw read.no_plan f
     by_list (Some found) f g =
         let same : read.plan_tree fluents actions (after_first found.1) ≡ p =
-            same_plan p (read.plan_tree fluents actions (after_first found.1)) place found.0.place (Some (read.plan_tree fluents actions (after_first found.1), found.0.place)) refl g in
+        same_plan p (read.plan_tree fluents actions (after_first found.1)) place found.0.place (Some (read.plan_tree fluents actions (after_first found.1), found.0.place)) refl g in
         subst (IsPlainPlanOf (length fluents) (length actions)) same (plan fluents actions found.0 (after_first found.1) f)

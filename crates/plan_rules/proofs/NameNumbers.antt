@@ -1,7 +1,7 @@
 -- Names that are all different, and their numbers.
-use Rattle.std.proofs.Common.{◌≡◌, ◌≢◌, ℕ, zero, suc, ◌+◌, ◌<◌, ◌≤◌, Bool, true, false, List, [], ◌∷◌, length, get_or, take, map, cond, not, ◌⊎◌, inl, inr, refl, ap, sym, subst, ◌∙◌, arith}
+use Rattle.std.proofs.Common.{◌≡◌, ℕ, zero, suc, ◌+◌, ◌<◌, ◌≤◌, Bool, true, false, List, [], ◌∷◌, length, get_or, take, map, cond, not, ◌⊎◌, inl, inr, refl, ap, sym, subst, ◌∙◌, arith}
 use Rattle.std.specs.Prelude.{Option, Some, None, position, nat_lt}
-use Rattle.std.specs.List.{All, list_any, position_or_len}
+use Rattle.std.specs.List.{list_any, position_or_len}
 use Rattle.std.specs.Str.{bytes_eq}
 use Rattle.std.specs.Bool.{Decides}
 use Rattle.std.specs.Cmp.Lexicographic.{pointwise}
@@ -65,7 +65,7 @@ known-at : (names : List Name) (n : ℕ) → AreDistinct names → n < length na
 known-at names n distinct within None e =
     let test : Name → Bool = pointwise bytes_eq (get_or names n []) in
     let found : number_of names (get_or names n []) ≡ Some (position_or_len test names) =
-        found-before test names n [] within ((same_name (get_or names n []) (get_or names n [])).1 refl) in
+    found-before test names n [] within ((same_name (get_or names n []) (get_or names n [])).1 refl) in
     absurd (let none : ⊥ = cc in none)
 known-at names n distinct within (Some m) e =
     let at = position-Some (pointwise bytes_eq (get_or names n [])) names m [] e in

@@ -1,11 +1,10 @@
 -- What is printed of a table plan spells it.
-use Rattle.std.proofs.Common.{◌≡◌, ℕ, suc, ◌<◌, Bool, true, false, ◌&&◌, List, [], ◌∷◌, ◌++◌, map, length, codes, refl, sym, subst, arith, append_assoc, inl}
+use Rattle.std.proofs.Common.{◌≡◌, ℕ, suc, ◌<◌, Bool, true, false, ◌&&◌, List, [], ◌∷◌, ◌++◌, map, length, codes, refl, sym, subst, append_assoc}
 use Rattle.std.specs.Prelude.{if◌then◌else◌}
 use Rattle.std.specs.List.{All, flat_map, list_all}
 use Rattle.std.proofs.lemmas.List.Elements.{All-nil, All-cons, All-head, All-tail}
 use Rattle.task_core.specs.declared.literals.Lit.{Lit}
 use Rattle.task_core.specs.Cubes.{Cube}
-use Rattle.std.proofs.lemmas.List.{length-map}
 use Rattle.sexpr_text.specs.Formed.{is_lower_word_byte}
 use Rattle.plan_rules.specs.Plans.{IsRuleOf}
 use Rattle.task_core.specs.Names.{Name, IsWord, IsName}
@@ -15,7 +14,7 @@ use Rattle.plan_rules.specs.Rules.{PlanRule}
 use Rattle.plan_rules.specs.Texts.{name_at, spaced, line_feed, in_parentheses, atom_text, literal_text, cube_text, rule_text, class_word, table_text}
 use Rattle.task_core.specs.declared.classes.Class.{Class}
 use Rattle.task_core.specs.declared.classes.Class.TheVariants.{Weak, Strong, Cyclic}
-use Rattle.plan_rules.proofs.Pieces.{Stops, Reads, reads_none, reads_space, reads_word, reads_then, reads_group, spelled_whole}
+use Rattle.plan_rules.proofs.Pieces.{Stops, Reads, reads_none, reads_space, reads_word, reads_then, reads_group}
 
 both : (v w : Bool) → (v && w) ≡ true → (v ≡ true) × (w ≡ true)
 both true w h = (refl, h)
@@ -163,4 +162,3 @@ reads_table fluents actions class rules names all =
     (reads_then (in_parentheses inner) (10 ∷ []) 5 (group row nil) nil (λ _ _. refl)
     (reads_group inner 4 row inside)
     (reads_space 10 [] 5 nil refl (reads_none 5)))
-

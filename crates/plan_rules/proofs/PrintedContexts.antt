@@ -1,10 +1,10 @@
 -- The pieces of an automaton's text, as they are read.
-use Rattle.std.proofs.Common.{◌≡◌, ℕ, suc, ◌+◌, ◌<◌, ◌≤◌, List, [], ◌∷◌, ◌++◌, map, length, codes, refl, sym, subst, arith, append_assoc}
+use Rattle.std.proofs.Common.{◌≡◌, ℕ, suc, ◌≤◌, List, [], ◌∷◌, ◌++◌, map, length, codes, refl, sym, subst, arith, append_assoc}
 use Rattle.std.specs.Prelude.{decimal}
 use Rattle.std.specs.List.{All, flat_map}
-use Rattle.task_core.specs.Names.{Name, IsWord, IsName, AreFluentNames}
+use Rattle.task_core.specs.Names.{Name, IsWord, IsName}
 use Rattle.sexpr_text.specs.Rows.{Row, nil, word, group, words}
-use Rattle.plan_rules.specs.Plans.{most_contexts, IsContextOf, IsCubeOf, IsCaseOf, IsNextOf, IsContextRuleOf, IsAutomatonOf}
+use Rattle.plan_rules.specs.Plans.{most_contexts, IsContextOf, IsCaseOf, IsNextOf, IsContextRuleOf, IsAutomatonOf}
 use Rattle.plan_rules.specs.Readings.{AreSpellable}
 use Rattle.plan_rules.specs.Rules.{PlanCase, PlanNext, always, by_cases, ContextRule}
 use Rattle.plan_rules.specs.Texts.{name_at, spaced, line_feed, in_parentheses, atom_text, cube_text, case_text, next_text, context_rule_text, automaton_text}

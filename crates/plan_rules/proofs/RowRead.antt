@@ -1,10 +1,9 @@
 -- What stands in a row of forms without places is read as it is meant, wherever the places are.
-use Rattle.std.proofs.Common.{◌≡◌, ◌≢◌, ℕ, zero, suc, ◌+◌, ◌<◌, ◌≤◌, Bool, true, false, not, ◌&&◌, List, [], ◌∷◌, ◌++◌, length, get_or, codes, refl, ap, sym, subst, ◌∙◌, arith}
-use Rattle.std.specs.Prelude.{Option, Some, None, is_some, unwrap_or, if◌then◌else◌, decimal, position}
-use Rattle.std.specs.Option.{option_map, option_map_or, option_and_then}
+use Rattle.std.proofs.Common.{◌≡◌, ◌≢◌, ℕ, ◌<◌, ◌≤◌, Bool, true, false, not, ◌&&◌, List, [], ◌∷◌, ◌++◌, length, codes, refl, ap, sym, subst, ◌∙◌}
+use Rattle.std.specs.Prelude.{Option, Some, None, is_some, unwrap_or, if◌then◌else◌, decimal}
+use Rattle.std.specs.Option.{option_map_or, option_and_then}
 use Rattle.std.specs.List.{All}
 use Rattle.std.specs.Str.{bytes_eq}
-use Rattle.std.specs.Cmp.Lexicographic.{pointwise}
 use Rattle.std.proofs.lemmas.List.Elements.{All-head, All-tail}
 use Rattle.std.proofs.lemmas.Slice.Eq.{bytes_eq-Decides}
 use Rattle.sexpr_text.specs.declared.forms.Span.{Span}
@@ -139,7 +138,7 @@ literal-read fluents names l inside span parts e = by_sign l.positive refl e
         let last = no-form second.rest second.row in
         let is = atom-read fluents n second.parts span second.span names inside second.inner in
         let shape : parts ≡ word first.span (codes "not") (group second.span second.parts nothing) =
-            first.is ∙ (ap (word first.span (codes "not")) second.is ∙ ap (λ (t : Forest). word first.span (codes "not") (group second.span second.parts t)) last) in
+        first.is ∙ (ap (word first.span (codes "not")) second.is ∙ ap (λ (t : Forest). word first.span (codes "not") (group second.span second.parts t)) last) in
         subst (λ (f : Forest). IsRead (read.literal_flaws fluents span f) (read.literal_tree fluents f) l) (sym shape)
         (record { none = is.none; same = ap (λ m. literal m false) is.same ∙ ap (λ b. literal n b) (sym v) })
 
@@ -182,8 +181,8 @@ rule-read fluents actions names anames rule is span parts e =
     let act = named-read actions rule.action c.parts c.span UnknownAction anames.distinct is.action c.inner in
     let all = words-read (name_at actions rule.action) c.parts c.inner in
     let shape : parts ≡ word a.span (codes "rule") (group b.span b.parts (group c.span c.parts nothing)) =
-        a.is ∙ (ap (word a.span (codes "rule")) b.is ∙ (ap (λ (t : Forest). word a.span (codes "rule") (group b.span b.parts t)) c.is
-        ∙ ap (λ (t : Forest). word a.span (codes "rule") (group b.span b.parts (group c.span c.parts t))) last)) in
+    a.is ∙ (ap (word a.span (codes "rule")) b.is ∙ (ap (λ (t : Forest). word a.span (codes "rule") (group b.span b.parts t)) c.is
+    ∙ ap (λ (t : Forest). word a.span (codes "rule") (group b.span b.parts (group c.span c.parts t))) last)) in
     subst (λ (f : Forest). IsRead (read.table_rule_flaws fluents actions span f) (read.table_rule_tree fluents actions f) rule) (sym shape)
     (when (λ (p : read.TableRuleParts). read.cube_flaws fluents p.cube ++ read.action_flaws actions p.action_span p.action)
     (λ (p : read.TableRuleParts). rule_from (read.cube_tree fluents p.cube) (read.named actions p.action))
@@ -211,7 +210,7 @@ case-read fluents contexts names small case is span parts e =
     let cube = cube-read fluents names case.cube is.cube a.parts a.inner in
     let number = number-read contexts case.context b.span small is.context in
     let shape : parts ≡ group a.span a.parts (word b.span (decimal case.context) nothing) =
-        a.is ∙ (ap (group a.span a.parts) b.is ∙ ap (λ (t : Forest). group a.span a.parts (word b.span (decimal case.context) t)) last) in
+    a.is ∙ (ap (group a.span a.parts) b.is ∙ ap (λ (t : Forest). group a.span a.parts (word b.span (decimal case.context) t)) last) in
     subst (λ (f : Forest). IsRead (read.case_flaws fluents contexts span f) (read.case_tree fluents contexts f) case) (sym shape)
     (record {
       none = joined (read.cube_flaws fluents a.parts) (read.number_flaws contexts (of_word b.span (decimal case.context))) cube.none number.none;
@@ -238,7 +237,7 @@ next-read fluents contexts names small (always n) is f e =
 next-read fluents contexts names small (by_cases cases) is f e =
     let a = first-group f (groups (case_row fluents) cases) row.nil e in
     let each = groups-read (IsCaseOf (length fluents) contexts) (case_row fluents) (read.case_flaws fluents contexts) (read.case_tree fluents contexts)
-        (case-read fluents contexts names small) cases is a.parts a.inner in
+    (case-read fluents contexts names small) cases is a.parts a.inner in
     record {
       item = of_group a.span a.parts;
       is = ap first_item a.is ∙ ap (λ (t : Forest). Some (of_group a.span a.parts, t)) (no-form a.rest a.row);
@@ -279,11 +278,11 @@ context_rule-read fluents actions contexts names anames small rule is span parts
     let z = read.action_flaws actions c.span c.parts in
     let w = read.next_flaws fluents contexts next.item in
     let shape : parts ≡ word a.span (codes "rule") (word n.span (decimal rule.context) (group b.span b.parts (group c.span c.parts c.rest))) =
-        a.is ∙ (ap (word a.span (codes "rule")) n.is ∙ (ap (λ (t : Forest). word a.span (codes "rule") (word n.span (decimal rule.context) t)) b.is
-        ∙ ap (λ (t : Forest). word a.span (codes "rule") (word n.span (decimal rule.context) (group b.span b.parts t))) c.is)) in
+    a.is ∙ (ap (word a.span (codes "rule")) n.is ∙ (ap (λ (t : Forest). word a.span (codes "rule") (word n.span (decimal rule.context) t)) b.is
+    ∙ ap (λ (t : Forest). word a.span (codes "rule") (word n.span (decimal rule.context) (group b.span b.parts t))) c.is)) in
     subst (λ (f : Forest). IsRead (read.context_rule_flaws fluents actions contexts span f) (read.context_rule_tree fluents actions contexts f) rule) (sym shape)
     (subst (λ (o : Option (Item × Forest)). IsRead (option_map_or (flaws_of_parts fluents actions contexts) (option_and_then (made rule n.span b.parts c.span c.parts) o) (flaw_at span BadForm ∷ []))
-        (option_map_or (tree_of_parts fluents actions contexts) (option_and_then (made rule n.span b.parts c.span c.parts) o) read.no_context_rule) rule) (sym next.is)
+    (option_map_or (tree_of_parts fluents actions contexts) (option_and_then (made rule n.span b.parts c.span c.parts) o) read.no_context_rule) rule) (sym next.is)
     (when (flaws_of_parts fluents actions contexts) (tree_of_parts fluents actions contexts)
     (flaw_at span BadForm ∷ []) read.no_context_rule (are_words c.parts)
     (record { context = of_word n.span (decimal rule.context); cube = b.parts; action_span = c.span; action = c.parts; next = next.item }) rule all.all

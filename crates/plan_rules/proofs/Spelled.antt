@@ -1,8 +1,7 @@
 -- What is printed of a plan spells it, and no text spells two plans.
-use Rattle.std.proofs.Common.{◌≡◌, ℕ, ◌≤◌, ◌⊎◌, inl, inr, Bool, true, false, List, [], ◌∷◌, length, codes, refl, ap, sym, subst, ◌∙◌, arith}
+use Rattle.std.proofs.Common.{◌≡◌, ℕ, ◌≤◌, ◌⊎◌, inl, inr, List, [], ◌∷◌, length, codes, refl, ap, sym, subst, ◌∙◌, arith}
 use Rattle.std.specs.Prelude.{Option, Some, None, is_some, unwrap_or, if◌then◌else◌, decimal, Result, Ok, Err, IfOk, Vec}
 use Rattle.std.specs.Option.{option_map, option_map_or}
-use Rattle.std.specs.List.{All}
 use Rattle.std.specs.declared.alloc.Global.{Global}
 use Rattle.std.specs.declared.alloc.AllocError.{AllocError}
 use Rattle.std.proofs.lemmas.List.{length-map}
@@ -10,33 +9,32 @@ use Rattle.sexpr_text.specs.declared.faults.FaultKind.TheVariants.{BadForm, BadN
 use Rattle.sexpr_text.specs.declared.faults.InputFault.{InputFault}
 use Rattle.sexpr_text.specs.declared.forms.Place.{Place}
 use Rattle.sexpr_text.specs.declared.forms.Span.{Span}
-use Rattle.sexpr_text.specs.Flaws.{Flaw, flaw_at, first_of, fault_of_passes}
-use Rattle.sexpr_text.specs.Forest.{Forest, nothing, word, group}
+use Rattle.sexpr_text.specs.Flaws.{flaw_at, first_of, fault_of_passes}
+use Rattle.sexpr_text.specs.Forest.{Forest, word, group}
 use Rattle.sexpr_text.specs.Parts.{after_first, flaws_of_groups, each_group}
-use Rattle.sexpr_text.specs.Passes.{HasFaultBy}
 use Rattle.sexpr_text.specs.Rows as row
 use Rattle.sexpr_text.specs.Rows.{Row, row_of}
 use Rattle.sexpr_text.specs.Spelling.{SpellsTrees}
 use Rattle.sexpr_text.proofs.FlawLaws.{passes-none, passes-end}
 use Rattle.sexpr_text.proofs.OneAnswer.{spells_trees-unique}
-use Rattle.sexpr_text.proofs.PassLaws.{answered, not_both, one_fault_by}
+use Rattle.sexpr_text.proofs.PassLaws.{answered, not_both}
 use Rattle.task_core.specs.declared.classes.Class.{Class}
 use Rattle.task_core.specs.declared.classes.Class.TheVariants.{Weak, Strong, Cyclic}
 use Rattle.task_core.specs.declared.tasks.Task.{Task}
 use Rattle.task_core.specs.Names.{Name, name_bytes, name_of}
 use Rattle.task_core.specs.Tasks.{fluent_names, action_names, fluent_count, action_count}
-use Rattle.plan_rules.specs.Items.{of_word, item_span}
-use Rattle.plan_rules.specs.Plans.{most_contexts, IsContextOf, IsRuleOf, IsContextRuleOf, IsAutomatonOf, IsPlainPlanOf, IsPlanOf}
+use Rattle.plan_rules.specs.Items.{of_word}
+use Rattle.plan_rules.specs.Plans.{most_contexts, IsRuleOf, IsContextRuleOf, IsPlainPlanOf, IsPlanOf}
 use Rattle.plan_rules.specs.Readings as read
 use Rattle.plan_rules.specs.Readings.{AreSpellable, SpellsPlanAt, SpellsPlain, HasPlanFault}
-use Rattle.plan_rules.specs.Rules.{PlanRule, ContextRule, PlainPlan, table, automaton, plain_of}
+use Rattle.plan_rules.specs.Rules.{PlainPlan, table, automaton, plain_of}
 use Rattle.plan_rules.specs.Texts.{class_word, text_of}
 use Rattle.plan_rules.specs.declared.rules.Plan.{Plan}
 use Rattle.plan_rules.proofs.Decimals.{number-decimal}
-use Rattle.plan_rules.proofs.Pieces.{Reads, spelled_whole}
+use Rattle.plan_rules.proofs.Pieces.{spelled_whole}
 use Rattle.plan_rules.proofs.Printed.{groups, rule_row, table_row, reads_table}
 use Rattle.plan_rules.proofs.PrintedContexts.{context_rule_row, automaton_row, reads_automaton}
-use Rattle.plan_rules.proofs.RowRead.{IsRead, first-word, first-group, no-form, groups-read, rule-read, context_rule-read}
+use Rattle.plan_rules.proofs.RowRead.{IsRead, first-word, first-group, groups-read, rule-read, context_rule-read}
 
 class-named : (span : Span) (class : Class) → read.class_named (of_word span (class_word class)) ≡ Some class
 class-named span Weak = refl
@@ -54,22 +52,22 @@ plan-read fluents actions (table class rules) names all span f e =
     let a = first-word f (codes "table") (row.word (class_word class) (groups (rule_row fluents actions) rules)) e in
     let b = first-word a.rest (class_word class) (groups (rule_row fluents actions) rules) a.row in
     let lines = groups-read (IsRuleOf (length fluents) (length actions)) (rule_row fluents actions) (read.table_rule_flaws fluents actions) (read.table_rule_tree fluents actions)
-        (rule-read fluents actions names.fluents_are names.actions_are) rules all b.rest b.row in
+    (rule-read fluents actions names.fluents_are names.actions_are) rules all b.rest b.row in
     let shape : f ≡ word a.span (codes "table") (word b.span (class_word class) b.rest) = a.is ∙ ap (word a.span (codes "table")) b.is in
     subst (λ (t : Forest). IsRead (read.plan_flaws fluents actions span t) (read.plan_tree fluents actions t) (table class rules)) (sym shape)
     (subst (λ (o : Option Class). IsRead (if is_some o then flaws_of_groups (read.table_rule_flaws fluents actions) b.rest else flaw_at b.span BadForm ∷ [])
-        (table (unwrap_or o Weak) (each_group (read.table_rule_tree fluents actions) b.rest)) (table class rules)) (sym (class-named b.span class))
+    (table (unwrap_or o Weak) (each_group (read.table_rule_tree fluents actions) b.rest)) (table class rules)) (sym (class-named b.span class))
     (record { none = lines.none; same = ap (table class) lines.same }))
 plan-read fluents actions (automaton contexts rules) names is span f e =
     let a = first-word f (codes "automaton") (row.word (decimal contexts) (groups (context_rule_row fluents actions) rules)) e in
     let b = first-word a.rest (decimal contexts) (groups (context_rule_row fluents actions) rules) a.row in
     let small : contexts ≤ most_contexts = is.number.last in
     let lines = groups-read (IsContextRuleOf (length fluents) (length actions) contexts) (context_rule_row fluents actions) (read.context_rule_flaws fluents actions contexts) (read.context_rule_tree fluents actions contexts)
-        (context_rule-read fluents actions contexts names.fluents_are names.actions_are small) rules is.each b.rest b.row in
+    (context_rule-read fluents actions contexts names.fluents_are names.actions_are small) rules is.each b.rest b.row in
     let shape : f ≡ word a.span (codes "automaton") (word b.span (decimal contexts) b.rest) = a.is ∙ ap (word a.span (codes "automaton")) b.is in
     subst (λ (t : Forest). IsRead (read.plan_flaws fluents actions span t) (read.plan_tree fluents actions t) (automaton contexts rules)) (sym shape)
     (subst (λ (o : Option ℕ). IsRead (option_map_or (λ n. flaws_of_groups (read.context_rule_flaws fluents actions n) b.rest) o (flaw_at b.span BadNumber ∷ []))
-        (read.contexts_tree fluents actions (unwrap_or o 0) b.rest) (automaton contexts rules)) (sym (number-decimal most_contexts contexts (omega arith) is.number))
+    (read.contexts_tree fluents actions (unwrap_or o 0) b.rest) (automaton contexts rules)) (sym (number-decimal most_contexts contexts (omega arith) is.number))
     (record { none = lines.none; same = ap (automaton contexts) lines.same }))
 
 -- a text whose forms are the list of a plan
@@ -82,7 +80,7 @@ from-row fluents actions p b t names is s e =
     let shape : t ≡ group a.span (word w.span (codes "plan") w.rest) a.rest = a.is ∙ ap (λ (q : Forest). group a.span q a.rest) w.is in
     let none : read.text_flaws fluents actions t ≡ [] = ap (read.text_flaws fluents actions) shape ∙ reading.none in
     let same : read.plan_read fluents actions t ≡ Some (p, a.span.place) =
-        ap (read.plan_read fluents actions) shape ∙ ap (λ (q : PlainPlan). Some (q, a.span.place)) reading.same in
+    ap (read.plan_read fluents actions) shape ∙ ap (λ (q : PlainPlan). Some (q, a.span.place)) reading.same in
     (a.span.place, (t, s, ap (λ flaws. fault_of_passes (flaws ∷ [])) none ∙ (passes-none [] ∙ passes-end), same))
 
 pub printed_spells : (fluents actions : List Name) (p : PlainPlan) → AreSpellable fluents actions → IsPlainPlanOf (length fluents) (length actions) p → SpellsPlain fluents actions (text_of fluents actions p) p
@@ -117,7 +115,7 @@ some_list fluents actions trees h = by_list fluents actions (read.plan_list tree
 
 pub plan_or_fault : (fluents actions : List Name) (bytes : List ℕ) → ((p : PlainPlan) × SpellsPlain fluents actions bytes p) ⊎ ((f : InputFault) × HasPlanFault fluents actions bytes f)
 plan_or_fault fluents actions bytes = elim (answered (read.plan_passes fluents actions) bytes) [
-    inl g ↦ (let found = some_list fluents actions g.0 g.1.sound in inl (found.0, (found.1, (g.0, g.1.spelled, g.1.sound, found.2))))
+  | inl g ↦ (let found = some_list fluents actions g.0 g.1.sound in inl (found.0, (found.1, (g.0, g.1.spelled, g.1.sound, found.2))))
   | inr f ↦ inr f
 ]
 

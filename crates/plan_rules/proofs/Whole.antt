@@ -1,10 +1,9 @@
 -- What is said of a whole text, from what is said of its forms.
-use Rattle.std.proofs.Common.{◌≡◌, ℕ, ◌+◌, ◌≤◌, List, [], ◌∷◌, length, refl, ap, sym, subst, ◌∙◌, arith, inl, inr}
-use Rattle.std.specs.Prelude.{Option, Some, None, Result, Ok, Err, IfOk, IfErr}
-use Rattle.sexpr_text.specs.declared.faults.InputFault.{InputFault}
+use Rattle.std.proofs.Common.{◌≡◌, ℕ, ◌+◌, List, [], ◌∷◌, length, ap, ◌∙◌, inr}
+use Rattle.std.specs.Prelude.{Some, Result, Ok, Err, IfOk, IfErr}
 use Rattle.sexpr_text.specs.declared.faults.ReadErr.{ReadErr}
 use Rattle.sexpr_text.specs.declared.faults.ReadErr.TheVariants.{Fault, Memory}
-use Rattle.sexpr_text.specs.Flaws.{Flaw, first_listed, fault_of_passes}
+use Rattle.sexpr_text.specs.Flaws.{first_listed, fault_of_passes}
 use Rattle.sexpr_text.specs.Forest.{Forest}
 use Rattle.sexpr_text.specs.Formed.{IsRising}
 use Rattle.sexpr_text.specs.Passes.{IfFault}
@@ -13,7 +12,7 @@ use Rattle.sexpr_text.proofs.FlawLaws.{passes-none, passes-end, passes-first}
 use Rattle.task_core.specs.Names.{Name}
 use Rattle.plan_rules.specs.declared.rules.PlanRead.{PlanRead}
 use Rattle.plan_rules.specs.Plans.{IsPlainPlanOf}
-use Rattle.plan_rules.specs.Readings.{text_flaws, plan_read, plan_passes, SpellsPlanAt, HasPlanFault}
+use Rattle.plan_rules.specs.Readings.{text_flaws, plan_read, SpellsPlanAt, HasPlanFault}
 use Rattle.plan_rules.specs.Rules.{plain_of}
 use Rattle.plan_rules.proofs.InOrder.{text_flaws-in_order}
 use Rattle.plan_rules.proofs.InTask.{read-in_task}

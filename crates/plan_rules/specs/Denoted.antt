@@ -2,7 +2,7 @@
 -- executed there and that some rule which matches the state has (Cimatti, Pistore, Roveri, Traverso 2003).
 -- An automaton denotes a context plan (Pistore, Traverso 2001), in which the first rule of the context that
 -- matches the state counts.
-use Rattle.std.specs.Prelude.{ℕ, Bool, true, ◌&&◌, ◌≡◌, List, map, ◌==◌, Option, Some, None, find}
+use Rattle.std.specs.Prelude.{ℕ, Bool, true, ◌&&◌, ◌≡◌, List, map, ◌==◌, Option, Some, find}
 use Rattle.std.specs.List.{Contains, filter, flat_map, list_any, range_with_len}
 use Rattle.std.specs.Option.{option_map, option_and_then}
 use Rattle.task_core.specs.Vectors.{Vector, all_vectors}

@@ -1,5 +1,5 @@
 -- Private: the keys of a table of names, as lists of words.
-use Rattle.std.specs.Prelude.{ℕ, List, map, Vec}
+use Rattle.std.specs.Prelude.{ℕ, map, Vec}
 use Rattle.std.specs.declared.alloc.Global.{Global}
 use Rattle.task_core.specs.Names.{Name}
 

@@ -1,7 +1,7 @@
 -- The grammar of plan texts, over the forms of a text with their places: everything that is wrong in a
 -- plan, in the order of the text, and the plan that a text without flaws spells. White space, comments and
 -- the case of letters are free. Inside a form that is itself of a wrong shape nothing else is looked for.
-use Rattle.std.specs.Prelude.{◌≡◌, ℕ, ◌==◌, nat_le, Bool, true, false, ◌&&◌, not, if◌then◌else◌, List, [], ◌∷◌, ◌++◌, Option, Some, None, IsSome, is_some, unwrap_or, codes, position}
+use Rattle.std.specs.Prelude.{ℕ, nat_le, Bool, true, false, ◌&&◌, not, if◌then◌else◌, List, [], ◌∷◌, ◌++◌, Option, Some, None, is_some, unwrap_or, codes, position}
 use Rattle.std.specs.Option.{option_map, option_map_or, option_and_then}
 use Rattle.std.specs.Str.{bytes_eq}
 use Rattle.std.specs.Cmp.Lexicographic.{pointwise}
@@ -11,7 +11,7 @@ use Rattle.sexpr_text.specs.declared.faults.FaultKind.{FaultKind}
 use Rattle.sexpr_text.specs.declared.faults.FaultKind.TheVariants.{NoDefine, BadForm, UnknownName, UnknownAction, BadNumber}
 use Rattle.sexpr_text.specs.declared.faults.InputFault.{InputFault}
 use Rattle.sexpr_text.specs.Flaws.{Flaw, flaw_at}
-use Rattle.sexpr_text.specs.Forest.{Forest, nothing, word, group}
+use Rattle.sexpr_text.specs.Forest.{Forest}
 use Rattle.sexpr_text.specs.Numerals.{numeral}
 use Rattle.sexpr_text.specs.Parts.{is_nothing, begins_with, after_first, after_word, group_after, first_group_with, flaws_of_groups, each_group, texts_of, are_words}
 use Rattle.sexpr_text.specs.Passes.{SpellsBy, HasFaultBy}

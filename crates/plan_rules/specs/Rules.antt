@@ -1,7 +1,6 @@
 -- The plans as plain trees, without where they lie in memory.
 use Rattle.std.specs.Prelude.{ℕ, List, map}
 use Rattle.task_core.specs.Cubes.{Cube}
-use Rattle.sexpr_text.specs.declared.forms.Place.{Place}
 use Rattle.task_core.specs.declared.classes.Class.{Class}
 use Rattle.plan_rules.specs.declared.rules.Rule.{Rule}
 use Rattle.plan_rules.specs.declared.rules.TablePlan.{TablePlan}

@@ -1,8 +1,7 @@
 //! The plans.
 
-pub use task_core::Class;
-
 use sexpr_text::Place;
+pub use task_core::Class;
 use task_core::{ActionId, Lit};
 
 /// In each state that the cube matches, take the action.

@@ -11,7 +11,7 @@ ghost use Rattle.plan_rules.specs.PartsViews.{table_rule_view};
 ghost use Rattle.plan_rules.specs.Readings.{class_named, table_flaws, table_tree, table_rule_parts};
 ghost use Rattle.plan_rules.specs.Rules.{plain_of};
 
-use crate::items::{TableRuleParts, first_item, split_group, span_of};
+use crate::items::{TableRuleParts, first_item, span_of, split_group};
 use crate::literals::{read_action, read_cube};
 use crate::names::{NameTable, are_words};
 use crate::rules::{Class, Plan, Rule, TablePlan};

@@ -10,6 +10,6 @@ add-requires-clause-new c =
     let items = c.args.task.now.actions.items in
     let e : names_in c.loop-action.table ≡ map name_of (take i items) = c.loop-action.invariant in
     let is : c.action-item.result ≡ get_or items i c.action-item.result =
-        c.action-item.is ∙ ap (λ xs. get_or xs i c.action-item.result) c.deref-action-items.ensures.value in
+    c.action-item.is ∙ ap (λ xs. get_or xs i c.action-item.result) c.deref-action-items.ensures.value in
     rw (e, c.deref.ensures.value)
     (fresh name_of items i c.action-item.result c.args.task.now.action_names.distinct (omega arith) is)

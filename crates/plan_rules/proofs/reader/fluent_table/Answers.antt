@@ -10,6 +10,6 @@ add-requires-clause-new c =
     let items = c.args.task.now.fluents.items in
     let e : names_in c.loop-name.table ≡ map name_bytes (take i items) = c.loop-name.invariant in
     let is : c.name-item.result ≡ get_or items i c.name-item.result =
-        c.name-item.is ∙ ap (λ xs. get_or xs i c.name-item.result) c.deref-name-items.ensures.value in
+    c.name-item.is ∙ ap (λ xs. get_or xs i c.name-item.result) c.deref-name-items.ensures.value in
     rw (e, c.deref.ensures.value)
     (fresh name_bytes items i c.name-item.result c.args.task.now.fluent_names.distinct (omega arith) is)

@@ -1,4 +1,4 @@
-use Rattle.std.proofs.Common.{◌≡◌, ℕ, ◌+◌, ◌++◌, List, map, take, length, get_or, ap, sym, ◌∙◌, append_assoc, arith, string_bytes}
+use Rattle.std.proofs.Common.{◌≡◌, ℕ, ◌+◌, ◌++◌, List, map, take, length, get_or, ap, sym, ◌∙◌, append_assoc, arith}
 use Rattle.std.proofs.lemmas.Simd.{map-map}
 use Rattle.task_core.specs.Names.{name_bytes}
 use Rattle.plan_rules.specs.Plans.{IsCubeOf}
@@ -21,5 +21,5 @@ loop-i-preserved c =
     let both : (xs : List Case) → spaced (map f (map case_of xs)) ≡ spaced (map (λ (x : Case). f (case_of x)) xs) = λ xs. ap spaced (map-map f case_of xs) in
     let step = spaced_more (λ (x : Case). f (case_of x)) cases i c.index-cases-i.result c.loop-i-test.true in
     let more : spaced (map f (map case_of (take (i + 1) cases))) ≡ (spaced (map f (map case_of (take i cases))) ++ gap i) ++ f (case_of (get_or cases i c.index-cases-i.result)) =
-        both (take (i + 1) cases) ∙ (step ∙ ap (λ t. (t ++ gap i) ++ f (case_of (get_or cases i c.index-cases-i.result))) (sym (both (take i cases)))) in
+    both (take (i + 1) cases) ∙ (step ∙ ap (λ t. (t ++ gap i) ++ f (case_of (get_or cases i c.index-cases-i.result))) (sym (both (take i cases)))) in
     grind (arith, append_assoc, more, c.loop-i.invariant, c.in_ok-push_gap.ensures, c.in_ok-push_case.ensures, c.index-cases-i.is)
