@@ -2,7 +2,6 @@ pub mod Deciding
 pub mod PlanDecides
 pub mod ByCommand
 pub mod Statuses
-pub mod Spellable
 pub mod PlanAnswers
 pub mod Later
 pub mod Refusals

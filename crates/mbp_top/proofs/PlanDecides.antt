@@ -3,7 +3,8 @@ use Rattle.std.proofs.Common.{◌≡◌, ◌≢◌, ℕ, true, false, ◌<◌, L
 use Rattle.plan_io.specs.Held.{Held, Untold}
 use Rattle.task_core.specs.Systems.{System}
 use Rattle.plan_rules.specs.Denoted.{denoted}
-use Rattle.plan_rules.specs.Texts.{Name, table_text}
+use Rattle.plan_rules.specs.Texts.{table_text}
+use Rattle.task_core.specs.Names.{Name}
 use Rattle.task_core.specs.declared.classes.Class.{Class}
 use Rattle.reach_plan.specs.Layers.{IsLastLayer}
 use Rattle.reach_plan.specs.Printed.{printed_rules}

@@ -5,7 +5,8 @@ use Rattle.plan_io.specs.Held.{Held}
 use Rattle.plan_rules.specs.Denoted.{denoted, IsExecutable}
 use Rattle.plan_rules.specs.Readings.{SpellsTable}
 use Rattle.plan_rules.specs.Rules.{PlanRule}
-use Rattle.plan_rules.specs.Texts.{Name, table_text, line_feed}
+use Rattle.plan_rules.specs.Texts.{table_text, line_feed}
+use Rattle.task_core.specs.Names.{Name}
 use Rattle.task_core.specs.declared.classes.Class.{Class}
 use Rattle.reach_plan.specs.Layers.{IsLastLayer}
 use Rattle.reach_plan.specs.Printed.{printed_rules}

@@ -6,13 +6,13 @@ ghost use Rattle.mbp_top.specs.PlanCommand.{IsPlanAnswer, IsPlanResult};
 ghost use Rattle.mbp_top.specs.Values.{answer_of, bytes_of, plan_words_of, shown_of};
 ghost use Rattle.mbp_top.specs.Words.{Bytes, IsPlanned};
 ghost use Rattle.plan_io.specs.Fetches.{FailedLast, FetchesFirst};
-ghost use Rattle.plan_rules.specs.Names.{action_names, fluent_names};
 ghost use Rattle.plan_rules.specs.Plans.{IsPlanOf, plan_text};
+ghost use Rattle.plan_rules.specs.Readings.{SpellsPlan};
 ghost use Rattle.small_pddl.specs.Spelled.{SpellsDomain};
 ghost use Rattle.small_pddl.specs.Meaning as small;
 ghost use Rattle.small_pddl.specs.Values.{domain_tree, problem_tree};
 ghost use Rattle.std.specs.Prelude.{◌≡◌, ◌≤◌, ◌⊎◌, [], ◌∷◌, IfOk, IsSome, List, length, ℕ};
-ghost use Rattle.task_core.specs.Tasks.{system_of};
+ghost use Rattle.task_core.specs.Tasks.{action_names, fluent_names, system_of};
 
 use crate::answers::{Refusal, Shown, Text};
 use crate::small_texts::{read_domain_file, read_problem_file};
@@ -84,8 +84,10 @@ fn plan_task(alloc: Global, class: Class, task: &Task) -> Result<Shown, AllocErr
 /// The text of a plan.
 fn text_of_plan(alloc: Global, plan: &Plan, task: &Task) -> Result<Text, AllocError>
     requires { IsPlanOf (length task.now.fluents.items) (length task.now.actions.items) plan.now }
-    ensures { IfOk result (λ text. bytes_of text
+    ensures text { IfOk result (λ text. bytes_of text
         ≡ plan_text (fluent_names task.now) (action_names task.now) plan.now) }
+    ensures spells { IfOk result (λ text.
+        SpellsPlan (fluent_names task.now) (action_names task.now) (bytes_of text) plan.now) }
 {
     Ok(Text::Made(write_plan(alloc, plan, task)?))
 }

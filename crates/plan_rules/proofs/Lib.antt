@@ -1,6 +1,14 @@
-pub mod Items
+pub mod Keys
+pub mod NameNumbers
+pub mod InOrder
+pub mod InTask
+pub mod Whole
+pub mod FromForms
+pub mod MappedItems
 pub mod Spaced
 pub mod Pieces
 pub mod Printed
-pub mod OneTable
-pub mod Examples
+pub mod Decimals
+pub mod PrintedContexts
+pub mod RowRead
+pub mod Spelled

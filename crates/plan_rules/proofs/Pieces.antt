@@ -18,7 +18,7 @@ use Rattle.sexpr_text.specs.Spelling.{SpellsTrees}
 use Rattle.sexpr_text.proofs.Ends.{found-spelling}
 use Rattle.sexpr_text.proofs.Reading.{IsReading}
 use Rattle.sexpr_text.proofs.Steps.{read-start, read-space, read-word, read-open, read-close}
-use Rattle.plan_rules.specs.Readings.{IsWordText}
+use Rattle.task_core.specs.Names.{IsWord}
 use Rattle.sexpr_text.specs.Rows.{Row, nil, word, group, row_of}
 use Rattle.plan_rules.specs.Texts.{in_parentheses}
 
@@ -91,7 +91,7 @@ some_length : (w : List ℕ) → w ≢ [] → 0 < length w
 some_length [] some = absurd (some refl)
 some_length (c ∷ w) some = omega arith
 
-at_word : (b w rest : List ℕ) (ps : List Pending) (row : Row) → IsWordText w → Stops rest → IsAt b (w ++ rest) ps row → IsAt b rest ps (before row (word w nil))
+at_word : (b w rest : List ℕ) (ps : List Pending) (row : Row) → IsWord w → Stops rest → IsAt b (w ++ rest) ps row → IsAt b rest ps (before row (word w nil))
 at_word b w rest ps row is_word stops at =
     let k = at.offset in
     let n = length w in
@@ -128,7 +128,7 @@ reads_none d b rest ps row room stops at = subst (IsAt b rest ps) (sym (before-n
 pub reads_space : (c : ℕ) (x : List ℕ) (d : ℕ) (p : Row) → is_space c ≡ true → Reads x d p → Reads (c ∷ x) d p
 reads_space c x d p h reads b rest ps row room stops at = reads b rest ps row room stops (at_space b (x ++ rest) c ps row h at)
 
-pub reads_word : (w : List ℕ) (d : ℕ) → IsWordText w → Reads w d (word w nil)
+pub reads_word : (w : List ℕ) (d : ℕ) → IsWord w → Reads w d (word w nil)
 reads_word w d is_word b rest ps row room stops at = at_word b w rest ps row is_word stops at
 
 -- one piece, and then another that goes on with no word

@@ -1,6 +1,11 @@
 pub mod Rules
 pub mod Denoted
 pub mod Texts
-pub mod Names
 pub mod Plans
+pub mod Items
 pub mod Readings
+pub mod NameKeys
+pub mod NameTable
+pub mod PartsViews
+pub mod Kinds
+pub mod Named

@@ -1,15 +1,12 @@
--- The text of a table plan: what is printed, byte for byte.
-use Rattle.std.specs.Prelude.{ℕ, zero, suc, List, [], ◌∷◌, ◌++◌, map, slice_index_or, if◌then◌else◌, codes}
+-- The text of a plan: what is printed, byte for byte.
+use Rattle.std.specs.Prelude.{ℕ, zero, suc, List, [], ◌∷◌, ◌++◌, map, slice_index_or, if◌then◌else◌, codes, decimal}
 use Rattle.std.specs.List.{flat_map, join_with_byte}
 use Rattle.task_core.specs.declared.literals.Lit.{Lit}
 use Rattle.task_core.specs.Cubes.{Cube}
-use Rattle.plan_rules.specs.Rules.{PlanRule}
+use Rattle.task_core.specs.Names.{Name}
 use Rattle.task_core.specs.declared.classes.Class.{Class}
 use Rattle.task_core.specs.declared.classes.Class.TheVariants.{Weak, Strong, Cyclic}
-
--- a name is a list of words, and a word a list of bytes
-abbrev pub Name : Type 0
-Name = List (List ℕ)
+use Rattle.plan_rules.specs.Rules.{PlanRule, PlanCase, PlanNext, always, by_cases, ContextRule, PlainPlan, table, automaton}
 
 -- the name of a number; the empty one past the last
 abbrev pub name_at : List Name → ℕ → Name
@@ -57,3 +54,28 @@ class_word Cyclic = codes "cyclic"
 abbrev pub table_text : List Name → List Name → Class → List PlanRule → List ℕ
 table_text fluents actions class rules =
     codes "(plan table " ++ class_word class ++ line_feed ++ flat_map (rule_text fluents actions) rules ++ codes ")" ++ line_feed
+
+-- a case, as (((at a) (up)) 3)
+abbrev pub case_text : List Name → PlanCase → List ℕ
+case_text fluents case = in_parentheses (cube_text fluents case.cube ++ codes " " ++ decimal case.context)
+
+abbrev pub next_text : List Name → PlanNext → List ℕ
+next_text fluents (always context) = decimal context
+next_text fluents (by_cases cases) = in_parentheses (spaced (map (case_text fluents) cases))
+
+-- one line, as: two spaces, (rule 1 ((at a) (not (at b))) (go a b) 2)
+abbrev pub context_rule_text : List Name → List Name → ContextRule → List ℕ
+context_rule_text fluents actions rule =
+    codes "  (rule " ++ decimal rule.context ++ codes " " ++ cube_text fluents rule.cube ++ codes " "
+    ++ atom_text (name_at actions rule.action) ++ codes " " ++ next_text fluents rule.next ++ codes ")" ++ line_feed
+
+-- the whole text: a first line with the number of contexts, a line a rule, and a closing line
+abbrev pub automaton_text : List Name → List Name → ℕ → List ContextRule → List ℕ
+automaton_text fluents actions contexts rules =
+    codes "(plan automaton " ++ decimal contexts ++ line_feed ++ flat_map (context_rule_text fluents actions) rules
+    ++ codes ")" ++ line_feed
+
+-- the text of a plan over the names of fluents and actions
+abbrev pub text_of : List Name → List Name → PlainPlan → List ℕ
+text_of fluents actions (table class rules) = table_text fluents actions class rules
+text_of fluents actions (automaton contexts rules) = automaton_text fluents actions contexts rules

@@ -1,15 +1,14 @@
-//! The texts of plans, worked out by hand.
+//! Texts of plans, read and written back, and the faults of others. What is expected was worked out by
+//! hand.
 
-ghost use Rattle.std.specs.Prelude.{◌≡◌, ◌<◌, IfOk, All, map, length};
-ghost use Rattle.plan_rules.specs.Plans.{IsPlanOf, IsRuleOf};
-ghost use Rattle.plan_rules.specs.Rules.{rule_of};
-
-use crate::{Class, Plan, Rule, TablePlan, write_plan};
+use crate::{PlanRead, read_plan, write_plan};
+use sexpr_text::{MAX_BYTES, ReadErr};
 use std::alloc::{AllocError, Global};
+use std::fmt::Write;
 use std::test::Fail;
-use task_core::{ActionId, Cond, FluentId, GroundAction, InitSpec, Lit, Outcome, State, Task};
+use task_core::{Cond, GroundAction, InitSpec, Outcome, State, Task};
 
-/// The words of a name, which are separated by one space.
+// The words of a name, which are separated by one space.
 fn name(alloc: Global, words: &str) -> Result<Vec<String>, AllocError> {
     let mut name = Vec::new(alloc);
     for word in words.split(' ') {
@@ -18,7 +17,7 @@ fn name(alloc: Global, words: &str) -> Result<Vec<String>, AllocError> {
     Ok(name)
 }
 
-/// An action that can always be executed and changes nothing.
+// An action that can always be executed and changes nothing.
 fn action(alloc: Global, words: &str) -> Result<GroundAction, AllocError> {
     let same = Outcome {
         changes: Vec::new(alloc),
@@ -30,11 +29,8 @@ fn action(alloc: Global, words: &str) -> Result<GroundAction, AllocError> {
     })
 }
 
-/// Two places, a coin, and an action for each.
-fn task(alloc: Global) -> Result<Task, Fail>
-    ensures fluents { IfOk result (λ task. length task.fluents.items ≡ 3) }
-    ensures actions { IfOk result (λ task. length task.actions.items ≡ 2) }
-{
+// Two places, a coin, and an action for each.
+fn task(alloc: Global) -> Result<Option<Task>, AllocError> {
     let fluents = vec![in alloc;
         name(alloc, "at a")?,
         name(alloc, "at b")?,
@@ -45,66 +41,122 @@ fn task(alloc: Global) -> Result<Task, Fail>
         facts: State::none(),
         entries: Vec::new(alloc),
     };
-    let task = Task::try_new(fluents, actions, init, None);
-    Ok(task.ok_or("these are the parts of a task")?)
+    Ok(Task::try_new(fluents, actions, init, None))
 }
 
-fn lit(fluent: u32, positive: bool) -> Lit
-    requires { fluent < 3 }
-    ensures { result.fluent.0 < 3 }
-{
-    Lit {
-        fluent: FluentId(fluent),
-        positive,
+// What the reader answers: the text of the plan that it read, or the fault.
+fn answer(alloc: Global, bytes: &[u8], task: &Task) -> Result<String, AllocError> {
+    let mut out = String::new(alloc);
+    if bytes.len() > MAX_BYTES {
+        out.push_str("too long")?;
+        return Ok(out);
     }
-}
-
-fn rule(cube: Vec<Lit>, action: u32) -> Rule
-    requires cube { All (λ lit. lit.fluent.0 < 3) cube.items }
-    requires action { action < 2 }
-    ensures { IsRuleOf 3 2 (rule_of result) }
-{
-    Rule {
-        cube,
-        action: ActionId(action),
+    match read_plan(alloc, bytes, task) {
+        Ok(PlanRead { plan, place }) => {
+            write!(out, "{}:{} ", place.line, place.column)?;
+            for byte in write_plan(alloc, &plan, task)? {
+                out.push(char::from(byte))?;
+            }
+        }
+        Err(ReadErr::Fault(fault)) => {
+            let place = fault.place;
+            write!(out, "{} {}:{}", fault.kind.name(), place.line, place.column)?;
+        }
+        Err(ReadErr::Memory) => out.push_str("out of memory")?,
     }
-}
-
-fn plan(class: Class, rules: Vec<Rule>) -> Plan
-    requires { All (IsRuleOf 3 2) (map rule_of rules.items) }
-    ensures { IsPlanOf 3 2 result }
-{
-    Plan::Table(TablePlan { class, rules })
+    Ok(out)
 }
 
 #[test]
-fn writes_the_coin(rt: HostRuntime) -> Result<(), Fail> {
-    let task = task(rt.alloc())?;
-    let flip = rule(vec![in rt.alloc(); lit(2, false)]?, 1);
-    let rules = vec![in rt.alloc(); flip]?;
-    let text = write_plan(rt.alloc(), &plan(Class::Cyclic, rules), &task)?;
-    let wanted = b"(plan table cyclic\n  (rule ((not (up))) (flip))\n)\n";
-    assert_eq!(rt; text.as_slice(), wanted.as_slice());
+fn texts_and_their_answers(rt: HostRuntime) -> Result<(), Fail> {
+    let alloc = rt.alloc();
+    let task = task(alloc)?.ok_or("no task")?;
+    let table: [(&[u8], &str); 30] = [
+        (
+            b"(plan table cyclic (rule ((NOT (up))) (flip)))",
+            "1:1 (plan table cyclic\n  (rule ((not (up))) (flip))\n)\n",
+        ),
+        (
+            b"x (note)\n (plan table weak (rule ((at a) (at a) (not (at b))) (go a b)) (rule () (flip)))",
+            "2:2 (plan table weak\n  (rule ((at a) (at a) (not (at b))) (go a b))\n  (rule () (flip))\n)\n",
+        ),
+        (
+            b"(plan automaton 02 (rule 1 () (flip) 2) (rule 2 ((up)) (go a b) ((((up)) 1) (() 002))))",
+            "1:1 (plan automaton 2\n  (rule 1 () (flip) 2)\n  (rule 2 ((up)) (go a b) ((((up)) 1) (() 2)))\n)\n",
+        ),
+        (
+            b"(plan automaton 1000000 (rule 1 () (flip) ()))",
+            "1:1 (plan automaton 1000000\n  (rule 1 () (flip) ())\n)\n",
+        ),
+        (b"(plan table strong) )", "StrayClose 1:21"),
+        (b"(plans table weak)", "NoDefine 1:1"),
+        (b"\n (plan)", "BadForm 2:2"),
+        (b"(plan tables weak)", "BadForm 1:7"),
+        (b"(plan table)", "BadForm 1:1"),
+        (b"(plan table best)", "BadForm 1:13"),
+        (b"(plan automaton)", "BadForm 1:1"),
+        (b"(plan automaton (1))", "BadForm 1:17"),
+        (b"(plan automaton 0)", "BadNumber 1:17"),
+        (b"(plan automaton 1000001)", "BadNumber 1:17"),
+        (b"(plan table weak rule)", "BadForm 1:18"),
+        (b"(plan table weak (rule ()))", "BadForm 1:18"),
+        (b"(plan table weak (rule () (flip) 1))", "BadForm 1:18"),
+        (b"(plan table weak (rule () (fly)))", "UnknownAction 1:27"),
+        (b"(plan table weak (rule () ()))", "UnknownAction 1:27"),
+        (b"(plan table weak (rule (up) (flip)))", "BadForm 1:25"),
+        (b"(plan table weak (rule (()) (flip)))", "UnknownName 1:25"),
+        (
+            b"(plan table weak (rule ((not (at c))) (fly)))",
+            "UnknownName 1:30",
+        ),
+        (
+            b"(plan table weak (rule ((not (not up))) (flip)))",
+            "BadForm 1:30",
+        ),
+        (
+            b"(plan table weak (rule ((not up)) (flip)))",
+            "BadForm 1:25",
+        ),
+        (
+            b"(plan table weak (rule ((not ())) (flip)))",
+            "UnknownName 1:30",
+        ),
+        (b"(plan automaton 2 (rule 3 () (flip) 1))", "BadNumber 1:25"),
+        (b"(plan automaton 2 (rule (1) () (flip) 1))", "BadForm 1:25"),
+        (
+            b"(plan automaton 2 (rule 1 () (flip) one))",
+            "BadNumber 1:37",
+        ),
+        (
+            b"(plan automaton 2 (rule 1 () (flip) (up)))",
+            "BadForm 1:38",
+        ),
+        (
+            b"(plan automaton 2 (rule 1 () (flip) ((() (1)))))",
+            "BadForm 1:42",
+        ),
+    ];
+    for (text, want) in table {
+        assert_eq!(rt; answer(alloc, text, &task)?.as_str(), want);
+    }
     Ok(())
 }
 
 #[test]
-fn writes_each_rule_in_order(rt: HostRuntime) -> Result<(), Fail> {
-    let task = task(rt.alloc())?;
-    let go = rule(vec![in rt.alloc(); lit(0, true), lit(1, false)]?, 0);
-    let flip = rule(Vec::new(rt.alloc()), 1);
-    let rules = vec![in rt.alloc(); go, flip]?;
-    let text = write_plan(rt.alloc(), &plan(Class::Strong, rules), &task)?;
-    let wanted =
-        b"(plan table strong\n  (rule ((at a) (not (at b))) (go a b))\n  (rule () (flip))\n)\n";
-    assert_eq!(rt; text.as_slice(), wanted.as_slice());
-    Ok(())
-}
-
-#[test]
-fn writes_a_plan_without_rules(rt: HostRuntime) -> Result<(), Fail> {
-    let task = task(rt.alloc())?;
-    let text = write_plan(rt.alloc(), &plan(Class::Weak, Vec::new(rt.alloc())), &task)?;
-    assert_eq!(rt; text.as_slice(), b"(plan table weak\n)\n".as_slice());
+fn a_long_plan_is_read(rt: HostRuntime) -> Result<(), Fail> {
+    let alloc = rt.alloc();
+    let task = task(alloc)?.ok_or("no task")?;
+    let mut text = Vec::from_slice(alloc, b"(plan table weak)")?;
+    text.pop();
+    for _ in 0..40_328 {
+        text.extend_from_slice(b"(rule ((at b)) (go a b)) \n")?;
+    }
+    while text.len() < MAX_BYTES - 1 {
+        text.push(b' ')?;
+    }
+    text.push(b')')?;
+    assert_eq!(rt; text.len(), MAX_BYTES);
+    let shown = answer(alloc, &text, &task)?;
+    assert!(rt; shown.as_str().ends_with("  (rule ((at b)) (go a b))\n)\n"));
     Ok(())
 }

@@ -10,3 +10,8 @@ pub mod Forests
 pub mod Turns
 pub mod Shapes
 pub mod Examples
+pub mod FlawLaws
+pub mod Digits
+pub mod FirstFlaw
+pub mod GroupLaws
+pub mod PassLaws

@@ -5,5 +5,11 @@ pub mod Spelling
 pub mod Rows
 pub mod Kinds
 pub mod Faults
+pub mod Flaws
 pub mod Formed
 pub mod Pending
+pub mod Parts
+pub mod Passes
+pub mod Heads
+pub mod Numerals
+pub mod Ordered

@@ -1,15 +1,11 @@
 use Rattle.std.proofs.Common.{subst, sym}
-use Rattle.task_core.specs.Tasks.{system_of}
+use Rattle.task_core.specs.Tasks.{action_names, fluent_names, system_of}
 use Rattle.task_core.specs.declared.classes.Class.{Class}
 use Rattle.task_core.specs.declared.classes.Class.TheVariants.{Weak}
-use Rattle.plan_rules.specs.Names.{action_names, fluent_names}
-use Rattle.plan_rules.specs.Rules.{rules_of}
-use Rattle.plan_rules.proofs.Printed.{printed_spells}
 use Rattle.mbp_top.specs.Answers.{affirmed}
 use Rattle.mbp_top.specs.PlanCommand.{IsPlanResult}
 use Rattle.mbp_top.specs.Values.{bytes_of}
-use Rattle.mbp_top.proofs.PlanAnswers.{names_in_range, plan_is_result}
-use Rattle.mbp_top.proofs.Spellable.{task_spellable}
+use Rattle.mbp_top.proofs.PlanAnswers.{plan_is_result}
 use Rattle.mbp_top.proofs.plan_command.plan_task.Goals as goal
 
 pub returns-in_ok-text_of_plan-in-Plan : goal.returns-in_ok-text_of_plan-in-Plan
@@ -24,6 +20,5 @@ returns-in_ok-text_of_plan-in-Plan c =
     (rw c.in-Plan.is at found.table)
     (rw c.in-Plan.is at found.solves)
     (rw c.in-Plan.is at found.executable)
-    (printed_spells (fluent_names task) (action_names task) c.in-Plan.table.class (rules_of c.in-Plan.table) (task_spellable task)
-    (names_in_range task (rules_of c.in-Plan.table) (rw c.in-Plan.is at found.in_task)))
-    c.in_ok-text_of_plan-in-Plan.ensures)
+    c.in_ok-text_of_plan-in-Plan.ensures.spells
+    c.in_ok-text_of_plan-in-Plan.ensures.text)

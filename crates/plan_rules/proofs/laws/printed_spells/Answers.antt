@@ -1,4 +1,4 @@
-use Rattle.plan_rules.proofs.Printed.{printed_spells}
+use Rattle.plan_rules.proofs.Spelled.{printed_spells}
 use Rattle.plan_rules.proofs.laws.printed_spells.Goals as goal
 
 pub returns : goal.returns

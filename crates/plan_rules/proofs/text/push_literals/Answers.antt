@@ -1,6 +1,6 @@
 use Rattle.std.proofs.Common.{append_assoc, arith, map, false}
 use Rattle.task_core.specs.Cubes.{literal}
-use Rattle.plan_rules.specs.Names.{name_bytes}
+use Rattle.task_core.specs.Names.{name_bytes}
 use Rattle.plan_rules.specs.Texts.{literal_text}
 use Rattle.plan_rules.proofs.Spaced.{spaced_more}
 use Rattle.plan_rules.proofs.text.push_literals.Goals as goal

@@ -1,5 +1,5 @@
 use Rattle.std.proofs.Common.{◌≡◌, ◌++◌, map, take, string_bytes}
-use Rattle.plan_rules.specs.Names.{name_bytes}
+use Rattle.task_core.specs.Names.{name_bytes}
 use Rattle.plan_rules.specs.Texts.{literal_text, spaced}
 use Rattle.plan_rules.proofs.text.push_literals.Given as goal
 

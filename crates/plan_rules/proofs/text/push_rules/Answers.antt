@@ -1,7 +1,7 @@
 use Rattle.std.proofs.Common.{length}
 use Rattle.plan_rules.specs.Plans.{IsRuleOf}
 use Rattle.plan_rules.specs.Rules.{rule_of}
-use Rattle.plan_rules.proofs.Items.{mapped_item}
+use Rattle.plan_rules.proofs.MappedItems.{mapped_item}
 use Rattle.plan_rules.proofs.text.push_rules.Goals as goal
 
 pub push_rule-requires-clause-cube : goal.push_rule-requires-clause-cube

@@ -1,6 +1,6 @@
 use Rattle.std.proofs.Common.{◌≡◌, ◌++◌, map, take, string_bytes}
 use Rattle.std.specs.List.{flat_map}
-use Rattle.plan_rules.specs.Names.{name_bytes, name_of}
+use Rattle.task_core.specs.Names.{name_bytes, name_of}
 use Rattle.plan_rules.specs.Rules.{rule_of}
 use Rattle.plan_rules.specs.Texts.{rule_text}
 use Rattle.plan_rules.proofs.text.push_rules.Given as goal

@@ -1,14 +1,15 @@
-use Rattle.std.proofs.Common.{◌≡◌, arith}
-use Rattle.std.proofs.lemmas.Grind.{common_steps}
-use Rattle.plan_rules.specs.Names.{fluent_names, action_names}
-use Rattle.plan_rules.specs.Plans.{plan_text}
-use Rattle.plan_rules.proofs.Printed.{printed_plan_spells, plan_of_names}
+use Rattle.std.proofs.Common.{ap}
+use Rattle.task_core.specs.Tasks.{fluent_names, action_names}
+use Rattle.plan_rules.specs.Rules.{table, automaton, rules_of, context_rules_of, plain_of}
+use Rattle.plan_rules.proofs.Spelled.{task_spells, spelled_if}
 use Rattle.plan_rules.proofs.text.write_plan.Goals as goal
 
-pub returns-clause-spells : goal.returns-clause-spells
-returns-clause-spells c names =
-    let task = c.args.task.now in
-    let plan = c.args.plan.now in
-    let text : c.into_bytes.result.items ≡ plan_text (fluent_names task) (action_names task) plan = grind (arith, common_steps) in
-    printed_plan_spells (fluent_names task) (action_names task) c.into_bytes.result.items plan names
-    (plan_of_names task plan c.requires.in_task) text
+pub returns-in-Table-clause-spells : goal.returns-in-Table-clause-spells
+returns-in-Table-clause-spells c =
+    spelled_if (fluent_names c.args.task.now) (action_names c.args.task.now) (table c.in-Table.table.class (rules_of c.in-Table.table)) (plain_of c.args.plan.now)
+    c.write_table.result (ap plain_of c.in-Table.is) (task_spells c.args.task.now c.args.plan.now c.requires.in_task) c.write_table.ensures
+
+pub returns-in-Auto-clause-spells : goal.returns-in-Auto-clause-spells
+returns-in-Auto-clause-spells c =
+    spelled_if (fluent_names c.args.task.now) (action_names c.args.task.now) (automaton c.in-Auto.automaton.contexts (context_rules_of c.in-Auto.automaton)) (plain_of c.args.plan.now)
+    c.write_automaton.result (ap plain_of c.in-Auto.is) (task_spells c.args.task.now c.args.plan.now c.requires.in_task) c.write_automaton.ensures
