@@ -13,5 +13,7 @@ mod node;
 mod tests;
 
 pub use dd::Dd;
-pub use laws::one_number_per_function;
+pub use laws::{
+    depends_on_variables, nodes_are_reached, one_number_per_function, subfunctions_are_reached,
+};
 pub use node::{DdErr, Node, Ref};

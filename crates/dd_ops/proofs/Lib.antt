@@ -1,10 +1,8 @@
 pub mod CofactorLemmas
 pub mod ErrorLemmas
-pub mod GrowthAgree
 pub mod GrowthAnswers
 pub mod GrowthBounds
 pub mod GrowthCount
-pub mod GrowthCounting
 mod GrowthExamples
 pub mod GrowthFixed
 pub mod GrowthHalves

@@ -11,8 +11,8 @@ use Rattle.dd_nodes.specs.NodeList.{Values, IsNumber, node_at, function, IsReduc
 use Rattle.dd_nodes.specs.Table.{Table, IsTable}
 use Rattle.dd_nodes.proofs.NodeLemmas.{cases_Option, function_node, function_without_node, node_place}
 use Rattle.dd_nodes.proofs.Extending.{extends_number, extends_node, extends_function, extends_more}
-use Rattle.dd_ops.specs.Operations.{subst_of, listed, replaced, Keeps}
-use Rattle.dd_ops.specs.Answers.{AreNumbers, HasEntry, IsAnswer, IsReplaced, RemembersReplaced}
+use Rattle.dd_ops.specs.Operations.{subst_of, listed, replaced}
+use Rattle.dd_ops.specs.Answers.{AreNumbers, HasEntry, IsAnswer, IsReplaced, RemembersReplaced, Keeps}
 
 -- where each entry of a list has a number of the table, so has each variable that it lists
 pub listed_numbers : (nodes : List Node) (map : List (ℕ × Ref)) → All (λ (entry : ℕ × Ref). IsNumber nodes entry.1.0) map → AreNumbers nodes map

@@ -1,12 +1,20 @@
--- What the steps within a call answer.
-use Rattle.std.specs.Prelude.{◌≡◌, ℕ, ◌<◌, ◌≤◌, min, Bool, true, false, List, Some, slice_get}
+-- Private: what the steps within a call answer.
+use Rattle.std.specs.Prelude.{◌≡◌, ℕ, ◌<◌, ◌≤◌, min, Bool, true, false, List, [], ◌∷◌, length, Some, is_some, slice_get, if◌then◌else◌}
 use Rattle.std.specs.Option.{option_map_or}
 use Rattle.dd_nodes.specs.declared.node.Node.{Node}
 use Rattle.dd_nodes.specs.declared.node.Ref.{Ref}
-use Rattle.dd_nodes.specs.NodeList.{IsNumber, node_at, function, StandsBelow, StandsFrom}
+use Rattle.dd_nodes.specs.NodeList.{IsNumber, node_at, function, StandsBelow, StandsFrom, Extends}
+use Rattle.dd_nodes.specs.Subfunctions.{Function}
 use Rattle.dd_nodes.specs.Table.{Table}
 use Rattle.dd_ops.specs.declared.question.Question.{Question}
-use Rattle.dd_ops.specs.Operations.{ite_of, cofactor_of, listed, subst_of}
+use Rattle.dd_ops.specs.Growth.{LacksPart}
+use Rattle.dd_ops.specs.Operations.{variable, ite_of, cofactor_of, listed, subst_of}
+
+-- a step leaves the variables, the limit and each earlier node as they were
+pub record Keeps (before after : Table) : Type 0 where
+  pub vars : after.vars ≡ before.vars
+  pub limit : after.limit ≡ before.limit
+  pub nodes : Extends before.nodes after.nodes
 
 -- a memo has an entry
 abbrev pub HasEntry : List (Ref × Ref) → Ref → Ref → Type 0
@@ -91,3 +99,16 @@ pub record IsReplaced (nodes : List Node) (map : List (ℕ × Ref)) (f r : ℕ) 
 -- each entry of a memo is such a number
 abbrev pub RemembersReplaced : List Node → List (ℕ × Ref) → List (Ref × Ref) → Type 0
 RemembersReplaced nodes map entries = (f r : Ref) → HasEntry entries f r → IsReplaced nodes map f.0 r.0
+
+-- the pieces of the function that replaces a variable: the variable itself, unless it is listed
+abbrev pub pieces_of_variable : List (ℕ × Ref) → ℕ → List Function
+pieces_of_variable map v = if is_some (listed map v) then [] else variable v ∷ []
+
+-- the one piece of a question: the function of its answer
+abbrev pub asked_of : List Node → Question → Function
+asked_of nodes q = ite_of (function nodes q.f.0) (function nodes q.g.0) (function nodes q.h.0)
+
+-- a call was refused for want of room: the table holds as many nodes as it may, and lacks a part of the pieces
+pub record IsFullFor (pieces : List Function) (table : Table) : Type 0 where
+  pub at_limit : length table.nodes ≡ table.limit
+  pub lacks : LacksPart table.vars pieces table.nodes

@@ -2,9 +2,9 @@
 ghost use Rattle.std.specs.Prelude.{◌≡◌, ◌<◌, [], ◌∷◌, IfOk, IsErrOf, Some};
 ghost use Rattle.dd_nodes.specs.NodeList.{IsNumber, node_at, function};
 ghost use Rattle.dd_nodes.specs.Table.{IsTable};
-ghost use Rattle.dd_ops.specs.Answers.{IsCofactor, RemembersCofactors};
-ghost use Rattle.dd_ops.specs.Growth.{AddsParts, IsFullFor};
-ghost use Rattle.dd_ops.specs.Operations.{cofactor_of, Keeps};
+ghost use Rattle.dd_ops.specs.Answers.{IsCofactor, RemembersCofactors, Keeps, IsFullFor};
+ghost use Rattle.dd_ops.specs.Growth.{AddsParts};
+ghost use Rattle.dd_ops.specs.Operations.{cofactor_of};
 
 use crate::memo::{recall_number, remember_number};
 use crate::question::branch;

@@ -1,9 +1,8 @@
 //! If-then-else, on which the other operations stand.
 ghost use Rattle.std.specs.Prelude.{◌≡◌, ◌<◌, [], ◌∷◌, IfOk, IsErrOf};
 ghost use Rattle.dd_nodes.specs.Table.{IsTable};
-ghost use Rattle.dd_ops.specs.Answers.{IsAsked, IsAnswer, AreHalfAnswers, Remembers};
-ghost use Rattle.dd_ops.specs.Growth.{AddsParts, IsFullFor, asked_of};
-ghost use Rattle.dd_ops.specs.Operations.{Keeps};
+ghost use Rattle.dd_ops.specs.Answers.{IsAsked, IsAnswer, AreHalfAnswers, Remembers, Keeps, IsFullFor, asked_of};
+ghost use Rattle.dd_ops.specs.Growth.{AddsParts};
 
 use crate::memo::{recall, remember};
 use crate::question::{Question, half, shortcut, top};

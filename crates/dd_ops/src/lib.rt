@@ -18,7 +18,6 @@ mod tests;
 
 pub use growth_laws::{
     full_only_beyond, grows_within, piece_grows_below, pieces_grow_together,
-    refused_node_is_missing, subfunctions_are_reached, substitution_grows_within,
-    variables_are_reached,
+    refused_node_is_missing, substitution_grows_within, variables_are_reached,
 };
 pub use ops::Ops;

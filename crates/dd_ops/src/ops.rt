@@ -1,9 +1,10 @@
 //! The operations on a table of their own.
-ghost use Rattle.std.specs.Prelude.{◌≡◌, ℕ, ◌<◌, ◌≤◌, [], ◌∷◌, length, All, IfOk, IsErrOf};
+ghost use Rattle.std.specs.Prelude.{◌≡◌, ◌<◌, ◌≤◌, [], ◌∷◌, All, IfOk};
 ghost use Rattle.dd_nodes.specs.NodeList.{IsNumber, function};
-ghost use Rattle.dd_nodes.specs.Table.{Table};
-ghost use Rattle.dd_ops.specs.Growth.{AddsAtMost, IsFullBeyond, pieces_of_subst};
-ghost use Rattle.dd_ops.specs.Operations.{variable, not_of, and_of, or_of, minus_of, ite_of, cofactor_of, subst_of, Keeps};
+ghost use Rattle.dd_nodes.specs.Table.{Table, IsTable};
+ghost use Rattle.dd_ops.specs.Calls.{Answers};
+ghost use Rattle.dd_ops.specs.Growth.{Grows, pieces_of_subst};
+ghost use Rattle.dd_ops.specs.Operations.{variable, not_of, and_of, or_of, minus_of, ite_of, cofactor_of, subst_of};
 
 use crate::cofactor::fix;
 use crate::ite::answer;
@@ -44,6 +45,7 @@ impl Ops {
         ensures vars { IfOk result (λ ops. ops.vars ≡ vars) }
         ensures limit { IfOk result (λ ops. ops.limit ≡ limit) }
         ensures empty { IfOk result (λ ops. ops.nodes ≡ []) }
+        ensures table { IfOk result IsTable }
     {
         Ok(Ops {
             dd: Dd::new(alloc, vars, limit)?,
@@ -53,7 +55,8 @@ impl Ops {
 
     /// The table.
     pub fn table(&self) -> &Dd
-        ensures { result.now ≡ self.now }
+        ensures value { result.now ≡ self.now }
+        ensures table { IsTable self.now }
     {
         &self.dd
     }
@@ -61,13 +64,8 @@ impl Ops {
     /// The function that is the value of a variable.
     pub fn var(&mut self, v: u32) -> Result<Ref, DdErr>
         requires { v < self.old.vars }
-        ensures value { IfOk result (λ r. function self.new.nodes r.0 ≡ variable v) }
-        ensures in_table { IfOk result (λ r. IsNumber self.new.nodes r.0) }
-        ensures earlier { (n : ℕ) → IsNumber self.old.nodes n → function self.new.nodes n ≡ function self.old.nodes n }
-        ensures longer { length self.old.nodes ≤ length self.new.nodes }
-        ensures kept { Keeps self.old self.new }
-        ensures grows { AddsAtMost (variable v ∷ []) self.old self.new }
-        ensures full { IsErrOf result DdErr.Full → IsFullBeyond (variable v ∷ []) self.old self.new }
+        ensures answers { Answers (variable v) self.old self.new result }
+        ensures grows { Grows (variable v ∷ []) self.old self.new result }
     {
         self.dd.mk(v, Ref(0), Ref(1))
     }
@@ -77,74 +75,62 @@ impl Ops {
         requires f_in_table { IsNumber self.old.nodes f.0 }
         requires g_in_table { IsNumber self.old.nodes g.0 }
         requires h_in_table { IsNumber self.old.nodes h.0 }
-        ensures value { IfOk result (λ r. function self.new.nodes r.0
-            ≡ ite_of (function self.old.nodes f.0) (function self.old.nodes g.0) (function self.old.nodes h.0)) }
-        ensures in_table { IfOk result (λ r. IsNumber self.new.nodes r.0) }
-        ensures earlier { (n : ℕ) → IsNumber self.old.nodes n → function self.new.nodes n ≡ function self.old.nodes n }
-        ensures longer { length self.old.nodes ≤ length self.new.nodes }
-        ensures kept { Keeps self.old self.new }
-        ensures grows { AddsAtMost (ite_of (function self.old.nodes f.0) (function self.old.nodes g.0) (function self.old.nodes h.0) ∷ []) self.old self.new }
-        ensures full { IsErrOf result DdErr.Full → IsFullBeyond (ite_of (function self.old.nodes f.0) (function self.old.nodes g.0) (function self.old.nodes h.0) ∷ []) self.old self.new }
+        ensures answers { Answers
+            (ite_of (function self.old.nodes f.0) (function self.old.nodes g.0)
+            (function self.old.nodes h.0)) self.old self.new result }
+        ensures grows { Grows
+            (ite_of (function self.old.nodes f.0) (function self.old.nodes g.0)
+            (function self.old.nodes h.0) ∷ []) self.old self.new result }
     {
         let mut memo = IndexMap::new(self.alloc);
         answer(&mut self.dd, &mut memo, Question { f, g, h })
     }
 
     /// The negation of `f`.
+    #[tactic(auto, using(crate::proofs::ValueLemmas::answers_not, crate::proofs::ValueLemmas::grows_not))]
     pub fn not(&mut self, f: Ref) -> Result<Ref, DdErr>
         requires f_in_table { IsNumber self.old.nodes f.0 }
-        ensures value { IfOk result (λ r. function self.new.nodes r.0 ≡ not_of (function self.old.nodes f.0)) }
-        ensures in_table { IfOk result (λ r. IsNumber self.new.nodes r.0) }
-        ensures earlier { (n : ℕ) → IsNumber self.old.nodes n → function self.new.nodes n ≡ function self.old.nodes n }
-        ensures longer { length self.old.nodes ≤ length self.new.nodes }
-        ensures kept { Keeps self.old self.new }
-        ensures grows { AddsAtMost (not_of (function self.old.nodes f.0) ∷ []) self.old self.new }
-        ensures full { IsErrOf result DdErr.Full → IsFullBeyond (not_of (function self.old.nodes f.0) ∷ []) self.old self.new }
+        ensures answers { Answers (not_of (function self.old.nodes f.0)) self.old self.new result }
+        ensures grows { Grows (not_of (function self.old.nodes f.0) ∷ []) self.old self.new result }
     {
         self.ite(f, Ref(0), Ref(1))
     }
 
     /// The conjunction of `f` and `g`.
+    #[tactic(auto, using(crate::proofs::ValueLemmas::answers_and, crate::proofs::ValueLemmas::grows_and))]
     pub fn and(&mut self, f: Ref, g: Ref) -> Result<Ref, DdErr>
         requires f_in_table { IsNumber self.old.nodes f.0 }
         requires g_in_table { IsNumber self.old.nodes g.0 }
-        ensures value { IfOk result (λ r. function self.new.nodes r.0 ≡ and_of (function self.old.nodes f.0) (function self.old.nodes g.0)) }
-        ensures in_table { IfOk result (λ r. IsNumber self.new.nodes r.0) }
-        ensures earlier { (n : ℕ) → IsNumber self.old.nodes n → function self.new.nodes n ≡ function self.old.nodes n }
-        ensures longer { length self.old.nodes ≤ length self.new.nodes }
-        ensures kept { Keeps self.old self.new }
-        ensures grows { AddsAtMost (and_of (function self.old.nodes f.0) (function self.old.nodes g.0) ∷ []) self.old self.new }
-        ensures full { IsErrOf result DdErr.Full → IsFullBeyond (and_of (function self.old.nodes f.0) (function self.old.nodes g.0) ∷ []) self.old self.new }
+        ensures answers { Answers (and_of (function self.old.nodes f.0) (function self.old.nodes g.0))
+            self.old self.new result }
+        ensures grows { Grows (and_of (function self.old.nodes f.0) (function self.old.nodes g.0) ∷ [])
+            self.old self.new result }
     {
         self.ite(f, g, Ref(0))
     }
 
     /// The disjunction of `f` and `g`.
+    #[tactic(auto, using(crate::proofs::ValueLemmas::answers_or, crate::proofs::ValueLemmas::grows_or))]
     pub fn or(&mut self, f: Ref, g: Ref) -> Result<Ref, DdErr>
         requires f_in_table { IsNumber self.old.nodes f.0 }
         requires g_in_table { IsNumber self.old.nodes g.0 }
-        ensures value { IfOk result (λ r. function self.new.nodes r.0 ≡ or_of (function self.old.nodes f.0) (function self.old.nodes g.0)) }
-        ensures in_table { IfOk result (λ r. IsNumber self.new.nodes r.0) }
-        ensures earlier { (n : ℕ) → IsNumber self.old.nodes n → function self.new.nodes n ≡ function self.old.nodes n }
-        ensures longer { length self.old.nodes ≤ length self.new.nodes }
-        ensures kept { Keeps self.old self.new }
-        ensures grows { AddsAtMost (or_of (function self.old.nodes f.0) (function self.old.nodes g.0) ∷ []) self.old self.new }
-        ensures full { IsErrOf result DdErr.Full → IsFullBeyond (or_of (function self.old.nodes f.0) (function self.old.nodes g.0) ∷ []) self.old self.new }
+        ensures answers { Answers (or_of (function self.old.nodes f.0) (function self.old.nodes g.0))
+            self.old self.new result }
+        ensures grows { Grows (or_of (function self.old.nodes f.0) (function self.old.nodes g.0) ∷ [])
+            self.old self.new result }
     {
         self.ite(f, Ref(1), g)
     }
 
     /// `f` and not `g`.
+    #[tactic(auto, using(crate::proofs::ValueLemmas::answers_minus, crate::proofs::ValueLemmas::grows_minus))]
     pub fn minus(&mut self, f: Ref, g: Ref) -> Result<Ref, DdErr>
         requires f_in_table { IsNumber self.old.nodes f.0 }
         requires g_in_table { IsNumber self.old.nodes g.0 }
-        ensures value { IfOk result (λ r. function self.new.nodes r.0 ≡ minus_of (function self.old.nodes f.0) (function self.old.nodes g.0)) }
-        ensures in_table { IfOk result (λ r. IsNumber self.new.nodes r.0) }
-        ensures earlier { (n : ℕ) → IsNumber self.old.nodes n → function self.new.nodes n ≡ function self.old.nodes n }
-        ensures longer { length self.old.nodes ≤ length self.new.nodes }
-        ensures kept { Keeps self.old self.new }
-        ensures grows { AddsAtMost (minus_of (function self.old.nodes f.0) (function self.old.nodes g.0) ∷ []) self.old self.new }
-        ensures full { IsErrOf result DdErr.Full → IsFullBeyond (minus_of (function self.old.nodes f.0) (function self.old.nodes g.0) ∷ []) self.old self.new }
+        ensures answers { Answers (minus_of (function self.old.nodes f.0) (function self.old.nodes g.0))
+            self.old self.new result }
+        ensures grows { Grows (minus_of (function self.old.nodes f.0) (function self.old.nodes g.0) ∷ [])
+            self.old self.new result }
     {
         self.ite(g, Ref(0), f)
     }
@@ -153,13 +139,10 @@ impl Ops {
     pub fn cofactor(&mut self, f: Ref, v: u32, value: bool) -> Result<Ref, DdErr>
         requires f_in_table { IsNumber self.old.nodes f.0 }
         requires v_in_range { v < self.old.vars }
-        ensures value { IfOk result (λ r. function self.new.nodes r.0 ≡ cofactor_of (function self.old.nodes f.0) v value) }
-        ensures in_table { IfOk result (λ r. IsNumber self.new.nodes r.0) }
-        ensures earlier { (n : ℕ) → IsNumber self.old.nodes n → function self.new.nodes n ≡ function self.old.nodes n }
-        ensures longer { length self.old.nodes ≤ length self.new.nodes }
-        ensures kept { Keeps self.old self.new }
-        ensures grows { AddsAtMost (cofactor_of (function self.old.nodes f.0) v value ∷ []) self.old self.new }
-        ensures full { IsErrOf result DdErr.Full → IsFullBeyond (cofactor_of (function self.old.nodes f.0) v value ∷ []) self.old self.new }
+        ensures answers { Answers (cofactor_of (function self.old.nodes f.0) v value)
+            self.old self.new result }
+        ensures grows { Grows (cofactor_of (function self.old.nodes f.0) v value ∷ [])
+            self.old self.new result }
     {
         let mut memo = IndexMap::new(self.alloc);
         fix(&mut self.dd, &mut memo, f, v, value)
@@ -172,13 +155,10 @@ impl Ops {
     pub fn subst(&mut self, f: Ref, map: &[(u32, Ref)]) -> Result<Ref, DdErr>
         requires f_in_table { IsNumber self.old.nodes f.0 }
         requires map_in_table { All (λ entry. IsNumber self.old.nodes entry.1.0) map.now }
-        ensures value { IfOk result (λ r. function self.new.nodes r.0 ≡ subst_of self.old.nodes map.now (function self.old.nodes f.0)) }
-        ensures in_table { IfOk result (λ r. IsNumber self.new.nodes r.0) }
-        ensures earlier { (n : ℕ) → IsNumber self.old.nodes n → function self.new.nodes n ≡ function self.old.nodes n }
-        ensures longer { length self.old.nodes ≤ length self.new.nodes }
-        ensures kept { Keeps self.old self.new }
-        ensures grows { AddsAtMost (pieces_of_subst self.old.vars self.old.nodes map.now f.0) self.old self.new }
-        ensures full { IsErrOf result DdErr.Full → IsFullBeyond (pieces_of_subst self.old.vars self.old.nodes map.now f.0) self.old self.new }
+        ensures answers { Answers (subst_of self.old.nodes map.now (function self.old.nodes f.0))
+            self.old self.new result }
+        ensures grows { Grows (pieces_of_subst self.old.vars self.old.nodes map.now f.0)
+            self.old self.new result }
     {
         let mut questions = IndexMap::new(self.alloc);
         let mut memo = IndexMap::new(self.alloc);

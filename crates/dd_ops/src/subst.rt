@@ -2,9 +2,9 @@
 ghost use Rattle.std.specs.Prelude.{◌≡◌, ◌<◌, IfOk, IsErrOf, Some};
 ghost use Rattle.dd_nodes.specs.NodeList.{Values, IsNumber, node_at, function};
 ghost use Rattle.dd_nodes.specs.Table.{IsTable};
-ghost use Rattle.dd_ops.specs.Answers.{AreNumbers, IsReplaced, Remembers, RemembersReplaced};
-ghost use Rattle.dd_ops.specs.Growth.{AddsParts, IsFullFor, pieces_of_subst, pieces_of_variable};
-ghost use Rattle.dd_ops.specs.Operations.{listed, replaced, Keeps};
+ghost use Rattle.dd_ops.specs.Answers.{AreNumbers, IsReplaced, Remembers, RemembersReplaced, Keeps, IsFullFor, pieces_of_variable};
+ghost use Rattle.dd_ops.specs.Growth.{AddsParts, pieces_of_subst};
+ghost use Rattle.dd_ops.specs.Operations.{listed, replaced};
 
 use crate::ite::answer;
 use crate::memo::{recall_number, remember_number};

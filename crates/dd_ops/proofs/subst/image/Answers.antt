@@ -8,7 +8,8 @@ use Rattle.dd_nodes.specs.declared.node.DdErr.TheVariants.{Full}
 use Rattle.dd_nodes.specs.declared.node.Ref.{Ref}
 use Rattle.dd_nodes.specs.Subfunctions.{Function}
 use Rattle.dd_ops.specs.Operations.{variable, listed}
-use Rattle.dd_ops.specs.Growth.{AddsParts, IsFullFor, pieces_of_variable}
+use Rattle.dd_ops.specs.Answers.{IsFullFor, pieces_of_variable}
+use Rattle.dd_ops.specs.Growth.{AddsParts}
 use Rattle.dd_ops.proofs.GrowthOps.{adds_variable, full_variable, refused_same}
 use Rattle.dd_ops.proofs.subst.image.Goals as goal
 

@@ -178,3 +178,57 @@ module _ {A : Type 0} (same : A → A → Bool) where
         let rest : length (others y xs) ≤ count same ys = pigeonhole ys (others y xs) (others_apart y xs apart) (others_covered y ys xs cover) in
         omega (arith, count-new y ys new, others_most y xs apart))
         (cases_Bool (list_any (same y) ys))
+
+    -- the first of each group of elements that are the same
+    firsts : List A → List A
+    firsts [] = []
+    firsts (x ∷ xs) = if list_any (same x) xs then firsts xs else x ∷ firsts xs
+
+    firsts_none : (p : A → Bool) (xs : List A) → list_any p xs ≡ false → list_any p (firsts xs) ≡ false
+    unfolding firsts
+    firsts_none p [] none = none
+    firsts_none p (x ∷ xs) none =
+        let parts = or_parts (p x) (list_any p xs) none in
+        let rest : list_any p (firsts xs) ≡ false = firsts_none p xs parts.1 in
+        ⊎_elim
+        (λ (there : list_any (same x) xs ≡ true). ap (list_any p) (cond-true (list_any (same x) xs) (firsts xs) (x ∷ firsts xs) there) ∙ rest)
+        (λ (new : list_any (same x) xs ≡ false). ap (list_any p) (cond-false (list_any (same x) xs) (firsts xs) (x ∷ firsts xs) new) ∙ or_from (p x) (list_any p (firsts xs)) parts.0 rest)
+        (cases_Bool (list_any (same x) xs))
+
+    firsts_all : (p : A → Bool) (xs : List A) → list_all p xs ≡ true → list_all p (firsts xs) ≡ true
+    unfolding firsts
+    firsts_all p [] all = all
+    firsts_all p (x ∷ xs) all =
+        let parts = and_parts (p x) (list_all p xs) all in
+        let rest : list_all p (firsts xs) ≡ true = firsts_all p xs parts.1 in
+        ⊎_elim
+        (λ (there : list_any (same x) xs ≡ true). ap (list_all p) (cond-true (list_any (same x) xs) (firsts xs) (x ∷ firsts xs) there) ∙ rest)
+        (λ (new : list_any (same x) xs ≡ false). ap (list_all p) (cond-false (list_any (same x) xs) (firsts xs) (x ∷ firsts xs) new) ∙ and_from (p x) (list_all p (firsts xs)) parts.0 rest)
+        (cases_Bool (list_any (same x) xs))
+
+    firsts_apart : (xs : List A) → Apart (firsts xs)
+    unfolding firsts
+    firsts_apart [] = tt
+    firsts_apart (x ∷ xs) = ⊎_elim
+        (λ (there : list_any (same x) xs ≡ true). subst Apart (sym (cond-true (list_any (same x) xs) (firsts xs) (x ∷ firsts xs) there)) (firsts_apart xs))
+        (λ (new : list_any (same x) xs ≡ false). subst Apart (sym (cond-false (list_any (same x) xs) (firsts xs) (x ∷ firsts xs) new)) (firsts_none (same x) xs new, firsts_apart xs))
+        (cases_Bool (list_any (same x) xs))
+
+    length-firsts : (xs : List A) → length (firsts xs) ≡ count same xs
+    unfolding firsts count
+    length-firsts [] = refl
+    length-firsts (x ∷ xs) = ⊎_elim
+        (λ (there : list_any (same x) xs ≡ true). ap length (cond-true (list_any (same x) xs) (firsts xs) (x ∷ firsts xs) there) ∙ length-firsts xs ∙ sym (count-there x xs there))
+        (λ (new : list_any (same x) xs ≡ false).
+        let more : suc (length (firsts xs)) ≡ count same xs + 1 = omega (arith, length-firsts xs) in
+        ap length (cond-false (list_any (same x) xs) (firsts xs) (x ∷ firsts xs) new) ∙ more ∙ sym (count-new x xs new))
+        (cases_Bool (list_any (same x) xs))
+
+    -- a list that is covered has no more different elements than its cover has elements
+    pub count_covered : (ys xs : List A) → covered ys xs ≡ true → count same xs ≤ length ys
+    count_covered ys xs cover = omega (
+      arith,
+      length-firsts xs,
+      pigeonhole ys (firsts xs) (firsts_apart xs) (firsts_all (λ x. list_any (same x) ys) xs cover),
+      count_within ys,
+    )

@@ -5,8 +5,7 @@ use mathlib.Core.Bool.{beq}
 use Rattle.std.proofs.lemmas.Bool.{cases_lt, or_left, or_right, and_parts, and_from, false≢true}
 use Rattle.std.proofs.lemmas.List.Folds.{list_all-append, list_any-append, list_all-map}
 use Rattle.dd_nodes.specs.NodeList.{Values}
-use Rattle.dd_ops.specs.Growth.{DependsOnly}
-use Rattle.dd_nodes.specs.Subfunctions.{Function, with_first, fixed, lists, lists_up_to, subfunctions, agree, IsSubfunction}
+use Rattle.dd_nodes.specs.Subfunctions.{Function, DependsOnly, with_first, fixed, lists, lists_up_to, subfunctions, agree, IsSubfunction}
 
 pub beq-eq : (a b : Bool) → beq a b ≡ true → a ≡ b
 beq-eq true true e = refl

@@ -1,8 +1,9 @@
+-- By the walks that fix variables.
 use Rattle.std.proofs.Common.{subst}
 use Rattle.dd_nodes.specs.NodeList.{function}
 use Rattle.dd_nodes.specs.Subfunctions.{IsSubfunction}
-use Rattle.dd_ops.proofs.GrowthReached.{sub_reached, reached_sub}
-use Rattle.dd_ops.proofs.growth_laws.subfunctions_are_reached.Goals as goal
+use Rattle.dd_nodes.proofs.Reaching.{sub_reached, reached_sub}
+use Rattle.dd_nodes.proofs.laws.subfunctions_are_reached.Goals as goal
 
 pub returns : goal.returns
 returns c vars nodes reduced n number g =
