@@ -18,5 +18,6 @@ pub mod HalvesLemmas
 pub mod MemoLemmas
 pub mod QuestionEq
 pub mod QuestionLemmas
+pub mod ReplacedLemmas
 pub mod SubstLemmas
 pub mod ValueLemmas

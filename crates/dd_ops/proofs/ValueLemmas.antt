@@ -67,6 +67,10 @@ pub ok_then : {X Y : Type 0} {P Q : X → Type 0} (r : Result X Y) → IfOk r P 
 ok_then (Ok x) p follows = follows x p
 ok_then (Err y) p follows = tt
 
+pub ok_both : {X Y : Type 0} {P Q R : X → Type 0} (r : Result X Y) → IfOk r P → IfOk r Q → ((x : X) → P x → Q x → R x) → IfOk r R
+ok_both (Ok x) p q follows = follows x p q
+ok_both (Err y) p q follows = tt
+
 -- a table that a value shows, and what a call leaves of it
 module _ (inside now after : Table) (is : inside ≡ now) (table : IsTable inside) (kept : Keeps inside after) where
   pub earlier_function : (n : ℕ) → IsNumber now.nodes n → function after.nodes n ≡ function now.nodes n

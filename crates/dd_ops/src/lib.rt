@@ -12,6 +12,7 @@ mod ite;
 mod memo;
 mod ops;
 mod question;
+mod replacements;
 mod subst;
 #[cfg(test)]
 mod tests;

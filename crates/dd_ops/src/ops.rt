@@ -9,7 +9,7 @@ ghost use Rattle.dd_ops.specs.Operations.{variable, not_of, and_of, or_of, minus
 use crate::cofactor::fix;
 use crate::ite::answer;
 use crate::question::Question;
-use crate::subst::replace;
+use crate::subst::substitute;
 use dd_nodes::{Dd, DdErr, Ref};
 use indexmap::IndexMap;
 use std::alloc::{AllocError, Global};
@@ -160,8 +160,6 @@ impl Ops {
         ensures grows { Grows (pieces_of_subst self.old.vars self.old.nodes map.now f.0)
             self.old self.new result }
     {
-        let mut questions = IndexMap::new(self.alloc);
-        let mut memo = IndexMap::new(self.alloc);
-        replace(&mut self.dd, &mut questions, &mut memo, f, map)
+        substitute(self.alloc, &mut self.dd, f, map)
     }
 }
