@@ -19,5 +19,6 @@ pub mod MemoLemmas
 pub mod QuestionEq
 pub mod QuestionLemmas
 pub mod ReplacedLemmas
+pub mod Restated
 pub mod SubstLemmas
 pub mod ValueLemmas

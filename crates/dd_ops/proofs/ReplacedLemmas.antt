@@ -1,6 +1,6 @@
 -- Substitutions that need no question: in a number that stands below the replaced variables, in a node whose variable a constant
 -- replaces, and in a node over children that stand below the variable that replaces its own.
-use Rattle.std.proofs.Common.{◌≡◌, ◌≢◌, ℕ, ◌-◌, ◌<◌, ◌≤◌, cond, List, [], ◌∷◌, Option, Some, length, Result, IfOk, OnErr, sym, ap, subst, ◌∙◌, ◌⊎◌, ⊎_elim, arith, if◌then◌else◌}
+use Rattle.std.proofs.Common.{◌≡◌, ◌≢◌, ℕ, ◌<◌, ◌≤◌, cond, List, [], ◌∷◌, Option, Some, length, Result, IfOk, OnErr, sym, ap, subst, ◌∙◌, ◌⊎◌, ⊎_elim, arith, if◌then◌else◌}
 use Rattle.dd_nodes.specs.declared.node.DdErr.{DdErr}
 use Rattle.dd_nodes.specs.declared.node.Node.{Node}
 use Rattle.dd_nodes.specs.declared.node.Ref.{Ref}
@@ -8,7 +8,7 @@ use Rattle.dd_nodes.specs.NodeList.{Values, IsNumber, node_at, function, StandsB
 use Rattle.dd_nodes.specs.Subfunctions.{Function}
 use Rattle.dd_nodes.specs.Table.{Table, IsTable}
 use Rattle.dd_nodes.proofs.NodeLemmas.{function_node, function_false, function_true, node_place}
-use Rattle.dd_nodes.proofs.Extending.{extends_number, extends_function}
+use Rattle.dd_nodes.proofs.Extending.{extends_number}
 use Rattle.dd_nodes.proofs.Dependence.{depends_function}
 use Rattle.dd_ops.specs.Answers.{AreNumbers, Follows, IsFullFor, IsIndexed, IsReplaced, Keeps, StayFrom}
 use Rattle.dd_ops.specs.Growth.{AddsParts, pieces_of_subst}

@@ -7,6 +7,8 @@ use Rattle.dd_nodes.specs.NodeList.{Values, IsNumber, node_at, function, StandsB
 use Rattle.dd_nodes.specs.Subfunctions.{Function}
 use Rattle.dd_nodes.specs.Table.{Table}
 use Rattle.dd_ops.specs.declared.question.Question.{Question}
+use Rattle.dd_ops.specs.declared.question.Settled.{Settled}
+use Rattle.dd_ops.specs.declared.question.Settled.TheVariants.{Known, Open}
 use Rattle.dd_ops.specs.Growth.{LacksPart}
 use Rattle.dd_ops.specs.Operations.{variable, ite_of, cofactor_of, listed, replaced, subst_of}
 
@@ -20,9 +22,13 @@ pub record Keeps (before after : Table) : Type 0 where
 abbrev pub HasEntry : List (Ref × Ref) → Ref → Ref → Type 0
 HasEntry entries f r = (i : ℕ) × (slice_get entries i ≡ Some (f, r))
 
--- the variable of a number; the constants stand below every variable
+-- the variable of a node; a constant, which has none, stands below every variable
+abbrev pub level_at : Option Node → ℕ
+level_at node = option_map_or (λ k. k.var) node 256
+
+-- the variable of a number
 abbrev pub level_of : List Node → ℕ → ℕ
-level_of nodes n = option_map_or (λ node. node.var) (node_at nodes n) 256
+level_of nodes n = level_at (node_at nodes n)
 
 -- the least variable of the three numbers of a question
 abbrev pub top_of : List Node → Question → ℕ
@@ -46,6 +52,17 @@ pub record IsAnswer (nodes : List Node) (q : Question) (r : ℕ) : Type 0 where
   pub number : IsNumber nodes r
   pub value : function nodes r ≡ ite_of (function nodes q.f.0) (function nodes q.g.0) (function nodes q.h.0)
   pub from : (v : ℕ) → AsksFrom nodes v q → StandsFrom nodes v r
+
+-- p asks for the same function as q, and looks at no lesser variable
+pub record IsRestated (nodes : List Node) (q p : Question) : Type 0 where
+  pub asked : IsAsked nodes p
+  pub value : ite_of (function nodes p.f.0) (function nodes p.g.0) (function nodes p.h.0) ≡ ite_of (function nodes q.f.0) (function nodes q.g.0) (function nodes q.h.0)
+  pub from : (v : ℕ) → AsksFrom nodes v q → AsksFrom nodes v p
+
+-- a question is settled: its answer is known, or it is restated as one that tests a node
+abbrev pub IsSettled : Question → Settled → Type 0
+IsSettled q (Known r) = (nodes : List Node) → IsAsked nodes q → IsAnswer nodes q r.0
+IsSettled q (Open p) = (1 < p.f.0) × ((nodes : List Node) → IsAsked nodes q → IsRestated nodes q p)
 
 -- c is n where variable v has the value b, and stands below v
 pub record IsBranch (nodes : List Node) (v : ℕ) (b : Bool) (n c : ℕ) : Type 0 where

@@ -1,8 +1,8 @@
 //! Functions with one variable fixed.
 ghost use Rattle.std.specs.Prelude.{◌≡◌, ◌<◌, [], ◌∷◌, IfOk, IsErrOf, Some};
-ghost use Rattle.dd_nodes.specs.NodeList.{IsNumber, node_at, function};
+ghost use Rattle.dd_nodes.specs.NodeList.{IsNumber, StandsFrom, node_at, function};
 ghost use Rattle.dd_nodes.specs.Table.{IsTable};
-ghost use Rattle.dd_ops.specs.Answers.{IsCofactor, RemembersCofactors, Keeps, IsFullFor};
+ghost use Rattle.dd_ops.specs.Answers.{IsBranch, IsCofactor, RemembersCofactors, Keeps, IsFullFor};
 ghost use Rattle.dd_ops.specs.Growth.{AddsParts};
 ghost use Rattle.dd_ops.specs.Operations.{cofactor_of};
 
@@ -33,7 +33,7 @@ pub fn fix(
 {
     let node = match dd.node(f) {
         Some(node) if node.var < v => node,
-        _ => return Ok(branch(dd, f, v, value)),
+        _ => return Ok(fix_here(dd, f, v, value)),
     };
     if let Some(r) = recall_number(memo, f) {
         return Ok(r);
@@ -41,6 +41,15 @@ pub fn fix(
     let lo = fix(dd, memo, node.lo, v, value)?;
     let hi = fix(dd, memo, node.hi, v, value)?;
     join_fixed(dd, memo, f, node, v, value, lo, hi)
+}
+
+/// The number of `f` with variable `v` fixed, where `f` looks at no lesser variable.
+fn fix_here(dd: &Dd, f: Ref, v: u32, value: bool) -> Ref
+    requires number { IsNumber dd.now.nodes f.0 }
+    requires from { StandsFrom dd.now.nodes v f.0 }
+    ensures { IsBranch dd.now.nodes v value f.0 result.0 }
+{
+    branch(dd.node(f), f, v, value)
 }
 
 /// The number of `f` with variable `v` fixed, by those of the children of its node, which the memo keeps.

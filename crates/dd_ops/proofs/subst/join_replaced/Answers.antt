@@ -2,9 +2,7 @@
 use Rattle.dd_nodes.specs.declared.node.DdErr.TheVariants.{Full}
 use Rattle.dd_ops.proofs.GrowthOps.{refused_same}
 use Rattle.dd_ops.proofs.ReplacedLemmas.{joined_replaced, joined_adds, joined_full}
-use Rattle.std.proofs.Common.{IfOk}
 use Rattle.dd_nodes.specs.declared.node.Ref.{Ref}
-use Rattle.dd_nodes.specs.NodeList.{IsNumber}
 use Rattle.dd_ops.proofs.ValueLemmas.{ok_both}
 use Rattle.dd_ops.proofs.subst.join_replaced.Goals as goal
 

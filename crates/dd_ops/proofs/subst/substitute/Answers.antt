@@ -1,7 +1,7 @@
 -- A number below the replaced variables is its own answer, and the table by variable holds what the list gives.
 use Rattle.std.proofs.Common.{◌≤◌, List, ℕ, sym, subst}
 use Rattle.dd_nodes.specs.declared.node.Ref.{Ref}
-use Rattle.dd_ops.specs.Answers.{IsByVar, IsIndexed, StayFrom}
+use Rattle.dd_ops.specs.Answers.{IsIndexed, StayFrom}
 use Rattle.dd_ops.proofs.QuestionLemmas.{from_level}
 use Rattle.dd_ops.proofs.ReplacedLemmas.{stays_own}
 use Rattle.dd_ops.proofs.SubstLemmas.{listed_numbers}

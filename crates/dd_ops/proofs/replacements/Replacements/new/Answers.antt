@@ -1,5 +1,5 @@
 -- At first the rest of the list is empty.
-use Rattle.std.proofs.Common.{rules, None}
+use Rattle.std.proofs.Common.{rules}
 use Rattle.dd_ops.proofs.SubstLemmas.{fresh_table}
 use Rattle.dd_ops.proofs.replacements.Replacements.new.Goals as goal
 
