@@ -1,7 +1,7 @@
 -- The conjunction so far is in the table.
 use Rattle.std.proofs.Common.{◌≡◌}
 use Rattle.dd_nodes.specs.NodeList.{IsNumber}
-use Rattle.bench_diagrams.proofs.clauses.conjunction.Given as goal
+use Rattle.bench_diagrams.proofs.clauses.next_conjunction.Given as goal
 
 abbrev pub invariant-loop : goal.invariant-loop
 invariant-loop l = record {
