@@ -87,7 +87,6 @@ impl Ops {
     }
 
     /// The negation of `f`.
-    #[tactic(auto, using(crate::proofs::ValueLemmas::answers_not, crate::proofs::ValueLemmas::grows_not))]
     pub fn not(&mut self, f: Ref) -> Result<Ref, DdErr>
         requires f_in_table { IsNumber self.old.nodes f.0 }
         ensures answers { Answers (not_of (function self.old.nodes f.0)) self.old self.new result }
@@ -97,7 +96,6 @@ impl Ops {
     }
 
     /// The conjunction of `f` and `g`.
-    #[tactic(auto, using(crate::proofs::ValueLemmas::answers_and, crate::proofs::ValueLemmas::grows_and))]
     pub fn and(&mut self, f: Ref, g: Ref) -> Result<Ref, DdErr>
         requires f_in_table { IsNumber self.old.nodes f.0 }
         requires g_in_table { IsNumber self.old.nodes g.0 }
@@ -110,7 +108,6 @@ impl Ops {
     }
 
     /// The disjunction of `f` and `g`.
-    #[tactic(auto, using(crate::proofs::ValueLemmas::answers_or, crate::proofs::ValueLemmas::grows_or))]
     pub fn or(&mut self, f: Ref, g: Ref) -> Result<Ref, DdErr>
         requires f_in_table { IsNumber self.old.nodes f.0 }
         requires g_in_table { IsNumber self.old.nodes g.0 }
@@ -123,7 +120,6 @@ impl Ops {
     }
 
     /// `f` and not `g`.
-    #[tactic(auto, using(crate::proofs::ValueLemmas::answers_minus, crate::proofs::ValueLemmas::grows_minus))]
     pub fn minus(&mut self, f: Ref, g: Ref) -> Result<Ref, DdErr>
         requires f_in_table { IsNumber self.old.nodes f.0 }
         requires g_in_table { IsNumber self.old.nodes g.0 }
