@@ -15,8 +15,8 @@ pub const VARIABLES: u32 = 60;
 /// The literals of a clause.
 const LITERALS: u32 = 3;
 
-/// Each literal has its variable from a part of so many. The parts of a clause lie side by side, at a random place, so that the
-/// diagrams on the way stay small enough.
+/// Each literal has its variable from a part of so many. The parts of a clause lie side by side, at
+/// a random place, so that the diagrams on the way stay small enough.
 const PART: u32 = 8;
 
 /// The conjunction of `count` clauses over 60 variables.

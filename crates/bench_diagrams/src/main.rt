@@ -1,9 +1,12 @@
-//! Measures the diagrams on problems of known size: `bench_diagrams PROBLEM COUNT ..`, with any number of pairs.
+//! Measures the diagrams on problems of known size: `bench_diagrams PROBLEM COUNT ..`, with any
+//! number of pairs.
 //!
-//! The problems are `nodes` (a table of so many nodes), `clauses` (the conjunction of so many random clauses), `queens` (the
-//! placings of so many queens on a board of that size), `variables` (so many substitutions of two variables in one large set),
-//! `constants` (so many of four constants in small sets) and `algebra` (so many rounds of meet, difference and join). A line for each pair has the counts of nodes alone, so the same words
-//! always give the same output; `bench/run` at the top of the repository takes the time.
+//! The problems are `nodes` (a table of so many nodes), `clauses` (the conjunction of so many
+//! random clauses), `queens` (the placings of so many queens on a board of that size), `variables`
+//! (so many substitutions of two variables in one large set), `constants` (so many of four
+//! constants in small sets) and `algebra` (so many rounds of meet, difference and join). A line for
+//! each pair has the counts of nodes alone, so the same words always give the same output;
+//! `bench/run` at the top of the repository takes the time.
 #![tactic(auto)]
 
 mod chains;

@@ -21,8 +21,8 @@ const MIDDLE: u32 = 17;
 /// How many small sets there are, or sets of middle size.
 const SETS: u32 = 16;
 
-/// Replaces two of 60 variables in a large set, `count` times: a variable takes the value of the next, and the next the opposite
-/// of its value.
+/// Replaces two of 60 variables in a large set, `count` times: a variable takes the value of the
+/// next, and the next the opposite of its value.
 pub fn replace_variables(alloc: Global, count: u32) -> Result<Extent, DdErr> {
     let Ok(mut ops) = Ops::new(alloc, VARIABLES, LIMIT) else {
         return Err(DdErr::Memory);

@@ -28,8 +28,10 @@ pub fn fix(
     ensures kept { Keeps dd.old dd.new }
     ensures table { IsTable dd.new }
     ensures memo { RemembersCofactors dd.new.nodes v value memo.new.entries }
-    ensures adds { AddsParts dd.old.vars (cofactor_of (function dd.old.nodes f.0) v value ∷ []) dd.old.nodes dd.new.nodes }
-    ensures full { IsErrOf result DdErr.Full → IsFullFor (cofactor_of (function dd.old.nodes f.0) v value ∷ []) dd.new }
+    ensures adds { AddsParts dd.old.vars (cofactor_of (function dd.old.nodes f.0) v value ∷ [])
+        dd.old.nodes dd.new.nodes }
+    ensures full { IsErrOf result DdErr.Full → IsFullFor
+        (cofactor_of (function dd.old.nodes f.0) v value ∷ []) dd.new }
 {
     let node = match dd.node(f) {
         Some(node) if node.var < v => node,
@@ -52,7 +54,8 @@ fn fix_here(dd: &Dd, f: Ref, v: u32, value: bool) -> Ref
     branch(dd.node(f), f, v, value)
 }
 
-/// The number of `f` with variable `v` fixed, by those of the children of its node, which the memo keeps.
+/// The number of `f` with variable `v` fixed, by those of the children of its node, which the memo
+/// keeps.
 fn join_fixed(
     dd: &mut Dd,
     memo: &mut IndexMap<Ref, Ref>,
@@ -73,8 +76,10 @@ fn join_fixed(
     ensures kept { Keeps dd.old dd.new }
     ensures table { IsTable dd.new }
     ensures memo { RemembersCofactors dd.new.nodes v value memo.new.entries }
-    ensures adds { AddsParts dd.old.vars (cofactor_of (function dd.old.nodes f.0) v value ∷ []) dd.old.nodes dd.new.nodes }
-    ensures full { IsErrOf result DdErr.Full → IsFullFor (cofactor_of (function dd.old.nodes f.0) v value ∷ []) dd.new }
+    ensures adds { AddsParts dd.old.vars (cofactor_of (function dd.old.nodes f.0) v value ∷ [])
+        dd.old.nodes dd.new.nodes }
+    ensures full { IsErrOf result DdErr.Full → IsFullFor
+        (cofactor_of (function dd.old.nodes f.0) v value ∷ []) dd.new }
 {
     let r = dd.mk(node.var, lo, hi)?;
     remember_number(memo, f, r)?;

@@ -11,7 +11,8 @@ use indexmap::IndexMap;
 
 /// The answer to a question.
 ///
-/// Each half of a question looks only at greater variables, so the calls are nested at most 256 deep.
+/// Each half of a question looks only at greater variables, so the calls are nested at most 256
+/// deep.
 #[cycle(asking)]
 pub fn answer(dd: &mut Dd, memo: &mut IndexMap<Question, Ref>, q: Question) -> Result<Ref, DdErr>
     requires table { IsTable dd.old }

@@ -17,9 +17,10 @@ use std::marker::Model;
 
 /// Diagrams with their operations.
 ///
-/// A contract sees it as its table: the record of `vars`, `limit` and `nodes` of `dd_nodes`. Each call leaves the variables,
-/// the limit and each earlier node as they were, whether it answers or refuses, so each earlier number keeps its function.
-/// A call refuses with `Memory` where memory runs out.
+/// A contract sees it as its table: the record of `vars`, `limit` and `nodes` of `dd_nodes`. Each
+/// call leaves the variables, the limit and each earlier node as they were, whether it answers or
+/// refuses, so each earlier number keeps its function. A call refuses with `Memory` where memory
+/// runs out.
 #[derive(Drop)]
 pub struct Ops {
     dd: Dd,
@@ -99,9 +100,11 @@ impl Ops {
     pub fn and(&mut self, f: Ref, g: Ref) -> Result<Ref, DdErr>
         requires f_in_table { IsNumber self.old.nodes f.0 }
         requires g_in_table { IsNumber self.old.nodes g.0 }
-        ensures answers { Answers (and_of (function self.old.nodes f.0) (function self.old.nodes g.0))
+        ensures answers { Answers (and_of (function self.old.nodes f.0)
+            (function self.old.nodes g.0))
             self.old self.new result }
-        ensures grows { Grows (and_of (function self.old.nodes f.0) (function self.old.nodes g.0) ∷ [])
+        ensures grows { Grows (and_of (function self.old.nodes f.0) (function self.old.nodes g.0) ∷
+            [])
             self.old self.new result }
     {
         self.ite(f, g, Ref(0))
@@ -111,9 +114,11 @@ impl Ops {
     pub fn or(&mut self, f: Ref, g: Ref) -> Result<Ref, DdErr>
         requires f_in_table { IsNumber self.old.nodes f.0 }
         requires g_in_table { IsNumber self.old.nodes g.0 }
-        ensures answers { Answers (or_of (function self.old.nodes f.0) (function self.old.nodes g.0))
+        ensures answers { Answers (or_of (function self.old.nodes f.0)
+            (function self.old.nodes g.0))
             self.old self.new result }
-        ensures grows { Grows (or_of (function self.old.nodes f.0) (function self.old.nodes g.0) ∷ [])
+        ensures grows { Grows (or_of (function self.old.nodes f.0) (function self.old.nodes g.0) ∷
+            [])
             self.old self.new result }
     {
         self.ite(f, Ref(1), g)
@@ -123,9 +128,11 @@ impl Ops {
     pub fn minus(&mut self, f: Ref, g: Ref) -> Result<Ref, DdErr>
         requires f_in_table { IsNumber self.old.nodes f.0 }
         requires g_in_table { IsNumber self.old.nodes g.0 }
-        ensures answers { Answers (minus_of (function self.old.nodes f.0) (function self.old.nodes g.0))
+        ensures answers { Answers (minus_of (function self.old.nodes f.0)
+            (function self.old.nodes g.0))
             self.old self.new result }
-        ensures grows { Grows (minus_of (function self.old.nodes f.0) (function self.old.nodes g.0) ∷ [])
+        ensures grows { Grows (minus_of (function self.old.nodes f.0) (function self.old.nodes g.0)
+            ∷ [])
             self.old self.new result }
     {
         self.ite(g, Ref(0), f)
@@ -146,8 +153,9 @@ impl Ops {
 
     /// `f` with each listed variable replaced by its function, all at once.
     ///
-    /// The function of the result at some truth values is that of `f` at the values in which each listed variable has the
-    /// value of its function. Where a variable is listed twice, the first entry counts.
+    /// The function of the result at some truth values is that of `f` at the values in which each
+    /// listed variable has the value of its function. Where a variable is listed twice, the first
+    /// entry counts.
     pub fn subst(&mut self, f: Ref, map: &[(u32, Ref)]) -> Result<Ref, DdErr>
         requires f_in_table { IsNumber self.old.nodes f.0 }
         requires map_in_table { All (λ entry. IsNumber self.old.nodes entry.1.0) map.now }

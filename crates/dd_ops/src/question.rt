@@ -6,7 +6,8 @@ ghost use Rattle.dd_ops.specs.Answers.{level_at, level_of, top_of, IsAsked, IsAn
 
 use dd_nodes::{Dd, Node, Ref};
 
-/// The question: which number has the function of `g` where `f` is true, and of `h` where it is false?
+/// The question: which number has the function of `g` where `f` is true, and of `h` where it is
+/// false?
 #[derive(Clone, Copy, PartialEq, Eq, Hash)]
 pub struct Question {
     pub f: Ref,
@@ -14,14 +15,16 @@ pub struct Question {
     pub h: Ref,
 }
 
-/// What a first look at a question says, before its nodes are read: its answer, or a question with the same answer.
+/// What a first look at a question says, before its nodes are read: its answer, or a question with
+/// the same answer.
 #[derive(Clone, Copy)]
 pub enum Settled {
     Known(Ref),
     Open(Question),
 }
 
-/// The answer to a question, where it needs no look at the table, and else the question in the form in which it is remembered.
+/// The answer to a question, where it needs no look at the table, and else the question in the form
+/// in which it is remembered.
 pub fn settle(q: Question) -> Settled
     ensures { IsSettled q result }
 {
@@ -32,7 +35,8 @@ pub fn settle(q: Question) -> Settled
     }
 }
 
-/// The question with a constant in the place of a branch that is `f` itself: `f` is true in the one and false in the other.
+/// The question with a constant in the place of a branch that is `f` itself: `f` is true in the one
+/// and false in the other.
 fn with_constants(q: Question) -> Question
     ensures { (nodes : List Node) → IsAsked nodes q → IsRestated nodes q result }
 {
@@ -52,7 +56,8 @@ fn unless_same(g: Ref, f: Ref, constant: Ref) -> Ref
 
 /// The answer to a question that needs no look at the table.
 fn shortcut(q: Question) -> Option<Ref>
-    ensures right { IfSome result (λ r. (nodes : List Node) → IsAsked nodes q → IsAnswer nodes q r.0) }
+    ensures right { IfSome result (λ r. (nodes : List Node) → IsAsked nodes q
+        → IsAnswer nodes q r.0) }
     ensures tests { IfNone result (1 < q.f.0) }
 {
     if q.f.0 == 0 {
@@ -68,7 +73,8 @@ fn shortcut(q: Question) -> Option<Ref>
     }
 }
 
-/// The question with its operands in the order of their numbers, where it is a conjunction or a disjunction.
+/// The question with its operands in the order of their numbers, where it is a conjunction or a
+/// disjunction.
 fn ordered(q: Question) -> Question
     requires { 1 < q.f.0 }
     ensures tests { 1 < result.f.0 }
@@ -109,7 +115,8 @@ fn level_of_node(node: Option<Node>) -> u32
     }
 }
 
-/// The least variable that a question looks at, and the question with that variable fixed at false and at true.
+/// The least variable that a question looks at, and the question with that variable fixed at false
+/// and at true.
 #[derive(Clone, Copy)]
 pub struct Halves {
     pub var: u32,
@@ -143,9 +150,11 @@ pub fn halve(dd: &Dd, q: Question) -> Halves
     }
 }
 
-/// The number of a function with variable `var` fixed, by the node of `f`, where that looks at no lesser variable.
+/// The number of a function with variable `var` fixed, by the node of `f`, where that looks at no
+/// lesser variable.
 pub fn branch(found: Option<Node>, f: Ref, var: u32, value: bool) -> Ref
-    ensures { (vars : ℕ) (nodes : List Node) → IsReduced vars nodes → IsNumber nodes f.0 → found ≡ node_at nodes f.0
+    ensures { (vars : ℕ) (nodes : List Node) → IsReduced vars nodes → IsNumber nodes f.0
+        → found ≡ node_at nodes f.0
         → StandsFrom nodes var f.0 → IsBranch nodes var value f.0 result.0 }
 {
     match found {

@@ -7,7 +7,8 @@ ghost use Rattle.dd_ops.specs.Operations.{listed};
 use dd_nodes::{Dd, Ref};
 use std::alloc::{AllocError, Global};
 
-/// A list of variables and what replaces each, with a table by variable, so that each is found at once.
+/// A list of variables and what replaces each, with a table by variable, so that each is found at
+/// once.
 #[derive(Drop)]
 pub struct Replacements<'a> {
     pub map: &'a [(u32, Ref)],
@@ -15,7 +16,8 @@ pub struct Replacements<'a> {
 }
 
 impl<'a> Replacements<'a> {
-    /// The list with its table for the variables below `end`. Of two entries for a variable the first counts.
+    /// The list with its table for the variables below `end`. Of two entries for a variable the
+    /// first counts.
     pub fn new(
         alloc: Global,
         map: &'a [(u32, Ref)],
@@ -47,8 +49,10 @@ impl<'a> Replacements<'a> {
 /// Puts a number at a variable, if the table has the variable.
 fn put(by_var: &mut Vec<Option<Ref>>, var: u32, image: Ref)
     ensures length { length by_var.new.items ≡ length by_var.old.items }
-    ensures here { var < length by_var.old.items → slice_get by_var.new.items var ≡ Some (Some image) }
-    ensures others { (v : ℕ) → v ≢ var → slice_get by_var.new.items v ≡ slice_get by_var.old.items v }
+    ensures here { var < length by_var.old.items
+        → slice_get by_var.new.items var ≡ Some (Some image) }
+    ensures others { (v : ℕ) → v ≢ var → slice_get by_var.new.items v
+        ≡ slice_get by_var.old.items v }
 {
     if (var as usize) < by_var.len() {
         by_var[var as usize] = Some(image);
@@ -80,7 +84,8 @@ pub fn end_of(dd: &Dd, map: &[(u32, Ref)]) -> u32
 /// The variable of which a number is the value, if it is that of one.
 pub fn variable_of(dd: &Dd, f: Ref) -> Option<u32>
     requires { IsNumber dd.now.nodes f.0 }
-    ensures value { IfSome result (λ var. (values : Values) → function dd.now.nodes f.0 values ≡ values var) }
+    ensures value { IfSome result (λ var. (values : Values)
+        → function dd.now.nodes f.0 values ≡ values var) }
     ensures in_range { IfSome result (λ var. var < dd.now.vars) }
 {
     match dd.node(f) {

@@ -22,8 +22,10 @@ pub fn substitute(alloc: Global, dd: &mut Dd, f: Ref, map: &[(u32, Ref)]) -> Res
     ensures answer { IfOk result (λ r. IsReplaced dd.new.nodes map.now f.0 r.0) }
     ensures kept { Keeps dd.old dd.new }
     ensures table { IsTable dd.new }
-    ensures adds { AddsParts dd.old.vars (pieces_of_subst dd.old.vars dd.old.nodes map.now f.0) dd.old.nodes dd.new.nodes }
-    ensures full { IsErrOf result DdErr.Full → IsFullFor (pieces_of_subst dd.old.vars dd.old.nodes map.now f.0) dd.new }
+    ensures adds { AddsParts dd.old.vars (pieces_of_subst dd.old.vars dd.old.nodes map.now f.0)
+        dd.old.nodes dd.new.nodes }
+    ensures full { IsErrOf result DdErr.Full → IsFullFor
+        (pieces_of_subst dd.old.vars dd.old.nodes map.now f.0) dd.new }
 {
     let end = end_of(dd, map);
     if end <= level(dd, f) {
@@ -57,8 +59,10 @@ fn replace(
     ensures table { IsTable dd.new }
     ensures questions { Remembers dd.new.nodes questions.new.entries }
     ensures memo { RemembersReplaced dd.new.nodes images.now.map.now memo.new.entries }
-    ensures adds { AddsParts dd.old.vars (pieces_of_subst dd.old.vars dd.old.nodes images.now.map.now f.0) dd.old.nodes dd.new.nodes }
-    ensures full { IsErrOf result DdErr.Full → IsFullFor (pieces_of_subst dd.old.vars dd.old.nodes images.now.map.now f.0) dd.new }
+    ensures adds { AddsParts dd.old.vars (pieces_of_subst dd.old.vars dd.old.nodes
+        images.now.map.now f.0) dd.old.nodes dd.new.nodes }
+    ensures full { IsErrOf result DdErr.Full → IsFullFor
+        (pieces_of_subst dd.old.vars dd.old.nodes images.now.map.now f.0) dd.new }
 {
     let Some(node) = first_replaced(dd, f, images) else {
         return Ok(f);
@@ -101,7 +105,8 @@ fn follow(node: Node, image: Option<Ref>) -> Option<Ref>
     }
 }
 
-/// The number of a node's function with each variable of `images` replaced, by those of the node's children.
+/// The number of a node's function with each variable of `images` replaced, by those of the node's
+/// children.
 fn choose(
     dd: &mut Dd,
     questions: &mut IndexMap<Question, Ref>,
@@ -121,8 +126,10 @@ fn choose(
     ensures kept { Keeps dd.old dd.new }
     ensures table { IsTable dd.new }
     ensures questions { Remembers dd.new.nodes questions.new.entries }
-    ensures adds { AddsParts dd.old.vars (pieces_of_subst dd.old.vars dd.old.nodes images.now.map.now f.0) dd.old.nodes dd.new.nodes }
-    ensures full { IsErrOf result DdErr.Full → IsFullFor (pieces_of_subst dd.old.vars dd.old.nodes images.now.map.now f.0) dd.new }
+    ensures adds { AddsParts dd.old.vars (pieces_of_subst dd.old.vars dd.old.nodes
+        images.now.map.now f.0) dd.old.nodes dd.new.nodes }
+    ensures full { IsErrOf result DdErr.Full → IsFullFor
+        (pieces_of_subst dd.old.vars dd.old.nodes images.now.map.now f.0) dd.new }
 {
     match variable_above(dd, images, node.var, lo, hi) {
         Some(var) => join_replaced(dd, images, f, node, var, lo, hi),
@@ -137,7 +144,8 @@ fn variable_above(dd: &Dd, images: &Replacements, var: u32, lo: Ref, hi: Ref) ->
     requires lo { IsNumber dd.now.nodes lo.0 }
     requires hi { IsNumber dd.now.nodes hi.0 }
     ensures in_range { IfSome result (λ w. w < dd.now.vars) }
-    ensures value { IfSome result (λ w. (values : Values) → values w ≡ replaced dd.now.nodes images.now.map.now values var) }
+    ensures value { IfSome result (λ w. (values : Values)
+        → values w ≡ replaced dd.now.nodes images.now.map.now values var) }
     ensures lo { IfSome result (λ w. StandsBelow dd.now.nodes w lo.0) }
     ensures hi { IfSome result (λ w. StandsBelow dd.now.nodes w hi.0) }
 {
@@ -147,12 +155,14 @@ fn variable_above(dd: &Dd, images: &Replacements, var: u32, lo: Ref, hi: Ref) ->
     }
 }
 
-/// The variable whose value replaces a variable: itself where it stays, and else one of which its image is the value.
+/// The variable whose value replaces a variable: itself where it stays, and else one of which its
+/// image is the value.
 fn variable_for(dd: &Dd, images: &Replacements, var: u32) -> Option<u32>
     requires in_range { var < dd.now.vars }
     requires images { IsIndexed dd.now.nodes images.now.map.now images.now.by_var.items }
     ensures in_range { IfSome result (λ w. w < dd.now.vars) }
-    ensures value { IfSome result (λ w. (values : Values) → values w ≡ replaced dd.now.nodes images.now.map.now values var) }
+    ensures value { IfSome result (λ w. (values : Values)
+        → values w ≡ replaced dd.now.nodes images.now.map.now values var) }
 {
     match images.get(var) {
         Some(g) => variable_of(dd, g),
@@ -176,14 +186,17 @@ fn join_replaced(
     requires lo { IsReplaced dd.old.nodes images.now.map.now node.lo.0 lo.0 }
     requires hi { IsReplaced dd.old.nodes images.now.map.now node.hi.0 hi.0 }
     requires in_range { var < dd.old.vars }
-    requires value { (values : Values) → values var ≡ replaced dd.old.nodes images.now.map.now values node.var }
+    requires value { (values : Values) → values var
+        ≡ replaced dd.old.nodes images.now.map.now values node.var }
     requires lo_below { StandsBelow dd.old.nodes var lo.0 }
     requires hi_below { StandsBelow dd.old.nodes var hi.0 }
     ensures answer { IfOk result (λ r. IsReplaced dd.new.nodes images.now.map.now f.0 r.0) }
     ensures kept { Keeps dd.old dd.new }
     ensures table { IsTable dd.new }
-    ensures adds { AddsParts dd.old.vars (pieces_of_subst dd.old.vars dd.old.nodes images.now.map.now f.0) dd.old.nodes dd.new.nodes }
-    ensures full { IsErrOf result DdErr.Full → IsFullFor (pieces_of_subst dd.old.vars dd.old.nodes images.now.map.now f.0) dd.new }
+    ensures adds { AddsParts dd.old.vars (pieces_of_subst dd.old.vars dd.old.nodes
+        images.now.map.now f.0) dd.old.nodes dd.new.nodes }
+    ensures full { IsErrOf result DdErr.Full → IsFullFor
+        (pieces_of_subst dd.old.vars dd.old.nodes images.now.map.now f.0) dd.new }
 {
     dd.mk(var, lo, hi)
 }
@@ -208,8 +221,10 @@ fn ask_image(
     ensures kept { Keeps dd.old dd.new }
     ensures table { IsTable dd.new }
     ensures questions { Remembers dd.new.nodes questions.new.entries }
-    ensures adds { AddsParts dd.old.vars (pieces_of_subst dd.old.vars dd.old.nodes images.now.map.now f.0) dd.old.nodes dd.new.nodes }
-    ensures full { IsErrOf result DdErr.Full → IsFullFor (pieces_of_subst dd.old.vars dd.old.nodes images.now.map.now f.0) dd.new }
+    ensures adds { AddsParts dd.old.vars (pieces_of_subst dd.old.vars dd.old.nodes
+        images.now.map.now f.0) dd.old.nodes dd.new.nodes }
+    ensures full { IsErrOf result DdErr.Full → IsFullFor
+        (pieces_of_subst dd.old.vars dd.old.nodes images.now.map.now f.0) dd.new }
 {
     let test = image(dd, images, node.var)?;
     answer(
@@ -228,12 +243,15 @@ fn image(dd: &mut Dd, images: &Replacements, var: u32) -> Result<Ref, DdErr>
     requires table { IsTable dd.old }
     requires in_range { var < dd.old.vars }
     requires images { IsIndexed dd.old.nodes images.now.map.now images.now.by_var.items }
-    ensures value { IfOk result (λ r. (values : Values) → function dd.new.nodes r.0 values ≡ replaced dd.old.nodes images.now.map.now values var) }
+    ensures value { IfOk result (λ r. (values : Values)
+        → function dd.new.nodes r.0 values ≡ replaced dd.old.nodes images.now.map.now values var) }
     ensures number { IfOk result (λ r. IsNumber dd.new.nodes r.0) }
     ensures kept { Keeps dd.old dd.new }
     ensures table { IsTable dd.new }
-    ensures adds { AddsParts dd.old.vars (pieces_of_variable images.now.map.now var) dd.old.nodes dd.new.nodes }
-    ensures full { IsErrOf result DdErr.Full → IsFullFor (pieces_of_variable images.now.map.now var) dd.new }
+    ensures adds { AddsParts dd.old.vars (pieces_of_variable images.now.map.now var) dd.old.nodes
+        dd.new.nodes }
+    ensures full { IsErrOf result DdErr.Full → IsFullFor (pieces_of_variable images.now.map.now var)
+        dd.new }
 {
     match images.get(var) {
         Some(g) => Ok(g),

@@ -1,4 +1,5 @@
-//! The worked example, every operation at every function of three variables, and tables that fill up.
+//! The worked example, every operation at every function of three variables, and tables that fill
+//! up.
 ghost use Rattle.std.specs.Prelude.{◌≡◌, ◌≤◌, ◌<◌, ◌↔◌, IsTrue, IfOk, All, length};
 ghost use Rattle.dd_nodes.specs.NodeList.{IsNumber};
 
@@ -7,7 +8,8 @@ use dd_nodes::{DdErr, Ref};
 use std::alloc::Global;
 use std::test::Fail;
 
-/// The truth tables of four variables: bit `state` is the value in the state whose bits are the variables' values.
+/// The truth tables of four variables: bit `state` is the value in the state whose bits are the
+/// variables' values.
 const VARIABLES: [u16; 4] = [0xaaaa, 0xcccc, 0xf0f0, 0xff00];
 
 #[test]
@@ -260,7 +262,8 @@ fn start(alloc: Global, ops: &mut Ops) -> Result<Vec<Known>, Fail>
     Ok(known)
 }
 
-/// Fills a table by operations on four variables, and counts the refusals; `None` where a number lost its function.
+/// Fills a table by operations on four variables, and counts the refusals; `None` where a number
+/// lost its function.
 fn fill(alloc: Global, limit: u32) -> Result<Option<u32>, Fail>
     requires some { 0 < limit }
     requires few { limit ≤ 40 }
