@@ -1,4 +1,5 @@
 pub mod Laws
 pub mod NodeList
+pub mod Reached
 pub mod Subfunctions
 pub mod Table

@@ -1,5 +1,5 @@
 -- How many nodes the reduced diagrams of some functions have, counted by functions and not by nodes.
-use Rattle.std.specs.Prelude.{◌≡◌, ℕ, zero, suc, ◌+◌, ◌≤◌, Bool, true, false, not, if◌then◌else◌, List, [], ◌∷◌, ◌++◌, length, map, flat_map, filter, slice_index_or}
+use Rattle.std.specs.Prelude.{◌≡◌, ℕ, zero, suc, ◌+◌, ◌<◌, ◌≤◌, Bool, true, false, not, if◌then◌else◌, List, [], ◌∷◌, ◌++◌, length, map, flat_map, filter, slice_index_or}
 use Rattle.std.specs.List.{list_any, list_all}
 use mathlib.Core.Bool.{beq}
 use Rattle.dd_nodes.specs.declared.node.Node.{Node}
@@ -23,6 +23,10 @@ pub record IsSubfunction (vars : ℕ) (f g : Function) : Type 0 where
   pub few : length first ≤ vars
   pub fixes : (values : Values) → g values ≡ fixed first f values
 
+-- a function depends on no variables but those from low on and below vars
+abbrev pub DependsOnly : ℕ → ℕ → Function → Type 0
+DependsOnly low vars f = (s t : Values) → ((u : ℕ) → low ≤ u → u < vars → s u ≡ t u) → f s ≡ f t
+
 -- all lists of n truth values
 unfoldable pub lists : ℕ → List (List Bool)
 lists zero = [] ∷ []
@@ -37,7 +41,8 @@ lists_up_to (suc n) = lists_up_to n ++ lists (suc n)
 abbrev pub subfunctions : ℕ → Function → List Function
 subfunctions vars f = map (λ first. fixed first f) (lists_up_to vars)
 
--- whether two functions agree at each list of truth values
+-- whether two functions agree at each list of truth values for the first `vars` variables, all later variables being false. Functions
+-- of the first `vars` variables alone agree exactly where they are equal, as those of the numbers of a reduced list do
 abbrev pub agree : ℕ → Function → Function → Bool
 agree vars f g = list_all (λ first. beq (fixed first f (λ _. false)) (fixed first g (λ _. false))) (lists vars)
 

@@ -9,9 +9,11 @@ pub record Table : Type 0 where
   pub limit : ℕ
   pub nodes : List Node
 
--- what is true of every table
+-- what is true of every table: it has at most 256 variables, room for 1 to 16,777,216 nodes, no more nodes than that, and its
+-- list of nodes is reduced
 pub record IsTable (table : Table) : Type 0 where
   pub few_vars : table.vars ≤ 256
+  pub some_room : 1 ≤ table.limit
   pub small_limit : table.limit ≤ 16777216
   pub within_limit : length table.nodes ≤ table.limit
   pub reduced : IsReduced table.vars table.nodes

@@ -1,9 +1,10 @@
 //! A table of nodes for reduced ordered binary decision diagrams.
 //!
-//! A node tests one variable and has two children: `hi` where the variable is true and `lo` where it is false. All nodes stand
-//! in one table, children before parents, and each function has one number there: two numbers have the same function exactly
-//! where they are equal (R. E. Bryant, "Graph-Based Algorithms for Boolean Function Manipulation", IEEE Transactions on
-//! Computers, 1986).
+//! A node tests one variable and has two children: `hi` where the variable is true and `lo` where
+//! it is false. All nodes stand in one table, children before parents, and each function has one
+//! number there: two numbers have the same function exactly where they are equal (R. E. Bryant,
+//! "Graph-Based Algorithms for Boolean Function Manipulation", IEEE Transactions on Computers,
+//! 1986).
 #![tactic(auto)]
 
 mod dd;
@@ -13,5 +14,7 @@ mod node;
 mod tests;
 
 pub use dd::Dd;
-pub use laws::one_number_per_function;
+pub use laws::{
+    depends_on_variables, nodes_are_reached, one_number_per_function, subfunctions_are_reached,
+};
 pub use node::{DdErr, Node, Ref};

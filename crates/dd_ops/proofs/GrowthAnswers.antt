@@ -9,10 +9,12 @@ use Rattle.dd_nodes.specs.Table.{Table}
 use Rattle.dd_nodes.proofs.Extending.{extends_function}
 use Rattle.dd_ops.specs.declared.question.Question.{Question}
 use Rattle.dd_ops.specs.Operations.{ite_of, cofactor_of}
-use Rattle.dd_ops.specs.Answers.{IsAsked, AsksFrom, IsHalf}
-use Rattle.dd_ops.specs.Growth.{grow, IsPart, DependsOnly, AddsParts, LacksPart, IsFullFor, asked_of}
+use Rattle.dd_ops.specs.Answers.{IsAsked, AsksFrom, IsHalf, IsFullFor, asked_of}
+use Rattle.dd_nodes.specs.Subfunctions.{DependsOnly}
+use Rattle.dd_ops.specs.Growth.{grow, IsPart, AddsParts, LacksPart}
 use Rattle.dd_ops.proofs.GrowthCount.{grows_within, grows_below}
-use Rattle.dd_ops.proofs.GrowthParts.{sub_at, sub_ite, depends_function, function_at_hi, function_at_lo}
+use Rattle.dd_nodes.proofs.Dependence.{sub_at, depends_function, function_at_hi, function_at_lo}
+use Rattle.dd_ops.proofs.GrowthParts.{sub_ite}
 use Rattle.dd_ops.proofs.GrowthSteps.{lacks_for_part}
 
 -- what a call that adds parts alone says of the lengths, and what a refusal for want of room says of the limit

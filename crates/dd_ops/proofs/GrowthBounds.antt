@@ -12,9 +12,11 @@ use Rattle.dd_nodes.specs.Subfunctions.{Function, with_first, fixed, lists, list
 use Rattle.dd_nodes.proofs.NodeLemmas.{function_false, function_true}
 use Rattle.dd_ops.specs.Operations.{variable}
 use Rattle.dd_ops.specs.Growth.{grow}
-use Rattle.dd_ops.proofs.GrowthCounting.{count, count-append, count_within, count-there, count-new, count-nil}
-use Rattle.dd_ops.proofs.GrowthAgree.{agree_from, agree_same, agree_turn, agree_chain, lists_from}
-use Rattle.dd_ops.proofs.GrowthCount.{count_is, functions_some}
+use Rattle.dd_nodes.proofs.Counting.{count, count-append, count_within, count-there, count-new, count-nil}
+use Rattle.dd_nodes.proofs.Agreement.{agree_from, agree_same, agree_turn, agree_chain, lists_from}
+use Rattle.dd_nodes.proofs.NodeCount.{count_is}
+use Rattle.dd_nodes.proofs.Reaching.{within_at, past_at}
+use Rattle.dd_ops.proofs.GrowthCount.{functions_some}
 
 -- how many lists of truth values there are
 pub length-lists : (n : ℕ) → length (lists n) ≡ 2 ^ n
@@ -134,17 +136,6 @@ module _ (vars : ℕ) (before : List Node) where
   pub grow_each : {X : Type 0} (h : X → Function) (bound : ℕ) → ((x : X) → grow vars before (h x ∷ []) ≤ bound) → (xs : List X) → grow vars before (map h xs) ≤ length xs * bound
   grow_each h bound each [] = omega (arith, grow-nil)
   grow_each h bound each (x ∷ xs) = omega (arith, grow-append (h x ∷ []) (map h xs), each x, grow_each h bound each xs)
-
--- within the list the default does not count, and past its end the default is the value
-pub within_at : (first : List Bool) (v : ℕ) (d e : Bool) → v < length first → slice_index_or first v d ≡ slice_index_or first v e
-within_at [] v d e within = absurd (omega arith)
-within_at (x ∷ first) zero d e within = refl
-within_at (x ∷ first) (suc v) d e within = within_at first v d e (omega arith)
-
-pub past_at : (first : List Bool) (v : ℕ) (d : Bool) → length first ≤ v → slice_index_or first v d ≡ d
-past_at [] v d past = refl
-past_at (x ∷ first) zero d past = absurd (omega arith)
-past_at (x ∷ first) (suc v) d past = past_at first v d (omega arith)
 
 all_always : {X : Type 0} (p : X → Bool) → ((x : X) → p x ≡ true) → (xs : List X) → list_all p xs ≡ true
 all_always p each [] = refl

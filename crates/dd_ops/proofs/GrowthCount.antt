@@ -1,24 +1,17 @@
 -- The count: new numbers have pairwise different functions, none of them a function of an earlier number, and each is a part of
 -- the pieces.
-use Rattle.std.proofs.Common.{◌≡◌, ℕ, zero, suc, ◌+◌, ◌<◌, ◌≤◌, Bool, true, false, not, List, [], ◌∷◌, length, filter, flat_map, refl, sym, ap, ◌∙◌, ⊎_elim, arith, length-append, if◌then◌else◌}
+use Rattle.std.proofs.Common.{◌≡◌, ℕ, zero, suc, ◌+◌, ◌<◌, ◌≤◌, Bool, true, false, not, List, [], ◌∷◌, length, filter, flat_map, refl, sym, ap, ◌∙◌, ⊎_elim, arith, length-append}
 use Rattle.std.specs.List.{list_any, list_all}
 use Rattle.std.proofs.lemmas.Bool.{cases_lt, both_ways, or_left, or_right, or_from, and_from, not_from_false, false_from_ne_true}
 use Rattle.std.proofs.lemmas.List.Folds.{list_any-append}
 use Rattle.dd_nodes.specs.declared.node.Node.{Node}
 use Rattle.dd_nodes.specs.NodeList.{Values, IsNumber, function, IsReduced, Extends}
-use Rattle.dd_nodes.specs.Subfunctions.{Function, agree, subfunctions, count_different, nodes_beside, functions_below, functions}
-use Rattle.dd_nodes.proofs.Canonicity.{canonical}
+use Rattle.dd_nodes.specs.Subfunctions.{Function, agree, subfunctions, nodes_beside, functions_below, functions}
 use Rattle.dd_nodes.proofs.Extension.{function_kept}
 use Rattle.dd_ops.specs.Growth.{grow, IsPart, AddsParts, LacksPart}
-use Rattle.dd_ops.proofs.GrowthCounting.{count, any_filter, Apart, covered, pigeonhole}
-use Rattle.dd_ops.proofs.GrowthAgree.{agree_same, agree_turn, agree_chain, agree_values, part_listed}
-use Rattle.dd_ops.proofs.GrowthParts.{depends_number}
-
--- the different functions of a list are counted up to agreement
-pub count_is : (vars : ℕ) (fs : List Function) → count_different vars fs ≡ count (agree vars) fs
-unfolding count_different count
-count_is vars [] = refl
-count_is vars (f ∷ fs) = ap (λ n. if list_any (agree vars f) fs then n else n + 1) (count_is vars fs)
+use Rattle.dd_nodes.proofs.NodeCount.{count_is, one_number}
+use Rattle.dd_nodes.proofs.Counting.{count, any_filter, Apart, covered, pigeonhole}
+use Rattle.dd_nodes.proofs.Agreement.{agree_same, agree_turn, agree_chain, part_listed}
 
 -- the functions of k numbers from a number on
 functions_from : List Node → ℕ → ℕ → List Function
@@ -68,11 +61,6 @@ module _ (nodes : List Node) where
       (or_left (p (function nodes bound)) false (ap (λ m. p (function nodes m)) (sym e) ∙ here)))
       (cases_lt n bound)
 
-  -- numbers whose functions agree are equal
-  pub one_number : (vars : ℕ) → IsReduced vars nodes → (m n : ℕ) → IsNumber nodes m → IsNumber nodes n → agree vars (function nodes m) (function nodes n) ≡ true → m ≡ n
-  one_number vars reduced m n number_m number_n same = canonical vars nodes reduced m n number_m number_n
-      (agree_values vars (function nodes m) (function nodes n) (depends_number vars nodes reduced m) (depends_number vars nodes reduced n) same)
-
   -- the functions of different numbers are apart
   from_apart : (vars : ℕ) → IsReduced vars nodes → (start k : ℕ) → start + k ≤ length nodes + 2 → Apart (agree vars) (functions_from nodes start k)
   unfolding functions_from
@@ -80,7 +68,7 @@ module _ (nodes : List Node) where
   from_apart vars reduced start (suc k) within = (
     from_none (agree vars (function nodes start)) (suc start) k
         (λ n above below. false_from_ne_true (agree vars (function nodes start) (function nodes n))
-        (λ same. let e : start ≡ n = one_number vars reduced start n (omega arith) (omega arith) same in omega arith)),
+        (λ same. let e : start ≡ n = one_number nodes vars reduced start n (omega arith) (omega arith) same in omega arith)),
     from_apart vars reduced (suc start) k (omega arith),
   )
 

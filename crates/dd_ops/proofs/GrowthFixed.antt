@@ -9,13 +9,14 @@ use Rattle.dd_nodes.specs.Subfunctions.{Function}
 use Rattle.dd_nodes.specs.Table.{Table, IsTable}
 use Rattle.dd_nodes.proofs.NodeLemmas.{node_place, function_node}
 use Rattle.dd_nodes.proofs.Extending.{extends_function}
-use Rattle.dd_ops.specs.Operations.{cofactor_of, Keeps}
-use Rattle.dd_ops.specs.Answers.{IsCofactor}
-use Rattle.dd_ops.specs.Growth.{AddsParts, IsFullFor}
+use Rattle.dd_ops.specs.Operations.{cofactor_of}
+use Rattle.dd_ops.specs.Answers.{IsCofactor, Keeps, IsFullFor}
+use Rattle.dd_ops.specs.Growth.{AddsParts}
 use Rattle.dd_ops.proofs.CofactorLemmas.{lo_stays_below, hi_stays_below}
 use Rattle.dd_ops.proofs.GrowthAnswers.{cofactor_hi, cofactor_lo}
 use Rattle.dd_ops.proofs.GrowthOps.{adds_one, full_one}
-use Rattle.dd_ops.proofs.GrowthParts.{part_only, sub_self}
+use Rattle.dd_nodes.proofs.Dependence.{sub_self}
+use Rattle.dd_ops.proofs.GrowthParts.{part_only}
 use Rattle.dd_ops.proofs.GrowthTables.{AreParts, one_part, adds_first, adds_then, full_parts}
 
 -- the cofactor of a node of the table t0: that of the child lo leaves t1, and that of hi leaves t2

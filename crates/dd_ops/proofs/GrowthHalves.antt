@@ -6,11 +6,11 @@ use Rattle.dd_nodes.specs.NodeList.{Values, function, IsReduced, Appends, Lacks}
 use Rattle.dd_nodes.specs.Subfunctions.{Function}
 use Rattle.dd_nodes.specs.Table.{Table, IsTable}
 use Rattle.dd_ops.specs.declared.question.Question.{Question}
-use Rattle.dd_ops.specs.Operations.{Keeps}
-use Rattle.dd_ops.specs.Answers.{top_of, IsAsked, IsHalf, AreHalfAnswers}
-use Rattle.dd_ops.specs.Growth.{IsPart, AddsParts, IsFullFor, asked_of}
+use Rattle.dd_ops.specs.Answers.{top_of, IsAsked, IsHalf, AreHalfAnswers, Keeps, IsFullFor, asked_of}
+use Rattle.dd_ops.specs.Growth.{IsPart, AddsParts}
 use Rattle.dd_ops.proofs.GrowthAnswers.{asked_kept, half_sub}
-use Rattle.dd_ops.proofs.GrowthParts.{part_only, sub_self}
+use Rattle.dd_nodes.proofs.Dependence.{sub_self}
+use Rattle.dd_ops.proofs.GrowthParts.{part_only}
 use Rattle.dd_ops.proofs.GrowthSteps.{adds_chain, adds_made, adds_for_part, lacks_for_part, lacks_made}
 use Rattle.dd_ops.proofs.QuestionLemmas.{joined}
 use Rattle.dd_ops.proofs.HalvesLemmas.{var_below, var_from, var_from_later}

@@ -8,10 +8,13 @@ use Rattle.dd_nodes.specs.declared.node.DdErr.{DdErr}
 use Rattle.dd_nodes.specs.NodeList.{Values, IsNumber, function, IsReduced, Appends, Lacks, StandsBelow}
 use Rattle.dd_nodes.specs.Subfunctions.{Function}
 use Rattle.dd_nodes.specs.Table.{Table, IsTable}
-use Rattle.dd_ops.specs.Operations.{variable, Keeps}
-use Rattle.dd_ops.specs.Growth.{AddsParts, IsFullFor, AddsAtMost, IsFullBeyond}
+use Rattle.dd_ops.specs.Answers.{Keeps, IsFullFor}
+use Rattle.dd_ops.specs.Operations.{variable}
+use Rattle.dd_nodes.specs.declared.node.DdErr.TheVariants.{Full}
+use Rattle.dd_ops.specs.Growth.{Grows, AddsParts, AddsAtMost, IsFullBeyond}
 use Rattle.dd_ops.proofs.GrowthAnswers.{growth_of, full_of}
-use Rattle.dd_ops.proofs.GrowthParts.{part_only, sub_self}
+use Rattle.dd_nodes.proofs.Dependence.{sub_self}
+use Rattle.dd_ops.proofs.GrowthParts.{part_only}
 use Rattle.dd_ops.proofs.GrowthSteps.{adds_made, adds_same, lacks_made}
 use Rattle.dd_ops.proofs.ValueLemmas.{node_variable}
 
@@ -25,6 +28,9 @@ module _ (pieces : Table → List Function) (inside now after : Table) (is : ins
   pub full_beyond : Keeps inside after → IsFullFor (pieces inside) after → IsFullBeyond (pieces now) now after
   full_beyond kept full = subst (λ (t : Table). IsFullBeyond (pieces t) t after) is
       (let found = full_of (pieces inside) inside after kept.vars table.reduced adds full in record { at_limit = found.0; beyond = found.1 })
+
+  pub grows : (r : Result Ref DdErr) → Keeps inside after → (IsErrOf r Full → IsFullFor (pieces inside) after) → Grows (pieces now) now after r
+  grows r kept full = record { most = adds_at_most; full = λ is_full. full_beyond kept (full is_full) }
 
 -- one node more at most, for one piece
 module _ (before after : Table) (table : IsTable before) (reduced : IsReduced before.vars after.nodes) (node : Node) (piece : Function)

@@ -1,87 +1,22 @@
--- Numbers that are reached, against subfunctions and variables.
-use Rattle.std.proofs.Common.{◌≡◌, ◌≢◌, ℕ, zero, suc, ◌+◌, ◌<◌, ◌≤◌, Bool, true, false, cond, eqb, List, [], ◌∷◌, length, Some, None, slice_index_or, refl, sym, ap, subst, ◌∙◌, inl, inr, ◌⊎◌, ⊎_elim, arith, if◌then◌else◌}
-use Rattle.std.proofs.lemmas.Bool.{cases_Bool, cases_lt, cases_eq, ne_eqb, cond-false, both_ways, not-true, not-false}
-use Rattle.std.proofs.lemmas.Option.{same_Some}
+-- Numbers that are reached, against variables.
+use Rattle.std.proofs.Common.{◌≡◌, ◌≢◌, ℕ, zero, suc, ◌+◌, ◌<◌, Bool, true, false, cond, eqb, List, [], ◌∷◌, Some, None, refl, sym, ap, subst, ◌∙◌, inl, inr, ◌⊎◌, ⊎_elim, arith, if◌then◌else◌}
+use Rattle.std.proofs.lemmas.Bool.{cases_Bool, cases_eq, ne_eqb, cond-false, both_ways, not-true, not-false}
 use Rattle.dd_nodes.specs.declared.node.Node.{Node}
-use Rattle.dd_nodes.specs.NodeList.{Values, with_value, node_at, next_from, next, function, StandsFrom, IsReduced}
-use Rattle.dd_nodes.specs.Subfunctions.{Function, with_first, fixed, agree, IsSubfunction}
-use Rattle.dd_nodes.proofs.NodeLemmas.{cases_Option, next_lower, function_next, function_node, function_without_node}
+use Rattle.dd_nodes.specs.NodeList.{Values, with_value, node_at, next_from, next, function, IsReduced}
+use Rattle.dd_nodes.specs.Subfunctions.{with_first, agree}
+use Rattle.dd_nodes.proofs.NodeLemmas.{cases_Option, function_node, function_without_node}
 use Rattle.dd_ops.specs.Operations.{cofactor_of}
-use Rattle.dd_ops.specs.Growth.{descend, IsReached, depends_on}
-use Rattle.dd_ops.proofs.GrowthAgree.{agree_from, agree_same, agree_each}
-use Rattle.dd_ops.proofs.GrowthBounds.{within_at, past_at}
-use Rattle.dd_ops.proofs.GrowthParts.{sub_self, sub_chain, sub_hi, sub_lo, depends_function, depends_number}
+use Rattle.dd_nodes.specs.Reached.{descend, IsReached}
+use Rattle.dd_ops.specs.Growth.{depends_on}
+use Rattle.dd_nodes.proofs.Agreement.{agree_from, agree_same, agree_each}
+use Rattle.dd_nodes.proofs.Reaching.{reached_sub}
+use Rattle.dd_nodes.proofs.Dependence.{depends_number}
 use Rattle.dd_ops.proofs.GrowthSubst.{sees_variable}
 
 module _ (vars : ℕ) (nodes : List Node) (reduced : IsReduced vars nodes) where
-  -- a step from a number leads to a subfunction
-  next_sub : (values : Values) (n : ℕ) → IsSubfunction vars (function nodes n) (function nodes (next nodes values n))
-  next_sub values n = ⊎_elim
-      (λ (none : node_at nodes n ≡ None). subst (λ o. IsSubfunction vars (function nodes n) (function nodes (next_from values n o))) (sym none) (sub_self vars (function nodes n)))
-      (λ (found : (node : Node) × (node_at nodes n ≡ Some node)).
-      subst (λ o. IsSubfunction vars (function nodes n) (function nodes (next_from values n o))) (sym found.1) (either found.0 found.1 (values found.0.var)))
-      (cases_Option (node_at nodes n))
-    where
-      either : (node : Node) → node_at nodes n ≡ Some node → (b : Bool) → IsSubfunction vars (function nodes n) (function nodes (cond b node.hi.0 node.lo.0))
-      either node there true = sub_hi vars nodes reduced n node there
-      either node there false = sub_lo vars nodes reduced n node there
-
-  descend_sub : (choices : List Bool) (n : ℕ) → IsSubfunction vars (function nodes n) (function nodes (descend nodes choices n))
-  unfolding descend
-  descend_sub [] n = sub_self vars (function nodes n)
-  descend_sub (choice ∷ choices) n = sub_chain vars (function nodes n) (function nodes (next nodes (λ _. choice) n)) (function nodes (descend nodes choices (next nodes (λ _. choice) n)))
-      (next_sub (λ _. choice) n) (descend_sub choices (next nodes (λ _. choice) n))
-
-  pub reached_sub : (n m : ℕ) → IsReached nodes n m → IsSubfunction vars (function nodes n) (function nodes m)
-  reached_sub n m reached = subst (λ k. IsSubfunction vars (function nodes n) (function nodes k)) reached.leads (descend_sub reached.choices n)
-
-  own_from : (n : ℕ) (node : Node) → node_at nodes n ≡ Some node → StandsFrom nodes node.var n
-  own_from n node there k at = subst (λ m. node.var ≤ m.var) (same_Some node k (sym there ∙ at)) (omega arith)
-
-  -- a fixed variable is a choice
-  first_step : (first : List Bool) (n : ℕ) (node : Node) → node_at nodes n ≡ Some node → node.var < length first → (values : Values)
-      → function nodes n (with_first first values) ≡ function nodes (next nodes (λ _. slice_index_or first node.var false) n) (with_first first values)
-  first_step first n node there within values =
-      function_next nodes vars reduced n node (with_first first values) there
-      ∙ ap (λ m. function nodes m (with_first first values)) (ap (next_from (with_first first values) n) there
-      ∙ ap (λ b. cond b node.hi.0 node.lo.0) (within_at first node.var (values node.var) false within)
-      ∙ sym (ap (next_from (λ _. slice_index_or first node.var false) n) there))
-
-  -- with its first variables fixed a number's function is that of a number that is reached
-  FirstReached : List Bool → ℕ → Type 0
-  FirstReached first n = (choices : List Bool) × (fixed first (function nodes n) ≡ function nodes (descend nodes choices n))
-
-  first_node : (first : List Bool) (n : ℕ) (node : Node) → node_at nodes n ≡ Some node → ((m : ℕ) → m < n → FirstReached first m) → FirstReached first n
-  unfolding descend FirstReached
-  first_node first n node there lower_reached = ⊎_elim
-      (λ (within : node.var < length first).
-      let choice : Bool = slice_index_or first node.var false in
-      let rest = lower_reached (next nodes (λ _. choice) n) (next_lower nodes vars reduced (λ _. choice) n node there) in
-      (choice ∷ rest.0, (λ i values. first_step first n node there within values i) ∙ rest.1))
-      (λ (past : length first ≤ node.var). (
-        [],
-        λ i values. depends_function vars nodes reduced node.var n (own_from n node there) (with_first first values) values
-            (λ u above _. past_at first u (values u) (omega arith)) i,
-      ))
-      (cases_lt node.var (length first))
-
-  first_reached : (first : List Bool) (bound n : ℕ) → n < bound → FirstReached first n
-  unfolding descend FirstReached
-  first_reached first zero n below = absurd (omega arith)
-  first_reached first (suc bound) n below = ⊎_elim
-      (λ (none : node_at nodes n ≡ None). ([], λ i values. (function_without_node nodes n (with_first first values) none ∙ sym (function_without_node nodes n values none)) i))
-      (λ (found : (node : Node) × (node_at nodes n ≡ Some node)). first_node first n found.0 found.1 (λ m lower. first_reached first bound m (omega arith)))
-      (cases_Option (node_at nodes n))
-
-  pub sub_reached : (n : ℕ) (g : Function) → IsSubfunction vars (function nodes n) g → (m : ℕ) × IsReached nodes n m × (function nodes m ≡ g)
-  unfolding FirstReached
-  sub_reached n g sub =
-      let found = first_reached sub.first (n + 1) n (omega arith) in
-      (descend nodes found.0 n, record { choices = found.0; leads = refl }, sym found.1 ∙ (λ i values. sym (sub.fixes values) i))
-
   pub reached_sees : (n v : ℕ) → (m : ℕ) × (node : Node) × IsReached nodes n m × (node_at nodes m ≡ Some node) × (node.var ≡ v) → depends_on vars (function nodes n) v ≡ true
   reached_sees n v (m, node, reached, there, same) = subst (λ w. depends_on vars (function nodes n) w ≡ true) same
-      (sees_variable vars nodes reduced (function nodes n) (depends_number vars nodes reduced n) m node there (reached_sub n m reached))
+      (sees_variable vars nodes reduced (function nodes n) (depends_number vars nodes reduced n) m node there (reached_sub vars nodes reduced n m reached))
 
   -- a node is reached with the variable
   abbrev ReachesVariable : ℕ → ℕ → Type 0

@@ -8,9 +8,9 @@ use Rattle.dd_nodes.specs.Subfunctions.{Function}
 use Rattle.dd_nodes.specs.Table.{Table, IsTable}
 use Rattle.dd_nodes.proofs.NodeLemmas.{node_place, function_node}
 use Rattle.dd_nodes.proofs.Extending.{extends_function}
-use Rattle.dd_ops.specs.Operations.{variable, listed, replaced, subst_of, Keeps}
-use Rattle.dd_ops.specs.Answers.{AreNumbers, IsReplaced}
-use Rattle.dd_ops.specs.Growth.{IsPart, AddsParts, IsFullFor, pieces_of_subst, pieces_of_variable, asked_of}
+use Rattle.dd_ops.specs.Operations.{variable, listed, replaced, subst_of}
+use Rattle.dd_ops.specs.Answers.{AreNumbers, IsReplaced, Keeps, IsFullFor, pieces_of_variable, asked_of}
+use Rattle.dd_ops.specs.Growth.{IsPart, AddsParts, pieces_of_subst}
 use Rattle.dd_ops.proofs.GrowthSubstSteps.{pieces_kept, result_part, variable_part, hi_parts, lo_parts}
 use Rattle.dd_ops.proofs.GrowthTables.{AreParts, one_part, own_parts, adds_first, adds_then, full_parts}
 

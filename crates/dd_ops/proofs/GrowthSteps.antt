@@ -9,8 +9,8 @@ use Rattle.dd_nodes.proofs.NodeLemmas.{function_node}
 use Rattle.dd_nodes.proofs.Extending.{extends_same, extends_more}
 use Rattle.dd_nodes.proofs.Extension.{function_kept, node_pushed, reduced_push}
 use Rattle.dd_ops.specs.Growth.{IsPart, AddsParts, LacksPart}
-use Rattle.dd_ops.proofs.GrowthAgree.{agree_same, agree_chain}
-use Rattle.dd_ops.proofs.GrowthCount.{one_number}
+use Rattle.dd_nodes.proofs.Agreement.{agree_same, agree_chain}
+use Rattle.dd_nodes.proofs.NodeCount.{one_number}
 use Rattle.dd_ops.proofs.GrowthParts.{part_chain, part_same}
 
 -- where each piece is a part of other pieces, each part of the pieces is one of the others

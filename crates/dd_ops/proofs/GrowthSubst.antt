@@ -12,10 +12,13 @@ use Rattle.dd_nodes.specs.Subfunctions.{Function, with_first, fixed, lists, list
 use Rattle.dd_nodes.proofs.NodeLemmas.{same_ref, node_place}
 use Rattle.dd_nodes.proofs.Canonicity.{with_value_same, canonical}
 use Rattle.dd_ops.specs.Operations.{variable, cofactor_of}
-use Rattle.dd_ops.specs.Growth.{grow, IsPart, DependsOnly, subst_pieces, depends_on}
-use Rattle.dd_ops.proofs.GrowthAgree.{agree_same, lists_from, agree_values}
-use Rattle.dd_ops.proofs.GrowthParts.{sub_chain, sub_self, part_same, function_at_hi, function_at_lo}
-use Rattle.dd_ops.proofs.GrowthBounds.{length-lists_up_to, length-filter_within, within_at, past_at, grow_piece, grow-append, grow-nil, grow_each, grow_variable, grow_constant}
+use Rattle.dd_nodes.specs.Subfunctions.{DependsOnly}
+use Rattle.dd_ops.specs.Growth.{grow, IsPart, subst_pieces, depends_on}
+use Rattle.dd_nodes.proofs.Agreement.{agree_same, lists_from, agree_values}
+use Rattle.dd_nodes.proofs.Dependence.{sub_chain, sub_self, function_at_hi, function_at_lo}
+use Rattle.dd_ops.proofs.GrowthParts.{part_same}
+use Rattle.dd_nodes.proofs.Reaching.{within_at, past_at}
+use Rattle.dd_ops.proofs.GrowthBounds.{length-lists_up_to, length-filter_within, grow_piece, grow-append, grow-nil, grow_each, grow_variable, grow_constant}
 
 map-map : {X Y Z : Type 0} (g : Y → Z) (h : X → Y) (xs : List X) → map g (map h xs) ≡ map (λ x. g (h x)) xs
 map-map g h [] = refl

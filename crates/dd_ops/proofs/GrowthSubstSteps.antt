@@ -10,7 +10,7 @@ use Rattle.dd_nodes.proofs.Extending.{extends_function}
 use Rattle.dd_ops.specs.Answers.{AreNumbers}
 use Rattle.dd_ops.specs.Operations.{listed, variable, replaced, subst_of}
 use Rattle.dd_ops.specs.Growth.{grow, IsPart, AddsParts, LacksPart, subst_pieces, pieces_of_subst}
-use Rattle.dd_ops.proofs.GrowthParts.{sub_self, sub_hi, sub_lo, depends_number}
+use Rattle.dd_nodes.proofs.Dependence.{sub_self, sub_hi, sub_lo, depends_number}
 use Rattle.dd_ops.proofs.GrowthSteps.{adds_weaker, lacks_weaker}
 use Rattle.dd_ops.proofs.GrowthSubst.{grow_subst, part_result, part_variable, sees_variable, subst_pieces_sub}
 

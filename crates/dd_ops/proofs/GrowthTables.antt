@@ -3,8 +3,9 @@ use Rattle.std.proofs.Common.{◌≡◌, ℕ, zero, suc, List, [], ◌∷◌, le
 use Rattle.std.specs.List.{All}
 use Rattle.dd_nodes.specs.Subfunctions.{Function}
 use Rattle.dd_nodes.specs.Table.{Table}
-use Rattle.dd_ops.specs.Growth.{IsPart, AddsParts, IsFullFor}
-use Rattle.dd_ops.proofs.GrowthParts.{sub_self}
+use Rattle.dd_ops.specs.Answers.{IsFullFor}
+use Rattle.dd_ops.specs.Growth.{IsPart, AddsParts}
+use Rattle.dd_nodes.proofs.Dependence.{sub_self}
 use Rattle.dd_ops.proofs.GrowthSteps.{adds_chain, adds_weaker, lacks_weaker}
 
 -- pieces that are parts of other pieces

@@ -7,8 +7,8 @@ use Rattle.dd_nodes.specs.Subfunctions.{Function}
 use Rattle.dd_nodes.specs.Table.{Table, IsTable}
 use Rattle.dd_nodes.proofs.Extending.{extends_number, extends_function, extends_below, extends_more}
 use Rattle.dd_ops.specs.declared.question.Question.{Question}
-use Rattle.dd_ops.specs.Operations.{ite_of, cofactor_of, Keeps}
-use Rattle.dd_ops.specs.Answers.{top_of, IsAsked, AsksFrom, IsAnswer, IsHalf, AreHalfAnswers, Remembers}
+use Rattle.dd_ops.specs.Operations.{ite_of, cofactor_of}
+use Rattle.dd_ops.specs.Answers.{top_of, IsAsked, AsksFrom, IsAnswer, IsHalf, AreHalfAnswers, Remembers, Keeps}
 use Rattle.dd_ops.proofs.QuestionLemmas.{joined, asks_from_top, top_greatest, half_from, top_in_range, asks_from_small, asked_extends, asks_from_extends, asks_from_back, asked_function, answer_extends, half_value, half_below}
 
 -- a table is kept by a call that changes nothing, and by two calls in turn

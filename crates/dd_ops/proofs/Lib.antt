@@ -1,10 +1,8 @@
 pub mod CofactorLemmas
 pub mod ErrorLemmas
-pub mod GrowthAgree
 pub mod GrowthAnswers
 pub mod GrowthBounds
 pub mod GrowthCount
-pub mod GrowthCounting
 mod GrowthExamples
 pub mod GrowthFixed
 pub mod GrowthHalves
@@ -20,5 +18,7 @@ pub mod HalvesLemmas
 pub mod MemoLemmas
 pub mod QuestionEq
 pub mod QuestionLemmas
+pub mod ReplacedLemmas
+pub mod Restated
 pub mod SubstLemmas
 pub mod ValueLemmas

@@ -1,18 +1,21 @@
 -- The functions of the operations that are one if-then-else with constants.
-use Rattle.std.proofs.Common.{length, length-append, arith, ◌≤◌, ◌+◌, ◌≡◌, ℕ, Bool, true, false, not, ◌&&◌, ◌||◌, cond, List, refl, sym, ap, ◌∙◌, if◌then◌else◌}
+use Rattle.std.proofs.Common.{[], ◌∷◌, length, length-append, arith, ◌≤◌, ◌+◌, ◌≡◌, ℕ, Bool, true, false, not, ◌&&◌, ◌||◌, cond, List, refl, sym, ap, ◌∙◌, if◌then◌else◌}
 use Rattle.dd_nodes.specs.declared.node.Node.{Node}
 use Rattle.std.proofs.Common.{Result, Ok, Err, IfOk, subst}
-use Rattle.dd_nodes.specs.NodeList.{Values, function, IsNumber}
+use Rattle.dd_nodes.specs.declared.node.DdErr.{DdErr}
+use Rattle.dd_nodes.specs.NodeList.{Values, function, IsNumber, Extends}
+use Rattle.dd_ops.specs.Calls.{Answers}
+use Rattle.dd_ops.specs.Growth.{Grows}
 use Rattle.dd_nodes.specs.Table.{Table, IsTable}
-use Rattle.dd_nodes.proofs.Extending.{extends_function}
+use Rattle.dd_nodes.proofs.Extending.{extends_function, extends_more}
 use Rattle.dd_ops.specs.declared.question.Question.{Question}
-use Rattle.dd_ops.specs.Answers.{AreNumbers, IsAsked, IsAnswer, IsCofactor, IsReplaced}
+use Rattle.dd_ops.specs.Answers.{AreNumbers, IsAsked, IsAnswer, IsCofactor, IsReplaced, Keeps}
 use Rattle.dd_nodes.specs.declared.node.Ref.{Ref}
 use Rattle.dd_ops.proofs.SubstLemmas.{subst_extends}
 use Rattle.dd_ops.proofs.QuestionLemmas.{asked_function}
 use Rattle.dd_nodes.specs.Subfunctions.{Function}
 use Rattle.dd_nodes.proofs.NodeLemmas.{function_false, function_true}
-use Rattle.dd_ops.specs.Operations.{variable, not_of, and_of, or_of, minus_of, ite_of, cofactor_of, subst_of, Keeps}
+use Rattle.dd_ops.specs.Operations.{variable, not_of, and_of, or_of, minus_of, ite_of, cofactor_of, subst_of}
 
 module _ (nodes : List Node) where
   false_number : function nodes 0 ≡ (λ _. false)
@@ -64,6 +67,10 @@ pub ok_then : {X Y : Type 0} {P Q : X → Type 0} (r : Result X Y) → IfOk r P 
 ok_then (Ok x) p follows = follows x p
 ok_then (Err y) p follows = tt
 
+pub ok_both : {X Y : Type 0} {P Q R : X → Type 0} (r : Result X Y) → IfOk r P → IfOk r Q → ((x : X) → P x → Q x → R x) → IfOk r R
+ok_both (Ok x) p q follows = follows x p q
+ok_both (Err y) p q follows = tt
+
 -- a table that a value shows, and what a call leaves of it
 module _ (inside now after : Table) (is : inside ≡ now) (table : IsTable inside) (kept : Keeps inside after) where
   pub earlier_function : (n : ℕ) → IsNumber now.nodes n → function after.nodes n ≡ function now.nodes n
@@ -93,3 +100,60 @@ module _ (inside now after : Table) (is : inside ≡ now) (table : IsTable insid
       answer.value
       ∙ subst_extends inside.nodes after.nodes kept.nodes inside.vars table.reduced map (subst (λ (t : Table). AreNumbers t.nodes map) (sym is) numbers) f (subst (λ (t : Table). IsNumber t.nodes f) (sym is) number)
       ∙ ap (λ (t : Table). subst_of t.nodes map (function t.nodes f)) is
+
+  -- a call that keeps the nodes answers what its number denotes
+  pub answers : IsTable after → (wanted : Function) (r : Result Ref DdErr) → IfOk r (λ (k : Ref). function after.nodes k.0 ≡ wanted) → IfOk r (λ (k : Ref). IsNumber after.nodes k.0) → Answers wanted now after r
+  answers later wanted r value number = record {
+    value = value;
+    in_table = number;
+    table = later;
+    vars = kept.vars ∙ ap (λ (t : Table). t.vars) is;
+    limit = kept.limit ∙ ap (λ (t : Table). t.limit) is;
+    nodes = subst (λ (t : Table). Extends t.nodes after.nodes) is kept.nodes;
+    longer = longer;
+    earlier = earlier_function;
+  }
+
+-- the operations that are one if-then-else with constants
+module _ (before after : Table) (r : Result Ref DdErr) where
+  pub answers_not : (f : Function) → Answers (ite_of f (function before.nodes 0) (function before.nodes 1)) before after r → Answers (not_of f) before after r
+  answers_not f answer = subst (λ (w : Function). Answers w before after r) (ite_not before.nodes f) answer
+
+  pub answers_and : (f g : Function) → Answers (ite_of f g (function before.nodes 0)) before after r → Answers (and_of f g) before after r
+  answers_and f g answer = subst (λ (w : Function). Answers w before after r) (ite_and before.nodes f g) answer
+
+  pub answers_or : (f g : Function) → Answers (ite_of f (function before.nodes 1) g) before after r → Answers (or_of f g) before after r
+  answers_or f g answer = subst (λ (w : Function). Answers w before after r) (ite_or before.nodes f g) answer
+
+  pub answers_minus : (f g : Function) → Answers (ite_of g (function before.nodes 0) f) before after r → Answers (minus_of f g) before after r
+  answers_minus f g answer = subst (λ (w : Function). Answers w before after r) (ite_minus before.nodes f g) answer
+
+  pub grows_not : (f : Function) → Grows (ite_of f (function before.nodes 0) (function before.nodes 1) ∷ []) before after r → Grows (not_of f ∷ []) before after r
+  grows_not f growth = subst (λ (w : Function). Grows (w ∷ []) before after r) (ite_not before.nodes f) growth
+
+  pub grows_and : (f g : Function) → Grows (ite_of f g (function before.nodes 0) ∷ []) before after r → Grows (and_of f g ∷ []) before after r
+  grows_and f g growth = subst (λ (w : Function). Grows (w ∷ []) before after r) (ite_and before.nodes f g) growth
+
+  pub grows_or : (f g : Function) → Grows (ite_of f (function before.nodes 1) g ∷ []) before after r → Grows (or_of f g ∷ []) before after r
+  grows_or f g growth = subst (λ (w : Function). Grows (w ∷ []) before after r) (ite_or before.nodes f g) growth
+
+  pub grows_minus : (f g : Function) → Grows (ite_of g (function before.nodes 0) f ∷ []) before after r → Grows (minus_of f g ∷ []) before after r
+  grows_minus f g growth = subst (λ (w : Function). Grows (w ∷ []) before after r) (ite_minus before.nodes f g) growth
+
+-- what an if-then-else answers after another call, it answers of the table before both
+module _ (t0 t1 t2 : Table) (other : Function) (r0 r : Result Ref DdErr) (first : Answers other t0 t1 r0) where
+  pub ite_later : (f g h : ℕ) → IsNumber t0.nodes f → IsNumber t0.nodes g → IsNumber t0.nodes h
+      → Answers (ite_of (function t1.nodes f) (function t1.nodes g) (function t1.nodes h)) t1 t2 r → Answers (ite_of (function t0.nodes f) (function t0.nodes g) (function t0.nodes h)) t0 t2 r
+  ite_later f g h is_f is_g is_h second =
+      let longer_first : length t0.nodes ≤ length t1.nodes = first.longer in
+      let longer_second : length t1.nodes ≤ length t2.nodes = second.longer in
+      record {
+        value = ok_then r second.value (λ (k : Ref) value. value ∙ (λ i. ite_of (first.earlier f is_f i) (first.earlier g is_g i) (first.earlier h is_h i)));
+        in_table = second.in_table;
+        table = second.table;
+        vars = second.vars ∙ first.vars;
+        limit = second.limit ∙ first.limit;
+        nodes = extends_more t0.nodes t1.nodes t2.nodes first.nodes second.nodes;
+        longer = omega arith;
+        earlier = λ n number. second.earlier n (omega arith) ∙ first.earlier n number;
+      }

@@ -1,14 +1,16 @@
 -- How many nodes a call adds at most, counted by functions: a call makes no node but those of its pieces, which are the
--- functions that its contract names.
-use Rattle.std.specs.Prelude.{◌≡◌, ℕ, ◌+◌, ◌<◌, ◌≤◌, Bool, true, false, not, ◌&&◌, List, [], ◌∷◌, ◌++◌, length, map, filter, is_some, if◌then◌else◌}
+-- functions that its contract names. Equal functions have one node in a reduced list (Bryant 1986), so what the call adds is at
+-- most the number of the pieces' different subfunctions that no number of the list has.
+use Rattle.std.specs.Prelude.{◌≡◌, ℕ, ◌+◌, ◌<◌, ◌≤◌, Bool, true, false, not, ◌&&◌, List, ◌++◌, length, map, filter, is_some, Result, IsErrOf}
 use Rattle.std.specs.List.{Any, range_with_len}
+use Rattle.dd_nodes.specs.declared.node.DdErr.{DdErr}
+use Rattle.dd_nodes.specs.declared.node.DdErr.TheVariants.{Full}
 use Rattle.dd_nodes.specs.declared.node.Node.{Node}
-use Rattle.dd_nodes.specs.NodeList.{Values, next, IsNumber, IsReduced, Extends, function}
-use Rattle.dd_nodes.specs.Subfunctions.{Function, IsSubfunction, agree, subfunctions, nodes_beside, functions}
 use Rattle.dd_nodes.specs.declared.node.Ref.{Ref}
+use Rattle.dd_nodes.specs.NodeList.{Values, IsNumber, IsReduced, Extends, function}
+use Rattle.dd_nodes.specs.Subfunctions.{Function, IsSubfunction, agree, subfunctions, nodes_beside, functions}
 use Rattle.dd_nodes.specs.Table.{Table}
-use Rattle.dd_ops.specs.declared.question.Question.{Question}
-use Rattle.dd_ops.specs.Operations.{variable, cofactor_of, ite_of, listed, replaced}
+use Rattle.dd_ops.specs.Operations.{variable, cofactor_of, listed, replaced}
 
 -- how many different subfunctions of the pieces no number of the list has; a constant is a number of every list
 abbrev pub grow : ℕ → List Node → List Function → ℕ
@@ -17,10 +19,6 @@ grow vars before pieces = nodes_beside vars (functions before) pieces
 -- a function is a part of the pieces: it is a subfunction of one of them
 abbrev pub IsPart : ℕ → List Function → Function → Type 0
 IsPart vars pieces part = Any (λ piece. IsSubfunction vars piece part) pieces
-
--- a function depends on no variables but those from low on and below vars
-abbrev pub DependsOnly : ℕ → ℕ → Function → Type 0
-DependsOnly low vars f = (s t : Values) → ((u : ℕ) → low ≤ u → u < vars → s u ≡ t u) → f s ≡ f t
 
 -- a reduced list has the nodes of the list before, under the numbers that they had, and the function of each other number is
 -- a part of the pieces
@@ -50,19 +48,6 @@ subst_pieces vars f is_listed replaced =
 abbrev pub pieces_of_subst : ℕ → List Node → List (ℕ × Ref) → ℕ → List Function
 pieces_of_subst vars nodes map n = subst_pieces vars (function nodes n) (λ v. is_some (listed map v)) (replaced nodes map)
 
--- the pieces of the function that replaces a variable: the variable itself, unless it is listed
-abbrev pub pieces_of_variable : List (ℕ × Ref) → ℕ → List Function
-pieces_of_variable map v = if is_some (listed map v) then [] else variable v ∷ []
-
--- the one piece of a question: the function of its answer
-abbrev pub asked_of : List Node → Question → Function
-asked_of nodes q = ite_of (function nodes q.f.0) (function nodes q.g.0) (function nodes q.h.0)
-
--- a call was refused for want of room: the table holds as many nodes as it may, and lacks a part of the pieces
-pub record IsFullFor (pieces : List Function) (table : Table) : Type 0 where
-  pub at_limit : length table.nodes ≡ table.limit
-  pub lacks : LacksPart table.vars pieces table.nodes
-
 -- a call with these pieces adds at most `grow` nodes
 abbrev pub AddsAtMost : List Function → Table → Table → Type 0
 AddsAtMost pieces before after = length after.nodes ≤ length before.nodes + grow before.vars before.nodes pieces
@@ -72,12 +57,7 @@ pub record IsFullBeyond (pieces : List Function) (before after : Table) : Type 0
   pub at_limit : length after.nodes ≡ after.limit
   pub beyond : after.limit < length before.nodes + grow before.vars before.nodes pieces
 
--- the number to which choices lead from a number: each goes to hi where it is true and to lo where it is false
-unfoldable pub descend : List Node → List Bool → ℕ → ℕ
-descend nodes [] n = n
-descend nodes (choice ∷ choices) n = descend nodes choices (next nodes (λ _. choice) n)
-
--- some choices lead from a number to another
-pub record IsReached (nodes : List Node) (from to : ℕ) : Type 0 where
-  pub choices : List Bool
-  pub leads : descend nodes choices from ≡ to
+-- what a call with these pieces says of the table's growth: the bound, and that `Full` comes only beyond it
+pub record Grows (pieces : List Function) (before after : Table) (result : Result Ref DdErr) : Type 0 where
+  pub most : AddsAtMost pieces before after
+  pub full : IsErrOf result Full → IsFullBeyond pieces before after

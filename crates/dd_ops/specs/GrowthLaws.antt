@@ -1,10 +1,13 @@
 -- The laws of growth.
-use Rattle.std.specs.Prelude.{◌≡◌, ◌≢◌, ◌↔◌, Some, ℕ, ◌+◌, ◌^◌, ◌<◌, ◌≤◌, Bool, true, List, [], ◌∷◌, ◌++◌, length}
+use Rattle.std.specs.Prelude.{◌≡◌, ◌≢◌, ◌↔◌, Some, ℕ, ◌+◌, ◌^◌, ◌<◌, ◌≤◌, true, List, [], ◌∷◌, ◌++◌, length}
 use Rattle.dd_nodes.specs.declared.node.Node.{Node}
-use Rattle.dd_nodes.specs.NodeList.{Values, node_at, IsNumber, IsReduced, StandsBelow, Lacks, function}
-use Rattle.dd_nodes.specs.Subfunctions.{Function, IsSubfunction}
+use Rattle.dd_nodes.specs.NodeList.{node_at, IsNumber, IsReduced, StandsBelow, Lacks, function}
+use Rattle.dd_nodes.specs.Reached.{IsReached}
+use Rattle.dd_nodes.specs.Subfunctions.{Function}
+use Rattle.dd_nodes.specs.Table.{Table, IsTable}
+use Rattle.dd_nodes.specs.declared.node.Ref.{Ref}
 use Rattle.dd_ops.specs.Operations.{variable, ite_of}
-use Rattle.dd_ops.specs.Growth.{grow, DependsOnly, AddsParts, LacksPart, depends_on, subst_pieces, IsReached}
+use Rattle.dd_ops.specs.Growth.{grow, AddsParts, LacksPart, depends_on, pieces_of_subst}
 
 -- a list that adds parts of the pieces alone adds no more nodes than `grow` counts
 abbrev pub GrowsWithin : Type 0
@@ -33,19 +36,13 @@ abbrev pub PiecesGrowTogether : Type 0
 PiecesGrowTogether =
     (vars : ℕ) (before : List Node) (pieces others : List Function) → grow vars before (pieces ++ others) ≤ grow vars before pieces + grow vars before others
 
--- a substitution needs at most the square of the number of lists of truth values
+-- a substitution in a number of a table over `vars` variables needs at most `4 ^ vars` new nodes
 abbrev pub SubstitutionGrowsWithin : Type 0
 SubstitutionGrowsWithin =
-    (vars : ℕ) (before : List Node) (f : Function) (is_listed : ℕ → Bool) (replaced : Values → Values) → DependsOnly 0 vars f
-    → grow vars before (subst_pieces vars f is_listed replaced) ≤ 4 ^ vars
+    (table : Table) → IsTable table → (map : List (ℕ × Ref)) (n : ℕ) → IsNumber table.nodes n
+    → grow table.vars table.nodes (pieces_of_subst table.vars table.nodes map n) ≤ 4 ^ table.vars
 
--- the pieces of a substitution by numbers: the subfunctions of a number's function are the functions of the numbers that are
--- reached from it, and the variables on which it depends are those of their nodes
-abbrev pub SubfunctionsAreReached : Type 0
-SubfunctionsAreReached =
-    (vars : ℕ) (nodes : List Node) → IsReduced vars nodes → (n : ℕ) → IsNumber nodes n → (g : Function)
-    → IsSubfunction vars (function nodes n) g ↔ ((m : ℕ) × IsReached nodes n m × (function nodes m ≡ g))
-
+-- the variables on which a number's function depends are those of the nodes that are reached from it
 abbrev pub VariablesAreReached : Type 0
 VariablesAreReached =
     (vars : ℕ) (nodes : List Node) → IsReduced vars nodes → (n : ℕ) → IsNumber nodes n → (v : ℕ)

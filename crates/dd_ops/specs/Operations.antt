@@ -1,11 +1,10 @@
 -- The operations on functions of truth values.
-use Rattle.std.specs.Prelude.{◌≡◌, ℕ, ◌==◌, Bool, not, ◌&&◌, ◌||◌, List, Option, if◌then◌else◌, option_map, find}
+use Rattle.std.specs.Prelude.{ℕ, ◌==◌, Bool, not, ◌&&◌, ◌||◌, List, Option, if◌then◌else◌, option_map, find}
 use Rattle.std.specs.Option.{option_map_or}
 use Rattle.dd_nodes.specs.declared.node.Node.{Node}
 use Rattle.dd_nodes.specs.declared.node.Ref.{Ref}
-use Rattle.dd_nodes.specs.NodeList.{Values, with_value, function, Extends}
+use Rattle.dd_nodes.specs.NodeList.{Values, with_value, function}
 use Rattle.dd_nodes.specs.Subfunctions.{Function}
-use Rattle.dd_nodes.specs.Table.{Table}
 
 -- the value of a variable
 abbrev pub variable : ℕ → Function
@@ -43,9 +42,3 @@ replaced nodes map values v = option_map_or (λ g. function nodes g.0 values) (l
 -- f with all listed variables replaced at once
 abbrev pub subst_of : List Node → List (ℕ × Ref) → Function → Function
 subst_of nodes map f values = f (replaced nodes map values)
-
--- a call leaves the variables, the limit and each earlier node as they were
-pub record Keeps (before after : Table) : Type 0 where
-  pub vars : after.vars ≡ before.vars
-  pub limit : after.limit ≡ before.limit
-  pub nodes : Extends before.nodes after.nodes

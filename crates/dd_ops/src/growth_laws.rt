@@ -1,10 +1,11 @@
-//! How many nodes an operation adds at most: laws on functions, for callers to cite. Each function does nothing, and its
-//! contract is the law.
+//! How many nodes an operation adds at most: laws on functions, for callers to cite. Each function
+//! does nothing, and its contract is the law.
 //!
-//! The pieces of a call are the functions whose nodes it may have to make, and `grow` counts their different subfunctions that
-//! no number of the table has. Equal functions have equal numbers in a reduced list (R. E. Bryant, "Graph-Based Algorithms for
-//! Boolean Function Manipulation", IEEE Transactions on Computers, 1986), so no call that makes only such nodes makes more.
-ghost use Rattle.dd_ops.specs.GrowthLaws.{GrowsWithin, FullOnlyBeyond, RefusedNodeIsMissing, PieceGrowsBelow, PiecesGrowTogether, SubstitutionGrowsWithin, SubfunctionsAreReached, VariablesAreReached};
+//! The pieces of a call are the functions whose nodes it may have to make, and `grow` counts their
+//! different subfunctions that no number of the table has. Equal functions have equal numbers in a
+//! reduced list (R. E. Bryant, "Graph-Based Algorithms for Boolean Function Manipulation", IEEE
+//! Transactions on Computers, 1986), so no call that makes only such nodes makes more.
+ghost use Rattle.dd_ops.specs.GrowthLaws.{GrowsWithin, FullOnlyBeyond, RefusedNodeIsMissing, PieceGrowsBelow, PiecesGrowTogether, SubstitutionGrowsWithin, VariablesAreReached};
 
 /// A list that adds nodes of the pieces alone adds at most `grow` of them.
 pub fn grows_within()
@@ -31,17 +32,13 @@ pub fn pieces_grow_together()
     ensures { PiecesGrowTogether }
 {}
 
-/// A substitution over `vars` variables needs at most `4 ^ vars` new nodes.
+/// A substitution in a number of a table over `vars` variables needs at most `4 ^ vars` new nodes.
 pub fn substitution_grows_within()
     ensures { SubstitutionGrowsWithin }
 {}
 
-/// The subfunctions of a number's function are the functions of the numbers that are reached from it.
-pub fn subfunctions_are_reached()
-    ensures { SubfunctionsAreReached }
-{}
-
-/// The variables on which a number's function depends are those of the nodes that are reached from it.
+/// The variables on which a number's function depends are those of the nodes that are reached from
+/// it.
 pub fn variables_are_reached()
     ensures { VariablesAreReached }
 {}

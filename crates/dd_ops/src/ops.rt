@@ -1,14 +1,15 @@
 //! The operations on a table of their own.
-ghost use Rattle.std.specs.Prelude.{◌≡◌, ℕ, ◌<◌, ◌≤◌, [], ◌∷◌, length, All, IfOk, IsErrOf};
+ghost use Rattle.std.specs.Prelude.{◌≡◌, ◌<◌, ◌≤◌, [], ◌∷◌, All, IfOk};
 ghost use Rattle.dd_nodes.specs.NodeList.{IsNumber, function};
-ghost use Rattle.dd_nodes.specs.Table.{Table};
-ghost use Rattle.dd_ops.specs.Growth.{AddsAtMost, IsFullBeyond, pieces_of_subst};
-ghost use Rattle.dd_ops.specs.Operations.{variable, not_of, and_of, or_of, minus_of, ite_of, cofactor_of, subst_of, Keeps};
+ghost use Rattle.dd_nodes.specs.Table.{Table, IsTable};
+ghost use Rattle.dd_ops.specs.Calls.{Answers};
+ghost use Rattle.dd_ops.specs.Growth.{Grows, pieces_of_subst};
+ghost use Rattle.dd_ops.specs.Operations.{variable, not_of, and_of, or_of, minus_of, ite_of, cofactor_of, subst_of};
 
 use crate::cofactor::fix;
 use crate::ite::answer;
 use crate::question::Question;
-use crate::subst::replace;
+use crate::subst::substitute;
 use dd_nodes::{Dd, DdErr, Ref};
 use indexmap::IndexMap;
 use std::alloc::{AllocError, Global};
@@ -16,9 +17,10 @@ use std::marker::Model;
 
 /// Diagrams with their operations.
 ///
-/// A contract sees it as its table: the record of `vars`, `limit` and `nodes` of `dd_nodes`. Each call leaves the variables,
-/// the limit and each earlier node as they were, whether it answers or refuses, so each earlier number keeps its function.
-/// A call refuses with `Memory` where memory runs out.
+/// A contract sees it as its table: the record of `vars`, `limit` and `nodes` of `dd_nodes`. Each
+/// call leaves the variables, the limit and each earlier node as they were, whether it answers or
+/// refuses, so each earlier number keeps its function. A call refuses with `Memory` where memory
+/// runs out.
 #[derive(Drop)]
 pub struct Ops {
     dd: Dd,
@@ -44,6 +46,7 @@ impl Ops {
         ensures vars { IfOk result (λ ops. ops.vars ≡ vars) }
         ensures limit { IfOk result (λ ops. ops.limit ≡ limit) }
         ensures empty { IfOk result (λ ops. ops.nodes ≡ []) }
+        ensures table { IfOk result IsTable }
     {
         Ok(Ops {
             dd: Dd::new(alloc, vars, limit)?,
@@ -53,7 +56,8 @@ impl Ops {
 
     /// The table.
     pub fn table(&self) -> &Dd
-        ensures { result.now ≡ self.now }
+        ensures value { result.now ≡ self.now }
+        ensures table { IsTable self.now }
     {
         &self.dd
     }
@@ -61,13 +65,8 @@ impl Ops {
     /// The function that is the value of a variable.
     pub fn var(&mut self, v: u32) -> Result<Ref, DdErr>
         requires { v < self.old.vars }
-        ensures value { IfOk result (λ r. function self.new.nodes r.0 ≡ variable v) }
-        ensures in_table { IfOk result (λ r. IsNumber self.new.nodes r.0) }
-        ensures earlier { (n : ℕ) → IsNumber self.old.nodes n → function self.new.nodes n ≡ function self.old.nodes n }
-        ensures longer { length self.old.nodes ≤ length self.new.nodes }
-        ensures kept { Keeps self.old self.new }
-        ensures grows { AddsAtMost (variable v ∷ []) self.old self.new }
-        ensures full { IsErrOf result DdErr.Full → IsFullBeyond (variable v ∷ []) self.old self.new }
+        ensures answers { Answers (variable v) self.old self.new result }
+        ensures grows { Grows (variable v ∷ []) self.old self.new result }
     {
         self.dd.mk(v, Ref(0), Ref(1))
     }
@@ -77,14 +76,12 @@ impl Ops {
         requires f_in_table { IsNumber self.old.nodes f.0 }
         requires g_in_table { IsNumber self.old.nodes g.0 }
         requires h_in_table { IsNumber self.old.nodes h.0 }
-        ensures value { IfOk result (λ r. function self.new.nodes r.0
-            ≡ ite_of (function self.old.nodes f.0) (function self.old.nodes g.0) (function self.old.nodes h.0)) }
-        ensures in_table { IfOk result (λ r. IsNumber self.new.nodes r.0) }
-        ensures earlier { (n : ℕ) → IsNumber self.old.nodes n → function self.new.nodes n ≡ function self.old.nodes n }
-        ensures longer { length self.old.nodes ≤ length self.new.nodes }
-        ensures kept { Keeps self.old self.new }
-        ensures grows { AddsAtMost (ite_of (function self.old.nodes f.0) (function self.old.nodes g.0) (function self.old.nodes h.0) ∷ []) self.old self.new }
-        ensures full { IsErrOf result DdErr.Full → IsFullBeyond (ite_of (function self.old.nodes f.0) (function self.old.nodes g.0) (function self.old.nodes h.0) ∷ []) self.old self.new }
+        ensures answers { Answers
+            (ite_of (function self.old.nodes f.0) (function self.old.nodes g.0)
+            (function self.old.nodes h.0)) self.old self.new result }
+        ensures grows { Grows
+            (ite_of (function self.old.nodes f.0) (function self.old.nodes g.0)
+            (function self.old.nodes h.0) ∷ []) self.old self.new result }
     {
         let mut memo = IndexMap::new(self.alloc);
         answer(&mut self.dd, &mut memo, Question { f, g, h })
@@ -93,13 +90,8 @@ impl Ops {
     /// The negation of `f`.
     pub fn not(&mut self, f: Ref) -> Result<Ref, DdErr>
         requires f_in_table { IsNumber self.old.nodes f.0 }
-        ensures value { IfOk result (λ r. function self.new.nodes r.0 ≡ not_of (function self.old.nodes f.0)) }
-        ensures in_table { IfOk result (λ r. IsNumber self.new.nodes r.0) }
-        ensures earlier { (n : ℕ) → IsNumber self.old.nodes n → function self.new.nodes n ≡ function self.old.nodes n }
-        ensures longer { length self.old.nodes ≤ length self.new.nodes }
-        ensures kept { Keeps self.old self.new }
-        ensures grows { AddsAtMost (not_of (function self.old.nodes f.0) ∷ []) self.old self.new }
-        ensures full { IsErrOf result DdErr.Full → IsFullBeyond (not_of (function self.old.nodes f.0) ∷ []) self.old self.new }
+        ensures answers { Answers (not_of (function self.old.nodes f.0)) self.old self.new result }
+        ensures grows { Grows (not_of (function self.old.nodes f.0) ∷ []) self.old self.new result }
     {
         self.ite(f, Ref(0), Ref(1))
     }
@@ -108,13 +100,12 @@ impl Ops {
     pub fn and(&mut self, f: Ref, g: Ref) -> Result<Ref, DdErr>
         requires f_in_table { IsNumber self.old.nodes f.0 }
         requires g_in_table { IsNumber self.old.nodes g.0 }
-        ensures value { IfOk result (λ r. function self.new.nodes r.0 ≡ and_of (function self.old.nodes f.0) (function self.old.nodes g.0)) }
-        ensures in_table { IfOk result (λ r. IsNumber self.new.nodes r.0) }
-        ensures earlier { (n : ℕ) → IsNumber self.old.nodes n → function self.new.nodes n ≡ function self.old.nodes n }
-        ensures longer { length self.old.nodes ≤ length self.new.nodes }
-        ensures kept { Keeps self.old self.new }
-        ensures grows { AddsAtMost (and_of (function self.old.nodes f.0) (function self.old.nodes g.0) ∷ []) self.old self.new }
-        ensures full { IsErrOf result DdErr.Full → IsFullBeyond (and_of (function self.old.nodes f.0) (function self.old.nodes g.0) ∷ []) self.old self.new }
+        ensures answers { Answers (and_of (function self.old.nodes f.0)
+            (function self.old.nodes g.0))
+            self.old self.new result }
+        ensures grows { Grows (and_of (function self.old.nodes f.0) (function self.old.nodes g.0) ∷
+            [])
+            self.old self.new result }
     {
         self.ite(f, g, Ref(0))
     }
@@ -123,13 +114,12 @@ impl Ops {
     pub fn or(&mut self, f: Ref, g: Ref) -> Result<Ref, DdErr>
         requires f_in_table { IsNumber self.old.nodes f.0 }
         requires g_in_table { IsNumber self.old.nodes g.0 }
-        ensures value { IfOk result (λ r. function self.new.nodes r.0 ≡ or_of (function self.old.nodes f.0) (function self.old.nodes g.0)) }
-        ensures in_table { IfOk result (λ r. IsNumber self.new.nodes r.0) }
-        ensures earlier { (n : ℕ) → IsNumber self.old.nodes n → function self.new.nodes n ≡ function self.old.nodes n }
-        ensures longer { length self.old.nodes ≤ length self.new.nodes }
-        ensures kept { Keeps self.old self.new }
-        ensures grows { AddsAtMost (or_of (function self.old.nodes f.0) (function self.old.nodes g.0) ∷ []) self.old self.new }
-        ensures full { IsErrOf result DdErr.Full → IsFullBeyond (or_of (function self.old.nodes f.0) (function self.old.nodes g.0) ∷ []) self.old self.new }
+        ensures answers { Answers (or_of (function self.old.nodes f.0)
+            (function self.old.nodes g.0))
+            self.old self.new result }
+        ensures grows { Grows (or_of (function self.old.nodes f.0) (function self.old.nodes g.0) ∷
+            [])
+            self.old self.new result }
     {
         self.ite(f, Ref(1), g)
     }
@@ -138,13 +128,12 @@ impl Ops {
     pub fn minus(&mut self, f: Ref, g: Ref) -> Result<Ref, DdErr>
         requires f_in_table { IsNumber self.old.nodes f.0 }
         requires g_in_table { IsNumber self.old.nodes g.0 }
-        ensures value { IfOk result (λ r. function self.new.nodes r.0 ≡ minus_of (function self.old.nodes f.0) (function self.old.nodes g.0)) }
-        ensures in_table { IfOk result (λ r. IsNumber self.new.nodes r.0) }
-        ensures earlier { (n : ℕ) → IsNumber self.old.nodes n → function self.new.nodes n ≡ function self.old.nodes n }
-        ensures longer { length self.old.nodes ≤ length self.new.nodes }
-        ensures kept { Keeps self.old self.new }
-        ensures grows { AddsAtMost (minus_of (function self.old.nodes f.0) (function self.old.nodes g.0) ∷ []) self.old self.new }
-        ensures full { IsErrOf result DdErr.Full → IsFullBeyond (minus_of (function self.old.nodes f.0) (function self.old.nodes g.0) ∷ []) self.old self.new }
+        ensures answers { Answers (minus_of (function self.old.nodes f.0)
+            (function self.old.nodes g.0))
+            self.old self.new result }
+        ensures grows { Grows (minus_of (function self.old.nodes f.0) (function self.old.nodes g.0)
+            ∷ [])
+            self.old self.new result }
     {
         self.ite(g, Ref(0), f)
     }
@@ -153,13 +142,10 @@ impl Ops {
     pub fn cofactor(&mut self, f: Ref, v: u32, value: bool) -> Result<Ref, DdErr>
         requires f_in_table { IsNumber self.old.nodes f.0 }
         requires v_in_range { v < self.old.vars }
-        ensures value { IfOk result (λ r. function self.new.nodes r.0 ≡ cofactor_of (function self.old.nodes f.0) v value) }
-        ensures in_table { IfOk result (λ r. IsNumber self.new.nodes r.0) }
-        ensures earlier { (n : ℕ) → IsNumber self.old.nodes n → function self.new.nodes n ≡ function self.old.nodes n }
-        ensures longer { length self.old.nodes ≤ length self.new.nodes }
-        ensures kept { Keeps self.old self.new }
-        ensures grows { AddsAtMost (cofactor_of (function self.old.nodes f.0) v value ∷ []) self.old self.new }
-        ensures full { IsErrOf result DdErr.Full → IsFullBeyond (cofactor_of (function self.old.nodes f.0) v value ∷ []) self.old self.new }
+        ensures answers { Answers (cofactor_of (function self.old.nodes f.0) v value)
+            self.old self.new result }
+        ensures grows { Grows (cofactor_of (function self.old.nodes f.0) v value ∷ [])
+            self.old self.new result }
     {
         let mut memo = IndexMap::new(self.alloc);
         fix(&mut self.dd, &mut memo, f, v, value)
@@ -167,21 +153,17 @@ impl Ops {
 
     /// `f` with each listed variable replaced by its function, all at once.
     ///
-    /// The function of the result at some truth values is that of `f` at the values in which each listed variable has the
-    /// value of its function. Where a variable is listed twice, the first entry counts.
+    /// The function of the result at some truth values is that of `f` at the values in which each
+    /// listed variable has the value of its function. Where a variable is listed twice, the first
+    /// entry counts.
     pub fn subst(&mut self, f: Ref, map: &[(u32, Ref)]) -> Result<Ref, DdErr>
         requires f_in_table { IsNumber self.old.nodes f.0 }
         requires map_in_table { All (λ entry. IsNumber self.old.nodes entry.1.0) map.now }
-        ensures value { IfOk result (λ r. function self.new.nodes r.0 ≡ subst_of self.old.nodes map.now (function self.old.nodes f.0)) }
-        ensures in_table { IfOk result (λ r. IsNumber self.new.nodes r.0) }
-        ensures earlier { (n : ℕ) → IsNumber self.old.nodes n → function self.new.nodes n ≡ function self.old.nodes n }
-        ensures longer { length self.old.nodes ≤ length self.new.nodes }
-        ensures kept { Keeps self.old self.new }
-        ensures grows { AddsAtMost (pieces_of_subst self.old.vars self.old.nodes map.now f.0) self.old self.new }
-        ensures full { IsErrOf result DdErr.Full → IsFullBeyond (pieces_of_subst self.old.vars self.old.nodes map.now f.0) self.old self.new }
+        ensures answers { Answers (subst_of self.old.nodes map.now (function self.old.nodes f.0))
+            self.old self.new result }
+        ensures grows { Grows (pieces_of_subst self.old.vars self.old.nodes map.now f.0)
+            self.old self.new result }
     {
-        let mut questions = IndexMap::new(self.alloc);
-        let mut memo = IndexMap::new(self.alloc);
-        replace(&mut self.dd, &mut questions, &mut memo, f, map)
+        substitute(self.alloc, &mut self.dd, f, map)
     }
 }

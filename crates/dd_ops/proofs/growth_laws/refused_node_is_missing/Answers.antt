@@ -1,7 +1,8 @@
 use Rattle.std.proofs.Common.{[], ◌∷◌, refl}
 use Rattle.dd_nodes.specs.NodeList.{function}
 use Rattle.dd_ops.specs.Operations.{variable, ite_of}
-use Rattle.dd_ops.proofs.GrowthParts.{part_only, sub_self}
+use Rattle.dd_nodes.proofs.Dependence.{sub_self}
+use Rattle.dd_ops.proofs.GrowthParts.{part_only}
 use Rattle.dd_ops.proofs.GrowthSteps.{lacks_made}
 use Rattle.dd_ops.proofs.growth_laws.refused_node_is_missing.Goals as goal
 

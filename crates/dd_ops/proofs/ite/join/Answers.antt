@@ -1,10 +1,9 @@
 -- The node that `mk` answers answers the question, and the memo's answers stay answers.
 use Rattle.std.proofs.Common.{◌∷◌, [], sym, subst}
 use Rattle.dd_nodes.specs.Table.{Table}
-use Rattle.dd_ops.specs.Answers.{Remembers}
+use Rattle.dd_ops.specs.Answers.{Remembers, IsFullFor, asked_of}
 use Rattle.dd_ops.proofs.HalvesLemmas.{joined_answer, remembers_extends}
 use Rattle.dd_nodes.specs.NodeList.{IsReduced}
-use Rattle.dd_ops.specs.Growth.{IsFullFor, asked_of}
 use Rattle.dd_ops.proofs.GrowthHalves.{adds_join, full_join}
 use Rattle.dd_nodes.specs.declared.node.DdErr.TheVariants.{Full}
 use Rattle.dd_ops.proofs.ErrorLemmas.{passed_on}

@@ -25,6 +25,7 @@ facts c =
 pub invariant_of-self : goal.invariant_of-self
 invariant_of-self c = record {
   few_vars = c.self.invariant.few_vars;
+  some_room = c.self.invariant.some_room;
   small_limit = c.self.invariant.small_limit;
   within_limit = c.place.ensures.within;
   reduced = subst (λ v. IsReduced v c.place.new.nodes.keys) (sym (ap (λ t. t.vars) c.self.view_is)) (facts c).reduced;

@@ -4,16 +4,16 @@ use Rattle.dd_nodes.specs.NodeList.{function}
 use Rattle.dd_nodes.specs.Subfunctions.{Function}
 use Rattle.dd_nodes.specs.Table.{Table}
 use Rattle.dd_ops.specs.Operations.{cofactor_of}
-use Rattle.dd_ops.proofs.GrowthOps.{adds_at_most, full_beyond}
-use Rattle.dd_ops.proofs.ValueLemmas.{longer, ok_then, cofactor_function, earlier_function}
+use Rattle.dd_ops.proofs.GrowthOps.{grows}
+use Rattle.dd_ops.proofs.ValueLemmas.{answers, ok_then, cofactor_function}
 use Rattle.dd_ops.proofs.ops.Ops.cofactor.Goals as goal
 
-pub returns-clause-value : goal.returns-clause-value
-returns-clause-value c = ok_then c.fix.result c.fix.ensures.answer
-    (λ r answer. cofactor_function c.self.inside.dd c.args.self.now c.fix.new.dd c.self.view_is c.self.invariant c.fix.ensures.kept c.args.f.0 c.args.v c.args.value c.requires.f_in_table r.0 answer)
-
-pub returns-clause-earlier : goal.returns-clause-earlier
-returns-clause-earlier c = earlier_function c.self.inside.dd c.args.self.now c.fix.new.dd c.self.view_is c.self.invariant c.fix.ensures.kept
+pub returns-clause-answers : goal.returns-clause-answers
+returns-clause-answers c =
+    answers c.self.inside.dd c.args.self.now c.fix.new.dd c.self.view_is c.self.invariant c.fix.ensures.kept c.fix.ensures.table (cofactor_of (function c.args.self.now.nodes c.args.f.0) c.args.v c.args.value) c.fix.result
+    (ok_then c.fix.result c.fix.ensures.answer
+    (λ r answer. cofactor_function c.self.inside.dd c.args.self.now c.fix.new.dd c.self.view_is c.self.invariant c.fix.ensures.kept c.args.f.0 c.args.v c.args.value c.requires.f_in_table r.0 answer))
+    (ok_then c.fix.result c.fix.ensures.answer (λ r answer. answer.number))
 
 -- the one piece of the call, over any table
 fixed_pieces : ℕ → ℕ → Bool → Table → List Function
@@ -21,12 +21,5 @@ fixed_pieces f v b t = cofactor_of (function t.nodes f) v b ∷ []
 
 pub returns-clause-grows : goal.returns-clause-grows
 unfolding fixed_pieces
-returns-clause-grows c = adds_at_most (fixed_pieces c.args.f.0 c.args.v c.args.value) c.self.inside.dd c.args.self.now c.fix.new.dd c.self.view_is c.self.invariant c.fix.ensures.adds
-
-pub returns-clause-full : goal.returns-clause-full
-unfolding fixed_pieces
-returns-clause-full c is =
-    full_beyond (fixed_pieces c.args.f.0 c.args.v c.args.value) c.self.inside.dd c.args.self.now c.fix.new.dd c.self.view_is c.self.invariant c.fix.ensures.adds c.fix.ensures.kept (c.fix.ensures.full is)
-
-pub returns-clause-longer : goal.returns-clause-longer
-returns-clause-longer c = longer c.self.inside.dd c.args.self.now c.fix.new.dd c.self.view_is c.self.invariant c.fix.ensures.kept
+returns-clause-grows c =
+    grows (fixed_pieces c.args.f.0 c.args.v c.args.value) c.self.inside.dd c.args.self.now c.fix.new.dd c.self.view_is c.self.invariant c.fix.ensures.adds c.fix.result c.fix.ensures.kept c.fix.ensures.full

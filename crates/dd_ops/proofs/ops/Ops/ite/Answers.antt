@@ -1,22 +1,21 @@
 -- The answer to the question, in the table as it was.
 use Rattle.std.proofs.Common.{List, [], ◌∷◌}
 use Rattle.dd_nodes.specs.Subfunctions.{Function}
-use Rattle.dd_ops.specs.Growth.{asked_of}
-use Rattle.dd_ops.proofs.GrowthOps.{adds_at_most, full_beyond}
 use Rattle.dd_nodes.specs.Table.{Table}
+use Rattle.dd_ops.specs.Answers.{asked_of}
 use Rattle.dd_ops.specs.declared.question.Question.{Question}
-use Rattle.dd_ops.proofs.ValueLemmas.{longer, ok_then, answer_function, earlier_function}
+use Rattle.dd_ops.proofs.GrowthOps.{grows}
+use Rattle.dd_ops.proofs.ValueLemmas.{answers, ok_then, answer_function}
 use Rattle.dd_ops.proofs.ops.Ops.ite.Goals as goal
 
-pub returns-clause-value : goal.returns-clause-value
-returns-clause-value c =
+pub returns-clause-answers : goal.returns-clause-answers
+returns-clause-answers c =
     let q : Question = record { f = c.args.f; g = c.args.g; h = c.args.h } in
-    ok_then c.answer.result c.answer.ensures.answer
+    answers c.self.inside.dd c.args.self.now c.answer.new.dd c.self.view_is c.self.invariant c.answer.ensures.kept c.answer.ensures.table (asked_of c.args.self.now.nodes q) c.answer.result
+    (ok_then c.answer.result c.answer.ensures.answer
     (λ r answer. answer_function c.self.inside.dd c.args.self.now c.answer.new.dd c.self.view_is c.self.invariant c.answer.ensures.kept q
-    (record { f = c.requires.f_in_table; g = c.requires.g_in_table; h = c.requires.h_in_table }) r.0 answer)
-
-pub returns-clause-earlier : goal.returns-clause-earlier
-returns-clause-earlier c = earlier_function c.self.inside.dd c.args.self.now c.answer.new.dd c.self.view_is c.self.invariant c.answer.ensures.kept
+    (record { f = c.requires.f_in_table; g = c.requires.g_in_table; h = c.requires.h_in_table }) r.0 answer))
+    (ok_then c.answer.result c.answer.ensures.answer (λ r answer. answer.number))
 
 -- the one piece of the call, over any table
 asked_pieces : Question → Table → List Function
@@ -26,13 +25,4 @@ pub returns-clause-grows : goal.returns-clause-grows
 unfolding asked_pieces
 returns-clause-grows c =
     let q : Question = record { f = c.args.f; g = c.args.g; h = c.args.h } in
-    adds_at_most (asked_pieces q) c.self.inside.dd c.args.self.now c.answer.new.dd c.self.view_is c.self.invariant c.answer.ensures.adds
-
-pub returns-clause-full : goal.returns-clause-full
-unfolding asked_pieces
-returns-clause-full c is =
-    let q : Question = record { f = c.args.f; g = c.args.g; h = c.args.h } in
-    full_beyond (asked_pieces q) c.self.inside.dd c.args.self.now c.answer.new.dd c.self.view_is c.self.invariant c.answer.ensures.adds c.answer.ensures.kept (c.answer.ensures.full is)
-
-pub returns-clause-longer : goal.returns-clause-longer
-returns-clause-longer c = longer c.self.inside.dd c.args.self.now c.answer.new.dd c.self.view_is c.self.invariant c.answer.ensures.kept
+    grows (asked_pieces q) c.self.inside.dd c.args.self.now c.answer.new.dd c.self.view_is c.self.invariant c.answer.ensures.adds c.answer.result c.answer.ensures.kept c.answer.ensures.full
