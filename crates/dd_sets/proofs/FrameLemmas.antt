@@ -1,5 +1,6 @@
 -- How a caller's own slots change by each call.
-use Rattle.std.proofs.Common.{◌≡◌, ◌≢◌, ℕ, ◌+◌, ◌==◌, Bool, true, false, ◌||◌, List, [], ◌∷◌, ◌++◌, length, refl, sym, ap, subst, ◌∙◌, ⊎_elim, arith, length-append}
+use Rattle.std.proofs.Common.{◌≡◌, ◌≢◌, ℕ, ◌+◌, ◌==◌, Bool, true, false, ◌||◌, List, [], ◌∷◌, ◌++◌, length, refl, sym, ap, subst, ◌∙◌, ⊎_elim, arith, length-append, All, get_or, zero, suc}
+use Rattle.dd_sets.specs.declared.slots.SetId.{SetId}
 use Rattle.std.specs.List.{list_any}
 use borrow.Author.Tests.{eqb-true, eq-eqb}
 use Rattle.std.proofs.lemmas.Bool.{cases_Bool, cases_eq, both_ways, or_parts, or_from, ne_eqb, false_from_ne_true}
@@ -34,3 +35,14 @@ kept_release a b c slot kept ends free =
       live = λ other live. ends.live other (differs other live) ∙ kept.live other live;
       sets = λ other live. ends.sets other (differs other live) ∙ kept.sets other live;
     }
+
+-- live slots stay so, and a new one joins them
+pub all_kept : (a b : LiveSets) → KeepsSets a b → (known : List (SetId × ℕ)) → All (λ (entry : SetId × ℕ). IsLive a entry.0.0) known → All (λ (entry : SetId × ℕ). IsLive b entry.0.0) known
+all_kept a b kept known all k d within = kept.live (get_or known k d).0.0 (all k d within)
+
+pub all_added : (a : LiveSets) (known : List (SetId × ℕ)) (slot : SetId) (table : ℕ) → All (λ (entry : SetId × ℕ). IsLive a entry.0.0) known → IsLive a slot.0
+    → All (λ (entry : SetId × ℕ). IsLive a entry.0.0) (known ++ (slot, table) ∷ [])
+all_added a [] slot table all live zero d within = live
+all_added a [] slot table all live (suc k) d within = absurd (omega arith)
+all_added a (entry ∷ known) slot table all live zero d within = all 0 d (omega arith)
+all_added a (entry ∷ known) slot table all live (suc k) d within = all_added a known slot table (λ j e inside. all (suc j) e (omega arith)) live k d (omega arith)
