@@ -1,17 +1,22 @@
 -- Worked examples of the definitions.
-use Rattle.std.proofs.Common.{◌≡◌, ℕ, zero, suc, ◌/◌, ◌%◌, eqb, get_or, ◌<◌, ◌≤◌, ◌^◌, Bool, true, false, not, ◌||◌, List, [], ◌∷◌, length, Some, None, refl, ◌∙◌, ap, arith}
+use Rattle.std.proofs.Common.{◌≡◌, ℕ, zero, suc, ◌/◌, ◌%◌, eqb, get_or, ◌<◌, ◌≤◌, ◌^◌, Bool, true, false, not, ◌||◌, List, [], ◌∷◌, length, Some, None, cond, refl, sym, ◌∙◌, ap, subst, arith, if◌then◌else◌, ◌==◌}
 use Rattle.std.specs.Prelude.{Vec, String}
 use Rattle.std.specs.declared.alloc.Global.{Global}
 use Rattle.std.specs.Int.{bit_at}
 use Rattle.std.proofs.lemmas.Nat.Bits.{bit_at_above, bit_at-zero}
 use denote.RawPtr.{null_ptr}
-use Rattle.task_core.specs.Vectors.{value_of, all_vectors, same_value}
-use Rattle.task_core.specs.Systems.{goal_states}
+use Rattle.std.specs.List.{Contains}
+use Rattle.std.proofs.lemmas.Bool.{false≢true}
+use Rattle.task_core.specs.Vectors.{Vector, value_of, all_vectors, same_value}
+use Rattle.task_core.specs.Systems.{System, goal_states}
+use Rattle.task_core.specs.Tables.{Table, Leads, IsPath, IsTerminal, Reaches, last_state}
+use Rattle.task_core.specs.Solutions.{IsWeakSolution, IsStrongSolution}
+use Rattle.task_core.specs.Initial.{Entry, after_entries}
 use Rattle.task_core.specs.Cubes.{literal, cubes_of}
 use Rattle.task_core.specs.States.{truth, vector}
 use Rattle.task_core.specs.Conditions.{holds}
 use Rattle.task_core.specs.Actions.{after}
-use Rattle.task_core.specs.Tasks.{next_states, system_of}
+use Rattle.task_core.specs.Tasks.{fluent_count, next_states, system_of}
 use Rattle.task_core.specs.declared.states.State.{State}
 use Rattle.task_core.specs.declared.conditions.Cond.TheVariants.{Yes, Is}
 use Rattle.task_core.specs.declared.actions.Change.{Change}
@@ -42,33 +47,19 @@ either_holds : cubes_of 2 (λ v. value_of v 0 || value_of v 1) ≡ (literal 0 fa
 either_holds = refl
 
 -- fluents 1 and 64 are bit 1 of the first word and bit 0 of the second
-abbrev two_words : State
-two_words = record { bits = 2 ∷ 1 ∷ 0 ∷ 0 ∷ [] }
+abbrev IsTwoWords : State → Type 0
+IsTwoWords s = s.bits ≡ 2 ∷ 1 ∷ 0 ∷ 0 ∷ []
 
-first_three : vector 3 two_words ≡ false ∷ true ∷ false ∷ []
-first_three = refl
+first_three : (s : State) → IsTwoWords s → vector 3 s ≡ false ∷ true ∷ false ∷ []
+first_three s e = rw e refl
 
-second_word : truth two_words 64 ≡ true
-second_word = refl
+second_word : (s : State) → IsTwoWords s → truth s 64 ≡ true
+second_word s e = rw e refl
 
-past_the_last_word : truth two_words 256 ≡ false
-past_the_last_word = refl
+past_the_last_word : (s : State) → IsTwoWords s → truth s 256 ≡ false
+past_the_last_word s e = rw e refl
 
--- a state whose fluents are in its first word and below n
-zero_words : (i : ℕ) → get_or {A = ℕ} (0 ∷ 0 ∷ 0 ∷ []) i 0 ≡ 0
-zero_words zero = refl
-zero_words (suc zero) = refl
-zero_words (suc (suc zero)) = refl
-zero_words (suc (suc (suc i))) = refl
-
-low_fluents : (word n f : ℕ) → word < 2 ^ n → n ≤ 64 → n ≤ f → truth (record { bits = word ∷ 0 ∷ 0 ∷ 0 ∷ [] }) f ≡ false
-low_fluents word n f small few h = at (f / 64) refl
-  where
-    at : (q : ℕ) → f / 64 ≡ q → eqb (bit_at (get_or {A = ℕ} (word ∷ 0 ∷ 0 ∷ 0 ∷ []) q 0) (f % 64)) 1 ≡ false
-    at zero e = ap (λ b. eqb b 1) (bit_at_above word n (f % 64) small (omega arith))
-    at (suc q) e = ap (λ w. eqb (bit_at w (f % 64)) 1) (zero_words q) ∙ ap (λ b. eqb b 1) (bit_at-zero (f % 64))
-
--- tasks, at the allocator of their lists
+-- outcomes, at the allocator of their lists
 module _ (alloc : Global) where
   -- a list of few elements as the `Vec` that holds it
   abbrev vec : {X : Type 0} (xs : List X) → length xs ≤ 1000 → Vec X Global
@@ -102,36 +93,17 @@ module _ (alloc : Global) where
   abbrev flip : GroundAction
   flip = record { name = vec [] (omega arith); exec = Yes; outcomes = vec (one (change 0 true) ∷ nothing ∷ []) (omega arith) }
 
-  abbrev name : Vec (String Global) Global
-  name = vec [] (omega arith)
+  coin_next : (coin : Task) → fluent_count coin ≡ 1 → coin.actions.items ≡ flip ∷ [] → next_states coin (false ∷ []) 0 ≡ (true ∷ []) ∷ (false ∷ []) ∷ []
+  coin_next coin n a = simp (n, a, holds_Yes)
 
-  abbrev coin : Task
-  coin = record {
-    fluents = vec (name ∷ []) (omega arith);
-    actions = vec (flip ∷ []) (omega arith);
-    init = record { facts = record { bits = 0 ∷ 0 ∷ 0 ∷ 0 ∷ [] } };
-    goal = Some (Is (record { 0 = 0 }));
-    few_fluents = omega arith;
-    few_actions = omega arith;
-    actions_within = rw ids_below_Yes refl;
-    facts_within = λ f h. low_fluents 0 1 f (omega arith) (omega arith) h;
-    goal_within = ids_below_Is 1 (record { 0 = 0 });
-  }
+  coin_has_one_action : (coin : Task) → coin.actions.items ≡ flip ∷ [] → next_states coin (false ∷ []) 1 ≡ []
+  coin_has_one_action coin a = simp a
 
-  coin_initial : (system_of coin).initial ≡ (false ∷ []) ∷ []
-  coin_initial = refl
+  coin_goal : (coin : Task) → fluent_count coin ≡ 1 → coin.goal ≡ Some (Is (record { 0 = 0 })) → goal_states (system_of coin) ≡ (true ∷ []) ∷ []
+  coin_goal coin n g = simp (n, g, holds_Is)
 
-  coin_goal : goal_states (system_of coin) ≡ (true ∷ []) ∷ []
-  coin_goal = simp holds_Is
-
-  coin_next : next_states coin (false ∷ []) 0 ≡ (true ∷ []) ∷ (false ∷ []) ∷ []
-  coin_next = simp holds_Yes
-
-  coin_has_one_action : next_states coin (false ∷ []) 1 ≡ []
-  coin_has_one_action = refl
-
-  -- two fluents, both true at first; an action of three outcomes, which can be executed where the first is true:
-  -- it deletes the first, or adds and deletes the second, or deletes both
+  -- two fluents; an action of three outcomes, which can be executed where the first is true: it deletes the
+  -- first, or adds and deletes the second, or deletes both
   abbrev drop : GroundAction
   drop = record {
     name = vec [] (omega arith);
@@ -139,27 +111,81 @@ module _ (alloc : Global) where
     outcomes = vec (one (change 0 false) ∷ two (change 1 true) (change 1 false) ∷ two (change 0 false) (change 1 false) ∷ []) (omega arith);
   }
 
-  abbrev pair : Task
-  pair = record {
-    fluents = vec (name ∷ name ∷ []) (omega arith);
-    actions = vec (drop ∷ []) (omega arith);
-    init = record { facts = record { bits = 3 ∷ 0 ∷ 0 ∷ 0 ∷ [] } };
-    goal = None;
-    few_fluents = omega arith;
-    few_actions = omega arith;
-    actions_within = rw ids_below_Is (rw ids_below_Yes refl);
-    facts_within = λ f h. low_fluents 3 2 f (omega arith) (omega arith) h;
-    goal_within = refl;
-  }
+  pair_next : (pair : Task) → fluent_count pair ≡ 2 → pair.actions.items ≡ drop ∷ [] → next_states pair (true ∷ true ∷ []) 0 ≡ (false ∷ true ∷ []) ∷ (true ∷ true ∷ []) ∷ (false ∷ false ∷ []) ∷ []
+  pair_next pair n a = simp (n, a, holds_Is, holds_Yes)
 
-  pair_initial : (system_of pair).initial ≡ (true ∷ true ∷ []) ∷ []
-  pair_initial = refl
+  pair_not_executable : (pair : Task) → fluent_count pair ≡ 2 → pair.actions.items ≡ drop ∷ [] → next_states pair (false ∷ true ∷ []) 0 ≡ []
+  pair_not_executable pair n a = simp (n, a, holds_Is)
 
-  pair_has_no_goal : (system_of pair).goal ≡ None
-  pair_has_no_goal = refl
+-- initial states over two fluents, false at first: an entry for each value of the first, and one of the second
+abbrev both_values : ℕ → Entry
+both_values f = (literal f true ∷ []) ∷ (literal f false ∷ []) ∷ []
 
-  pair_next : next_states pair (true ∷ true ∷ []) 0 ≡ (false ∷ true ∷ []) ∷ (true ∷ true ∷ []) ∷ (false ∷ false ∷ []) ∷ []
-  pair_next = simp (holds_Is, holds_Yes)
+no_entry : after_entries 2 (false ∷ false ∷ []) [] ≡ (false ∷ false ∷ []) ∷ []
+no_entry = refl
 
-  pair_not_executable : next_states pair (false ∷ true ∷ []) 0 ≡ []
-  pair_not_executable = simp holds_Is
+all_four : after_entries 2 (false ∷ false ∷ []) (both_values 0 ∷ both_values 1 ∷ []) ≡ (true ∷ true ∷ []) ∷ (true ∷ false ∷ []) ∷ (false ∷ true ∷ []) ∷ (false ∷ false ∷ []) ∷ []
+all_four = refl
+
+-- a later entry overrides an earlier one, so two states become one
+overridden : after_entries 2 (false ∷ false ∷ []) (both_values 0 ∷ ((literal 0 true ∷ []) ∷ []) ∷ []) ≡ (true ∷ false ∷ []) ∷ []
+overridden = refl
+
+-- and a fact; within an alternative an add wins
+fact_overridden : after_entries 2 (true ∷ true ∷ []) (((literal 0 false ∷ literal 1 false ∷ literal 1 true ∷ []) ∷ []) ∷ []) ≡ (false ∷ true ∷ []) ∷ []
+fact_overridden = refl
+
+-- solutions: one fluent, which is the goal and false at first; action 0 is as the coin's flip
+abbrev coin_system : System
+coin_system = record {
+  fluents = 1;
+  actions = 1;
+  outcomes = λ _. 2;
+  initial = (false ∷ []) ∷ [];
+  goal = Some ((true ∷ []) ∷ []);
+  next = λ v a. if a == 0 then (true ∷ []) ∷ v ∷ [] else [];
+}
+
+-- the table that flips while the coin is down
+abbrev flips : Table
+flips = (false ∷ [], 0) ∷ []
+
+one_pair : (s : Vector) (a : ℕ) → Contains flips (s, a) → (s ≡ false ∷ []) × (a ≡ 0)
+one_pair s a (zero, h, is) = (sym (ap (λ p. p.0) is), sym (ap (λ p. p.1) is))
+one_pair s a (suc k, h, is) = absurd (omega arith)
+
+stays : Leads coin_system flips (false ∷ []) (false ∷ [])
+stays = record { action = 0; pair = (0, omega arith, refl); outcome = (1, omega arith, refl) }
+
+wins : Leads coin_system flips (false ∷ []) (true ∷ [])
+wins = record { action = 0; pair = (0, omega arith, refl); outcome = (0, omega arith, refl) }
+
+up_is_terminal : IsTerminal flips (true ∷ [])
+up_is_terminal a c = false≢true (sym (ap (λ v. value_of v 0) (one_pair (true ∷ []) a c).0))
+
+-- it is a weak solution, and no strong one: the coin may stay down
+flips_may_win : IsWeakSolution coin_system flips
+flips_may_win s (zero, h, is) = record {
+  end = true ∷ [];
+  reached = subst (λ v. Reaches coin_system flips v (true ∷ [])) is (record { rest = (true ∷ []) ∷ []; path = (wins, tt); ends = refl });
+  terminal = up_is_terminal;
+  goal = (0, omega arith, refl);
+}
+flips_may_win s (suc k, h, is) = absurd (omega arith)
+
+flips_has_a_cycle : IsStrongSolution coin_system flips → ⊥
+flips_has_a_cycle strong =
+    strong.no_cycle (false ∷ []) (false ∷ []) []
+    (record { start = false ∷ []; initial = (0, omega arith, refl); path = record { rest = []; path = tt; ends = refl } })
+    (stays, tt) refl
+
+-- the empty table solves no class of it: its one state is terminal, and no goal state
+nothing_may_win : IsWeakSolution coin_system [] → ⊥
+nothing_may_win weak =
+    let may = weak (false ∷ []) (0, omega arith, refl) in
+    stuck may.end may.reached.rest may.reached.path may.reached.ends may.goal
+  where
+    stuck : (end : Vector) (rest : List Vector) → IsPath coin_system [] (false ∷ []) rest → last_state (false ∷ []) rest ≡ end → Contains ((true ∷ []) ∷ []) end → ⊥
+    stuck end [] path ends (zero, h, is) = false≢true (ap (λ v. value_of v 0) (ends ∙ sym is))
+    stuck end [] path ends (suc k, h, is) = absurd (omega arith)
+    stuck end (t ∷ rest) path ends goal = absurd (omega (arith, path.0.pair.1))

@@ -1,3 +1,5 @@
+pub mod EntryStates
+pub mod StateLists
 pub mod Vectors
 pub mod Cubes
 pub mod Bits
@@ -5,4 +7,5 @@ pub mod Agreement
 pub mod Changes
 pub mod TaskSystem
 pub mod Holds
+pub mod NameChecks
 pub mod Examples

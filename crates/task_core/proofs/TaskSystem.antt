@@ -13,6 +13,8 @@ use Rattle.task_core.specs.Systems.{Exec, IsSystem}
 use Rattle.task_core.specs.States.{truth, vector, IsWithin}
 use Rattle.task_core.specs.Conditions.{holds, ids_below}
 use Rattle.task_core.specs.Actions.{after_value, after, outcome_within, action_within}
+use Rattle.task_core.specs.Initial.{entries_of, facts_of}
+use Rattle.task_core.proofs.EntryStates.{after_entries_are}
 use Rattle.task_core.specs.Tasks.{fluent_count, action_count, outcomes_at, is_executable, states_after, next_states, states_where, system_of}
 use Rattle.task_core.specs.declared.states.State.{State}
 use Rattle.task_core.specs.declared.conditions.Cond.{Cond}
@@ -24,7 +26,7 @@ use Rattle.task_core.proofs.Agreement.{holds_agree, ids_below_widen}
 use Rattle.task_core.proofs.Changes.{outcome_widen, after_value_above}
 
 -- the element at a place of a list passes what each does
-element_passes : {X : Type 0} (p : X → Bool) (xs : List X) (i : ℕ) (x : X) → list_all p xs ≡ true → i < length xs → x ≡ get_or xs i x → p x ≡ true
+pub element_passes : {X : Type 0} (p : X → Bool) (xs : List X) (i : ℕ) (x : X) → list_all p xs ≡ true → i < length xs → x ≡ get_or xs i x → p x ≡ true
 element_passes p xs i x all within is =
     subst (λ y. p y ≡ true) (sym is) (list_all_contains p xs (get_or xs i x) all (Contains-get_or xs i x within))
 
@@ -159,13 +161,9 @@ next_is_states task v a true t h =
     let image = Contains-map_image (λ o. after n o v) (outcomes_at task a) t h in
     sym (ap length image.is) ∙ length-after n image.from v
 
-initial_is_state : (n : ℕ) (facts : State) (s : Vector) → Contains (vector n facts ∷ []) s → length s ≡ n
-initial_is_state n facts s (zero, h, is) = sym (ap length is) ∙ length-vector n facts
-initial_is_state n facts s (suc k, h, is) = absurd (omega arith)
-
 pub is_system : (task : Task) → IsSystem (system_of task)
 is_system task = record {
-  initial = λ s h. initial_is_state (fluent_count task) task.init.facts s h;
+  initial = λ s h. after_entries_are (fluent_count task) (facts_of (fluent_count task) task.init) (entries_of task.init) (length-vector (fluent_count task) task.init.facts) s h;
   goal = λ s h. goal_is_states (fluent_count task) task.goal s h;
   next = λ s a t h. next_is_states task s a (is_executable task s a) t h;
   actions = λ s a exec. (executable_at task s a (slice_get task.actions.items a) refl (exec_executable task s a exec)).0;

@@ -1,16 +1,19 @@
--- What an outcome does to the values of the fluents, and when the parts of a task name its fluents alone.
+-- What an outcome does to the values of the fluents, and when the parts of a task name its fluents
+-- alone.
 use Rattle.std.specs.Prelude.{ℕ, ◌^◌, Bool, true, false, ◌&&◌, if◌then◌else◌, ◌==◌, nat_lt, map, length, Option, Some, None}
 use Rattle.std.specs.List.{list_all, list_any, range_with_len}
 use Rattle.task_core.specs.Vectors.{Vector, value_of, same_value}
-use Rattle.task_core.specs.Conditions.{holds, ids_below}
+use Rattle.task_core.specs.Conditions.{holds, ids_below, is_shallow}
 use Rattle.task_core.specs.declared.conditions.Cond.{Cond}
 use Rattle.task_core.specs.declared.actions.Change.{Change}
 use Rattle.task_core.specs.declared.actions.Outcome.{Outcome}
 use Rattle.task_core.specs.declared.actions.GroundAction.{GroundAction}
 
--- whether a change, its condition read at these values, makes fluent f true (positive) or false (not positive)
+-- whether a change, its condition read at these values, makes fluent f true (positive) or false
+-- (not positive)
 abbrev pub change_makes : Bool → (ℕ → Bool) → ℕ → Change → Bool
-change_makes positive value f c = c.lit.fluent.0 == f && same_value c.lit.positive positive && holds c.cond value
+change_makes positive value f c =
+    c.lit.fluent.0 == f && same_value c.lit.positive positive && holds c.cond value
 
 -- whether some change of the outcome adds fluent f; whether some change deletes it
 abbrev pub adds : Outcome → (ℕ → Bool) → ℕ → Bool
@@ -19,10 +22,11 @@ adds o value f = list_any (change_makes true value f) o.changes.items
 abbrev pub deletes : Outcome → (ℕ → Bool) → ℕ → Bool
 deletes o value f = list_any (change_makes false value f) o.changes.items
 
--- the value of fluent f after the outcome: true where it is added, else false where it is deleted, else
--- as before
+-- the value of fluent f after the outcome: true where it is added, else false where it is deleted,
+-- else as before
 abbrev pub after_value : Outcome → (ℕ → Bool) → ℕ → Bool
-after_value o value f = if adds o value f then true else if deletes o value f then false else value f
+after_value o value f =
+    if adds o value f then true else if deletes o value f then false else value f
 
 -- the state after the outcome, over n fluents
 abbrev pub after : ℕ → Outcome → Vector → Vector
@@ -35,7 +39,8 @@ change_within n c = nat_lt c.lit.fluent.0 n && ids_below n c.cond
 abbrev pub outcome_within : ℕ → Outcome → Bool
 outcome_within n o = list_all (change_within n) o.changes.items
 
--- whether every fluent that an action names is below n, and it has at least one and fewer than 2^32 outcomes
+-- whether every fluent that an action names is below n, and it has at least one and fewer than 2^32
+-- outcomes
 abbrev pub action_within : ℕ → GroundAction → Bool
 action_within n a =
     ids_below n a.exec
@@ -47,3 +52,13 @@ action_within n a =
 abbrev pub goal_within : ℕ → Option Cond → Bool
 goal_within n None = true
 goal_within n (Some goal) = ids_below n goal
+
+-- whether every condition of an action, or of a goal where there is one, is at most 200 deep
+abbrev pub action_is_shallow : GroundAction → Bool
+action_is_shallow a =
+    is_shallow a.exec
+    && list_all (λ o. list_all (λ c. is_shallow c.cond) o.changes.items) a.outcomes.items
+
+abbrev pub goal_is_shallow : Option Cond → Bool
+goal_is_shallow None = true
+goal_is_shallow (Some goal) = is_shallow goal

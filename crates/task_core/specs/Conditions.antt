@@ -1,5 +1,5 @@
--- Where a condition holds.
-use Rattle.std.specs.Prelude.{ℕ, Bool, true, false, not, nat_lt}
+-- Where a condition holds, which fluents it names, and how deep it is.
+use Rattle.std.specs.Prelude.{ℕ, ◌+◌, Bool, true, false, not, List, [], ◌∷◌, nat_lt, nat_le, max}
 use Rattle.std.specs.List.{list_all, list_any}
 use Rattle.task_core.specs.States.{truth}
 use Rattle.task_core.specs.declared.states.State.{State}
@@ -36,3 +36,27 @@ below_step n (Any parts) = list_all (λ part. part) parts.items
 -- whether every fluent that the condition names is below n
 abbrev pub ids_below : ℕ → Cond → Bool
 ids_below n = fold-Cond Bool (below_step n)
+
+-- the greatest of some numbers; 0 where there are none
+abbrev pub greatest : List ℕ → ℕ
+greatest [] = 0
+greatest (n ∷ ns) = max n (greatest ns)
+
+-- one layer of the depth: an `All` and an `Any` count one above the deepest of their parts; a `Not`
+-- doesn't count, so that an implication, which is an `Any` of a `Not`, counts once
+abbrev pub depth_step : Cond-F ℕ → ℕ
+depth_step Yes = 1
+depth_step No = 1
+depth_step (Is f) = 1
+depth_step (Not part) = part.value
+depth_step (All parts) = 1 + greatest parts.items
+depth_step (Any parts) = 1 + greatest parts.items
+
+-- how many `All`s and `Any`s of a condition stand in one another at most, and one more for what is
+-- innermost
+abbrev pub depth : Cond → ℕ
+depth = fold-Cond ℕ depth_step
+
+-- whether a condition is at most 200 deep
+abbrev pub is_shallow : Cond → Bool
+is_shallow cond = nat_le (depth cond) 200

@@ -22,7 +22,8 @@ SetOfVectors = Vector → Bool
 abbrev pub half : Bool → SetOfVectors → SetOfVectors
 half value set = λ v. set (value ∷ v)
 
--- no vector of n values, every one, and whether the set is the same whatever the first fluent's value
+-- no vector of n values, every one, and whether the set is the same whatever the first fluent's
+-- value
 abbrev pub is_empty_set : ℕ → SetOfVectors → Bool
 is_empty_set n set = not (list_any set (all_vectors n))
 
@@ -32,9 +33,10 @@ is_whole_set n set = list_all set (all_vectors n)
 abbrev pub ignores_first : ℕ → SetOfVectors → Bool
 ignores_first n set = list_all (λ v. same_value (set (false ∷ v)) (set (true ∷ v))) (all_vectors n)
 
--- the cubes of a set over the n fluents from the given one on: none for the empty set; the empty cube for
--- the whole set; where the set doesn't depend on the first fluent, those over the rest; else those of the
--- half where the first fluent is false, each with that literal before it, and then those of the true half
+-- the cubes of a set over the n fluents from the given one on: none for the empty set; the empty
+-- cube for the whole set; where the set doesn't depend on the first fluent, those over the rest;
+-- else those of the half where the first fluent is false, each with that literal before it, and
+-- then those of the true half
 abbrev pub cubes_from : ℕ → ℕ → SetOfVectors → List Cube
 cubes_from first zero set = if set [] then [] ∷ [] else []
 cubes_from first (suc n) set =

@@ -2,8 +2,14 @@ pub mod Vectors
 pub mod Systems
 pub mod Tables
 pub mod Solutions
+pub mod ContextPlans
 pub mod Cubes
+pub mod FourWords
 pub mod States
 pub mod Conditions
 pub mod Actions
+pub mod Names
+pub mod Initial
+pub mod Parts
+pub mod Checks
 pub mod Tasks

@@ -1,6 +1,6 @@
--- A planning system as plain data: finitely many states and actions, each action with several outcomes
--- (Cimatti, Pistore, Roveri, Traverso 2003: a planning domain with the initial states and the goal states
--- of a planning problem).
+-- A planning system as plain data: finitely many states and actions, each action with several
+-- outcomes (Cimatti, Pistore, Roveri, Traverso 2003: a planning domain with the initial states and
+-- the goal states of a planning problem).
 use Rattle.std.specs.Prelude.{◌≡◌, ◌≢◌, ℕ, ◌<◌, List, [], Option, unwrap_or, length}
 use Rattle.std.specs.List.{Contains}
 use Rattle.task_core.specs.Vectors.{Vector}
@@ -16,8 +16,8 @@ pub record System : Type 0 where
   pub initial : List Vector
   -- the goal states, where there is a goal
   pub goal : Option (List Vector)
-  -- the states to which an action leads from a state, in the order of its outcomes; none exactly where
-  -- the action can't be executed there
+  -- the states to which an action leads from a state, in the order of its outcomes; none exactly
+  -- where the action can't be executed there
   pub next : Vector → ℕ → List Vector
 
 -- action a can be executed in state s
@@ -36,8 +36,8 @@ goal_states sys = unwrap_or sys.goal []
 abbrev pub IsState : System → Vector → Type 0
 IsState sys v = length v ≡ sys.fluents
 
--- the parts fit together: initial states, goal states and outcomes are states, and only the system's
--- actions can be executed
+-- the parts fit together: initial states, goal states and outcomes are states, and only the
+-- system's actions can be executed
 pub record IsSystem (sys : System) : Type 0 where
   pub initial : (s : Vector) → Contains sys.initial s → IsState sys s
   pub goal : (s : Vector) → Contains (goal_states sys) s → IsState sys s

@@ -1,5 +1,5 @@
--- State-action tables and their paths (Cimatti, Pistore, Roveri, Traverso 2003: a state-action table
--- and its execution structure).
+-- State-action tables and their paths (Cimatti, Pistore, Roveri, Traverso 2003: a state-action
+-- table and its execution structure).
 use Rattle.std.specs.Prelude.{◌≡◌, ℕ, List, [], ◌∷◌, ⊤}
 use Rattle.std.specs.List.{Contains}
 use Rattle.task_core.specs.Vectors.{Vector}
@@ -19,7 +19,8 @@ pub record Leads (sys : System) (table : Table) (s t : Vector) : Type 0 where
   pub pair : Contains table (s, action)
   pub outcome : HasOutcome sys s action t
 
--- s and then the states of the list are a path: each next state is an outcome of a pair of the one before
+-- s and then the states of the list are a path: each next state is an outcome of a pair of the one
+-- before
 abbrev pub IsPath : System → Table → Vector → List Vector → Type 0
 IsPath sys table s [] = ⊤
 IsPath sys table s (t ∷ rest) = Leads sys table s t × IsPath sys table t rest

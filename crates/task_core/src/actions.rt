@@ -2,16 +2,16 @@
 
 use crate::{Cond, Lit, State};
 
-/// What one part of an outcome does: where `cond` holds in the old state, `lit` adds its fluent (makes it
-/// true) or deletes it (makes it false).
+/// What one part of an outcome does: where `cond` holds in the old state, `lit` adds its fluent
+/// (makes it true) or deletes it (makes it false).
 #[derive(Debug, Drop)]
 pub struct Change {
     pub cond: Cond,
     pub lit: Lit,
 }
 
-/// One thing that an action may do. Every condition is read in the old state; a fluent that is both added
-/// and deleted becomes true, and one that is neither keeps its value.
+/// One thing that an action may do. Every condition is read in the old state; a fluent that is both
+/// added and deleted becomes true, and one that is neither keeps its value.
 #[derive(Debug, Drop)]
 pub struct Outcome {
     pub changes: Vec<Change>,
@@ -26,8 +26,18 @@ pub struct GroundAction {
     pub outcomes: Vec<Outcome>,
 }
 
-/// The initial state.
+/// One of the ways that an uncertain entry may turn out: its literals are applied to a state, and a
+/// fluent that is both added and deleted becomes true.
+#[derive(Debug, Drop)]
+pub struct Alternative {
+    pub lits: Vec<Lit>,
+}
+
+/// What is known of the initial states. They begin with the one state `facts`. Each entry in its
+/// order gives, for each state so far, the states with one of its alternatives applied; so a later
+/// entry overrides an earlier one and the facts.
 #[derive(Debug, Drop)]
 pub struct InitSpec {
     pub facts: State,
+    pub entries: Vec<Vec<Alternative>>,
 }

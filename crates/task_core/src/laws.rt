@@ -1,7 +1,8 @@
 //! Laws of the definitions, each as the contract of a function that does nothing.
 
-ghost use Rattle.std.specs.Prelude.{◌≡◌, ℕ, Bool, ◌++◌, length};
-ghost use Rattle.std.specs.List.{list_any};
+ghost use Rattle.std.specs.Prelude.{◌≡◌, ◌≢◌, ℕ, Bool, List, ◌++◌, length};
+ghost use Rattle.std.specs.List.{AllPairs, list_any};
+ghost use Rattle.task_core.specs.Initial.{Entry, after_entries};
 ghost use Rattle.task_core.specs.Vectors.{Vector};
 ghost use Rattle.task_core.specs.Systems.{IsSystem};
 ghost use Rattle.task_core.specs.Cubes.{matches, cubes_from, cubes_of};
@@ -9,16 +10,24 @@ ghost use Rattle.task_core.specs.Tasks.{system_of};
 
 use crate::Task;
 
-/// The cubes of a set of states match exactly the states in it. The cubes over the fluents from `first` on
-/// do so behind the values of the fluents before.
+/// The cubes of a set of states match exactly the states in it. The cubes over the fluents from
+/// `first` on do so behind the values of the fluents before.
 pub fn cubes_match_their_set()
-    ensures all_fluents { (n : ℕ) (set : Vector → Bool) (v : Vector) → length v ≡ n → list_any (λ cube. matches cube v) (cubes_of n set) ≡ set v }
-    ensures later_fluents { (first : ℕ) (n : ℕ) (set : Vector → Bool) (before : Vector) (v : Vector) → length before ≡ first → length v ≡ n
+    ensures all_fluents { (n : ℕ) (set : Vector → Bool) (v : Vector) → length v ≡ n
+        → list_any (λ cube. matches cube v) (cubes_of n set) ≡ set v }
+    ensures later_fluents { (first : ℕ) (n : ℕ) (set : Vector → Bool) (before : Vector) (v : Vector)
+        → length before ≡ first → length v ≡ n
         → list_any (λ cube. matches cube (before ++ v)) (cubes_from first n set) ≡ set v }
 {}
 
-/// The parts of a task's system fit together: its initial and goal states and its outcomes are states over
-/// its fluents, and only its actions can be executed.
+/// The parts of a task's system fit together: its initial and goal states and its outcomes are
+/// states over its fluents, and only its actions can be executed.
 pub fn tasks_have_systems(task: &Task)
     ensures { IsSystem (system_of task.now) }
+{}
+
+/// No state is listed twice among those after some uncertain entries.
+pub fn initial_states_differ()
+    ensures { (n : ℕ) (facts : Vector) (entries : List Entry)
+        → AllPairs (λ v w. v ≢ w) (after_entries n facts entries) }
 {}

@@ -3,13 +3,16 @@
 //!
 //! The notions are those of Cimatti, Pistore, Roveri and Traverso, "Weak, strong, and strong cyclic
 //! planning via symbolic model checking" (Artificial Intelligence 147, 2003). `specs/` has them:
-//! `Vectors` (a state as a list of truth values), `Systems`, `Tables` (state-action tables and their
-//! paths), `Solutions`, `Cubes`; `States`, `Conditions`, `Actions` and `Tasks` say what the types
-//! below mean.
+//! `Vectors` (a state as a list of truth values), `Systems`, `Tables` (state-action tables and
+//! their paths), `Solutions`, `ContextPlans`, `Cubes`, `Initial`; `States`, `Conditions`, `Actions`
+//! and `Tasks` say what the types below mean.
 #![tactic(auto)]
 
 mod actions;
+mod checks;
+mod classes;
 mod conditions;
+mod initial;
 mod laws;
 mod literals;
 mod states;
@@ -18,9 +21,11 @@ mod tasks;
 #[cfg(test)]
 mod tests;
 
-pub use actions::{Change, GroundAction, InitSpec, Outcome};
+pub use actions::{Alternative, Change, GroundAction, InitSpec, Outcome};
+pub use classes::Class;
 pub use conditions::{Cond, cond_holds};
-pub use laws::{cubes_match_their_set, tasks_have_systems};
+pub use initial::{InitErr, init_states};
+pub use laws::{cubes_match_their_set, initial_states_differ, tasks_have_systems};
 pub use literals::{ActionId, FluentId, Lit};
 pub use states::State;
 pub use steps::{is_exec, step};

@@ -8,7 +8,8 @@ pub struct FluentId(pub u32);
 #[derive(Clone, Copy, Debug, PartialEq, Eq)]
 pub struct ActionId(pub u32);
 
-/// A fluent that is true, or one that is false. As a part of an outcome it adds or deletes the fluent.
+/// A fluent that is true, or one that is false. As a part of an outcome it adds or deletes the
+/// fluent.
 #[derive(Clone, Copy, Debug, PartialEq, Eq)]
 pub struct Lit {
     pub fluent: FluentId,

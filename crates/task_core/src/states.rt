@@ -1,17 +1,21 @@
 //! States.
 
-ghost use Rattle.std.specs.Prelude.{◌≡◌, ℕ, ◌<◌, Bool, false, if◌then◌else◌, ◌==◌};
-ghost use Rattle.task_core.specs.States.{truth, words};
+ghost use Rattle.std.specs.Prelude.{◌≡◌, ℕ, ◌<◌, Bool, true, false, if◌then◌else◌, ◌==◌};
+ghost use Rattle.std.proofs.Props.{props};
+ghost use Rattle.task_core.specs.FourWords.{IsFourWords};
 
 use crate::FluentId;
 
 /// A truth value for each of 256 fluents.
-#[derive(Clone, Copy, Debug, PartialEq, Eq)]
+#[derive(Clone, Copy, Debug, PartialEq, Eq, Hash)]
 pub struct State {
     bits: [u64; 4],
+    ghost four_words: { IsFourWords bits } by { Prim.hlevel props },
 }
 
 impl State {
+    ghost use Rattle.task_core.specs.States.{truth, words};
+
     /// The state in which every fluent is false.
     pub fn none() -> State
         ensures all_false { (f : ℕ) → truth result f ≡ false }
@@ -34,13 +38,30 @@ impl State {
         ensures changed { truth result f.0 ≡ value }
         ensures others { (g : ℕ) → (g ≡ f.0 → ⊥) → truth result g ≡ truth self.now g }
     {
+        if value { self.set(f) } else { self.cleared(f) }
+    }
+
+    // The state with the fluent true.
+    fn set(&self, f: FluentId) -> State
+        requires { f.0 < 256 }
+        ensures changed { truth result f.0 ≡ true }
+        ensures others { (g : ℕ) → (g ≡ f.0 → ⊥) → truth result g ≡ truth self.now g }
+    {
         let mut bits = self.bits;
         let at = f.0 as usize / 64;
-        if value {
-            bits[at] = bits[at] | 1 << (f.0 % 64);
-        } else {
-            bits[at] = bits[at] & !(1 << (f.0 % 64));
-        }
+        bits[at] = bits[at] | 1 << (f.0 % 64);
+        State { bits }
+    }
+
+    // The state with the fluent false.
+    fn cleared(&self, f: FluentId) -> State
+        requires { f.0 < 256 }
+        ensures changed { truth result f.0 ≡ false }
+        ensures others { (g : ℕ) → (g ≡ f.0 → ⊥) → truth result g ≡ truth self.now g }
+    {
+        let mut bits = self.bits;
+        let at = f.0 as usize / 64;
+        bits[at] = bits[at] & !(1 << (f.0 % 64));
         State { bits }
     }
 

@@ -1,19 +1,39 @@
 //! Where an action can be executed, and the state to which an outcome leads.
 
-ghost use Rattle.std.specs.Prelude.{◌≡◌, ℕ, ◌<◌, ◌↔◌, IsTrue, Bool, true, if◌then◌else◌, length, slice_get};
+ghost use Rattle.std.specs.Prelude.{
+  ◌≡◌,
+  ℕ,
+  ◌<◌,
+  ◌↔◌,
+  IsTrue,
+  Bool,
+  true,
+  if◌then◌else◌,
+  length,
+  slice_get,
+};
 ghost use Rattle.std.specs.List.{list_any};
 ghost use Rattle.task_core.specs.States.{IsWithin, truth, vector};
 ghost use Rattle.task_core.specs.Actions.{change_makes, outcome_within, after_value};
 ghost use Rattle.task_core.specs.Systems.{Exec};
-ghost use Rattle.task_core.specs.Tasks.{fluent_count, action_count, outcomes_at, states_after, is_executable, system_of};
+ghost use Rattle.task_core.specs.Tasks.{
+  fluent_count,
+  action_count,
+  outcomes_at,
+  states_after,
+  is_executable,
+  system_of,
+};
 
 use crate::{ActionId, Outcome, State, Task, cond_holds};
 
 /// Whether the action can be executed in the state.
 pub fn is_exec(task: &Task, state: &State, action: ActionId) -> bool
     requires in_range { action.0 < action_count task.now }
-    ensures value { result ≡ is_executable task.now (vector (fluent_count task.now) state.now) action.0 }
-    ensures executable { IsTrue result ↔ Exec (system_of task.now) (vector (fluent_count task.now) state.now) action.0 }
+    ensures value { let v = vector (fluent_count task.now) state.now in
+        result ≡ is_executable task.now v action.0 }
+    ensures executable { let v = vector (fluent_count task.now) state.now in
+        IsTrue result ↔ Exec (system_of task.now) v action.0 }
 {
     cond_holds(&task.actions[action.0 as usize].exec, state)
 }
@@ -25,10 +45,11 @@ pub fn step(task: &Task, state: &State, action: ActionId, outcome: u32) -> State
     requires within { IsWithin (fluent_count task.now) state.now }
     ensures within { IsWithin (fluent_count task.now) result }
     ensures after { let n = fluent_count task.now in
-        slice_get (states_after task.now (vector n state.now) action.0) outcome ≡ Some (vector n result) }
-    ensures next { let v = vector (fluent_count task.now) state.now in
+        slice_get (states_after task.now (vector n state.now) action.0) outcome
+        ≡ Some (vector n result) }
+    ensures next { let n = fluent_count task.now in let v = vector n state.now in
         Exec (system_of task.now) v action.0
-        → slice_get ((system_of task.now).next v action.0) outcome ≡ Some (vector (fluent_count task.now) result) }
+        → slice_get ((system_of task.now).next v action.0) outcome ≡ Some (vector n result) }
 {
     let outcomes = &task.actions[action.0 as usize].outcomes;
     state_after(&outcomes[outcome as usize], state)
@@ -43,12 +64,13 @@ fn state_after(outcome: &Outcome, state: &State) -> State
     with_changes(outcome, state, deleted, true)
 }
 
-/// `next` with each fluent made `positive` that a change of this sign makes so, its condition read in the
-/// old state.
+/// `next` with each fluent made `positive` that a change of this sign makes so, its condition read
+/// in the old state.
 fn with_changes(outcome: &Outcome, old: &State, next: State, positive: bool) -> State
     requires within { outcome_within 256 outcome.now ≡ true }
     ensures value { (f : ℕ) → truth result f
-        ≡ (if list_any (change_makes positive (truth old.now) f) outcome.now.changes.items then positive else truth next f) }
+        ≡ (if list_any (change_makes positive (truth old.now) f) outcome.now.changes.items
+        then positive else truth next f) }
 {
     let mut state = next;
     for change in &outcome.changes {

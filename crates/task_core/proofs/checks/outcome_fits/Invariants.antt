@@ -1,0 +1,8 @@
+-- The loop goes on while each part so far passes.
+use Rattle.std.proofs.Common.{◌≡◌, drop}
+use Rattle.std.specs.List.{list_all}
+use Rattle.task_core.specs.Actions.{change_within, outcome_within}
+use Rattle.task_core.proofs.checks.outcome_fits.Given as goal
+
+abbrev pub invariant-loop-change : goal.invariant-loop-change
+invariant-loop-change l = list_all (change_within l.fluents) (drop l.change-index l.change-items) ≡ outcome_within l.fluents l.outcome

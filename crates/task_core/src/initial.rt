@@ -1,0 +1,188 @@
+//! The initial states of a task.
+
+ghost use Rattle.std.specs.Prelude.{
+  ◌≡◌,
+  ◌≢◌,
+  ℕ,
+  ◌<◌,
+  ◌≤◌,
+  Bool,
+  true,
+  false,
+  if◌then◌else◌,
+  List,
+  [],
+  ◌∷◌,
+  map,
+  length,
+  IfOk,
+  OnOk,
+  IsErrOf,
+};
+ghost use Rattle.std.specs.List.{All, AllPairs, flat_map, fold, list_all};
+ghost use Rattle.task_core.specs.Vectors.{Vector};
+ghost use Rattle.task_core.specs.States.{IsWithin, ShowsVectors, truth, vector};
+ghost use Rattle.task_core.specs.Initial.{
+  Entry,
+  add_state,
+  after_entry,
+  applied,
+  applied_value,
+  entries_of,
+  entry_of,
+  entry_within,
+  lit_within,
+  names_it,
+};
+ghost use Rattle.task_core.specs.Tasks.{fluent_count, initial_states, states_after_entries};
+
+use crate::{Alternative, Lit, State, Task};
+use indexmap::IndexSet;
+use std::alloc::{AllocError, Global};
+use thiserror::Error;
+
+/// Why there is no list of initial states.
+#[derive(Clone, Copy, Debug, PartialEq, Eq, Error)]
+pub enum InitErr {
+    /// There were more states than the limit after some of the entries.
+    #[error("too many initial states")]
+    TooMany,
+    /// There was no memory for the list.
+    #[error("out of memory")]
+    Memory,
+}
+
+impl From<AllocError> for InitErr {
+    ghost use Rattle.task_core.specs.declared.initial.InitErr.TheVariants.{Memory};
+
+    ghost from_gives = { λ _ e. e ≡ Memory };
+
+    fn from(_: AllocError) -> InitErr {
+        InitErr::Memory
+    }
+}
+
+/// The initial states of a task, each once, in the order in which the entries give them.
+///
+/// `TooMany` comes exactly where there are more than `limit` different states after some of the
+/// first entries (none and all of them included), memory aside. A limit of 0 always refuses. The
+/// time grows with the number of states after each entry times the number of the next entry's
+/// alternatives.
+pub fn init_states(alloc: Global, task: &Task, limit: usize) -> Result<Vec<State>, InitErr>
+    ensures list { let n = fluent_count task.now in
+        IfOk result (λ states. map (vector n) states.items ≡ initial_states task.now) }
+    ensures within { IfOk result (λ states. All (IsWithin (fluent_count task.now)) states.items) }
+    ensures too_many { IsErrOf result InitErr.TooMany
+        → (k : ℕ) × (k ≤ length (entries_of task.now.init))
+        × (limit < length (states_after_entries task.now k)) }
+    ensures few { OnOk result ((k : ℕ) → k ≤ length (entries_of task.now.init)
+        → length (states_after_entries task.now k) ≤ limit) }
+{
+    if limit == 0 {
+        return Err(InitErr::TooMany);
+    }
+    let mut states = Vec::from_slice(alloc, &[task.init.facts])?;
+    for entry in &task.init.entries {
+        states = states_after(alloc, &states, entry, limit)?;
+    }
+    Ok(states)
+}
+
+// The states after an entry.
+fn states_after(
+    alloc: Global,
+    states: &[State],
+    entry: &[Alternative],
+    limit: usize,
+) -> Result<Vec<State>, InitErr>
+    requires { entry_within 256 (entry_of entry.now) ≡ true }
+    ensures list { IfOk result (λ after. (n : ℕ) (vs : List Vector)
+        → entry_within n (entry_of entry.now) ≡ true → ShowsVectors n states.now vs
+        → ShowsVectors n after.items (after_entry n vs (entry_of entry.now))) }
+    ensures few { IfOk result (λ after. length after.items ≤ limit) }
+    ensures too_many { IsErrOf result InitErr.TooMany → (n : ℕ) (vs : List Vector)
+        → entry_within n (entry_of entry.now) ≡ true → ShowsVectors n states.now vs
+        → limit < length (after_entry n vs (entry_of entry.now)) }
+{
+    let mut found = IndexSet::new(alloc);
+    for state in states {
+        add_alternatives(&mut found, state, entry, limit)?;
+    }
+    Ok(list_of(alloc, &found)?)
+}
+
+// The states of a set, in its order.
+fn list_of(alloc: Global, set: &IndexSet<State>) -> Result<Vec<State>, AllocError>
+    ensures { IfOk result (λ states. states.items ≡ set.now.keys) }
+{
+    set.iter().copied().collect(alloc)
+}
+
+// Adds, for each alternative, the state with it applied.
+fn add_alternatives(
+    found: &mut IndexSet<State>,
+    state: &State,
+    entry: &[Alternative],
+    limit: usize,
+) -> Result<(), InitErr>
+    requires entry { list_all (list_all (lit_within 256)) (entry_of entry.now) ≡ true }
+    requires few { length found.old.keys ≤ limit }
+    ensures list { OnOk result ((n : ℕ) (vs : List Vector)
+        → list_all (list_all (lit_within n)) (entry_of entry.now) ≡ true
+        → IsWithin n state.now → ShowsVectors n found.old.keys vs
+        → ShowsVectors n found.new.keys
+        (fold add_state vs (map (applied n (vector n state.now)) (entry_of entry.now)))) }
+    ensures few { OnOk result (length found.new.keys ≤ limit) }
+    ensures too_many { IsErrOf result InitErr.TooMany → (n : ℕ) (vs : List Vector)
+        → list_all (list_all (lit_within n)) (entry_of entry.now) ≡ true
+        → IsWithin n state.now → ShowsVectors n found.old.keys vs
+        → let made = map (applied n (vector n state.now)) (entry_of entry.now) in
+        limit < length (fold add_state vs made) }
+{
+    for alternative in entry {
+        add(found, with_literals(state, &alternative.lits), limit)?;
+    }
+    Ok(())
+}
+
+// Adds a state, if it isn't there.
+fn add(found: &mut IndexSet<State>, state: State, limit: usize) -> Result<(), InitErr>
+    requires few { length found.old.keys ≤ limit }
+    ensures list { OnOk result ((n : ℕ) (vs : List Vector) → IsWithin n state
+        → ShowsVectors n found.old.keys vs
+        → ShowsVectors n found.new.keys (add_state vs (vector n state))) }
+    ensures few { OnOk result (length found.new.keys ≤ limit) }
+    ensures too_many { IsErrOf result InitErr.TooMany → (n : ℕ) (vs : List Vector)
+        → IsWithin n state
+        → ShowsVectors n found.old.keys vs → limit < length (add_state vs (vector n state)) }
+{
+    match found.insert_full(state) {
+        Ok(_) if found.len() <= limit => Ok(()),
+        Ok(_) => Err(InitErr::TooMany),
+        Err(_) => Err(InitErr::Memory),
+    }
+}
+
+// The state with literals applied: deletes first, so that a fluent that is also added becomes true.
+fn with_literals(state: &State, lits: &[Lit]) -> State
+    requires { list_all (lit_within 256) lits.now ≡ true }
+    ensures { (f : ℕ) → truth result f ≡ applied_value lits.now (truth state.now) f }
+{
+    let deleted = with_signed(*state, lits, false);
+    with_signed(deleted, lits, true)
+}
+
+// The state with each fluent made `positive` that a literal of this sign names.
+fn with_signed(state: State, lits: &[Lit], positive: bool) -> State
+    requires { list_all (lit_within 256) lits.now ≡ true }
+    ensures { (f : ℕ) → truth result f
+        ≡ (if names_it positive f lits.now then positive else truth state f) }
+{
+    let mut state = state;
+    for lit in lits {
+        if lit.positive == positive {
+            state = state.with(lit.fluent, positive);
+        }
+    }
+    state
+}
