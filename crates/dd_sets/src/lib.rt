@@ -15,6 +15,6 @@ mod tests;
 
 pub use cubes::Cube;
 pub use errors::SetErr;
-pub use laws::{one_set_per_slot, sets_depend_on_fluents, tight_is_monotone};
+pub use laws::{full_is_tight, one_set_per_slot, sets_depend_on_fluents, tight_is_monotone};
 pub use sets::Sets;
 pub use slots::SetId;
