@@ -1,0 +1,206 @@
+-- From what an operation on numbers says, and what became of the slots, to what the call leaves in the slots.
+use Rattle.std.proofs.Common.{◌≡◌, ◌≢◌, ℕ, ◌+◌, ◌<◌, ◌≤◌, Bool, true, false, List, [], ◌∷◌, ◌++◌, length, Option, Some, None, is_some, Result, Ok, Err, IfOk, IfErr, OnErr, IsErrOf, unwrap_or, refl, sym, ap, subst, ◌∙◌, ⊎_elim, arith}
+use Rattle.std.specs.Option.{option_map_or}
+use Rattle.std.proofs.lemmas.Bool.{cases_eq}
+use Rattle.std.proofs.lemmas.Option.{same_Some}
+use Rattle.dd_nodes.specs.declared.node.Node.{Node}
+use Rattle.dd_nodes.specs.declared.node.Ref.{Ref}
+use Rattle.dd_nodes.specs.declared.node.DdErr.{DdErr}
+use Rattle.dd_nodes.specs.NodeList.{IsNumber, function}
+use Rattle.dd_nodes.specs.Subfunctions.{Function}
+use Rattle.dd_nodes.specs.Table.{Table, IsTable}
+use Rattle.dd_ops.specs.Calls.{Answers}
+use Rattle.dd_ops.specs.Growth.{Grows}
+use Rattle.dd_sets.specs.Calls.{KeepsSets, Adds, AddsNone}
+use Rattle.dd_sets.specs.LiveSets.{LiveSets, IsSets, IsLive, is_live, set_of, live_count, live_sets, nothing, number_at, table_of}
+use Rattle.dd_sets.specs.Rooms.{IsFull, Tight}
+use Rattle.dd_sets.specs.Stores.{IsStored, Stored, view_of}
+use Rattle.dd_sets.specs.declared.slots.SetId.{SetId}
+use Rattle.dd_sets.specs.declared.errors.SetErr.{SetErr}
+use Rattle.dd_sets.specs.declared.errors.SetErr.TheVariants as SetErr
+use Rattle.dd_sets.proofs.RoomLemmas.{numbers_fit}
+
+-- the numbers before have their functions after, and stand in a table
+pub record KeepsNumbers (before after : LiveSets) : Type 0 where
+  pub vars : after.vars ≡ before.vars
+  pub limit : after.limit ≡ before.limit
+  pub table : IsTable (table_of after)
+  pub longer : length before.nodes ≤ length after.nodes
+  pub earlier : (n : ℕ) → IsNumber before.nodes n → function after.nodes n ≡ function before.nodes n
+
+-- the answer of an operation keeps them
+pub kept_by_answer : (before after : LiveSets) (wanted : Function) (answer : Result Ref DdErr) → Answers wanted (table_of before) (table_of after) answer → KeepsNumbers before after
+kept_by_answer before after wanted answer answers = record {
+  vars = answers.vars;
+  limit = answers.limit;
+  table = answers.table;
+  longer = answers.longer;
+  earlier = answers.earlier;
+}
+
+-- so does what leaves the nodes as they are
+pub kept_nodes : (before after : LiveSets) → IsSets before → table_of after ≡ table_of before → KeepsNumbers before after
+kept_nodes before after sound same = record {
+  vars = ap (λ t. t.vars) same;
+  limit = ap (λ t. t.limit) same;
+  table = subst IsTable (sym same) sound.table;
+  longer = let e : length after.nodes ≡ length before.nodes = ap (λ t. length t.nodes) same in omega arith;
+  earlier = λ n _. ap (λ t. function t.nodes n) same;
+}
+
+-- the set of a slot is the function of its number
+pub set_is : (sets : LiveSets) (slot : ℕ) (number : Ref) → number_at sets slot ≡ Some number → set_of sets slot ≡ function sets.nodes number.0
+unfolding set_of
+set_is sets slot number is = ap (λ o. option_map_or (λ (n : Ref). function sets.nodes n.0) o nothing) is
+
+-- a live slot has a number
+pub live_number : (sets : LiveSets) (slot : ℕ) → IsLive sets slot → (number : Ref) × (number_at sets slot ≡ Some number)
+unfolding is_live
+live_number sets slot live = go (number_at sets slot) refl live
+  where
+    go : (o : Option Ref) → number_at sets slot ≡ o → is_some o ≡ true → (number : Ref) × (number_at sets slot ≡ Some number)
+    go None is some = absurd (cc)
+    go (Some number) is some = (number, is)
+
+module _ (before after : LiveSets) (sound : IsSets before) (keeps : KeepsNumbers before after) where
+  -- a slot with the same number has the same set, and is as live
+  same_slot_set : (slot : ℕ) → number_at after slot ≡ number_at before slot → set_of after slot ≡ set_of before slot
+  unfolding set_of
+  same_slot_set slot same = ap (λ o. option_map_or (λ (n : Ref). function after.nodes n.0) o nothing) same ∙ go (number_at before slot) refl
+    where
+      go : (o : Option Ref) → number_at before slot ≡ o
+          → option_map_or (λ (n : Ref). function after.nodes n.0) o nothing ≡ option_map_or (λ (n : Ref). function before.nodes n.0) o nothing
+      go None is = refl
+      go (Some number) is = keeps.earlier number.0 (sound.numbers slot number is)
+
+  same_slot_live : (slot : ℕ) → number_at after slot ≡ number_at before slot → is_live after slot ≡ is_live before slot
+  unfolding is_live
+  same_slot_live slot same = ap is_some same
+
+  same_slot_sound : (slot : ℕ) (number : Ref) → number_at after slot ≡ number_at before slot → number_at after slot ≡ Some number → IsNumber after.nodes number.0
+  same_slot_sound slot number same is =
+      let was : IsNumber before.nodes number.0 = sound.numbers slot number (sym same ∙ is) in
+      let longer : length before.nodes ≤ length after.nodes = keeps.longer in
+      omega arith
+
+  -- no slot changed
+  module _ (same : after.live ≡ before.live) where
+    same_at : (slot : ℕ) → number_at after slot ≡ number_at before slot
+    same_at slot = ap (λ live. number_at (record before { live = live }) slot) same
+
+    pub same_adds_none : AddsNone before after
+    unfolding live_count
+    same_adds_none = record {
+      others = λ other. same_slot_live other (same_at other);
+      count = ap (λ live. live_count (record before { live = live })) same;
+    }
+
+    pub same_keeps : KeepsSets before after
+    same_keeps = record {
+      vars = keeps.vars;
+      limit = keeps.limit;
+      live = λ slot live. same_slot_live slot (same_at slot) ∙ live;
+      sets = λ slot live. same_slot_set slot (same_at slot);
+    }
+
+    pub same_sound : IsSets after
+    same_sound = record {
+      table = keeps.table;
+      numbers = λ slot number is. same_slot_sound slot number (same_at slot) is;
+    }
+
+  -- a slot got a number
+  module _ (answer : Result Ref DdErr) (slot : ℕ) (stored : IsStored before.live after.live answer slot) where
+    free_slot : is_live before slot ≡ false
+    unfolding is_live
+    free_slot = ap is_some stored.free
+
+    other_slot : (other : ℕ) → IsLive before other → other ≢ slot
+    other_slot other live same = let e : is_live before slot ≡ true = ap (is_live before) (sym same) ∙ live in let f = free_slot in absurd (cc)
+
+    pub stored_adds : (set : Function) → IfOk answer (λ r. function after.nodes r.0 ≡ set) → Adds before after slot set
+    unfolding is_live live_count
+    stored_adds set value = record {
+      free = free_slot;
+      live = ap is_some stored.changed;
+      holds = set_is after slot stored.number stored.changed ∙ subst (λ a. IfOk a (λ (r : Ref). function after.nodes r.0 ≡ set)) stored.answered value;
+      others = λ other differs. same_slot_live other (stored.others other differs);
+      count = stored.count;
+    }
+
+    pub stored_keeps : KeepsSets before after
+    stored_keeps = record {
+      vars = keeps.vars;
+      limit = keeps.limit;
+      live = λ other live. same_slot_live other (stored.others other (other_slot other live)) ∙ live;
+      sets = λ other live. same_slot_set other (stored.others other (other_slot other live));
+    }
+
+    pub stored_sound : IfOk answer (λ r. IsNumber after.nodes r.0) → IsSets after
+    stored_sound in_table = record {
+      table = keeps.table;
+      numbers = λ other number is. ⊎_elim
+          (λ (here : other ≡ slot).
+          let e : stored.number ≡ number = same_Some _ _ (sym stored.changed ∙ ap (number_at after) (sym here) ∙ is) in
+          subst (λ (r : Ref). IsNumber after.nodes r.0) e (subst (λ a. IfOk a (λ (r : Ref). IsNumber after.nodes r.0)) stored.answered in_table))
+          (λ (differs : other ≢ slot). same_slot_sound other number (stored.others other differs) is)
+          (cases_eq other slot);
+    }
+
+-- what a call that answers a slot leaves
+pub record Operated (before after : LiveSets) (set : Function) (result : Result SetId SetErr) : Type 0 where
+  pub added : IfOk result (λ slot. Adds before after slot.0 set)
+  pub kept : KeepsSets before after
+  pub refused : OnErr result (AddsNone before after)
+  pub sound : IsSets after
+
+operated_from : (before after : LiveSets) (sound : IsSets before) (keeps : KeepsNumbers before after) (set : Function) (answer : Result Ref DdErr)
+    → IfOk answer (λ r. function after.nodes r.0 ≡ set) → IfOk answer (λ r. IsNumber after.nodes r.0) → (result : Result SetId SetErr) → Stored before.live after.live answer result
+    → Operated before after set result
+operated_from before after sound keeps set answer value in_table (Ok slot) stores = record {
+  added = stored_adds before after sound keeps answer slot.0 stores.stored set value;
+  kept = stored_keeps before after sound keeps answer slot.0 stores.stored;
+  refused = tt;
+  sound = stored_sound before after sound keeps answer slot.0 stores.stored in_table;
+}
+operated_from before after sound keeps set answer value in_table (Err e) stores = record {
+  added = tt;
+  kept = same_keeps before after sound keeps stores.refused;
+  refused = same_adds_none before after sound keeps stores.refused;
+  sound = same_sound before after sound keeps stores.refused;
+}
+
+-- the function of a slot's number is its set
+pub number_set : {table : Table} {live : List (Option Ref)} {before : LiveSets} → view_of table live ≡ before → (slot : ℕ) (number : Ref) → number_at before slot ≡ Some number
+    → function table.nodes number.0 ≡ set_of before slot
+number_set opens slot number is = ap (λ s. function s.nodes number.0) opens ∙ sym (set_is _ slot number is)
+
+-- an operation's answer and its slot
+pub operated : {t0 t : Table} {l0 l : List (Option Ref)} {made : Function} {answer : Result Ref DdErr} {result : Result SetId SetErr}
+    → Answers made t0 t answer → Stored l0 l answer result → {before : LiveSets} → view_of t0 l0 ≡ before → IsSets (view_of t0 l0) → {set : Function} → made ≡ set
+    → Operated before (view_of t l) set result
+operated {t0} {t} {l0} {l} {made} {answer} {result} answers stores opens sound {set} same =
+    subst (λ s. Operated s (view_of t l) set result) opens
+    (operated_from (view_of t0 l0) (view_of t l) sound (kept_by_answer (view_of t0 l0) (view_of t l) made answer answers) set answer
+    (subst (λ f. IfOk answer (λ (r : Ref). function t.nodes r.0 ≡ f)) same answers.value) answers.in_table result stores)
+
+-- a known number and its slot
+pub placed : {t : Table} {l0 l : List (Option Ref)} {number : Ref} {result : Result SetId SetErr} → Stored l0 l (Ok number) result
+    → {before : LiveSets} → view_of t l0 ≡ before → IsSets (view_of t l0) → {set : Function} → function t.nodes number.0 ≡ set → IsNumber t.nodes number.0
+    → Operated before (view_of t l) set result
+placed {t} {l0} {l} {number} {result} stores opens sound {set} value in_table =
+    subst (λ s. Operated s (view_of t l) set result) opens
+    (operated_from (view_of t l0) (view_of t l) sound (kept_nodes (view_of t l0) (view_of t l) sound refl) set (Ok number) value in_table result stores)
+
+-- where a call is refused for want of room, the table holds as many nodes as it may, and so its limit is tight
+pub full_room : {t0 t : Table} {l0 l : List (Option Ref)} {made : Function} {made_pieces : List Function} {answer : Result Ref DdErr} {result : Result SetId SetErr}
+    → Answers made t0 t answer → Grows made_pieces t0 t answer → Stored l0 l answer result → (before : LiveSets) (pieces : List Function) → IsErrOf result SetErr.Full
+    → IsFull before (view_of t l) pieces
+unfolding Tight
+full_room {t} answers grows stores before pieces is =
+    let full : length t.nodes ≡ t.limit = (grows.full (stores.full is)).at_limit in
+    let fits = numbers_fit t.vars t.nodes answers.table.reduced in
+    record { at_limit = full; tight = omega (arith, fits) }
+
+pub number_in_table : {table : Table} {live : List (Option Ref)} {before : LiveSets} → view_of table live ≡ before → {n : ℕ} → IsNumber before.nodes n → IsNumber table.nodes n
+number_in_table opens {n} number = subst (λ (s : LiveSets). IsNumber s.nodes n) (sym opens) number

@@ -1,0 +1,6 @@
+use Rattle.std.proofs.Common.{◌≡◌, map, take}
+use Rattle.dd_sets.specs.Stores.{refs_of}
+use Rattle.dd_sets.proofs.sets.Sets.numbers.Given as goal
+
+abbrev pub invariant-loop-entry : goal.invariant-loop-entry
+invariant-loop-entry l = l.numbers.items ≡ refs_of l.self (take l.entry-index l.map)

@@ -1,0 +1,22 @@
+-- A constant's number is in every table.
+use Rattle.std.proofs.Common.{◌+◌, ◌<◌, length, arith}
+use Rattle.dd_nodes.specs.NodeList.{function}
+use Rattle.dd_nodes.proofs.NodeLemmas.{function_true}
+use Rattle.dd_sets.specs.LiveSets.{everything}
+use Rattle.dd_sets.proofs.SlotLemmas.{placed}
+use Rattle.dd_sets.proofs.sets.Sets.whole.Goals as goal
+
+pub invariant_of-self : goal.invariant_of-self
+invariant_of-self c = (placed c.store.ensures c.self.view_is c.self.invariant (λ i values. function_true c.self.inside.ops.nodes values i) (omega arith)).sound
+
+pub returns-clause-added : goal.returns-clause-added
+returns-clause-added c = (placed c.store.ensures c.self.view_is c.self.invariant (λ i values. function_true c.self.inside.ops.nodes values i) (omega arith)).added
+
+pub returns-clause-kept : goal.returns-clause-kept
+returns-clause-kept c = (placed c.store.ensures c.self.view_is c.self.invariant (λ i values. function_true c.self.inside.ops.nodes values i) (omega arith)).kept
+
+pub returns-clause-refused : goal.returns-clause-refused
+returns-clause-refused c = (placed c.store.ensures c.self.view_is c.self.invariant (λ i values. function_true c.self.inside.ops.nodes values i) (omega arith)).refused
+
+pub returns-clause-sound : goal.returns-clause-sound
+returns-clause-sound c = (placed c.store.ensures c.self.view_is c.self.invariant (λ i values. function_true c.self.inside.ops.nodes values i) (omega arith)).sound

@@ -1,0 +1,20 @@
+//! Sets of states on diagrams.
+//!
+//! A set of states is a set of lists of truth values, one value a fluent. Each live set has a slot, and stands in one table of
+//! diagram nodes with all the others (R. E. Bryant, "Graph-Based Algorithms for Boolean Function Manipulation", IEEE
+//! Transactions on Computers, 1986), so two slots hold the same set exactly where they have the same number there.
+#![tactic(auto)]
+
+mod cubes;
+mod errors;
+mod laws;
+mod sets;
+mod slots;
+#[cfg(test)]
+mod tests;
+
+pub use cubes::Cube;
+pub use errors::SetErr;
+pub use laws::{full_is_tight, one_set_per_slot, sets_depend_on_fluents, tight_is_monotone};
+pub use sets::Sets;
+pub use slots::SetId;

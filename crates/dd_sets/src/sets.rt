@@ -1,0 +1,334 @@
+//! The sets of a table, each in a slot.
+ghost use Rattle.std.specs.Prelude.{◌≡◌, ℕ, ◌<◌, ◌≤◌, ◌↔◌, Some, Bool, true, false, [], ◌∷◌, map, is_some, IsTrue, IfOk, IfErr, OnErr, IsErrOf};
+ghost use Rattle.dd_nodes.specs.NodeList.{Values, IsNumber};
+ghost use Rattle.dd_ops.specs.Growth.{subst_pieces};
+ghost use Rattle.dd_ops.specs.Operations.{variable, not_of, and_of, or_of, minus_of, cofactor_of};
+ghost use Rattle.task_core.specs.Cubes.{cubes_of};
+ghost use Rattle.task_core.specs.States.{truth};
+ghost use Rattle.task_core.specs.Vectors.{value_of};
+ghost use Rattle.dd_sets.specs.Calls.{KeepsSets, Adds, AddsNone, Releases};
+ghost use Rattle.dd_sets.specs.LiveSets.{IsSets, IsLive, AllLive, is_live, set_of, live_count, nothing, everything, number_at, listed_set, values_by_sets, subst_set};
+ghost use Rattle.dd_sets.specs.Rooms.{IsFull};
+ghost use Rattle.dd_sets.specs.Stores.{ref_at, refs_of};
+
+use crate::cubes::{Cube, walk};
+use crate::slots::{is_empty, store};
+use crate::{SetErr, SetId};
+use dd_nodes::Ref;
+use dd_ops::Ops;
+use slab::Slab;
+use std::alloc::{AllocError, Global};
+use std::marker::Model;
+use task_core::{FluentId, State};
+
+/// Sets of states in slots, over one table of diagram nodes.
+///
+/// A contract sees it as the number of fluents (`vars`), the largest number of nodes (`limit`), the nodes, and for each live
+/// slot its set. A slot is live from the call that answers it up to its release. Each call but `release` leaves every live slot
+/// with its set, whether it answers or refuses, and an operation's answer is a slot that was not live before. It refuses with
+/// `Full` only where the table holds `limit` nodes and the limit is tight for the live sets and the functions whose nodes it
+/// may have to make, and with `Memory` where memory runs out.
+#[derive(Drop)]
+pub struct Sets {
+    ops: Ops,
+    slots: Slab<Ref>,
+    alloc: Global,
+}
+
+impl Model for Sets {
+    ghost use Rattle.dd_sets.specs.LiveSets.{LiveSets, IsSets};
+
+    ghost Value = { LiveSets };
+
+    ghost view = { λ s. record {
+      vars = s.ops.vars;
+      limit = s.ops.limit;
+      nodes = s.ops.nodes;
+      live = s.slots.slots;
+    } };
+
+    ghost invariant = { λ s. IsSets (record {
+      vars = s.ops.vars;
+      limit = s.ops.limit;
+      nodes = s.ops.nodes;
+      live = s.slots.slots;
+    }) };
+}
+
+impl Sets {
+    /// No live slot, and a table for at most `limit` nodes over `vars` fluents.
+    pub fn new(alloc: Global, vars: u32, limit: u32) -> Result<Sets, AllocError>
+        requires few_vars { vars ≤ 256 }
+        requires some_room { 0 < limit }
+        requires small_limit { limit ≤ 16777216 }
+        ensures vars { IfOk result (λ sets. sets.vars ≡ vars) }
+        ensures limit { IfOk result (λ sets. sets.limit ≡ limit) }
+        ensures none_live { IfOk result (λ sets. (slot : ℕ) → is_live sets slot ≡ false) }
+        ensures count { IfOk result (λ sets. live_count sets ≡ 0) }
+        ensures sound { IfOk result IsSets }
+    {
+        Ok(Sets {
+            ops: Ops::new(alloc, vars, limit)?,
+            slots: Slab::new(alloc),
+            alloc,
+        })
+    }
+
+    /// The number of the set that a live slot holds.
+    fn number(&self, a: SetId) -> Ref
+        requires { IsLive self.now a.0 }
+        ensures number { number_at self.now a.0 ≡ Some result }
+        ensures value { result ≡ ref_at self.now a.0 }
+        ensures in_table { IsNumber self.now.nodes result.0 }
+        ensures sound { IsSets self.now }
+    {
+        self.slots[a.0]
+    }
+
+    /// The set of all lists of truth values.
+    pub fn whole(&mut self) -> Result<SetId, SetErr>
+        ensures added { IfOk result (λ slot. Adds self.old self.new slot.0
+            (everything)) }
+        ensures kept { KeepsSets self.old self.new }
+        ensures refused { OnErr result (AddsNone self.old self.new) }
+        ensures never_full { IfErr result (λ e. e ≡ SetErr.Memory) }
+        ensures sound { IsSets self.new }
+    {
+        store(&mut self.slots, Ok(Ref(1)))
+    }
+
+    /// The empty set.
+    pub fn none(&mut self) -> Result<SetId, SetErr>
+        ensures added { IfOk result (λ slot. Adds self.old self.new slot.0
+            (nothing)) }
+        ensures kept { KeepsSets self.old self.new }
+        ensures refused { OnErr result (AddsNone self.old self.new) }
+        ensures never_full { IfErr result (λ e. e ≡ SetErr.Memory) }
+        ensures sound { IsSets self.new }
+    {
+        store(&mut self.slots, Ok(Ref(0)))
+    }
+
+    /// The same set in another slot.
+    pub fn copy(&mut self, a: SetId) -> Result<SetId, SetErr>
+        requires a_live { IsLive self.old a.0 }
+        ensures added { IfOk result (λ slot. Adds self.old self.new slot.0
+            (set_of self.old a.0)) }
+        ensures kept { KeepsSets self.old self.new }
+        ensures refused { OnErr result (AddsNone self.old self.new) }
+        ensures never_full { IfErr result (λ e. e ≡ SetErr.Memory) }
+        ensures sound { IsSets self.new }
+    {
+        let number = self.number(a);
+        store(&mut self.slots, Ok(number))
+    }
+
+    /// The lists in which a fluent is true.
+    pub fn of_fluent(&mut self, f: FluentId) -> Result<SetId, SetErr>
+        requires in_range { f.0 < self.old.vars }
+        ensures added { IfOk result (λ slot. Adds self.old self.new slot.0
+            (variable f.0)) }
+        ensures kept { KeepsSets self.old self.new }
+        ensures refused { OnErr result (AddsNone self.old self.new) }
+        ensures full { IsErrOf result SetErr.Full → IsFull self.old self.new
+            (variable f.0 ∷ []) }
+        ensures sound { IsSets self.new }
+    {
+        let answer = self.ops.var(f.0);
+        store(&mut self.slots, answer)
+    }
+
+    /// The lists that are not in `a`.
+    pub fn complement(&mut self, a: SetId) -> Result<SetId, SetErr>
+        requires a_live { IsLive self.old a.0 }
+        ensures added { IfOk result (λ slot. Adds self.old self.new slot.0
+            (not_of (set_of self.old a.0))) }
+        ensures kept { KeepsSets self.old self.new }
+        ensures refused { OnErr result (AddsNone self.old self.new) }
+        ensures full { IsErrOf result SetErr.Full → IsFull self.old self.new
+            (not_of (set_of self.old a.0) ∷ []) }
+        ensures sound { IsSets self.new }
+    {
+        let f = self.number(a);
+        let answer = self.ops.not(f);
+        store(&mut self.slots, answer)
+    }
+
+    /// The lists that are in `a` and in `b`.
+    pub fn meet(&mut self, a: SetId, b: SetId) -> Result<SetId, SetErr>
+        requires a_live { IsLive self.old a.0 }
+        requires b_live { IsLive self.old b.0 }
+        ensures added { IfOk result (λ slot. Adds self.old self.new slot.0
+            (and_of (set_of self.old a.0) (set_of self.old b.0))) }
+        ensures kept { KeepsSets self.old self.new }
+        ensures refused { OnErr result (AddsNone self.old self.new) }
+        ensures full { IsErrOf result SetErr.Full → IsFull self.old self.new
+            (and_of (set_of self.old a.0) (set_of self.old b.0) ∷ []) }
+        ensures sound { IsSets self.new }
+    {
+        let f = self.number(a);
+        let g = self.number(b);
+        let answer = self.ops.and(f, g);
+        store(&mut self.slots, answer)
+    }
+
+    /// The lists that are in `a` or in `b`.
+    pub fn join(&mut self, a: SetId, b: SetId) -> Result<SetId, SetErr>
+        requires a_live { IsLive self.old a.0 }
+        requires b_live { IsLive self.old b.0 }
+        ensures added { IfOk result (λ slot. Adds self.old self.new slot.0
+            (or_of (set_of self.old a.0) (set_of self.old b.0))) }
+        ensures kept { KeepsSets self.old self.new }
+        ensures refused { OnErr result (AddsNone self.old self.new) }
+        ensures full { IsErrOf result SetErr.Full → IsFull self.old self.new
+            (or_of (set_of self.old a.0) (set_of self.old b.0) ∷ []) }
+        ensures sound { IsSets self.new }
+    {
+        let f = self.number(a);
+        let g = self.number(b);
+        let answer = self.ops.or(f, g);
+        store(&mut self.slots, answer)
+    }
+
+    /// The lists that are in `a` and not in `b`.
+    pub fn minus(&mut self, a: SetId, b: SetId) -> Result<SetId, SetErr>
+        requires a_live { IsLive self.old a.0 }
+        requires b_live { IsLive self.old b.0 }
+        ensures added { IfOk result (λ slot. Adds self.old self.new slot.0
+            (minus_of (set_of self.old a.0) (set_of self.old b.0))) }
+        ensures kept { KeepsSets self.old self.new }
+        ensures refused { OnErr result (AddsNone self.old self.new) }
+        ensures full { IsErrOf result SetErr.Full → IsFull self.old self.new
+            (minus_of (set_of self.old a.0) (set_of self.old b.0) ∷ []) }
+        ensures sound { IsSets self.new }
+    {
+        let f = self.number(a);
+        let g = self.number(b);
+        let answer = self.ops.minus(f, g);
+        store(&mut self.slots, answer)
+    }
+
+    /// The lists that are in `a` once a fluent has the value.
+    pub fn cofactor(&mut self, a: SetId, f: FluentId, value: bool) -> Result<SetId, SetErr>
+        requires a_live { IsLive self.old a.0 }
+        requires in_range { f.0 < self.old.vars }
+        ensures added { IfOk result (λ slot. Adds self.old self.new slot.0
+            (cofactor_of (set_of self.old a.0) f.0 value)) }
+        ensures kept { KeepsSets self.old self.new }
+        ensures refused { OnErr result (AddsNone self.old self.new) }
+        ensures full { IsErrOf result SetErr.Full → IsFull self.old self.new
+            (cofactor_of (set_of self.old a.0) f.0 value ∷ []) }
+        ensures sound { IsSets self.new }
+    {
+        let number = self.number(a);
+        let answer = self.ops.cofactor(number, f.0, value);
+        store(&mut self.slots, answer)
+    }
+
+    /// The lists that are in `a` once each listed fluent has the truth of its set, all at once.
+    ///
+    /// Where a fluent is listed twice, the first entry counts.
+    pub fn subst(&mut self, a: SetId, map: &[(FluentId, SetId)]) -> Result<SetId, SetErr>
+        requires a_live { IsLive self.old a.0 }
+        requires map_live { AllLive self.old map.now }
+        ensures added { IfOk result (λ slot. Adds self.old self.new slot.0
+            (subst_set self.old map.now (set_of self.old a.0))) }
+        ensures kept { KeepsSets self.old self.new }
+        ensures refused { OnErr result (AddsNone self.old self.new) }
+        ensures full { IsErrOf result SetErr.Full → IsFull self.old self.new
+            (subst_pieces self.old.vars (set_of self.old a.0) (λ v. is_some (listed_set map.now v))
+            (values_by_sets self.old map.now)) }
+        ensures sound { IsSets self.new }
+    {
+        let number = self.number(a);
+        let numbers = self.numbers(map)?;
+        let answer = self.ops.subst(number, &numbers);
+        store(&mut self.slots, answer)
+    }
+
+    /// The numbers of the sets that a list gives its fluents.
+    fn numbers(&self, map: &[(FluentId, SetId)]) -> Result<Vec<(u32, Ref)>, AllocError>
+        requires { AllLive self.now map.now }
+        ensures { IfOk result (λ numbers. numbers.items ≡ refs_of self.now map.now) }
+    {
+        let mut numbers = Vec::new(self.alloc);
+        for entry in map {
+            numbers.push((entry.0.0, self.number(entry.1)))?;
+        }
+        Ok(numbers)
+    }
+
+    /// Whether each list of `a` is in `b`.
+    pub fn inside(&mut self, a: SetId, b: SetId) -> Result<bool, SetErr>
+        requires a_live { IsLive self.old a.0 }
+        requires b_live { IsLive self.old b.0 }
+        ensures answer { IfOk result (λ is_inside. IsTrue is_inside ↔ ((values : Values)
+            → set_of self.old a.0 values ≡ true → set_of self.old b.0 values ≡ true)) }
+        ensures kept { KeepsSets self.old self.new }
+        ensures same_slots { AddsNone self.old self.new }
+        ensures full { IsErrOf result SetErr.Full → IsFull self.old self.new
+            (minus_of (set_of self.old a.0) (set_of self.old b.0) ∷ []) }
+        ensures sound { IsSets self.new }
+    {
+        let f = self.number(a);
+        let g = self.number(b);
+        let outside = self.ops.minus(f, g);
+        is_empty(outside)
+    }
+
+    /// Whether two slots hold the same set.
+    pub fn same(&self, a: SetId, b: SetId) -> bool
+        requires a_live { IsLive self.now a.0 }
+        requires b_live { IsLive self.now b.0 }
+        ensures { IsTrue result ↔ (set_of self.now a.0 ≡ set_of self.now b.0) }
+    {
+        self.number(a) == self.number(b)
+    }
+
+    /// Whether a slot holds the empty set.
+    pub fn is_none(&self, a: SetId) -> bool
+        requires { IsLive self.now a.0 }
+        ensures { IsTrue result ↔ (set_of self.now a.0 ≡ nothing) }
+    {
+        self.number(a) == Ref(0)
+    }
+
+    /// Whether a state is in a set.
+    pub fn holds(&self, a: SetId, s: &State) -> bool
+        requires { IsLive self.now a.0 }
+        ensures { result ≡ set_of self.now a.0 (truth s.now) }
+    {
+        self.ops.table().eval(self.number(a), s.bits())
+    }
+
+    /// Ends a slot.
+    pub fn release(&mut self, a: SetId)
+        requires { IsLive self.old a.0 }
+        ensures released { Releases self.old self.new a.0 }
+        ensures sound { IsSets self.new }
+    {
+        self.slots.remove(a.0);
+    }
+
+    /// The cubes of a set, in the order of `task_core`'s definition: the empty set has none, the whole set has the empty cube, a
+    /// set that does not depend on the first fluent has the cubes over the rest, and another has the cubes of the half where the
+    /// first fluent is false, with that literal first, and then those of the true half.
+    ///
+    /// The time grows with the literals that it gives.
+    pub fn cubes(&self, a: SetId) -> Result<Vec<Cube>, AllocError>
+        requires { IsLive self.now a.0 }
+        ensures { IfOk result (λ cubes. map (λ cube. cube.items) cubes.items
+            ≡ cubes_of self.now.vars (λ state. set_of self.now a.0 (value_of state))) }
+    {
+        let mut path = Vec::new(self.alloc);
+        let mut cubes = Vec::new(self.alloc);
+        walk(
+            self.alloc,
+            self.ops.table(),
+            self.number(a),
+            &mut path,
+            &mut cubes,
+        )?;
+        Ok(cubes)
+    }
+}
