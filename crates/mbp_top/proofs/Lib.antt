@@ -6,3 +6,5 @@ pub mod PlanAnswers
 pub mod Later
 pub mod Refusals
 pub mod WordLists
+mod PlanExamples
+mod ToldExamples
