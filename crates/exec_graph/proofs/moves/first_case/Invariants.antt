@@ -1,0 +1,11 @@
+use Rattle.std.proofs.Common.{◌≡◌, map, drop}
+use Rattle.task_core.specs.States.{vector}
+use Rattle.task_core.specs.Tasks.{fluent_count}
+use Rattle.plan_rules.specs.Denoted.{next_context}
+use Rattle.plan_rules.specs.Rules.{by_cases, case_of}
+use Rattle.exec_graph.proofs.moves.first_case.Given as goal
+
+abbrev pub invariant-loop-case : goal.invariant-loop-case
+invariant-loop-case l =
+    next_context (by_cases (map case_of l.cases)) (vector (fluent_count l.task) l.state)
+    ≡ next_context (by_cases (map case_of (drop l.case-index l.cases))) (vector (fluent_count l.task) l.state)

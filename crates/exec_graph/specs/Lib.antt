@@ -1,0 +1,3 @@
+pub mod Configurations
+pub mod Views
+pub mod Graphs
