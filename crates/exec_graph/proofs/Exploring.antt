@@ -1,15 +1,15 @@
 -- Going through the configurations in the order in which they are found.
-use Rattle.std.proofs.Common.{◌≡◌, ◌≢◌, ℕ, zero, suc, ◌+◌, ◌<◌, ◌≤◌, ◌⊎◌, inl, inr, List, [], ◌∷◌, ◌++◌, length, length-append, refl, ap, sym, subst, ◌∙◌, arith}
+use Rattle.std.proofs.Common.{◌≡◌, ◌≢◌, ℕ, zero, suc, ◌+◌, ◌<◌, ◌≤◌, ◌⊎◌, inl, inr, List, [], ◌∷◌, ◌++◌, map, length, length-append, refl, ap, sym, subst, ◌∙◌, arith}
 use Rattle.std.specs.Prelude.{Option, Some, None, slice_get}
 use Rattle.std.specs.List.{Contains, flat_map, filter_map}
 use Rattle.std.specs.Option.{option_map}
-use Rattle.task_core.specs.ContextPlans.{Configuration, IsInitial, last_configuration}
+use Rattle.task_core.specs.ContextPlans.{Configuration, IsInitial, first_context, last_configuration}
 use Rattle.task_core.specs.Systems.{System, HasOutcome}
 use Rattle.task_core.specs.Vectors.{Vector}
 use Rattle.plan_rules.specs.Rules.{PlainPlan}
 use Rattle.exec_graph.specs.Configurations.{counting, context_after, going_on, Moves, IsWalk, IsReachableBy, moves_in, moves_of}
-use Rattle.exec_graph.specs.Graphs.{AreDifferent, IsFollowerList, HasTooMany, most_configurations, GrowsBy, IsNumbered}
-use Rattle.exec_graph.proofs.Members.{in_flat_map, of_flat_map, in_filter_map, of_filter_map, at_place, place_of, place_below, below_length, kept_before, last_or_before}
+use Rattle.exec_graph.specs.Graphs.{AreDifferent, IsFollowerList, HasTooMany, IsExplored, IsGraphOf, IsKept, PlainGraph, most_configurations, GrowsBy, IsNumbered}
+use Rattle.exec_graph.proofs.Members.{here, there, first_or_later, none_in, in_flat_map, of_flat_map, in_filter_map, of_filter_map, at_place, place_of, place_below, below_length, kept_before, last_or_before}
 
 -- the list of moves has exactly what follows
 goes_on : (o : Option ℕ) (t : Vector) (y : Configuration) → y.state ≡ t → o ≡ Some y.context → option_map (λ c. record { state = t; context = c }) o ≡ Some y
@@ -64,14 +64,6 @@ reached_next sys plan x y r m = record {
   path = walk_more sys plan r.start y r.rest r.path (subst (λ (z : Configuration). Moves sys plan z y) (sym r.ends) m);
   ends = last_more r.start y r.rest;
 }
-
--- what was found, and the numbers of what follows the first of them
-pub record IsExplored (sys : System) (plan : PlainPlan) (found : List Configuration) (next : List (List ℕ)) : Type 0 where
-  pub different : AreDifferent found
-  pub initial : (x : Configuration) → IsInitial sys x → Contains found x
-  pub reached : (x : Configuration) → Contains found x → IsReachableBy sys plan x
-  pub count : length next ≤ length found
-  pub followers : (i : ℕ) (x : Configuration) (numbers : List ℕ) → slice_get found i ≡ Some x → slice_get next i ≡ Some numbers → IsFollowerList sys plan found x numbers
 
 pub kept_in : (before after more : List Configuration) → GrowsBy before after more → (x : Configuration) → Contains before x → Contains after x
 kept_in before after more g x h = let p = place_of before x h in at_place after p.0 x (g.kept p.0 x p.1)
@@ -154,3 +146,68 @@ too_many sys plan found after next x e inside g many = record {
   reached = all_reached sys plan found after next x e inside g;
   many = many;
 }
+
+-- how an exploration begins
+abbrev pub start_at : Vector → Configuration
+start_at v = record { state = v; context = first_context }
+
+in_starts : (vs : List Vector) (x : Configuration) → Contains vs x.state → x.context ≡ first_context → Contains (map start_at vs) x
+in_starts [] x h e = none_in x.state h
+in_starts (v ∷ vs) x h e = elim (first_or_later v x.state vs h) [
+    inl same ↦ subst (λ (y : Configuration). Contains (map start_at (v ∷ vs)) y) (ap start_at same ∙ ap (λ c. with_context x.state c) (sym e)) (here (start_at v) (map start_at vs))
+  | inr later ↦ there (start_at v) x (map start_at vs) (in_starts vs x later e)
+]
+  where
+    with_context : Vector → ℕ → Configuration
+    with_context s c = record { state = s; context = c }
+
+of_starts : (sys : System) (vs : List Vector) (x : Configuration) → ((v : Vector) → Contains vs v → Contains sys.initial v) → Contains (map start_at vs) x → IsInitial sys x
+of_starts sys [] x wide h = none_in x h
+of_starts sys (v ∷ vs) x wide h = elim (first_or_later (start_at v) x (map start_at vs) h) [
+    inl same ↦ subst (λ (y : Configuration). IsInitial sys y) same (record { state = wide v (here v vs); context = refl })
+  | inr later ↦ of_starts sys vs x (λ w i. wide w (there v w vs i)) later
+]
+
+pub begun : (sys : System) (plan : PlainPlan) (after : List Configuration) (numbers : List ℕ) → GrowsBy [] after (map start_at sys.initial) → IsNumbered after (map start_at sys.initial) numbers
+    → IsExplored sys plan after []
+begun sys plan after numbers g of = record {
+  different = g.different (λ i j d l h. absurd (omega arith));
+  initial = λ x i. (let f = of.all x (in_starts sys.initial x i.state i.context) in at_place after f.0 x f.2);
+  reached = λ x h. elim (g.from x h) [
+      inl none ↦ none_in x none
+    | inr start ↦ record { start = x; initial = of_starts sys sys.initial x (λ v i. i) start; rest = []; path = tt; ends = refl } ];
+  count = omega arith;
+  followers = λ i x ns a b. absurd (let none : ⊥ = cc in none);
+}
+
+pub only_starts : (sys : System) (after : List Configuration) → GrowsBy [] after (map start_at sys.initial) → (x : Configuration) → Contains after x → IsInitial sys x
+only_starts sys after g x h = elim (g.from x h) [ inl none ↦ none_in x none | inr start ↦ of_starts sys sys.initial x (λ v i. i) start ]
+
+pub starts_too_many : (sys : System) (plan : PlainPlan) (after : List Configuration) → GrowsBy [] after (map start_at sys.initial) → most_configurations < length after → HasTooMany sys plan
+starts_too_many sys plan after g many = record {
+  configurations = after;
+  different = g.different (λ i j d l h. absurd (omega arith));
+  reached = λ x h. record { start = x; initial = only_starts sys after g x h; rest = []; path = tt; ends = refl };
+  many = many;
+}
+
+-- the whole graph
+same_place : (found : List Configuration) (i j : ℕ) (x : Configuration) → AreDifferent found → slice_get found i ≡ Some x → slice_get found j ≡ Some x → i ≡ j
+same_place found i j x differ e f = ?
+
+pub whole_graph : (sys : System) (plan : PlainPlan) (starts found : List Configuration) (next : List (List ℕ)) → IsExplored sys plan found next → length found ≤ length next
+    → ((x : Configuration) → IsInitial sys x → Contains starts x) → ((x : Configuration) → Contains starts x → IsInitial sys x) → IsKept starts found
+    → IsGraphOf sys plan (record { configurations = found; starts = length starts; next = next })
+whole_graph sys plan starts found next e whole to from kept = record {
+  different = e.different;
+  reached = e.reached;
+  all = all_found sys plan found next e whole;
+  initial = λ i x at. (
+      λ below. (let p = place_below starts i below in subst (λ (y : Configuration). IsInitial sys y) (only_one p.0 x (slice_get found i) (kept i p.0 p.1) at) (from p.0 (at_place starts i p.0 p.1))),
+      λ is. (let p = place_of starts x (to x is) in subst (λ k. k < length starts) (same_place found p.0 i x e.different (kept p.0 x p.1) at) (below_length starts p.0 x p.1)));
+  as_many = (let c : length next ≤ length found = e.count in omega arith);
+  followers = e.followers;
+}
+  where
+    only_one : (a b : Configuration) (o : Option Configuration) → o ≡ Some a → o ≡ Some b → a ≡ b
+    only_one a b o e f = cc

@@ -1,3 +1,4 @@
 pub mod Steps
 pub mod Members
 pub mod Exploring
+pub mod Found

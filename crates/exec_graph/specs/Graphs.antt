@@ -1,25 +1,22 @@
 -- The graph of a plan: exactly the configurations that it may reach, each once, and for each of them exactly
 -- those that follow it, each once.
-use Rattle.std.specs.Prelude.{◌≡◌, ◌≢◌, ◌↔◌, ◌⊎◌, ℕ, ◌<◌, Bool, List, length, Some, slice_get}
-use Rattle.std.specs.List.{All, AllPairs, Contains, list_any}
+use Rattle.std.specs.Prelude.{◌≡◌, ◌≢◌, ◌↔◌, ◌⊎◌, ℕ, ◌<◌, ◌≤◌, List, length, Some, slice_get}
+use Rattle.std.specs.List.{AllPairs, Contains}
 use Rattle.task_core.specs.ContextPlans.{Configuration, IsInitial}
 use Rattle.task_core.specs.Systems.{System}
 use Rattle.plan_rules.specs.Rules.{PlainPlan}
-use Rattle.exec_graph.specs.Configurations.{Moves, IsReachableBy, blocked_at, stuck_at}
+use Rattle.exec_graph.specs.Configurations.{Moves, IsReachableBy}
 
 -- how many configurations a graph may have, and how many initial states
 abbrev pub most_configurations : ℕ
 most_configurations = 262144
 
--- configurations with their numbers, counted from 0; for each the numbers of those that follow it; how many are
--- initial, which come first; whether somewhere a rule that counts can't be executed, and whether somewhere an
--- automaton can't go on
+-- configurations with their numbers, counted from 0; how many of them are initial, which come first; and for
+-- each the numbers of those that follow it
 pub record PlainGraph : Type 0 where
   pub configurations : List Configuration
   pub starts : ℕ
   pub next : List (List ℕ)
-  pub unexecutable : Bool
-  pub stuck : Bool
 
 -- elements that are all different
 abbrev pub AreDifferent : {X : Type 0} → List X → Type 0
@@ -40,8 +37,6 @@ pub record IsGraphOf (sys : System) (plan : PlainPlan) (graph : PlainGraph) : Ty
   pub as_many : length graph.next ≡ length graph.configurations
   pub followers : (i : ℕ) (x : Configuration) (numbers : List ℕ) → slice_get graph.configurations i ≡ Some x → slice_get graph.next i ≡ Some numbers
       → IsFollowerList sys plan graph.configurations x numbers
-  pub unexecutable : graph.unexecutable ≡ list_any (blocked_at sys plan) graph.configurations
-  pub stuck : graph.stuck ≡ list_any (stuck_at sys plan) graph.configurations
 
 -- more configurations are reachable than a graph may have
 pub record HasTooMany (sys : System) (plan : PlainPlan) : Type 0 where
@@ -49,6 +44,18 @@ pub record HasTooMany (sys : System) (plan : PlainPlan) : Type 0 where
   pub different : AreDifferent configurations
   pub reached : (x : Configuration) → Contains configurations x → IsReachableBy sys plan x
   pub many : most_configurations < length configurations
+
+-- Private: what was found so far, and the numbers of what follows the first of them
+pub record IsExplored (sys : System) (plan : PlainPlan) (found : List Configuration) (next : List (List ℕ)) : Type 0 where
+  pub different : AreDifferent found
+  pub initial : (x : Configuration) → IsInitial sys x → Contains found x
+  pub reached : (x : Configuration) → Contains found x → IsReachableBy sys plan x
+  pub count : length next ≤ length found
+  pub followers : (i : ℕ) (x : Configuration) (numbers : List ℕ) → slice_get found i ≡ Some x → slice_get next i ≡ Some numbers → IsFollowerList sys plan found x numbers
+
+-- Private: each of the first list stands at its place in the second
+abbrev pub IsKept : List Configuration → List Configuration → Type 0
+IsKept before after = (j : ℕ) (x : Configuration) → slice_get before j ≡ Some x → slice_get after j ≡ Some x
 
 -- Private: configurations that were found, and some of those that follow, added at the end
 pub record GrowsBy (before after more : List Configuration) : Type 0 where

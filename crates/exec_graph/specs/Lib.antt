@@ -1,3 +1,4 @@
 pub mod Configurations
 pub mod Views
 pub mod Graphs
+pub mod Starts

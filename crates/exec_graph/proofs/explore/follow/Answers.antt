@@ -1,0 +1,1 @@
+use Rattle.exec_graph.proofs.explore.follow.Goals as goal
