@@ -1,4 +1,0 @@
-pub mod Steps
-pub mod Members
-pub mod Exploring
-pub mod Found

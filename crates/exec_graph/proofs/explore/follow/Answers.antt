@@ -1,1 +1,0 @@
-use Rattle.exec_graph.proofs.explore.follow.Goals as goal

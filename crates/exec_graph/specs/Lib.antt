@@ -1,4 +1,0 @@
-pub mod Configurations
-pub mod Views
-pub mod Graphs
-pub mod Starts
