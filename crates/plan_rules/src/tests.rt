@@ -151,7 +151,7 @@ fn a_long_plan_is_read(rt: HostRuntime) -> Result<(), Fail> {
     for _ in 0..40_328 {
         text.extend_from_slice(b"(rule ((at b)) (go a b)) \n")?;
     }
-    while text.len() < MAX_BYTES - 1 {
+    for _ in text.len()..MAX_BYTES - 1 {
         text.push(b' ')?;
     }
     text.push(b')')?;
