@@ -1,5 +1,5 @@
-/* The diagrams of the program bench_diagrams, made with the C library BuDDy (Debian package libbdd-dev): the same clauses and
- * the same board, by the same calls in the same order. Use: buddy clauses COUNT, or buddy queens COUNT.
+/* The diagrams of the program bench_diagrams, made with the C library BuDDy (Debian package libbdd-dev): the same clauses, sets
+ * and board, by the same calls in the same order. Use: buddy PROBLEM COUNT, with a problem of bench_diagrams except nodes.
  *
  * BuDDy collects its garbage and makes a node again that it needs again, so the last number of its line counts the nodes that
  * it made, and may exceed that of different nodes.
@@ -10,7 +10,7 @@
 #include <stdlib.h>
 #include <string.h>
 
-enum { VARIABLES = 60, LITERALS = 3, PART = 8, LARGEST = 16 };
+enum { VARIABLES = 60, LITERALS = 3, PART = 8, LARGEST = 16, LARGE = 100, SMALL = 10, MIDDLE = 17, SETS = 16 };
 
 /* The generator of crates/bench_diagrams/src/random.rt. */
 static uint64_t state = 1;
@@ -50,6 +50,63 @@ static BDD conjunction(unsigned count)
         bdd_delref(clause);
     }
     return all;
+}
+
+/* Puts the value of the next variable in the place of a variable, and the opposite of its value in the place of the next. */
+static BDD replace_variables(unsigned count)
+{
+    BDD large = conjunction(LARGE), last = bddfalse;
+    for (unsigned step = 0; step < count; step++) {
+        int var = (int)(step % (VARIABLES - 1));
+        bddPair *images = bdd_newpair();
+        bdd_setbddpair(images, var, bdd_ithvar(var + 1));
+        bdd_setbddpair(images, var + 1, bdd_nithvar(var));
+        put(&last, bdd_veccompose(large, images));
+        bdd_freepair(images);
+    }
+    return last;
+}
+
+static void make_sets(BDD *sets, unsigned clauses)
+{
+    for (unsigned i = 0; i < SETS; i++)
+        sets[i] = conjunction(clauses);
+}
+
+/* Of two entries for a variable the first counts, so the last is put in first. */
+static BDD replace_by_constants(unsigned count)
+{
+    BDD sets[SETS], last = bddfalse;
+    make_sets(sets, SMALL);
+    for (unsigned step = 0; step < count; step++) {
+        unsigned variables[4], values[4];
+        for (int i = 0; i < 4; i++) {
+            variables[i] = below(VARIABLES);
+            values[i] = below(2);
+        }
+        bddPair *images = bdd_newpair();
+        for (int i = 3; i >= 0; i--)
+            bdd_setbddpair(images, (int)variables[i], values[i] ? bddtrue : bddfalse);
+        put(&last, bdd_veccompose(sets[step % SETS], images));
+        bdd_freepair(images);
+    }
+    return last;
+}
+
+static BDD combine(unsigned count)
+{
+    BDD sets[SETS], last = bddfalse;
+    make_sets(sets, MIDDLE);
+    for (unsigned step = 0; step < count; step++) {
+        BDD f = sets[below(SETS)];
+        BDD g = sets[below(SETS)];
+        BDD both = bdd_addref(bdd_and(f, g));
+        BDD rest = bdd_addref(bdd_apply(g, f, bddop_diff));
+        put(&last, bdd_or(both, rest));
+        bdd_delref(both);
+        bdd_delref(rest);
+    }
+    return last;
 }
 
 static BDD some_in_row(unsigned size, unsigned row)
@@ -98,12 +155,29 @@ static BDD placings(unsigned size)
     return all;
 }
 
+struct problem {
+    const char *name;
+    BDD (*solve)(unsigned count);
+};
+
+static const struct problem PROBLEMS[] = {
+    {"clauses", conjunction},
+    {"queens", placings},
+    {"variables", replace_variables},
+    {"constants", replace_by_constants},
+    {"algebra", combine},
+};
+
 int main(int argc, char **argv)
 {
-    unsigned count = argc == 3 ? (unsigned)strtoul(argv[2], NULL, 10) : 0;
-    int is_board = argc == 3 && strcmp(argv[1], "queens") == 0;
-    if (argc != 3 || (!is_board && strcmp(argv[1], "clauses") != 0) || (is_board && (count < 1 || count > LARGEST))) {
-        fprintf(stderr, "use: buddy clauses COUNT, or buddy queens COUNT with a COUNT of 1 to 16\n");
+    const struct problem *problem = NULL;
+    for (size_t i = 0; argc == 3 && i < sizeof PROBLEMS / sizeof *PROBLEMS; i++)
+        if (strcmp(argv[1], PROBLEMS[i].name) == 0)
+            problem = &PROBLEMS[i];
+    unsigned count = problem ? (unsigned)strtoul(argv[2], NULL, 10) : 0;
+    int is_board = problem && problem->solve == placings;
+    if (!problem || (is_board && count > LARGEST)) {
+        fprintf(stderr, "use: buddy clauses | queens | variables | constants | algebra COUNT, with at most 16 queens\n");
         return 2;
     }
     /* A million nodes and caches of a hundred thousand entries were the fastest of four choices; the table grows where it must. */
@@ -111,10 +185,10 @@ int main(int argc, char **argv)
     bdd_setmaxincrease(1000000);
     bdd_gbc_hook(NULL);
     bdd_resize_hook(NULL);
-    bdd_setvarnum(is_board ? (int)(count * count) : VARIABLES);
-    BDD all = is_board ? placings(count) : conjunction(count);
+    bdd_setvarnum(is_board ? (int)(count > 0 ? count * count : 1) : VARIABLES);
+    BDD all = problem->solve(count);
     bddStat statistics;
     bdd_stats(&statistics);
-    printf("%s %u: %d nodes, %ld made\n", argv[1], count, bdd_nodecount(all), (long)statistics.produced);
+    printf("%s %u: %d nodes, %ld made\n", problem->name, count, bdd_nodecount(all), (long)statistics.produced);
     return 0;
 }

@@ -25,8 +25,8 @@ pub fn make_nodes(alloc: Global, count: u32) -> Result<Extent, DdErr> {
     })
 }
 
-/// Makes a chain from the last variable to the first: each node has the node before and a constant as children. It ends early
-/// where the table has `count` nodes.
+/// Makes a chain from the last variable to the first: each node has the node before and a constant
+/// as children. It ends early where the table has `count` nodes.
 fn add_chain(dd: &mut Dd, random: &mut Random, count: u32) -> Result<(), DdErr>
     requires { dd.old.vars ≡ 256 }
     ensures { dd.new.vars ≡ 256 }

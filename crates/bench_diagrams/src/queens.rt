@@ -11,8 +11,8 @@ use std::alloc::Global;
 /// The largest board: it has 256 cells.
 pub const LARGEST: u32 = 16;
 
-/// The ways to place a queen in each row of a board of `size` rows and columns. The variable of a cell, counted row by row,
-/// says that a queen stands there.
+/// The ways to place a queen in each row of a board of `size` rows and columns. The variable of a
+/// cell, counted row by row, says that a queen stands there.
 pub fn placings(alloc: Global, size: u32) -> Result<Extent, DdErr>
     requires { size ≤ 16 }
 {

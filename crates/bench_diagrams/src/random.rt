@@ -1,8 +1,8 @@
 //! Numbers that look random and are the same in each run.
 ghost use Rattle.std.specs.Prelude.{◌<◌};
 
-/// A linear congruential generator with Knuth's multiplier for 64 bits (D. E. Knuth, "The Art of Computer Programming",
-/// volume 2, 3.3.4). `bench/buddy.c` and `bench/nodes.rs` have the same.
+/// A linear congruential generator with Knuth's multiplier for 64 bits (D. E. Knuth, "The Art of
+/// Computer Programming", volume 2, 3.3.4). `bench/buddy.c` and `bench/nodes.rs` have the same.
 #[derive(Drop)]
 pub struct Random {
     state: u64,

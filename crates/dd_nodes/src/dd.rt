@@ -10,9 +10,10 @@ use std::marker::Model;
 
 /// A table of diagram nodes: at most `limit` nodes over `vars` variables.
 ///
-/// A contract sees it as the record of `vars`, `limit` and `nodes`, the list of its nodes in the order of their numbers. That
-/// list is always reduced: each variable is below `vars`, no node has equal children, no two nodes are equal, and children
-/// stand before their parents, with greater variables.
+/// A contract sees it as the record of `vars`, `limit` and `nodes`, the list of its nodes in the
+/// order of their numbers. That list is always reduced: each variable is below `vars`, no node has
+/// equal children, no two nodes are equal, and children stand before their parents, with greater
+/// variables.
 #[derive(Drop)]
 pub struct Dd {
     vars: u32,
@@ -79,11 +80,13 @@ impl Dd {
         }
     }
 
-    /// The number of the function that is that of `hi` where variable `var` is true, and that of `lo` where it is false.
+    /// The number of the function that is that of `hi` where variable `var` is true, and that of
+    /// `lo` where it is false.
     ///
-    /// Equal children give that child, and a node that is there gives its number. Else the node is new, and its number is 2
-    /// more than the number of nodes before; it is refused with `Full` where the table holds `limit` nodes, and with `Memory`
-    /// where there is none. A refusal changes nothing. No call changes the number or the function of an earlier node.
+    /// Equal children give that child, and a node that is there gives its number. Else the node is
+    /// new, and its number is 2 more than the number of nodes before; it is refused with `Full`
+    /// where the table holds `limit` nodes, and with `Memory` where there is none. A refusal
+    /// changes nothing. No call changes the number or the function of an earlier node.
     pub fn mk(&mut self, var: u32, lo: Ref, hi: Ref) -> Result<Ref, DdErr>
         requires var_in_range { var < self.old.vars }
         requires lo_in_table { IsNumber self.old.nodes lo.0 }
@@ -93,21 +96,25 @@ impl Dd {
 
         // Which number comes, and which nodes there are then.
         ensures equal_children { lo ≡ hi → (result ≡ Ok lo) × (self.new ≡ self.old) }
-        ensures there { (f : Ref) → lo ≢ hi → node_at self.old.nodes f.0 ≡ Some (record { var = var; lo = lo; hi = hi })
+        ensures there { (f : Ref) → lo ≢ hi → node_at self.old.nodes f.0
+            ≡ Some (record { var = var; lo = lo; hi = hi })
             → (result ≡ Ok f) × (self.new ≡ self.old) }
         ensures made { lo ≢ hi → Lacks self.old.nodes (record { var = var; lo = lo; hi = hi })
-            → IfOk result (λ f. Appends self.old.nodes (record { var = var; lo = lo; hi = hi }) f.0 self.new.nodes) }
+            → IfOk result (λ f. Appends self.old.nodes (record { var = var; lo = lo; hi = hi }) f.0
+            self.new.nodes) }
         ensures cases { IfOk result (λ f. (self.new.nodes ≡ self.old.nodes)
             ⊎ Appends self.old.nodes (record { var = var; lo = lo; hi = hi }) f.0 self.new.nodes) }
 
         // When it is refused, and what is left then.
-        ensures full { IsErrOf result DdErr.Full ↔ ((lo ≢ hi) × Lacks self.old.nodes (record { var = var; lo = lo; hi = hi })
+        ensures full { IsErrOf result DdErr.Full
+            ↔ ((lo ≢ hi) × Lacks self.old.nodes (record { var = var; lo = lo; hi = hi })
             × (length self.old.nodes ≡ self.old.limit)) }
         ensures refused { OnErr result (self.new ≡ self.old) }
 
         // What the number means, and that it may stand below any smaller variable.
         ensures function { IfOk result (λ f. (values : Values) → function self.new.nodes f.0 values
-            ≡ (if values var then function self.old.nodes hi.0 values else function self.old.nodes lo.0 values)) }
+            ≡ (if values var then function self.old.nodes hi.0 values else function self.old.nodes
+            lo.0 values)) }
         ensures in_table { IfOk result (λ f. IsNumber self.new.nodes f.0) }
         ensures from_var { IfOk result (λ f. StandsFrom self.new.nodes var f.0) }
 
@@ -115,7 +122,8 @@ impl Dd {
         ensures vars { self.new.vars ≡ self.old.vars }
         ensures limit { self.new.limit ≡ self.old.limit }
         ensures extends { Extends self.old.nodes self.new.nodes }
-        ensures earlier { (n : ℕ) (values : Values) → IsNumber self.old.nodes n → function self.new.nodes n values ≡ function self.old.nodes n values }
+        ensures earlier { (n : ℕ) (values : Values) → IsNumber self.old.nodes n
+            → function self.new.nodes n values ≡ function self.old.nodes n values }
         ensures table { IsTable self.new }
     {
         let limit = self.limit as usize;
@@ -125,7 +133,8 @@ impl Dd {
         place(&mut self.nodes, limit, Node { var, lo, hi })
     }
 
-    /// Whether the function of `f` is true at the truth values in `bits`: variable `v` is bit `v % 64` of word `v / 64`.
+    /// Whether the function of `f` is true at the truth values in `bits`: variable `v` is bit `v %
+    /// 64` of word `v / 64`.
     pub fn eval(&self, f: Ref, bits: &[u64; 4]) -> bool
         requires { IsNumber self.now.nodes f.0 }
         ensures { result ≡ function self.now.nodes f.0 (values_of_bits bits.now) }
@@ -150,14 +159,18 @@ fn is_set(bits: &[u64; 4], var: u32) -> bool
     bits[var as usize / 64] >> (var % 64) & 1 == 1
 }
 
-/// The number of a node, which is appended if it is not there and there are fewer nodes than `limit`.
+/// The number of a node, which is appended if it is not there and there are fewer nodes than
+/// `limit`.
 fn place(nodes: &mut IndexSet<Node>, limit: usize, node: Node) -> Result<Ref, DdErr>
     requires within { length nodes.old.keys ≤ limit }
     requires small { limit ≤ 16777216 }
-    ensures placed { IfOk result (λ f. ((node_at nodes.old.keys f.0 ≡ Some node) × (nodes.new.keys ≡ nodes.old.keys))
-        ⊎ (Lacks nodes.old.keys node × (f.0 ≡ length nodes.old.keys + 2) × (nodes.new.keys ≡ nodes.old.keys ++ node ∷ []))) }
+    ensures placed { IfOk result (λ f. ((node_at nodes.old.keys f.0 ≡ Some node)
+        × (nodes.new.keys ≡ nodes.old.keys))
+        ⊎ (Lacks nodes.old.keys node × (f.0 ≡ length nodes.old.keys + 2)
+        × (nodes.new.keys ≡ nodes.old.keys ++ node ∷ []))) }
     ensures within { length nodes.new.keys ≤ limit }
-    ensures full { IsErrOf result DdErr.Full ↔ (Lacks nodes.old.keys node × (length nodes.old.keys ≡ limit)) }
+    ensures full { IsErrOf result DdErr.Full ↔
+        (Lacks nodes.old.keys node × (length nodes.old.keys ≡ limit)) }
     ensures refused { OnErr result (nodes.new.keys ≡ nodes.old.keys) }
     ensures absent { OnErr result (Lacks nodes.old.keys node) }
 {
@@ -186,8 +199,10 @@ fn find(nodes: &IndexSet<Node>, node: Node) -> Option<Ref>
 /// The number of a node, which is appended if it is not there.
 fn intern(nodes: &mut IndexSet<Node>, node: Node) -> Result<Ref, DdErr>
     requires { length nodes.old.keys < 16777216 }
-    ensures found { IfOk result (λ f. ((node_at nodes.old.keys f.0 ≡ Some node) × (nodes.new.keys ≡ nodes.old.keys))
-        ⊎ (Lacks nodes.old.keys node × (f.0 ≡ length nodes.old.keys + 2) × (nodes.new.keys ≡ nodes.old.keys ++ node ∷ []))) }
+    ensures found { IfOk result (λ f. ((node_at nodes.old.keys f.0 ≡ Some node)
+        × (nodes.new.keys ≡ nodes.old.keys))
+        ⊎ (Lacks nodes.old.keys node × (f.0 ≡ length nodes.old.keys + 2)
+        × (nodes.new.keys ≡ nodes.old.keys ++ node ∷ []))) }
     ensures refused { OnErr result (nodes.new.keys ≡ nodes.old.keys) }
     ensures absent { OnErr result (Lacks nodes.old.keys node) }
     ensures memory { IfErr result (λ e. e ≡ DdErr.Memory) }

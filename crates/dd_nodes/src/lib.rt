@@ -1,9 +1,10 @@
 //! A table of nodes for reduced ordered binary decision diagrams.
 //!
-//! A node tests one variable and has two children: `hi` where the variable is true and `lo` where it is false. All nodes stand
-//! in one table, children before parents, and each function has one number there: two numbers have the same function exactly
-//! where they are equal (R. E. Bryant, "Graph-Based Algorithms for Boolean Function Manipulation", IEEE Transactions on
-//! Computers, 1986).
+//! A node tests one variable and has two children: `hi` where the variable is true and `lo` where
+//! it is false. All nodes stand in one table, children before parents, and each function has one
+//! number there: two numbers have the same function exactly where they are equal (R. E. Bryant,
+//! "Graph-Based Algorithms for Boolean Function Manipulation", IEEE Transactions on Computers,
+//! 1986).
 #![tactic(auto)]
 
 mod dd;

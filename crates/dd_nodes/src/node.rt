@@ -2,12 +2,13 @@
 
 use thiserror::Error;
 
-/// The number of a function in a table: 0 is the constant false, 1 the constant true, and `i + 2` the i-th node of the table,
-/// counted from 0. The constants are no nodes, and are not counted.
+/// The number of a function in a table: 0 is the constant false, 1 the constant true, and `i + 2`
+/// the i-th node of the table, counted from 0. The constants are no nodes, and are not counted.
 #[derive(Clone, Copy, Debug, PartialEq, Eq, Hash)]
 pub struct Ref(pub u32);
 
-/// A node: it tests variable `var`, and goes on at `hi` where that is true and at `lo` where it is false.
+/// A node: it tests variable `var`, and goes on at `hi` where that is true and at `lo` where it is
+/// false.
 #[derive(Clone, Copy, Debug, PartialEq, Eq, Hash)]
 pub struct Node {
     pub var: u32,

@@ -18,5 +18,7 @@ pub mod HalvesLemmas
 pub mod MemoLemmas
 pub mod QuestionEq
 pub mod QuestionLemmas
+pub mod ReplacedLemmas
+pub mod Restated
 pub mod SubstLemmas
 pub mod ValueLemmas

@@ -1,10 +1,13 @@
 -- Numbers with several variables replaced.
 use Rattle.std.proofs.Common.{◌≡◌, ℕ, cond, List, Some, None, sym, ap, subst, ◌∙◌, ◌⊎◌, ⊎_elim}
 use Rattle.std.specs.Option.{option_map_or}
-use Rattle.std.proofs.Common.{refl, ◌<◌, Option, All, find, option_map, slice_get, get_or, length, ◌==◌}
+use Rattle.std.proofs.Common.{zero, suc, replicate, drop, refl, ◌<◌, ◌≤◌, Bool, true, false, [], ◌∷◌, arith, Option, All, find, option_map, slice_get, get_or, length, ◌==◌}
 use Rattle.std.specs.List.{position_or_len}
+use Rattle.std.proofs.lemmas.Bool.{cases_Bool, cond-true, cond-false, eqb-true}
 use Rattle.std.proofs.lemmas.Option.{same_Some, none-some, slice_get_within, get_or_from_slice_get}
+use Rattle.std.proofs.lemmas.List.{length-replicate}
 use Rattle.std.proofs.lemmas.List.Folds.{find_at}
+use Rattle.std.proofs.Math.Seq.{drop-length}
 use Rattle.dd_nodes.specs.declared.node.Node.{Node}
 use Rattle.dd_nodes.specs.declared.node.Ref.{Ref}
 use Rattle.dd_nodes.specs.NodeList.{Values, IsNumber, node_at, function, IsReduced, Extends}
@@ -12,7 +15,7 @@ use Rattle.dd_nodes.specs.Table.{Table, IsTable}
 use Rattle.dd_nodes.proofs.NodeLemmas.{cases_Option, function_node, function_without_node, node_place}
 use Rattle.dd_nodes.proofs.Extending.{extends_number, extends_node, extends_function, extends_more}
 use Rattle.dd_ops.specs.Operations.{subst_of, listed, replaced}
-use Rattle.dd_ops.specs.Answers.{AreNumbers, HasEntry, IsAnswer, IsReplaced, RemembersReplaced, Keeps}
+use Rattle.dd_ops.specs.Answers.{StayFrom, AreNumbers, HasEntry, IsAnswer, IsReplaced, RemembersReplaced, Keeps}
 
 -- where each entry of a list has a number of the table, so has each variable that it lists
 pub listed_numbers : (nodes : List Node) (map : List (ℕ × Ref)) → All (λ (entry : ℕ × Ref). IsNumber nodes entry.1.0) map → AreNumbers nodes map
@@ -26,6 +29,46 @@ listed_numbers nodes map all v g is = by (find (λ (entry : ℕ × Ref). entry.0
         let within : i < length map = slice_get_within map i e at in
         let entry : get_or map i e ≡ e = get_or_from_slice_get map i e e at in
         subst (λ (h : Ref). IsNumber nodes h.0) (same_Some e.1 g gives) (subst (λ (k : ℕ × Ref). IsNumber nodes k.1.0) entry (all i e within))
+
+-- what is found passes the test
+find_passes : {X : Type 0} (p : X → Bool) (xs : List X) (x : X) → find p xs ≡ Some x → p x ≡ true
+find_passes p [] x found = absurd (none-some x found)
+find_passes p (y ∷ ys) x found = ⊎_elim
+    (λ (here : p y ≡ true). ap p (sym (same_Some y x (sym (cond-true (p y) (Some y) (find p ys) here) ∙ found))) ∙ here)
+    (λ (other : p y ≡ false). find_passes p ys x (sym (cond-false (p y) (Some y) (find p ys) other) ∙ found))
+    (cases_Bool (p y))
+
+-- the variables from `end` on stay where each entry for them gives the variable itself
+pub stay_all : (nodes : List Node) (map : List (ℕ × Ref)) (end : ℕ)
+    → ((k : ℕ) (e : ℕ × Ref) → k < length map → slice_get map k ≡ Some e → end ≤ e.0 → e.0 < 256 → (values : Values) → function nodes e.1.0 values ≡ values e.0)
+    → StayFrom nodes map end
+stay_all nodes map end each v above small values = by (find (λ (entry : ℕ × Ref). entry.0 == v) map) refl
+  where
+    by : (o : Option (ℕ × Ref)) → find (λ (entry : ℕ × Ref). entry.0 == v) map ≡ o
+        → values v ≡ option_map_or (λ (g : Ref). function nodes g.0 values) (option_map (λ (entry : ℕ × Ref). entry.1) o) (values v)
+    by None found = refl
+    by (Some e) found =
+        let i : ℕ = position_or_len (λ (entry : ℕ × Ref). entry.0 == v) map in
+        let at : slice_get map i ≡ Some e = sym (find_at (λ (entry : ℕ × Ref). entry.0 == v) map) ∙ found in
+        let same : e.0 ≡ v = eqb-true e.0 v (find_passes (λ (entry : ℕ × Ref). entry.0 == v) map e found) in
+        sym (each i e (slice_get_within map i e at) at (omega arith) (omega arith) values ∙ ap values same)
+
+-- a new table has what no entry gives
+abbrev no_image : Option Ref
+no_image = None
+
+none_at : (n v : ℕ) → v < n → slice_get (replicate n no_image) v ≡ Some no_image
+none_at zero v within = absurd (omega arith)
+none_at (suc n) zero within = refl
+none_at (suc n) (suc v) within = none_at n v (omega arith)
+
+pub fresh_table : (map : List (ℕ × Ref)) (end : ℕ) (items : List (Option Ref)) → items ≡ replicate end None
+    → (length items ≡ end) × ((v : ℕ) → v < end → slice_get items v ≡ Some (listed (drop (length map) map) v))
+fresh_table map end items is =
+    let long : length items ≡ end = ap length is ∙ length-replicate end no_image in
+    let found = λ (v : ℕ) (within : v < end).
+    ap (λ (l : List (Option Ref)). slice_get l v) is ∙ none_at end v within ∙ ap (λ (l : List (ℕ × Ref)). Some (listed l v)) (sym (drop-length map)) in
+    (long, found)
 
 -- a constant is not changed
 pub replaced_constant : (nodes : List Node) (map : List (ℕ × Ref)) (f : ℕ) → IsNumber nodes f → node_at nodes f ≡ None → IsReplaced nodes map f f

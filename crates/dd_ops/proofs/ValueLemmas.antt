@@ -7,7 +7,7 @@ use Rattle.dd_nodes.specs.NodeList.{Values, function, IsNumber, Extends}
 use Rattle.dd_ops.specs.Calls.{Answers}
 use Rattle.dd_ops.specs.Growth.{Grows}
 use Rattle.dd_nodes.specs.Table.{Table, IsTable}
-use Rattle.dd_nodes.proofs.Extending.{extends_function}
+use Rattle.dd_nodes.proofs.Extending.{extends_function, extends_more}
 use Rattle.dd_ops.specs.declared.question.Question.{Question}
 use Rattle.dd_ops.specs.Answers.{AreNumbers, IsAsked, IsAnswer, IsCofactor, IsReplaced, Keeps}
 use Rattle.dd_nodes.specs.declared.node.Ref.{Ref}
@@ -66,6 +66,10 @@ module _ (nodes : List Node) where
 pub ok_then : {X Y : Type 0} {P Q : X → Type 0} (r : Result X Y) → IfOk r P → ((x : X) → P x → Q x) → IfOk r Q
 ok_then (Ok x) p follows = follows x p
 ok_then (Err y) p follows = tt
+
+pub ok_both : {X Y : Type 0} {P Q R : X → Type 0} (r : Result X Y) → IfOk r P → IfOk r Q → ((x : X) → P x → Q x → R x) → IfOk r R
+ok_both (Ok x) p q follows = follows x p q
+ok_both (Err y) p q follows = tt
 
 -- a table that a value shows, and what a call leaves of it
 module _ (inside now after : Table) (is : inside ≡ now) (table : IsTable inside) (kept : Keeps inside after) where
@@ -135,3 +139,21 @@ module _ (before after : Table) (r : Result Ref DdErr) where
 
   pub grows_minus : (f g : Function) → Grows (ite_of g (function before.nodes 0) f ∷ []) before after r → Grows (minus_of f g ∷ []) before after r
   grows_minus f g growth = subst (λ (w : Function). Grows (w ∷ []) before after r) (ite_minus before.nodes f g) growth
+
+-- what an if-then-else answers after another call, it answers of the table before both
+module _ (t0 t1 t2 : Table) (other : Function) (r0 r : Result Ref DdErr) (first : Answers other t0 t1 r0) where
+  pub ite_later : (f g h : ℕ) → IsNumber t0.nodes f → IsNumber t0.nodes g → IsNumber t0.nodes h
+      → Answers (ite_of (function t1.nodes f) (function t1.nodes g) (function t1.nodes h)) t1 t2 r → Answers (ite_of (function t0.nodes f) (function t0.nodes g) (function t0.nodes h)) t0 t2 r
+  ite_later f g h is_f is_g is_h second =
+      let longer_first : length t0.nodes ≤ length t1.nodes = first.longer in
+      let longer_second : length t1.nodes ≤ length t2.nodes = second.longer in
+      record {
+        value = ok_then r second.value (λ (k : Ref) value. value ∙ (λ i. ite_of (first.earlier f is_f i) (first.earlier g is_g i) (first.earlier h is_h i)));
+        in_table = second.in_table;
+        table = second.table;
+        vars = second.vars ∙ first.vars;
+        limit = second.limit ∙ first.limit;
+        nodes = extends_more t0.nodes t1.nodes t2.nodes first.nodes second.nodes;
+        longer = omega arith;
+        earlier = λ n number. second.earlier n (omega arith) ∙ first.earlier n number;
+      }

@@ -1,14 +1,16 @@
 -- Private: what the steps within a call answer.
-use Rattle.std.specs.Prelude.{◌≡◌, ℕ, ◌<◌, ◌≤◌, min, Bool, true, false, List, [], ◌∷◌, length, Some, is_some, slice_get, if◌then◌else◌}
+use Rattle.std.specs.Prelude.{◌≡◌, ℕ, ◌<◌, ◌≤◌, min, Bool, true, false, List, [], ◌∷◌, length, Option, Some, ◌⊎◌, is_some, slice_get, if◌then◌else◌}
 use Rattle.std.specs.Option.{option_map_or}
 use Rattle.dd_nodes.specs.declared.node.Node.{Node}
 use Rattle.dd_nodes.specs.declared.node.Ref.{Ref}
-use Rattle.dd_nodes.specs.NodeList.{IsNumber, node_at, function, StandsBelow, StandsFrom, Extends}
+use Rattle.dd_nodes.specs.NodeList.{Values, IsNumber, node_at, function, StandsBelow, StandsFrom, Extends}
 use Rattle.dd_nodes.specs.Subfunctions.{Function}
 use Rattle.dd_nodes.specs.Table.{Table}
 use Rattle.dd_ops.specs.declared.question.Question.{Question}
+use Rattle.dd_ops.specs.declared.question.Settled.{Settled}
+use Rattle.dd_ops.specs.declared.question.Settled.TheVariants.{Known, Open}
 use Rattle.dd_ops.specs.Growth.{LacksPart}
-use Rattle.dd_ops.specs.Operations.{variable, ite_of, cofactor_of, listed, subst_of}
+use Rattle.dd_ops.specs.Operations.{variable, ite_of, cofactor_of, listed, replaced, subst_of}
 
 -- a step leaves the variables, the limit and each earlier node as they were
 pub record Keeps (before after : Table) : Type 0 where
@@ -20,9 +22,13 @@ pub record Keeps (before after : Table) : Type 0 where
 abbrev pub HasEntry : List (Ref × Ref) → Ref → Ref → Type 0
 HasEntry entries f r = (i : ℕ) × (slice_get entries i ≡ Some (f, r))
 
--- the variable of a number; the constants stand below every variable
+-- the variable of a node; a constant, which has none, stands below every variable
+abbrev pub level_at : Option Node → ℕ
+level_at node = option_map_or (λ k. k.var) node 256
+
+-- the variable of a number
 abbrev pub level_of : List Node → ℕ → ℕ
-level_of nodes n = option_map_or (λ node. node.var) (node_at nodes n) 256
+level_of nodes n = level_at (node_at nodes n)
 
 -- the least variable of the three numbers of a question
 abbrev pub top_of : List Node → Question → ℕ
@@ -46,6 +52,17 @@ pub record IsAnswer (nodes : List Node) (q : Question) (r : ℕ) : Type 0 where
   pub number : IsNumber nodes r
   pub value : function nodes r ≡ ite_of (function nodes q.f.0) (function nodes q.g.0) (function nodes q.h.0)
   pub from : (v : ℕ) → AsksFrom nodes v q → StandsFrom nodes v r
+
+-- p asks for the same function as q, and looks at no lesser variable
+pub record IsRestated (nodes : List Node) (q p : Question) : Type 0 where
+  pub asked : IsAsked nodes p
+  pub value : ite_of (function nodes p.f.0) (function nodes p.g.0) (function nodes p.h.0) ≡ ite_of (function nodes q.f.0) (function nodes q.g.0) (function nodes q.h.0)
+  pub from : (v : ℕ) → AsksFrom nodes v q → AsksFrom nodes v p
+
+-- a question is settled: its answer is known, or it is restated as one that tests a node
+abbrev pub IsSettled : Question → Settled → Type 0
+IsSettled q (Known r) = (nodes : List Node) → IsAsked nodes q → IsAnswer nodes q r.0
+IsSettled q (Open p) = (1 < p.f.0) × ((nodes : List Node) → IsAsked nodes q → IsRestated nodes q p)
 
 -- c is n where variable v has the value b, and stands below v
 pub record IsBranch (nodes : List Node) (v : ℕ) (b : Bool) (n c : ℕ) : Type 0 where
@@ -89,6 +106,25 @@ RemembersCofactors nodes v b entries = (f r : Ref) → HasEntry entries f r → 
 -- each number that the list of replacements gives is in the table
 abbrev pub AreNumbers : List Node → List (ℕ × Ref) → Type 0
 AreNumbers nodes map = (v : ℕ) (g : Ref) → listed map v ≡ Some g → IsNumber nodes g.0
+
+-- a table by variable has for each of its variables what the list gives it
+abbrev pub IsByVar : List (ℕ × Ref) → List (Option Ref) → Type 0
+IsByVar map by_var = (v : ℕ) → v < length by_var → slice_get by_var v ≡ Some (listed map v)
+
+-- from a variable on each keeps its value
+abbrev pub StayFrom : List Node → List (ℕ × Ref) → ℕ → Type 0
+StayFrom nodes map end = (v : ℕ) → end ≤ v → v < 256 → (values : Values) → values v ≡ replaced nodes map values v
+
+-- a list of replacements by numbers of a node list, with its table by variable, beyond which the variables stay
+pub record IsIndexed (nodes : List Node) (map : List (ℕ × Ref)) (by_var : List (Option Ref)) : Type 0 where
+  pub numbers : AreNumbers nodes map
+  pub found : IsByVar map by_var
+  pub stay : StayFrom nodes map (length by_var)
+
+-- a node's child is followed alone where a constant replaces the node's variable
+abbrev pub Follows : Node → Option Ref → Ref → Type 0
+Follows node image child =
+    ((image ≡ Some (record { 0 = 0 })) × (child ≡ node.lo)) ⊎ ((image ≡ Some (record { 0 = 1 })) × (child ≡ node.hi))
 
 -- r has the function of f with all listed variables replaced
 pub record IsReplaced (nodes : List Node) (map : List (ℕ × Ref)) (f r : ℕ) : Type 0 where

@@ -1,8 +1,8 @@
 //! Functions with one variable fixed.
 ghost use Rattle.std.specs.Prelude.{◌≡◌, ◌<◌, [], ◌∷◌, IfOk, IsErrOf, Some};
-ghost use Rattle.dd_nodes.specs.NodeList.{IsNumber, node_at, function};
+ghost use Rattle.dd_nodes.specs.NodeList.{IsNumber, StandsFrom, node_at, function};
 ghost use Rattle.dd_nodes.specs.Table.{IsTable};
-ghost use Rattle.dd_ops.specs.Answers.{IsCofactor, RemembersCofactors, Keeps, IsFullFor};
+ghost use Rattle.dd_ops.specs.Answers.{IsBranch, IsCofactor, RemembersCofactors, Keeps, IsFullFor};
 ghost use Rattle.dd_ops.specs.Growth.{AddsParts};
 ghost use Rattle.dd_ops.specs.Operations.{cofactor_of};
 
@@ -28,12 +28,14 @@ pub fn fix(
     ensures kept { Keeps dd.old dd.new }
     ensures table { IsTable dd.new }
     ensures memo { RemembersCofactors dd.new.nodes v value memo.new.entries }
-    ensures adds { AddsParts dd.old.vars (cofactor_of (function dd.old.nodes f.0) v value ∷ []) dd.old.nodes dd.new.nodes }
-    ensures full { IsErrOf result DdErr.Full → IsFullFor (cofactor_of (function dd.old.nodes f.0) v value ∷ []) dd.new }
+    ensures adds { AddsParts dd.old.vars (cofactor_of (function dd.old.nodes f.0) v value ∷ [])
+        dd.old.nodes dd.new.nodes }
+    ensures full { IsErrOf result DdErr.Full → IsFullFor
+        (cofactor_of (function dd.old.nodes f.0) v value ∷ []) dd.new }
 {
     let node = match dd.node(f) {
         Some(node) if node.var < v => node,
-        _ => return Ok(branch(dd, f, v, value)),
+        _ => return Ok(fix_here(dd, f, v, value)),
     };
     if let Some(r) = recall_number(memo, f) {
         return Ok(r);
@@ -43,7 +45,17 @@ pub fn fix(
     join_fixed(dd, memo, f, node, v, value, lo, hi)
 }
 
-/// The number of `f` with variable `v` fixed, by those of the children of its node, which the memo keeps.
+/// The number of `f` with variable `v` fixed, where `f` looks at no lesser variable.
+fn fix_here(dd: &Dd, f: Ref, v: u32, value: bool) -> Ref
+    requires number { IsNumber dd.now.nodes f.0 }
+    requires from { StandsFrom dd.now.nodes v f.0 }
+    ensures { IsBranch dd.now.nodes v value f.0 result.0 }
+{
+    branch(dd.node(f), f, v, value)
+}
+
+/// The number of `f` with variable `v` fixed, by those of the children of its node, which the memo
+/// keeps.
 fn join_fixed(
     dd: &mut Dd,
     memo: &mut IndexMap<Ref, Ref>,
@@ -64,8 +76,10 @@ fn join_fixed(
     ensures kept { Keeps dd.old dd.new }
     ensures table { IsTable dd.new }
     ensures memo { RemembersCofactors dd.new.nodes v value memo.new.entries }
-    ensures adds { AddsParts dd.old.vars (cofactor_of (function dd.old.nodes f.0) v value ∷ []) dd.old.nodes dd.new.nodes }
-    ensures full { IsErrOf result DdErr.Full → IsFullFor (cofactor_of (function dd.old.nodes f.0) v value ∷ []) dd.new }
+    ensures adds { AddsParts dd.old.vars (cofactor_of (function dd.old.nodes f.0) v value ∷ [])
+        dd.old.nodes dd.new.nodes }
+    ensures full { IsErrOf result DdErr.Full → IsFullFor
+        (cofactor_of (function dd.old.nodes f.0) v value ∷ []) dd.new }
 {
     let r = dd.mk(node.var, lo, hi)?;
     remember_number(memo, f, r)?;

@@ -1,9 +1,10 @@
-//! How many nodes an operation adds at most: laws on functions, for callers to cite. Each function does nothing, and its
-//! contract is the law.
+//! How many nodes an operation adds at most: laws on functions, for callers to cite. Each function
+//! does nothing, and its contract is the law.
 //!
-//! The pieces of a call are the functions whose nodes it may have to make, and `grow` counts their different subfunctions that
-//! no number of the table has. Equal functions have equal numbers in a reduced list (R. E. Bryant, "Graph-Based Algorithms for
-//! Boolean Function Manipulation", IEEE Transactions on Computers, 1986), so no call that makes only such nodes makes more.
+//! The pieces of a call are the functions whose nodes it may have to make, and `grow` counts their
+//! different subfunctions that no number of the table has. Equal functions have equal numbers in a
+//! reduced list (R. E. Bryant, "Graph-Based Algorithms for Boolean Function Manipulation", IEEE
+//! Transactions on Computers, 1986), so no call that makes only such nodes makes more.
 ghost use Rattle.dd_ops.specs.GrowthLaws.{GrowsWithin, FullOnlyBeyond, RefusedNodeIsMissing, PieceGrowsBelow, PiecesGrowTogether, SubstitutionGrowsWithin, VariablesAreReached};
 
 /// A list that adds nodes of the pieces alone adds at most `grow` of them.
@@ -36,7 +37,8 @@ pub fn substitution_grows_within()
     ensures { SubstitutionGrowsWithin }
 {}
 
-/// The variables on which a number's function depends are those of the nodes that are reached from it.
+/// The variables on which a number's function depends are those of the nodes that are reached from
+/// it.
 pub fn variables_are_reached()
     ensures { VariablesAreReached }
 {}

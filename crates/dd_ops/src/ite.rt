@@ -5,13 +5,15 @@ ghost use Rattle.dd_ops.specs.Answers.{IsAsked, IsAnswer, AreHalfAnswers, Rememb
 ghost use Rattle.dd_ops.specs.Growth.{AddsParts};
 
 use crate::memo::{recall, remember};
-use crate::question::{Question, half, shortcut, top};
+use crate::question::{Question, Settled, halve, settle};
 use dd_nodes::{Dd, DdErr, Ref};
 use indexmap::IndexMap;
 
-/// The answer to a question, by the answers to its halves.
+/// The answer to a question.
 ///
-/// Each half looks only at greater variables, so the calls are nested at most 256 deep.
+/// Each half of a question looks only at greater variables, so the calls are nested at most 256
+/// deep.
+#[cycle(asking)]
 pub fn answer(dd: &mut Dd, memo: &mut IndexMap<Question, Ref>, q: Question) -> Result<Ref, DdErr>
     requires table { IsTable dd.old }
     requires asked { IsAsked dd.old.nodes q }
@@ -23,16 +25,33 @@ pub fn answer(dd: &mut Dd, memo: &mut IndexMap<Question, Ref>, q: Question) -> R
     ensures adds { AddsParts dd.old.vars (asked_of dd.old.nodes q ∷ []) dd.old.nodes dd.new.nodes }
     ensures full { IsErrOf result DdErr.Full → IsFullFor (asked_of dd.old.nodes q ∷ []) dd.new }
 {
-    if let Some(r) = shortcut(q) {
-        return Ok(r);
+    match settle(q) {
+        Settled::Known(r) => Ok(r),
+        Settled::Open(p) => answer_open(dd, memo, p),
     }
+}
+
+/// The answer to a question that tests a node, by the answers to its halves.
+#[cycle(asking)]
+fn answer_open(dd: &mut Dd, memo: &mut IndexMap<Question, Ref>, q: Question) -> Result<Ref, DdErr>
+    requires table { IsTable dd.old }
+    requires asked { IsAsked dd.old.nodes q }
+    requires tests { 1 < q.f.0 }
+    requires memo { Remembers dd.old.nodes memo.old.entries }
+    ensures answer { IfOk result (λ r. IsAnswer dd.new.nodes q r.0) }
+    ensures kept { Keeps dd.old dd.new }
+    ensures table { IsTable dd.new }
+    ensures memo { Remembers dd.new.nodes memo.new.entries }
+    ensures adds { AddsParts dd.old.vars (asked_of dd.old.nodes q ∷ []) dd.old.nodes dd.new.nodes }
+    ensures full { IsErrOf result DdErr.Full → IsFullFor (asked_of dd.old.nodes q ∷ []) dd.new }
+{
     if let Some(r) = recall(memo, q) {
         return Ok(r);
     }
-    let var = top(dd, q);
-    let lo = answer(dd, memo, half(dd, q, var, false))?;
-    let hi = answer(dd, memo, half(dd, q, var, true))?;
-    join(dd, memo, q, var, lo, hi)
+    let halves = halve(dd, q);
+    let lo = answer(dd, memo, halves.lo)?;
+    let hi = answer(dd, memo, halves.hi)?;
+    join(dd, memo, q, halves.var, lo, hi)
 }
 
 /// The answer to a question, by the answers to its halves at `var`, which the memo keeps.

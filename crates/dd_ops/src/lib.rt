@@ -1,9 +1,10 @@
 //! Operations on reduced ordered binary decision diagrams.
 //!
-//! An operation takes and gives numbers of a node table (`dd_nodes`). It follows Bryant's `apply`: it answers a question on
-//! functions by the answers to the questions with the least variable fixed at false and at true, and joins these to a node
-//! (R. E. Bryant, "Graph-Based Algorithms for Boolean Function Manipulation", IEEE Transactions on Computers, 1986). Each call
-//! keeps a memo of the questions that it has answered, which ends with the call.
+//! An operation takes and gives numbers of a node table (`dd_nodes`). It follows Bryant's `apply`:
+//! it answers a question on functions by the answers to the questions with the least variable fixed
+//! at false and at true, and joins these to a node (R. E. Bryant, "Graph-Based Algorithms for
+//! Boolean Function Manipulation", IEEE Transactions on Computers, 1986). Each call keeps a memo of
+//! the questions that it has answered, which ends with the call.
 #![tactic(auto)]
 
 mod cofactor;
@@ -12,6 +13,7 @@ mod ite;
 mod memo;
 mod ops;
 mod question;
+mod replacements;
 mod subst;
 #[cfg(test)]
 mod tests;

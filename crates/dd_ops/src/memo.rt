@@ -10,14 +10,16 @@ use indexmap::IndexMap;
 
 /// The answer that a call remembers to a question.
 pub fn recall(memo: &IndexMap<Question, Ref>, q: Question) -> Option<Ref>
-    ensures { IfSome result (λ r. (nodes : List Node) → Remembers nodes memo.now.entries → IsAnswer nodes q r.0) }
+    ensures { IfSome result (λ r. (nodes : List Node) → Remembers nodes memo.now.entries
+        → IsAnswer nodes q r.0) }
 {
     memo.get(&q).copied()
 }
 
 /// Remembers an answer.
 pub fn remember(memo: &mut IndexMap<Question, Ref>, q: Question, r: Ref) -> Result<(), DdErr>
-    ensures kept { (nodes : List Node) → Remembers nodes memo.old.entries → IsAnswer nodes q r.0 → Remembers nodes memo.new.entries }
+    ensures kept { (nodes : List Node) → Remembers nodes memo.old.entries → IsAnswer nodes q r.0
+        → Remembers nodes memo.new.entries }
     ensures memory { IfErr result (λ e. e ≡ DdErr.Memory) }
 {
     match memo.insert(q, r) {
@@ -35,7 +37,8 @@ pub fn recall_number(memo: &IndexMap<Ref, Ref>, f: Ref) -> Option<Ref>
 
 /// Remembers a number for `f`.
 pub fn remember_number(memo: &mut IndexMap<Ref, Ref>, f: Ref, r: Ref) -> Result<(), DdErr>
-    ensures entries { (g s : Ref) → HasEntry memo.new.entries g s → HasEntry memo.old.entries g s ⊎ ((g ≡ f) × (s ≡ r)) }
+    ensures entries { (g s : Ref) → HasEntry memo.new.entries g s → HasEntry memo.old.entries g s
+        ⊎ ((g ≡ f) × (s ≡ r)) }
     ensures memory { IfErr result (λ e. e ≡ DdErr.Memory) }
 {
     match memo.insert(f, r) {

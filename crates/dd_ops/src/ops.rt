@@ -9,7 +9,7 @@ ghost use Rattle.dd_ops.specs.Operations.{variable, not_of, and_of, or_of, minus
 use crate::cofactor::fix;
 use crate::ite::answer;
 use crate::question::Question;
-use crate::subst::replace;
+use crate::subst::substitute;
 use dd_nodes::{Dd, DdErr, Ref};
 use indexmap::IndexMap;
 use std::alloc::{AllocError, Global};
@@ -17,9 +17,10 @@ use std::marker::Model;
 
 /// Diagrams with their operations.
 ///
-/// A contract sees it as its table: the record of `vars`, `limit` and `nodes` of `dd_nodes`. Each call leaves the variables,
-/// the limit and each earlier node as they were, whether it answers or refuses, so each earlier number keeps its function.
-/// A call refuses with `Memory` where memory runs out.
+/// A contract sees it as its table: the record of `vars`, `limit` and `nodes` of `dd_nodes`. Each
+/// call leaves the variables, the limit and each earlier node as they were, whether it answers or
+/// refuses, so each earlier number keeps its function. A call refuses with `Memory` where memory
+/// runs out.
 #[derive(Drop)]
 pub struct Ops {
     dd: Dd,
@@ -87,7 +88,6 @@ impl Ops {
     }
 
     /// The negation of `f`.
-    #[tactic(auto, using(crate::proofs::ValueLemmas::answers_not, crate::proofs::ValueLemmas::grows_not))]
     pub fn not(&mut self, f: Ref) -> Result<Ref, DdErr>
         requires f_in_table { IsNumber self.old.nodes f.0 }
         ensures answers { Answers (not_of (function self.old.nodes f.0)) self.old self.new result }
@@ -97,39 +97,42 @@ impl Ops {
     }
 
     /// The conjunction of `f` and `g`.
-    #[tactic(auto, using(crate::proofs::ValueLemmas::answers_and, crate::proofs::ValueLemmas::grows_and))]
     pub fn and(&mut self, f: Ref, g: Ref) -> Result<Ref, DdErr>
         requires f_in_table { IsNumber self.old.nodes f.0 }
         requires g_in_table { IsNumber self.old.nodes g.0 }
-        ensures answers { Answers (and_of (function self.old.nodes f.0) (function self.old.nodes g.0))
+        ensures answers { Answers (and_of (function self.old.nodes f.0)
+            (function self.old.nodes g.0))
             self.old self.new result }
-        ensures grows { Grows (and_of (function self.old.nodes f.0) (function self.old.nodes g.0) ∷ [])
+        ensures grows { Grows (and_of (function self.old.nodes f.0) (function self.old.nodes g.0) ∷
+            [])
             self.old self.new result }
     {
         self.ite(f, g, Ref(0))
     }
 
     /// The disjunction of `f` and `g`.
-    #[tactic(auto, using(crate::proofs::ValueLemmas::answers_or, crate::proofs::ValueLemmas::grows_or))]
     pub fn or(&mut self, f: Ref, g: Ref) -> Result<Ref, DdErr>
         requires f_in_table { IsNumber self.old.nodes f.0 }
         requires g_in_table { IsNumber self.old.nodes g.0 }
-        ensures answers { Answers (or_of (function self.old.nodes f.0) (function self.old.nodes g.0))
+        ensures answers { Answers (or_of (function self.old.nodes f.0)
+            (function self.old.nodes g.0))
             self.old self.new result }
-        ensures grows { Grows (or_of (function self.old.nodes f.0) (function self.old.nodes g.0) ∷ [])
+        ensures grows { Grows (or_of (function self.old.nodes f.0) (function self.old.nodes g.0) ∷
+            [])
             self.old self.new result }
     {
         self.ite(f, Ref(1), g)
     }
 
     /// `f` and not `g`.
-    #[tactic(auto, using(crate::proofs::ValueLemmas::answers_minus, crate::proofs::ValueLemmas::grows_minus))]
     pub fn minus(&mut self, f: Ref, g: Ref) -> Result<Ref, DdErr>
         requires f_in_table { IsNumber self.old.nodes f.0 }
         requires g_in_table { IsNumber self.old.nodes g.0 }
-        ensures answers { Answers (minus_of (function self.old.nodes f.0) (function self.old.nodes g.0))
+        ensures answers { Answers (minus_of (function self.old.nodes f.0)
+            (function self.old.nodes g.0))
             self.old self.new result }
-        ensures grows { Grows (minus_of (function self.old.nodes f.0) (function self.old.nodes g.0) ∷ [])
+        ensures grows { Grows (minus_of (function self.old.nodes f.0) (function self.old.nodes g.0)
+            ∷ [])
             self.old self.new result }
     {
         self.ite(g, Ref(0), f)
@@ -150,8 +153,9 @@ impl Ops {
 
     /// `f` with each listed variable replaced by its function, all at once.
     ///
-    /// The function of the result at some truth values is that of `f` at the values in which each listed variable has the
-    /// value of its function. Where a variable is listed twice, the first entry counts.
+    /// The function of the result at some truth values is that of `f` at the values in which each
+    /// listed variable has the value of its function. Where a variable is listed twice, the first
+    /// entry counts.
     pub fn subst(&mut self, f: Ref, map: &[(u32, Ref)]) -> Result<Ref, DdErr>
         requires f_in_table { IsNumber self.old.nodes f.0 }
         requires map_in_table { All (λ entry. IsNumber self.old.nodes entry.1.0) map.now }
@@ -160,8 +164,6 @@ impl Ops {
         ensures grows { Grows (pieces_of_subst self.old.vars self.old.nodes map.now f.0)
             self.old self.new result }
     {
-        let mut questions = IndexMap::new(self.alloc);
-        let mut memo = IndexMap::new(self.alloc);
-        replace(&mut self.dd, &mut questions, &mut memo, f, map)
+        substitute(self.alloc, &mut self.dd, f, map)
     }
 }

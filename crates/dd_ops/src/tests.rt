@@ -1,4 +1,5 @@
-//! The worked example, every operation at every function of three variables, and tables that fill up.
+//! The worked example, every operation at every function of three variables, and tables that fill
+//! up.
 ghost use Rattle.std.specs.Prelude.{◌≡◌, ◌≤◌, ◌<◌, ◌↔◌, IsTrue, IfOk, All, length};
 ghost use Rattle.dd_nodes.specs.NodeList.{IsNumber};
 
@@ -7,7 +8,8 @@ use dd_nodes::{DdErr, Ref};
 use std::alloc::Global;
 use std::test::Fail;
 
-/// The truth tables of four variables: bit `state` is the value in the state whose bits are the variables' values.
+/// The truth tables of four variables: bit `state` is the value in the state whose bits are the
+/// variables' values.
 const VARIABLES: [u16; 4] = [0xaaaa, 0xcccc, 0xf0f0, 0xff00];
 
 #[test]
@@ -24,6 +26,13 @@ fn answers_the_worked_example(rt: HostRuntime) -> Result<(), Fail> {
     assert_eq!(rt; ops.and(both, neither)?, Ref(0));
     assert_eq!(rt; ops.table().limit(), 100);
     Ok(())
+}
+
+/// A number with the truth table that it has.
+#[derive(Clone, Copy)]
+struct Known {
+    number: Ref,
+    table: u16,
 }
 
 /// Whether a number is in the table.
@@ -84,24 +93,21 @@ fn build_state(ops: &mut Ops, state: u32) -> Result<Ref, DdErr>
 }
 
 /// Whether the binary operations and if-then-else answer by the truth tables of their operands.
-fn agree(ops: &mut Ops, f: Ref, g: Ref, h: Ref) -> Result<bool, DdErr> {
-    let (Some(a), Some(b), Some(c)) = (truth(ops, f), truth(ops, g), truth(ops, h)) else {
-        return Ok(false);
-    };
-    if !is_number(ops, f) || !is_number(ops, g) || !is_number(ops, h) {
+fn agree(ops: &mut Ops, f: Known, g: Known, h: Known) -> Result<bool, DdErr> {
+    if !is_number(ops, f.number) || !is_number(ops, g.number) || !is_number(ops, h.number) {
         return Ok(false);
     }
-    let and = ops.and(f, g)?;
-    let or = ops.or(f, g)?;
-    let minus = ops.minus(f, g)?;
-    let not = ops.not(f)?;
-    let ite = ops.ite(f, g, h)?;
+    let and = ops.and(f.number, g.number)?;
+    let or = ops.or(f.number, g.number)?;
+    let minus = ops.minus(f.number, g.number)?;
+    let not = ops.not(f.number)?;
+    let ite = ops.ite(f.number, g.number, h.number)?;
     Ok(
-        truth(ops, and) == Some(a & b)
-            && truth(ops, or) == Some(a | b)
-            && truth(ops, minus) == Some(a & !b)
-            && truth(ops, not) == Some(!a)
-            && truth(ops, ite) == Some(a & b | !a & c),
+        truth(ops, and) == Some(f.table & g.table)
+            && truth(ops, or) == Some(f.table | g.table)
+            && truth(ops, minus) == Some(f.table & !g.table)
+            && truth(ops, not) == Some(!f.table)
+            && truth(ops, ite) == Some(f.table & g.table | !f.table & h.table),
     )
 }
 
@@ -130,49 +136,42 @@ fn are_numbers(ops: &Ops, map: &[(u32, Ref)]) -> bool
 }
 
 /// Whether `subst` answers by the truth tables of the replacements.
-fn replaces(ops: &mut Ops, f: Ref, map: &[(u32, Ref)], images: [u16; 4]) -> Result<bool, DdErr> {
-    if !is_number(ops, f) || !are_numbers(ops, map) {
-        return Ok(false);
-    }
-    let Some(table) = truth(ops, f) else {
-        return Ok(false);
-    };
-    let r = ops.subst(f, map)?;
-    Ok(truth(ops, r) == Some(replaced(table, images)))
-}
-
-/// Whether `cofactor` answers by the truth table, at each variable and value.
-fn fixes(ops: &mut Ops, f: Ref) -> Result<bool, DdErr>
-    requires { 4 ≤ ops.old.vars }
+fn replaces(ops: &mut Ops, f: Known, map: &[(u32, Ref)], images: [u16; 4]) -> Result<bool, DdErr>
     ensures { ops.new.vars ≡ ops.old.vars }
 {
-    for v in 0..4u32 {
-        for value in [false, true] {
-            let Some(table) = truth(ops, f) else {
-                return Ok(false);
-            };
-            if !is_number(ops, f) {
-                return Ok(false);
-            }
-            let mut images = VARIABLES;
-            images[v as usize] = if value { 0xffff } else { 0 };
-            let r = ops.cofactor(f, v, value)?;
-            if truth(ops, r) != Some(replaced(table, images)) {
-                return Ok(false);
-            }
-        }
+    if !is_number(ops, f.number) || !are_numbers(ops, map) {
+        return Ok(false);
     }
-    Ok(true)
+    let r = ops.subst(f.number, map)?;
+    Ok(truth(ops, r) == Some(replaced(f.table, images)))
 }
 
-/// The functions of three variables, by their truth tables.
-fn build_all(alloc: Global, ops: &mut Ops) -> Result<Vec<Ref>, Fail>
+/// Whether `cofactor` answers by the truth table of `f` with variable `v` fixed.
+fn fixes(ops: &mut Ops, f: Known, v: u32, value: bool) -> Result<bool, DdErr>
+    requires few { v < 4 }
+    requires vars { 4 ≤ ops.old.vars }
+    ensures { ops.new.vars ≡ ops.old.vars }
+{
+    if !is_number(ops, f.number) {
+        return Ok(false);
+    }
+    let mut images = VARIABLES;
+    images[v as usize] = if value { 0xffff } else { 0 };
+    let r = ops.cofactor(f.number, v, value)?;
+    Ok(truth(ops, r) == Some(replaced(f.table, images)))
+}
+
+/// The functions of three variables, with their truth tables.
+fn build_all(alloc: Global, ops: &mut Ops) -> Result<Vec<Known>, Fail>
     requires { 4 ≤ ops.old.vars }
     ensures { ops.new.vars ≡ ops.old.vars }
 {
     let mut refs = Vec::new(alloc);
     for table in 0..256u16 {
-        refs.push(build(ops, table * 257)?)?;
+        refs.push(Known {
+            number: build(ops, table * 257)?,
+            table: table * 257,
+        })?;
     }
     Ok(refs)
 }
@@ -201,94 +200,95 @@ fn replaces_and_fixes_variables(rt: HostRuntime) -> Result<(), Fail> {
     let both = ops.and(y, z)?;
     let other = ops.not(x)?;
     let exchange = [(0, y), (1, x)];
-    let mixed = [(0, both), (2, other), (1, Ref(1))];
+    let mixed = [(0, both), (2, other), (1, Ref(1)), (2, y), (3, z)];
+    let same = [(0, x), (1, Ref(0)), (2, z)];
     for f in &refs {
         assert!(rt; replaces(&mut ops, *f, &exchange, [0xcccc, 0xaaaa, 0xf0f0, 0xff00])?);
-        assert!(rt; replaces(&mut ops, *f, &mixed, [0xc0c0, 0xffff, 0x5555, 0xff00])?);
+        assert!(rt; replaces(&mut ops, *f, &mixed, [0xc0c0, 0xffff, 0x5555, 0xf0f0])?);
+        assert!(rt; replaces(&mut ops, *f, &same, [0xaaaa, 0, 0xf0f0, 0xff00])?);
+        assert!(rt; fixes(&mut ops, *f, 1, true)?);
+        assert!(rt; fixes(&mut ops, *f, 2, false)?);
     }
     Ok(())
 }
 
-#[test]
-fn fixes_variables(rt: HostRuntime) -> Result<(), Fail> {
-    let mut ops = Ops::new(rt.alloc(), 4, 70000)?;
-    let refs = build_all(rt.alloc(), &mut ops)?;
-    for f in &refs {
-        assert!(rt; fixes(&mut ops, *f)?);
+/// The difference of two numbers or their disjunction, with the truth table that it should have.
+fn combine(ops: &mut Ops, is_difference: bool, f: Known, g: Known) -> Result<Known, DdErr>
+    ensures { ops.new.vars ≡ ops.old.vars }
+{
+    if !is_number(ops, f.number) || !is_number(ops, g.number) {
+        return Ok(f);
     }
-    Ok(())
-}
-
-/// The conjunction, the disjunction or the difference both ways, where the operands are in the table.
-fn apply(ops: &mut Ops, operation: u32, f: Ref, g: Ref) -> Result<Option<Ref>, DdErr> {
-    if !is_number(ops, f) || !is_number(ops, g) {
-        return Ok(None);
-    }
-    match operation {
-        0 => Ok(Some(ops.and(f, g)?)),
-        1 => Ok(Some(ops.or(f, g)?)),
-        _ => {
-            let only_f = ops.minus(f, g)?;
-            let only_g = ops.minus(g, f)?;
-            Ok(Some(ops.or(only_f, only_g)?))
-        }
+    if is_difference {
+        let number = ops.minus(f.number, g.number)?;
+        Ok(Known {
+            number,
+            table: f.table & !g.table,
+        })
+    } else {
+        let number = ops.or(f.number, g.number)?;
+        Ok(Known {
+            number,
+            table: f.table | g.table,
+        })
     }
 }
 
 /// Whether each number still has its truth table.
-fn are_kept(ops: &Ops, known: &[(Ref, u16)]) -> bool {
-    known.iter().all(|k| truth(ops, k.0) == Some(k.1))
+fn are_kept(ops: &Ops, known: &[Known]) -> bool {
+    known.iter().all(|k| truth(ops, k.number) == Some(k.table))
 }
 
-/// Fills a table by operations on four variables, and counts the refusals; `None` where a number lost its function.
+/// The values of the four variables, as far as there is room.
+fn start(alloc: Global, ops: &mut Ops) -> Result<Vec<Known>, Fail>
+    requires { 4 ≤ ops.old.vars }
+{
+    let mut known = vec![in alloc;
+        Known {
+            number: Ref(1),
+            table: 0xffff
+        },
+    ]?;
+    for v in 0..4u32 {
+        match ops.var(v) {
+            Ok(number) => known.push(Known {
+                number,
+                table: VARIABLES[v as usize],
+            })?,
+            Err(DdErr::Full) => {}
+            Err(e) => return Err(Fail::from(e)),
+        }
+    }
+    Ok(known)
+}
+
+/// Fills a table by operations on four variables, and counts the refusals; `None` where a number
+/// lost its function.
 fn fill(alloc: Global, limit: u32) -> Result<Option<u32>, Fail>
     requires some { 0 < limit }
     requires few { limit ≤ 40 }
 {
     let mut ops = Ops::new(alloc, 4, limit)?;
-    let mut known = Vec::new(alloc);
-    known.push((Ref(1), 0xffffu16))?;
-    for v in 0..4u32 {
-        match ops.var(v) {
-            Ok(x) => known.push((x, VARIABLES[v as usize]))?,
-            Err(DdErr::Full) => {}
-            Err(e) => return Err(Fail::from(e)),
-        }
-    }
+    let mut known = start(alloc, &mut ops)?;
     let mut refusals = 0u32;
     let mut seed = 1u32;
-    for step in 0..150u32 {
+    for step in 0..200u32 {
         seed = seed.wrapping_mul(1664525).wrapping_add(1013904223);
-        let Some((f, a)) = known
-            .get((seed >> 8) as usize % known.len().max(1))
-            .copied()
-        else {
-            continue;
+        let (Some(f), Some(g)) = (any(&known, seed >> 8), any(&known, seed >> 20)) else {
+            return Ok(None);
         };
-        let Some((g, b)) = known
-            .get((seed >> 20) as usize % known.len().max(1))
-            .copied()
-        else {
-            continue;
-        };
-        let (answer, want) = match step % 3 {
-            0 => (apply(&mut ops, 0, f, g), a & b),
-            1 => (apply(&mut ops, 1, f, g), a | b),
-            _ => (apply(&mut ops, 2, f, g), a ^ b),
-        };
-        match answer {
-            Ok(Some(r)) => known.push((r, want))?,
-            Ok(None) => return Ok(None),
-            Err(DdErr::Full) => {
-                refusals = refusals.saturating_add(1);
-                if !are_kept(&ops, &known) {
-                    return Ok(None);
-                }
-            }
-            Err(e) => return Err(Fail::from(e)),
+        match combine(&mut ops, step % 2 == 0, f, g) {
+            Ok(made) => known.push(made)?,
+            Err(DdErr::Full) if are_kept(&ops, &known) => refusals = refusals.saturating_add(1),
+            Err(_) => return Ok(None),
         }
     }
     Ok(Some(refusals))
+}
+
+/// The number at a place, counted round and round.
+fn any(known: &[Known], place: u32) -> Option<Known> {
+    known.get(place as usize % known.len().max(1)).copied()
 }
 
 #[test]

@@ -8,26 +8,26 @@ use Rattle.dd_ops.proofs.QuestionLemmas.{branch_hi, branch_lo, branch_own}
 use Rattle.dd_ops.proofs.question.branch.Goals as goal
 
 pub returns-then-value : goal.returns-then-value
-returns-then-value c =
-    let branch = branch_hi c.args.dd.now.nodes c.args.dd.now.vars c.node.ensures.table.reduced c.args.f.0 c.in-Some.node (sym c.in-Some.ensures.node) in
-    subst (λ (v : ℕ). IsBranch c.args.dd.now.nodes v c.args.value c.args.f.0 c.in-Some.node.hi.0) c.if-node-var.true
-    (subst (λ (b : Bool). IsBranch c.args.dd.now.nodes c.in-Some.node.var b c.args.f.0 c.in-Some.node.hi.0) (sym c.if-value.true) branch)
+returns-then-value c vars nodes reduced number is from =
+    subst (λ (v : ℕ). IsBranch nodes v c.args.value c.args.f.0 c.in-Some.node.hi.0) c.if-node-var.true
+    (subst (λ (b : Bool). IsBranch nodes c.in-Some.node.var b c.args.f.0 c.in-Some.node.hi.0) (sym c.if-value.true)
+    (branch_hi nodes vars reduced c.args.f.0 c.in-Some.node (sym is ∙ c.in-Some.is)))
 
 pub returns-else-value : goal.returns-else-value
-returns-else-value c =
-    let branch = branch_lo c.args.dd.now.nodes c.args.dd.now.vars c.node.ensures.table.reduced c.args.f.0 c.in-Some.node (sym c.in-Some.ensures.node) in
-    subst (λ (v : ℕ). IsBranch c.args.dd.now.nodes v c.args.value c.args.f.0 c.in-Some.node.lo.0) c.if-node-var.true
-    (subst (λ (b : Bool). IsBranch c.args.dd.now.nodes c.in-Some.node.var b c.args.f.0 c.in-Some.node.lo.0) (sym c.if-value.false) branch)
+returns-else-value c vars nodes reduced number is from =
+    subst (λ (v : ℕ). IsBranch nodes v c.args.value c.args.f.0 c.in-Some.node.lo.0) c.if-node-var.true
+    (subst (λ (b : Bool). IsBranch nodes c.in-Some.node.var b c.args.f.0 c.in-Some.node.lo.0) (sym c.if-value.false)
+    (branch_lo nodes vars reduced c.args.f.0 c.in-Some.node (sym is ∙ c.in-Some.is)))
 
 pub returns-in_default : goal.returns-in_default
-returns-in_default c = branch_own c.args.dd.now.nodes c.args.dd.now.vars c.node.ensures.table.reduced c.args.var c.args.value c.args.f.0 c.requires.number
-    (λ (node : Node) (there : node_at c.args.dd.now.nodes c.args.f.0 ≡ Some node).
-    let low : c.args.var ≤ node.var = c.requires.from node there in
-    let one : c.in-Some.node ≡ node = same_Some c.in-Some.node node (c.in-Some.ensures.node ∙ there) in
+returns-in_default c vars nodes reduced number is from = branch_own nodes vars reduced c.args.var c.args.value c.args.f.0 number
+    (λ (node : Node) (there : node_at nodes c.args.f.0 ≡ Some node).
+    let low : c.args.var ≤ node.var = from node there in
+    let one : c.in-Some.node ≡ node = same_Some c.in-Some.node node (sym c.in-Some.is ∙ is ∙ there) in
     let equal : c.in-Some.node.var ≡ node.var = ap (λ (k : Node). k.var) one in
     let other = c.if-node-var.false in
     omega arith)
 
 pub returns-in_default-2 : goal.returns-in_default-2
-returns-in_default-2 c = branch_own c.args.dd.now.nodes c.args.dd.now.vars c.node.ensures.table.reduced c.args.var c.args.value c.args.f.0 c.requires.number
-    (λ (node : Node) (there : node_at c.args.dd.now.nodes c.args.f.0 ≡ Some node). absurd (none-some node (c.in_default.ensures.node ∙ there)))
+returns-in_default-2 c vars nodes reduced number is from = branch_own nodes vars reduced c.args.var c.args.value c.args.f.0 number
+    (λ (node : Node) (there : node_at nodes c.args.f.0 ≡ Some node). absurd (none-some node (sym c.in_default.is ∙ is ∙ there)))

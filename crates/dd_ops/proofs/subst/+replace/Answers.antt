@@ -1,26 +1,45 @@
 -- The memo answers rightly, the children have a greater level, and the numbers found stay right as the table grows.
-use Rattle.std.proofs.Common.{◌≡◌, ◌<◌, ◌-◌, Some, sym, arith}
+use Rattle.std.proofs.Common.{◌≡◌, ◌<◌, ◌-◌, Option, Some, subst, arith}
+use Rattle.dd_nodes.specs.declared.node.Ref.{Ref}
+use Rattle.dd_ops.specs.Answers.{Follows}
 use Rattle.dd_nodes.specs.NodeList.{node_at}
 use Rattle.dd_nodes.proofs.Extending.{extends_more}
 use Rattle.dd_ops.specs.Answers.{level_of}
 use Rattle.dd_ops.proofs.CofactorLemmas.{hi_smaller, hi_later, node_later}
-use Rattle.dd_ops.proofs.SubstLemmas.{replaced_constant, numbers_extend, is_replaced_extends, memo_later, replaced_remembered}
+use Rattle.dd_ops.proofs.ReplacedLemmas.{indexed_extends, followed_answer, followed_adds, followed_full}
+use Rattle.dd_ops.proofs.ValueLemmas.{ok_then}
+use Rattle.dd_ops.proofs.SubstLemmas.{numbers_extend, is_replaced_extends, memo_later, replaced_remembered}
 use Rattle.dd_nodes.specs.declared.node.DdErr.TheVariants.{Full}
 use Rattle.dd_ops.proofs.ErrorLemmas.{passed_on}
 use Rattle.dd_ops.proofs.GrowthReplaced.{replaced_lo_adds, replaced_lo_full, replaced_hi_adds, replaced_hi_full, replaced_rest_adds, replaced_rest_full}
 use Rattle.dd_ops.proofs.subst.+replace.Goals as goal
 
-pub returns-in-None-clause-answer : goal.returns-in-None-clause-answer
-returns-in-None-clause-answer t c = replaced_constant c.args.dd.now.nodes c.args.map.now c.args.f.0 c.requires.number (sym c.in-None.ensures.node)
+pub returns-in-Some-follow-clause-answer : goal.returns-in-Some-follow-clause-answer
+returns-in-Some-follow-clause-answer t c = ok_then c.replace.result c.replace.ensures.answer
+    (λ r answer. followed_answer c.args.dd.now c.requires.table c.args.images.now.map.now c.requires.images.numbers c.args.f.0 c.in-Some.node c.in-Some.ensures.node
+    c.in-Some-follow.child (subst (λ (o : Option Ref). Follows c.in-Some.node o c.in-Some-follow.child) c.get-image.ensures c.in-Some-follow.ensures) c.replace.new.dd c.replace.ensures.kept r.0 answer)
+
+pub returns-in-Some-follow-clause-adds : goal.returns-in-Some-follow-clause-adds
+returns-in-Some-follow-clause-adds t c = followed_adds c.args.dd.now c.requires.table c.args.images.now.map.now c.requires.images.numbers c.args.f.0 c.in-Some.node c.in-Some.ensures.node
+    c.in-Some-follow.child (subst (λ (o : Option Ref). Follows c.in-Some.node o c.in-Some-follow.child) c.get-image.ensures c.in-Some-follow.ensures) c.replace.new.dd c.replace.ensures.kept c.replace.ensures.adds
+
+pub returns-in-Some-follow-clause-full : goal.returns-in-Some-follow-clause-full
+returns-in-Some-follow-clause-full t c is = followed_full c.args.dd.now c.requires.table c.args.images.now.map.now c.requires.images.numbers c.args.f.0 c.in-Some.node c.in-Some.ensures.node
+    c.in-Some-follow.child (subst (λ (o : Option Ref). Follows c.in-Some.node o c.in-Some-follow.child) c.get-image.ensures c.in-Some-follow.ensures) c.replace.new.dd c.replace.ensures.kept (c.replace.ensures.full is)
+
+pub choose-requires-clause-images : goal.choose-requires-clause-images
+choose-requires-clause-images t c =
+    indexed_extends c.args.dd.now.nodes c.replace-3.new.dd.nodes (extends_more c.args.dd.now.nodes c.replace-2.new.dd.nodes c.replace-3.new.dd.nodes c.in_ok-lo.ensures.kept.nodes c.in_ok-hi.ensures.kept.nodes)
+    c.args.dd.now.vars c.requires.table.reduced c.args.images.now.map.now c.args.images.now.by_var.items c.requires.images
 
 pub returns-in-Some-recall_number-clause-answer : goal.returns-in-Some-recall_number-clause-answer
 returns-in-Some-recall_number-clause-answer t c = c.requires.memo c.args.f c.in-Some-recall_number.r c.in-Some-recall_number.ensures
 
-pub replace-requires-2 : goal.replace-requires-2
-replace-requires-2 t c =
+pub replace-requires-3 : goal.replace-requires-3
+replace-requires-3 t c =
     let dd = c.args.dd.now in
-    let later = c.replace.new.dd in
-    let there : node_at dd.nodes c.args.f.0 ≡ Some c.in-Some.node = sym c.in-Some.ensures.node in
+    let later = c.replace-2.new.dd in
+    let there : node_at dd.nodes c.args.f.0 ≡ Some c.in-Some.node = c.in-Some.ensures.node in
     let smaller : 256 - level_of later.nodes c.in-Some.node.hi.0 < 256 - level_of dd.nodes c.args.f.0 =
     hi_smaller dd c.requires.table c.args.f.0 c.in-Some.node there later.nodes c.in_ok-lo.ensures.kept.nodes in
     let falls : 256 - level_of later.nodes c.in-Some.node.hi.0 < t = omega (arith, c.decreases) in (
@@ -29,69 +48,69 @@ replace-requires-2 t c =
         c.in_ok-lo.ensures.table,
         (
           hi_later dd c.requires.table c.args.f.0 c.in-Some.node there later.nodes c.in_ok-lo.ensures.kept.nodes,
-          (numbers_extend dd.nodes later.nodes c.in_ok-lo.ensures.kept.nodes dd.vars c.requires.table.reduced c.args.map.now c.requires.map, (c.in_ok-lo.ensures.questions, c.in_ok-lo.ensures.memo)),
+          (indexed_extends dd.nodes later.nodes c.in_ok-lo.ensures.kept.nodes dd.vars c.requires.table.reduced c.args.images.now.map.now c.args.images.now.by_var.items c.requires.images, (c.in_ok-lo.ensures.questions, c.in_ok-lo.ensures.memo)),
         ),
       ),
     )
 
 pub choose-requires-clause-node : goal.choose-requires-clause-node
 choose-requires-clause-node t c =
-    node_later c.args.dd.now c.requires.table c.args.f.0 c.in-Some.node (sym c.in-Some.ensures.node) c.replace-2.new.dd.nodes
-    (extends_more c.args.dd.now.nodes c.replace.new.dd.nodes c.replace-2.new.dd.nodes c.in_ok-lo.ensures.kept.nodes c.in_ok-hi.ensures.kept.nodes)
+    node_later c.args.dd.now c.requires.table c.args.f.0 c.in-Some.node (c.in-Some.ensures.node) c.replace-3.new.dd.nodes
+    (extends_more c.args.dd.now.nodes c.replace-2.new.dd.nodes c.replace-3.new.dd.nodes c.in_ok-lo.ensures.kept.nodes c.in_ok-hi.ensures.kept.nodes)
 
 pub choose-requires-clause-lo : goal.choose-requires-clause-lo
 choose-requires-clause-lo t c =
-    is_replaced_extends c.replace.new.dd.nodes c.replace-2.new.dd.nodes c.in_ok-hi.ensures.kept.nodes c.replace.new.dd.vars c.in_ok-lo.ensures.table.reduced c.args.map.now
-    (numbers_extend c.args.dd.now.nodes c.replace.new.dd.nodes c.in_ok-lo.ensures.kept.nodes c.args.dd.now.vars c.requires.table.reduced c.args.map.now c.requires.map)
+    is_replaced_extends c.replace-2.new.dd.nodes c.replace-3.new.dd.nodes c.in_ok-hi.ensures.kept.nodes c.replace-2.new.dd.vars c.in_ok-lo.ensures.table.reduced c.args.images.now.map.now
+    (numbers_extend c.args.dd.now.nodes c.replace-2.new.dd.nodes c.in_ok-lo.ensures.kept.nodes c.args.dd.now.vars c.requires.table.reduced c.args.images.now.map.now c.requires.images.numbers)
     c.in-Some.node.lo.0 c.in_ok-lo.lo.0 c.in_ok-lo.ensures.answer
 
 pub returns-in_err-r-clause-memo : goal.returns-in_err-r-clause-memo
 returns-in_err-r-clause-memo t c =
-    memo_later c.args.dd.now c.replace.new.dd c.replace-2.new.dd c.choose.new.dd c.requires.table c.in_ok-lo.ensures.table c.in_ok-hi.ensures.table
-    c.in_ok-lo.ensures.kept c.in_ok-hi.ensures.kept c.choose.ensures.kept c.args.map.now c.requires.map c.replace-2.new.memo.entries c.in_ok-hi.ensures.memo
+    memo_later c.args.dd.now c.replace-2.new.dd c.replace-3.new.dd c.choose.new.dd c.requires.table c.in_ok-lo.ensures.table c.in_ok-hi.ensures.table
+    c.in_ok-lo.ensures.kept c.in_ok-hi.ensures.kept c.choose.ensures.kept c.args.images.now.map.now c.requires.images.numbers c.replace-3.new.memo.entries c.in_ok-hi.ensures.memo
 
 pub returns-in_err-remember_number-clause-memo : goal.returns-in_err-remember_number-clause-memo
 returns-in_err-remember_number-clause-memo t c =
-    replaced_remembered c.choose.new.dd.nodes c.args.map.now c.replace-2.new.memo.entries c.remember_number.new.memo.entries c.args.f c.in_ok-r.r c.remember_number.ensures.entries
-    (memo_later c.args.dd.now c.replace.new.dd c.replace-2.new.dd c.choose.new.dd c.requires.table c.in_ok-lo.ensures.table c.in_ok-hi.ensures.table
-    c.in_ok-lo.ensures.kept c.in_ok-hi.ensures.kept c.choose.ensures.kept c.args.map.now c.requires.map c.replace-2.new.memo.entries c.in_ok-hi.ensures.memo)
+    replaced_remembered c.choose.new.dd.nodes c.args.images.now.map.now c.replace-3.new.memo.entries c.remember_number.new.memo.entries c.args.f c.in_ok-r.r c.remember_number.ensures.entries
+    (memo_later c.args.dd.now c.replace-2.new.dd c.replace-3.new.dd c.choose.new.dd c.requires.table c.in_ok-lo.ensures.table c.in_ok-hi.ensures.table
+    c.in_ok-lo.ensures.kept c.in_ok-hi.ensures.kept c.choose.ensures.kept c.args.images.now.map.now c.requires.images.numbers c.replace-3.new.memo.entries c.in_ok-hi.ensures.memo)
     c.in_ok-r.ensures.answer
 
 pub returns-clause-memo : goal.returns-clause-memo
 returns-clause-memo t c =
-    replaced_remembered c.choose.new.dd.nodes c.args.map.now c.replace-2.new.memo.entries c.remember_number.new.memo.entries c.args.f c.in_ok-r.r c.remember_number.ensures.entries
-    (memo_later c.args.dd.now c.replace.new.dd c.replace-2.new.dd c.choose.new.dd c.requires.table c.in_ok-lo.ensures.table c.in_ok-hi.ensures.table
-    c.in_ok-lo.ensures.kept c.in_ok-hi.ensures.kept c.choose.ensures.kept c.args.map.now c.requires.map c.replace-2.new.memo.entries c.in_ok-hi.ensures.memo)
+    replaced_remembered c.choose.new.dd.nodes c.args.images.now.map.now c.replace-3.new.memo.entries c.remember_number.new.memo.entries c.args.f c.in_ok-r.r c.remember_number.ensures.entries
+    (memo_later c.args.dd.now c.replace-2.new.dd c.replace-3.new.dd c.choose.new.dd c.requires.table c.in_ok-lo.ensures.table c.in_ok-hi.ensures.table
+    c.in_ok-lo.ensures.kept c.in_ok-hi.ensures.kept c.choose.ensures.kept c.args.images.now.map.now c.requires.images.numbers c.replace-3.new.memo.entries c.in_ok-hi.ensures.memo)
     c.in_ok-r.ensures.answer
 
 pub returns-in_err-lo-clause-adds : goal.returns-in_err-lo-clause-adds
-returns-in_err-lo-clause-adds t c = replaced_lo_adds c.args.map.now c.args.dd.now c.requires.table c.requires.map c.args.f.0 c.in-Some.node (sym c.in-Some.ensures.node)
-    c.replace.new.dd c.replace.ensures.kept c.replace.ensures.adds
+returns-in_err-lo-clause-adds t c = replaced_lo_adds c.args.images.now.map.now c.args.dd.now c.requires.table c.requires.images.numbers c.args.f.0 c.in-Some.node (c.in-Some.ensures.node)
+    c.replace-2.new.dd c.replace-2.ensures.kept c.replace-2.ensures.adds
 
 pub returns-in_err-lo-clause-full : goal.returns-in_err-lo-clause-full
-returns-in_err-lo-clause-full t c is = replaced_lo_full c.args.map.now c.args.dd.now c.requires.table c.requires.map c.args.f.0 c.in-Some.node (sym c.in-Some.ensures.node)
-    c.replace.new.dd c.replace.ensures.kept (c.in_err-lo.ensures.full (passed_on c.from_residual.result c.in_err-lo.field-0.0 Full c.from_residual.ensures.1 is))
+returns-in_err-lo-clause-full t c is = replaced_lo_full c.args.images.now.map.now c.args.dd.now c.requires.table c.requires.images.numbers c.args.f.0 c.in-Some.node (c.in-Some.ensures.node)
+    c.replace-2.new.dd c.replace-2.ensures.kept (c.in_err-lo.ensures.full (passed_on c.from_residual.result c.in_err-lo.field-0.0 Full c.from_residual.ensures.1 is))
 
 pub returns-in_err-hi-clause-adds : goal.returns-in_err-hi-clause-adds
-returns-in_err-hi-clause-adds t c = replaced_hi_adds c.args.map.now c.args.dd.now c.requires.table c.requires.map c.args.f.0 c.in-Some.node (sym c.in-Some.ensures.node)
-    c.replace.new.dd c.replace.ensures.kept c.replace.ensures.adds c.replace-2.new.dd c.replace-2.ensures.kept c.replace-2.ensures.adds
+returns-in_err-hi-clause-adds t c = replaced_hi_adds c.args.images.now.map.now c.args.dd.now c.requires.table c.requires.images.numbers c.args.f.0 c.in-Some.node (c.in-Some.ensures.node)
+    c.replace-2.new.dd c.replace-2.ensures.kept c.replace-2.ensures.adds c.replace-3.new.dd c.replace-3.ensures.kept c.replace-3.ensures.adds
 
 pub returns-in_err-hi-clause-full : goal.returns-in_err-hi-clause-full
-returns-in_err-hi-clause-full t c is = replaced_hi_full c.args.map.now c.args.dd.now c.requires.table c.requires.map c.args.f.0 c.in-Some.node (sym c.in-Some.ensures.node)
-    c.replace.new.dd c.replace.ensures.kept c.replace.ensures.adds c.replace-2.new.dd c.replace-2.ensures.kept (c.in_err-hi.ensures.full (passed_on c.from_residual-in_err-hi.result c.in_err-hi.field-0.0 Full c.from_residual-in_err-hi.ensures.1 is))
+returns-in_err-hi-clause-full t c is = replaced_hi_full c.args.images.now.map.now c.args.dd.now c.requires.table c.requires.images.numbers c.args.f.0 c.in-Some.node (c.in-Some.ensures.node)
+    c.replace-2.new.dd c.replace-2.ensures.kept c.replace-2.ensures.adds c.replace-3.new.dd c.replace-3.ensures.kept (c.in_err-hi.ensures.full (passed_on c.from_residual-in_err-hi.result c.in_err-hi.field-0.0 Full c.from_residual-in_err-hi.ensures.1 is))
 
 pub returns-in_err-r-clause-adds : goal.returns-in_err-r-clause-adds
-returns-in_err-r-clause-adds t c = replaced_rest_adds c.args.map.now c.args.dd.now c.requires.table c.requires.map c.args.f.0 c.in-Some.node (sym c.in-Some.ensures.node)
-    c.replace.new.dd c.replace.ensures.kept c.replace.ensures.adds c.replace-2.new.dd c.replace-2.ensures.kept c.replace-2.ensures.adds c.choose.new.dd c.choose.ensures.adds
+returns-in_err-r-clause-adds t c = replaced_rest_adds c.args.images.now.map.now c.args.dd.now c.requires.table c.requires.images.numbers c.args.f.0 c.in-Some.node (c.in-Some.ensures.node)
+    c.replace-2.new.dd c.replace-2.ensures.kept c.replace-2.ensures.adds c.replace-3.new.dd c.replace-3.ensures.kept c.replace-3.ensures.adds c.choose.new.dd c.choose.ensures.adds
 
 pub returns-in_err-r-clause-full : goal.returns-in_err-r-clause-full
-returns-in_err-r-clause-full t c is = replaced_rest_full c.args.map.now c.args.dd.now c.requires.table c.requires.map c.args.f.0 c.in-Some.node (sym c.in-Some.ensures.node)
-    c.replace.new.dd c.replace.ensures.kept c.replace.ensures.adds c.replace-2.new.dd c.replace-2.ensures.kept c.replace-2.ensures.adds c.choose.new.dd c.choose.ensures.kept.vars (c.in_err-r.ensures.full (passed_on c.from_residual-in_err-r.result c.in_err-r.field-0.0 Full c.from_residual-in_err-r.ensures.1 is))
+returns-in_err-r-clause-full t c is = replaced_rest_full c.args.images.now.map.now c.args.dd.now c.requires.table c.requires.images.numbers c.args.f.0 c.in-Some.node (c.in-Some.ensures.node)
+    c.replace-2.new.dd c.replace-2.ensures.kept c.replace-2.ensures.adds c.replace-3.new.dd c.replace-3.ensures.kept c.replace-3.ensures.adds c.choose.new.dd c.choose.ensures.kept.vars (c.in_err-r.ensures.full (passed_on c.from_residual-in_err-r.result c.in_err-r.field-0.0 Full c.from_residual-in_err-r.ensures.1 is))
 
 pub returns-in_err-remember_number-clause-adds : goal.returns-in_err-remember_number-clause-adds
-returns-in_err-remember_number-clause-adds t c = replaced_rest_adds c.args.map.now c.args.dd.now c.requires.table c.requires.map c.args.f.0 c.in-Some.node (sym c.in-Some.ensures.node)
-    c.replace.new.dd c.replace.ensures.kept c.replace.ensures.adds c.replace-2.new.dd c.replace-2.ensures.kept c.replace-2.ensures.adds c.choose.new.dd c.choose.ensures.adds
+returns-in_err-remember_number-clause-adds t c = replaced_rest_adds c.args.images.now.map.now c.args.dd.now c.requires.table c.requires.images.numbers c.args.f.0 c.in-Some.node (c.in-Some.ensures.node)
+    c.replace-2.new.dd c.replace-2.ensures.kept c.replace-2.ensures.adds c.replace-3.new.dd c.replace-3.ensures.kept c.replace-3.ensures.adds c.choose.new.dd c.choose.ensures.adds
 
 pub returns-clause-adds : goal.returns-clause-adds
-returns-clause-adds t c = replaced_rest_adds c.args.map.now c.args.dd.now c.requires.table c.requires.map c.args.f.0 c.in-Some.node (sym c.in-Some.ensures.node)
-    c.replace.new.dd c.replace.ensures.kept c.replace.ensures.adds c.replace-2.new.dd c.replace-2.ensures.kept c.replace-2.ensures.adds c.choose.new.dd c.choose.ensures.adds
+returns-clause-adds t c = replaced_rest_adds c.args.images.now.map.now c.args.dd.now c.requires.table c.requires.images.numbers c.args.f.0 c.in-Some.node (c.in-Some.ensures.node)
+    c.replace-2.new.dd c.replace-2.ensures.kept c.replace-2.ensures.adds c.replace-3.new.dd c.replace-3.ensures.kept c.replace-3.ensures.adds c.choose.new.dd c.choose.ensures.adds

@@ -1,7 +1,10 @@
--- The operation is an if-then-else with constants.
+-- The operation is an if-then-else with constants, which may follow other calls.
 use Rattle.std.proofs.Common.{rules}
-use Rattle.dd_ops.proofs.ValueLemmas.{grows_not}
+use Rattle.dd_ops.proofs.ValueLemmas.{answers_not, grows_not, ite_later}
 use Rattle.dd_ops.proofs.ops.Ops.not.Goals as goal
+
+pub returns-clause-answers : goal.returns-clause-answers
+returns-clause-answers c = search (rules, answers_not, ite_later)
 
 pub returns-clause-grows : goal.returns-clause-grows
 returns-clause-grows c = search (rules, grows_not)

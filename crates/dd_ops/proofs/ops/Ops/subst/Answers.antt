@@ -1,10 +1,9 @@
 -- The replaced function, in the table as it was.
-use Rattle.std.proofs.Common.{ℕ, List, sym, subst}
+use Rattle.std.proofs.Common.{All, ℕ, List, sym, subst}
 use Rattle.dd_nodes.specs.declared.node.Ref.{Ref}
-use Rattle.dd_nodes.specs.NodeList.{function}
+use Rattle.dd_nodes.specs.NodeList.{IsNumber, function}
 use Rattle.dd_nodes.specs.Subfunctions.{Function}
 use Rattle.dd_nodes.specs.Table.{Table}
-use Rattle.dd_ops.specs.Answers.{AreNumbers}
 use Rattle.dd_ops.specs.Growth.{pieces_of_subst}
 use Rattle.dd_ops.specs.Operations.{subst_of}
 use Rattle.dd_ops.proofs.GrowthOps.{grows}
@@ -14,11 +13,11 @@ use Rattle.dd_ops.proofs.ops.Ops.subst.Goals as goal
 
 pub returns-clause-answers : goal.returns-clause-answers
 returns-clause-answers c =
-    answers c.self.inside.dd c.args.self.now c.replace.new.dd c.self.view_is c.self.invariant c.replace.ensures.kept c.replace.ensures.table
-    (subst_of c.args.self.now.nodes c.args.map.now (function c.args.self.now.nodes c.args.f.0)) c.replace.result
-    (ok_then c.replace.result c.replace.ensures.answer
-    (λ r answer. subst_function c.self.inside.dd c.args.self.now c.replace.new.dd c.self.view_is c.self.invariant c.replace.ensures.kept c.args.map.now (listed_numbers c.args.self.now.nodes c.args.map.now c.requires.map_in_table) c.args.f.0 c.requires.f_in_table r.0 answer))
-    (ok_then c.replace.result c.replace.ensures.answer (λ r answer. answer.number))
+    answers c.self.inside.dd c.args.self.now c.substitute.new.dd c.self.view_is c.self.invariant c.substitute.ensures.kept c.substitute.ensures.table
+    (subst_of c.args.self.now.nodes c.args.map.now (function c.args.self.now.nodes c.args.f.0)) c.substitute.result
+    (ok_then c.substitute.result c.substitute.ensures.answer
+    (λ r answer. subst_function c.self.inside.dd c.args.self.now c.substitute.new.dd c.self.view_is c.self.invariant c.substitute.ensures.kept c.args.map.now (listed_numbers c.args.self.now.nodes c.args.map.now c.requires.map_in_table) c.args.f.0 c.requires.f_in_table r.0 answer))
+    (ok_then c.substitute.result c.substitute.ensures.answer (λ r answer. answer.number))
 
 -- the pieces of the call, over any table
 subst_pieces_of : List (ℕ × Ref) → ℕ → Table → List Function
@@ -27,7 +26,7 @@ subst_pieces_of map f t = pieces_of_subst t.vars t.nodes map f
 pub returns-clause-grows : goal.returns-clause-grows
 unfolding subst_pieces_of
 returns-clause-grows c =
-    grows (subst_pieces_of c.args.map.now c.args.f.0) c.self.inside.dd c.args.self.now c.replace.new.dd c.self.view_is c.self.invariant c.replace.ensures.adds c.replace.result c.replace.ensures.kept c.replace.ensures.full
+    grows (subst_pieces_of c.args.map.now c.args.f.0) c.self.inside.dd c.args.self.now c.substitute.new.dd c.self.view_is c.self.invariant c.substitute.ensures.adds c.substitute.result c.substitute.ensures.kept c.substitute.ensures.full
 
-pub replace-requires-clause-map : goal.replace-requires-clause-map
-replace-requires-clause-map c = subst (λ (t : Table). AreNumbers t.nodes c.args.map.now) (sym c.self.view_is) (listed_numbers c.args.self.now.nodes c.args.map.now c.requires.map_in_table)
+pub substitute-requires-clause-map : goal.substitute-requires-clause-map
+substitute-requires-clause-map c = subst (λ (t : Table). All (λ (entry : ℕ × Ref). IsNumber t.nodes entry.1.0) c.args.map.now) (sym c.self.view_is) c.requires.map_in_table
