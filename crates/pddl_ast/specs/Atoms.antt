@@ -46,9 +46,13 @@ terms_of known scope (group span parts rest) = terms_of known scope rest
 abbrev pub terms_flaws : Known → List (List ℕ) → Forest → List Flaw
 terms_flaws known scope = words_flaws (λ w. is_some (term_of known scope w))
 
+-- the number of a constant or an object
+abbrev pub object_number : Known → List ℕ → Option ℕ
+object_number known w = number_in known.objects w
+
 -- everything that is wrong in a row of constants and objects
 abbrev pub objects_flaws : Known → Forest → List Flaw
-objects_flaws known = words_flaws (λ w. is_some (number_in known.objects w))
+objects_flaws known = words_flaws (λ w. is_some (object_number known w))
 
 -- the fault of a head that is no predicate
 abbrev pub head_fault : List ℕ → FaultKind
@@ -75,4 +79,4 @@ abbrev pub ground_atom_flaws : Known → Span → Span → List ℕ → Forest �
 ground_atom_flaws known span head w terms = head_flaws known span head w (count terms) ++ objects_flaws known terms
 
 abbrev pub ground_atom : Known → List ℕ → Forest → AtomTree
-ground_atom known w terms = record { predicate = predicate_number known w; objects = numbers (number_in known.objects) terms }
+ground_atom known w terms = record { predicate = predicate_number known w; objects = numbers (object_number known) terms }

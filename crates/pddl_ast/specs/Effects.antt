@@ -8,8 +8,8 @@ use Rattle.sexpr_text.specs.declared.forms.Span.{Span}
 use Rattle.sexpr_text.specs.declared.faults.FaultKind.TheVariants.{BadForm, EmptyOneof}
 use Rattle.sexpr_text.specs.Forest.{Forest, nothing, word, group}
 use Rattle.sexpr_text.specs.Flaws.{Flaw, flaw_at}
-use Rattle.pddl_ast.specs.declared.heads.Head.TheVariants.{And, Or, Not, Imply, Exists, Forall, Equals, When, Oneof, Unknown, Name}
-use Rattle.pddl_ast.specs.Words.{head_of, is_plain}
+use Rattle.pddl_ast.specs.declared.keywords.Keyword.TheVariants.{And, Or, Not, Imply, Exists, Forall, Equals, When, Oneof, Unknown, Other}
+use Rattle.pddl_ast.specs.Words.{keyword_of, is_plain}
 use Rattle.pddl_ast.specs.Known.{Known}
 use Rattle.pddl_ast.specs.Atoms.{count, terms_of, atom_flaws, predicate_number}
 use Rattle.pddl_ast.specs.Formulas.{bad_list, variables_flaws, inner_scope, variable_types, formula_flaws, formula_of}
@@ -18,7 +18,7 @@ use Rattle.pddl_ast.specs.Trees.{EffectTree, add, delete, both, one_of, only_whe
 -- everything that is wrong in `not` with these parts after it: one list, an atom of no reserved head
 abbrev pub deleted_flaws : Known → Forest → Span → List (List ℕ) → List Flaw
 deleted_flaws known (group inner (word head w terms) nothing) span scope =
-    if is_plain (head_of w) then atom_flaws known scope inner head w terms else bad_list span
+    if is_plain (keyword_of w) then atom_flaws known scope inner head w terms else bad_list span
 deleted_flaws known _ span scope = bad_list span
 
 abbrev mutual
@@ -32,7 +32,7 @@ abbrev mutual
   pub effect_flaws : Known → Forest → Span → List (List ℕ) → List Flaw
   effect_flaws known nothing span scope = []
   effect_flaws known (group inner parts rest) span scope = bad_list span
-  effect_flaws known (word head w parts) span scope = elim (head_of w) [
+  effect_flaws known (word head w parts) span scope = elim (keyword_of w) [
       And ↦ effects_flaws known parts scope
     | Or ↦ bad_list span
     | Not ↦ deleted_flaws known parts span scope
@@ -43,7 +43,7 @@ abbrev mutual
     | When ↦ when_flaws known parts span scope
     | Oneof ↦ if count parts == 0 then flaw_at span EmptyOneof ∷ [] else effects_flaws known parts scope
     | Unknown ↦ bad_list span
-    | Name ↦ atom_flaws known scope span head w parts ]
+    | Other ↦ atom_flaws known scope span head w parts ]
 
   -- the same for `when` with these parts after it: a formula and an effect
   pub when_flaws : Known → Forest → Span → List (List ℕ) → List Flaw
@@ -82,7 +82,7 @@ abbrev mutual
   pub effect_of : Known → Forest → List (List ℕ) → EffectTree
   effect_of known nothing scope = both (effect_row [])
   effect_of known (group inner parts rest) scope = both (effect_row [])
-  effect_of known (word head w parts) scope = elim (head_of w) [
+  effect_of known (word head w parts) scope = elim (keyword_of w) [
       And ↦ both (effect_row (effects_of known parts scope))
     | Or ↦ both (effect_row [])
     | Not ↦ deleted_of known parts scope
@@ -93,7 +93,7 @@ abbrev mutual
     | When ↦ when_of known parts scope
     | Oneof ↦ one_of (effect_row (effects_of known parts scope))
     | Unknown ↦ both (effect_row [])
-    | Name ↦ add (predicate_number known w) (terms_of known scope parts) ]
+    | Other ↦ add (predicate_number known w) (terms_of known scope parts) ]
 
   pub when_of : Known → Forest → List (List ℕ) → EffectTree
   when_of known nothing scope = both (effect_row [])

@@ -8,7 +8,8 @@ use Rattle.pddl_ast.specs.declared.trees.Term.{Term}
 use Rattle.pddl_ast.specs.declared.trees.Term.TheVariants.{Variable, Object}
 use Rattle.pddl_ast.specs.declared.trees.Named.{Named}
 use Rattle.pddl_ast.specs.declared.trees.Predicate.{Predicate}
-use Rattle.pddl_ast.specs.Words.{is_name, is_dash, is_reserved}
+use Rattle.pddl_ast.specs.Words.{is_dash, is_reserved}
+use Rattle.sexpr_text.specs.Parts.{is_name}
 use Rattle.pddl_ast.specs.Known.{Known}
 use Rattle.pddl_ast.specs.Trees.{FormulaTree, FormulaTrees, atom, equal, all, any, negation, implication, exists, forall, no_formula, formula_then, EffectTree, EffectTrees, add, delete, both, one_of, only_when, each, no_effect, effect_then, SchemaTree, DomainTree, AtomTree, LiteralTree, ProblemTree}
 use Rattle.pddl_ast.specs.Depth.{formula_depth, effect_depth}

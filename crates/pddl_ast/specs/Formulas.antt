@@ -8,11 +8,11 @@ use Rattle.sexpr_text.specs.declared.forms.Span.{Span}
 use Rattle.sexpr_text.specs.declared.faults.FaultKind.TheVariants.{BadForm}
 use Rattle.sexpr_text.specs.Forest.{Forest, nothing, word, group}
 use Rattle.sexpr_text.specs.Flaws.{Flaw, flaw_at}
-use Rattle.pddl_ast.specs.declared.heads.Head.TheVariants.{And, Or, Not, Imply, Exists, Forall, Equals, When, Oneof, Unknown, Name}
+use Rattle.pddl_ast.specs.declared.keywords.Keyword.TheVariants.{And, Or, Not, Imply, Exists, Forall, Equals, When, Oneof, Unknown, Other}
 use Rattle.pddl_ast.specs.declared.trees.Term.{Term}
 use Rattle.pddl_ast.specs.declared.trees.Term.TheVariants.{Object}
 use Rattle.pddl_ast.specs.declared.typed_lists.Declares.TheVariants.{Variables}
-use Rattle.pddl_ast.specs.Words.{head_of}
+use Rattle.pddl_ast.specs.Words.{keyword_of}
 use Rattle.pddl_ast.specs.Known.{Known}
 use Rattle.pddl_ast.specs.Atoms.{count, terms_flaws, terms_of, atom_flaws, predicate_number}
 use Rattle.pddl_ast.specs.TypedLists.{typed_list_flaws, typed_groups, names_of, types_of}
@@ -45,7 +45,7 @@ abbrev mutual
   pub formula_flaws : Known → Forest → Span → List (List ℕ) → List Flaw
   formula_flaws known nothing span scope = []
   formula_flaws known (group inner parts rest) span scope = bad_list span
-  formula_flaws known (word head w parts) span scope = elim (head_of w) [
+  formula_flaws known (word head w parts) span scope = elim (keyword_of w) [
       And ↦ formulas_flaws known parts scope
     | Or ↦ formulas_flaws known parts scope
     | Not ↦ if count parts == 1 then formulas_flaws known parts scope else bad_list span
@@ -56,7 +56,7 @@ abbrev mutual
     | When ↦ bad_list span
     | Oneof ↦ bad_list span
     | Unknown ↦ bad_list span
-    | Name ↦ atom_flaws known scope span head w parts ]
+    | Other ↦ atom_flaws known scope span head w parts ]
 
   -- the same for a quantifier with these parts after its head: a list of variables and a formula. Where
   -- there is no list of variables the formula is not looked into
@@ -97,7 +97,7 @@ abbrev mutual
   pub formula_of : Known → Forest → List (List ℕ) → FormulaTree
   formula_of known nothing scope = all (formula_row [])
   formula_of known (group inner parts rest) scope = all (formula_row [])
-  formula_of known (word head w parts) scope = elim (head_of w) [
+  formula_of known (word head w parts) scope = elim (keyword_of w) [
       And ↦ all (formula_row (formulas_of known parts scope))
     | Or ↦ any (formula_row (formulas_of known parts scope))
     | Not ↦ negation (first_formula (formulas_of known parts scope))
@@ -108,7 +108,7 @@ abbrev mutual
     | When ↦ all (formula_row [])
     | Oneof ↦ all (formula_row [])
     | Unknown ↦ all (formula_row [])
-    | Name ↦ atom (predicate_number known w) (terms_of known scope parts) ]
+    | Other ↦ atom (predicate_number known w) (terms_of known scope parts) ]
 
   -- the tree of a quantifier with these parts after its head
   pub quantified_of : Known → Forest → List (List ℕ) → (List ℕ → FormulaTree → FormulaTree) → FormulaTree

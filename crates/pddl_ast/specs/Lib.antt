@@ -8,3 +8,4 @@ pub mod Formulas
 pub mod Effects
 pub mod Depth
 pub mod Fits
+pub mod Environment

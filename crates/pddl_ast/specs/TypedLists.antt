@@ -9,7 +9,8 @@ use Rattle.sexpr_text.specs.declared.faults.FaultKind.{FaultKind}
 use Rattle.sexpr_text.specs.declared.faults.FaultKind.TheVariants.{BadForm, UnknownName, DoubleName, LeftOut}
 use Rattle.sexpr_text.specs.Forest.{Forest, nothing, word, group}
 use Rattle.sexpr_text.specs.Flaws.{Flaw, flaw_at}
-use Rattle.pddl_ast.specs.Words.{is_name, is_variable, is_dash}
+use Rattle.pddl_ast.specs.Words.{is_variable, is_dash}
+use Rattle.sexpr_text.specs.Parts.{is_name}
 use Rattle.pddl_ast.specs.Known.{number_in}
 use Rattle.pddl_ast.specs.declared.typed_lists.Declares.{Declares}
 use Rattle.pddl_ast.specs.declared.typed_lists.Declares.TheVariants.{Types, Objects, Variables, PredicateVariables}
@@ -47,6 +48,10 @@ name_flaws declares span w seen =
     else if not (may_repeat declares w) && list_any (bytes_eq w) seen then flaw_at span DoubleName ∷ []
     else []
 
+-- what is wrong with a word in a type's place
+abbrev pub word_flaws : Declares → List (List ℕ) → Span → List ℕ → List Flaw
+word_flaws declares types span w = if is_type declares types w then [] else flaw_at span UnknownName ∷ []
+
 -- the names that came so far, after this one
 abbrev pub seen_after : Declares → List ℕ → List (List ℕ) → List (List ℕ)
 seen_after declares w seen = if may_repeat declares w then seen else seen ++ w ∷ []
@@ -61,6 +66,16 @@ begins_with_either (group span parts rest) = false
 abbrev pub either_fault : Forest → FaultKind
 either_fault parts = if begins_with_either parts then LeftOut (codes "either") else BadForm
 
+-- whether a type may come here: the row begins with something else than `-`
+abbrev pub begins_type : Forest → Bool
+begins_type nothing = false
+begins_type (word span w rest) = not (is_dash w)
+begins_type (group span parts rest) = true
+
+-- what is wrong with a `-`, where the group has a name before it or not: it has none, or no type follows
+abbrev pub dash_flaws : Span → Bool → Forest → List Flaw
+dash_flaws span named rest = if named && begins_type rest then [] else flaw_at span BadForm ∷ []
+
 abbrev mutual
   -- everything that is wrong in a typed list, where these names came before it, and where its first group
   -- has a name already or not
@@ -68,18 +83,16 @@ abbrev mutual
   names_flaws declares types nothing seen named = []
   names_flaws declares types (group span parts rest) seen named = flaw_at span BadForm ∷ names_flaws declares types rest seen named
   names_flaws declares types (word span w rest) seen named =
-      if is_dash w then (if named then [] else flaw_at span BadForm ∷ []) ++ type_flaws declares types rest span seen
+      if is_dash w then dash_flaws span named rest ++ type_flaws declares types rest seen
       else name_flaws declares span w seen ++ names_flaws declares types rest (seen_after declares w seen) true
 
-  -- the same for what follows the `-` with this span. Of two in a row the first is wrong, and the second
-  -- counts
-  pub type_flaws : Declares → List (List ℕ) → Forest → Span → List (List ℕ) → List Flaw
-  type_flaws declares types nothing dash seen = flaw_at dash BadForm ∷ []
-  type_flaws declares types (group span parts rest) dash seen =
-      flaw_at span (either_fault parts) ∷ names_flaws declares types rest seen false
-  type_flaws declares types (word span w rest) dash seen =
-      if is_dash w then flaw_at dash BadForm ∷ type_flaws declares types rest span seen
-      else (if is_type declares types w then [] else flaw_at span UnknownName ∷ []) ++ names_flaws declares types rest seen false
+  -- the same for what follows a `-`
+  pub type_flaws : Declares → List (List ℕ) → Forest → List (List ℕ) → List Flaw
+  type_flaws declares types nothing seen = []
+  type_flaws declares types (group span parts rest) seen = flaw_at span (either_fault parts) ∷ names_flaws declares types rest seen false
+  type_flaws declares types (word span w rest) seen =
+      if is_dash w then dash_flaws span false rest ++ type_flaws declares types rest seen
+      else word_flaws declares types span w ++ names_flaws declares types rest seen false
 
 -- everything that is wrong in a typed list, where these names are declared already
 abbrev pub typed_list_flaws : Declares → List (List ℕ) → List (List ℕ) → Forest → List Flaw
@@ -119,3 +132,8 @@ abbrev pub types_of : List (List ℕ) → List Group → List ℕ
 types_of types [] = []
 types_of types (g ∷ gs) = map (λ name. type_number types g.type_word) g.names ++ types_of types gs
 
+
+-- the names that are declared after these, where those came before
+abbrev pub all_seen : Declares → List (List ℕ) → List (List ℕ) → List (List ℕ)
+all_seen declares [] seen = seen
+all_seen declares (name ∷ names) seen = all_seen declares names (seen_after declares name seen)

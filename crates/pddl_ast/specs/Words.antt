@@ -1,12 +1,12 @@
 -- What words mean where they stand. A word is the list of its bytes, in lower case.
-use Rattle.std.specs.Prelude.{ℕ, Bool, true, false, ◌&&◌, ◌||◌, not, ◌==◌, if◌then◌else◌, List, [], ◌∷◌, codes, slice_index}
+use Rattle.std.specs.Prelude.{ℕ, Bool, true, false, ◌||◌, not, ◌==◌, if◌then◌else◌, List, [], ◌∷◌, codes, slice_index}
 use Rattle.std.specs.Str.{bytes_eq}
-use Rattle.pddl_ast.specs.declared.heads.Head.{Head}
-use Rattle.pddl_ast.specs.declared.heads.Head.TheVariants.{And, Or, Not, Imply, Exists, Forall, Equals, When, Oneof, Unknown, Name}
+use Rattle.pddl_ast.specs.declared.keywords.Keyword.{Keyword}
+use Rattle.pddl_ast.specs.declared.keywords.Keyword.TheVariants.{And, Or, Not, Imply, Exists, Forall, Equals, When, Oneof, Unknown, Other}
 
 -- what a word means as the first item of a list
-unfoldable pub head_of : List ℕ → Head
-head_of w =
+unfoldable pub keyword_of : List ℕ → Keyword
+keyword_of w =
     if bytes_eq w (codes "and") then And
     else if bytes_eq w (codes "or") then Or
     else if bytes_eq w (codes "not") then Not
@@ -17,16 +17,16 @@ head_of w =
     else if bytes_eq w (codes "when") then When
     else if bytes_eq w (codes "oneof") then Oneof
     else if bytes_eq w (codes "unknown") then Unknown
-    else Name
+    else Other
 
 -- whether a head is no word with a meaning of its own
-abbrev pub is_plain : Head → Bool
-is_plain Name = true
+abbrev pub is_plain : Keyword → Bool
+is_plain Other = true
 is_plain _ = false
 
 -- whether a word has a meaning of its own, so that it names no predicate
 abbrev pub is_reserved : List ℕ → Bool
-is_reserved w = not (is_plain (head_of w))
+is_reserved w = not (is_plain (keyword_of w))
 
 -- `-`, which stands before a type
 unfoldable pub is_dash : List ℕ → Bool
@@ -36,9 +36,6 @@ is_dash w = bytes_eq w (codes "-")
 abbrev pub is_variable : List ℕ → Bool
 is_variable w = slice_index w 0 == 63
 
--- a name is no `-` and begins with neither `?` nor `:`, which is byte 58
-abbrev pub is_name : List ℕ → Bool
-is_name w = not (is_dash w) && not (slice_index w 0 == 63) && not (slice_index w 0 == 58)
 
 -- the heads of conditions and effects that are left out: of numbers, preferences and probabilities
 unfoldable pub is_left_out : List ℕ → Bool

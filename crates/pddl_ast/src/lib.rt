@@ -1,13 +1,21 @@
 //! Planning domains and problems as trees.
 #![tactic(auto)]
 
-mod heads;
+mod atoms;
+mod keywords;
+mod known;
+mod names;
+mod scope;
 mod trees;
 mod typed_lists;
 
-pub use heads::{Head, head_of, is_dash, is_left_out, is_name, is_reserved, is_variable, spells};
+pub use atoms::{fault_at, read_atom, read_ground_atom, read_terms};
+pub use keywords::{Keyword, is_dash, is_left_out, is_reserved, is_variable, keyword_of, spells};
+pub use known::Known;
+pub use names::NameTable;
+pub use scope::Scope;
 pub use trees::{
     Domain, Effect, Formula, GroundAtom, InitialLiteral, Named, ObjectId, Predicate, PredicateId,
     Problem, Schema, Term, TypeId,
 };
-pub use typed_lists::Declares;
+pub use typed_lists::{Declares, TypedGroup, read_typed_list, types_of};

@@ -9,7 +9,7 @@ use sexpr_text::Text;
 /// What a word means as the first item of a list: one of the ten words with a meaning of their own, or
 /// the name of a predicate.
 #[derive(Clone, Copy, Debug)]
-pub enum Head {
+pub enum Keyword {
     /// `and`
     And,
     /// `or`
@@ -31,36 +31,36 @@ pub enum Head {
     /// `unknown`
     Unknown,
     /// Every other word.
-    Name,
+    Other,
 }
 
 /// What the word means as the first item of a list.
-#[tactic(auto, unfolding(crate::specs::Words::head_of))]
-pub fn head_of(word: &Text) -> Head
-    ensures { result ≡ words.head_of word.now }
+#[tactic(auto, unfolding(crate::specs::Words::keyword_of))]
+pub fn keyword_of(word: &Text) -> Keyword
+    ensures { result ≡ words.keyword_of word.now }
 {
     if spells(word, b"and") {
-        Head::And
+        Keyword::And
     } else if spells(word, b"or") {
-        Head::Or
+        Keyword::Or
     } else if spells(word, b"not") {
-        Head::Not
+        Keyword::Not
     } else if spells(word, b"imply") {
-        Head::Imply
+        Keyword::Imply
     } else if spells(word, b"exists") {
-        Head::Exists
+        Keyword::Exists
     } else if spells(word, b"forall") {
-        Head::Forall
+        Keyword::Forall
     } else if spells(word, b"=") {
-        Head::Equals
+        Keyword::Equals
     } else if spells(word, b"when") {
-        Head::When
+        Keyword::When
     } else if spells(word, b"oneof") {
-        Head::Oneof
+        Keyword::Oneof
     } else if spells(word, b"unknown") {
-        Head::Unknown
+        Keyword::Unknown
     } else {
-        Head::Name
+        Keyword::Other
     }
 }
 
@@ -68,16 +68,9 @@ pub fn head_of(word: &Text) -> Head
 pub fn is_reserved(word: &Text) -> bool
     ensures { result ≡ words.is_reserved word.now }
 {
-    !matches!(head_of(word), Head::Name)
+    !matches!(keyword_of(word), Keyword::Other)
 }
 
-/// Whether the word is a name: it isn't `-` and doesn't begin with `?` or `:`.
-pub fn is_name(word: &Text) -> bool
-    ensures { result ≡ words.is_name word.now }
-{
-    let first = word.as_bytes().first().copied().unwrap_or(0);
-    !is_dash(word) && first != b'?' && first != b':'
-}
 
 /// Whether the word is a variable: it begins with `?`.
 pub fn is_variable(word: &Text) -> bool
