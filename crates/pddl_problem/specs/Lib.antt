@@ -1,0 +1,4 @@
+pub mod Sections
+pub mod Init
+pub mod Values
+pub mod Problems
