@@ -9,16 +9,20 @@ use Rattle.sexpr_text.specs.declared.faults.FaultKind.TheVariants.{BadForm, Empt
 use Rattle.sexpr_text.specs.Forest.{Forest, nothing, word, group}
 use Rattle.sexpr_text.specs.Flaws.{Flaw, flaw_at}
 use Rattle.pddl_ast.specs.declared.keywords.Keyword.TheVariants.{And, Or, Not, Imply, Exists, Forall, Equals, When, Oneof, Unknown, Other}
-use Rattle.pddl_ast.specs.Words.{keyword_of, is_plain}
+use Rattle.pddl_ast.specs.Words.{keyword_of, is_reserved}
 use Rattle.pddl_ast.specs.Known.{Known}
 use Rattle.pddl_ast.specs.Atoms.{count, terms_of, atom_flaws, predicate_number}
 use Rattle.pddl_ast.specs.Formulas.{bad_list, variables_flaws, inner_scope, variable_types, formula_flaws, formula_of}
 use Rattle.pddl_ast.specs.Trees.{EffectTree, add, delete, both, one_of, only_when, each, effect_row}
 
+-- the effect that changes nothing, `()`
+abbrev pub no_change : EffectTree
+no_change = both (effect_row [])
+
 -- everything that is wrong in `not` with these parts after it: one list, an atom of no reserved head
 abbrev pub deleted_flaws : Known → Forest → Span → List (List ℕ) → List Flaw
 deleted_flaws known (group inner (word head w terms) nothing) span scope =
-    if is_plain (keyword_of w) then atom_flaws known scope inner head w terms else bad_list span
+    if is_reserved w then bad_list span else atom_flaws known scope inner head w terms
 deleted_flaws known _ span scope = bad_list span
 
 abbrev mutual
@@ -63,13 +67,13 @@ abbrev mutual
 
 -- the first of a row of effects
 abbrev pub first_effect : List EffectTree → EffectTree
-first_effect [] = both (effect_row [])
+first_effect [] = no_change
 first_effect (e ∷ es) = e
 
 -- the atom that is deleted
 abbrev pub deleted_of : Known → Forest → List (List ℕ) → EffectTree
 deleted_of known (group inner (word head w terms) nothing) scope = delete (predicate_number known w) (terms_of known scope terms)
-deleted_of known _ scope = both (effect_row [])
+deleted_of known _ scope = no_change
 
 abbrev mutual
   -- the trees of a row of effects
@@ -80,28 +84,28 @@ abbrev mutual
 
   -- the tree of the effect that the list with these parts is
   pub effect_of : Known → Forest → List (List ℕ) → EffectTree
-  effect_of known nothing scope = both (effect_row [])
-  effect_of known (group inner parts rest) scope = both (effect_row [])
+  effect_of known nothing scope = no_change
+  effect_of known (group inner parts rest) scope = no_change
   effect_of known (word head w parts) scope = elim (keyword_of w) [
       And ↦ both (effect_row (effects_of known parts scope))
-    | Or ↦ both (effect_row [])
+    | Or ↦ no_change
     | Not ↦ deleted_of known parts scope
-    | Imply ↦ both (effect_row [])
-    | Exists ↦ both (effect_row [])
+    | Imply ↦ no_change
+    | Exists ↦ no_change
     | Forall ↦ each_of known parts scope
-    | Equals ↦ both (effect_row [])
+    | Equals ↦ no_change
     | When ↦ when_of known parts scope
     | Oneof ↦ one_of (effect_row (effects_of known parts scope))
-    | Unknown ↦ both (effect_row [])
+    | Unknown ↦ no_change
     | Other ↦ add (predicate_number known w) (terms_of known scope parts) ]
 
   pub when_of : Known → Forest → List (List ℕ) → EffectTree
-  when_of known nothing scope = both (effect_row [])
-  when_of known (word inner w rest) scope = both (effect_row [])
+  when_of known nothing scope = no_change
+  when_of known (word inner w rest) scope = no_change
   when_of known (group inner parts rest) scope = only_when (formula_of known parts scope) (first_effect (effects_of known rest scope))
 
   pub each_of : Known → Forest → List (List ℕ) → EffectTree
-  each_of known nothing scope = both (effect_row [])
-  each_of known (word inner w rest) scope = both (effect_row [])
+  each_of known nothing scope = no_change
+  each_of known (word inner w rest) scope = no_change
   each_of known (group inner variables rest) scope =
       each (variable_types known variables) (first_effect (effects_of known rest (inner_scope scope variables)))

@@ -2,7 +2,7 @@
 
 ghost use Rattle.std.specs.Prelude.{◌≡◌, [], Some, IfOk, IfErr};
 ghost use Rattle.sexpr_text.specs.Forest.{forest_of};
-ghost use Rattle.sexpr_text.specs.Flaws.{flaw_at, first_listed};
+ghost use Rattle.sexpr_text.specs.Flaws.{first_listed};
 ghost use Rattle.sexpr_text.specs.Passes.{IfFault};
 ghost use Rattle.pddl_ast.specs.Atoms as atoms;
 ghost use Rattle.pddl_ast.specs.Environment.{known_value};
@@ -12,20 +12,11 @@ use crate::keywords::{is_left_out, is_variable};
 use crate::known::Known;
 use crate::scope::Scope;
 use crate::trees::{GroundAtom, Term};
-use sexpr_text::{FaultKind, Form, InputFault, ReadErr, Span, Text, View};
+use sexpr_text::{FaultKind, Form, ReadErr, Span, Text, View, fault_at};
 use std::alloc::{AllocError, Global};
 
-/// The fault of this kind at a form, which is placed where the form begins.
-pub fn fault_at(span: Span, kind: FaultKind) -> ReadErr
-    ensures { result ≡ ReadErr.Fault (flaw_at span kind).fault }
-{
-    ReadErr::Fault(InputFault {
-        kind,
-        place: span.place,
-    })
-}
-
 /// How many forms the row has.
+#[tactic(auto, using(crate::proofs::Forests::count_length))]
 pub(crate) fn count(row: &[Form]) -> usize
     ensures { result ≡ atoms.count (forest_of row.now) }
 {

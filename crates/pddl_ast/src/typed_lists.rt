@@ -7,9 +7,8 @@ ghost use Rattle.sexpr_text.specs.Passes.{IfFault};
 ghost use Rattle.pddl_ast.specs.Environment.{group_value};
 ghost use Rattle.pddl_ast.specs.TypedLists as lists;
 
-use crate::atoms::fault_at;
 use crate::names::NameTable;
-use sexpr_text::{FaultKind, Form, ReadErr, Text};
+use sexpr_text::{FaultKind, Form, ReadErr, Text, View, fault_at};
 use std::alloc::{AllocError, Global};
 
 /// What a typed list declares, which decides its rules.
