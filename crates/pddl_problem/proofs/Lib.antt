@@ -1,2 +1,4 @@
 mod Sizes
 mod EntryLemmas
+mod ObjectLemmas
+mod PassLemmas

@@ -1,4 +1,5 @@
 pub mod Sections
 pub mod Init
-pub mod Values
 pub mod Problems
+pub mod Values
+pub mod Listed

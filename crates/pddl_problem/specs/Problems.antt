@@ -1,6 +1,6 @@
 -- Which problem a text spells relative to a domain, or which fault it has.
 use Rattle.std.specs.Prelude.{ℕ, List, [], ◌∷◌, ◌++◌, Option, Some, None, codes, if◌then◌else◌}
-use Rattle.std.specs.Option.{option_map, option_map_or, unwrap_or, option_and_then}
+use Rattle.std.specs.Option.{option_map, option_map_or, option_and_then}
 use Rattle.std.specs.Str.{bytes_eq}
 use Rattle.sexpr_text.specs.declared.forms.Span.{Span}
 use Rattle.sexpr_text.specs.declared.forms.Place.{Place}
@@ -17,7 +17,7 @@ use Rattle.pddl_ast.specs.Fits.{known_in}
 use Rattle.pddl_ast.specs.Formulas.{formula_flaws, formula_of}
 use Rattle.pddl_ast.specs.TypedLists.{Group, typed_list_flaws, typed_groups, names_of, types_of}
 use Rattle.pddl_ast.specs.Trees.{DomainTree, ProblemTree, FormulaTree}
-use Rattle.pddl_problem.specs.Sections.{none_seen, sections_flaws, section}
+use Rattle.pddl_problem.specs.Sections.{none_seen, sections_flaws, section, items_of}
 use Rattle.pddl_problem.specs.Init.{init_flaws, init_facts, init_entries}
 
 -- the list that defines a problem: its place, the problem's name, and its sections
@@ -26,24 +26,27 @@ pub record Definition : Type 0 where
   pub name : List ℕ
   pub items : Forest
 
--- the name in `problem NAME`, and the sections in `define (problem NAME) ..`
-abbrev pub title : Forest → List ℕ
-title nothing = []
-title (group s parts rest) = []
-title (word s text nothing) = []
-title (word s text (group s' parts rest)) = []
-title (word s text (word s' name rest)) = name
+-- the name in `problem NAME`
+abbrev pub title : Forest → Option (List ℕ)
+title nothing = None
+title (group s parts rest) = None
+title (word s text nothing) = None
+title (word s text (group s' parts rest)) = None
+title (word s text (word s' name rest)) = Some name
 
-abbrev pub defined : Span → Forest → Definition
-defined span nothing = record { span = span; name = []; items = nothing }
-defined span (group s parts rest) = record { span = span; name = []; items = nothing }
-defined span (word s text nothing) = record { span = span; name = []; items = nothing }
-defined span (word s text (word s' name rest)) = record { span = span; name = []; items = nothing }
-defined span (word s text (group s' parts rest)) = record { span = span; name = title parts; items = rest }
+-- what `define (problem NAME) ..` defines, with the span of its list
+abbrev pub defined : Span → Forest → Option Definition
+defined span nothing = None
+defined span (group s parts rest) = None
+defined span (word s text nothing) = None
+defined span (word s text (word s' name rest)) = None
+defined span (word s text (group s' parts rest)) =
+    option_map (λ name. record { span = span; name = name; items = rest }) (title parts)
 
 -- the first list that is `define (problem NAME) ..`
 abbrev pub definition_in : Forest → Option Definition
-definition_in forest = option_map (λ g. defined g.0 g.1) (first_group_with (is_definition (codes "problem")) forest)
+definition_in forest =
+    option_and_then (λ g. defined g.0 g.1) (first_group_with (is_definition (codes "problem")) forest)
 
 -- where a text begins
 abbrev pub start : Place
@@ -54,14 +57,10 @@ abbrev pub no_define : Flaw
 no_define = record { offset = 0; fault = record { kind = NoDefine; place = start } }
 
 -- the pass over the domain's name: another name than the domain's is OtherDomain at it
-abbrev pub domain_flaws : DomainTree → Forest → List Flaw
+abbrev pub domain_flaws : List ℕ → Forest → List Flaw
 domain_flaws domain nothing = []
 domain_flaws domain (group s parts rest) = []
-domain_flaws domain (word s name rest) = if bytes_eq name domain.name then [] else flaw_at s OtherDomain ∷ []
-
--- the items of a section, none where it is missing
-abbrev pub items_of : List ℕ → Forest → Forest
-items_of head items = unwrap_or (section head items) nothing
+domain_flaws domain (word s name rest) = if bytes_eq name domain then [] else flaw_at s OtherDomain ∷ []
 
 -- what is known in the problem: the names of the domain, and the objects after the constants
 abbrev pub with_objects : Known → Forest → Known
@@ -92,37 +91,37 @@ abbrev pub missing_flaws : Span → Option Forest → List Flaw
 missing_flaws span None = flaw_at span GoalMissing ∷ []
 missing_flaws span (Some goal) = []
 
--- the names known in a problem of the domain with this definition
-abbrev pub known_by : DomainTree → Definition → Known
-known_by domain d = with_objects (known_in domain) (items_of (codes ":objects") d.items)
+-- the objects of a definition, as a typed list
+abbrev pub object_list : Definition → Forest
+object_list d = items_of (codes ":objects") d.items
 
--- the passes after the one that finds the definition
-abbrev pub definition_passes : DomainTree → Definition → List (List Flaw)
-definition_passes domain d =
-    let before = known_in domain in
-    let objects = items_of (codes ":objects") d.items in
-    let known = with_objects before objects in
-    sections_flaws none_seen d.items
-    ∷ domain_flaws domain (items_of (codes ":domain") d.items)
-    ∷ typed_list_flaws Objects before.types before.objects objects
-    ∷ init_flaws known (items_of (codes ":init") d.items)
+-- the passes over the initial situation and the goal, where these names are known
+abbrev pub body_passes : Known → Definition → List (List Flaw)
+body_passes known d =
+    init_flaws known (items_of (codes ":init") d.items)
     ∷ goal_flaws known (items_of (codes ":goal") d.items)
     ∷ missing_flaws d.span (section (codes ":goal") d.items)
     ∷ []
 
+-- the passes after the one that finds the definition, for a domain with this name and these names
+abbrev pub definition_passes : List ℕ → Known → Definition → List (List Flaw)
+definition_passes domain before d =
+    sections_flaws none_seen d.items
+    ∷ domain_flaws domain (items_of (codes ":domain") d.items)
+    ∷ typed_list_flaws Objects before.types before.objects (object_list d)
+    ∷ body_passes (with_objects before (object_list d)) d
+
 -- the passes over the forms of a text, each with everything that is wrong by its rules
 abbrev pub problem_passes : DomainTree → Forest → List (List Flaw)
-problem_passes domain forest = option_map_or (λ d. [] ∷ definition_passes domain d) (definition_in forest) ((no_define ∷ []) ∷ [])
+problem_passes domain forest = option_map_or (λ d. [] ∷ definition_passes domain.name (known_in domain) d) (definition_in forest) ((no_define ∷ []) ∷ [])
 
--- the problem that a definition reads as
-abbrev pub problem_of : DomainTree → Definition → ProblemTree
-problem_of domain d =
-    let before = known_in domain in
-    let objects = items_of (codes ":objects") d.items in
-    let known = with_objects before objects in
+-- the problem that a definition reads as, where these names of the domain are known
+abbrev pub problem_of : Known → Definition → ProblemTree
+problem_of before d =
+    let known = with_objects before (object_list d) in
     record {
       name = d.name;
-      objects = objects_of before.types (typed_groups objects);
+      objects = objects_of before.types (typed_groups (object_list d));
       facts = init_facts known (items_of (codes ":init") d.items);
       entries = init_entries known (items_of (codes ":init") d.items);
       goal = goal_of known (items_of (codes ":goal") d.items);
@@ -130,7 +129,7 @@ problem_of domain d =
 
 -- the problem that the forms of a text read as, where there is a definition
 abbrev pub problem_in : DomainTree → Forest → Option ProblemTree
-problem_in domain forest = option_map (problem_of domain) (definition_in forest)
+problem_in domain forest = option_map (problem_of (known_in domain)) (definition_in forest)
 
 -- the bytes spell this problem of the domain
 abbrev pub SpellsProblem : List ℕ → DomainTree → ProblemTree → Type 0

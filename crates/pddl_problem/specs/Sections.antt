@@ -1,6 +1,6 @@
 -- The sections of a problem: what stands in its `define` list after the problem's name.
 use Rattle.std.specs.Prelude.{ℕ, Bool, true, false, ◌||◌, ◌&&◌, not, if◌then◌else◌, List, [], ◌∷◌, ◌++◌, Option, codes}
-use Rattle.std.specs.Option.{option_and_then}
+use Rattle.std.specs.Option.{option_and_then, unwrap_or}
 use Rattle.std.specs.Str.{bytes_eq}
 use Rattle.sexpr_text.specs.declared.forms.Span.{Span}
 use Rattle.sexpr_text.specs.declared.faults.FaultKind.{FaultKind}
@@ -89,3 +89,7 @@ sections_flaws seen (group span parts rest) = list_flaws seen span parts ++ sect
 -- the items of the first section with this word at its head
 abbrev pub section : List ℕ → Forest → Option Forest
 section head items = option_and_then (λ s. after_word head s.1) (first_group_with (begins_with head) items)
+
+-- the items of that section, none where there is no such section
+abbrev pub items_of : List ℕ → Forest → Forest
+items_of head items = unwrap_or (section head items) nothing

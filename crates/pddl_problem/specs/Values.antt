@@ -8,7 +8,9 @@ use Rattle.pddl_ast.specs.Trees.{AtomTree, LiteralTree}
 use Rattle.pddl_ast.specs.Values.{atom_value, literal_value}
 use Rattle.pddl_problem.specs.declared.init.Initial.{Initial}
 use Rattle.pddl_problem.specs.declared.init.AtomParts.{AtomParts}
+use Rattle.pddl_problem.specs.declared.definitions.Definition.{Definition}
 use Rattle.pddl_problem.specs.Init.{AtomForm}
+use Rattle.pddl_problem.specs.Problems.{Definition as ProblemDefinition}
 
 abbrev pub form_value : AtomParts → AtomForm
 form_value a = record { span = a.span; head_span = a.head_span; head = a.head.now; terms = forest_of a.terms.now }
@@ -24,3 +26,6 @@ facts_in initial = map atom_value initial.facts.items
 
 abbrev pub entries_in : Initial → List (List (List LiteralTree))
 entries_in initial = map entry_value initial.entries.items
+
+abbrev pub definition_value : Definition → ProblemDefinition
+definition_value d = record { span = d.span; name = d.name.now; items = forest_of d.items.now }

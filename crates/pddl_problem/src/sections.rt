@@ -162,3 +162,13 @@ pub(crate) fn section<'a>(items: &'a [Form], head: &[u8]) -> Option<&'a [Form]>
     let (_, parts) = first_group(items, head)?;
     after_word(parts, head)
 }
+
+/// The items of that section, none where there is no such section.
+pub(crate) fn items_of<'a>(items: &'a [Form], head: &[u8]) -> &'a [Form]
+    ensures { forest_of result.now ≡ sections.items_of head.now (forest_of items.now) }
+{
+    match section(items, head) {
+        Some(rest) => rest,
+        None => &[],
+    }
+}
