@@ -10,11 +10,12 @@ use Rattle.sexpr_text.proofs.GroupLaws.{rising-bounds}
 use Rattle.pddl_ast.specs.declared.typed_lists.Declares.TheVariants.{Variables}
 use Rattle.pddl_ast.specs.Words.{keyword_of, is_reserved}
 use Rattle.pddl_ast.specs.Known.{Known}
-use Rattle.pddl_ast.specs.Atoms.{count, terms_flaws, atom_flaws}
+use Rattle.std.specs.Option.{is_some}
+use Rattle.pddl_ast.specs.Atoms.{count, terms_flaws, atom_flaws, term_of}
 use Rattle.pddl_ast.specs.Trees.{FormulaTree, EffectTree}
 use Rattle.pddl_ast.specs.Formulas.{bad_list, variables_flaws, inner_scope, formulas_flaws, formula_flaws, quantifier_flaws}
 use Rattle.pddl_ast.specs.Effects.{effects_flaws, effect_flaws, deleted_flaws, when_flaws, each_flaws}
-use Rattle.pddl_ast.proofs.Orders.{either, at_form, names-in_order, words-in_order, atom-in_order}
+use Rattle.pddl_ast.proofs.Orders.{either, at_form, one_at, names-in_order, words-in_order, atom-in_order}
 use Rattle.pddl_ast.proofs.Cases.{formula_cases, effect_cases}
 
 -- one flaw at the list
@@ -45,13 +46,13 @@ mutual
       let bad : IsInOrder span.start span.end (bad_list span) = at_list span h in
       let quantifier : IsInOrder span.start span.end (quantifier_flaws known parts span scope) = quantifier-in_order known parts span scope head.end h (omega arith) e in
       let terms : IsInOrder span.start span.end (terms_flaws known scope parts)
-            = within span head.end (terms_flaws known scope parts) (omega arith) (words-in_order _ parts head.end (span.end - 1) e) in
+            = within span head.end (terms_flaws known scope parts) (omega arith) (words-in_order (λ w. is_some (term_of known scope w)) parts head.end (span.end - 1) e) in
       formula_cases (λ flaws tree. IsInOrder span.start span.end flaws) known span head w parts scope
       row row
-      (either span.start span.end _ _ (count parts == 1) row bad)
-      (either span.start span.end _ _ (count parts == 2) row bad)
+      (either span.start span.end (formulas_flaws known parts scope) (bad_list span) (count parts == 1) row bad)
+      (either span.start span.end (formulas_flaws known parts scope) (bad_list span) (count parts == 2) row bad)
       quantifier quantifier
-      (either span.start span.end _ _ (count parts == 2) terms bad)
+      (either span.start span.end (terms_flaws known scope parts) (bad_list span) (count parts == 2) terms bad)
       bad
       (in_order-up_to span.start (span.end - 1) span.end (atom_flaws known scope span head w parts) (omega arith)
       (atom-in_order known scope span head w parts (span.end - 1) (omega arith) b e))
@@ -61,9 +62,10 @@ mutual
   quantifier-in_order known nothing span scope lo h k r = at_list span h
   quantifier-in_order known (word inner w rest) span scope lo h k (a, b, c, d, e) =
       let m : inner.end ≤ span.end - 1 = rising-bounds inner.end (span.end - 1) rest e in
-      either span.start span.end _ _ (count rest == 1) (omega arith, omega arith) (at_list span h)
+      let one : IsInOrder span.start span.end (bad_list inner) = (omega arith, omega arith) in
+      either span.start span.end (bad_list inner) (bad_list span) (count rest == 1) one (at_list span h)
   quantifier-in_order known (group inner variables rest) span scope lo h k (a, b, c, d) =
-      either span.start span.end _ _ (count rest == 1)
+      either span.start span.end (variables_flaws known variables ++ formulas_flaws known rest (inner_scope scope variables)) (bad_list span) (count rest == 1)
       (within span inner.start (variables_flaws known variables ++ formulas_flaws known rest (inner_scope scope variables)) (omega arith)
       (in_order-append inner.start inner.end (span.end - 1) (variables_flaws known variables) (formulas_flaws known rest (inner_scope scope variables))
       (within inner (inner.start + 1) (variables_flaws known variables) (omega arith)
@@ -80,7 +82,7 @@ deleted-in_order known (group inner (group s parts more) rest) span scope lo h k
 deleted-in_order known (group inner (word head w terms) (word s v more)) span scope lo h k r = at_list span h
 deleted-in_order known (group inner (word head w terms) (group s parts more)) span scope lo h k r = at_list span h
 deleted-in_order known (group inner (word head w terms) nothing) span scope lo h k (a, b, (c, d, e, f, g), i) =
-    either span.start span.end _ _ (is_reserved w) (at_list span h)
+    either span.start span.end (bad_list span) (atom_flaws known scope inner head w terms) (is_reserved w) (at_list span h)
     (in_order-from span.start inner.start span.end (atom_flaws known scope inner head w terms) (omega arith)
     (in_order-up_to inner.start (inner.end - 1) span.end (atom_flaws known scope inner head w terms) (omega arith)
     (atom-in_order known scope inner head w terms (inner.end - 1) (omega arith) d g)))
@@ -108,7 +110,7 @@ mutual
       (deleted-in_order known parts span scope head.end h (omega arith) e)
       (each-in_order known parts span scope head.end h (omega arith) e)
       (when-in_order known parts span scope head.end h (omega arith) e)
-      (either span.start span.end _ _ (count parts == 0) (omega arith, omega arith) row)
+      (either span.start span.end (flaw_at span EmptyOneof ∷ []) (effects_flaws known parts scope) (count parts == 0) (one_at span EmptyOneof span.end (omega arith)) row)
       bad
       (in_order-up_to span.start (span.end - 1) span.end (atom_flaws known scope span head w parts) (omega arith)
       (atom-in_order known scope span head w parts (span.end - 1) (omega arith) b e))
@@ -117,12 +119,12 @@ mutual
       → IsRising lo (span.end - 1) rest → IsInOrder span.start span.end (when_flaws known rest span scope)
   when-in_order known nothing span scope lo h k r = at_list span h
   when-in_order known (word inner w rest) span scope lo h k (a, b, c, d, e) =
-      either span.start span.end _ _ (count rest == 1)
+      either span.start span.end (flaw_at inner BadForm ∷ effects_flaws known rest scope) (bad_list span) (count rest == 1)
       (within span lo (flaw_at inner BadForm ∷ effects_flaws known rest scope) (omega arith)
       (at_form lo (span.end - 1) inner BadForm (effects_flaws known rest scope) a b (effects-in_order known rest scope inner.end (span.end - 1) e)))
       (at_list span h)
   when-in_order known (group inner parts rest) span scope lo h k (a, b, c, d) =
-      either span.start span.end _ _ (count rest == 1)
+      either span.start span.end (formula_flaws known parts inner scope ++ effects_flaws known rest scope) (bad_list span) (count rest == 1)
       (within span inner.start (formula_flaws known parts inner scope ++ effects_flaws known rest scope) (omega arith)
       (in_order-append inner.start inner.end (span.end - 1) (formula_flaws known parts inner scope) (effects_flaws known rest scope)
       (formula-in_order known parts inner scope b c) (effects-in_order known rest scope inner.end (span.end - 1) d)))
@@ -133,9 +135,10 @@ mutual
   each-in_order known nothing span scope lo h k r = at_list span h
   each-in_order known (word inner w rest) span scope lo h k (a, b, c, d, e) =
       let m : inner.end ≤ span.end - 1 = rising-bounds inner.end (span.end - 1) rest e in
-      either span.start span.end _ _ (count rest == 1) (omega arith, omega arith) (at_list span h)
+      let one : IsInOrder span.start span.end (bad_list inner) = (omega arith, omega arith) in
+      either span.start span.end (bad_list inner) (bad_list span) (count rest == 1) one (at_list span h)
   each-in_order known (group inner variables rest) span scope lo h k (a, b, c, d) =
-      either span.start span.end _ _ (count rest == 1)
+      either span.start span.end (variables_flaws known variables ++ effects_flaws known rest (inner_scope scope variables)) (bad_list span) (count rest == 1)
       (within span inner.start (variables_flaws known variables ++ effects_flaws known rest (inner_scope scope variables)) (omega arith)
       (in_order-append inner.start inner.end (span.end - 1) (variables_flaws known variables) (effects_flaws known rest (inner_scope scope variables))
       (within inner (inner.start + 1) (variables_flaws known variables) (omega arith)
