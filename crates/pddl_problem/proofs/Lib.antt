@@ -2,3 +2,6 @@ mod Sizes
 mod EntryLemmas
 mod ObjectLemmas
 mod PassLemmas
+mod Orders
+mod Ordered
+mod Answered

@@ -1,5 +1,6 @@
 -- The passes over a definition, one after the other.
 use Rattle.std.proofs.Common.{◌≡◌, ℕ, List, [], ◌∷◌, ap, refl, ◌∙◌, Some, None}
+use Rattle.std.specs.Prelude.{Option}
 use Rattle.sexpr_text.specs.declared.faults.InputFault.{InputFault}
 use Rattle.sexpr_text.specs.declared.faults.ReadErr.{ReadErr}
 use Rattle.sexpr_text.specs.declared.faults.ReadErr.TheVariants.{Fault, Memory}
@@ -37,3 +38,7 @@ problem-parts p q a b c d e f =
     ∙ (ap (λ x. record p { name = q.name; objects = q.objects; facts = q.facts; entries = x }) d
     ∙ (ap (λ x. record p { name = q.name; objects = q.objects; facts = q.facts; entries = q.entries; goal = x }) e
     ∙ ap (λ x. record p { name = q.name; objects = q.objects; facts = q.facts; entries = q.entries; goal = q.goal; place = x }) f))))
+
+pub fault-along : (a b : Option InputFault) (e : ReadErr) → a ≡ b → IfFault e (λ f. b ≡ Some f) → IfFault e (λ f. a ≡ Some f)
+fault-along a b Memory h k = k
+fault-along a b (Fault f) h k = h ∙ k

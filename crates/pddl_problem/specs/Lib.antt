@@ -3,3 +3,4 @@ pub mod Init
 pub mod Problems
 pub mod Values
 pub mod Listed
+pub mod Rising

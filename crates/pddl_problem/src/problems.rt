@@ -136,7 +136,7 @@ fn joined(
 
 /// The problem that a definition reads as, where these names of the domain are known, or the first flaw
 /// of the first pass that has one.
-fn read_definition(
+pub(crate) fn read_definition(
     alloc: Global,
     domain: &Text,
     known: &mut Known,
