@@ -5,3 +5,5 @@ pub mod Pending
 pub mod Orders
 pub mod Cases
 pub mod TreeOrders
+pub mod Fitting
+pub mod TreeFitting
