@@ -1,7 +1,7 @@
 //! What the reader answers to texts with known answers. The expected answers are written by hand from the
 //! rules of problem files.
 
-ghost use Rattle.std.specs.Prelude.{◌≡◌, ◌≤◌, length, IfOk};
+ghost use Rattle.std.specs.Prelude.{◌≡◌, [], ◌∷◌, codes, IfOk};
 ghost use Rattle.pddl_ast.specs.Fits.{FitsDomain};
 ghost use Rattle.pddl_ast.specs.Values.{domain_value};
 
@@ -14,8 +14,7 @@ use std::test::Fail;
 
 // A predicate with this name that takes so many terms.
 fn predicate(alloc: Global, name: &[u8], arity: u32) -> Result<Predicate, AllocError>
-    ensures name { IfOk result (λ p. p.name ≡ name.now) }
-    ensures arity { IfOk result (λ p. p.arity ≡ arity) }
+    ensures { IfOk result (λ p. p ≡ record { name = name.now; arity = arity }) }
 {
     Ok(Predicate {
         name: Text::new(alloc, name)?,
@@ -23,28 +22,61 @@ fn predicate(alloc: Global, name: &[u8], arity: u32) -> Result<Predicate, AllocE
     })
 }
 
-// The domain `d` with the types `object` and `place`, the constant `hub` of type `place`, and the
-// predicates `(p)`, `(at ?x)` and `(road ?x ?y)`.
-fn town(alloc: Global) -> Result<Domain, AllocError>
-    ensures { IfOk result (λ d. FitsDomain (domain_value d)) }
+// The types `object` and `place`.
+fn types(alloc: Global) -> Result<Vec<Text>, AllocError>
+    ensures { IfOk result (λ v. v.items ≡ codes "object" ∷ codes "place" ∷ []) }
 {
-    let mut type_names = Vec::new(alloc);
-    type_names.push(Text::new(alloc, b"object")?)?;
-    type_names.push(Text::new(alloc, b"place")?)?;
+    let mut types = Vec::new(alloc);
+    types.push(Text::new(alloc, b"object")?)?;
+    types.push(Text::new(alloc, b"place")?)?;
+    Ok(types)
+}
+
+// Both of them have the parent `object`.
+fn parents(alloc: Global) -> Result<Vec<u32>, AllocError>
+    ensures { IfOk result (λ v. v.items ≡ 0 ∷ 0 ∷ []) }
+{
     let mut parents = Vec::new(alloc);
     parents.push(0)?;
     parents.push(0)?;
+    Ok(parents)
+}
+
+// The constant `hub` of type `place`.
+fn constants(alloc: Global) -> Result<Vec<Named>, AllocError>
+    ensures { IfOk result (λ v. v.items ≡ record { name = codes "hub"; type_id = 1 } ∷ []) }
+{
     let mut constants = Vec::new(alloc);
     constants.push(Named {
         name: Text::new(alloc, b"hub")?,
         type_id: 1,
     })?;
+    Ok(constants)
+}
+
+// The predicates `(p)`, `(at ?x)` and `(road ?x ?y)`.
+fn predicates(alloc: Global) -> Result<Vec<Predicate>, AllocError>
+    ensures { IfOk result (λ v. v.items ≡ record { name = codes "p"; arity = 0 }
+        ∷ record { name = codes "at"; arity = 1 } ∷ record { name = codes "road"; arity = 2 } ∷ []) }
+{
     let mut predicates = Vec::new(alloc);
     predicates.push(predicate(alloc, b"p", 0)?)?;
     predicates.push(predicate(alloc, b"at", 1)?)?;
     predicates.push(predicate(alloc, b"road", 2)?)?;
+    Ok(predicates)
+}
+
+// The domain `d` of these parts, without actions.
+fn town(alloc: Global) -> Result<Domain, AllocError>
+    ensures { IfOk result (λ d. FitsDomain (domain_value d)) }
+{
+    let name = Text::new(alloc, b"d")?;
+    let type_names = types(alloc)?;
+    let parents = parents(alloc)?;
+    let constants = constants(alloc)?;
+    let predicates = predicates(alloc)?;
     Ok(Domain {
-        name: Text::new(alloc, b"d")?,
+        name,
         type_names,
         parents,
         constants,
