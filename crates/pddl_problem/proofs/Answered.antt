@@ -23,8 +23,8 @@ problem_from d forest h (Some def) e = (problem_of (known_in d) def, ap (option_
 
 pub spelled_or_faulty : (b : List ℕ) (d : DomainTree) → ((p : ProblemTree) × SpellsProblem b d p) ⊎ ((f : InputFault) × HasProblemFault b d f)
 spelled_or_faulty b d = elim (answered (problem_passes d) b) [
-    | inl h ↦ (let p = problem_from d h.0 h.1.sound (definition_in h.0) refl in inl (p.0, (h.0, h.1.spelled, h.1.sound, p.1)))
-    | inr h ↦ inr h
+  | inl h ↦ (let p = problem_from d h.0 h.1.sound (definition_in h.0) refl in inl (p.0, (h.0, h.1.spelled, h.1.sound, p.1)))
+  | inr h ↦ inr h
 ]
 
 pub one_problem : (b : List ℕ) (d : DomainTree) (p q : ProblemTree) → SpellsProblem b d p → SpellsProblem b d q → p ≡ q

@@ -5,3 +5,4 @@ mod PassLemmas
 mod Orders
 mod Ordered
 mod Answered
+mod TownLemmas

@@ -117,14 +117,25 @@ definition-in_order name before d h =
     let domain = items-rise (codes ":domain") d.items h.items in
     let objects = items-rise (codes ":objects") d.items h.items in
     let init = items-rise (codes ":init") d.items h.items in
-    let goal = items-rise (codes ":goal") d.items h.items in
-    ( (h.items.low, h.items.high, sections-in_order none_seen h.items.low h.items.high d.items h.items.rising)
-    , ((domain.low, domain.high, domain-in_order name domain.low domain.high (items_of (codes ":domain") d.items) domain.rising)
-    , ((objects.low, objects.high, names-in_order Objects before.types (object_list d) before.objects false objects.low objects.high objects.rising)
-    , ((init.low, init.high, init-in_order known init.low init.high (items_of (codes ":init") d.items) init.rising)
-    , ((goal.low, goal.high, goal_formula-in_order known goal.low goal.high (items_of (codes ":goal") d.items) goal.rising)
-    , ((d.span.start, d.span.end, missing-in_order d.span (section (codes ":goal") d.items) h.room)
-    , tt))))))
+    let goal = items-rise (codes ":goal") d.items h.items in (
+      (h.items.low, h.items.high, sections-in_order none_seen h.items.low h.items.high d.items h.items.rising),
+      (
+        (domain.low, domain.high, domain-in_order name domain.low domain.high (items_of (codes ":domain") d.items) domain.rising),
+        (
+          (objects.low, objects.high, names-in_order Objects before.types (object_list d) before.objects false objects.low objects.high objects.rising),
+          (
+            (init.low, init.high, init-in_order known init.low init.high (items_of (codes ":init") d.items) init.rising),
+            (
+              (goal.low, goal.high, goal_formula-in_order known goal.low goal.high (items_of (codes ":goal") d.items) goal.rising),
+              (
+                (d.span.start, d.span.end, missing-in_order d.span (section (codes ":goal") d.items) h.room),
+                tt,
+              ),
+            ),
+          ),
+        ),
+      ),
+    )
 
 -- the fault of the forms that have this definition
 pub problem-fault : (domain : DomainTree) (forest : Forest) (d : Definition) → Rises forest → Some d ≡ definition_in forest

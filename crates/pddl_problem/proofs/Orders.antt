@@ -62,7 +62,7 @@ sections-in_order seen lo hi (word span text rest) (a, b, c, d, e) =
 sections-in_order seen lo hi (group span parts rest) (a, b, c, d) =
     in_order-from lo span.start hi (list_flaws seen span parts ++ sections_flaws (saw_list seen parts) rest) a
     (in_order-append span.start span.end hi (list_flaws seen span parts) (sections_flaws (saw_list seen parts) rest)
-        (list-in_order seen span parts (omega arith)) (sections-in_order (saw_list seen parts) span.end hi rest d))
+    (list-in_order seen span parts (omega arith)) (sections-in_order (saw_list seen parts) span.end hi rest d))
 
 -- from a form's begin up to its end, within wider bounds
 wider : (lo low high hi : ℕ) (fs : List Flaw) → lo ≤ low → high ≤ hi → IsInOrder low high fs → IsInOrder lo hi fs
@@ -211,8 +211,8 @@ init-in_order known lo hi (group span (word s w inner) rest) (a, b, c, d) =
     let now = if bytes_eq w (codes "and") then init_flaws known inner else entry_flaws known span (word s w inner) in
     in_order-from lo span.start hi (now ++ init_flaws known rest) a
     (in_order-append span.start span.end hi now (init_flaws known rest)
-        (either-in_order span.start span.end (bytes_eq w (codes "and")) (init_flaws known inner) (entry_flaws known span (word s w inner)) deep here)
-        (init-in_order known span.end hi rest d))
+    (either-in_order span.start span.end (bytes_eq w (codes "and")) (init_flaws known inner) (entry_flaws known span (word s w inner)) deep here)
+    (init-in_order known span.end hi rest d))
 
 pub goal_formula-in_order : (known : Known) (lo hi : ℕ) (row : Forest) → IsRising lo hi row → IsInOrder lo hi (goal_flaws known row)
 goal_formula-in_order known lo hi nothing h = h

@@ -125,7 +125,8 @@ problem_of before d =
       facts = init_facts known (items_of (codes ":init") d.items);
       entries = init_entries known (items_of (codes ":init") d.items);
       goal = goal_of known (items_of (codes ":goal") d.items);
-      place = d.span.place }
+      place = d.span.place;
+    }
 
 -- the problem that the forms of a text read as, where there is a definition
 abbrev pub problem_in : DomainTree → Forest → Option ProblemTree

@@ -16,9 +16,7 @@ use crate::faults::left_out;
 use pddl_ast::{
     GroundAtom, InitialLiteral, Keyword, Known, is_reserved, keyword_of, read_ground_atom, spells,
 };
-use sexpr_text::{
-    FaultKind, Form, Head, ReadErr, Span, Text, View, fault_at, head_of, is_nothing,
-};
+use sexpr_text::{FaultKind, Form, Head, ReadErr, Span, Text, View, fault_at, head_of, is_nothing};
 use std::alloc::{AllocError, Global};
 
 /// What was read of an initial situation: facts, and uncertain entries with their alternatives.
@@ -152,11 +150,7 @@ fn read_part(
 }
 
 /// The literals of an alternative's parts.
-fn read_parts(
-    alloc: Global,
-    known: &Known,
-    row: &[Form],
-) -> Result<Vec<InitialLiteral>, ReadErr>
+fn read_parts(alloc: Global, known: &Known, row: &[Form]) -> Result<Vec<InitialLiteral>, ReadErr>
     ensures sound { OnOk result (parts.flaws_of_groups (init.part_flaws (known_value known.now)) (forest_of row.now) ≡ []) }
     ensures read { IfOk result (λ v. map literal_value v.items ≡ parts.each_group (init.part_literal (known_value known.now)) (forest_of row.now)) }
     ensures fault { IfErr result (λ e. IfFault e (λ f.

@@ -118,12 +118,7 @@ fn saw(seen: Seen, heading: Heading) -> Seen
 }
 
 /// Whether a list with these parts is right as a section, and which sections have come with it.
-fn check_list(
-    alloc: Global,
-    seen: Seen,
-    span: Span,
-    parts: &[Form],
-) -> Result<Seen, ReadErr>
+fn check_list(alloc: Global, seen: Seen, span: Span, parts: &[Form]) -> Result<Seen, ReadErr>
     ensures clean { OnOk result (sections.list_flaws seen span (forest_of parts.now) ≡ []) }
     ensures seen { IfOk result (λ now. now ≡ sections.saw_list seen (forest_of parts.now)) }
     ensures fault { IfErr result (λ e. IfFault e (λ f. first_listed (sections.list_flaws seen span (forest_of parts.now)) ≡ Some f)) }

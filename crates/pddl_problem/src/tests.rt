@@ -230,102 +230,332 @@ fn answer(alloc: Global, bytes: &[u8], domain: &Domain) -> Result<String, AllocE
     Ok(out)
 }
 
+// Texts, each with its fault: the kind's number and name, and its place.
+static FAULTS: [(&str, &str); 87] = [
+    ("(define (problem q) (:goal (p))", "3 OpenAtEnd 1:1"),
+    ("(define (problem q) (:goal (p))) )", "2 StrayClose 1:34"),
+    ("(define (domain q)) )", "2 StrayClose 1:21"),
+    ("(define (problem q) (:goal (\u{1}p)))", "1 BadByte 1:29"),
+    ("", "5 NoDefine 1:1"),
+    ("(define (domain q) (:goal (p)))", "5 NoDefine 1:1"),
+    ("(define (problem) (:goal (p)))", "5 NoDefine 1:1"),
+    ("(define (problem ?q) (:goal (p)))", "5 NoDefine 1:1"),
+    ("(define problem q (:goal (p)))", "5 NoDefine 1:1"),
+    ("(define (problem q r) (:goal (p)))", "5 NoDefine 1:1"),
+    ("(problem q)", "5 NoDefine 1:1"),
+    ("(define (problem q) x (:goal (p)))", "6 BadForm 1:21"),
+    ("(define (problem q) () (:goal (p)))", "6 BadForm 1:21"),
+    ("(define (problem q) ((:goal) (p)))", "6 BadForm 1:21"),
+    ("(define (problem q) (:goal (p)) (:goal))", "6 BadForm 1:33"),
+    ("(define (problem q) (:goal (p) (p)))", "6 BadForm 1:21"),
+    (
+        "(define (problem q) (:domain) (:goal (p)))",
+        "6 BadForm 1:21",
+    ),
+    (
+        "(define (problem q) (:domain d d) (:goal (p)))",
+        "6 BadForm 1:21",
+    ),
+    (
+        "(define (problem q) (:domain (d)) (:goal (p)))",
+        "6 BadForm 1:21",
+    ),
+    (
+        "(define (problem q) (:domain ?d) (:goal (p)))",
+        "6 BadForm 1:21",
+    ),
+    (
+        "(define (problem q) (:domain d) (:domain d) (:goal (p)))",
+        "6 BadForm 1:33",
+    ),
+    (
+        "(define (problem q) (:objects a) (:objects b) (:goal (p)))",
+        "6 BadForm 1:34",
+    ),
+    (
+        "(define (problem q) (:init) (:init) (:goal (p)))",
+        "6 BadForm 1:29",
+    ),
+    (
+        "(define (problem q) (:goal (p)) (:goal (p)))",
+        "16 GoalTwice 1:33",
+    ),
+    (
+        "(define (problem q) (:ctl-goal (af (p))))",
+        "13 LeftOut 1:21",
+    ),
+    (
+        "(define (problem q) (:foo) (:objects a a) (:goal (p)))",
+        "13 LeftOut 1:21",
+    ),
+    (
+        "(define (problem q) (:objects a a) (:foo) (:goal (p)))",
+        "13 LeftOut 1:36",
+    ),
+    (
+        "(define (problem q) (:domain e) (:objects a a) (:goal (p)))",
+        "14 OtherDomain 1:30",
+    ),
+    (
+        "(define (problem q) (:objects a a) (:domain e) (:goal (p)))",
+        "14 OtherDomain 1:45",
+    ),
+    (
+        "(define (problem q) (:objects a a) (:init (q)) (:goal (p)))",
+        "8 DoubleName 1:33",
+    ),
+    (
+        "(define (problem q) (:init (q)) (:objects a b hub) (:goal (p)))",
+        "8 DoubleName 1:47",
+    ),
+    (
+        "(define (problem q) (:objects a - foo) (:goal (p)))",
+        "7 UnknownName 1:35",
+    ),
+    (
+        "(define (problem q) (:objects a -) (:goal (p)))",
+        "6 BadForm 1:33",
+    ),
+    (
+        "(define (problem q) (:objects - place) (:goal (p)))",
+        "6 BadForm 1:31",
+    ),
+    (
+        "(define (problem q) (:objects a - (foo)) (:goal (p)))",
+        "6 BadForm 1:35",
+    ),
+    (
+        "(define (problem q) (:objects ?a) (:goal (p)))",
+        "6 BadForm 1:31",
+    ),
+    (
+        "(define (problem q) (:objects (a)) (:goal (p)))",
+        "6 BadForm 1:31",
+    ),
+    (
+        "(define (problem q) (:objects a - place - object) (:goal (p)))",
+        "6 BadForm 1:41",
+    ),
+    (
+        "(define (problem q) (:objects a - (either place object)) (:goal (p)))",
+        "13 LeftOut 1:35",
+    ),
+    (
+        "(define (problem q) (:init p) (:goal (p)))",
+        "6 BadForm 1:28",
+    ),
+    (
+        "(define (problem q) (:init ()) (:goal (p)))",
+        "6 BadForm 1:28",
+    ),
+    (
+        "(define (problem q) (:init ((p))) (:goal (p)))",
+        "6 BadForm 1:28",
+    ),
+    (
+        "(define (problem q) (:init (not)) (:goal (p)))",
+        "6 BadForm 1:28",
+    ),
+    (
+        "(define (problem q) (:init (not (p) (p))) (:goal (p)))",
+        "6 BadForm 1:28",
+    ),
+    (
+        "(define (problem q) (:init (not p)) (:goal (p)))",
+        "6 BadForm 1:28",
+    ),
+    (
+        "(define (problem q) (:init (not ())) (:goal (p)))",
+        "6 BadForm 1:28",
+    ),
+    (
+        "(define (problem q) (:init (not (and))) (:goal (p)))",
+        "6 BadForm 1:28",
+    ),
+    (
+        "(define (problem q) (:init (unknown)) (:goal (p)))",
+        "6 BadForm 1:28",
+    ),
+    (
+        "(define (problem q) (:init (unknown (not (p)))) (:goal (p)))",
+        "6 BadForm 1:28",
+    ),
+    (
+        "(define (problem q) (:init (oneof p)) (:goal (p)))",
+        "6 BadForm 1:35",
+    ),
+    (
+        "(define (problem q) (:init (oneof (unknown))) (:goal (p)))",
+        "6 BadForm 1:35",
+    ),
+    (
+        "(define (problem q) (:init (oneof (and ()))) (:goal (p)))",
+        "6 BadForm 1:40",
+    ),
+    (
+        "(define (problem q) (:init (oneof (and (and (p))))) (:goal (p)))",
+        "6 BadForm 1:40",
+    ),
+    (
+        "(define (problem q) (:init (and (p) ())) (:goal (p)))",
+        "6 BadForm 1:37",
+    ),
+    (
+        "(define (problem q) (:init (at (hub))) (:goal (p)))",
+        "6 BadForm 1:32",
+    ),
+    (
+        "(define (problem q) (:init (oneof)) (:goal (p)))",
+        "12 EmptyOneof 1:28",
+    ),
+    (
+        "(define (problem q) (:init (oneof (oneof))) (:goal (p)))",
+        "13 LeftOut 1:35",
+    ),
+    (
+        "(define (problem q) (:init (oneof (unknown (p)))) (:goal (p)))",
+        "13 LeftOut 1:35",
+    ),
+    (
+        "(define (problem q) (:init (oneof (and (unknown (p))))) (:goal (p)))",
+        "13 LeftOut 1:40",
+    ),
+    (
+        "(define (problem q) (:init (or (p))) (:goal (p)))",
+        "13 LeftOut 1:28",
+    ),
+    (
+        "(define (problem q) (:init (= hub hub)) (:goal (p)))",
+        "13 LeftOut 1:28",
+    ),
+    (
+        "(define (problem q) (:init (imply (p) (p))) (:goal (p)))",
+        "13 LeftOut 1:28",
+    ),
+    (
+        "(define (problem q) (:init (exists (?x) (p))) (:goal (p)))",
+        "13 LeftOut 1:28",
+    ),
+    (
+        "(define (problem q) (:init (forall (?x) (p))) (:goal (p)))",
+        "13 LeftOut 1:28",
+    ),
+    (
+        "(define (problem q) (:init (when (p) (p))) (:goal (p)))",
+        "13 LeftOut 1:28",
+    ),
+    (
+        "(define (problem q) (:init (increase (p))) (:goal (p)))",
+        "13 LeftOut 1:29",
+    ),
+    (
+        "(define (problem q) (:init (q)) (:goal (p)))",
+        "7 UnknownName 1:29",
+    ),
+    (
+        "(define (problem q) (:init (at x)) (:goal (p)))",
+        "7 UnknownName 1:32",
+    ),
+    (
+        "(define (problem q) (:init (at ?x)) (:goal (p)))",
+        "7 UnknownName 1:32",
+    ),
+    (
+        "(define (problem q) (:init (not (at x))) (:goal (p)))",
+        "7 UnknownName 1:37",
+    ),
+    (
+        "(define (problem q) (:init (oneof (p) (at x))) (:goal (p)))",
+        "7 UnknownName 1:43",
+    ),
+    (
+        "(define (problem q) (:init (at x) (q)) (:goal (p)))",
+        "7 UnknownName 1:32",
+    ),
+    (
+        "(define (problem q) (:init (q) (at x)) (:goal (p)))",
+        "7 UnknownName 1:29",
+    ),
+    (
+        "(define (problem q) (:init (unknown (at x))) (:goal (p)))",
+        "7 UnknownName 1:41",
+    ),
+    (
+        "(define (problem q) (:init (at)) (:goal (p)))",
+        "9 WrongArity 1:28",
+    ),
+    (
+        "(define (problem q) (:init (and (p) (at x x))) (:goal (p)))",
+        "9 WrongArity 1:37",
+    ),
+    (
+        "(define (problem q) (:goal (q)) (:init (at x)))",
+        "7 UnknownName 1:44",
+    ),
+    ("(define (problem q) (:goal p))", "6 BadForm 1:28"),
+    ("(define (problem q) (:goal (q)))", "7 UnknownName 1:29"),
+    ("(define (problem q) (:goal (at ?x)))", "7 UnknownName 1:32"),
+    (
+        "(define (problem q) (:goal (and (p) (when (p) (p)))))",
+        "6 BadForm 1:37",
+    ),
+    ("(define (problem q) (:goal (oneof (p))))", "6 BadForm 1:28"),
+    ("(define (problem q) (:goal (not)))", "6 BadForm 1:28"),
+    (
+        "(define (problem q) (:goal (exists (?x) (at ?y))))",
+        "7 UnknownName 1:45",
+    ),
+    (
+        "(define (problem q) (:goal (exists (?x - foo) (at ?x))))",
+        "7 UnknownName 1:42",
+    ),
+    ("(define (problem q) (:domain d))", "15 GoalMissing 1:1"),
+    (
+        "(define (domain d)) ; (\n  (define (problem q) (:init))",
+        "15 GoalMissing 2:3",
+    ),
+];
+
+// Texts, each with its tree as `show_problem` shows it.
+static TREES: [(&str, &str); 8] = [
+    ("(define (problem q) (:goal ()))", "q 1:1;;;; all()"),
+    (
+        "(DEFINE (Problem Q) (:Domain D) (:Objects A B - Place C) (:Init (At A) (Road A B) (P)) (:Goal (At B)))",
+        "q 1:1; a 1 b 1 c 0; 1( 1) 2( 1 2) 0();; 1( o2)",
+    ),
+    (
+        "(define (problem q) (:init (and (unknown (p)) (and (at hub)) (not (p))) (oneof () (p) (not (p)) (and (p) (not (at hub))))) (:goal (p)))",
+        "q 1:1;; 1( 0); |+0()|-0()| ||+0()|-0()|+0()-1( 0)|; 0()",
+    ),
+    (
+        "(define (problem q) (:requirements :strips) (:requirements :typing) (:metric minimize (x)) (:goal-reward 100) (:init) (:goal (and (p) (or) (not (imply (p) (p))))))",
+        "q 1:1;;;; all( 0() any() not 0() implies 0())",
+    ),
+    (
+        "(define (problem q) (:goal (exists (?x - place ?y) (forall (?x) (road ?x ?y)))))",
+        "q 1:1;;;; exists 1 0: forall 0: 2( v2 v1)",
+    ),
+    (
+        "; ü (\n(define (domain d) x) (define (problem q) (:goal (= hub a)) (:objects a - object))",
+        "q 2:23; a 0;;; Object(0) = Object(1)",
+    ),
+    (
+        "(define (problem q) (:goal (p))) (define (problem r) (:goal))",
+        "q 1:1;;;; 0()",
+    ),
+    (
+        "(define (problem q) (:goal (not (at hub))) (:init (and) (and (and)) (not (at hub))))",
+        "q 1:1;;;; not 1( o0)",
+    ),
+];
+
 #[test]
 fn faults_and_their_places(rt: HostRuntime) -> Result<(), Fail> {
     one_answer();
     let domain = town(rt.alloc())?;
-    let table: [(&[u8], &str); 87] = [
-        (b"(define (problem q) (:goal (p))", "3 OpenAtEnd 1:1"),
-        (b"(define (problem q) (:goal (p))) )", "2 StrayClose 1:34"),
-        (b"(define (domain q)) )", "2 StrayClose 1:21"),
-        (b"(define (problem q) (:goal (\x01p)))", "1 BadByte 1:29"),
-        (b"", "5 NoDefine 1:1"),
-        (b"(define (domain q) (:goal (p)))", "5 NoDefine 1:1"),
-        (b"(define (problem) (:goal (p)))", "5 NoDefine 1:1"),
-        (b"(define (problem ?q) (:goal (p)))", "5 NoDefine 1:1"),
-        (b"(define problem q (:goal (p)))", "5 NoDefine 1:1"),
-        (b"(define (problem q r) (:goal (p)))", "5 NoDefine 1:1"),
-        (b"(problem q)", "5 NoDefine 1:1"),
-        (b"(define (problem q) x (:goal (p)))", "6 BadForm 1:21"),
-        (b"(define (problem q) () (:goal (p)))", "6 BadForm 1:21"),
-        (b"(define (problem q) ((:goal) (p)))", "6 BadForm 1:21"),
-        (b"(define (problem q) (:goal (p)) (:goal))", "6 BadForm 1:33"),
-        (b"(define (problem q) (:goal (p) (p)))", "6 BadForm 1:21"),
-        (b"(define (problem q) (:domain) (:goal (p)))", "6 BadForm 1:21"),
-        (b"(define (problem q) (:domain d d) (:goal (p)))", "6 BadForm 1:21"),
-        (b"(define (problem q) (:domain (d)) (:goal (p)))", "6 BadForm 1:21"),
-        (b"(define (problem q) (:domain ?d) (:goal (p)))", "6 BadForm 1:21"),
-        (b"(define (problem q) (:domain d) (:domain d) (:goal (p)))", "6 BadForm 1:33"),
-        (b"(define (problem q) (:objects a) (:objects b) (:goal (p)))", "6 BadForm 1:34"),
-        (b"(define (problem q) (:init) (:init) (:goal (p)))", "6 BadForm 1:29"),
-        (b"(define (problem q) (:goal (p)) (:goal (p)))", "16 GoalTwice 1:33"),
-        (b"(define (problem q) (:ctl-goal (af (p))))", "13 LeftOut 1:21"),
-        (b"(define (problem q) (:foo) (:objects a a) (:goal (p)))", "13 LeftOut 1:21"),
-        (b"(define (problem q) (:objects a a) (:foo) (:goal (p)))", "13 LeftOut 1:36"),
-        (b"(define (problem q) (:domain e) (:objects a a) (:goal (p)))", "14 OtherDomain 1:30"),
-        (b"(define (problem q) (:objects a a) (:domain e) (:goal (p)))", "14 OtherDomain 1:45"),
-        (b"(define (problem q) (:objects a a) (:init (q)) (:goal (p)))", "8 DoubleName 1:33"),
-        (b"(define (problem q) (:init (q)) (:objects a b hub) (:goal (p)))", "8 DoubleName 1:47"),
-        (b"(define (problem q) (:objects a - foo) (:goal (p)))", "7 UnknownName 1:35"),
-        (b"(define (problem q) (:objects a -) (:goal (p)))", "6 BadForm 1:33"),
-        (b"(define (problem q) (:objects - place) (:goal (p)))", "6 BadForm 1:31"),
-        (b"(define (problem q) (:objects a - (foo)) (:goal (p)))", "6 BadForm 1:35"),
-        (b"(define (problem q) (:objects ?a) (:goal (p)))", "6 BadForm 1:31"),
-        (b"(define (problem q) (:objects (a)) (:goal (p)))", "6 BadForm 1:31"),
-        (b"(define (problem q) (:objects a - place - object) (:goal (p)))", "6 BadForm 1:41"),
-        (b"(define (problem q) (:objects a - (either place object)) (:goal (p)))", "13 LeftOut 1:35"),
-        (b"(define (problem q) (:init p) (:goal (p)))", "6 BadForm 1:28"),
-        (b"(define (problem q) (:init ()) (:goal (p)))", "6 BadForm 1:28"),
-        (b"(define (problem q) (:init ((p))) (:goal (p)))", "6 BadForm 1:28"),
-        (b"(define (problem q) (:init (not)) (:goal (p)))", "6 BadForm 1:28"),
-        (b"(define (problem q) (:init (not (p) (p))) (:goal (p)))", "6 BadForm 1:28"),
-        (b"(define (problem q) (:init (not p)) (:goal (p)))", "6 BadForm 1:28"),
-        (b"(define (problem q) (:init (not ())) (:goal (p)))", "6 BadForm 1:28"),
-        (b"(define (problem q) (:init (not (and))) (:goal (p)))", "6 BadForm 1:28"),
-        (b"(define (problem q) (:init (unknown)) (:goal (p)))", "6 BadForm 1:28"),
-        (b"(define (problem q) (:init (unknown (not (p)))) (:goal (p)))", "6 BadForm 1:28"),
-        (b"(define (problem q) (:init (oneof p)) (:goal (p)))", "6 BadForm 1:35"),
-        (b"(define (problem q) (:init (oneof (unknown))) (:goal (p)))", "6 BadForm 1:35"),
-        (b"(define (problem q) (:init (oneof (and ()))) (:goal (p)))", "6 BadForm 1:40"),
-        (b"(define (problem q) (:init (oneof (and (and (p))))) (:goal (p)))", "6 BadForm 1:40"),
-        (b"(define (problem q) (:init (and (p) ())) (:goal (p)))", "6 BadForm 1:37"),
-        (b"(define (problem q) (:init (at (hub))) (:goal (p)))", "6 BadForm 1:32"),
-        (b"(define (problem q) (:init (oneof)) (:goal (p)))", "12 EmptyOneof 1:28"),
-        (b"(define (problem q) (:init (oneof (oneof))) (:goal (p)))", "13 LeftOut 1:35"),
-        (b"(define (problem q) (:init (oneof (unknown (p)))) (:goal (p)))", "13 LeftOut 1:35"),
-        (b"(define (problem q) (:init (oneof (and (unknown (p))))) (:goal (p)))", "13 LeftOut 1:40"),
-        (b"(define (problem q) (:init (or (p))) (:goal (p)))", "13 LeftOut 1:28"),
-        (b"(define (problem q) (:init (= hub hub)) (:goal (p)))", "13 LeftOut 1:28"),
-        (b"(define (problem q) (:init (imply (p) (p))) (:goal (p)))", "13 LeftOut 1:28"),
-        (b"(define (problem q) (:init (exists (?x) (p))) (:goal (p)))", "13 LeftOut 1:28"),
-        (b"(define (problem q) (:init (forall (?x) (p))) (:goal (p)))", "13 LeftOut 1:28"),
-        (b"(define (problem q) (:init (when (p) (p))) (:goal (p)))", "13 LeftOut 1:28"),
-        (b"(define (problem q) (:init (increase (p))) (:goal (p)))", "13 LeftOut 1:29"),
-        (b"(define (problem q) (:init (q)) (:goal (p)))", "7 UnknownName 1:29"),
-        (b"(define (problem q) (:init (at x)) (:goal (p)))", "7 UnknownName 1:32"),
-        (b"(define (problem q) (:init (at ?x)) (:goal (p)))", "7 UnknownName 1:32"),
-        (b"(define (problem q) (:init (not (at x))) (:goal (p)))", "7 UnknownName 1:37"),
-        (b"(define (problem q) (:init (oneof (p) (at x))) (:goal (p)))", "7 UnknownName 1:43"),
-        (b"(define (problem q) (:init (at x) (q)) (:goal (p)))", "7 UnknownName 1:32"),
-        (b"(define (problem q) (:init (q) (at x)) (:goal (p)))", "7 UnknownName 1:29"),
-        (b"(define (problem q) (:init (unknown (at x))) (:goal (p)))", "7 UnknownName 1:41"),
-        (b"(define (problem q) (:init (at)) (:goal (p)))", "9 WrongArity 1:28"),
-        (b"(define (problem q) (:init (and (p) (at x x))) (:goal (p)))", "9 WrongArity 1:37"),
-        (b"(define (problem q) (:goal (q)) (:init (at x)))", "7 UnknownName 1:44"),
-        (b"(define (problem q) (:goal p))", "6 BadForm 1:28"),
-        (b"(define (problem q) (:goal (q)))", "7 UnknownName 1:29"),
-        (b"(define (problem q) (:goal (at ?x)))", "7 UnknownName 1:32"),
-        (b"(define (problem q) (:goal (and (p) (when (p) (p)))))", "6 BadForm 1:37"),
-        (b"(define (problem q) (:goal (oneof (p))))", "6 BadForm 1:28"),
-        (b"(define (problem q) (:goal (not)))", "6 BadForm 1:28"),
-        (b"(define (problem q) (:goal (exists (?x) (at ?y))))", "7 UnknownName 1:45"),
-        (b"(define (problem q) (:goal (exists (?x - foo) (at ?x))))", "7 UnknownName 1:42"),
-        (b"(define (problem q) (:domain d))", "15 GoalMissing 1:1"),
-        (b"(define (domain d)) ; (\n  (define (problem q) (:init))", "15 GoalMissing 2:3"),
-    ];
-    for (text, want) in table {
-        let got = answer(rt.alloc(), text, &domain)?;
-        assert_eq!(rt; got.as_str(), want);
+    for (text, want) in &FAULTS {
+        let got = answer(rt.alloc(), text.as_bytes(), &domain)?;
+        assert_eq!(rt; got.as_str(), *want);
     }
     Ok(())
 }
@@ -333,40 +563,9 @@ fn faults_and_their_places(rt: HostRuntime) -> Result<(), Fail> {
 #[test]
 fn texts_and_their_trees(rt: HostRuntime) -> Result<(), Fail> {
     let domain = town(rt.alloc())?;
-    let table: [(&[u8], &str); 8] = [
-        (b"(define (problem q) (:goal ()))", "q 1:1;;;; all()"),
-        (
-            b"(DEFINE (Problem Q) (:Domain D) (:Objects A B - Place C) (:Init (At A) (Road A B) (P)) (:Goal (At B)))",
-            "q 1:1; a 1 b 1 c 0; 1( 1) 2( 1 2) 0();; 1( o2)",
-        ),
-        (
-            b"(define (problem q) (:init (and (unknown (p)) (and (at hub)) (not (p))) (oneof () (p) (not (p)) (and (p) (not (at hub))))) (:goal (p)))",
-            "q 1:1;; 1( 0); |+0()|-0()| ||+0()|-0()|+0()-1( 0)|; 0()",
-        ),
-        (
-            b"(define (problem q) (:requirements :strips) (:requirements :typing) (:metric minimize (x)) (:goal-reward 100) (:init) (:goal (and (p) (or) (not (imply (p) (p))))))",
-            "q 1:1;;;; all( 0() any() not 0() implies 0())",
-        ),
-        (
-            b"(define (problem q) (:goal (exists (?x - place ?y) (forall (?x) (road ?x ?y)))))",
-            "q 1:1;;;; exists 1 0: forall 0: 2( v2 v1)",
-        ),
-        (
-            b"; \xff (\n(define (domain d) x) (define (problem q) (:goal (= hub a)) (:objects a - object))",
-            "q 2:23; a 0;;; Object(0) = Object(1)",
-        ),
-        (
-            b"(define (problem q) (:goal (p))) (define (problem r) (:goal))",
-            "q 1:1;;;; 0()",
-        ),
-        (
-            b"(define (problem q) (:goal (not (at hub))) (:init (and) (and (and)) (not (at hub))))",
-            "q 1:1;;;; not 1( o0)",
-        ),
-    ];
-    for (text, want) in table {
-        let got = answer(rt.alloc(), text, &domain)?;
-        assert_eq!(rt; got.as_str(), want);
+    for (text, want) in &TREES {
+        let got = answer(rt.alloc(), text.as_bytes(), &domain)?;
+        assert_eq!(rt; got.as_str(), *want);
     }
     Ok(())
 }

@@ -13,6 +13,6 @@ abbrev pub invariant-loop-form : goal.invariant-loop-form
 invariant-loop-form l =
     (init_flaws (known_value l.known) (forest_of l.row) ≡ init_flaws (known_value l.known) (forest_of (drop l.form-index l.row)))
     × (facts_in l.initial.initial' ++ init_facts (known_value l.known) (forest_of l.row)
-        ≡ facts_in l.initial' ++ init_facts (known_value l.known) (forest_of (drop l.form-index l.row)))
+    ≡ facts_in l.initial' ++ init_facts (known_value l.known) (forest_of (drop l.form-index l.row)))
     × (entries_in l.initial.initial' ++ init_entries (known_value l.known) (forest_of l.row)
-        ≡ entries_in l.initial' ++ init_entries (known_value l.known) (forest_of (drop l.form-index l.row)))
+    ≡ entries_in l.initial' ++ init_entries (known_value l.known) (forest_of (drop l.form-index l.row)))

@@ -10,4 +10,4 @@ abbrev pub invariant-loop-form : goal.invariant-loop-form
 invariant-loop-form l =
     (flaws_of_groups (alternative_flaws (known_value l.known)) (forest_of l.row) ≡ flaws_of_groups (alternative_flaws (known_value l.known)) (forest_of (drop l.form-index l.row)))
     × (each_group (alternative (known_value l.known)) (forest_of l.row)
-        ≡ map alternative_value l.alternatives.items ++ each_group (alternative (known_value l.known)) (forest_of (drop l.form-index l.row)))
+    ≡ map alternative_value l.alternatives.items ++ each_group (alternative (known_value l.known)) (forest_of (drop l.form-index l.row)))

@@ -10,4 +10,4 @@ abbrev pub invariant-loop-form : goal.invariant-loop-form
 invariant-loop-form l =
     (flaws_of_groups (part_flaws (known_value l.known)) (forest_of l.row) ≡ flaws_of_groups (part_flaws (known_value l.known)) (forest_of (drop l.form-index l.row)))
     × (each_group (part_literal (known_value l.known)) (forest_of l.row)
-        ≡ map literal_value l.literals.items ++ each_group (part_literal (known_value l.known)) (forest_of (drop l.form-index l.row)))
+    ≡ map literal_value l.literals.items ++ each_group (part_literal (known_value l.known)) (forest_of (drop l.form-index l.row)))

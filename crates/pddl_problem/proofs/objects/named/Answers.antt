@@ -11,7 +11,7 @@ returns c =
     let types = c.args.types.now in
     let k = c.loop-k.k in
     let past : named (drop k names) (drop k types) ≡ [] = elim c.loop-k-test.branch [
-        | then-loop-k-test+else-k-types w ↦ named-past_types names types k w.if-k-types.false
-        | else-loop-k-test w ↦ named-past_names names types k w.loop-k-test.false
+      | then-loop-k-test+else-k-types w ↦ named-past_types names types k w.if-k-types.false
+      | else-loop-k-test w ↦ named-past_names names types k w.loop-k-test.false
     ] in
     sym (c.loop-k.invariant ∙ (ap (λ os. c.loop-k.objects.items ++ os) past ∙ append-nil c.loop-k.objects.items))

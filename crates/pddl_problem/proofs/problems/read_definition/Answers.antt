@@ -35,9 +35,9 @@ returns-in_err-objects-clause-fault c =
     let here : P (object_list d) = subst P c.items_of-2.ensures x.ensures.fault in
     let p = err_from_is_err_and c.from_residual-in_err-objects.result c.from_residual-in_err-objects.ensures.1 in
     rw (p.1, p.2)
-        (fault-skip (sections_flaws none_seen d.items) (domain ∷ objects ∷ body) x.field-0.0 c.in_ok-check_sections.ensures.clean
-        (fault-skip domain (objects ∷ body) x.field-0.0 no_domain
-        (fault-first objects body x.field-0.0 here)))
+    (fault-skip (sections_flaws none_seen d.items) (domain ∷ objects ∷ body) x.field-0.0 c.in_ok-check_sections.ensures.clean
+    (fault-skip domain (objects ∷ body) x.field-0.0 no_domain
+    (fault-first objects body x.field-0.0 here)))
 
 pub returns-in_err-body-clause-fault : goal.returns-in_err-body-clause-fault
 returns-in_err-body-clause-fault c =
@@ -49,15 +49,15 @@ returns-in_err-body-clause-fault c =
     let no_domain : domain ≡ [] = ap (domain_flaws c.args.domain.now) (sym c.items_of.ensures) ∙ c.in_ok-check_domain.ensures.sound in
     let no_objects : objects ≡ [] = ap (typed_list_flaws Objects before.types before.objects) (sym c.items_of-2.ensures) ∙ c.in_ok-objects.ensures.sound in
     let after : known_value c.read_objects.new.known ≡ with_objects before (object_list d) =
-        c.in_ok-objects.ensures.known ∙ ap (with_objects before) c.items_of-2.ensures in
+    c.in_ok-objects.ensures.known ∙ ap (with_objects before) c.items_of-2.ensures in
     let x = c.in_err-body in
     let P : Known → Type 0 = λ known. IfFault x.field-0.0 (λ f. listed_fault (body_passes known d) ≡ Some f) in
     let here : P (with_objects before (object_list d)) = subst P after x.ensures.fault in
     let p = err_from_is_err_and c.from_residual-in_err-body.result c.from_residual-in_err-body.ensures.1 in
     rw (p.1, p.2)
-        (fault-skip (sections_flaws none_seen d.items) (domain ∷ objects ∷ body) x.field-0.0 c.in_ok-check_sections.ensures.clean
-        (fault-skip domain (objects ∷ body) x.field-0.0 no_domain
-        (fault-skip objects body x.field-0.0 no_objects here)))
+    (fault-skip (sections_flaws none_seen d.items) (domain ∷ objects ∷ body) x.field-0.0 c.in_ok-check_sections.ensures.clean
+    (fault-skip domain (objects ∷ body) x.field-0.0 no_domain
+    (fault-skip objects body x.field-0.0 no_objects here)))
 
 pub returns-clause-sound : goal.returns-clause-sound
 returns-clause-sound c =
@@ -69,7 +69,7 @@ returns-clause-sound c =
     let no_domain : domain ≡ [] = ap (domain_flaws c.args.domain.now) (sym c.items_of.ensures) ∙ c.in_ok-check_domain.ensures.sound in
     let no_objects : objects ≡ [] = ap (typed_list_flaws Objects before.types before.objects) (sym c.items_of-2.ensures) ∙ c.in_ok-objects.ensures.sound in
     let after : known_value c.read_objects.new.known ≡ with_objects before (object_list d) =
-        c.in_ok-objects.ensures.known ∙ ap (with_objects before) c.items_of-2.ensures in
+    c.in_ok-objects.ensures.known ∙ ap (with_objects before) c.items_of-2.ensures in
     let here : listed_fault body ≡ None = ap (λ known. listed_fault (body_passes known d)) (sym after) ∙ c.in_ok-body.ensures.sound in
     listed-skip (sections_flaws none_seen d.items) (domain ∷ objects ∷ body) c.in_ok-check_sections.ensures.clean
     ∙ (listed-skip domain (objects ∷ body) no_domain ∙ (listed-skip objects body no_objects ∙ here))
@@ -79,13 +79,13 @@ returns-clause-read c =
     let d : Definition = definition_value c.args.definition.now in
     let before : Known = known_value c.args.known.now in
     let after : known_value c.read_objects.new.known ≡ with_objects before (object_list d) =
-        c.in_ok-objects.ensures.known ∙ ap (with_objects before) c.items_of-2.ensures in
+    c.in_ok-objects.ensures.known ∙ ap (with_objects before) c.items_of-2.ensures in
     let j = c.in_ok-joined.ensures in
     let b = c.in_ok-body.ensures in
     problem-parts (problem_value c.in_ok-joined.field-0) (problem_of before d)
-        j.name
-        (ap (λ (v : Vec Named Global). v.items) j.objects ∙ (c.in_ok-objects.ensures.read ∙ ap (λ list. objects_of before.types (typed_groups list)) c.items_of-2.ensures))
-        (ap (λ (v : Vec GroundAtom Global). map atom_value v.items) j.facts ∙ (b.facts ∙ ap (λ known. init_facts known (items_of (codes ":init") d.items)) after))
-        (ap (λ (v : Vec (Vec (Vec InitialLiteral Global) Global) Global). map entry_value v.items) j.entries ∙ (b.entries ∙ ap (λ known. init_entries known (items_of (codes ":init") d.items)) after))
-        (ap (option_map formula_value) j.goal ∙ (b.goal ∙ ap (λ known. goal_of known (items_of (codes ":goal") d.items)) after))
-        j.place
+    j.name
+    (ap (λ (v : Vec Named Global). v.items) j.objects ∙ (c.in_ok-objects.ensures.read ∙ ap (λ list. objects_of before.types (typed_groups list)) c.items_of-2.ensures))
+    (ap (λ (v : Vec GroundAtom Global). map atom_value v.items) j.facts ∙ (b.facts ∙ ap (λ known. init_facts known (items_of (codes ":init") d.items)) after))
+    (ap (λ (v : Vec (Vec (Vec InitialLiteral Global) Global) Global). map entry_value v.items) j.entries ∙ (b.entries ∙ ap (λ known. init_entries known (items_of (codes ":init") d.items)) after))
+    (ap (option_map formula_value) j.goal ∙ (b.goal ∙ ap (λ known. goal_of known (items_of (codes ":goal") d.items)) after))
+    j.place
