@@ -6,3 +6,4 @@ mod Orders
 mod Ordered
 mod Answered
 mod TownLemmas
+mod Fitting

@@ -2,9 +2,11 @@
 
 ghost use Rattle.std.specs.Prelude.{◌≡◌, ◌≤◌, length, None, Some, IfOk, OnOk, IfErr};
 ghost use Rattle.sexpr_text.specs.Flaws.{fault_of_passes};
+ghost use Rattle.sexpr_text.specs.Faults.{most_open};
 ghost use Rattle.sexpr_text.specs.Forest.{forest_of};
+ghost use Rattle.sexpr_text.specs.Formed.{nesting_of};
 ghost use Rattle.sexpr_text.specs.Passes.{IfFault};
-ghost use Rattle.pddl_ast.specs.Fits.{FitsDomain};
+ghost use Rattle.pddl_ast.specs.Fits.{FitsDomain, FitsProblem};
 ghost use Rattle.pddl_ast.specs.Values.{domain_value, problem_value};
 ghost use Rattle.pddl_problem.specs.Problems.{SpellsProblem, HasProblemFault, problem_in, problem_passes};
 ghost use Rattle.pddl_problem.specs.Problems as problems;
@@ -29,9 +31,11 @@ fn no_define() -> ReadErr
 /// The problem that forms read as, or the fault of their passes.
 fn read_in_forms(alloc: Global, forms: &[Form], domain: &Domain) -> Result<Problem, ReadErr>
     requires rising { Rises (forest_of forms.now) }
+    requires shallow { nesting_of (forest_of forms.now) ≤ most_open }
     requires domain { FitsDomain (domain_value domain.now) }
     ensures sound { OnOk result (fault_of_passes (problem_passes (domain_value domain.now) (forest_of forms.now)) ≡ None) }
     ensures read { IfOk result (λ p. problem_in (domain_value domain.now) (forest_of forms.now) ≡ Some (problem_value p)) }
+    ensures fits { IfOk result (λ p. FitsProblem (domain_value domain.now) (problem_value p)) }
     ensures fault { IfErr result (λ e. IfFault e (λ f.
         fault_of_passes (problem_passes (domain_value domain.now) (forest_of forms.now)) ≡ Some f)) }
 {
@@ -52,6 +56,7 @@ pub fn read_problem(alloc: Global, bytes: &[u8], domain: &Domain) -> Result<Prob
     requires length { length bytes.now ≤ MAX_BYTES }
     requires domain { FitsDomain (domain_value domain.now) }
     ensures problem { IfOk result (λ p. SpellsProblem bytes.now (domain_value domain.now) (problem_value p)) }
+    ensures fits { IfOk result (λ p. FitsProblem (domain_value domain.now) (problem_value p)) }
     ensures fault { IfErr result (λ e. IfFault e (λ f. HasProblemFault bytes.now (domain_value domain.now) f)) }
 {
     let forms = read_forms(alloc, bytes)?;
