@@ -1,5 +1,5 @@
 -- A problem whose passes list no flaw fits its domain.
-use Rattle.std.proofs.Common.{◌≡◌, ℕ, zero, suc, ◌+◌, ◌<◌, ◌≤◌, Bool, true, false, List, [], ◌∷◌, ◌++◌, length, map, ap, sym, refl, subst, ◌∙◌, arith, codes, Some, None}
+use Rattle.std.proofs.Common.{◌≡◌, ℕ, ◌+◌, ◌<◌, ◌≤◌, Bool, true, false, List, [], ◌∷◌, ◌++◌, length, ap, sym, refl, subst, ◌∙◌, arith, codes, Some, None}
 use Rattle.std.proofs.lemmas.List.{append-nil, map-append, length-map}
 use Rattle.std.proofs.lemmas.List.Elements.{All-nil, All-cons, All-append, All-head, All-tail}
 use Rattle.std.specs.Prelude.{All, Option, if◌then◌else◌, ◌&&◌, max, IfSome}
@@ -16,18 +16,17 @@ use Rattle.pddl_ast.specs.declared.keywords.Keyword.TheVariants.{And, Or, Not, I
 use Rattle.pddl_ast.specs.declared.trees.Named.{Named}
 use Rattle.pddl_ast.specs.declared.trees.Predicate.{Predicate}
 use Rattle.pddl_ast.specs.declared.typed_lists.Declares.TheVariants.{Objects}
-use Rattle.pddl_ast.specs.Atoms.{ground_atom, ground_atom_flaws}
+use Rattle.pddl_ast.specs.Atoms.{ground_atom}
 use Rattle.pddl_ast.specs.Depth.{formula_depth}
 use Rattle.pddl_ast.specs.Fits.{AreDistinct, AreObjects, FitsDomain, FitsEntry, FitsFormula, FitsGroundAtom, FitsLiterals, FitsProblem, IsKnown, deepest, known_in, known_with, names_of_objects}
-use Rattle.pddl_ast.specs.Formulas.{formula_flaws, formula_of}
 use Rattle.pddl_ast.specs.Known.{Known}
-use Rattle.pddl_ast.specs.Trees.{AtomTree, LiteralTree, DomainTree, FormulaTree}
-use Rattle.pddl_ast.specs.TypedLists.{all_seen, is_wanted, names_of, typed_groups, typed_list_flaws, types_of}
+use Rattle.pddl_ast.specs.Trees.{AtomTree, LiteralTree, DomainTree}
+use Rattle.pddl_ast.specs.TypedLists.{is_wanted, names_of, typed_groups, typed_list_flaws, types_of}
 use Rattle.pddl_ast.specs.Words.{keyword_of}
 use Rattle.pddl_ast.proofs.Fitting.{no_first, no_second, ground_atom-fits, types-within, types-length, where_false}
 use Rattle.pddl_ast.proofs.ListFitting.{names-fine, objects-seen}
 use Rattle.pddl_ast.proofs.TreeFitting.{formula-fits}
-use Rattle.pddl_problem.specs.Init.{AtomForm, atom_under, form_atom, form_flaws, under_flaws, under_atom, bad_form, left_out, positive, negative, part_flaws_by, part_flaws, part_literal_by, part_literal, alternative_flaws_by, alternative_flaws, alternative_by, alternative, entry_flaws_by, entry_flaws, facts_by, uncertain_by, entry_facts, entry_uncertain, either_way, each_entry, init_flaws, init_facts, init_entries}
+use Rattle.pddl_problem.specs.Init.{AtomForm, atom_under, form_atom, form_flaws, under_atom, bad_form, left_out, positive, negative, part_flaws_by, part_flaws, part_literal_by, part_literal, alternative_flaws_by, alternative_flaws, alternative_by, alternative, entry_flaws_by, entry_flaws, facts_by, uncertain_by, entry_facts, entry_uncertain, either_way, each_entry, init_flaws, init_facts, init_entries}
 use Rattle.pddl_problem.specs.Listed.{listed_fault}
 use Rattle.pddl_problem.specs.Problems.{Definition, definition_in, defined, title, named, objects_of, object_list, with_objects, goal_flaws, goal_of, body_passes, definition_passes, problem_of, domain_flaws, missing_flaws}
 use Rattle.pddl_problem.specs.Sections.{none_seen, sections_flaws, section, items_of}
@@ -71,7 +70,8 @@ same-known d list =
 known-fits : (d : DomainTree) (objects : List Named) → FitsDomain d → IsKnown (known_with d objects)
 known-fits d objects h = record {
   some_type = h.some_type;
-  arities = length-map d.predicates (λ (p : Predicate). p.arity) ∙ sym (length-map d.predicates (λ (p : Predicate). p.name)) }
+  arities = length-map d.predicates (λ (p : Predicate). p.arity) ∙ sym (length-map d.predicates (λ (p : Predicate). p.name));
+}
 
 -- atoms, parts, alternatives and entries
 under-fits : (known : Known) (span : Span) → IsKnown known → (o : Option AtomForm) → option_map_or (form_flaws known) o (bad_form span) ≡ []
@@ -149,9 +149,11 @@ one_entry : (known : Known) (entry : List (List LiteralTree)) → FitsEntry know
 one_entry known entry h = All-cons (FitsEntry known) entry [] h (All-nil (FitsEntry known))
 
 either_way-fits : (known : Known) (a : AtomTree) → FitsGroundAtom known a → FitsEntry known (either_way a)
-either_way-fits known a h =
-    (grind arith, All-cons (FitsLiterals known) (positive a ∷ []) ((negative a ∷ []) ∷ []) (one_literal known (positive a) h)
-    (All-cons (FitsLiterals known) (negative a ∷ []) [] (one_literal known (negative a) h) (All-nil (FitsLiterals known))))
+either_way-fits known a h = (
+  grind arith,
+  All-cons (FitsLiterals known) (positive a ∷ []) ((negative a ∷ []) ∷ []) (one_literal known (positive a) h)
+      (All-cons (FitsLiterals known) (negative a ∷ []) [] (one_literal known (negative a) h) (All-nil (FitsLiterals known))),
+)
 
 uncertain_by-fits : (known : Known) (span s : Span) (w : List ℕ) (rest : Forest) (keyword : Keyword) → IsKnown known → entry_flaws_by known span s w rest keyword ≡ []
     → All (FitsEntry known) (uncertain_by known rest keyword)

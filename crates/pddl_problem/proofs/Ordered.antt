@@ -2,9 +2,8 @@
 use Rattle.std.proofs.Common.{◌≡◌, ℕ, ◌+◌, ◌-◌, ◌<◌, ◌≤◌, Bool, true, false, List, [], ◌∷◌, ap, sym, refl, subst, ◌∙◌, arith, codes, Some, None}
 use Rattle.std.specs.Prelude.{Option, if◌then◌else◌}
 use Rattle.std.specs.Option.{option_and_then, option_map, option_map_or, unwrap_or}
-use Rattle.std.specs.Str.{bytes_eq}
 use Rattle.sexpr_text.specs.declared.forms.Span.{Span}
-use Rattle.sexpr_text.specs.Flaws.{Flaw, IsInOrder, first_listed, fault_of_passes}
+use Rattle.sexpr_text.specs.Flaws.{Flaw, IsInOrder, fault_of_passes}
 use Rattle.sexpr_text.specs.Forest.{Forest, nothing, word, group}
 use Rattle.sexpr_text.specs.Formed.{IsRising}
 use Rattle.sexpr_text.specs.Parts.{first_group_with, is_definition, begins_with, after_first, after_word}
@@ -13,13 +12,11 @@ use Rattle.pddl_ast.specs.declared.typed_lists.Declares.TheVariants.{Objects}
 use Rattle.pddl_ast.specs.Fits.{known_in}
 use Rattle.pddl_ast.specs.Known.{Known}
 use Rattle.pddl_ast.specs.Trees.{DomainTree}
-use Rattle.pddl_ast.specs.TypedLists.{typed_list_flaws}
 use Rattle.pddl_ast.proofs.Orders.{names-in_order}
 use Rattle.pddl_problem.specs.Listed.{listed_fault}
-use Rattle.pddl_problem.specs.Problems.{Definition, definition_in, defined, title, domain_flaws, goal_flaws, missing_flaws, object_list, with_objects, body_passes, definition_passes, problem_passes, no_define}
+use Rattle.pddl_problem.specs.Problems.{Definition, definition_in, defined, title, object_list, with_objects, definition_passes, problem_passes, no_define}
 use Rattle.pddl_problem.specs.Rising.{Rises}
-use Rattle.pddl_problem.specs.Sections.{none_seen, sections_flaws, section, items_of}
-use Rattle.pddl_problem.specs.Init.{init_flaws}
+use Rattle.pddl_problem.specs.Sections.{none_seen, section, items_of}
 use Rattle.pddl_problem.proofs.Orders.{sections-in_order, domain-in_order, init-in_order, goal_formula-in_order, missing-in_order}
 
 -- the parts of a list that stands among such forms, with its span

@@ -1,16 +1,16 @@
 -- The flaws of each pass stand in the order of the text.
-use Rattle.std.proofs.Common.{◌≡◌, ℕ, suc, ◌+◌, ◌-◌, ◌<◌, ◌≤◌, Bool, true, false, List, [], ◌∷◌, ◌++◌, ap, sym, refl, subst, ◌∙◌, arith, codes, Some, None}
+use Rattle.std.proofs.Common.{ℕ, suc, ◌+◌, ◌-◌, ◌<◌, ◌≤◌, Bool, true, false, List, [], ◌∷◌, ◌++◌, arith, codes, Some, None}
 use Rattle.std.specs.Prelude.{Option, if◌then◌else◌, not, ◌||◌}
 use Rattle.std.specs.Option.{option_map_or, is_some}
 use Rattle.std.specs.Str.{bytes_eq}
 use Rattle.sexpr_text.specs.declared.faults.FaultKind.{FaultKind}
 use Rattle.sexpr_text.specs.declared.faults.FaultKind.TheVariants.{BadForm, GoalTwice, LeftOut, EmptyOneof, OtherDomain, GoalMissing}
 use Rattle.sexpr_text.specs.declared.forms.Span.{Span}
-use Rattle.sexpr_text.specs.Flaws.{Flaw, flaw_at, IsInOrder, first_listed, fault_of_passes}
+use Rattle.sexpr_text.specs.Flaws.{Flaw, flaw_at, IsInOrder}
 use Rattle.sexpr_text.specs.Forest.{Forest, nothing, word, group}
 use Rattle.sexpr_text.specs.Formed.{IsRising}
 use Rattle.sexpr_text.specs.Ordered.{AreGroupFlaws}
-use Rattle.sexpr_text.specs.Parts.{is_nothing, flaws_of_groups, first_group_with, begins_with}
+use Rattle.sexpr_text.specs.Parts.{is_nothing, flaws_of_groups}
 use Rattle.sexpr_text.proofs.FlawLaws.{in_order-from, in_order-up_to, in_order-append}
 use Rattle.sexpr_text.proofs.GroupLaws.{rising-bounds, groups-in_order}
 use Rattle.pddl_ast.specs.declared.keywords.Keyword.{Keyword}
@@ -22,7 +22,7 @@ use Rattle.pddl_problem.specs.declared.sections.Heading.{Heading}
 use Rattle.pddl_problem.specs.declared.sections.Heading.TheVariants.{Domain, Objects, Init, Goal, PassedOver, Other as OtherHeading}
 use Rattle.pddl_problem.specs.declared.sections.Seen.{Seen}
 use Rattle.pddl_problem.specs.Sections.{heading_of, is_one, is_one_name, flaw_if, section_flaws, list_flaws, saw_list, sections_flaws}
-use Rattle.pddl_problem.specs.Init.{AtomForm, atom_form, atom_under, form_flaws, under_flaws, bad_form, left_out, part_flaws_by, part_flaws, alternative_flaws_by, alternative_flaws, entry_flaws_by, entry_flaws, each_entry, init_flaws}
+use Rattle.pddl_problem.specs.Init.{atom_form, atom_under, form_flaws, under_flaws, bad_form, left_out, part_flaws_by, part_flaws, alternative_flaws_by, alternative_flaws, entry_flaws_by, entry_flaws, init_flaws}
 use Rattle.pddl_problem.specs.Problems.{domain_flaws, goal_flaws, missing_flaws}
 use Rattle.pddl_ast.specs.Formulas.{formula_flaws}
 use Rattle.pddl_ast.proofs.Orders.{ground_atom-in_order}

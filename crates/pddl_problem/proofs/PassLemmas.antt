@@ -1,5 +1,5 @@
 -- The passes over a definition, one after the other.
-use Rattle.std.proofs.Common.{◌≡◌, ℕ, List, [], ◌∷◌, ap, refl, ◌∙◌, Some, None}
+use Rattle.std.proofs.Common.{◌≡◌, List, [], ◌∷◌, ap, ◌∙◌, Some}
 use Rattle.std.specs.Prelude.{Option}
 use Rattle.sexpr_text.specs.declared.faults.InputFault.{InputFault}
 use Rattle.sexpr_text.specs.declared.faults.ReadErr.{ReadErr}

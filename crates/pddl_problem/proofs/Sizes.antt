@@ -1,5 +1,5 @@
 -- How many forms there are in a forest, those in lists too.
-use Rattle.std.proofs.Common.{◌≡◌, ℕ, suc, zero, ◌+◌, ◌<◌, ◌≤◌, List, [], ◌∷◌, drop, ap, sym, ◌∙◌, refl, arith}
+use Rattle.std.proofs.Common.{◌≡◌, ℕ, suc, zero, ◌+◌, ◌≤◌, List, [], ◌∷◌, drop, ap, arith}
 use Rattle.sexpr_text.specs.declared.forms.Form.{Form}
 use Rattle.sexpr_text.specs.Forest.{Forest, nothing, word, group, join, form_then, forest_of}
 use Rattle.sexpr_text.proofs.Forests.{form_then-join}

@@ -7,7 +7,7 @@ use Rattle.pddl_ast.specs.declared.trees.Named.{Named}
 use Rattle.pddl_ast.specs.declared.trees.Predicate.{Predicate}
 use Rattle.pddl_ast.specs.Fits.{FitsDomain, FitsSchema, ancestor, known_in}
 use Rattle.pddl_ast.specs.Trees.{DomainTree, SchemaTree}
-use Rattle.pddl_ast.specs.Words.{is_dash, is_reserved, keyword_of, is_plain}
+use Rattle.pddl_ast.specs.Words.{is_dash, is_reserved, keyword_of}
 
 abbrev pub town_types : List (List ℕ)
 town_types = codes "object" ∷ codes "place" ∷ []

@@ -1,6 +1,7 @@
 //! The initial situation of a problem.
 
-ghost use Rattle.std.specs.Prelude.{◌≡◌, [], ◌∷◌, ◌++◌, map, IfOk, OnOk, IfErr, Some, if◌then◌else◌};
+ghost use Rattle.std.specs.Prelude.{◌≡◌, [], ◌∷◌, ◌++◌, map, IfOk, OnOk, IfErr, Some};
+ghost use Rattle.std.specs.Prelude.{if◌then◌else◌};
 ghost use Rattle.std.specs.Option.{option_map, is_some};
 ghost use Rattle.sexpr_text.specs.Flaws.{first_listed};
 ghost use Rattle.sexpr_text.specs.Forest.{forest_of};
@@ -26,7 +27,8 @@ pub(crate) struct Initial {
     pub(crate) entries: Vec<Vec<Vec<InitialLiteral>>>,
 }
 
-/// A list that may be an atom: its span, the span of the word at its head, that word, and what follows.
+/// A list that may be an atom: its span, the span of the word at its head, that word, and what
+/// follows it.
 #[derive(Clone, Copy)]
 pub(crate) struct AtomParts<'a> {
     span: Span,
@@ -67,10 +69,13 @@ fn read_under(
     span: Span,
     rest: &[Form],
 ) -> Result<GroundAtom, ReadErr>
-    ensures sound { OnOk result (init.under_flaws (known_value known.now) span (forest_of rest.now) ≡ []) }
-    ensures read { IfOk result (λ a. atom_value a ≡ init.under_atom (known_value known.now) (forest_of rest.now)) }
+    ensures sound { OnOk result (init.under_flaws (known_value known.now) span
+        (forest_of rest.now) ≡ []) }
+    ensures read { IfOk result (λ a. atom_value a
+        ≡ init.under_atom (known_value known.now) (forest_of rest.now)) }
     ensures fault { IfErr result (λ e. IfFault e (λ f.
-        first_listed (init.under_flaws (known_value known.now) span (forest_of rest.now)) ≡ Some f)) }
+        first_listed (init.under_flaws (known_value known.now) span (forest_of rest.now))
+        ≡ Some f)) }
 {
     let Some(atom) = atom_under(rest) else {
         return Err(fault_at(span, FaultKind::BadForm));
@@ -105,10 +110,15 @@ fn read_literal(
     head: &Text,
     rest: &[Form],
 ) -> Result<InitialLiteral, ReadErr>
-    ensures sound { OnOk result (init.part_flaws_by (known_value known.now) span head_span head.now (forest_of rest.now) (words.keyword_of head.now) ≡ []) }
-    ensures read { IfOk result (λ l. literal_value l ≡ init.part_literal_by (known_value known.now) head.now (forest_of rest.now) (words.keyword_of head.now)) }
+    ensures sound { OnOk result (init.part_flaws_by
+        (known_value known.now) span head_span head.now (forest_of rest.now)
+        (words.keyword_of head.now) ≡ []) }
+    ensures read { IfOk result (λ l. literal_value l
+        ≡ init.part_literal_by (known_value known.now) head.now (forest_of rest.now)
+        (words.keyword_of head.now)) }
     ensures fault { IfErr result (λ e. IfFault e (λ f.
-        first_listed (init.part_flaws_by (known_value known.now) span head_span head.now (forest_of rest.now) (words.keyword_of head.now)) ≡ Some f)) }
+        first_listed (init.part_flaws_by (known_value known.now) span head_span head.now
+        (forest_of rest.now) (words.keyword_of head.now)) ≡ Some f)) }
 {
     match keyword_of(head) {
         Keyword::Other => {
@@ -138,10 +148,13 @@ fn read_part(
     span: Span,
     parts: &[Form],
 ) -> Result<InitialLiteral, ReadErr>
-    ensures sound { OnOk result (init.part_flaws (known_value known.now) span (forest_of parts.now) ≡ []) }
-    ensures read { IfOk result (λ l. literal_value l ≡ init.part_literal (known_value known.now) (forest_of parts.now)) }
+    ensures sound { OnOk result (init.part_flaws (known_value known.now) span
+        (forest_of parts.now) ≡ []) }
+    ensures read { IfOk result (λ l. literal_value l
+        ≡ init.part_literal (known_value known.now) (forest_of parts.now)) }
     ensures fault { IfErr result (λ e. IfFault e (λ f.
-        first_listed (init.part_flaws (known_value known.now) span (forest_of parts.now)) ≡ Some f)) }
+        first_listed (init.part_flaws (known_value known.now) span (forest_of parts.now))
+        ≡ Some f)) }
 {
     let Head::Word(head_span, head, rest) = head_of(parts) else {
         return Err(fault_at(span, FaultKind::BadForm));
@@ -151,10 +164,13 @@ fn read_part(
 
 /// The literals of an alternative's parts.
 fn read_parts(alloc: Global, known: &Known, row: &[Form]) -> Result<Vec<InitialLiteral>, ReadErr>
-    ensures sound { OnOk result (parts.flaws_of_groups (init.part_flaws (known_value known.now)) (forest_of row.now) ≡ []) }
-    ensures read { IfOk result (λ v. map literal_value v.items ≡ parts.each_group (init.part_literal (known_value known.now)) (forest_of row.now)) }
+    ensures sound { OnOk result (parts.flaws_of_groups (init.part_flaws (known_value known.now))
+        (forest_of row.now) ≡ []) }
+    ensures read { IfOk result (λ v. map literal_value v.items
+        ≡ parts.each_group (init.part_literal (known_value known.now)) (forest_of row.now)) }
     ensures fault { IfErr result (λ e. IfFault e (λ f.
-        first_listed (parts.flaws_of_groups (init.part_flaws (known_value known.now)) (forest_of row.now)) ≡ Some f)) }
+        first_listed (parts.flaws_of_groups (init.part_flaws (known_value known.now))
+        (forest_of row.now)) ≡ Some f)) }
 {
     let mut literals = Vec::new(alloc);
     for form in row {
@@ -173,10 +189,13 @@ fn read_alternative(
     span: Span,
     parts: &[Form],
 ) -> Result<Vec<InitialLiteral>, ReadErr>
-    ensures sound { OnOk result (init.alternative_flaws (known_value known.now) span (forest_of parts.now) ≡ []) }
-    ensures read { IfOk result (λ v. values.alternative_value v ≡ init.alternative (known_value known.now) (forest_of parts.now)) }
+    ensures sound { OnOk result (init.alternative_flaws (known_value known.now) span
+        (forest_of parts.now) ≡ []) }
+    ensures read { IfOk result (λ v. values.alternative_value v
+        ≡ init.alternative (known_value known.now) (forest_of parts.now)) }
     ensures fault { IfErr result (λ e. IfFault e (λ f.
-        first_listed (init.alternative_flaws (known_value known.now) span (forest_of parts.now)) ≡ Some f)) }
+        first_listed (init.alternative_flaws (known_value known.now) span (forest_of parts.now))
+        ≡ Some f)) }
 {
     match head_of(parts) {
         Head::Nothing => Ok(Vec::new(alloc)),
@@ -199,10 +218,13 @@ fn read_alternatives(
     known: &Known,
     row: &[Form],
 ) -> Result<Vec<Vec<InitialLiteral>>, ReadErr>
-    ensures sound { OnOk result (parts.flaws_of_groups (init.alternative_flaws (known_value known.now)) (forest_of row.now) ≡ []) }
-    ensures read { IfOk result (λ v. values.entry_value v ≡ parts.each_group (init.alternative (known_value known.now)) (forest_of row.now)) }
+    ensures sound { OnOk result (parts.flaws_of_groups (init.alternative_flaws
+        (known_value known.now)) (forest_of row.now) ≡ []) }
+    ensures read { IfOk result (λ v. values.entry_value v
+        ≡ parts.each_group (init.alternative (known_value known.now)) (forest_of row.now)) }
     ensures fault { IfErr result (λ e. IfFault e (λ f.
-        first_listed (parts.flaws_of_groups (init.alternative_flaws (known_value known.now)) (forest_of row.now)) ≡ Some f)) }
+        first_listed (parts.flaws_of_groups (init.alternative_flaws (known_value known.now))
+        (forest_of row.now)) ≡ Some f)) }
 {
     let mut alternatives = Vec::new(alloc);
     for form in row {
@@ -263,7 +285,8 @@ fn either_way(alloc: Global, atom: GroundAtom) -> Result<Vec<Vec<InitialLiteral>
 impl Initial {
     /// Adds a fact after the others.
     fn add_fact(&mut self, atom: GroundAtom) -> Result<(), AllocError>
-        ensures facts { OnOk result (values.facts_in self.new ≡ values.facts_in self.old ++ atom_value atom ∷ []) }
+        ensures facts { OnOk result (values.facts_in self.new ≡ values.facts_in self.old
+            ++ atom_value atom ∷ []) }
         ensures entries { values.entries_in self.new ≡ values.entries_in self.old }
     {
         self.facts.push(atom)?;
@@ -272,7 +295,8 @@ impl Initial {
 
     /// Adds an uncertain entry after the others.
     fn add_entry(&mut self, alternatives: Vec<Vec<InitialLiteral>>) -> Result<(), AllocError>
-        ensures entries { OnOk result (values.entries_in self.new ≡ values.entries_in self.old ++ values.entry_value alternatives ∷ []) }
+        ensures entries { OnOk result (values.entries_in self.new ≡ values.entries_in self.old
+            ++ values.entry_value alternatives ∷ []) }
         ensures facts { values.facts_in self.new ≡ values.facts_in self.old }
     {
         self.entries.push(alternatives)?;
@@ -290,13 +314,18 @@ fn read_entry(
     rest: &[Form],
     initial: &mut Initial,
 ) -> Result<(), ReadErr>
-    ensures sound { OnOk result (init.entry_flaws_by (known_value known.now) span head_span head.now (forest_of rest.now) (words.keyword_of head.now) ≡ []) }
+    ensures sound { OnOk result (init.entry_flaws_by
+        (known_value known.now) span head_span head.now (forest_of rest.now)
+        (words.keyword_of head.now) ≡ []) }
     ensures facts { OnOk result (values.facts_in initial.new
-        ≡ values.facts_in initial.old ++ init.facts_by (known_value known.now) head.now (forest_of rest.now) (words.keyword_of head.now)) }
+        ≡ values.facts_in initial.old ++ init.facts_by (known_value known.now) head.now
+        (forest_of rest.now) (words.keyword_of head.now)) }
     ensures entries { OnOk result (values.entries_in initial.new
-        ≡ values.entries_in initial.old ++ init.uncertain_by (known_value known.now) (forest_of rest.now) (words.keyword_of head.now)) }
+        ≡ values.entries_in initial.old ++ init.uncertain_by (known_value known.now)
+        (forest_of rest.now) (words.keyword_of head.now)) }
     ensures fault { IfErr result (λ e. IfFault e (λ f.
-        first_listed (init.entry_flaws_by (known_value known.now) span head_span head.now (forest_of rest.now) (words.keyword_of head.now)) ≡ Some f)) }
+        first_listed (init.entry_flaws_by (known_value known.now) span head_span head.now
+        (forest_of rest.now) (words.keyword_of head.now)) ≡ Some f)) }
 {
     match keyword_of(head) {
         Keyword::Other => {
@@ -334,9 +363,11 @@ pub(crate) fn read_entries(
 ) -> Result<(), ReadErr>
     ensures sound { OnOk result (init.init_flaws (known_value known.now) (forest_of row.now) ≡ []) }
     ensures facts { OnOk result (values.facts_in initial.new
-        ≡ values.facts_in initial.old ++ init.init_facts (known_value known.now) (forest_of row.now)) }
+        ≡ values.facts_in initial.old ++ init.init_facts (known_value known.now)
+        (forest_of row.now)) }
     ensures entries { OnOk result (values.entries_in initial.new
-        ≡ values.entries_in initial.old ++ init.init_entries (known_value known.now) (forest_of row.now)) }
+        ≡ values.entries_in initial.old ++ init.init_entries (known_value known.now)
+        (forest_of row.now)) }
     ensures fault { IfErr result (λ e. IfFault e (λ f.
         first_listed (init.init_flaws (known_value known.now) (forest_of row.now)) ≡ Some f)) }
 {

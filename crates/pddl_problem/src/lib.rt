@@ -1,4 +1,11 @@
-//! Planning problems in the planning domain definition language, read exactly relative to a domain.
+//! Planning problems in the planning domain definition language, with `oneof` and `unknown` in the
+//! initial situation, read exactly relative to a domain.
+//!
+//! A text is read in passes: the list that defines a problem, its sections, the domain's name, the
+//! objects, the initial situation, the goal, and whether there is a goal. `specs/Problems.antt` has
+//! the passes, each as the list of everything that is wrong by its rules, and what they read;
+//! `specs/Sections.antt` and `specs/Init.antt` have the rules of sections and of the initial
+//! situation.
 #![tactic(auto)]
 
 mod definitions;

@@ -56,12 +56,16 @@ pub(crate) fn read_objects(
     known: &mut Known,
     list: &[Form],
 ) -> Result<Vec<Named>, ReadErr>
-    ensures sound { OnOk result (lists.typed_list_flaws Declares.Objects (known_value known.old).types (known_value known.old).objects (forest_of list.now) ≡ []) }
+    ensures sound { OnOk result (lists.typed_list_flaws Declares.Objects
+        (known_value known.old).types (known_value known.old).objects (forest_of list.now) ≡ []) }
     ensures read { IfOk result (λ objects. objects.items
-        ≡ problems.objects_of (known_value known.old).types (lists.typed_groups (forest_of list.now))) }
-    ensures known { OnOk result (known_value known.new ≡ problems.with_objects (known_value known.old) (forest_of list.now)) }
+        ≡ problems.objects_of (known_value known.old).types (lists.typed_groups
+        (forest_of list.now))) }
+    ensures known { OnOk result (known_value known.new
+        ≡ problems.with_objects (known_value known.old) (forest_of list.now)) }
     ensures fault { IfErr result (λ e. IfFault e (λ f.
-        first_listed (lists.typed_list_flaws Declares.Objects (known_value known.old).types (known_value known.old).objects (forest_of list.now)) ≡ Some f)) }
+        first_listed (lists.typed_list_flaws Declares.Objects (known_value known.old).types
+        (known_value known.old).objects (forest_of list.now)) ≡ Some f)) }
 {
     let groups = read_typed_list(
         alloc,

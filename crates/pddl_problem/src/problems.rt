@@ -41,8 +41,10 @@ fn check_domain(domain: &Text, row: &[Form]) -> Result<(), ReadErr>
 
 /// The goal: a formula without free variables.
 fn read_goal(alloc: Global, known: &Known, row: &[Form]) -> Result<Option<Formula>, ReadErr>
-    ensures sound { OnOk result (problems.goal_flaws (known_value known.now) (forest_of row.now) ≡ []) }
-    ensures read { IfOk result (λ goal. option_map formula_value goal ≡ problems.goal_of (known_value known.now) (forest_of row.now)) }
+    ensures sound { OnOk result (problems.goal_flaws (known_value known.now) (forest_of row.now)
+        ≡ []) }
+    ensures read { IfOk result (λ goal. option_map formula_value goal
+        ≡ problems.goal_of (known_value known.now) (forest_of row.now)) }
     ensures fault { IfErr result (λ e. IfFault e (λ f.
         first_listed (problems.goal_flaws (known_value known.now) (forest_of row.now)) ≡ Some f)) }
 {
@@ -59,9 +61,11 @@ fn read_goal(alloc: Global, known: &Known, row: &[Form]) -> Result<Option<Formul
 
 /// Whether there is a goal.
 fn check_goal(span: Span, goal: Option<&[Form]>) -> Result<(), ReadErr>
-    ensures sound { OnOk result (problems.missing_flaws span (option_map (λ row. forest_of row.now) goal.entry) ≡ []) }
+    ensures sound { OnOk result (problems.missing_flaws span (option_map
+        (λ row. forest_of row.now) goal.entry) ≡ []) }
     ensures fault { IfErr result (λ e. IfFault e (λ f.
-        first_listed (problems.missing_flaws span (option_map (λ row. forest_of row.now) goal.entry)) ≡ Some f)) }
+        first_listed (problems.missing_flaws span (option_map
+        (λ row. forest_of row.now) goal.entry)) ≡ Some f)) }
 {
     match goal {
         Some(_) => Ok(()),
@@ -72,8 +76,10 @@ fn check_goal(span: Span, goal: Option<&[Form]>) -> Result<(), ReadErr>
 /// The facts and the uncertain entries of `:init`.
 fn read_initial(alloc: Global, known: &Known, row: &[Form]) -> Result<Initial, ReadErr>
     ensures sound { OnOk result (init.init_flaws (known_value known.now) (forest_of row.now) ≡ []) }
-    ensures facts { IfOk result (λ i. facts_in i ≡ init.init_facts (known_value known.now) (forest_of row.now)) }
-    ensures entries { IfOk result (λ i. entries_in i ≡ init.init_entries (known_value known.now) (forest_of row.now)) }
+    ensures facts { IfOk result (λ i. facts_in i
+        ≡ init.init_facts (known_value known.now) (forest_of row.now)) }
+    ensures entries { IfOk result (λ i. entries_in i
+        ≡ init.init_entries (known_value known.now) (forest_of row.now)) }
     ensures fault { IfErr result (λ e. IfFault e (λ f.
         first_listed (init.init_flaws (known_value known.now) (forest_of row.now)) ≡ Some f)) }
 {
@@ -94,15 +100,20 @@ struct Body {
 
 /// The initial situation and the goal of a definition.
 fn read_body(alloc: Global, known: &Known, definition: &Definition) -> Result<Body, ReadErr>
-    ensures sound { OnOk result (listed_fault (problems.body_passes (known_value known.now) (definition_value definition.now)) ≡ None) }
+    ensures sound { OnOk result (listed_fault (problems.body_passes (known_value known.now)
+        (definition_value definition.now)) ≡ None) }
     ensures facts { IfOk result (λ b. facts_in b.initial
-        ≡ init.init_facts (known_value known.now) (sections.items_of (codes ":init") (forest_of definition.now.items.now))) }
+        ≡ init.init_facts (known_value known.now) (sections.items_of (codes ":init")
+        (forest_of definition.now.items.now))) }
     ensures entries { IfOk result (λ b. entries_in b.initial
-        ≡ init.init_entries (known_value known.now) (sections.items_of (codes ":init") (forest_of definition.now.items.now))) }
+        ≡ init.init_entries (known_value known.now) (sections.items_of (codes ":init")
+        (forest_of definition.now.items.now))) }
     ensures goal { IfOk result (λ b. option_map formula_value b.goal
-        ≡ problems.goal_of (known_value known.now) (sections.items_of (codes ":goal") (forest_of definition.now.items.now))) }
+        ≡ problems.goal_of (known_value known.now) (sections.items_of (codes ":goal")
+        (forest_of definition.now.items.now))) }
     ensures fault { IfErr result (λ e. IfFault e (λ f.
-        listed_fault (problems.body_passes (known_value known.now) (definition_value definition.now)) ≡ Some f)) }
+        listed_fault (problems.body_passes (known_value known.now)
+        (definition_value definition.now)) ≡ Some f)) }
 {
     let initial = read_initial(alloc, known, items_of(definition.items, b":init"))?;
     let goal = read_goal(alloc, known, items_of(definition.items, b":goal"))?;
@@ -134,18 +145,21 @@ fn joined(
     })
 }
 
-/// The problem that a definition reads as, where these names of the domain are known, or the first flaw
-/// of the first pass that has one.
+/// The problem that a definition reads as, where these names of the domain are known, or the first
+/// flaw of the first pass that has one.
 pub(crate) fn read_definition(
     alloc: Global,
     domain: &Text,
     known: &mut Known,
     definition: &Definition,
 ) -> Result<Problem, ReadErr>
-    ensures sound { OnOk result (listed_fault (problems.definition_passes domain.now (known_value known.old) (definition_value definition.now)) ≡ None) }
-    ensures read { IfOk result (λ p. problem_value p ≡ problems.problem_of (known_value known.old) (definition_value definition.now)) }
+    ensures sound { OnOk result (listed_fault (problems.definition_passes domain.now
+        (known_value known.old) (definition_value definition.now)) ≡ None) }
+    ensures read { IfOk result (λ p. problem_value p
+        ≡ problems.problem_of (known_value known.old) (definition_value definition.now)) }
     ensures fault { IfErr result (λ e. IfFault e (λ f.
-        listed_fault (problems.definition_passes domain.now (known_value known.old) (definition_value definition.now)) ≡ Some f)) }
+        listed_fault (problems.definition_passes domain.now (known_value known.old)
+        (definition_value definition.now)) ≡ Some f)) }
 {
     check_sections(alloc, definition.items)?;
     check_domain(domain, items_of(definition.items, b":domain"))?;

@@ -82,8 +82,11 @@ fn check_heading(
     head: &Text,
     rest: &[Form],
 ) -> Result<(), ReadErr>
-    ensures clean { OnOk result (sections.section_flaws seen span (sections.heading_of head.now) head.now (forest_of rest.now) ≡ []) }
-    ensures fault { IfErr result (λ e. IfFault e (λ f. first_listed (sections.section_flaws seen span (sections.heading_of head.now) head.now (forest_of rest.now)) ≡ Some f)) }
+    ensures clean { OnOk result (sections.section_flaws seen span
+        (sections.heading_of head.now) head.now (forest_of rest.now) ≡ []) }
+    ensures fault { IfErr result (λ e. IfFault e (λ f. first_listed
+        (sections.section_flaws seen span (sections.heading_of head.now) head.now
+        (forest_of rest.now)) ≡ Some f)) }
 {
     match heading_of(head) {
         Heading::Domain if seen.domain || !is_one_name(rest) => {
@@ -121,7 +124,8 @@ fn saw(seen: Seen, heading: Heading) -> Seen
 fn check_list(alloc: Global, seen: Seen, span: Span, parts: &[Form]) -> Result<Seen, ReadErr>
     ensures clean { OnOk result (sections.list_flaws seen span (forest_of parts.now) ≡ []) }
     ensures seen { IfOk result (λ now. now ≡ sections.saw_list seen (forest_of parts.now)) }
-    ensures fault { IfErr result (λ e. IfFault e (λ f. first_listed (sections.list_flaws seen span (forest_of parts.now)) ≡ Some f)) }
+    ensures fault { IfErr result (λ e. IfFault e (λ f. first_listed (sections.list_flaws seen span
+        (forest_of parts.now)) ≡ Some f)) }
 {
     let Head::Word(_, head, rest) = head_of(parts) else {
         return Err(fault_at(span, FaultKind::BadForm));
@@ -132,8 +136,10 @@ fn check_list(alloc: Global, seen: Seen, span: Span, parts: &[Form]) -> Result<S
 
 /// Whether these items are right as sections of a problem.
 pub(crate) fn check_sections(alloc: Global, items: &[Form]) -> Result<(), ReadErr>
-    ensures clean { OnOk result (sections.sections_flaws sections.none_seen (forest_of items.now) ≡ []) }
-    ensures fault { IfErr result (λ e. IfFault e (λ f. first_listed (sections.sections_flaws sections.none_seen (forest_of items.now)) ≡ Some f)) }
+    ensures clean { OnOk result (sections.sections_flaws sections.none_seen
+        (forest_of items.now) ≡ []) }
+    ensures fault { IfErr result (λ e. IfFault e (λ f. first_listed
+        (sections.sections_flaws sections.none_seen (forest_of items.now)) ≡ Some f)) }
 {
     let mut seen = Seen {
         domain: false,
@@ -152,7 +158,8 @@ pub(crate) fn check_sections(alloc: Global, items: &[Form]) -> Result<(), ReadEr
 
 /// The items of the first section with this word at its head.
 pub(crate) fn section<'a>(items: &'a [Form], head: &[u8]) -> Option<&'a [Form]>
-    ensures { option_map (λ rest. forest_of rest.now) result ≡ sections.section head.now (forest_of items.now) }
+    ensures { option_map (λ rest. forest_of rest.now) result
+        ≡ sections.section head.now (forest_of items.now) }
 {
     let (_, parts) = first_group(items, head)?;
     after_word(parts, head)

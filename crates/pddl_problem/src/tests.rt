@@ -1,5 +1,5 @@
-//! What the reader answers to texts with known answers. The expected answers are written by hand from the
-//! rules of problem files.
+//! What the reader answers to texts with known answers. The expected answers are written by hand
+//! from the rules of problem files.
 
 ghost use Rattle.std.specs.Prelude.{◌≡◌, [], ◌∷◌, codes, IfOk};
 ghost use Rattle.pddl_ast.specs.Fits.{FitsDomain};
@@ -57,7 +57,8 @@ fn constants(alloc: Global) -> Result<Vec<Named>, AllocError>
 // The predicates `(p)`, `(at ?x)` and `(road ?x ?y)`.
 fn predicates(alloc: Global) -> Result<Vec<Predicate>, AllocError>
     ensures { IfOk result (λ v. v.items ≡ record { name = codes "p"; arity = 0 }
-        ∷ record { name = codes "at"; arity = 1 } ∷ record { name = codes "road"; arity = 2 } ∷ []) }
+        ∷ record { name = codes "at"; arity = 1 }
+        ∷ record { name = codes "road"; arity = 2 } ∷ []) }
 {
     let mut predicates = Vec::new(alloc);
     predicates.push(predicate(alloc, b"p", 0)?)?;

@@ -1,6 +1,6 @@
-use Rattle.std.proofs.Common.{◌≡◌, [], ◌+◌, ◌≤◌, ◌<◌, drop, ap, sym, ◌∙◌, arith}
+use Rattle.std.proofs.Common.{◌≡◌, [], ◌+◌, ◌≤◌, drop, ap, ◌∙◌, arith}
 use Rattle.std.proofs.lemmas.Result.{err_from_is_err_and}
-use Rattle.sexpr_text.specs.Forest.{Forest, word, group, forest_of}
+use Rattle.sexpr_text.specs.Forest.{word, group, forest_of}
 use Rattle.pddl_ast.specs.Environment.{known_value}
 use Rattle.pddl_problem.specs.Init.{init_flaws, init_facts, init_entries, bad_form, entry_flaws, entry_facts, entry_uncertain}
 use Rattle.pddl_problem.specs.Values.{facts_in, entries_in}

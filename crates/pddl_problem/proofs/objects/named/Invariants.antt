@@ -1,4 +1,4 @@
-use Rattle.std.proofs.Common.{◌≡◌, ◌++◌, ◌-◌, ◌≤◌, drop, length}
+use Rattle.std.proofs.Common.{◌≡◌, ◌++◌, ◌-◌, drop, length}
 use Rattle.pddl_problem.specs.Problems.{named}
 use Rattle.pddl_problem.proofs.objects.named.Given as goal
 

@@ -1,7 +1,7 @@
-use Rattle.std.proofs.Common.{◌≡◌, ℕ, List, [], ◌∷◌, Some, None, codes, map, ap, sym, subst, ◌∙◌}
+use Rattle.std.proofs.Common.{◌≡◌, [], ◌∷◌, Some, None, codes, map, ap, sym, subst, ◌∙◌}
 use Rattle.std.proofs.lemmas.Result.{err_from_is_err_and}
-use Rattle.sexpr_text.specs.Flaws.{Flaw, first_listed}
-use Rattle.sexpr_text.specs.Forest.{Forest, forest_of}
+use Rattle.sexpr_text.specs.Flaws.{first_listed}
+use Rattle.sexpr_text.specs.Forest.{Forest}
 use Rattle.sexpr_text.specs.Passes.{IfFault}
 use Rattle.pddl_ast.specs.declared.typed_lists.Declares.TheVariants.{Objects}
 use Rattle.pddl_ast.specs.Environment.{known_value}
@@ -16,7 +16,7 @@ use Rattle.std.specs.declared.alloc.Global.{Global}
 use Rattle.std.specs.Option.{option_map}
 use Rattle.pddl_problem.specs.Init.{init_facts, init_entries}
 use Rattle.pddl_problem.specs.Listed.{listed_fault}
-use Rattle.pddl_problem.specs.Problems.{Definition, problem_of, objects_of, goal_of, domain_flaws, object_list, with_objects, body_passes, definition_passes}
+use Rattle.pddl_problem.specs.Problems.{Definition, problem_of, objects_of, goal_of, domain_flaws, object_list, with_objects, body_passes}
 use Rattle.pddl_problem.specs.Sections.{none_seen, sections_flaws, items_of}
 use Rattle.pddl_problem.specs.Values.{definition_value, entry_value}
 use Rattle.pddl_problem.proofs.PassLemmas.{problem-parts, listed-skip, fault-skip, fault-first}

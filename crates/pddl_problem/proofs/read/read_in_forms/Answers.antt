@@ -2,7 +2,7 @@ use Rattle.std.proofs.Common.{◌≡◌, Some, None, ap, sym, subst, ◌∙◌}
 use Rattle.std.specs.Option.{option_map}
 use Rattle.std.proofs.lemmas.Result.{err_from_is_err_and}
 use Rattle.sexpr_text.specs.Flaws.{fault_of_passes}
-use Rattle.sexpr_text.specs.Forest.{Forest, forest_of}
+use Rattle.sexpr_text.specs.Forest.{forest_of}
 use Rattle.sexpr_text.specs.Passes.{IfFault}
 use Rattle.pddl_ast.specs.Environment.{known_value}
 use Rattle.pddl_ast.specs.Fits.{FitsProblem, known_in}
@@ -54,7 +54,7 @@ returns-clause-fits c =
     let d : Definition = definition_value c.in-Some.definition in
     let known : known_value c.in_ok-known.known ≡ known_in domain = c.in_ok-known.ensures in
     let none : listed_fault (definition_passes domain.name (known_in domain) d) ≡ None =
-        ap (λ (k : Known). listed_fault (definition_passes domain.name k d)) (sym known) ∙ c.in_ok-problem.ensures.sound in
+    ap (λ (k : Known). listed_fault (definition_passes domain.name k d)) (sym known) ∙ c.in_ok-problem.ensures.sound in
     let fits : FitsProblem domain (problem_of (known_in domain) d) =
-        problem-fits domain forest d c.requires.domain (definition-found forest d (sym c.in-Some.ensures)) c.requires.shallow none in
+    problem-fits domain forest d c.requires.domain (definition-found forest d (sym c.in-Some.ensures)) c.requires.shallow none in
     subst (FitsProblem domain) (sym (c.in_ok-problem.ensures.read ∙ ap (λ (k : Known). problem_of k d) known)) fits
