@@ -1,0 +1,11 @@
+pub mod NameLemmas
+pub mod Forests
+pub mod Weights
+pub mod Pending
+pub mod Orders
+pub mod Cases
+pub mod TreeOrders
+pub mod Distinct
+pub mod Fitting
+pub mod TreeFitting
+pub mod ListFitting

@@ -1,0 +1,9 @@
+mod Sizes
+mod EntryLemmas
+mod ObjectLemmas
+mod PassLemmas
+mod Orders
+mod Ordered
+mod Answered
+mod TownLemmas
+mod Fitting

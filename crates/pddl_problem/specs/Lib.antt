@@ -1,0 +1,6 @@
+pub mod Sections
+pub mod Init
+pub mod Problems
+pub mod Values
+pub mod Listed
+pub mod Rising

@@ -1,0 +1,141 @@
+-- Which problem a text spells relative to a domain, or which fault it has.
+use Rattle.std.specs.Prelude.{ℕ, List, [], ◌∷◌, ◌++◌, Option, Some, None, codes, if◌then◌else◌}
+use Rattle.std.specs.Option.{option_map, option_map_or, option_and_then}
+use Rattle.std.specs.Str.{bytes_eq}
+use Rattle.sexpr_text.specs.declared.forms.Span.{Span}
+use Rattle.sexpr_text.specs.declared.forms.Place.{Place}
+use Rattle.sexpr_text.specs.declared.faults.InputFault.{InputFault}
+use Rattle.sexpr_text.specs.declared.faults.FaultKind.TheVariants.{BadForm, NoDefine, OtherDomain, GoalMissing}
+use Rattle.sexpr_text.specs.Forest.{Forest, nothing, word, group}
+use Rattle.sexpr_text.specs.Parts.{first_group_with, is_definition}
+use Rattle.sexpr_text.specs.Flaws.{Flaw, flaw_at}
+use Rattle.sexpr_text.specs.Passes.{SpellsBy, HasFaultBy}
+use Rattle.pddl_ast.specs.declared.trees.Named.{Named}
+use Rattle.pddl_ast.specs.declared.typed_lists.Declares.TheVariants.{Objects}
+use Rattle.pddl_ast.specs.Known.{Known}
+use Rattle.pddl_ast.specs.Fits.{known_in}
+use Rattle.pddl_ast.specs.Formulas.{formula_flaws, formula_of}
+use Rattle.pddl_ast.specs.TypedLists.{Group, typed_list_flaws, typed_groups, names_of, types_of}
+use Rattle.pddl_ast.specs.Trees.{DomainTree, ProblemTree, FormulaTree}
+use Rattle.pddl_problem.specs.Sections.{none_seen, sections_flaws, section, items_of}
+use Rattle.pddl_problem.specs.Init.{init_flaws, init_facts, init_entries}
+
+-- the list that defines a problem: its place, the problem's name, and its sections
+pub record Definition : Type 0 where
+  pub span : Span
+  pub name : List ℕ
+  pub items : Forest
+
+-- the name in `problem NAME`
+abbrev pub title : Forest → Option (List ℕ)
+title nothing = None
+title (group s parts rest) = None
+title (word s text nothing) = None
+title (word s text (group s' parts rest)) = None
+title (word s text (word s' name rest)) = Some name
+
+-- what `define (problem NAME) ..` defines, with the span of its list
+abbrev pub defined : Span → Forest → Option Definition
+defined span nothing = None
+defined span (group s parts rest) = None
+defined span (word s text nothing) = None
+defined span (word s text (word s' name rest)) = None
+defined span (word s text (group s' parts rest)) =
+    option_map (λ name. record { span = span; name = name; items = rest }) (title parts)
+
+-- the first list that is `define (problem NAME) ..`
+abbrev pub definition_in : Forest → Option Definition
+definition_in forest =
+    option_and_then (λ g. defined g.0 g.1) (first_group_with (is_definition (codes "problem")) forest)
+
+-- where a text begins
+abbrev pub start : Place
+start = record { line = 1; column = 1 }
+
+-- the pass that looks for the definition: where there is none, NoDefine at the text's begin
+abbrev pub no_define : Flaw
+no_define = record { offset = 0; fault = record { kind = NoDefine; place = start } }
+
+-- the pass over the domain's name: another name than the domain's is OtherDomain at it
+abbrev pub domain_flaws : List ℕ → Forest → List Flaw
+domain_flaws domain nothing = []
+domain_flaws domain (group s parts rest) = []
+domain_flaws domain (word s name rest) = if bytes_eq name domain then [] else flaw_at s OtherDomain ∷ []
+
+-- what is known in the problem: the names of the domain, and the objects after the constants
+abbrev pub with_objects : Known → Forest → Known
+with_objects known list = record known { objects = known.objects ++ names_of (typed_groups list) }
+
+-- the objects of a typed list: each name with the number of its type
+abbrev pub named : List (List ℕ) → List ℕ → List Named
+named [] types = []
+named (name ∷ names) [] = []
+named (name ∷ names) (t ∷ types) = record { name = name; type_id = t } ∷ named names types
+
+abbrev pub objects_of : List (List ℕ) → List Group → List Named
+objects_of types groups = named (names_of groups) (types_of types groups)
+
+-- the pass over the goal, a formula without free variables
+abbrev pub goal_flaws : Known → Forest → List Flaw
+goal_flaws known nothing = []
+goal_flaws known (word s w rest) = flaw_at s BadForm ∷ []
+goal_flaws known (group s parts rest) = formula_flaws known parts s []
+
+abbrev pub goal_of : Known → Forest → Option FormulaTree
+goal_of known nothing = None
+goal_of known (word s w rest) = None
+goal_of known (group s parts rest) = Some (formula_of known parts [])
+
+-- the last pass: where there is no goal, GoalMissing at the definition's list
+abbrev pub missing_flaws : Span → Option Forest → List Flaw
+missing_flaws span None = flaw_at span GoalMissing ∷ []
+missing_flaws span (Some goal) = []
+
+-- the objects of a definition, as a typed list
+abbrev pub object_list : Definition → Forest
+object_list d = items_of (codes ":objects") d.items
+
+-- the passes over the initial situation and the goal, where these names are known
+abbrev pub body_passes : Known → Definition → List (List Flaw)
+body_passes known d =
+    init_flaws known (items_of (codes ":init") d.items)
+    ∷ goal_flaws known (items_of (codes ":goal") d.items)
+    ∷ missing_flaws d.span (section (codes ":goal") d.items)
+    ∷ []
+
+-- the passes after the one that finds the definition, for a domain with this name and these names
+abbrev pub definition_passes : List ℕ → Known → Definition → List (List Flaw)
+definition_passes domain before d =
+    sections_flaws none_seen d.items
+    ∷ domain_flaws domain (items_of (codes ":domain") d.items)
+    ∷ typed_list_flaws Objects before.types before.objects (object_list d)
+    ∷ body_passes (with_objects before (object_list d)) d
+
+-- the passes over the forms of a text, each with everything that is wrong by its rules
+abbrev pub problem_passes : DomainTree → Forest → List (List Flaw)
+problem_passes domain forest = option_map_or (λ d. [] ∷ definition_passes domain.name (known_in domain) d) (definition_in forest) ((no_define ∷ []) ∷ [])
+
+-- the problem that a definition reads as, where these names of the domain are known
+abbrev pub problem_of : Known → Definition → ProblemTree
+problem_of before d =
+    let known = with_objects before (object_list d) in
+    record {
+      name = d.name;
+      objects = objects_of before.types (typed_groups (object_list d));
+      facts = init_facts known (items_of (codes ":init") d.items);
+      entries = init_entries known (items_of (codes ":init") d.items);
+      goal = goal_of known (items_of (codes ":goal") d.items);
+      place = d.span.place;
+    }
+
+-- the problem that the forms of a text read as, where there is a definition
+abbrev pub problem_in : DomainTree → Forest → Option ProblemTree
+problem_in domain forest = option_map (problem_of (known_in domain)) (definition_in forest)
+
+-- the bytes spell this problem of the domain
+abbrev pub SpellsProblem : List ℕ → DomainTree → ProblemTree → Type 0
+SpellsProblem bytes domain problem = SpellsBy (problem_passes domain) (problem_in domain) bytes (Some problem)
+
+-- the bytes have this fault as a problem of the domain
+abbrev pub HasProblemFault : List ℕ → DomainTree → InputFault → Type 0
+HasProblemFault bytes domain fault = HasFaultBy (problem_passes domain) bytes fault
