@@ -1,0 +1,6 @@
+//! Planning domains, read out of texts.
+#![tactic(auto)]
+
+mod loops;
+
+pub use loops::types_on_loops;
