@@ -1,5 +1,5 @@
 -- The trees of a list of forms, form by form.
-use Rattle.std.proofs.Common.{◌≡◌, ℕ, List, [], ◌∷◌, ◌++◌, map, refl, ap, sym, ◌∙◌}
+use Rattle.std.proofs.Common.{◌≡◌, ℕ, suc, ◌<◌, length, get_or, drop, drop-cons, List, [], ◌∷◌, ◌++◌, map, refl, ap, sym, ◌∙◌}
 use Rattle.sexpr_text.specs.declared.forms.Span.{Span}
 use Rattle.sexpr_text.specs.declared.forms.Form.{Form}
 use Rattle.sexpr_text.specs.declared.forms.Form.TheOpen.{Form-F, Word, Group}
@@ -49,3 +49,7 @@ form_then-group span parts rest =
     ap (λ f. form_then f rest) (sym (rolls-Group span parts))
     ∙ (ap (λ g. g rest) (fold-roll-Form (Forest → Forest) form_step (Group span parts))
     ∙ ap (λ t. group span t rest) (put_before-all parts.items))
+
+-- the trees from one form of a list on
+pub forest_of-drop : (fs : List Form) (i : ℕ) (d : Form) → i < length fs → forest_of (drop i fs) ≡ form_then (get_or fs i d) (forest_of (drop (suc i) fs))
+forest_of-drop fs i d h = ap forest_of (drop-cons fs i d h)

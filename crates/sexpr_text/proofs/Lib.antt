@@ -10,3 +10,4 @@ pub mod Forests
 pub mod Turns
 pub mod Shapes
 pub mod Examples
+pub mod FlawLaws

@@ -8,3 +8,6 @@ pub mod Faults
 pub mod Flaws
 pub mod Formed
 pub mod Pending
+pub mod Parts
+pub mod Passes
+pub mod Heads

@@ -15,6 +15,7 @@ mod faults;
 mod forms;
 mod laws;
 mod nest;
+mod parts;
 mod read;
 mod scan;
 #[cfg(test)]
@@ -24,5 +25,6 @@ mod texts;
 pub use faults::{FaultKind, InputFault, ReadErr};
 pub use forms::{Form, Place, Span};
 pub use laws::{fault_rules_out_forms, one_fault, one_spelling, spelled_or_faulty};
+pub use parts::{Head, View, after_word, begins_with, first_definition, first_group, group_after, head_of, is_definition, is_name, is_nothing, is_titled, only_group, only_word};
 pub use read::{MAX_BYTES, MAX_DEPTH, read_forms};
 pub use texts::Text;
