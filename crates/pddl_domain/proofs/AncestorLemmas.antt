@@ -49,16 +49,16 @@ one_step ps = same_lists ps (ancestors ps 1) (sym (length-ancestors ps 1)) (λ k
 
 pub twice_as_far : (ps : List ℕ) (n : ℕ) → All (λ t. t < length ps) ps → map (λ t. get_or (ancestors ps n) t 0) (ancestors ps n) ≡ ancestors ps (n * 2)
 twice_as_far ps n within = same_lists (map (λ t. get_or (ancestors ps n) t 0) (ancestors ps n)) (ancestors ps (n * 2))
-  (length-map (ancestors ps n) (λ t. get_or (ancestors ps n) t 0) ∙ (length-ancestors ps n ∙ sym (length-ancestors ps (n * 2))))
-  (λ k d h.
-      let inside : k < length ps = omega (arith, length-map (ancestors ps n) (λ t. get_or (ancestors ps n) t 0), length-ancestors ps n) in
-      let far : k < length (ancestors ps n) = omega (arith, length-ancestors ps n) in
-      get_or-map (λ t. get_or (ancestors ps n) t 0) (ancestors ps n) k 0 d far
-      ∙ (ap (λ t. get_or (ancestors ps n) t 0) (get_or-ancestors ps n k 0 inside)
-      ∙ (get_or-ancestors ps n (ancestor ps n k) 0 (ancestor_below ps within n k inside)
-      ∙ (ancestor_add ps n n k
-      ∙ (ap (λ m. ancestor ps m k) (let e : n + n ≡ n * 2 = omega arith in e)
-      ∙ sym (get_or-ancestors ps (n * 2) k d inside))))))
+    (length-map (ancestors ps n) (λ t. get_or (ancestors ps n) t 0) ∙ (length-ancestors ps n ∙ sym (length-ancestors ps (n * 2))))
+    (λ k d h.
+    let inside : k < length ps = omega (arith, length-map (ancestors ps n) (λ t. get_or (ancestors ps n) t 0), length-ancestors ps n) in
+    let far : k < length (ancestors ps n) = omega (arith, length-ancestors ps n) in
+    get_or-map (λ t. get_or (ancestors ps n) t 0) (ancestors ps n) k 0 d far
+    ∙ (ap (λ t. get_or (ancestors ps n) t 0) (get_or-ancestors ps n k 0 inside)
+    ∙ (get_or-ancestors ps n (ancestor ps n k) 0 (ancestor_below ps within n k inside)
+    ∙ (ancestor_add ps n n k
+    ∙ (ap (λ m. ancestor ps m k) (let e : n + n ≡ n * 2 = omega arith in e)
+    ∙ sym (get_or-ancestors ps (n * 2) k d inside))))))
 
 pub none_of : (n : ℕ) → replicate n false ≡ which_of n []
 none_of n = splat_is_map (range_with_len 0 n) n false (length-range_with_len 0 n)
@@ -66,27 +66,29 @@ none_of n = splat_is_map (range_with_len 0 n) n false (length-range_with_len 0 n
 -- one number more
 pub one_more_of : (n : ℕ) (ts : List ℕ) (i t : ℕ) → i < length ts → t < n → t ≡ get_or ts i t → set (which_of n (take i ts)) t true ≡ which_of n (take (i + 1) ts)
 one_more_of n ts i t inside small is = same_lists (set (which_of n (take i ts)) t true) (which_of n (take (i + 1) ts))
-  (length-set (which_of n (take i ts)) t true ∙ (length-map-range_with_len (stands (take i ts)) 0 n ∙ sym (length-map-range_with_len (stands (take (i + 1) ts)) 0 n)))
-  (λ k d h.
-      let low : k < n = omega (arith, length-set (which_of n (take i ts)) t true, length-map-range_with_len (stands (take i ts)) 0 n) in
-      let old : get_or (which_of n (take i ts)) k d ≡ stands (take i ts) k = get_or-map-range_with_len (stands (take i ts)) 0 n k k d low (omega arith) in
-      let new : get_or (which_of n (take (i + 1) ts)) k d ≡ stands (take (i + 1) ts) k = get_or-map-range_with_len (stands (take (i + 1) ts)) 0 n k k d low (omega arith) in
-      let more : stands (take (i + 1) ts) k ≡ (stands (take i ts) k || (t == k)) =
-      list_any_more (λ s. s == k) ts i t inside ∙ ap (λ s. stands (take i ts) k || (s == k)) (sym is) in
-      elim (same_or_not k t) [
-        | inl e ↦ (let at : get_or (set (which_of n (take i ts)) t true) k d ≡ true = get_or-set_at (which_of n (take i ts)) t k true d e (omega (arith, length-map-range_with_len (stands (take i ts)) 0 n)) in
-            let here : (t == k) ≡ true = grind (arith, nat_tests) in
-            at ∙ sym (new ∙ (more ∙ (ap (λ b. stands (take i ts) k || b) here ∙ or_true (stands (take i ts) k)))))
-        | inr ne ↦ (let at : get_or (set (which_of n (take i ts)) t true) k d ≡ get_or (which_of n (take i ts)) k d = get_or-set_other (which_of n (take i ts)) t k true d ne in
-            let off : (t == k) ≡ false = grind (arith, nat_tests) in
-            at ∙ (old ∙ sym (new ∙ (more ∙ (ap (λ b. stands (take i ts) k || b) off ∙ or_false (stands (take i ts) k))))))
-      ])
+    (length-set (which_of n (take i ts)) t true ∙ (length-map-range_with_len (stands (take i ts)) 0 n ∙ sym (length-map-range_with_len (stands (take (i + 1) ts)) 0 n)))
+    (λ k d h.
+    let low : k < n = omega (arith, length-set (which_of n (take i ts)) t true, length-map-range_with_len (stands (take i ts)) 0 n) in
+    let old : get_or (which_of n (take i ts)) k d ≡ stands (take i ts) k = get_or-map-range_with_len (stands (take i ts)) 0 n k k d low (omega arith) in
+    let new : get_or (which_of n (take (i + 1) ts)) k d ≡ stands (take (i + 1) ts) k = get_or-map-range_with_len (stands (take (i + 1) ts)) 0 n k k d low (omega arith) in
+    let more : stands (take (i + 1) ts) k ≡ (stands (take i ts) k || (t == k)) =
+    list_any_more (λ s. s == k) ts i t inside ∙ ap (λ s. stands (take i ts) k || (s == k)) (sym is) in
+    elim (same_or_not k t) [
+      | inl e ↦ (let at : get_or (set (which_of n (take i ts)) t true) k d ≡ true = get_or-set_at (which_of n (take i ts)) t k true d e (omega (arith, length-map-range_with_len (stands (take i ts)) 0 n)) in
+          let here : (t == k) ≡ true = grind (arith, nat_tests) in
+          at ∙ sym (new ∙ (more ∙ (ap (λ b. stands (take i ts) k || b) here ∙ or_true (stands (take i ts) k)))))
+      | inr ne ↦ (let at : get_or (set (which_of n (take i ts)) t true) k d ≡ get_or (which_of n (take i ts)) k d = get_or-set_other (which_of n (take i ts)) t k true d ne in
+          let off : (t == k) ≡ false = grind (arith, nat_tests) in
+          at ∙ (old ∙ sym (new ∙ (more ∙ (ap (λ b. stands (take i ts) k || b) off ∙ or_false (stands (take i ts) k))))))
+    ])
   where
     stands : List ℕ → ℕ → Bool
     stands xs k = list_any (λ s. s == k) xs
+
     or_true : (b : Bool) → (b || true) ≡ true
     or_true true = refl
     or_true false = refl
+
     or_false : (b : Bool) → (b || false) ≡ b
     or_false true = refl
     or_false false = refl
@@ -151,14 +153,14 @@ far_from_on_loop ps within n t small own =
 -- the types on loops are the ancestors of types, as far up as there are types, or farther
 pub far_in_loops : (ps : List ℕ) → All (λ t. t < length ps) ps → (n : ℕ) → length ps ≤ n → which_of (length ps) (ancestors ps n) ≡ map (is_own_ancestor ps) (range_with_len 0 (length ps))
 far_in_loops ps within n far = map_range_agree (λ t. list_any (λ s. s == t) (ancestors ps n)) (is_own_ancestor ps) 0 (length ps)
-  (λ t lo hi.
-      let small : t < length ps = omega arith in
-      same_bool (list_any (λ s. s == t) (ancestors ps n)) (is_own_ancestor ps t)
-      (λ h.
-          let (i, s, low, at, here) = Any-from_list_any (λ s. s == t) (ancestors ps n) h in
-          let inside : i < length ps = omega (arith, length-ancestors ps n) in
-          on_loop_from_far ps within n i t far inside (sym (get_or-ancestors ps n i s inside) ∙ (at ∙ equal_from_test s t here)))
-      (far_from_on_loop ps within n t small))
+    (λ t lo hi.
+    let small : t < length ps = omega arith in
+    same_bool (list_any (λ s. s == t) (ancestors ps n)) (is_own_ancestor ps t)
+    (λ h.
+    let (i, s, low, at, here) = Any-from_list_any (λ s. s == t) (ancestors ps n) h in
+    let inside : i < length ps = omega (arith, length-ancestors ps n) in
+    on_loop_from_far ps within n i t far inside (sym (get_or-ancestors ps n i s inside) ∙ (at ∙ equal_from_test s t here)))
+    (far_from_on_loop ps within n t small))
 
 pub found_on_loops : (ps : List ℕ) → All (λ t. t < length ps) ps → (n : ℕ) → length ps ≤ n → (far : List ℕ) → far ≡ ancestors ps n
     → which_of (length far) far ≡ map (is_own_ancestor ps) (range_with_len 0 (length ps))

@@ -30,12 +30,12 @@ find zero f v = elim (same_or_not (f 0) v) [
 find (suc n) f v = elim (find n f v) [
   | at i h e ↦ at i (omega arith) e
   | nowhere none ↦ elim (same_or_not (f (suc n)) v) [
-      | inl e ↦ at (suc n) (omega arith) e
-      | inr ne ↦ nowhere (λ i h e. elim (cases_lt i (suc n)) [
-          | inl lt ↦ none i (omega arith) e
-          | inr ge ↦ ne (ap f (let z : suc n ≡ i = omega arith in z) ∙ e)
-        ])
-    ]
+    | inl e ↦ at (suc n) (omega arith) e
+    | inr ne ↦ nowhere (λ i h e. elim (cases_lt i (suc n)) [
+      | inl lt ↦ none i (omega arith) e
+      | inr ge ↦ ne (ap f (let z : suc n ≡ i = omega arith in z) ∙ e)
+    ])
+  ]
 ]
 
 -- v in the place of n
@@ -59,13 +59,13 @@ moved_below n v x lt vlt apart = elim (same_or_not x n) [
 same_moved : (n v x y : ℕ) → (x ≡ v → ⊥) → (y ≡ v → ⊥) → moved n v x ≡ moved n v y → x ≡ y
 same_moved n v x y nx ny e = elim (same_or_not x n) [
   | inl ex ↦ elim (same_or_not y n) [
-      | inl ey ↦ (ex ∙ sym ey)
-      | inr ey ↦ absurd (ny (sym (moved-other n v y ey) ∙ (sym e ∙ moved-at n v x ex)))
-    ]
+    | inl ey ↦ (ex ∙ sym ey)
+    | inr ey ↦ absurd (ny (sym (moved-other n v y ey) ∙ (sym e ∙ moved-at n v x ex)))
+  ]
   | inr ex ↦ elim (same_or_not y n) [
-      | inl ey ↦ absurd (nx (sym (moved-other n v x ex) ∙ (e ∙ moved-at n v y ey)))
-      | inr ey ↦ (sym (moved-other n v x ex) ∙ (e ∙ moved-other n v y ey))
-    ]
+    | inl ey ↦ absurd (nx (sym (moved-other n v x ex) ∙ (e ∙ moved-at n v y ey)))
+    | inr ey ↦ (sym (moved-other n v x ex) ∙ (e ∙ moved-other n v y ey))
+  ]
 ]
 
 pub repeats : (n : ℕ) (f : ℕ → ℕ) → ((i : ℕ) → i ≤ n → f i < n) → Repeats n f
@@ -74,14 +74,14 @@ repeats (suc n) f below = elim (find n f (f (suc n))) [
   | at i h e ↦ record { i = i; j = suc n; before = omega arith; within = omega arith; same = e }
   | nowhere none ↦ (let last : f (suc n) < suc n = below (suc n) (omega arith) in
       let r = repeats n (λ i. moved n (f (suc n)) (f i))
-        (λ i h. moved_below n (f (suc n)) (f i) (below i (omega arith)) last (λ ev ei. none i h (ei ∙ sym ev))) in
+      (λ i h. moved_below n (f (suc n)) (f i) (below i (omega arith)) last (λ ev ei. none i h (ei ∙ sym ev))) in
       record {
         i = r.i;
         j = r.j;
         before = r.before;
         within = (let h = r.within in omega (arith, h));
         same = same_moved n (f (suc n)) (f r.i) (f r.j)
-          (none r.i (let b = r.before in let w = r.within in omega (arith, b, w)))
-          (none r.j r.within) r.same;
+            (none r.i (let b = r.before in let w = r.within in omega (arith, b, w)))
+            (none r.j r.within) r.same;
       })
 ]
