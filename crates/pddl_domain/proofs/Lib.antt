@@ -1,2 +1,3 @@
 pub mod Pigeonhole
 pub mod AncestorLemmas
+pub mod TypeLemmas

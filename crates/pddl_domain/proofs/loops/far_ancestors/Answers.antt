@@ -6,7 +6,7 @@ pub loop-steps-init : goal.loop-steps-init
 loop-steps-init c = record { some = omega arith; far = c.in_ok-far.ensures.items ∙ one_step c.args.parents.now }
 
 pub twice-requires : goal.twice-requires
-twice-requires c = rw (c.deref.ensures.value, c.loop-steps.invariant.far) (ancestors_below c.args.parents.now c.loop-steps.steps c.requires.within)
+twice-requires c = rw (c.deref.ensures.value, c.loop-steps.invariant.far) (ancestors_below c.args.parents.now c.loop-steps.steps c.requires)
 
 pub loop-steps-preserved : goal.loop-steps-preserved
 loop-steps-preserved c = record {
@@ -14,5 +14,5 @@ loop-steps-preserved c = record {
   far =
       c.in_ok-far-2.ensures
       ∙ (ap (λ xs. map (λ t. get_or xs t 0) xs) (c.deref.ensures.value ∙ c.loop-steps.invariant.far)
-      ∙ twice_as_far c.args.parents.now c.loop-steps.steps c.requires.within);
+      ∙ twice_as_far c.args.parents.now c.loop-steps.steps c.requires);
 }
