@@ -1,11 +1,10 @@
 -- The flaws of a pass: the first of them, and lists of flaws in the order of the text.
-use Rattle.std.proofs.Common.{◌≡◌, ℕ, suc, ◌+◌, ◌<◌, ◌≤◌, ◌⊎◌, inl, inr, Bool, true, false, ◌==◌, ◌&&◌, ◌||◌, List, [], ◌∷◌, ◌++◌, refl, ap, sym, subst, ◌∙◌, arith}
-use Rattle.std.specs.Prelude.{nat_lt, nat_le, Option, Some, None, if◌then◌else◌, Contains}
+use Rattle.std.proofs.Common.{◌≡◌, ℕ, suc, ◌<◌, ◌≤◌, true, List, [], ◌∷◌, ◌++◌, refl, ap, ◌∙◌, arith}
+use Rattle.std.specs.Prelude.{nat_lt, Some, None, if◌then◌else◌}
 use Rattle.std.specs.Option.{option_map}
 use Rattle.std.proofs.lemmas.Bool.Decides.{nat_tests}
 use Rattle.sexpr_text.specs.declared.faults.InputFault.{InputFault}
-use Rattle.sexpr_text.specs.Kinds.{code_of}
-use Rattle.sexpr_text.specs.Flaws.{Flaw, comes_first, earlier_of, first_of, fault_of_passes, IsFirstOf, first_listed, IsInOrder}
+use Rattle.sexpr_text.specs.Flaws.{Flaw, comes_first, earlier_of, first_of, fault_of_passes, first_listed, IsInOrder}
 
 -- a flaw at a lesser offset comes first
 pub lesser_offset-first : (f g : Flaw) → f.offset < g.offset → comes_first f g ≡ true

@@ -11,3 +11,7 @@ pub mod Turns
 pub mod Shapes
 pub mod Examples
 pub mod FlawLaws
+pub mod Digits
+pub mod FirstFlaw
+pub mod GroupLaws
+pub mod PassLaws

@@ -11,3 +11,5 @@ pub mod Pending
 pub mod Parts
 pub mod Passes
 pub mod Heads
+pub mod Numerals
+pub mod Ordered

@@ -1,4 +1,4 @@
-// What a byte is to the reader, outside comments.
+//! What a byte is to the reader, outside comments.
 
 ghost use Rattle.std.specs.Prelude.{◌≡◌};
 ghost use Rattle.sexpr_text.specs.Lexis.{is_word_byte};

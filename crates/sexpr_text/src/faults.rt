@@ -1,8 +1,8 @@
-// Faults: what can be wrong with an input, with its place.
+//! Faults: what can be wrong with an input, with its place.
 
 ghost use Rattle.std.specs.Prelude.{◌≡◌};
 ghost use Rattle.std.specs.Option.{option_copied};
-ghost use Rattle.sexpr_text.specs.Kinds.{code_of, name_of, word_of};
+ghost use Rattle.sexpr_text.specs.Kinds.{code_of, entry_of, name_of, word_of};
 ghost use Rattle.sexpr_text.specs.declared.faults.ReadErr.TheVariants.{Memory};
 
 use crate::forms::Place;
@@ -59,64 +59,48 @@ pub enum FaultKind {
 }
 
 impl FaultKind {
+    // The number and the name of the kind.
+    fn entry(&self) -> (u8, &'static str)
+        ensures { (result.0, result.1.now) ≡ entry_of self.now }
+    {
+        match self {
+            FaultKind::BadByte => (1, "BadByte"),
+            FaultKind::StrayClose => (2, "StrayClose"),
+            FaultKind::OpenAtEnd => (3, "OpenAtEnd"),
+            FaultKind::TooDeep => (4, "TooDeep"),
+            FaultKind::NoDefine => (5, "NoDefine"),
+            FaultKind::BadForm => (6, "BadForm"),
+            FaultKind::UnknownName => (7, "UnknownName"),
+            FaultKind::DoubleName => (8, "DoubleName"),
+            FaultKind::WrongArity => (9, "WrongArity"),
+            FaultKind::TypeLoop => (10, "TypeLoop"),
+            FaultKind::ReservedName => (11, "ReservedName"),
+            FaultKind::EmptyOneof => (12, "EmptyOneof"),
+            FaultKind::LeftOut(_) => (13, "LeftOut"),
+            FaultKind::OtherDomain => (14, "OtherDomain"),
+            FaultKind::GoalMissing => (15, "GoalMissing"),
+            FaultKind::GoalTwice => (16, "GoalTwice"),
+            FaultKind::WrongGoalKind => (17, "WrongGoalKind"),
+            FaultKind::NotChain => (18, "NotChain"),
+            FaultKind::QuantifiedGoal => (19, "QuantifiedGoal"),
+            FaultKind::UnknownAction => (20, "UnknownAction"),
+            FaultKind::BadNumber => (21, "BadNumber"),
+            FaultKind::WrongPlanKind => (22, "WrongPlanKind"),
+        }
+    }
+
     /// The number of the kind, from 1 to 22.
     pub fn code(&self) -> u8
         ensures { result ≡ code_of self.now }
     {
-        match self {
-            FaultKind::BadByte => 1,
-            FaultKind::StrayClose => 2,
-            FaultKind::OpenAtEnd => 3,
-            FaultKind::TooDeep => 4,
-            FaultKind::NoDefine => 5,
-            FaultKind::BadForm => 6,
-            FaultKind::UnknownName => 7,
-            FaultKind::DoubleName => 8,
-            FaultKind::WrongArity => 9,
-            FaultKind::TypeLoop => 10,
-            FaultKind::ReservedName => 11,
-            FaultKind::EmptyOneof => 12,
-            FaultKind::LeftOut(_) => 13,
-            FaultKind::OtherDomain => 14,
-            FaultKind::GoalMissing => 15,
-            FaultKind::GoalTwice => 16,
-            FaultKind::WrongGoalKind => 17,
-            FaultKind::NotChain => 18,
-            FaultKind::QuantifiedGoal => 19,
-            FaultKind::UnknownAction => 20,
-            FaultKind::BadNumber => 21,
-            FaultKind::WrongPlanKind => 22,
-        }
+        self.entry().0
     }
 
     /// The name of the kind, as it is written above.
     pub fn name(&self) -> &'static str
         ensures { result.now ≡ name_of self.now }
     {
-        match self {
-            FaultKind::BadByte => "BadByte",
-            FaultKind::StrayClose => "StrayClose",
-            FaultKind::OpenAtEnd => "OpenAtEnd",
-            FaultKind::TooDeep => "TooDeep",
-            FaultKind::NoDefine => "NoDefine",
-            FaultKind::BadForm => "BadForm",
-            FaultKind::UnknownName => "UnknownName",
-            FaultKind::DoubleName => "DoubleName",
-            FaultKind::WrongArity => "WrongArity",
-            FaultKind::TypeLoop => "TypeLoop",
-            FaultKind::ReservedName => "ReservedName",
-            FaultKind::EmptyOneof => "EmptyOneof",
-            FaultKind::LeftOut(_) => "LeftOut",
-            FaultKind::OtherDomain => "OtherDomain",
-            FaultKind::GoalMissing => "GoalMissing",
-            FaultKind::GoalTwice => "GoalTwice",
-            FaultKind::WrongGoalKind => "WrongGoalKind",
-            FaultKind::NotChain => "NotChain",
-            FaultKind::QuantifiedGoal => "QuantifiedGoal",
-            FaultKind::UnknownAction => "UnknownAction",
-            FaultKind::BadNumber => "BadNumber",
-            FaultKind::WrongPlanKind => "WrongPlanKind",
-        }
+        self.entry().1
     }
 
     /// The word that is left out, where the kind has one.

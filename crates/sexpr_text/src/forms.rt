@@ -1,4 +1,4 @@
-// Forms: words and groups, each with its span.
+//! Forms: words and groups, each with its span.
 
 ghost use Rattle.std.specs.Prelude.{◌≡◌};
 ghost use Rattle.sexpr_text.specs.Forest.{span_of};

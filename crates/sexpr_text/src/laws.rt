@@ -1,5 +1,5 @@
-// What holds of every text, whatever its length: it spells exactly one list of forms, or it has
-// exactly one fault. Each law is a function that does nothing, so that callers' proofs can cite it.
+//! What holds of every text, whatever its length: it spells exactly one list of forms, or it has
+//! exactly one fault. Each law is a function that does nothing, so that callers' proofs can cite it.
 
 ghost use Rattle.std.specs.Prelude.{◌≡◌, ℕ, List, ◌⊎◌};
 ghost use Rattle.sexpr_text.specs.declared.faults.InputFault.{InputFault};

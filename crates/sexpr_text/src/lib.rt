@@ -12,9 +12,12 @@
 
 mod bytes;
 mod faults;
+mod flaw_laws;
 mod forms;
+mod groups;
 mod laws;
 mod nest;
+mod numerals;
 mod parts;
 mod read;
 mod scan;
@@ -23,8 +26,16 @@ mod tests;
 mod texts;
 
 pub use faults::{FaultKind, InputFault, ReadErr};
+pub use flaw_laws::{
+    first_is_least, flawless_or_faulty, groups_in_order, listed_in_order, passes_in_order,
+};
 pub use forms::{Form, Place, Span};
+pub use groups::{GroupReader, fault_at, read_groups};
 pub use laws::{fault_rules_out_forms, one_fault, one_spelling, spelled_or_faulty};
-pub use parts::{Head, View, after_word, begins_with, first_definition, first_group, group_after, head_of, is_definition, is_name, is_nothing, is_titled, only_group, only_word};
+pub use numerals::numeral;
+pub use parts::{
+    Head, View, after_word, begins_with, first_definition, first_group, group_after, head_of,
+    is_definition, is_name, is_nothing, is_titled, only_group, only_word,
+};
 pub use read::{MAX_BYTES, MAX_DEPTH, read_forms};
 pub use texts::Text;

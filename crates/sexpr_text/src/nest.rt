@@ -1,4 +1,4 @@
-// The groups that are open while a text is read, and the forms read so far.
+//! The groups that are open while a text is read, and the forms read so far.
 
 ghost use Rattle.std.specs.Prelude.{◌≡◌, ◌<◌, List, [], ◌∷◌, ◌++◌, length, MatchOption, OnOk};
 ghost use Rattle.sexpr_text.specs.Forest.{nothing, word, group, join};

@@ -1,4 +1,4 @@
-// Reads the forms of a text.
+//! Reads the forms of a text.
 
 ghost use Rattle.std.specs.Prelude.{◌≡◌, ◌≤◌, length, IfOk};
 ghost use Rattle.sexpr_text.specs.declared.faults.InputFault.{InputFault};

@@ -1,4 +1,4 @@
-// Where a word and a comment end.
+//! Where a word and a comment end.
 
 ghost use Rattle.std.specs.Prelude.{◌≡◌, ℕ, ◌<◌, ◌≤◌, true, false, length, slice_index};
 ghost use Rattle.sexpr_text.specs.Lexis.{is_word_byte, is_line_feed};

@@ -1,9 +1,9 @@
-// What the reader answers to texts with known answers. The expected answers are written by hand from
-// the rules of the lexis.
+//! What the reader answers to texts with known answers. The expected answers are written by hand from
+//! the rules of the lexis.
 
 use crate::{
-    FaultKind, Form, MAX_BYTES, MAX_DEPTH, ReadErr, Text, fault_rules_out_forms, one_fault,
-    one_spelling, read_forms, spelled_or_faulty,
+    FaultKind, Form, MAX_BYTES, MAX_DEPTH, ReadErr, Text, first_definition, first_group, numeral,
+    read_forms,
 };
 use std::alloc::{AllocError, Global};
 use std::fmt::Write;
@@ -208,10 +208,43 @@ fn texts_are_their_bytes(rt: HostRuntime) -> Result<(), Fail> {
     Ok(())
 }
 
+// The first top-level forms as a reader meets them: those of a definition, and those of a plan.
 #[test]
-fn laws_can_be_cited() {
-    one_spelling();
-    one_fault();
-    fault_rules_out_forms();
-    spelled_or_faulty();
+fn first_groups_of_their_kind(rt: HostRuntime) -> Result<(), Fail> {
+    let alloc = rt.alloc();
+    let table: [(&[u8], u32, u32); 5] = [
+        (b"(plan table)", 1, 0),
+        (b"plan (planned) (PLAN)", 16, 0),
+        (b"(define (domain a b)) (define (Domain slip) x)", 0, 23),
+        (b"(define (domain ?a)) (define domain) (define)", 0, 0),
+        (b"((plan)) (define (domain :a)) (define (problem a))", 0, 0),
+    ];
+    for (text, plan, domain) in table {
+        assert!(rt; text.len() <= MAX_BYTES);
+        let Ok(forms) = read_forms(alloc, text) else {
+            panic!(rt; "not read");
+        };
+        let start = first_group(&forms, b"plan").map_or(0, |found| found.0.place.column);
+        assert_eq!(rt; start, plan);
+        let start = first_definition(&forms, b"domain").map_or(0, |found| found.0.place.column);
+        assert_eq!(rt; start, domain);
+    }
+    Ok(())
+}
+
+#[test]
+fn numerals_have_one_to_nine_digits(rt: HostRuntime) -> Result<(), Fail> {
+    let table: [(&[u8], Option<u32>); 7] = [
+        (b"0", Some(0)),
+        (b"007", Some(7)),
+        (b"999999999", Some(999_999_999)),
+        (b"1000000000", None),
+        (b"", None),
+        (b"+1", None),
+        (b"1a", None),
+    ];
+    for (text, want) in table {
+        assert_eq!(rt; numeral(&Text::new(rt.alloc(), text)?), want);
+    }
+    Ok(())
 }

@@ -1,4 +1,4 @@
-// Text: a short list of bytes, as the text of a word.
+//! Text: a short list of bytes, as the text of a word.
 
 ghost use Rattle.std.specs.Prelude.{◌≡◌, ◌↔◌, IfOk, IsTrue};
 ghost use Rattle.std.specs.Str.{str_to_ascii_lowercase};

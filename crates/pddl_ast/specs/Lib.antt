@@ -1,0 +1,11 @@
+pub mod Trees
+pub mod Values
+pub mod Words
+pub mod Known
+pub mod TypedLists
+pub mod Atoms
+pub mod Formulas
+pub mod Effects
+pub mod Depth
+pub mod Fits
+pub mod Environment

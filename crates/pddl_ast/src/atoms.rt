@@ -1,0 +1,159 @@
+//! Terms and atoms.
+
+ghost use Rattle.std.specs.Prelude.{◌≡◌, [], Some, IfOk, IfErr};
+ghost use Rattle.sexpr_text.specs.Forest.{forest_of};
+ghost use Rattle.sexpr_text.specs.Flaws.{first_listed};
+ghost use Rattle.sexpr_text.specs.Passes.{IfFault};
+ghost use Rattle.pddl_ast.specs.Atoms as atoms;
+ghost use Rattle.pddl_ast.specs.Environment.{known_value};
+ghost use Rattle.pddl_ast.specs.Values.{atom_value};
+
+use crate::keywords::{is_left_out, is_variable};
+use crate::known::Known;
+use crate::scope::Scope;
+use crate::trees::{GroundAtom, Term};
+use sexpr_text::{FaultKind, Form, ReadErr, Span, Text, View, fault_at};
+use std::alloc::{AllocError, Global};
+
+/// How many forms the row has.
+#[tactic(auto, using(crate::proofs::Forests::count_length))]
+pub(crate) fn count(row: &[Form]) -> usize
+    ensures { result ≡ atoms.count (forest_of row.now) }
+{
+    row.len()
+}
+
+/// The term that a word is.
+fn term_of(known: &Known, scope: &Scope, word: &Text) -> Option<Term>
+    ensures { result ≡ atoms.term_of (known_value known.now) scope.now word.now }
+{
+    if is_variable(word) {
+        Some(Term::Variable(scope.number_of(word)?))
+    } else {
+        Some(Term::Object(known.objects.number_of(word)?))
+    }
+}
+
+/// The terms of a row: variables in scope, and constants or objects.
+pub fn read_terms(
+    alloc: Global,
+    known: &Known,
+    scope: &Scope,
+    row: &[Form],
+) -> Result<Vec<Term>, ReadErr>
+    ensures sound { IfOk result (λ terms. atoms.terms_flaws (known_value known.now) scope.now (forest_of row.now) ≡ []) }
+    ensures read { IfOk result (λ terms. terms.items ≡ atoms.terms_of (known_value known.now) scope.now (forest_of row.now)) }
+    ensures fault { IfErr result (λ e. IfFault e (λ fault.
+        first_listed (atoms.terms_flaws (known_value known.now) scope.now (forest_of row.now)) ≡ Some fault)) }
+{
+    let mut terms = Vec::new(alloc);
+    for form in row {
+        match form.view() {
+            View::Group(span, _) => return Err(fault_at(span, FaultKind::BadForm)),
+            View::Word(span, word) => match term_of(known, scope, word) {
+                Some(term) => terms.push(term)?,
+                None => return Err(fault_at(span, FaultKind::UnknownName)),
+            },
+        }
+    }
+    Ok(terms)
+}
+
+/// The numbers of the constants and objects of a row.
+fn read_objects(alloc: Global, known: &Known, row: &[Form]) -> Result<Vec<u32>, ReadErr>
+    ensures sound { IfOk result (λ objects. atoms.objects_flaws (known_value known.now) (forest_of row.now) ≡ []) }
+    ensures read { IfOk result (λ objects. objects.items ≡ atoms.numbers (atoms.object_number (known_value known.now)) (forest_of row.now)) }
+    ensures fault { IfErr result (λ e. IfFault e (λ fault.
+        first_listed (atoms.objects_flaws (known_value known.now) (forest_of row.now)) ≡ Some fault)) }
+{
+    let mut objects = Vec::new(alloc);
+    for form in row {
+        match form.view() {
+            View::Group(span, _) => return Err(fault_at(span, FaultKind::BadForm)),
+            View::Word(span, word) => match known.objects.number_of(word) {
+                Some(object) => objects.push(object)?,
+                None => return Err(fault_at(span, FaultKind::UnknownName)),
+            },
+        }
+    }
+    Ok(objects)
+}
+
+/// The fault of a head that is no predicate.
+fn head_fault(alloc: Global, word: &Text) -> Result<FaultKind, AllocError>
+    ensures { IfOk result (λ kind. kind ≡ atoms.head_fault word.now) }
+{
+    if is_left_out(word) {
+        Ok(FaultKind::LeftOut(Text::new(alloc, word.as_bytes())?))
+    } else {
+        Ok(FaultKind::UnknownName)
+    }
+}
+
+/// The number of the predicate that the word at the head of an atom's list names, where it takes as many
+/// terms as there are.
+fn read_head(
+    alloc: Global,
+    known: &Known,
+    span: Span,
+    head: Span,
+    word: &Text,
+    terms: usize,
+) -> Result<u32, ReadErr>
+    ensures sound { IfOk result (λ number. atoms.head_flaws (known_value known.now) span head word.now terms ≡ []) }
+    ensures read { IfOk result (λ number. number ≡ atoms.predicate_number (known_value known.now) word.now) }
+    ensures fault { IfErr result (λ e. IfFault e (λ fault.
+        first_listed (atoms.head_flaws (known_value known.now) span head word.now terms) ≡ Some fault)) }
+{
+    let Some(number) = known.predicates.number_of(word) else {
+        return Err(fault_at(head, head_fault(alloc, word)?));
+    };
+    let arity = known.arities.get(number as usize).copied().unwrap_or(0);
+    if terms == arity as usize {
+        Ok(number)
+    } else {
+        Err(fault_at(span, FaultKind::WrongArity))
+    }
+}
+
+/// The predicate and the terms of an atom: the list with this span, the word at its head with its span,
+/// and the terms after it.
+pub fn read_atom(
+    alloc: Global,
+    known: &Known,
+    scope: &Scope,
+    span: Span,
+    head: Span,
+    word: &Text,
+    terms: &[Form],
+) -> Result<(u32, Vec<Term>), ReadErr>
+    ensures sound { IfOk result (λ atom. atoms.atom_flaws (known_value known.now) scope.now span head word.now (forest_of terms.now) ≡ []) }
+    ensures predicate { IfOk result (λ atom. atom.0 ≡ atoms.predicate_number (known_value known.now) word.now) }
+    ensures terms { IfOk result (λ atom. atom.1.items ≡ atoms.terms_of (known_value known.now) scope.now (forest_of terms.now)) }
+    ensures fault { IfErr result (λ e. IfFault e (λ fault.
+        first_listed (atoms.atom_flaws (known_value known.now) scope.now span head word.now (forest_of terms.now)) ≡ Some fault)) }
+{
+    let predicate = read_head(alloc, known, span, head, word, count(terms))?;
+    let terms = read_terms(alloc, known, scope, terms)?;
+    Ok((predicate, terms))
+}
+
+/// An atom over constants and objects alone: the list with this span, the word at its head with its span,
+/// and the terms after it.
+pub fn read_ground_atom(
+    alloc: Global,
+    known: &Known,
+    span: Span,
+    head: Span,
+    word: &Text,
+    terms: &[Form],
+) -> Result<GroundAtom, ReadErr>
+    ensures sound { IfOk result (λ atom. atoms.ground_atom_flaws (known_value known.now) span head word.now (forest_of terms.now) ≡ []) }
+    ensures read { IfOk result (λ atom. atom_value atom ≡ atoms.ground_atom (known_value known.now) word.now (forest_of terms.now)) }
+    ensures fault { IfErr result (λ e. IfFault e (λ fault.
+        first_listed (atoms.ground_atom_flaws (known_value known.now) span head word.now (forest_of terms.now)) ≡ Some fault)) }
+{
+    let predicate = read_head(alloc, known, span, head, word, count(terms))?;
+    let objects = read_objects(alloc, known, terms)?;
+    Ok(GroundAtom { predicate, objects })
+}

@@ -1,0 +1,25 @@
+//! Planning domains and problems as trees.
+#![tactic(auto)]
+
+mod atoms;
+mod keywords;
+mod effects;
+mod formulas;
+mod known;
+mod names;
+mod scope;
+mod trees;
+mod typed_lists;
+
+pub use atoms::{read_atom, read_ground_atom, read_terms};
+pub use effects::read_effect;
+pub use formulas::read_formula;
+pub use keywords::{Keyword, is_dash, is_left_out, is_reserved, is_variable, keyword_of, spells};
+pub use known::Known;
+pub use names::NameTable;
+pub use scope::Scope;
+pub use trees::{
+    Domain, Effect, Formula, GroundAtom, InitialLiteral, Named, ObjectId, Predicate, PredicateId,
+    Problem, Schema, Term, TypeId,
+};
+pub use typed_lists::{Declares, TypedGroup, read_typed_list, types_of};
