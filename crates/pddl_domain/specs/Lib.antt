@@ -1,3 +1,4 @@
 pub mod Ancestors
 pub mod Sections
 pub mod Types
+pub mod Constants

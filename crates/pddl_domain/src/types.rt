@@ -101,7 +101,7 @@ fn push_for_each(parents: &mut Vec<u32>, names: &[Text], number: u32) -> Result<
 }
 
 /// The number of a type; 0 where there is none of the name.
-fn type_number(names: &NameTable, word: &Text) -> u32
+pub fn type_number(names: &NameTable, word: &Text) -> u32
     ensures { result ≡ number_of_type names.now word.now }
 {
     names.number_of(word).unwrap_or(0)
