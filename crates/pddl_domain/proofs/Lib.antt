@@ -1,3 +1,4 @@
 pub mod Pigeonhole
 pub mod AncestorLemmas
 pub mod TypeLemmas
+pub mod ListLemmas

@@ -11,7 +11,7 @@ ghost use Rattle.pddl_domain.specs.Constants as specs;
 use crate::refusals::fault_at;
 use pddl_ast::{Declares, NameTable, Predicate, TypedGroup, is_reserved, read_typed_list};
 use sexpr_text::{FaultKind, Form, Head, ReadErr, Span, Text, View, head_of, is_name};
-use std::alloc::Global;
+use std::alloc::{AllocError, Global};
 
 /// The predicates of a domain by their numbers: the names, and how many terms each takes.
 #[derive(Drop)]
@@ -79,7 +79,8 @@ fn read_predicate(
 ) -> Result<Predicate, ReadErr>
     ensures sound { OnOk result (specs.predicate_flaws types.now names.old span (forest_of parts.now) ≡ []) }
     ensures read { IfOk result (λ predicate. specs.predicate_of (forest_of parts.now) ≡ predicate ∷ []) }
-    ensures names { OnOk result (names.new ≡ specs.with_first_word names.old (forest_of parts.now)) }
+    ensures first_word { OnOk result (names.new ≡ specs.with_first_word names.old (forest_of parts.now)) }
+    ensures name { IfOk result (λ predicate. names.new ≡ names.old ++ predicate.name ∷ []) }
     ensures fault { IfErr result (λ e. IfFault e (λ f. first_listed (specs.predicate_flaws types.now names.old span (forest_of parts.now)) ≡ Some f)) }
 {
     match head_of(parts) {
@@ -98,6 +99,13 @@ fn read_predicate(
     }
 }
 
+/// How many terms each of the predicates takes.
+fn arities_of(alloc: Global, predicates: &[Predicate]) -> Result<Vec<u32>, AllocError>
+    ensures { IfOk result (λ arities. arities.items ≡ map (λ q. q.arity) predicates.now) }
+{
+    predicates.iter().map(|q| q.arity).collect(alloc)
+}
+
 /// The predicates of a `:predicates` section with these forms after its word.
 pub fn read_predicates(
     alloc: Global,
@@ -112,17 +120,16 @@ pub fn read_predicates(
 {
     let mut predicates = Vec::new(alloc);
     let mut names = NameTable::new(alloc);
-    let mut arities = Vec::new(alloc);
     for form in list {
         match form.view() {
             View::Word(span, _) => return Err(fault_at(span, FaultKind::BadForm)),
             View::Group(span, parts) => {
                 let predicate = read_predicate(alloc, types, &mut names, span, parts)?;
-                arities.push(predicate.arity)?;
                 predicates.push(predicate)?;
             }
         }
     }
+    let arities = arities_of(alloc, &predicates)?;
     Ok(Predicates {
         list: predicates,
         names,

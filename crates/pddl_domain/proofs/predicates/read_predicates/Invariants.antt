@@ -9,5 +9,4 @@ invariant-loop-form l = record {
   flaws : specs.predicates_flaws l.types [] (forest_of l.list) ≡ specs.predicates_flaws l.types l.names (forest_of (drop l.form-index l.list));
   read : specs.predicates_of (forest_of l.list) ≡ l.predicates.items ++ specs.predicates_of (forest_of (drop l.form-index l.list));
   names : l.names ≡ map (λ (q : Predicate). q.name) l.predicates.items;
-  arities : l.arities.items ≡ map (λ (q : Predicate). q.arity) l.predicates.items;
 }
