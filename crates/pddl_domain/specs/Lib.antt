@@ -2,3 +2,5 @@ pub mod Ancestors
 pub mod Sections
 pub mod Types
 pub mod Constants
+pub mod Actions
+pub mod ActionParts

@@ -1,0 +1,15 @@
+-- Private: what the reader of an action's parts holds.
+use Rattle.std.specs.Prelude.{Option, Some, None}
+use Rattle.sexpr_text.specs.declared.parts.View.{View}
+use Rattle.sexpr_text.specs.Forest.{Forest, nothing}
+use Rattle.sexpr_text.specs.Heads.{view_then}
+use Rattle.pddl_domain.specs.declared.actions.ActionParts.{ActionParts}
+use Rattle.pddl_domain.specs.Actions.{Parts}
+
+-- a form alone, or none
+abbrev pub row_of : Option View → Forest
+row_of None = nothing
+row_of (Some view) = view_then view nothing
+
+abbrev pub parts_value : ActionParts → Parts
+parts_value p = record { parameters = row_of p.parameters; precondition = row_of p.precondition; effect = row_of p.effect }

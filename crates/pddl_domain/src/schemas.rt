@@ -1,0 +1,127 @@
+//! The actions of a domain.
+
+ghost use Rattle.std.specs.Prelude.{◌≡◌, ◌∷◌, ◌++◌, [], IfOk, IfErr, OnOk, Some, map};
+ghost use Rattle.std.specs.List.{concat};
+ghost use Rattle.sexpr_text.specs.Forest.{forest_of};
+ghost use Rattle.sexpr_text.specs.Flaws.{first_listed};
+ghost use Rattle.sexpr_text.specs.Passes.{IfFault};
+ghost use Rattle.pddl_ast.specs.Environment.{known_value};
+ghost use Rattle.pddl_ast.specs.Formulas.{formulas_flaws, formulas_of, first_formula};
+ghost use Rattle.pddl_ast.specs.Effects.{effects_flaws, effects_of, first_effect};
+ghost use Rattle.pddl_ast.specs.Values.{formula_value, effect_value, schema_value};
+ghost use Rattle.pddl_domain.specs.ActionParts.{parts_value, row_of};
+ghost use Rattle.pddl_domain.specs.Actions as specs;
+ghost use Rattle.pddl_domain.specs.Constants.{with_first_word};
+
+use crate::actions::{ActionParts, read_parts};
+use crate::refusals::fault_at;
+use crate::sections::{Section, section_kind};
+use pddl_ast::{
+    Effect, Formula, Known, NameTable, Schema, Scope, no_change, read_effect, read_formula,
+    read_variables, truth,
+};
+use sexpr_text::{FaultKind, Form, Head, ReadErr, Span, Text, View, head_of, is_name};
+use std::alloc::Global;
+
+/// Declares an action, where its name is one, and none of the earlier ones.
+fn add_name(
+    alloc: Global,
+    names: &mut NameTable,
+    span: Span,
+    name: &Text,
+) -> Result<(), ReadErr>
+    ensures sound { OnOk result (specs.action_name_flaws names.old span name.now ≡ []) }
+    ensures names { OnOk result (names.new ≡ names.old ++ name.now ∷ []) }
+    ensures fault { IfErr result (λ e. IfFault e (λ f. first_listed (specs.action_name_flaws names.old span name.now) ≡ Some f)) }
+{
+    if !is_name(name) {
+        return Err(fault_at(span, FaultKind::BadForm));
+    }
+    if names.contains(name) {
+        return Err(fault_at(span, FaultKind::DoubleName));
+    }
+    names.add(alloc, name)?;
+    Ok(())
+}
+
+/// The shape of an action, the list with this span and these forms after the word `:action`: its name, and
+/// the forms after its keys.
+fn read_shape<'a>(
+    alloc: Global,
+    names: &mut NameTable,
+    span: Span,
+    action: &'a [Form],
+) -> Result<(&'a Text, ActionParts<'a>), ReadErr>
+    ensures sound { OnOk result (specs.shape_flaws names.old span (forest_of action.now) ≡ []) }
+    ensures names { OnOk result (names.new ≡ with_first_word names.old (forest_of action.now)) }
+    ensures name { IfOk result (λ p. p.0.now ≡ specs.first_text (forest_of action.now)) }
+    ensures parts { IfOk result (λ p. parts_value p.1 ≡ specs.parts_of (forest_of action.now)) }
+    ensures fault { IfErr result (λ e. IfFault e (λ f. first_listed (specs.shape_flaws names.old span (forest_of action.now)) ≡ Some f)) }
+{
+    match head_of(action) {
+        Head::Nothing => Err(fault_at(span, FaultKind::BadForm)),
+        Head::Group(span, _, _) => Err(fault_at(span, FaultKind::BadForm)),
+        Head::Word(span, name, rest) => {
+            add_name(alloc, names, span, name)?;
+            Ok((name, read_parts(alloc, rest)?))
+        }
+    }
+}
+
+/// The types of an action's parameters, which it brings into the empty scope.
+fn read_parameters(
+    alloc: Global,
+    known: &Known,
+    scope: &mut Scope,
+    form: Option<View<'_>>,
+) -> Result<Vec<u32>, ReadErr>
+    requires { scope.old ≡ [] }
+    ensures sound { OnOk result (specs.parameters_flaws (known_value known.now) (row_of form.entry) ≡ []) }
+    ensures types { IfOk result (λ types. types.items ≡ specs.parameter_types (known_value known.now) (row_of form.entry)) }
+    ensures scope { OnOk result (scope.new ≡ specs.parameter_scope (row_of form.entry)) }
+    ensures fault { IfErr result (λ e. IfFault e (λ f. first_listed (specs.parameters_flaws (known_value known.now) (row_of form.entry)) ≡ Some f)) }
+{
+    match form {
+        None => Ok(Vec::new(alloc)),
+        Some(View::Word(span, _)) => Err(fault_at(span, FaultKind::BadForm)),
+        Some(View::Group(_, list)) => read_variables(alloc, known, scope, list),
+    }
+}
+
+/// An action's precondition.
+fn read_precondition(
+    alloc: Global,
+    known: &Known,
+    scope: &mut Scope,
+    form: Option<View<'_>>,
+) -> Result<Formula, ReadErr>
+    ensures scope { OnOk result (scope.new ≡ scope.old) }
+    ensures sound { OnOk result (formulas_flaws (known_value known.now) (row_of form.entry) scope.old ≡ []) }
+    ensures read { IfOk result (λ f. formula_value f ≡ first_formula (formulas_of (known_value known.now) (row_of form.entry) scope.old)) }
+    ensures fault { IfErr result (λ e. IfFault e (λ f. first_listed (formulas_flaws (known_value known.now) (row_of form.entry) scope.old) ≡ Some f)) }
+{
+    match form {
+        None => Ok(truth(alloc)),
+        Some(View::Word(span, _)) => Err(fault_at(span, FaultKind::BadForm)),
+        Some(View::Group(span, parts)) => read_formula(alloc, known, scope, span, parts),
+    }
+}
+
+/// An action's effect.
+fn read_whole_effect(
+    alloc: Global,
+    known: &Known,
+    scope: &mut Scope,
+    form: Option<View<'_>>,
+) -> Result<Effect, ReadErr>
+    ensures scope { OnOk result (scope.new ≡ scope.old) }
+    ensures sound { OnOk result (effects_flaws (known_value known.now) (row_of form.entry) scope.old ≡ []) }
+    ensures read { IfOk result (λ e. effect_value e ≡ first_effect (effects_of (known_value known.now) (row_of form.entry) scope.old)) }
+    ensures fault { IfErr result (λ e. IfFault e (λ f. first_listed (effects_flaws (known_value known.now) (row_of form.entry) scope.old) ≡ Some f)) }
+{
+    match form {
+        None => Ok(no_change(alloc)),
+        Some(View::Word(span, _)) => Err(fault_at(span, FaultKind::BadForm)),
+        Some(View::Group(span, parts)) => read_effect(alloc, known, scope, span, parts),
+    }
+}
