@@ -1,7 +1,8 @@
--- Private: what the reader of an action's parts holds.
-use Rattle.std.specs.Prelude.{Option, Some, None}
+-- Private: what the reader of an action's parts holds, and in which order it meets the flaws of passes.
+use Rattle.std.specs.Prelude.{List, [], ◌∷◌, ◌++◌, Option, Some, None}
 use Rattle.sexpr_text.specs.declared.parts.View.{View}
 use Rattle.sexpr_text.specs.Forest.{Forest, nothing}
+use Rattle.sexpr_text.specs.Flaws.{Flaw}
 use Rattle.sexpr_text.specs.Heads.{view_then}
 use Rattle.pddl_domain.specs.declared.actions.ActionParts.{ActionParts}
 use Rattle.pddl_domain.specs.Actions.{Parts}
@@ -13,3 +14,9 @@ row_of (Some view) = view_then view nothing
 
 abbrev pub parts_value : ActionParts → Parts
 parts_value p = record { parameters = row_of p.parameters; precondition = row_of p.precondition; effect = row_of p.effect }
+
+-- the flaws of several passes, those of the first pass first. Where each pass lists its flaws in the order of
+-- the text, the first of them all is the fault of these passes
+abbrev pub in_turn : List (List Flaw) → List Flaw
+in_turn [] = []
+in_turn (flaws ∷ passes) = flaws ++ in_turn passes

@@ -121,14 +121,17 @@ parameter_types known (word span w rest) = []
 parameter_types known (group span list rest) = variable_types known list
 
 -- what is wrong with an action, pass by pass: its shape, its parameters, its precondition, its effect
-abbrev pub action_passes : Known → List (List ℕ) → Span → Forest → List (List Flaw)
-action_passes known before span action =
-    let parts = parts_of action in
-    shape_flaws before span action
-    ∷ parameters_flaws known parts.parameters
-    ∷ formulas_flaws known parts.precondition (parameter_scope parts.parameters)
+abbrev pub condition_passes : Known → Parts → List (List Flaw)
+condition_passes known parts =
+    formulas_flaws known parts.precondition (parameter_scope parts.parameters)
     ∷ effects_flaws known parts.effect (parameter_scope parts.parameters)
     ∷ []
+
+abbrev pub body_passes : Known → Parts → List (List Flaw)
+body_passes known parts = parameters_flaws known parts.parameters ∷ condition_passes known parts
+
+abbrev pub action_passes : Known → List (List ℕ) → Span → Forest → List (List Flaw)
+action_passes known before span action = shape_flaws before span action ∷ body_passes known (parts_of action)
 
 abbrev pub first_text : Forest → List ℕ
 first_text nothing = []
@@ -157,18 +160,29 @@ action_in nothing = None
 action_in (group s p rest) = None
 action_in (word s w rest) = if is_action (section_kind w) then Some rest else None
 
+-- the passes over a section with this span, where it is an action; the names of the actions after it; and the
+-- action that it is
+abbrev pub section_passes : Known → List (List ℕ) → Span → Option Forest → List (List Flaw)
+section_passes known before span None = []
+section_passes known before span (Some action) = action_passes known before span action
+
+abbrev pub names_after : List (List ℕ) → Option Forest → List (List ℕ)
+names_after before None = before
+names_after before (Some action) = with_first_word before action
+
+abbrev pub section_schemas : Known → Option Forest → List SchemaTree
+section_schemas known None = []
+section_schemas known (Some action) = schema_of known action ∷ []
+
 -- the passes over all actions among the sections, where actions of these names came before
 abbrev pub actions_passes : Known → List (List ℕ) → Forest → List (List Flaw)
 actions_passes known before nothing = []
 actions_passes known before (word span w rest) = actions_passes known before rest
-actions_passes known before (group span parts rest) = elim (action_in parts) [
-    None ↦ actions_passes known before rest
-  | Some action ↦ action_passes known before span action ++ actions_passes known (with_first_word before action) rest ]
+actions_passes known before (group span parts rest) =
+    section_passes known before span (action_in parts) ++ actions_passes known (names_after before (action_in parts)) rest
 
 -- all actions among the sections
 abbrev pub schemas_of : Known → Forest → List SchemaTree
 schemas_of known nothing = []
 schemas_of known (word span w rest) = schemas_of known rest
-schemas_of known (group span parts rest) = elim (action_in parts) [
-    None ↦ schemas_of known rest
-  | Some action ↦ schema_of known action ∷ schemas_of known rest ]
+schemas_of known (group span parts rest) = section_schemas known (action_in parts) ++ schemas_of known rest
