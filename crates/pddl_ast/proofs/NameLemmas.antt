@@ -1,11 +1,15 @@
 -- Names in the order of their numbers: a table of bytes answers as the list of the names does.
-use Rattle.std.proofs.Common.{◌≡◌, ℕ, ◌+◌, Bool, true, false, cond, List, [], ◌∷◌, ◌++◌, map, length, reverse, refl, ap, sym, ◌∙◌, Some, None, Option, if◌then◌else◌, ◌||◌, not}
+use Rattle.std.proofs.Common.{◌≡◌, ℕ, ◌+◌, Bool, true, false, cond, List, [], ◌∷◌, ◌++◌, map, length, reverse, refl, ap, sym, ◌∙◌, Some, None, Option, if◌then◌else◌, ◌||◌, not, ◌<◌, ◌≤◌, take, get_or, arith}
 use Rattle.std.specs.Prelude.{position, nat_lt}
 use Rattle.std.specs.List.{list_any, position_or_len}
 use Rattle.std.specs.Str.{bytes_eq}
 use Rattle.std.specs.declared.vec.Vec.{Vec}
 use Rattle.std.specs.declared.alloc.Global.{Global}
 use Rattle.std.proofs.lemmas.List.{reverse-append, length-reverse, length-map}
+use Rattle.std.proofs.lemmas.List.{append_assoc, append-nil, take_more, length-take-le}
+use Rattle.pddl_ast.specs.TypedLists.{names_of}
+use Rattle.pddl_ast.specs.Environment.{group_value}
+use Rattle.pddl_ast.specs.declared.typed_lists.TypedGroup.{TypedGroup}
 use Rattle.pddl_ast.specs.Known.{number_in, number_from_inside, variable_number}
 
 abbrev pub items_of : List (Vec ℕ Global) → List (List ℕ)
@@ -61,3 +65,22 @@ table_adds names new keys after name k view shown same grows =
     both : (b : Bool) → items_of (if b then keys else keys ++ k ∷ []) ≡ (if b then names else names ++ name ∷ [])
     both true = sym view
     both false = items_push keys k ∙ (ap (λ l. l ++ k.items ∷ []) (sym view) ∙ ap (λ w. names ++ w ∷ []) same)
+
+-- the names of one more group
+pub names_push : (scope : List (List ℕ)) (gs : List TypedGroup) (g : TypedGroup)
+    → (scope ++ names_of (map group_value gs)) ++ g.names.items ≡ scope ++ names_of (map group_value (gs ++ g ∷ []))
+names_push scope gs g = append_assoc scope (names_of (map group_value gs)) g.names.items ∙ ap (λ l. scope ++ l) (push gs)
+  where
+    push : (gs : List TypedGroup) → names_of (map group_value gs) ++ g.names.items ≡ names_of (map group_value (gs ++ g ∷ []))
+    push [] = sym (append-nil g.names.items)
+    push (h ∷ gs) = append_assoc h.names.items (names_of (map group_value gs)) g.names.items ∙ ap (λ l. h.names.items ++ l) (push gs)
+
+-- the variables up to one, and with it
+pub variable_step : (scope : List (List ℕ)) (name item : List ℕ) (k : ℕ) → k < length scope → item ≡ get_or scope k item
+    → variable_number (take (k + 1) scope) name ≡ (if bytes_eq name item then Some k else variable_number (take k scope) name)
+variable_step scope name item k h at =
+    let len : length (take k scope) ≡ k = length-take-le k scope (omega arith) in
+    ap (λ l. variable_number l name) (take_more scope k item h)
+    ∙ (variable_push (take k scope) (get_or scope k item) name
+    ∙ (ap (λ w. if bytes_eq name w then Some (length (take k scope)) else variable_number (take k scope) name) (sym at)
+    ∙ ap (λ n. if bytes_eq name item then Some n else variable_number (take k scope) name) len))

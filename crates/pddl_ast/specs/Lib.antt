@@ -9,3 +9,4 @@ pub mod Effects
 pub mod Depth
 pub mod Fits
 pub mod Environment
+pub mod Pending

@@ -17,7 +17,7 @@ use crate::names::NameTable;
 use crate::scope::Scope;
 use crate::trees::{Formula, Term};
 use crate::typed_lists::{Declares, TypedGroup, read_typed_list, types_of};
-use sexpr_text::{FaultKind, Form, Head, ReadErr, Span, View, fault_at, head_of};
+use sexpr_text::{FaultKind, Form, Head, ReadErr, Span, Text, View, fault_at, head_of};
 use std::alloc::{AllocError, Global};
 
 /// The formula that is true of everything, `()`.
@@ -60,21 +60,28 @@ fn equality_of(alloc: Global, terms: Vec<Term>) -> Formula
     }
 }
 
+/// Brings variables into scope, the later ones inside the earlier ones.
+fn enter_names(scope: &mut Scope, names: Vec<Text>) -> Result<(), AllocError>
+    ensures { OnOk result (scope.new ≡ scope.old ++ names.items) }
+{
+    for name in names {
+        scope.enter(name)?;
+    }
+    Ok(())
+}
+
 /// Brings the variables of some groups into scope, the later ones inside the earlier ones.
-pub(crate) fn enter_groups(scope: &mut Scope, groups: Vec<TypedGroup>) -> Result<(), ReadErr>
-    ensures entered { OnOk result (scope.new ≡ scope.old ++ names_of (map group_value groups.items)) }
-    ensures fault { IfErr result (λ e. e ≡ ReadErr.Memory) }
+pub fn enter_groups(scope: &mut Scope, groups: Vec<TypedGroup>) -> Result<(), AllocError>
+    ensures { OnOk result (scope.new ≡ scope.old ++ names_of (map group_value groups.items)) }
 {
     for group in groups {
-        for name in group.names {
-            scope.enter(name)?;
-        }
+        enter_names(scope, group.names)?;
     }
     Ok(())
 }
 
 /// Reads the variables of a quantifier, brings them into scope, and gives their types.
-pub(crate) fn read_variables(
+pub fn read_variables(
     alloc: Global,
     known: &Known,
     scope: &mut Scope,

@@ -1,8 +1,10 @@
 //! The variables in scope.
 
-ghost use Rattle.std.specs.Prelude.{◌≡◌, ◌≤◌, [], ◌∷◌, ◌++◌, length, take, OnOk};
+ghost use Rattle.std.specs.Prelude.{◌≡◌, ◌≤◌, [], ◌∷◌, ◌++◌, length, take, OnOk, if◌then◌else◌};
+ghost use Rattle.std.specs.Str.{bytes_eq};
 ghost use Rattle.pddl_ast.specs.Known.{variable_number};
 
+use crate::keywords::spells;
 use sexpr_text::Text;
 use std::alloc::{AllocError, Global};
 use std::marker::Model;
@@ -46,15 +48,12 @@ impl Scope {
     }
 
     /// The number of the variable that the name means: the innermost of that name.
-    #[tactic(auto, using(crate::proofs::NameLemmas::variable_push))]
     pub fn number_of(&self, name: &Text) -> Option<u32>
         ensures { result ≡ variable_number self.now name.now }
     {
         let mut number = None;
         for (k, variable) in self.names.iter().enumerate() {
-            if variable.as_bytes() == name.as_bytes() {
-                number = Some(k as u32);
-            }
+            number = if_same(name, variable, k as u32, number);
         }
         number
     }
@@ -76,5 +75,16 @@ impl Scope {
         ensures { self.new ≡ take len self.old }
     {
         self.names.truncate(len);
+    }
+}
+
+/// The number of a variable where it has the name, else the other number.
+fn if_same(name: &Text, variable: &Text, number: u32, other: Option<u32>) -> Option<u32>
+    ensures { result ≡ (if bytes_eq name.now variable.now then Some number else other) }
+{
+    if spells(name, variable.as_bytes()) {
+        Some(number)
+    } else {
+        other
     }
 }

@@ -1,15 +1,19 @@
 //! Typed lists.
 
-ghost use Rattle.std.specs.Prelude.{◌≡◌, [], Some, map, IfOk, IfErr, OnOk};
-ghost use Rattle.sexpr_text.specs.Forest.{forest_of};
-ghost use Rattle.sexpr_text.specs.Flaws.{first_listed};
+ghost use Rattle.std.specs.Prelude.{◌≡◌, ℕ, List, [], ◌∷◌, ◌++◌, Some, true, false, map, IfOk, IfErr, OnOk};
+ghost use Rattle.sexpr_text.specs.Forest.{Forest, nothing, word as word_then, forest_of};
+ghost use Rattle.pddl_ast.specs.Pending as state;
+ghost use Rattle.pddl_ast.specs.Words as words;
+ghost use Rattle.sexpr_text.specs.Flaws.{Flaw, first_listed};
 ghost use Rattle.sexpr_text.specs.Passes.{IfFault};
 ghost use Rattle.pddl_ast.specs.Environment.{group_value};
 ghost use Rattle.pddl_ast.specs.TypedLists as lists;
 
+use crate::keywords::{is_dash, is_variable, spells};
 use crate::names::NameTable;
-use sexpr_text::{FaultKind, Form, ReadErr, Text, View, fault_at};
+use sexpr_text::{FaultKind, Form, Head, ReadErr, Span, Text, View, fault_at, head_of, is_name};
 use std::alloc::{AllocError, Global};
+use std::mem;
 
 /// What a typed list declares, which decides its rules.
 #[derive(Clone, Copy, Debug)]
@@ -31,6 +35,279 @@ pub struct TypedGroup {
     pub type_word: Text,
 }
 
+/// Refuses a `-` with no name of its group before it, or after which no type comes.
+fn check_dash(span: Span, named: bool, rest: &[Form]) -> Result<(), ReadErr>
+    ensures sound { OnOk result (lists.dash_flaws span named (forest_of rest.now) ≡ []) }
+    ensures due { OnOk result (lists.begins_type (forest_of rest.now) ≡ true) }
+    ensures fault { IfErr result (λ e. IfFault e (λ fault.
+        first_listed (lists.dash_flaws span named (forest_of rest.now)) ≡ Some fault)) }
+{
+    if named && begins_type(rest) {
+        Ok(())
+    } else {
+        Err(fault_at(span, FaultKind::BadForm))
+    }
+}
+
+/// Whether a type may begin the row: it begins with something else than `-`.
+fn begins_type(row: &[Form]) -> bool
+    ensures { result ≡ lists.begins_type (forest_of row.now) }
+{
+    match head_of(row) {
+        Head::Nothing => false,
+        Head::Word(_, word, _) => !is_dash(word),
+        Head::Group(_, _, _) => true,
+    }
+}
+
+/// The fault of a list in a type's place.
+fn either_fault(alloc: Global, parts: &[Form]) -> Result<FaultKind, AllocError>
+    ensures { IfOk result (λ kind. kind ≡ lists.either_fault (forest_of parts.now)) }
+{
+    if begins_with_either(parts) {
+        Ok(FaultKind::LeftOut(Text::new(alloc, b"either")?))
+    } else {
+        Ok(FaultKind::BadForm)
+    }
+}
+
+/// Whether the row begins with the word `either`.
+fn begins_with_either(row: &[Form]) -> bool
+    ensures { result ≡ lists.begins_with_either (forest_of row.now) }
+{
+    match head_of(row) {
+        Head::Word(_, word, _) => spells(word, b"either"),
+        _ => false,
+    }
+}
+
+impl Declares {
+    /// Whether the list declares words of this kind.
+    fn wants(self, word: &Text) -> bool
+        ensures { result ≡ lists.is_wanted self word.now }
+    {
+        match self {
+            Declares::Types | Declares::Objects => is_name(word),
+            Declares::Variables | Declares::PredicateVariables => is_variable(word),
+        }
+    }
+
+    /// Whether the word may come again.
+    fn may_repeat(self, word: &Text) -> bool
+        ensures { result ≡ lists.may_repeat self word.now }
+    {
+        match self {
+            Declares::Types => spells(word, b"object"),
+            Declares::Objects | Declares::Variables => false,
+            Declares::PredicateVariables => true,
+        }
+    }
+
+    /// Whether the word may be a type.
+    fn is_type(self, types: &NameTable, word: &Text) -> bool
+        ensures { result ≡ lists.is_type self types.now word.now }
+    {
+        match self {
+            Declares::Types => true,
+            Declares::Objects | Declares::Variables | Declares::PredicateVariables => {
+                types.contains(word)
+            }
+        }
+    }
+}
+
+/// A word in a name's place. It is added to the names that came so far.
+fn read_name(
+    alloc: Global,
+    declares: Declares,
+    seen: &mut NameTable,
+    span: Span,
+    word: &Text,
+) -> Result<Text, ReadErr>
+    ensures sound { OnOk result (lists.name_flaws declares span word.now seen.old ≡ []) }
+    ensures read { IfOk result (λ name. name ≡ word.now) }
+    ensures seen { OnOk result (seen.new ≡ lists.seen_after declares word.now seen.old) }
+    ensures fault { IfErr result (λ e. IfFault e (λ fault. (later : List Flaw) →
+        first_listed (lists.name_flaws declares span word.now seen.old ++ later) ≡ Some fault)) }
+{
+    if !declares.wants(word) {
+        return Err(fault_at(span, FaultKind::BadForm));
+    }
+    if declares.may_repeat(word) {
+        return Ok(Text::new(alloc, word.as_bytes())?);
+    }
+    if !seen.add(alloc, word)? {
+        return Err(fault_at(span, FaultKind::DoubleName));
+    }
+    Ok(Text::new(alloc, word.as_bytes())?)
+}
+
+/// A word in a type's place.
+fn read_type(
+    alloc: Global,
+    declares: Declares,
+    types: &NameTable,
+    span: Span,
+    word: &Text,
+) -> Result<Text, ReadErr>
+    ensures sound { OnOk result (lists.word_flaws declares types.now span word.now ≡ []) }
+    ensures read { IfOk result (λ name. name ≡ word.now) }
+    ensures fault { IfErr result (λ e. IfFault e (λ fault.
+        first_listed (lists.word_flaws declares types.now span word.now) ≡ Some fault)) }
+{
+    if !declares.is_type(types, word) {
+        return Err(fault_at(span, FaultKind::UnknownName));
+    }
+    Ok(Text::new(alloc, word.as_bytes())?)
+}
+
+/// What was read of a typed list: the groups that are complete, the names of the next one, and whether
+/// its `-` came, so that its type is due.
+#[derive(Drop)]
+pub struct Pending {
+    groups: Vec<TypedGroup>,
+    names: Vec<Text>,
+    typed: bool,
+}
+
+impl Pending {
+    /// Nothing was read.
+    fn new(alloc: Global) -> Pending
+        ensures name { result.typed ≡ false }
+        ensures flaws { (declares : Declares) (types seen : List (List ℕ)) (rest : Forest) → state.flaws_of declares types seen result rest
+            ≡ lists.typed_list_flaws declares types seen rest }
+        ensures groups { (rest : Forest) → state.groups_of result rest ≡ lists.typed_groups rest }
+        ensures names { state.names_so_far result ≡ [] }
+    {
+        Pending {
+            groups: Vec::new(alloc),
+            names: Vec::new(alloc),
+            typed: false,
+        }
+    }
+
+    /// Takes a word in a type's place, which completes the group.
+    #[tactic(auto, using(crate::proofs::Pending::groups_push))]
+    fn take_type(
+        &mut self,
+        alloc: Global,
+        declares: Declares,
+        types: &NameTable,
+        span: Span,
+        word: &Text,
+    ) -> Result<(), ReadErr>
+        requires due { self.old.typed ≡ true }
+        requires no_dash { words.is_dash word.now ≡ false }
+        ensures name { OnOk result (self.new.typed ≡ false) }
+        ensures flaws { OnOk result ((rest : Forest) (seen : List (List ℕ)) → state.flaws_of declares types.now seen self.old (word_then span word.now rest)
+            ≡ state.flaws_of declares types.now seen self.new rest) }
+        ensures groups { OnOk result ((rest : Forest) → state.groups_of self.old (word_then span word.now rest) ≡ state.groups_of self.new rest) }
+        ensures names { OnOk result (state.names_so_far self.new ≡ state.names_so_far self.old) }
+        ensures fault { IfErr result (λ e. IfFault e (λ fault. (rest : Forest) (seen : List (List ℕ)) →
+            first_listed (state.flaws_of declares types.now seen self.old (word_then span word.now rest)) ≡ Some fault)) }
+    {
+        let type_word = read_type(alloc, declares, types, span, word)?;
+        let names = mem::replace(&mut self.names, Vec::new(alloc));
+        self.groups.push(TypedGroup { names, type_word })?;
+        self.typed = false;
+        Ok(())
+    }
+
+    /// Takes a `-`, which these forms follow.
+    fn take_dash(&mut self, declares: Declares, types: &NameTable, seen: &NameTable, span: Span, word: &Text, rest: &[Form]) -> Result<(), ReadErr>
+        requires name { self.old.typed ≡ false }
+        requires dash { words.is_dash word.now ≡ true }
+        ensures due { OnOk result (lists.begins_type (forest_of rest.now) ≡ true) }
+        ensures flaws { OnOk result (state.flaws_of declares types.now seen.now self.old (word_then span word.now (forest_of rest.now))
+            ≡ state.flaws_of declares types.now seen.now self.new (forest_of rest.now)) }
+        ensures groups { OnOk result (state.groups_of self.old (word_then span word.now (forest_of rest.now)) ≡ state.groups_of self.new (forest_of rest.now)) }
+        ensures names { OnOk result (state.names_so_far self.new ≡ state.names_so_far self.old) }
+        ensures fault { IfErr result (λ e. IfFault e (λ fault.
+            first_listed (state.flaws_of declares types.now seen.now self.old (word_then span word.now (forest_of rest.now))) ≡ Some fault)) }
+    {
+        check_dash(span, !self.names.is_empty(), rest)?;
+        self.typed = true;
+        Ok(())
+    }
+
+    /// Takes a word in a name's place.
+    fn take_name(
+        &mut self,
+        alloc: Global,
+        declares: Declares,
+        types: &NameTable,
+        seen: &mut NameTable,
+        span: Span,
+        word: &Text,
+    ) -> Result<(), ReadErr>
+        requires name { self.old.typed ≡ false }
+        requires no_dash { words.is_dash word.now ≡ false }
+        ensures name { OnOk result (self.new.typed ≡ false) }
+        ensures flaws { OnOk result ((rest : Forest) → state.flaws_of declares types.now seen.old self.old (word_then span word.now rest)
+            ≡ state.flaws_of declares types.now seen.new self.new rest) }
+        ensures groups { OnOk result ((rest : Forest) → state.groups_of self.old (word_then span word.now rest) ≡ state.groups_of self.new rest) }
+        ensures names { OnOk result (state.names_so_far self.new ≡ state.names_so_far self.old ++ word.now ∷ []) }
+        ensures seen { OnOk result (seen.new ≡ lists.seen_after declares word.now seen.old) }
+        ensures fault { IfErr result (λ e. IfFault e (λ fault. (rest : Forest) →
+            first_listed (state.flaws_of declares types.now seen.old self.old (word_then span word.now rest)) ≡ Some fault)) }
+    {
+        self.names
+            .push(read_name(alloc, declares, seen, span, word)?)?;
+        Ok(())
+    }
+
+    /// The groups, where the list ends here.
+    #[tactic(auto, using(crate::proofs::Pending::names_none, crate::proofs::Pending::names_closed))]
+    fn finish(self, alloc: Global) -> Result<Vec<TypedGroup>, AllocError>
+        requires { self.typed ≡ false }
+        ensures groups { IfOk result (λ groups. map group_value groups.items ≡ state.groups_of self nothing) }
+        ensures names { IfOk result (λ groups. lists.names_of (map group_value groups.items) ≡ state.names_so_far self) }
+    {
+        let Pending {
+            mut groups,
+            names,
+            typed: _,
+        } = self;
+        if names.is_empty() {
+            return Ok(groups);
+        }
+        let type_word = Text::new(alloc, b"object")?;
+        groups.push(TypedGroup { names, type_word })?;
+        Ok(groups)
+    }
+}
+
+/// Takes a word, which these forms follow.
+#[tactic(auto, using(crate::proofs::Pending::all_seen_push))]
+fn take_word(
+    alloc: Global,
+    declares: Declares,
+    types: &NameTable,
+    seen: &mut NameTable,
+    pending: &mut Pending,
+    span: Span,
+    word: &Text,
+    rest: &[Form],
+) -> Result<(), ReadErr>
+    requires { pending.old.typed ≡ true → words.is_dash word.now ≡ false }
+    ensures due { OnOk result (pending.new.typed ≡ true → lists.begins_type (forest_of rest.now) ≡ true) }
+    ensures flaws { OnOk result (state.flaws_of declares types.now seen.old pending.old (word_then span word.now (forest_of rest.now))
+        ≡ state.flaws_of declares types.now seen.new pending.new (forest_of rest.now)) }
+    ensures groups { OnOk result (state.groups_of pending.old (word_then span word.now (forest_of rest.now)) ≡ state.groups_of pending.new (forest_of rest.now)) }
+    ensures seen { OnOk result ((before : List (List ℕ)) → seen.old ≡ lists.all_seen declares (state.names_so_far pending.old) before
+        → seen.new ≡ lists.all_seen declares (state.names_so_far pending.new) before) }
+    ensures fault { IfErr result (λ e. IfFault e (λ fault.
+        first_listed (state.flaws_of declares types.now seen.old pending.old (word_then span word.now (forest_of rest.now))) ≡ Some fault)) }
+{
+    if pending.typed {
+        pending.take_type(alloc, declares, types, span, word)
+    } else if is_dash(word) {
+        pending.take_dash(declares, types, seen, span, word, rest)
+    } else {
+        pending.take_name(alloc, declares, types, seen, span, word)
+    }
+}
+
 /// The groups of a typed list. `seen` are the names that are declared already, and those of the list are
 /// added to it, but for `object` among types and for a predicate's variables.
 pub fn read_typed_list(
@@ -46,7 +323,32 @@ pub fn read_typed_list(
     ensures fault { IfErr result (λ e. IfFault e (λ fault.
         first_listed (lists.typed_list_flaws declares types.now seen.old (forest_of list.now)) ≡ Some fault)) }
 {
-    Err(ReadErr::Memory)
+    let mut pending = Pending::new(alloc);
+    for (k, form) in list.iter().enumerate() {
+        match form.view() {
+            View::Group(span, parts) => {
+                if pending.typed {
+                    return Err(fault_at(span, either_fault(alloc, parts)?));
+                }
+                return Err(fault_at(span, FaultKind::BadForm));
+            }
+            View::Word(span, word) => {
+                let rest = &list[k + 1..];
+                take_word(alloc, declares, types, seen, &mut pending, span, word, rest)?;
+            }
+        }
+    }
+    Ok(pending.finish(alloc)?)
+}
+
+/// Adds the number once for each name.
+fn push_each(numbers: &mut Vec<u32>, number: u32, names: &[Text]) -> Result<(), AllocError>
+    ensures { OnOk result (numbers.new.items ≡ numbers.old.items ++ map (λ name. number) names.now) }
+{
+    for _ in names {
+        numbers.push(number)?;
+    }
+    Ok(())
 }
 
 /// The number of the type of each name of the groups, in order. A type word that is unknown counts as
@@ -58,5 +360,10 @@ pub fn types_of(
 ) -> Result<Vec<u32>, AllocError>
     ensures { IfOk result (λ numbers. numbers.items ≡ lists.types_of types.now (map group_value groups.now)) }
 {
-    Err(AllocError)
+    let mut numbers = Vec::new(alloc);
+    for group in groups {
+        let number = types.number_of(&group.type_word).unwrap_or(0);
+        push_each(&mut numbers, number, &group.names)?;
+    }
+    Ok(numbers)
 }
