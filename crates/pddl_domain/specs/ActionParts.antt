@@ -1,11 +1,12 @@
 -- Private: what the reader of an action's parts holds, and in which order it meets the flaws of passes.
-use Rattle.std.specs.Prelude.{List, [], ◌∷◌, ◌++◌, Option, Some, None}
+use Rattle.std.specs.Prelude.{ℕ, List, [], ◌∷◌, ◌++◌, Option, Some, None}
 use Rattle.sexpr_text.specs.declared.parts.View.{View}
-use Rattle.sexpr_text.specs.Forest.{Forest, nothing}
+use Rattle.sexpr_text.specs.Forest.{Forest, nothing, word, group}
 use Rattle.sexpr_text.specs.Flaws.{Flaw}
 use Rattle.sexpr_text.specs.Heads.{view_then}
+use Rattle.pddl_ast.specs.Known.{Known}
 use Rattle.pddl_domain.specs.declared.actions.ActionParts.{ActionParts}
-use Rattle.pddl_domain.specs.Actions.{Parts}
+use Rattle.pddl_domain.specs.Actions.{Parts, action_in, names_after, section_passes}
 
 -- a form alone, or none
 abbrev pub row_of : Option View → Forest
@@ -20,3 +21,10 @@ parts_value p = record { parameters = row_of p.parameters; precondition = row_of
 abbrev pub in_turn : List (List Flaw) → List Flaw
 in_turn [] = []
 in_turn (flaws ∷ passes) = flaws ++ in_turn passes
+
+-- the flaws of all actions among the sections, those of each action pass by pass
+abbrev pub actions_flaws : Known → List (List ℕ) → Forest → List Flaw
+actions_flaws known before nothing = []
+actions_flaws known before (word span w rest) = actions_flaws known before rest
+actions_flaws known before (group span parts rest) =
+    in_turn (section_passes known before span (action_in parts)) ++ actions_flaws known (names_after before (action_in parts)) rest

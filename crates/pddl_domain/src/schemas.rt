@@ -9,7 +9,7 @@ ghost use Rattle.pddl_ast.specs.Environment.{known_value};
 ghost use Rattle.pddl_ast.specs.Formulas.{formulas_flaws, formulas_of, first_formula};
 ghost use Rattle.pddl_ast.specs.Effects.{effects_flaws, effects_of, first_effect};
 ghost use Rattle.pddl_ast.specs.Values.{formula_value, effect_value, schema_value};
-ghost use Rattle.pddl_domain.specs.ActionParts.{in_turn, parts_value, row_of};
+ghost use Rattle.pddl_domain.specs.ActionParts.{actions_flaws, in_turn, parts_value, row_of};
 ghost use Rattle.pddl_domain.specs.Actions as specs;
 ghost use Rattle.pddl_domain.specs.Constants.{with_first_word};
 
@@ -226,9 +226,9 @@ pub fn read_actions(
     known: &Known,
     sections: &[Form],
 ) -> Result<Vec<Schema>, ReadErr>
-    ensures sound { OnOk result (in_turn (specs.actions_passes (known_value known.now) [] (forest_of sections.now)) ≡ []) }
+    ensures sound { OnOk result (actions_flaws (known_value known.now) [] (forest_of sections.now) ≡ []) }
     ensures read { IfOk result (λ actions. map schema_value actions.items ≡ specs.schemas_of (known_value known.now) (forest_of sections.now)) }
-    ensures fault { IfErr result (λ e. IfFault e (λ f. first_listed (in_turn (specs.actions_passes (known_value known.now) [] (forest_of sections.now))) ≡ Some f)) }
+    ensures fault { IfErr result (λ e. IfFault e (λ f. first_listed (actions_flaws (known_value known.now) [] (forest_of sections.now)) ≡ Some f)) }
 {
     let mut actions = Vec::new(alloc);
     let mut names = NameTable::new(alloc);
