@@ -5,3 +5,6 @@ pub mod Pending
 pub mod Orders
 pub mod Cases
 pub mod TreeOrders
+pub mod Distinct
+pub mod Fitting
+pub mod TreeFitting

@@ -18,6 +18,11 @@ use Rattle.pddl_ast.specs.Depth.{formula_depth, effect_depth}
 abbrev pub deepest : ℕ
 deepest = 200
 
+-- what is known where trees are read: there is a type, and each predicate has a number of terms
+pub record IsKnown (known : Known) : Type 0 where
+  pub some_type : 0 < length known.types
+  pub arities : length known.arities ≡ length known.predicates
+
 -- a term over this many objects and variables
 abbrev pub FitsTerm : ℕ → ℕ → Term → Type 0
 FitsTerm objects variables (Variable n) = n < variables
@@ -74,11 +79,14 @@ AreDistinct (name ∷ names) = (list_any (bytes_eq name) names ≡ false) × Are
 abbrev pub names_of_objects : List Named → List (List ℕ)
 names_of_objects = map (λ (n : Named). n.name)
 
+abbrev pub names_of_predicates : List Predicate → List (List ℕ)
+names_of_predicates = map (λ (p : Predicate). p.name)
+
 -- what is known in a domain, and in a problem with these objects
 abbrev pub known_with : DomainTree → List Named → Known
 known_with d objects = record {
   types = d.type_names;
-  predicates = map (λ (p : Predicate). p.name) d.predicates;
+  predicates = names_of_predicates d.predicates;
   arities = map (λ (p : Predicate). p.arity) d.predicates;
   objects = names_of_objects (d.constants ++ objects) }
 

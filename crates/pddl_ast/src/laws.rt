@@ -1,17 +1,19 @@
 //! What holds of the flaws and of the trees of every row of forms. Each law is a function that does
 //! nothing, so that callers' proofs can cite it.
 
-ghost use Rattle.std.specs.Prelude.{◌≡◌, ◌≤◌, ◌<◌, ◌+◌, ◌-◌, ℕ, Bool, List, []};
+ghost use Rattle.std.specs.Prelude.{◌≡◌, ◌≤◌, ◌<◌, ◌+◌, ◌-◌, ℕ, List, [], All, length};
 ghost use Rattle.sexpr_text.specs.declared.forms.Span.{Span};
 ghost use Rattle.sexpr_text.specs.Forest.{Forest};
-ghost use Rattle.sexpr_text.specs.Formed.{IsRising};
+ghost use Rattle.sexpr_text.specs.Formed.{IsRising, nesting_of};
 ghost use Rattle.sexpr_text.specs.Flaws.{IsInOrder};
 ghost use Rattle.pddl_ast.specs.declared.typed_lists.Declares.{Declares};
-ghost use Rattle.pddl_ast.specs.Atoms.{atom_flaws, ground_atom_flaws};
-ghost use Rattle.pddl_ast.specs.Effects.{effect_flaws, effects_flaws};
-ghost use Rattle.pddl_ast.specs.Formulas.{formula_flaws, formulas_flaws};
+ghost use Rattle.pddl_ast.specs.Atoms.{atom_flaws, ground_atom, ground_atom_flaws};
+ghost use Rattle.pddl_ast.specs.Depth.{effect_depth, formula_depth};
+ghost use Rattle.pddl_ast.specs.Effects.{effect_flaws, effect_of, effects_flaws, effects_of, first_effect};
+ghost use Rattle.pddl_ast.specs.Fits.{FitsEffect, FitsFormula, FitsGroundAtom, IsKnown};
+ghost use Rattle.pddl_ast.specs.Formulas.{first_formula, formula_flaws, formula_of, formulas_flaws, formulas_of};
 ghost use Rattle.pddl_ast.specs.Known.{Known};
-ghost use Rattle.pddl_ast.specs.TypedLists.{typed_list_flaws};
+ghost use Rattle.pddl_ast.specs.TypedLists.{Group, names_of, typed_list_flaws, types_of};
 
 /// The flaws of a typed list are listed in the order of the text, so that the first of the list is the
 /// first of them all.
@@ -49,4 +51,40 @@ pub fn effects_in_order()
     ensures effect { (known : Known) (parts : Forest) (span : Span) (scope : List (List ℕ))
         → span.start + 2 ≤ span.end → IsRising (span.start + 1) (span.end - 1) parts
         → IsInOrder span.start span.end (effect_flaws known parts span scope) }
+{}
+
+/// The types of a typed list are in range, one for each name.
+pub fn types_fit()
+    ensures within { (types : List (List ℕ)) (groups : List Group) → 0 < length types → All (λ t. t < length types) (types_of types groups) }
+    ensures one_each { (types : List (List ℕ)) (groups : List Group) → length (types_of types groups) ≡ length (names_of groups) }
+{}
+
+/// An atom without flaws over constants and objects fits what is known.
+pub fn ground_atoms_fit()
+    ensures { (known : Known) (span head : Span) (w : List ℕ) (terms : Forest) → IsKnown known
+        → ground_atom_flaws known span head w terms ≡ [] → FitsGroundAtom known (ground_atom known w terms) }
+{}
+
+/// A formula without flaws fits what is known, and is no deeper than its list: the formula of a list with
+/// these parts, and the first of a row (or `()`, where the row is empty).
+pub fn formulas_fit()
+    ensures formula { (known : Known) (parts : Forest) (span : Span) (scope : List (List ℕ)) → IsKnown known
+        → formula_flaws known parts span scope ≡ []
+        → FitsFormula known (formula_of known parts scope) (length scope) × (formula_depth (formula_of known parts scope) ≤ 1 + nesting_of parts) }
+    ensures first { (known : Known) (row : Forest) (scope : List (List ℕ)) → IsKnown known
+        → formulas_flaws known row scope ≡ []
+        → FitsFormula known (first_formula (formulas_of known row scope)) (length scope)
+        × (formula_depth (first_formula (formulas_of known row scope)) ≤ 1 + nesting_of row) }
+{}
+
+/// An effect without flaws fits what is known, and is no deeper than its list: the effect of a list with
+/// these parts, and the first of a row (or `()`, where the row is empty).
+pub fn effects_fit()
+    ensures effect { (known : Known) (parts : Forest) (span : Span) (scope : List (List ℕ)) → IsKnown known
+        → effect_flaws known parts span scope ≡ []
+        → FitsEffect known (effect_of known parts scope) (length scope) × (effect_depth (effect_of known parts scope) ≤ 1 + nesting_of parts) }
+    ensures first { (known : Known) (row : Forest) (scope : List (List ℕ)) → IsKnown known
+        → effects_flaws known row scope ≡ []
+        → FitsEffect known (first_effect (effects_of known row scope)) (length scope)
+        × (effect_depth (first_effect (effects_of known row scope)) ≤ 1 + nesting_of row) }
 {}
