@@ -3,3 +3,7 @@ pub mod AncestorLemmas
 pub mod TypeLemmas
 pub mod ListLemmas
 pub mod ActionLemmas
+pub mod PassLemmas
+pub mod Risen
+pub mod Orders
+pub mod Answered

@@ -7,7 +7,8 @@ use Rattle.sexpr_text.specs.Forest.{Forest, group, form_then, forest_of}
 use Rattle.pddl_ast.specs.declared.typed_lists.TypedGroup.{TypedGroup}
 use Rattle.pddl_ast.specs.declared.trees.Predicate.{Predicate}
 use Rattle.pddl_ast.specs.Environment.{group_value}
-use Rattle.pddl_ast.specs.TypedLists.{Group, type_number}
+use Rattle.pddl_ast.specs.TypedLists.{Group, type_number, all_seen}
+use Rattle.pddl_ast.specs.declared.typed_lists.Declares.TheVariants.{Objects}
 use Rattle.pddl_domain.specs.Constants as specs
 
 named_of-append : (types : List (List ℕ)) (gs hs : List Group) → specs.named_of types (gs ++ hs) ≡ specs.named_of types gs ++ specs.named_of types hs
@@ -53,3 +54,11 @@ pub more_predicates-names : (done after : List Predicate) (p : Predicate) (names
 more_predicates-names done after p names new before more is =
     more ∙ (ap (λ ns. ns ++ p.name ∷ []) before
     ∙ (sym (map-append (λ (q : Predicate). q.name) done (p ∷ [])) ∙ ap (map (λ (q : Predicate). q.name)) (sym is)))
+
+objects_seen : (names seen : List (List ℕ)) → all_seen Objects names seen ≡ seen ++ names
+objects_seen [] seen = sym (append-nil seen)
+objects_seen (name ∷ names) seen = objects_seen names (seen ++ name ∷ []) ∙ append_assoc seen (name ∷ []) names
+
+-- of objects every name is new
+pub all_objects : (names : List (List ℕ)) → all_seen Objects names [] ≡ names
+all_objects names = objects_seen names []

@@ -4,3 +4,5 @@ pub mod Types
 pub mod Constants
 pub mod Actions
 pub mod ActionParts
+pub mod Domains
+pub mod Reading

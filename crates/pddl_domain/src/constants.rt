@@ -5,8 +5,7 @@ ghost use Rattle.sexpr_text.specs.Forest.{forest_of};
 ghost use Rattle.sexpr_text.specs.Flaws.{first_listed};
 ghost use Rattle.sexpr_text.specs.Passes.{IfFault};
 ghost use Rattle.pddl_ast.specs.Environment.{group_value};
-ghost use Rattle.pddl_ast.specs.TypedLists.{names_of, typed_groups, all_seen};
-ghost use Rattle.pddl_ast.specs.declared.typed_lists.Declares.TheVariants.{Objects};
+ghost use Rattle.pddl_ast.specs.TypedLists.{names_of, typed_groups};
 ghost use Rattle.pddl_domain.specs.Constants as specs;
 
 use crate::types::type_number;
@@ -41,6 +40,7 @@ fn named_of(
 }
 
 /// The constants of a `:constants` section with these forms after its word, and their names by number.
+#[tactic(auto, using(crate::proofs::ListLemmas::all_objects))]
 pub fn read_constants(
     alloc: Global,
     types: &NameTable,
@@ -48,7 +48,7 @@ pub fn read_constants(
 ) -> Result<(Vec<Named>, NameTable), ReadErr>
     ensures sound { OnOk result (specs.constants_flaws types.now (forest_of list.now) ≡ []) }
     ensures read { IfOk result (λ p. p.0.items ≡ specs.constants_of types.now (forest_of list.now)) }
-    ensures names { IfOk result (λ p. p.1 ≡ all_seen Objects (names_of (typed_groups (forest_of list.now))) []) }
+    ensures names { IfOk result (λ p. p.1 ≡ names_of (typed_groups (forest_of list.now))) }
     ensures fault { IfErr result (λ e. IfFault e (λ f. first_listed (specs.constants_flaws types.now (forest_of list.now)) ≡ Some f)) }
 {
     let mut names = NameTable::new(alloc);

@@ -9,7 +9,7 @@ ghost use Rattle.pddl_ast.specs.Environment.{known_value};
 ghost use Rattle.pddl_ast.specs.Formulas.{formulas_flaws, formulas_of, first_formula};
 ghost use Rattle.pddl_ast.specs.Effects.{effects_flaws, effects_of, first_effect};
 ghost use Rattle.pddl_ast.specs.Values.{formula_value, effect_value, schema_value};
-ghost use Rattle.pddl_domain.specs.ActionParts.{actions_flaws, in_turn, parts_value, row_of};
+ghost use Rattle.pddl_domain.specs.ActionParts.{actions_flaws, all_actions, in_turn, parts_value, row_of, section_actions, section_flaws, section_names};
 ghost use Rattle.pddl_domain.specs.Actions as specs;
 ghost use Rattle.pddl_domain.specs.Constants.{with_first_word};
 
@@ -199,6 +199,7 @@ fn action_in(parts: &[Form]) -> Option<&[Form]>
 }
 
 /// Adds the action that a section with this span and these parts declares, where it is an action.
+#[tactic(auto, unfolding(crate::specs::ActionParts::section_flaws, crate::specs::ActionParts::section_names, crate::specs::ActionParts::section_actions))]
 fn read_section(
     alloc: Global,
     known: &Known,
@@ -207,10 +208,10 @@ fn read_section(
     span: Span,
     parts: &[Form],
 ) -> Result<(), ReadErr>
-    ensures sound { OnOk result (in_turn (specs.section_passes (known_value known.now) names.old span (specs.action_in (forest_of parts.now))) ≡ []) }
-    ensures names { OnOk result (names.new ≡ specs.names_after names.old (specs.action_in (forest_of parts.now))) }
-    ensures read { OnOk result (map schema_value actions.new.items ≡ map schema_value actions.old.items ++ specs.section_schemas (known_value known.now) (specs.action_in (forest_of parts.now))) }
-    ensures fault { IfErr result (λ e. IfFault e (λ f. first_listed (in_turn (specs.section_passes (known_value known.now) names.old span (specs.action_in (forest_of parts.now)))) ≡ Some f)) }
+    ensures sound { OnOk result (section_flaws (known_value known.now) names.old span (forest_of parts.now) ≡ []) }
+    ensures names { OnOk result (names.new ≡ section_names names.old (forest_of parts.now)) }
+    ensures read { OnOk result (map schema_value actions.new.items ≡ map schema_value actions.old.items ++ section_actions (known_value known.now) (forest_of parts.now)) }
+    ensures fault { IfErr result (λ e. IfFault e (λ f. first_listed (section_flaws (known_value known.now) names.old span (forest_of parts.now)) ≡ Some f)) }
 {
     let Some(action) = action_in(parts) else {
         return Ok(());
@@ -227,7 +228,7 @@ pub fn read_actions(
     sections: &[Form],
 ) -> Result<Vec<Schema>, ReadErr>
     ensures sound { OnOk result (actions_flaws (known_value known.now) [] (forest_of sections.now) ≡ []) }
-    ensures read { IfOk result (λ actions. map schema_value actions.items ≡ specs.schemas_of (known_value known.now) (forest_of sections.now)) }
+    ensures read { IfOk result (λ actions. map schema_value actions.items ≡ all_actions (known_value known.now) (forest_of sections.now)) }
     ensures fault { IfErr result (λ e. IfFault e (λ f. first_listed (actions_flaws (known_value known.now) [] (forest_of sections.now)) ≡ Some f)) }
 {
     let mut actions = Vec::new(alloc);
