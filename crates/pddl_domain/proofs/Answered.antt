@@ -1,5 +1,5 @@
 -- Every text spells exactly one domain or has exactly one fault, and the reader gives it.
-use Rattle.std.proofs.Common.{◌≡◌, ℕ, ◌⊎◌, inl, inr, List, [], refl, sym, ◌∙◌, ap, Some, None, tt}
+use Rattle.std.proofs.Common.{◌≡◌, ℕ, ◌⊎◌, inl, inr, List, [], refl, sym, ◌∙◌, ap, Some, None}
 use Rattle.std.specs.Prelude.{Result, Ok, Err, IfOk, IfErr, OnOk}
 use Rattle.sexpr_text.specs.declared.faults.InputFault.{InputFault}
 use Rattle.sexpr_text.specs.declared.faults.ReadErr.{ReadErr}
@@ -7,7 +7,6 @@ use Rattle.sexpr_text.specs.declared.faults.ReadErr.TheVariants.{Fault, Memory}
 use Rattle.sexpr_text.specs.Forest.{Forest}
 use Rattle.sexpr_text.specs.Formed.{IsRising}
 use Rattle.sexpr_text.specs.Spelling.{SpellsTrees}
-use Rattle.sexpr_text.specs.Faults.{HasFault}
 use Rattle.sexpr_text.specs.Flaws.{fault_of_passes, first_listed}
 use Rattle.sexpr_text.specs.Passes.{IfFault}
 use Rattle.sexpr_text.proofs.OneAnswer.{spells_trees-unique}
@@ -42,11 +41,6 @@ met : Laws → (forms : Forest) (size : ℕ) → IsRising 0 size forms → fault
 met laws forms size rising =
     fault_in_turn (domain_passes forms) (domain-ordered laws forms (record { lo = 0; hi = size; rising = rising }))
     ∙ ap first_listed (sym (domain_in_turn forms))
-
--- a lexical fault is the domain's
-pub lexical : (b : List ℕ) (e : ReadErr) → ((f : InputFault) → Err {T = Domain} e ≡ Err (Fault f) → HasFault b f) → IfFault e (λ f. HasDomainFault b f)
-lexical b (Fault f) h = inl (h f refl)
-lexical b Memory h = tt
 
 pub read_spelled : Laws → (b : List ℕ) (forms : Forest) (size : ℕ) → SpellsTrees b forms → IsRising 0 size forms → (r : Result Domain ReadErr)
     → OnOk r (domain_flaws forms ≡ []) → IfOk r (λ d. domain_value d ≡ tree_of (name_of forms) (sections_of forms))

@@ -41,6 +41,7 @@ pub struct Vocabulary {
 fn read_typed(alloc: Global, list: &[Form]) -> Result<Types, ReadErr>
     ensures sound { OnOk result (reading.typed_flaws (forest_of list.now) ≡ []) }
     ensures names { IfOk result (λ types. types.names ≡ types_of.type_names (typed_groups (forest_of list.now))) }
+    ensures texts { IfOk result (λ types. types.texts.items ≡ types.names) }
     ensures parents { IfOk result (λ types. types.parents.items ≡ types_of.type_parents (typed_groups (forest_of list.now))) }
     ensures fault { IfErr result (λ e. IfFault e (λ f. first_listed (reading.typed_flaws (forest_of list.now)) ≡ Some f)) }
 {
@@ -83,7 +84,6 @@ fn read_vocabulary(alloc: Global, sections: &[Form]) -> Result<Vocabulary, ReadE
 {
     let types = read_typed(alloc, section_named(sections, b":types"))?;
     let (constants, objects, predicates) = read_declared(alloc, &types.names, sections)?;
-    let type_names = types.names.texts(alloc)?;
     Ok(Vocabulary {
         known: Known {
             types: types.names,
@@ -91,7 +91,7 @@ fn read_vocabulary(alloc: Global, sections: &[Form]) -> Result<Vocabulary, ReadE
             arities: predicates.arities,
             objects,
         },
-        type_names,
+        type_names: types.texts,
         parents: types.parents,
         constants,
         predicates: predicates.list,

@@ -1,6 +1,6 @@
 //! The types of a domain.
 
-ghost use Rattle.std.specs.Prelude.{◌≡◌, ◌<◌, ◌^◌, ◌++◌, [], not, ◌&&◌, ◌≤◌, slice_index_or, false, IfOk, IfErr, OnOk, Some, codes, map, length};
+ghost use Rattle.std.specs.Prelude.{◌≡◌, ◌<◌, ◌^◌, ◌++◌, [], ◌∷◌, not, ◌&&◌, ◌≤◌, slice_index_or, false, IfOk, IfErr, OnOk, Some, codes, map, length};
 ghost use Rattle.std.specs.List.{fold, filter, list_all, range_with_len};
 ghost use Rattle.sexpr_text.specs.Forest.{forest_of};
 ghost use Rattle.sexpr_text.specs.Flaws.{first_listed};
@@ -20,6 +20,7 @@ use std::alloc::{AllocError, Global};
 #[derive(Drop)]
 pub struct Types {
     pub names: NameTable,
+    pub texts: Vec<Text>,
     pub parents: Vec<u32>,
 }
 
@@ -30,12 +31,33 @@ fn is_object(word: &Text) -> bool
     word.is(b"object")
 }
 
+/// The names of types by their numbers, as a table and as texts.
+#[derive(Drop)]
+pub struct TypeNames {
+    pub table: NameTable,
+    pub texts: Vec<Text>,
+}
+
+/// Adds the word where it is new.
+fn add_word(alloc: Global, names: &mut TypeNames, word: &Text) -> Result<(), AllocError>
+    requires { names.old.texts.items ≡ names.old.table }
+    ensures table { OnOk result (names.new.table ≡ specs.with_name names.old.table word.now) }
+    ensures texts { OnOk result (names.new.texts.items ≡ names.new.table) }
+{
+    if names.table.add(alloc, word)? {
+        names.texts.push(Text::new(alloc, word.as_bytes())?)?;
+    }
+    Ok(())
+}
+
 /// Adds the words, each where it is new.
-fn add_words(alloc: Global, names: &mut NameTable, words: &[Text]) -> Result<(), AllocError>
-    ensures { OnOk result (names.new ≡ fold specs.with_name names.old words.now) }
+fn add_words(alloc: Global, names: &mut TypeNames, words: &[Text]) -> Result<(), AllocError>
+    requires { names.old.texts.items ≡ names.old.table }
+    ensures table { OnOk result (names.new.table ≡ fold specs.with_name names.old.table words.now) }
+    ensures texts { OnOk result (names.new.texts.items ≡ names.new.table) }
 {
     for word in words {
-        names.add(alloc, word)?;
+        add_word(alloc, names, word)?;
     }
     Ok(())
 }
@@ -43,10 +65,12 @@ fn add_words(alloc: Global, names: &mut NameTable, words: &[Text]) -> Result<(),
 /// Adds the names of the groups.
 fn add_names(
     alloc: Global,
-    names: &mut NameTable,
+    names: &mut TypeNames,
     groups: &[TypedGroup],
 ) -> Result<(), AllocError>
-    ensures { OnOk result (names.new ≡ fold specs.with_name names.old (names_of (map group_value groups.now))) }
+    requires { names.old.texts.items ≡ names.old.table }
+    ensures table { OnOk result (names.new.table ≡ fold specs.with_name names.old.table (names_of (map group_value groups.now))) }
+    ensures texts { OnOk result (names.new.texts.items ≡ names.new.table) }
 {
     for group in groups {
         add_words(alloc, names, &group.names)?;
@@ -64,25 +88,40 @@ fn are_objects(words: &[Text]) -> bool
 /// Adds the type words of the groups that have another name than `object`.
 fn add_parents(
     alloc: Global,
-    names: &mut NameTable,
+    names: &mut TypeNames,
     groups: &[TypedGroup],
 ) -> Result<(), AllocError>
-    ensures { OnOk result (names.new ≡ fold specs.with_name names.old (specs.parent_words (map group_value groups.now))) }
+    requires { names.old.texts.items ≡ names.old.table }
+    ensures table { OnOk result (names.new.table ≡ fold specs.with_name names.old.table (specs.parent_words (map group_value groups.now))) }
+    ensures texts { OnOk result (names.new.texts.items ≡ names.new.table) }
 {
     for group in groups {
         if !are_objects(&group.names) {
-            names.add(alloc, &group.type_word)?;
+            add_word(alloc, names, &group.type_word)?;
         }
     }
     Ok(())
 }
 
-/// The names of the types by their numbers.
-fn name_types(alloc: Global, groups: &[TypedGroup]) -> Result<NameTable, AllocError>
-    ensures { IfOk result (λ names. names ≡ specs.type_names (map group_value groups.now)) }
+/// The name of the first type, `object`, alone.
+fn only_object(alloc: Global) -> Result<TypeNames, AllocError>
+    ensures table { IfOk result (λ names. names.table ≡ codes "object" ∷ []) }
+    ensures texts { IfOk result (λ names. names.texts.items ≡ names.table) }
 {
-    let mut names = NameTable::new(alloc);
-    names.add(alloc, &Text::new(alloc, b"object")?)?;
+    let mut names = TypeNames {
+        table: NameTable::new(alloc),
+        texts: Vec::new(alloc),
+    };
+    add_word(alloc, &mut names, &Text::new(alloc, b"object")?)?;
+    Ok(names)
+}
+
+/// The names of the types by their numbers.
+fn name_types(alloc: Global, groups: &[TypedGroup]) -> Result<TypeNames, AllocError>
+    ensures table { IfOk result (λ names. names.table ≡ specs.type_names (map group_value groups.now)) }
+    ensures texts { IfOk result (λ names. names.texts.items ≡ names.table) }
+{
+    let mut names = only_object(alloc)?;
     add_names(alloc, &mut names, groups)?;
     add_parents(alloc, &mut names, groups)?;
     Ok(names)
@@ -152,6 +191,7 @@ fn find_parents(
 pub fn read_types(alloc: Global, list: &[Form]) -> Result<Types, ReadErr>
     ensures sound { OnOk result (specs.types_flaws (forest_of list.now) ≡ []) }
     ensures names { IfOk result (λ types. types.names ≡ specs.type_names (typed_groups (forest_of list.now))) }
+    ensures texts { IfOk result (λ types. types.texts.items ≡ types.names) }
     ensures parents { IfOk result (λ types. types.parents.items ≡ specs.type_parents (typed_groups (forest_of list.now))) }
     ensures fault { IfErr result (λ e. IfFault e (λ f. first_listed (specs.types_flaws (forest_of list.now)) ≡ Some f)) }
 {
@@ -159,8 +199,12 @@ pub fn read_types(alloc: Global, list: &[Form]) -> Result<Types, ReadErr>
     let mut seen = NameTable::new(alloc);
     let groups = read_typed_list(alloc, Declares::Types, &none, &mut seen, list)?;
     let names = name_types(alloc, &groups)?;
-    let parents = find_parents(alloc, &names, &groups)?;
-    Ok(Types { names, parents })
+    let parents = find_parents(alloc, &names.table, &groups)?;
+    Ok(Types {
+        names: names.table,
+        texts: names.texts,
+        parents,
+    })
 }
 
 /// Whether a name on the left is its own ancestor. `on_loops` says so of each type by its number.

@@ -1,0 +1,21 @@
+use Rattle.std.proofs.Common.{length}
+use Rattle.sexpr_text.specs.Forest.{forest_of}
+use Rattle.sexpr_text.specs.Formed.{IsRising}
+use Rattle.sexpr_text.specs.Spelling.{SpellsTrees}
+use Rattle.pddl_domain.proofs.Orders.{Laws}
+use Rattle.pddl_domain.proofs.Answered.{read_spelled, read_faulty}
+use Rattle.pddl_domain.proofs.domains.read_domain.Goals as goal
+
+pub returns-in-Ok-clause-domain : goal.returns-in-Ok-clause-domain
+returns-in-Ok-clause-domain c =
+    let laws : Laws = record { lists = c.typed_lists_in_order.ensures; formulas = c.formulas_in_order.ensures.row; effects = c.effects_in_order.ensures.row } in
+    let spelled : SpellsTrees c.args.bytes.now (forest_of c.deref.result.now) = rw c.deref.ensures.value c.in-Ok.ensures.forms in
+    let rising : IsRising 0 (length c.args.bytes.now) (forest_of c.deref.result.now) = rw c.deref.ensures.value c.in-Ok.ensures.formed.rising in
+    read_spelled laws c.args.bytes.now (forest_of c.deref.result.now) (length c.args.bytes.now) spelled rising c.read_defined.result c.read_defined.ensures.sound c.read_defined.ensures.read
+
+pub returns-in-Ok-clause-fault : goal.returns-in-Ok-clause-fault
+returns-in-Ok-clause-fault c =
+    let laws : Laws = record { lists = c.typed_lists_in_order.ensures; formulas = c.formulas_in_order.ensures.row; effects = c.effects_in_order.ensures.row } in
+    let spelled : SpellsTrees c.args.bytes.now (forest_of c.deref.result.now) = rw c.deref.ensures.value c.in-Ok.ensures.forms in
+    let rising : IsRising 0 (length c.args.bytes.now) (forest_of c.deref.result.now) = rw c.deref.ensures.value c.in-Ok.ensures.formed.rising in
+    read_faulty laws c.args.bytes.now (forest_of c.deref.result.now) (length c.args.bytes.now) spelled rising c.read_defined.result c.read_defined.ensures.fault
