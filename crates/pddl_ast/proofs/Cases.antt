@@ -27,32 +27,44 @@ pub formula_cases : (P : List Flaw → FormulaTree → Type 0) (known : Known) (
     → P (formula_flaws known (word head w parts) span scope) (formula_of known (word head w parts) scope)
 formula_cases P known span head w parts scope p_all p_any p_not p_imply p_exists p_forall p_equal p_bad p_atom =
     elim (keyword_of w) as (λ k. P
-      (elim k [
-          And ↦ formulas_flaws known parts scope
-        | Or ↦ formulas_flaws known parts scope
-        | Not ↦ if count parts == 1 then formulas_flaws known parts scope else bad_list span
-        | Imply ↦ if count parts == 2 then formulas_flaws known parts scope else bad_list span
-        | Exists ↦ quantifier_flaws known parts span scope
-        | Forall ↦ quantifier_flaws known parts span scope
-        | Equals ↦ if count parts == 2 then terms_flaws known scope parts else bad_list span
-        | When ↦ bad_list span
-        | Oneof ↦ bad_list span
-        | Unknown ↦ bad_list span
-        | Other ↦ atom_flaws known scope span head w parts ])
-      (elim k [
-          And ↦ all (formula_row (formulas_of known parts scope))
-        | Or ↦ any (formula_row (formulas_of known parts scope))
-        | Not ↦ negation (first_formula (formulas_of known parts scope))
-        | Imply ↦ implication_of (formulas_of known parts scope)
-        | Exists ↦ quantified_of known parts scope (λ types body. exists types body)
-        | Forall ↦ quantified_of known parts scope (λ types body. forall types body)
-        | Equals ↦ equality_of (terms_of known scope parts)
-        | When ↦ truth
-        | Oneof ↦ truth
-        | Unknown ↦ truth
-        | Other ↦ atom (predicate_number known w) (terms_of known scope parts) ]))
-    [ And ↦ p_all | Or ↦ p_any | Not ↦ p_not | Imply ↦ p_imply | Exists ↦ p_exists | Forall ↦ p_forall | Equals ↦ p_equal
-    | When ↦ p_bad | Oneof ↦ p_bad | Unknown ↦ p_bad | Other ↦ p_atom ]
+    (elim k [
+      | And ↦ formulas_flaws known parts scope
+      | Or ↦ formulas_flaws known parts scope
+      | Not ↦ if count parts == 1 then formulas_flaws known parts scope else bad_list span
+      | Imply ↦ if count parts == 2 then formulas_flaws known parts scope else bad_list span
+      | Exists ↦ quantifier_flaws known parts span scope
+      | Forall ↦ quantifier_flaws known parts span scope
+      | Equals ↦ if count parts == 2 then terms_flaws known scope parts else bad_list span
+      | When ↦ bad_list span
+      | Oneof ↦ bad_list span
+      | Unknown ↦ bad_list span
+      | Other ↦ atom_flaws known scope span head w parts
+    ])
+    (elim k [
+      | And ↦ all (formula_row (formulas_of known parts scope))
+      | Or ↦ any (formula_row (formulas_of known parts scope))
+      | Not ↦ negation (first_formula (formulas_of known parts scope))
+      | Imply ↦ implication_of (formulas_of known parts scope)
+      | Exists ↦ quantified_of known parts scope (λ types body. exists types body)
+      | Forall ↦ quantified_of known parts scope (λ types body. forall types body)
+      | Equals ↦ equality_of (terms_of known scope parts)
+      | When ↦ truth
+      | Oneof ↦ truth
+      | Unknown ↦ truth
+      | Other ↦ atom (predicate_number known w) (terms_of known scope parts)
+    ])) [
+      | And ↦ p_all
+      | Or ↦ p_any
+      | Not ↦ p_not
+      | Imply ↦ p_imply
+      | Exists ↦ p_exists
+      | Forall ↦ p_forall
+      | Equals ↦ p_equal
+      | When ↦ p_bad
+      | Oneof ↦ p_bad
+      | Unknown ↦ p_bad
+      | Other ↦ p_atom
+    ]
 
 -- what holds of each case of an effect holds of the effect
 pub effect_cases : (P : List Flaw → EffectTree → Type 0) (known : Known) (span head : Span) (w : List ℕ) (parts : Forest) (scope : List (List ℕ))
@@ -66,29 +78,41 @@ pub effect_cases : (P : List Flaw → EffectTree → Type 0) (known : Known) (sp
     → P (effect_flaws known (word head w parts) span scope) (effect_of known (word head w parts) scope)
 effect_cases P known span head w parts scope p_both p_not p_each p_when p_oneof p_bad p_atom =
     elim (keyword_of w) as (λ k. P
-      (elim k [
-          And ↦ effects_flaws known parts scope
-        | Or ↦ bad_list span
-        | Not ↦ deleted_flaws known parts span scope
-        | Imply ↦ bad_list span
-        | Exists ↦ bad_list span
-        | Forall ↦ each_flaws known parts span scope
-        | Equals ↦ bad_list span
-        | When ↦ when_flaws known parts span scope
-        | Oneof ↦ if count parts == 0 then flaw_at span EmptyOneof ∷ [] else effects_flaws known parts scope
-        | Unknown ↦ bad_list span
-        | Other ↦ atom_flaws known scope span head w parts ])
-      (elim k [
-          And ↦ both (effect_row (effects_of known parts scope))
-        | Or ↦ no_change
-        | Not ↦ deleted_of known parts scope
-        | Imply ↦ no_change
-        | Exists ↦ no_change
-        | Forall ↦ each_of known parts scope
-        | Equals ↦ no_change
-        | When ↦ when_of known parts scope
-        | Oneof ↦ one_of (effect_row (effects_of known parts scope))
-        | Unknown ↦ no_change
-        | Other ↦ add (predicate_number known w) (terms_of known scope parts) ]))
-    [ And ↦ p_both | Or ↦ p_bad | Not ↦ p_not | Imply ↦ p_bad | Exists ↦ p_bad | Forall ↦ p_each | Equals ↦ p_bad
-    | When ↦ p_when | Oneof ↦ p_oneof | Unknown ↦ p_bad | Other ↦ p_atom ]
+    (elim k [
+      | And ↦ effects_flaws known parts scope
+      | Or ↦ bad_list span
+      | Not ↦ deleted_flaws known parts span scope
+      | Imply ↦ bad_list span
+      | Exists ↦ bad_list span
+      | Forall ↦ each_flaws known parts span scope
+      | Equals ↦ bad_list span
+      | When ↦ when_flaws known parts span scope
+      | Oneof ↦ if count parts == 0 then flaw_at span EmptyOneof ∷ [] else effects_flaws known parts scope
+      | Unknown ↦ bad_list span
+      | Other ↦ atom_flaws known scope span head w parts
+    ])
+    (elim k [
+      | And ↦ both (effect_row (effects_of known parts scope))
+      | Or ↦ no_change
+      | Not ↦ deleted_of known parts scope
+      | Imply ↦ no_change
+      | Exists ↦ no_change
+      | Forall ↦ each_of known parts scope
+      | Equals ↦ no_change
+      | When ↦ when_of known parts scope
+      | Oneof ↦ one_of (effect_row (effects_of known parts scope))
+      | Unknown ↦ no_change
+      | Other ↦ add (predicate_number known w) (terms_of known scope parts)
+    ])) [
+      | And ↦ p_both
+      | Or ↦ p_bad
+      | Not ↦ p_not
+      | Imply ↦ p_bad
+      | Exists ↦ p_bad
+      | Forall ↦ p_each
+      | Equals ↦ p_bad
+      | When ↦ p_when
+      | Oneof ↦ p_oneof
+      | Unknown ↦ p_bad
+      | Other ↦ p_atom
+    ]

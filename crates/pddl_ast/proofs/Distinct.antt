@@ -6,7 +6,7 @@ use Rattle.std.proofs.lemmas.List.{take_more, length-map}
 use Rattle.std.proofs.lemmas.Slice.Eq.{bytes_eq-Decides}
 use Rattle.pddl_ast.specs.Fits.{AreDistinct}
 
-or-first : (a b : Bool) → (a || b) ≡ false → a ≡ false
+pub or-first : (a b : Bool) → (a || b) ≡ false → a ≡ false
 or-first true b h = h
 or-first false b h = refl
 
@@ -14,11 +14,11 @@ or-second : (a b : Bool) → (a || b) ≡ false → b ≡ false
 or-second true b h = cc
 or-second false b h = h
 
-or-both : (a b : Bool) → a ≡ false → b ≡ false → (a || b) ≡ false
+pub or-both : (a b : Bool) → a ≡ false → b ≡ false → (a || b) ≡ false
 or-both true b h g = h
 or-both false b h g = g
 
-other_way : (a b : List ℕ) → bytes_eq a b ≡ false → bytes_eq b a ≡ false
+pub other_way : (a b : List ℕ) → bytes_eq a b ≡ false → bytes_eq b a ≡ false
 other_way a b h = go (bytes_eq b a) refl
   where
     go : (t : Bool) → bytes_eq b a ≡ t → t ≡ false

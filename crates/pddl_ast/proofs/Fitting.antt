@@ -80,12 +80,13 @@ terms-fit known scope nothing h = (All-nil (fits known scope), refl)
 terms-fit known scope (group span parts rest) h = cc
 terms-fit known scope (word span w rest) h =
     let first = no_first (if is_some (term_of known scope w) then [] else flaw_at span UnknownName ∷ []) (terms_flaws known scope rest) h in
-    let later = terms-fit known scope rest (no_second (if is_some (term_of known scope w) then [] else flaw_at span UnknownName ∷ []) (terms_flaws known scope rest) h) in
-    (All-cons (fits known scope) (unwrap_or (term_of known scope w) (Object 0)) (terms_of known scope rest)
-     (either_fits (length known.objects) (length scope) (is_variable w) (variable_number scope w) (number_in known.objects w)
-     (variable-within scope w) (number-within known.objects w) (passes (flaw_at span UnknownName) (is_some (term_of known scope w)) first))
-     later.0,
-     (let e : length (terms_of known scope rest) ≡ count rest = later.1 in omega arith))
+    let later = terms-fit known scope rest (no_second (if is_some (term_of known scope w) then [] else flaw_at span UnknownName ∷ []) (terms_flaws known scope rest) h) in (
+      All-cons (fits known scope) (unwrap_or (term_of known scope w) (Object 0)) (terms_of known scope rest)
+          (either_fits (length known.objects) (length scope) (is_variable w) (variable_number scope w) (number_in known.objects w)
+          (variable-within scope w) (number-within known.objects w) (passes (flaw_at span UnknownName) (is_some (term_of known scope w)) first))
+          later.0,
+      (let e : length (terms_of known scope rest) ≡ count rest = later.1 in omega arith),
+    )
 
 some_within : (objects : ℕ) (o : Option ℕ) → ((k : ℕ) → o ≡ Some k → k < objects) → is_some o ≡ true → unwrap_or o 0 < objects
 some_within objects None ho h = cc
@@ -97,11 +98,12 @@ objects-fit known nothing h = (All-nil (λ n. n < length known.objects), refl)
 objects-fit known (group span parts rest) h = cc
 objects-fit known (word span w rest) h =
     let first = no_first (if is_some (object_number known w) then [] else flaw_at span UnknownName ∷ []) (objects_flaws known rest) h in
-    let later = objects-fit known rest (no_second (if is_some (object_number known w) then [] else flaw_at span UnknownName ∷ []) (objects_flaws known rest) h) in
-    (All-cons (λ n. n < length known.objects) (unwrap_or (object_number known w) 0) (numbers (object_number known) rest)
-     (some_within (length known.objects) (object_number known w) (number-within known.objects w) (passes (flaw_at span UnknownName) (is_some (object_number known w)) first))
-     later.0,
-     (let e : length (numbers (object_number known) rest) ≡ count rest = later.1 in omega arith))
+    let later = objects-fit known rest (no_second (if is_some (object_number known w) then [] else flaw_at span UnknownName ∷ []) (objects_flaws known rest) h) in (
+      All-cons (λ n. n < length known.objects) (unwrap_or (object_number known w) 0) (numbers (object_number known) rest)
+          (some_within (length known.objects) (object_number known w) (number-within known.objects w) (passes (flaw_at span UnknownName) (is_some (object_number known w)) first))
+          later.0,
+      (let e : length (numbers (object_number known) rest) ≡ count rest = later.1 in omega arith),
+    )
 
 -- a predicate with as many terms as it takes
 arity-fits : (known : Known) (span head : Span) (w : List ℕ) (n : ℕ) (number : Option ℕ) → IsKnown known → ((k : ℕ) → number ≡ Some k → k < length known.predicates)

@@ -8,3 +8,4 @@ pub mod TreeOrders
 pub mod Distinct
 pub mod Fitting
 pub mod TreeFitting
+pub mod ListFitting

@@ -30,7 +30,7 @@ pub name_number : (name : List ℕ) (keys : List (Vec ℕ Global)) → position 
 name_number name keys =
     ap (λ n. cond (nat_lt n (length keys)) (Some n) None) (name_place name keys)
     ∙ ap (λ m. cond (nat_lt (position_or_len (bytes_eq name) (items_of keys)) m) (Some (position_or_len (bytes_eq name) (items_of keys))) None)
-      (sym (length-map keys (λ (k : Vec ℕ Global). k.items)))
+    (sym (length-map keys (λ (k : Vec ℕ Global). k.items)))
 
 pub items_push : (keys : List (Vec ℕ Global)) (k : Vec ℕ Global) → items_of (keys ++ k ∷ []) ≡ items_of keys ++ k.items ∷ []
 items_push [] k = refl

@@ -79,22 +79,22 @@ mutual
   formula-fits known (group inner parts rest) span scope ok h = cc
   formula-fits known (word head w parts) span scope ok h =
       let row : formulas_flaws known parts scope ≡ [] → FormulasAt known (length scope) (nesting_of parts) (count parts) (formulas_of known parts scope)
-            = formulas-fit known parts scope ok in
+      = formulas-fit known parts scope ok in
       formula_cases (λ flaws tree. flaws ≡ [] → FormulaAt known (length scope) (1 + nesting_of parts) tree) known span head w parts scope
       (λ h. let r = row h in let d : formulas_depth (formula_row (formulas_of known parts scope)) ≤ nesting_of parts = r.1 in (r.0, omega arith))
       (λ h. let r = row h in let d : formulas_depth (formula_row (formulas_of known parts scope)) ≤ nesting_of parts = r.1 in (r.0, omega arith))
       (λ h. let one = where_true (flaw_at span BadForm) (formulas_flaws known parts scope) (count parts == 1) h in
-        let r = row one.1 in
-        let f = first-at known (length scope) (nesting_of parts) 0 (formulas_of known parts scope) (r.0, r.1, r.2 ∙ same_number (count parts) 1 one.0) in
-        let d : formula_depth (first_formula (formulas_of known parts scope)) ≤ nesting_of parts = f.1 in (f.0, omega arith))
+      let r = row one.1 in
+      let f = first-at known (length scope) (nesting_of parts) 0 (formulas_of known parts scope) (r.0, r.1, r.2 ∙ same_number (count parts) 1 one.0) in
+      let d : formula_depth (first_formula (formulas_of known parts scope)) ≤ nesting_of parts = f.1 in (f.0, omega arith))
       (λ h. let two = where_true (flaw_at span BadForm) (formulas_flaws known parts scope) (count parts == 2) h in
-        let r = row two.1 in
-        implication-at known (length scope) (nesting_of parts) (formulas_of known parts scope) (r.0, r.1, r.2 ∙ same_number (count parts) 2 two.0))
+      let r = row two.1 in
+      implication-at known (length scope) (nesting_of parts) (formulas_of known parts scope) (r.0, r.1, r.2 ∙ same_number (count parts) 2 two.0))
       (λ h. let q = quantifier-fits known parts span scope ok h in q.0)
       (λ h. let q = quantifier-fits known parts span scope ok h in q.1)
       (λ h. let two = where_true (flaw_at span BadForm) (terms_flaws known scope parts) (count parts == 2) h in
-        let t = terms-fit known scope parts two.1 in
-        equality-at known scope (nesting_of parts) (terms_of known scope parts) t.0 (t.1 ∙ same_number (count parts) 2 two.0))
+      let t = terms-fit known scope parts two.1 in
+      equality-at known scope (nesting_of parts) (terms_of known scope parts) t.0 (t.1 ∙ same_number (count parts) 2 two.0))
       (λ h. cc)
       (λ h. (atom-fits known scope span head w parts ok h, omega arith))
       h
@@ -109,7 +109,7 @@ mutual
       let one = where_true (flaw_at span BadForm) (variables_flaws known variables ++ formulas_flaws known rest (inner_scope scope variables)) (count rest == 1) h in
       let r = formulas-fit known rest (inner_scope scope variables) ok (no_second (variables_flaws known variables) (formulas_flaws known rest (inner_scope scope variables)) one.1) in
       let f = first-at known (length (inner_scope scope variables)) (nesting_of rest) 0 (formulas_of known rest (inner_scope scope variables))
-            (r.0, r.1, r.2 ∙ same_number (count rest) 1 one.0) in
+      (r.0, r.1, r.2 ∙ same_number (count rest) 1 one.0) in
       let d : formula_depth (first_formula (formulas_of known rest (inner_scope scope variables))) ≤ nesting_of rest = f.1 in
       let body = under known scope variables (first_formula (formulas_of known rest (inner_scope scope variables))) f.0 in
       let types : AreTypes known (variable_types known variables) = types-within known.types (typed_groups variables) ok.some_type in
@@ -158,16 +158,16 @@ mutual
   effect-fits known (group inner parts rest) span scope ok h = cc
   effect-fits known (word head w parts) span scope ok h =
       let row : effects_flaws known parts scope ≡ [] → EffectsAt known (length scope) (nesting_of parts) (count parts) (effects_of known parts scope)
-            = effects-fit known parts scope ok in
+      = effects-fit known parts scope ok in
       effect_cases (λ flaws tree. flaws ≡ [] → EffectAt known (length scope) (1 + nesting_of parts) tree) known span head w parts scope
       (λ h. let r = row h in let d : effects_depth (effect_row (effects_of known parts scope)) ≤ nesting_of parts = r.1 in (r.0, omega arith))
       (λ h. deleted-fits known parts span scope ok h)
       (λ h. each-fits known parts span scope ok h)
       (λ h. when-fits known parts span scope ok h)
       (λ h. let some = where_false (flaw_at span EmptyOneof) (effects_flaws known parts scope) (count parts == 0) h in
-        let r = row some.1 in
-        let d : effects_depth (effect_row (effects_of known parts scope)) ≤ nesting_of parts = r.1 in
-        ((some-effect known (length scope) (nesting_of parts) (count parts) (effects_of known parts scope) r some.0, r.0), omega arith))
+      let r = row some.1 in
+      let d : effects_depth (effect_row (effects_of known parts scope)) ≤ nesting_of parts = r.1 in
+      ((some-effect known (length scope) (nesting_of parts) (count parts) (effects_of known parts scope) r some.0, r.0), omega arith))
       (λ h. cc)
       (λ h. (atom-fits known scope span head w parts ok h, omega arith))
       h
@@ -195,7 +195,7 @@ mutual
       let one = where_true (flaw_at span BadForm) (variables_flaws known variables ++ effects_flaws known rest (inner_scope scope variables)) (count rest == 1) h in
       let r = effects-fit known rest (inner_scope scope variables) ok (no_second (variables_flaws known variables) (effects_flaws known rest (inner_scope scope variables)) one.1) in
       let e = first_effect-at known (length (inner_scope scope variables)) (nesting_of rest) 0 (effects_of known rest (inner_scope scope variables))
-            (r.0, r.1, r.2 ∙ same_number (count rest) 1 one.0) in
+      (r.0, r.1, r.2 ∙ same_number (count rest) 1 one.0) in
       let d : effect_depth (first_effect (effects_of known rest (inner_scope scope variables))) ≤ nesting_of rest = e.1 in
       let body = effect-under known scope variables (first_effect (effects_of known rest (inner_scope scope variables))) e.0 in
       let types : AreTypes known (variable_types known variables) = types-within known.types (typed_groups variables) ok.some_type in

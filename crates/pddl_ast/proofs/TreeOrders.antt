@@ -42,11 +42,11 @@ mutual
   formula-in_order known (group inner parts rest) span scope h r = at_list span h
   formula-in_order known (word head w parts) span scope h (a, b, c, d, e) =
       let row : IsInOrder span.start span.end (formulas_flaws known parts scope)
-            = within span head.end (formulas_flaws known parts scope) (omega arith) (formulas-in_order known parts scope head.end (span.end - 1) e) in
+      = within span head.end (formulas_flaws known parts scope) (omega arith) (formulas-in_order known parts scope head.end (span.end - 1) e) in
       let bad : IsInOrder span.start span.end (bad_list span) = at_list span h in
       let quantifier : IsInOrder span.start span.end (quantifier_flaws known parts span scope) = quantifier-in_order known parts span scope head.end h (omega arith) e in
       let terms : IsInOrder span.start span.end (terms_flaws known scope parts)
-            = within span head.end (terms_flaws known scope parts) (omega arith) (words-in_order (λ w. is_some (term_of known scope w)) parts head.end (span.end - 1) e) in
+      = within span head.end (terms_flaws known scope parts) (omega arith) (words-in_order (λ w. is_some (term_of known scope w)) parts head.end (span.end - 1) e) in
       formula_cases (λ flaws tree. IsInOrder span.start span.end flaws) known span head w parts scope
       row row
       (either span.start span.end (formulas_flaws known parts scope) (bad_list span) (count parts == 1) row bad)
@@ -103,7 +103,7 @@ mutual
   effect-in_order known (group inner parts rest) span scope h r = at_list span h
   effect-in_order known (word head w parts) span scope h (a, b, c, d, e) =
       let row : IsInOrder span.start span.end (effects_flaws known parts scope)
-            = within span head.end (effects_flaws known parts scope) (omega arith) (effects-in_order known parts scope head.end (span.end - 1) e) in
+      = within span head.end (effects_flaws known parts scope) (omega arith) (effects-in_order known parts scope head.end (span.end - 1) e) in
       let bad : IsInOrder span.start span.end (bad_list span) = at_list span h in
       effect_cases (λ flaws tree. IsInOrder span.start span.end flaws) known span head w parts scope
       row

@@ -37,7 +37,7 @@ abbrev mutual
   effect_flaws known nothing span scope = []
   effect_flaws known (group inner parts rest) span scope = bad_list span
   effect_flaws known (word head w parts) span scope = elim (keyword_of w) [
-      And ↦ effects_flaws known parts scope
+    | And ↦ effects_flaws known parts scope
     | Or ↦ bad_list span
     | Not ↦ deleted_flaws known parts span scope
     | Imply ↦ bad_list span
@@ -47,7 +47,8 @@ abbrev mutual
     | When ↦ when_flaws known parts span scope
     | Oneof ↦ if count parts == 0 then flaw_at span EmptyOneof ∷ [] else effects_flaws known parts scope
     | Unknown ↦ bad_list span
-    | Other ↦ atom_flaws known scope span head w parts ]
+    | Other ↦ atom_flaws known scope span head w parts
+  ]
 
   -- the same for `when` with these parts after it: a formula and an effect
   pub when_flaws : Known → Forest → Span → List (List ℕ) → List Flaw
@@ -87,7 +88,7 @@ abbrev mutual
   effect_of known nothing scope = no_change
   effect_of known (group inner parts rest) scope = no_change
   effect_of known (word head w parts) scope = elim (keyword_of w) [
-      And ↦ both (effect_row (effects_of known parts scope))
+    | And ↦ both (effect_row (effects_of known parts scope))
     | Or ↦ no_change
     | Not ↦ deleted_of known parts scope
     | Imply ↦ no_change
@@ -97,7 +98,8 @@ abbrev mutual
     | When ↦ when_of known parts scope
     | Oneof ↦ one_of (effect_row (effects_of known parts scope))
     | Unknown ↦ no_change
-    | Other ↦ add (predicate_number known w) (terms_of known scope parts) ]
+    | Other ↦ add (predicate_number known w) (terms_of known scope parts)
+  ]
 
   pub when_of : Known → Forest → List (List ℕ) → EffectTree
   when_of known nothing scope = no_change

@@ -88,7 +88,8 @@ known_with d objects = record {
   types = d.type_names;
   predicates = names_of_predicates d.predicates;
   arities = map (λ (p : Predicate). p.arity) d.predicates;
-  objects = names_of_objects (d.constants ++ objects) }
+  objects = names_of_objects (d.constants ++ objects);
+}
 
 abbrev pub known_in : DomainTree → Known
 known_in d = known_with d []

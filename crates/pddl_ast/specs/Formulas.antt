@@ -50,7 +50,7 @@ abbrev mutual
   formula_flaws known nothing span scope = []
   formula_flaws known (group inner parts rest) span scope = bad_list span
   formula_flaws known (word head w parts) span scope = elim (keyword_of w) [
-      And ↦ formulas_flaws known parts scope
+    | And ↦ formulas_flaws known parts scope
     | Or ↦ formulas_flaws known parts scope
     | Not ↦ if count parts == 1 then formulas_flaws known parts scope else bad_list span
     | Imply ↦ if count parts == 2 then formulas_flaws known parts scope else bad_list span
@@ -60,7 +60,8 @@ abbrev mutual
     | When ↦ bad_list span
     | Oneof ↦ bad_list span
     | Unknown ↦ bad_list span
-    | Other ↦ atom_flaws known scope span head w parts ]
+    | Other ↦ atom_flaws known scope span head w parts
+  ]
 
   -- the same for a quantifier with these parts after its head: a list of variables and a formula. Where
   -- there is no list of variables the formula is not looked into
@@ -102,7 +103,7 @@ abbrev mutual
   formula_of known nothing scope = truth
   formula_of known (group inner parts rest) scope = truth
   formula_of known (word head w parts) scope = elim (keyword_of w) [
-      And ↦ all (formula_row (formulas_of known parts scope))
+    | And ↦ all (formula_row (formulas_of known parts scope))
     | Or ↦ any (formula_row (formulas_of known parts scope))
     | Not ↦ negation (first_formula (formulas_of known parts scope))
     | Imply ↦ implication_of (formulas_of known parts scope)
@@ -112,7 +113,8 @@ abbrev mutual
     | When ↦ truth
     | Oneof ↦ truth
     | Unknown ↦ truth
-    | Other ↦ atom (predicate_number known w) (terms_of known scope parts) ]
+    | Other ↦ atom (predicate_number known w) (terms_of known scope parts)
+  ]
 
   -- the tree of a quantifier with these parts after its head
   pub quantified_of : Known → Forest → List (List ℕ) → (List ℕ → FormulaTree → FormulaTree) → FormulaTree

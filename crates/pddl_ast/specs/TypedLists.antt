@@ -132,7 +132,6 @@ abbrev pub types_of : List (List ℕ) → List Group → List ℕ
 types_of types [] = []
 types_of types (g ∷ gs) = map (λ name. type_number types g.type_word) g.names ++ types_of types gs
 
-
 -- the names that are declared after these, where those came before
 abbrev pub all_seen : Declares → List (List ℕ) → List (List ℕ) → List (List ℕ)
 all_seen declares [] seen = seen

@@ -59,4 +59,5 @@ problem_value p = record {
   facts = map atom_value p.facts.items;
   entries = map (λ entry. map (λ alternative. map literal_value alternative.items) entry.items) p.entries.items;
   goal = option_map formula_value p.goal;
-  place = p.place }
+  place = p.place;
+}

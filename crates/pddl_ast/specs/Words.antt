@@ -36,7 +36,6 @@ is_dash w = bytes_eq w (codes "-")
 abbrev pub is_variable : List ℕ → Bool
 is_variable w = slice_index w 0 == 63
 
-
 -- the heads of conditions and effects that are left out: of numbers, preferences and probabilities
 unfoldable pub is_left_out : List ℕ → Bool
 is_left_out w =

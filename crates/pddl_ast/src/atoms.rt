@@ -41,10 +41,13 @@ pub fn read_terms(
     scope: &Scope,
     row: &[Form],
 ) -> Result<Vec<Term>, ReadErr>
-    ensures sound { IfOk result (λ terms. atoms.terms_flaws (known_value known.now) scope.now (forest_of row.now) ≡ []) }
-    ensures read { IfOk result (λ terms. terms.items ≡ atoms.terms_of (known_value known.now) scope.now (forest_of row.now)) }
+    ensures sound { IfOk result (λ terms.
+        atoms.terms_flaws (known_value known.now) scope.now (forest_of row.now) ≡ []) }
+    ensures read { IfOk result (λ terms.
+        terms.items ≡ atoms.terms_of (known_value known.now) scope.now (forest_of row.now)) }
     ensures fault { IfErr result (λ e. IfFault e (λ fault.
-        first_listed (atoms.terms_flaws (known_value known.now) scope.now (forest_of row.now)) ≡ Some fault)) }
+        first_listed (atoms.terms_flaws (known_value known.now) scope.now (forest_of row.now))
+        ≡ Some fault)) }
 {
     let mut terms = Vec::new(alloc);
     for form in row {
@@ -61,10 +64,14 @@ pub fn read_terms(
 
 /// The numbers of the constants and objects of a row.
 fn read_objects(alloc: Global, known: &Known, row: &[Form]) -> Result<Vec<u32>, ReadErr>
-    ensures sound { IfOk result (λ objects. atoms.objects_flaws (known_value known.now) (forest_of row.now) ≡ []) }
-    ensures read { IfOk result (λ objects. objects.items ≡ atoms.numbers (atoms.object_number (known_value known.now)) (forest_of row.now)) }
+    ensures sound { IfOk result (λ objects.
+        atoms.objects_flaws (known_value known.now) (forest_of row.now) ≡ []) }
+    ensures read { IfOk result (λ objects.
+        objects.items ≡ atoms.numbers (atoms.object_number (known_value known.now))
+        (forest_of row.now)) }
     ensures fault { IfErr result (λ e. IfFault e (λ fault.
-        first_listed (atoms.objects_flaws (known_value known.now) (forest_of row.now)) ≡ Some fault)) }
+        first_listed (atoms.objects_flaws (known_value known.now) (forest_of row.now))
+        ≡ Some fault)) }
 {
     let mut objects = Vec::new(alloc);
     for form in row {
@@ -90,8 +97,8 @@ fn head_fault(alloc: Global, word: &Text) -> Result<FaultKind, AllocError>
     }
 }
 
-/// The number of the predicate that the word at the head of an atom's list names, where it takes as many
-/// terms as there are.
+/// The number of the predicate that the word at the head of an atom's list names, where it takes as
+/// many terms as there are.
 fn read_head(
     alloc: Global,
     known: &Known,
@@ -100,10 +107,13 @@ fn read_head(
     word: &Text,
     terms: usize,
 ) -> Result<u32, ReadErr>
-    ensures sound { IfOk result (λ number. atoms.head_flaws (known_value known.now) span head word.now terms ≡ []) }
-    ensures read { IfOk result (λ number. number ≡ atoms.predicate_number (known_value known.now) word.now) }
+    ensures sound { IfOk result (λ number.
+        atoms.head_flaws (known_value known.now) span head word.now terms ≡ []) }
+    ensures read { IfOk result (λ number.
+        number ≡ atoms.predicate_number (known_value known.now) word.now) }
     ensures fault { IfErr result (λ e. IfFault e (λ fault.
-        first_listed (atoms.head_flaws (known_value known.now) span head word.now terms) ≡ Some fault)) }
+        first_listed (atoms.head_flaws (known_value known.now) span head word.now terms)
+        ≡ Some fault)) }
 {
     let Some(number) = known.predicates.number_of(word) else {
         return Err(fault_at(head, head_fault(alloc, word)?));
@@ -116,8 +126,8 @@ fn read_head(
     }
 }
 
-/// The predicate and the terms of an atom: the list with this span, the word at its head with its span,
-/// and the terms after it.
+/// The predicate and the terms of an atom: the list with this span, the word at its head with its
+/// span, and the terms after it.
 pub fn read_atom(
     alloc: Global,
     known: &Known,
@@ -127,19 +137,24 @@ pub fn read_atom(
     word: &Text,
     terms: &[Form],
 ) -> Result<(u32, Vec<Term>), ReadErr>
-    ensures sound { IfOk result (λ atom. atoms.atom_flaws (known_value known.now) scope.now span head word.now (forest_of terms.now) ≡ []) }
-    ensures predicate { IfOk result (λ atom. atom.0 ≡ atoms.predicate_number (known_value known.now) word.now) }
-    ensures terms { IfOk result (λ atom. atom.1.items ≡ atoms.terms_of (known_value known.now) scope.now (forest_of terms.now)) }
+    ensures sound { IfOk result (λ atom.
+        atoms.atom_flaws (known_value known.now) scope.now span head word.now (forest_of terms.now)
+        ≡ []) }
+    ensures predicate { IfOk result (λ atom.
+        atom.0 ≡ atoms.predicate_number (known_value known.now) word.now) }
+    ensures terms { IfOk result (λ atom.
+        atom.1.items ≡ atoms.terms_of (known_value known.now) scope.now (forest_of terms.now)) }
     ensures fault { IfErr result (λ e. IfFault e (λ fault.
-        first_listed (atoms.atom_flaws (known_value known.now) scope.now span head word.now (forest_of terms.now)) ≡ Some fault)) }
+        first_listed (atoms.atom_flaws (known_value known.now) scope.now span head word.now
+        (forest_of terms.now)) ≡ Some fault)) }
 {
     let predicate = read_head(alloc, known, span, head, word, count(terms))?;
     let terms = read_terms(alloc, known, scope, terms)?;
     Ok((predicate, terms))
 }
 
-/// An atom over constants and objects alone: the list with this span, the word at its head with its span,
-/// and the terms after it.
+/// An atom over constants and objects alone: the list with this span, the word at its head with its
+/// span, and the terms after it.
 pub fn read_ground_atom(
     alloc: Global,
     known: &Known,
@@ -148,10 +163,15 @@ pub fn read_ground_atom(
     word: &Text,
     terms: &[Form],
 ) -> Result<GroundAtom, ReadErr>
-    ensures sound { IfOk result (λ atom. atoms.ground_atom_flaws (known_value known.now) span head word.now (forest_of terms.now) ≡ []) }
-    ensures read { IfOk result (λ atom. atom_value atom ≡ atoms.ground_atom (known_value known.now) word.now (forest_of terms.now)) }
+    ensures sound { IfOk result (λ atom.
+        atoms.ground_atom_flaws (known_value known.now) span head word.now (forest_of terms.now)
+        ≡ []) }
+    ensures read { IfOk result (λ atom.
+        atom_value atom ≡ atoms.ground_atom (known_value known.now) word.now
+        (forest_of terms.now)) }
     ensures fault { IfErr result (λ e. IfFault e (λ fault.
-        first_listed (atoms.ground_atom_flaws (known_value known.now) span head word.now (forest_of terms.now)) ≡ Some fault)) }
+        first_listed (atoms.ground_atom_flaws (known_value known.now) span head word.now
+        (forest_of terms.now)) ≡ Some fault)) }
 {
     let predicate = read_head(alloc, known, span, head, word, count(terms))?;
     let objects = read_objects(alloc, known, terms)?;

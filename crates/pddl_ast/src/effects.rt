@@ -40,10 +40,14 @@ fn read_effects(
     row: &[Form],
 ) -> Result<Vec<Effect>, ReadErr>
     ensures scope { OnOk result (scope.new ≡ scope.old) }
-    ensures sound { OnOk result (effect.effects_flaws (known_value known.now) (forest_of row.now) scope.old ≡ []) }
-    ensures read { IfOk result (λ es. map effect_value es.items ≡ effect.effects_of (known_value known.now) (forest_of row.now) scope.old) }
+    ensures sound { OnOk result (effect.effects_flaws (known_value known.now)
+        (forest_of row.now) scope.old ≡ []) }
+    ensures read { IfOk result (λ es.
+        map effect_value es.items ≡ effect.effects_of (known_value known.now)
+        (forest_of row.now) scope.old) }
     ensures fault { IfErr result (λ e. IfFault e (λ fault.
-        first_listed (effect.effects_flaws (known_value known.now) (forest_of row.now) scope.old) ≡ Some fault)) }
+        first_listed (effect.effects_flaws (known_value known.now) (forest_of row.now) scope.old)
+        ≡ Some fault)) }
 {
     let mut effects = Vec::new(alloc);
     for form in row {
@@ -67,10 +71,13 @@ fn read_when(
     rest: &[Form],
 ) -> Result<Effect, ReadErr>
     ensures scope { OnOk result (scope.new ≡ scope.old) }
-    ensures sound { OnOk result (effect.when_flaws (known_value known.now) (forest_of rest.now) span scope.old ≡ []) }
-    ensures read { IfOk result (λ e. effect_value e ≡ effect.when_of (known_value known.now) (forest_of rest.now) scope.old) }
+    ensures sound { OnOk result (effect.when_flaws (known_value known.now)
+        (forest_of rest.now) span scope.old ≡ []) }
+    ensures read { IfOk result (λ e.
+        effect_value e ≡ effect.when_of (known_value known.now) (forest_of rest.now) scope.old) }
     ensures fault { IfErr result (λ e. IfFault e (λ fault.
-        first_listed (effect.when_flaws (known_value known.now) (forest_of rest.now) span scope.old) ≡ Some fault)) }
+        first_listed (effect.when_flaws (known_value known.now) (forest_of rest.now) span scope.old)
+        ≡ Some fault)) }
 {
     match head_of(rest) {
         Head::Nothing => Err(fault_at(span, FaultKind::BadForm)),
@@ -100,10 +107,13 @@ fn read_each(
     rest: &[Form],
 ) -> Result<Effect, ReadErr>
     ensures scope { OnOk result (scope.new ≡ scope.old) }
-    ensures sound { OnOk result (effect.each_flaws (known_value known.now) (forest_of rest.now) span scope.old ≡ []) }
-    ensures read { IfOk result (λ e. effect_value e ≡ effect.each_of (known_value known.now) (forest_of rest.now) scope.old) }
+    ensures sound { OnOk result (effect.each_flaws (known_value known.now)
+        (forest_of rest.now) span scope.old ≡ []) }
+    ensures read { IfOk result (λ e.
+        effect_value e ≡ effect.each_of (known_value known.now) (forest_of rest.now) scope.old) }
     ensures fault { IfErr result (λ e. IfFault e (λ fault.
-        first_listed (effect.each_flaws (known_value known.now) (forest_of rest.now) span scope.old) ≡ Some fault)) }
+        first_listed (effect.each_flaws (known_value known.now) (forest_of rest.now) span scope.old)
+        ≡ Some fault)) }
 {
     match head_of(rest) {
         Head::Nothing => Err(fault_at(span, FaultKind::BadForm)),
@@ -133,10 +143,13 @@ fn read_deleted(
     span: Span,
     rest: &[Form],
 ) -> Result<Effect, ReadErr>
-    ensures sound { OnOk result (effect.deleted_flaws (known_value known.now) (forest_of rest.now) span scope.now ≡ []) }
-    ensures read { IfOk result (λ e. effect_value e ≡ effect.deleted_of (known_value known.now) (forest_of rest.now) scope.now) }
+    ensures sound { OnOk result (effect.deleted_flaws (known_value known.now)
+        (forest_of rest.now) span scope.now ≡ []) }
+    ensures read { IfOk result (λ e.
+        effect_value e ≡ effect.deleted_of (known_value known.now) (forest_of rest.now) scope.now) }
     ensures fault { IfErr result (λ e. IfFault e (λ fault.
-        first_listed (effect.deleted_flaws (known_value known.now) (forest_of rest.now) span scope.now) ≡ Some fault)) }
+        first_listed (effect.deleted_flaws (known_value known.now)
+        (forest_of rest.now) span scope.now) ≡ Some fault)) }
 {
     let Head::Group(inner, parts, rest) = head_of(rest) else {
         return Err(fault_at(span, FaultKind::BadForm));
@@ -151,7 +164,8 @@ fn read_deleted(
     Ok(Effect::Delete(predicate, terms))
 }
 
-/// The effect that the list with this span and these parts is. `scope` is afterwards as it was before.
+/// The effect that the list with this span and these parts is. `scope` is afterwards as it was
+/// before.
 #[cycle(reading)]
 pub fn read_effect(
     alloc: Global,
@@ -161,10 +175,13 @@ pub fn read_effect(
     parts: &[Form],
 ) -> Result<Effect, ReadErr>
     ensures scope { OnOk result (scope.new ≡ scope.old) }
-    ensures sound { OnOk result (effect.effect_flaws (known_value known.now) (forest_of parts.now) span scope.old ≡ []) }
-    ensures read { IfOk result (λ e. effect_value e ≡ effect.effect_of (known_value known.now) (forest_of parts.now) scope.old) }
+    ensures sound { OnOk result (effect.effect_flaws (known_value known.now)
+        (forest_of parts.now) span scope.old ≡ []) }
+    ensures read { IfOk result (λ e.
+        effect_value e ≡ effect.effect_of (known_value known.now) (forest_of parts.now) scope.old) }
     ensures fault { IfErr result (λ e. IfFault e (λ fault.
-        first_listed (effect.effect_flaws (known_value known.now) (forest_of parts.now) span scope.old) ≡ Some fault)) }
+        first_listed (effect.effect_flaws (known_value known.now)
+        (forest_of parts.now) span scope.old) ≡ Some fault)) }
 {
     let (head, word, rest) = match head_of(parts) {
         Head::Nothing => return Ok(no_change(alloc)),

@@ -36,17 +36,15 @@ fn first_formula(alloc: Global, formulas: Vec<Formula>) -> Formula
 
 /// That the first of some formulas implies the second.
 fn implication_of(alloc: Global, formulas: Vec<Formula>) -> Result<Formula, AllocError>
-    ensures { IfOk result (λ f. formula_value f ≡ formula.implication_of (map formula_value formulas.items)) }
+    ensures { IfOk result (λ f.
+        formula_value f ≡ formula.implication_of (map formula_value formulas.items)) }
 {
     let mut formulas = formulas.into_iter();
     let Some(left) = formulas.next() else {
         return Ok(truth(alloc));
     };
     let right = formulas.next().unwrap_or(truth(alloc));
-    Ok(Formula::Imply(
-        Box::new(alloc, left)?,
-        Box::new(alloc, right)?,
-    ))
+    Ok(Formula::Imply(Box::new(alloc, left)?, Box::new(alloc, right)?))
 }
 
 /// That the first of some terms equals the second.
@@ -87,11 +85,14 @@ pub fn read_variables(
     scope: &mut Scope,
     list: &[Form],
 ) -> Result<Vec<u32>, ReadErr>
-    ensures sound { OnOk result (formula.variables_flaws (known_value known.now) (forest_of list.now) ≡ []) }
-    ensures read { IfOk result (λ types. types.items ≡ formula.variable_types (known_value known.now) (forest_of list.now)) }
+    ensures sound { OnOk result (formula.variables_flaws (known_value known.now)
+        (forest_of list.now) ≡ []) }
+    ensures read { IfOk result (λ types.
+        types.items ≡ formula.variable_types (known_value known.now) (forest_of list.now)) }
     ensures entered { OnOk result (scope.new ≡ formula.inner_scope scope.old (forest_of list.now)) }
     ensures fault { IfErr result (λ e. IfFault e (λ fault.
-        first_listed (formula.variables_flaws (known_value known.now) (forest_of list.now)) ≡ Some fault)) }
+        first_listed (formula.variables_flaws (known_value known.now) (forest_of list.now))
+        ≡ Some fault)) }
 {
     let mut seen = NameTable::new(alloc);
     let groups = read_typed_list(alloc, Declares::Variables, &known.types, &mut seen, list)?;
@@ -109,10 +110,14 @@ fn read_formulas(
     row: &[Form],
 ) -> Result<Vec<Formula>, ReadErr>
     ensures scope { OnOk result (scope.new ≡ scope.old) }
-    ensures sound { OnOk result (formula.formulas_flaws (known_value known.now) (forest_of row.now) scope.old ≡ []) }
-    ensures read { IfOk result (λ fs. map formula_value fs.items ≡ formula.formulas_of (known_value known.now) (forest_of row.now) scope.old) }
+    ensures sound { OnOk result (formula.formulas_flaws (known_value known.now)
+        (forest_of row.now) scope.old ≡ []) }
+    ensures read { IfOk result (λ fs.
+        map formula_value fs.items ≡ formula.formulas_of (known_value known.now)
+        (forest_of row.now) scope.old) }
     ensures fault { IfErr result (λ e. IfFault e (λ fault.
-        first_listed (formula.formulas_flaws (known_value known.now) (forest_of row.now) scope.old) ≡ Some fault)) }
+        first_listed (formula.formulas_flaws (known_value known.now) (forest_of row.now) scope.old)
+        ≡ Some fault)) }
 {
     let mut formulas = Vec::new(alloc);
     for form in row {
@@ -126,7 +131,8 @@ fn read_formulas(
     Ok(formulas)
 }
 
-/// A quantifier's types and its formula: the list with this span, and what follows the word at its head.
+/// A quantifier's types and its formula: the list with this span, and what follows the word at its
+/// head.
 #[cycle(reading)]
 fn read_quantifier(
     alloc: Global,
@@ -136,11 +142,14 @@ fn read_quantifier(
     rest: &[Form],
 ) -> Result<(Vec<u32>, Formula), ReadErr>
     ensures scope { OnOk result (scope.new ≡ scope.old) }
-    ensures sound { OnOk result (formula.quantifier_flaws (known_value known.now) (forest_of rest.now) span scope.old ≡ []) }
+    ensures sound { OnOk result (formula.quantifier_flaws (known_value known.now)
+        (forest_of rest.now) span scope.old ≡ []) }
     ensures read { IfOk result (λ q. (quantifier : List ℕ → FormulaTree → FormulaTree)
-        → formula.quantified_of (known_value known.now) (forest_of rest.now) scope.old quantifier ≡ quantifier q.0.items (formula_value q.1)) }
+        → formula.quantified_of (known_value known.now) (forest_of rest.now) scope.old quantifier
+        ≡ quantifier q.0.items (formula_value q.1)) }
     ensures fault { IfErr result (λ e. IfFault e (λ fault.
-        first_listed (formula.quantifier_flaws (known_value known.now) (forest_of rest.now) span scope.old) ≡ Some fault)) }
+        first_listed (formula.quantifier_flaws (known_value known.now)
+        (forest_of rest.now) span scope.old) ≡ Some fault)) }
 {
     match head_of(rest) {
         Head::Nothing => Err(fault_at(span, FaultKind::BadForm)),
@@ -161,7 +170,8 @@ fn read_quantifier(
     }
 }
 
-/// The formula that the list with this span and these parts is. `scope` is afterwards as it was before.
+/// The formula that the list with this span and these parts is. `scope` is afterwards as it was
+/// before.
 #[cycle(reading)]
 pub fn read_formula(
     alloc: Global,
@@ -171,10 +181,14 @@ pub fn read_formula(
     parts: &[Form],
 ) -> Result<Formula, ReadErr>
     ensures scope { OnOk result (scope.new ≡ scope.old) }
-    ensures sound { OnOk result (formula.formula_flaws (known_value known.now) (forest_of parts.now) span scope.old ≡ []) }
-    ensures read { IfOk result (λ f. formula_value f ≡ formula.formula_of (known_value known.now) (forest_of parts.now) scope.old) }
+    ensures sound { OnOk result (formula.formula_flaws (known_value known.now)
+        (forest_of parts.now) span scope.old ≡ []) }
+    ensures read { IfOk result (λ f.
+        formula_value f ≡ formula.formula_of (known_value known.now)
+        (forest_of parts.now) scope.old) }
     ensures fault { IfErr result (λ e. IfFault e (λ fault.
-        first_listed (formula.formula_flaws (known_value known.now) (forest_of parts.now) span scope.old) ≡ Some fault)) }
+        first_listed (formula.formula_flaws (known_value known.now)
+        (forest_of parts.now) span scope.old) ≡ Some fault)) }
 {
     let (head, word, rest) = match head_of(parts) {
         Head::Nothing => return Ok(truth(alloc)),

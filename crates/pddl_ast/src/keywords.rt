@@ -6,8 +6,8 @@ ghost use Rattle.pddl_ast.specs.Words as words;
 
 use sexpr_text::Text;
 
-/// What a word means as the first item of a list: one of the ten words with a meaning of their own, or
-/// the name of a predicate.
+/// What a word means as the first item of a list: one of the ten words with a meaning of their own,
+/// or the name of a predicate.
 #[derive(Clone, Copy, Debug)]
 pub enum Keyword {
     /// `and`
@@ -71,7 +71,6 @@ pub fn is_reserved(word: &Text) -> bool
     !matches!(keyword_of(word), Keyword::Other)
 }
 
-
 /// Whether the word is a variable: it begins with `?`.
 pub fn is_variable(word: &Text) -> bool
     ensures { result ≡ words.is_variable word.now }
@@ -87,8 +86,8 @@ pub fn is_dash(word: &Text) -> bool
     spells(word, b"-")
 }
 
-/// Whether the word is the head of a condition or an effect that is left out: of numbers, preferences
-/// and probabilities.
+/// Whether the word is the head of a condition or an effect that is left out: of numbers,
+/// preferences and probabilities.
 #[tactic(auto, unfolding(crate::specs::Words::is_left_out))]
 pub fn is_left_out(word: &Text) -> bool
     ensures { result ≡ words.is_left_out word.now }

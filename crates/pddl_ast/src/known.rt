@@ -10,8 +10,8 @@ use crate::trees::{Domain, Named, Predicate};
 use sexpr_text::Text;
 use std::alloc::{AllocError, Global};
 
-/// The names that are declared, each with its number: the types (`object` first), the predicates with the
-/// number of terms that each takes, and the objects (constants first).
+/// The names that are declared, each with its number: the types (`object` first), the predicates
+/// with the number of terms that each takes, and the objects (constants first).
 #[derive(Drop)]
 pub struct Known {
     pub types: NameTable,
@@ -21,8 +21,8 @@ pub struct Known {
 }
 
 impl Known {
-    /// What is known in a domain, whose names of each kind are different: its types, its predicates and
-    /// its constants. Fails only where memory runs out.
+    /// What is known in a domain, whose names of each kind are different: its types, its predicates
+    /// and its constants. Fails only where memory runs out.
     pub fn of_domain(alloc: Global, domain: &Domain) -> Result<Known, AllocError>
         requires types { AreDistinct domain.now.type_names.items }
         requires predicates { AreDistinct (known_in (domain_value domain.now)).predicates }
@@ -76,7 +76,8 @@ fn table_of_objects(alloc: Global, objects: &[Named]) -> Result<NameTable, Alloc
 
 /// How many terms each predicate takes.
 fn arities_of(alloc: Global, predicates: &[Predicate]) -> Result<Vec<u32>, AllocError>
-    ensures { IfOk result (λ arities. arities.items ≡ map (λ predicate. predicate.arity) predicates.now) }
+    ensures { IfOk result (λ arities.
+        arities.items ≡ map (λ predicate. predicate.arity) predicates.now) }
 {
     predicates.iter().map(|p| p.arity).collect(alloc)
 }

@@ -1,14 +1,24 @@
-//! Planning domains and problems as trees.
+//! Planning domains and problems as trees, and the parts that their readers share: typed lists,
+//! terms, atoms, formulas and effects.
+//!
+//! `trees` has the types; `specs/Trees.antt` the plain trees that they stand for, and
+//! `specs/Fits.antt` what holds of every domain and problem that is read. `specs/TypedLists.antt`,
+//! `specs/Atoms.antt`, `specs/Formulas.antt` and `specs/Effects.antt` say what is wrong in a row of
+//! forms, as the list of all its flaws in the order of the text, and which tree it is. A reader gives
+//! exactly that tree where the list is empty, and else the list's first flaw; it may fail for want
+//! of memory. `laws` says that the flaws stand in order and that what has none fits.
 #![tactic(auto)]
 
 mod atoms;
-mod keywords;
 mod effects;
 mod formulas;
+mod keywords;
 mod known;
 mod laws;
 mod names;
 mod scope;
+#[cfg(test)]
+mod tests;
 mod trees;
 mod typed_lists;
 
@@ -18,8 +28,8 @@ pub use formulas::{enter_groups, read_formula, read_variables, truth};
 pub use keywords::{Keyword, is_dash, is_left_out, is_reserved, is_variable, keyword_of, spells};
 pub use known::Known;
 pub use laws::{
-    atoms_in_order, effects_fit, effects_in_order, formulas_fit, formulas_in_order, ground_atoms_fit, typed_lists_in_order,
-    types_fit,
+    atoms_in_order, effects_fit, effects_in_order, formulas_fit, formulas_in_order,
+    ground_atoms_fit, names_are_added, typed_lists_fit, typed_lists_in_order, types_fit,
 };
 pub use names::NameTable;
 pub use scope::Scope;

@@ -10,12 +10,12 @@ use sexpr_text::Text;
 use std::alloc::{AllocError, Global};
 use std::marker::Model;
 
-/// How many names a table may have: the numbers have 32 bits. One more is refused as want of memory is;
-/// the longest text has fewer.
+/// How many names a table may have: the numbers have 32 bits. One more is refused as want of memory
+/// is; the longest text has fewer.
 const MAX_NAMES: usize = 4_294_967_295;
 
-/// Different names in the order in which they were added, which gives them their numbers from 0 on. A
-/// clause sees the list of the names. A look-up takes one step, whatever the number of names.
+/// Different names in the order in which they were added, which gives them their numbers from 0 on.
+/// A clause sees the list of the names. A look-up takes one step, whatever the number of names.
 #[derive(Drop)]
 pub struct NameTable {
     names: IndexSet<Vec<u8>>,
@@ -65,12 +65,13 @@ impl NameTable {
         self.names.contains(name.as_bytes())
     }
 
-    /// Adds the name after the others, unless it is there already; tells whether it is new. Fails only
-    /// where memory runs out.
+    /// Adds the name after the others, unless it is there already; tells whether it is new. Fails
+    /// only where memory runs out.
     pub fn add(&mut self, alloc: Global, name: &Text) -> Result<bool, AllocError>
         ensures new { IfOk result (λ is_new. is_new ≡ not (list_any (bytes_eq name.now) self.old)) }
         ensures names { OnOk result (self.new
-            ≡ (if list_any (bytes_eq name.now) self.old then self.old else self.old ++ name.now ∷ [])) }
+            ≡ (if list_any (bytes_eq name.now) self.old then self.old
+            else self.old ++ name.now ∷ [])) }
     {
         if self.names.len() == MAX_NAMES {
             return Err(AllocError);

@@ -9,12 +9,12 @@ use sexpr_text::Text;
 use std::alloc::{AllocError, Global};
 use std::marker::Model;
 
-/// How many variables may be in scope: the numbers have 32 bits. One more is refused as want of memory
-/// is; the longest text has fewer.
+/// How many variables may be in scope: the numbers have 32 bits. One more is refused as want of
+/// memory is; the longest text has fewer.
 const MAX_VARIABLES: usize = 4_294_967_295;
 
-/// The variables in scope. A clause sees the list of their names, the outermost first. A later one hides
-/// an earlier one of its name, which keeps its number.
+/// The variables in scope. A clause sees the list of their names, the outermost first. A later one
+/// hides an earlier one of its name, which keeps its number.
 #[derive(Drop)]
 pub struct Scope {
     names: Vec<Text>,

@@ -108,8 +108,8 @@ pub struct InitialLiteral {
     pub positive: bool,
 }
 
-/// A planning problem of a domain. Each entry is a list of alternatives, each a list of literals: one
-/// alternative of each entry holds initially, and nobody knows which.
+/// A planning problem of a domain. Each entry is a list of alternatives, each a list of literals:
+/// one alternative of each entry holds initially, and nobody knows which.
 #[derive(Debug, Drop)]
 pub struct Problem {
     pub name: Text,

@@ -1,6 +1,7 @@
 //! Typed lists.
 
-ghost use Rattle.std.specs.Prelude.{◌≡◌, ℕ, List, [], ◌∷◌, ◌++◌, Some, true, false, map, IfOk, IfErr, OnOk};
+ghost use Rattle.std.specs.Prelude.{◌≡◌, ℕ, List, [], ◌∷◌, ◌++◌, Some, true, false, map};
+ghost use Rattle.std.specs.Prelude.{IfOk, IfErr, OnOk};
 ghost use Rattle.sexpr_text.specs.Forest.{Forest, nothing, word as word_then, forest_of};
 ghost use Rattle.pddl_ast.specs.Pending as state;
 ghost use Rattle.pddl_ast.specs.Words as words;
@@ -161,8 +162,8 @@ fn read_type(
     Ok(Text::new(alloc, word.as_bytes())?)
 }
 
-/// What was read of a typed list: the groups that are complete, the names of the next one, and whether
-/// its `-` came, so that its type is due.
+/// What was read of a typed list: the groups that are complete, the names of the next one, and
+/// whether its `-` came, so that its type is due.
 #[derive(Drop)]
 pub struct Pending {
     groups: Vec<TypedGroup>,
@@ -174,7 +175,8 @@ impl Pending {
     /// Nothing was read.
     fn new(alloc: Global) -> Pending
         ensures name { result.typed ≡ false }
-        ensures flaws { (declares : Declares) (types seen : List (List ℕ)) (rest : Forest) → state.flaws_of declares types seen result rest
+        ensures flaws { (declares : Declares) (types seen : List (List ℕ)) (rest : Forest)
+            → state.flaws_of declares types seen result rest
             ≡ lists.typed_list_flaws declares types seen rest }
         ensures groups { (rest : Forest) → state.groups_of result rest ≡ lists.typed_groups rest }
         ensures names { state.names_so_far result ≡ [] }
@@ -199,12 +201,17 @@ impl Pending {
         requires due { self.old.typed ≡ true }
         requires no_dash { words.is_dash word.now ≡ false }
         ensures name { OnOk result (self.new.typed ≡ false) }
-        ensures flaws { OnOk result ((rest : Forest) (seen : List (List ℕ)) → state.flaws_of declares types.now seen self.old (word_then span word.now rest)
+        ensures flaws { OnOk result ((rest : Forest) (seen : List (List ℕ))
+            → state.flaws_of declares types.now seen self.old (word_then span word.now rest)
             ≡ state.flaws_of declares types.now seen self.new rest) }
-        ensures groups { OnOk result ((rest : Forest) → state.groups_of self.old (word_then span word.now rest) ≡ state.groups_of self.new rest) }
+        ensures groups { OnOk result ((rest : Forest)
+            → state.groups_of self.old (word_then span word.now rest)
+            ≡ state.groups_of self.new rest) }
         ensures names { OnOk result (state.names_so_far self.new ≡ state.names_so_far self.old) }
-        ensures fault { IfErr result (λ e. IfFault e (λ fault. (rest : Forest) (seen : List (List ℕ)) →
-            first_listed (state.flaws_of declares types.now seen self.old (word_then span word.now rest)) ≡ Some fault)) }
+        ensures fault { IfErr result (λ e.
+            IfFault e (λ fault. (rest : Forest) (seen : List (List ℕ)) →
+            first_listed (state.flaws_of declares types.now seen self.old (word_then span word.now rest))
+            ≡ Some fault)) }
     {
         let type_word = read_type(alloc, declares, types, span, word)?;
         let names = mem::replace(&mut self.names, Vec::new(alloc));
@@ -214,16 +221,28 @@ impl Pending {
     }
 
     /// Takes a `-`, which these forms follow.
-    fn take_dash(&mut self, declares: Declares, types: &NameTable, seen: &NameTable, span: Span, word: &Text, rest: &[Form]) -> Result<(), ReadErr>
+    fn take_dash(
+        &mut self,
+        declares: Declares,
+        types: &NameTable,
+        seen: &NameTable,
+        span: Span,
+        word: &Text,
+        rest: &[Form],
+    ) -> Result<(), ReadErr>
         requires name { self.old.typed ≡ false }
         requires dash { words.is_dash word.now ≡ true }
         ensures due { OnOk result (lists.begins_type (forest_of rest.now) ≡ true) }
-        ensures flaws { OnOk result (state.flaws_of declares types.now seen.now self.old (word_then span word.now (forest_of rest.now))
+        ensures flaws { OnOk result (state.flaws_of declares types.now seen.now self.old
+            (word_then span word.now (forest_of rest.now))
             ≡ state.flaws_of declares types.now seen.now self.new (forest_of rest.now)) }
-        ensures groups { OnOk result (state.groups_of self.old (word_then span word.now (forest_of rest.now)) ≡ state.groups_of self.new (forest_of rest.now)) }
+        ensures groups { OnOk result (
+            state.groups_of self.old (word_then span word.now (forest_of rest.now))
+            ≡ state.groups_of self.new (forest_of rest.now)) }
         ensures names { OnOk result (state.names_so_far self.new ≡ state.names_so_far self.old) }
         ensures fault { IfErr result (λ e. IfFault e (λ fault.
-            first_listed (state.flaws_of declares types.now seen.now self.old (word_then span word.now (forest_of rest.now))) ≡ Some fault)) }
+            first_listed (state.flaws_of declares types.now seen.now self.old
+            (word_then span word.now (forest_of rest.now))) ≡ Some fault)) }
     {
         check_dash(span, !self.names.is_empty(), rest)?;
         self.typed = true;
@@ -243,13 +262,18 @@ impl Pending {
         requires name { self.old.typed ≡ false }
         requires no_dash { words.is_dash word.now ≡ false }
         ensures name { OnOk result (self.new.typed ≡ false) }
-        ensures flaws { OnOk result ((rest : Forest) → state.flaws_of declares types.now seen.old self.old (word_then span word.now rest)
+        ensures flaws { OnOk result ((rest : Forest)
+            → state.flaws_of declares types.now seen.old self.old (word_then span word.now rest)
             ≡ state.flaws_of declares types.now seen.new self.new rest) }
-        ensures groups { OnOk result ((rest : Forest) → state.groups_of self.old (word_then span word.now rest) ≡ state.groups_of self.new rest) }
-        ensures names { OnOk result (state.names_so_far self.new ≡ state.names_so_far self.old ++ word.now ∷ []) }
+        ensures groups { OnOk result ((rest : Forest)
+            → state.groups_of self.old (word_then span word.now rest)
+            ≡ state.groups_of self.new rest) }
+        ensures names { OnOk result (state.names_so_far self.new
+            ≡ state.names_so_far self.old ++ word.now ∷ []) }
         ensures seen { OnOk result (seen.new ≡ lists.seen_after declares word.now seen.old) }
         ensures fault { IfErr result (λ e. IfFault e (λ fault. (rest : Forest) →
-            first_listed (state.flaws_of declares types.now seen.old self.old (word_then span word.now rest)) ≡ Some fault)) }
+            first_listed (state.flaws_of declares types.now seen.old self.old (word_then span word.now rest))
+            ≡ Some fault)) }
     {
         self.names
             .push(read_name(alloc, declares, seen, span, word)?)?;
@@ -260,8 +284,10 @@ impl Pending {
     #[tactic(auto, using(crate::proofs::Pending::names_none, crate::proofs::Pending::names_closed))]
     fn finish(self, alloc: Global) -> Result<Vec<TypedGroup>, AllocError>
         requires { self.typed ≡ false }
-        ensures groups { IfOk result (λ groups. map group_value groups.items ≡ state.groups_of self nothing) }
-        ensures names { IfOk result (λ groups. lists.names_of (map group_value groups.items) ≡ state.names_so_far self) }
+        ensures groups { IfOk result (λ groups.
+            map group_value groups.items ≡ state.groups_of self nothing) }
+        ensures names { IfOk result (λ groups.
+            lists.names_of (map group_value groups.items) ≡ state.names_so_far self) }
     {
         let Pending {
             mut groups,
@@ -290,14 +316,20 @@ fn take_word(
     rest: &[Form],
 ) -> Result<(), ReadErr>
     requires { pending.old.typed ≡ true → words.is_dash word.now ≡ false }
-    ensures due { OnOk result (pending.new.typed ≡ true → lists.begins_type (forest_of rest.now) ≡ true) }
-    ensures flaws { OnOk result (state.flaws_of declares types.now seen.old pending.old (word_then span word.now (forest_of rest.now))
+    ensures due { OnOk result (pending.new.typed ≡ true
+        → lists.begins_type (forest_of rest.now) ≡ true) }
+    ensures flaws { OnOk result (state.flaws_of declares types.now seen.old pending.old
+        (word_then span word.now (forest_of rest.now))
         ≡ state.flaws_of declares types.now seen.new pending.new (forest_of rest.now)) }
-    ensures groups { OnOk result (state.groups_of pending.old (word_then span word.now (forest_of rest.now)) ≡ state.groups_of pending.new (forest_of rest.now)) }
-    ensures seen { OnOk result ((before : List (List ℕ)) → seen.old ≡ lists.all_seen declares (state.names_so_far pending.old) before
+    ensures groups { OnOk result (
+        state.groups_of pending.old (word_then span word.now (forest_of rest.now))
+        ≡ state.groups_of pending.new (forest_of rest.now)) }
+    ensures seen { OnOk result ((before : List (List ℕ))
+        → seen.old ≡ lists.all_seen declares (state.names_so_far pending.old) before
         → seen.new ≡ lists.all_seen declares (state.names_so_far pending.new) before) }
     ensures fault { IfErr result (λ e. IfFault e (λ fault.
-        first_listed (state.flaws_of declares types.now seen.old pending.old (word_then span word.now (forest_of rest.now))) ≡ Some fault)) }
+        first_listed (state.flaws_of declares types.now seen.old pending.old
+        (word_then span word.now (forest_of rest.now))) ≡ Some fault)) }
 {
     if pending.typed {
         pending.take_type(alloc, declares, types, span, word)
@@ -308,8 +340,8 @@ fn take_word(
     }
 }
 
-/// The groups of a typed list. `seen` are the names that are declared already, and those of the list are
-/// added to it, but for `object` among types and for a predicate's variables.
+/// The groups of a typed list. `seen` are the names that are declared already, and those of the
+/// list are added to it, but for `object` among types and for a predicate's variables.
 pub fn read_typed_list(
     alloc: Global,
     declares: Declares,
@@ -317,11 +349,16 @@ pub fn read_typed_list(
     seen: &mut NameTable,
     list: &[Form],
 ) -> Result<Vec<TypedGroup>, ReadErr>
-    ensures sound { OnOk result (lists.typed_list_flaws declares types.now seen.old (forest_of list.now) ≡ []) }
-    ensures read { IfOk result (λ groups. map group_value groups.items ≡ lists.typed_groups (forest_of list.now)) }
-    ensures seen { OnOk result (seen.new ≡ lists.all_seen declares (lists.names_of (lists.typed_groups (forest_of list.now))) seen.old) }
+    ensures sound { OnOk result (lists.typed_list_flaws declares types.now seen.old
+        (forest_of list.now) ≡ []) }
+    ensures read { IfOk result (λ groups.
+        map group_value groups.items ≡ lists.typed_groups (forest_of list.now)) }
+    ensures seen { OnOk result (seen.new
+        ≡ lists.all_seen declares (lists.names_of (lists.typed_groups (forest_of list.now)))
+        seen.old) }
     ensures fault { IfErr result (λ e. IfFault e (λ fault.
-        first_listed (lists.typed_list_flaws declares types.now seen.old (forest_of list.now)) ≡ Some fault)) }
+        first_listed (lists.typed_list_flaws declares types.now seen.old (forest_of list.now))
+        ≡ Some fault)) }
 {
     let mut pending = Pending::new(alloc);
     for (k, form) in list.iter().enumerate() {
@@ -343,7 +380,8 @@ pub fn read_typed_list(
 
 /// Adds the number once for each name.
 fn push_each(numbers: &mut Vec<u32>, number: u32, names: &[Text]) -> Result<(), AllocError>
-    ensures { OnOk result (numbers.new.items ≡ numbers.old.items ++ map (λ name. number) names.now) }
+    ensures { OnOk result (numbers.new.items
+        ≡ numbers.old.items ++ map (λ name. number) names.now) }
 {
     for _ in names {
         numbers.push(number)?;
@@ -351,14 +389,15 @@ fn push_each(numbers: &mut Vec<u32>, number: u32, names: &[Text]) -> Result<(), 
     Ok(())
 }
 
-/// The number of the type of each name of the groups, in order. A type word that is unknown counts as
-/// `object`.
+/// The number of the type of each name of the groups, in order. A type word that is unknown counts
+/// as `object`.
 pub fn types_of(
     alloc: Global,
     types: &NameTable,
     groups: &[TypedGroup],
 ) -> Result<Vec<u32>, AllocError>
-    ensures { IfOk result (λ numbers. numbers.items ≡ lists.types_of types.now (map group_value groups.now)) }
+    ensures { IfOk result (λ numbers.
+        numbers.items ≡ lists.types_of types.now (map group_value groups.now)) }
 {
     let mut numbers = Vec::new(alloc);
     for group in groups {

@@ -8,4 +8,4 @@ abbrev pub invariant-loop-form : goal.invariant-loop-form
 invariant-loop-form l =
     (atoms.objects_flaws (known_value l.known) (forest_of l.row) ≡ atoms.objects_flaws (known_value l.known) (forest_of (drop l.form-index l.row)))
     × (atoms.numbers (atoms.object_number (known_value l.known)) (forest_of l.row)
-      ≡ l.objects.items ++ atoms.numbers (atoms.object_number (known_value l.known)) (forest_of (drop l.form-index l.row)))
+    ≡ l.objects.items ++ atoms.numbers (atoms.object_number (known_value l.known)) (forest_of (drop l.form-index l.row)))

@@ -8,4 +8,4 @@ abbrev pub invariant-loop-form : goal.invariant-loop-form
 invariant-loop-form l =
     (atoms.terms_flaws (known_value l.known) l.scope (forest_of l.row) ≡ atoms.terms_flaws (known_value l.known) l.scope (forest_of (drop l.form-index l.row)))
     × (atoms.terms_of (known_value l.known) l.scope (forest_of l.row)
-      ≡ l.terms.items ++ atoms.terms_of (known_value l.known) l.scope (forest_of (drop l.form-index l.row)))
+    ≡ l.terms.items ++ atoms.terms_of (known_value l.known) l.scope (forest_of (drop l.form-index l.row)))

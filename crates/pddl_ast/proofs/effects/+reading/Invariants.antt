@@ -10,9 +10,9 @@ abbrev pub invariant-read_effects-loop-form : goal.invariant-read_effects-loop-f
 invariant-read_effects-loop-form l =
     (l.scope ≡ l.fn.scope)
     × (effect.effects_flaws (known_value l.known) (forest_of l.row) l.fn.scope
-      ≡ effect.effects_flaws (known_value l.known) (forest_of (drop l.form-index l.row)) l.fn.scope)
+    ≡ effect.effects_flaws (known_value l.known) (forest_of (drop l.form-index l.row)) l.fn.scope)
     × (effect.effects_of (known_value l.known) (forest_of l.row) l.fn.scope
-      ≡ map effect_value l.effects.items ++ effect.effects_of (known_value l.known) (forest_of (drop l.form-index l.row)) l.fn.scope)
+    ≡ map effect_value l.effects.items ++ effect.effects_of (known_value l.known) (forest_of (drop l.form-index l.row)) l.fn.scope)
 
 abbrev pub decreases-read_effect : goal.decreases-read_effect
 decreases-read_effect l = weight (forest_of l.parts.now)

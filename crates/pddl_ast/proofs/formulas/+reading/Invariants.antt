@@ -10,9 +10,9 @@ abbrev pub invariant-read_formulas-loop-form : goal.invariant-read_formulas-loop
 invariant-read_formulas-loop-form l =
     (l.scope ≡ l.fn.scope)
     × (formula.formulas_flaws (known_value l.known) (forest_of l.row) l.fn.scope
-      ≡ formula.formulas_flaws (known_value l.known) (forest_of (drop l.form-index l.row)) l.fn.scope)
+    ≡ formula.formulas_flaws (known_value l.known) (forest_of (drop l.form-index l.row)) l.fn.scope)
     × (formula.formulas_of (known_value l.known) (forest_of l.row) l.fn.scope
-      ≡ map formula_value l.formulas.items ++ formula.formulas_of (known_value l.known) (forest_of (drop l.form-index l.row)) l.fn.scope)
+    ≡ map formula_value l.formulas.items ++ formula.formulas_of (known_value l.known) (forest_of (drop l.form-index l.row)) l.fn.scope)
 
 abbrev pub decreases-read_formula : goal.decreases-read_formula
 decreases-read_formula l = weight (forest_of l.parts.now)

@@ -10,4 +10,5 @@ invariant-loop-k l = record {
       ≡ state.flaws_of l.declares l.types l.seen l.pending (forest_of (drop l.k l.list));
   groups : lists.typed_groups (forest_of l.list) ≡ state.groups_of l.pending (forest_of (drop l.k l.list));
   seen : l.seen ≡ lists.all_seen l.declares (state.names_so_far l.pending) l.fn.seen;
-  due : l.pending.typed ≡ true → lists.begins_type (forest_of (drop l.k l.list)) ≡ true }
+  due : l.pending.typed ≡ true → lists.begins_type (forest_of (drop l.k l.list)) ≡ true;
+}
