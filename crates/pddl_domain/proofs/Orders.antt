@@ -179,12 +179,19 @@ parameters-ordered laws known (group span list rest) h =
 action-ordered : Laws → (known : Known) (before : List (List ℕ)) (span : Span) (action : Forest) → Risen action → AreOrdered (act.action_passes known before span action)
 action-ordered laws known before span action h =
     let parts = risen-parts_of action h in
-    let scope = act.parameter_scope (act.parts_of action).parameters in
-    (shape-ordered before span action h,
-      (parameters-ordered laws known (act.parts_of action).parameters parts.parameters,
-        (record { lo = parts.precondition.lo; hi = parts.precondition.hi; order = laws.formulas known (act.parts_of action).precondition scope parts.precondition.lo parts.precondition.hi parts.precondition.rising },
-          (record { lo = parts.effect.lo; hi = parts.effect.hi; order = laws.effects known (act.parts_of action).effect scope parts.effect.lo parts.effect.hi parts.effect.rising },
-            tt))))
+    let scope = act.parameter_scope (act.parts_of action).parameters in (
+      shape-ordered before span action h,
+      (
+        parameters-ordered laws known (act.parts_of action).parameters parts.parameters,
+        (
+          record { lo = parts.precondition.lo; hi = parts.precondition.hi; order = laws.formulas known (act.parts_of action).precondition scope parts.precondition.lo parts.precondition.hi parts.precondition.rising },
+          (
+            record { lo = parts.effect.lo; hi = parts.effect.hi; order = laws.effects known (act.parts_of action).effect scope parts.effect.lo parts.effect.hi parts.effect.rising },
+            tt,
+          ),
+        ),
+      ),
+    )
 
 section-ordered : Laws → (known : Known) (before : List (List ℕ)) (span : Span) (o : Option Forest) → ActionRisen o → AreOrdered (act.section_passes known before span o)
 section-ordered laws known before span None h = tt
@@ -205,15 +212,26 @@ domain-ordered laws forms h =
     let s = risen-sections_of forms h in
     let t = risen-section (codes ":types") sections s in
     let c = risen-section (codes ":constants") sections s in
-    let p = risen-section (codes ":predicates") sections s in
-    (definition-ordered (definition forms),
-      (record { lo = s.lo; hi = s.hi; order = sections-ordered sections none_came s.lo s.hi s.rising },
-        (record { lo = t.lo; hi = t.hi; order = laws.lists Types [] [] (types_section sections) t.lo t.hi t.rising },
-          (record {
+    let p = risen-section (codes ":predicates") sections s in (
+      definition-ordered (definition forms),
+      (
+        record { lo = s.lo; hi = s.hi; order = sections-ordered sections none_came s.lo s.hi s.rising },
+        (
+          record { lo = t.lo; hi = t.hi; order = laws.lists Types [] [] (types_section sections) t.lo t.hi t.rising },
+          (
+            record {
               lo = t.lo;
               hi = t.hi;
               order = loops-ordered (types_section sections) (type_names (typed_groups (types_section sections))) (type_parents (typed_groups (types_section sections))) false t.lo t.hi t.rising;
             },
-            (record { lo = c.lo; hi = c.hi; order = laws.lists Objects (types_in sections) [] (constants_section sections) c.lo c.hi c.rising },
-              (record { lo = p.lo; hi = p.hi; order = predicates-ordered laws (predicates_section sections) (types_in sections) [] p.lo p.hi p.rising },
-                actions-ordered laws sections (known_of sections) [] s.lo s.hi s.rising))))))
+            (
+              record { lo = c.lo; hi = c.hi; order = laws.lists Objects (types_in sections) [] (constants_section sections) c.lo c.hi c.rising },
+              (
+                record { lo = p.lo; hi = p.hi; order = predicates-ordered laws (predicates_section sections) (types_in sections) [] p.lo p.hi p.rising },
+                actions-ordered laws sections (known_of sections) [] s.lo s.hi s.rising,
+              ),
+            ),
+          ),
+        ),
+      ),
+    )

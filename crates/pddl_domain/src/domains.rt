@@ -65,8 +65,11 @@ fn read_declared(
     ensures arities { IfOk result (λ p. p.2.arities.items ≡ map (λ q. q.arity) p.2.list.items) }
     ensures fault { IfErr result (λ e. IfFault e (λ f. first_listed (reading.declared_flaws types.now (forest_of sections.now)) ≡ Some f)) }
 {
-    let (constants, objects) =
-        read_constants(alloc, types, section_named(sections, b":constants"))?;
+    let (constants, objects) = read_constants(
+        alloc,
+        types,
+        section_named(sections, b":constants"),
+    )?;
     let predicates = read_predicates(alloc, types, section_named(sections, b":predicates"))?;
     Ok((constants, objects, predicates))
 }

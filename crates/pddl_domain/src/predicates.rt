@@ -38,12 +38,7 @@ fn count_names(groups: &[TypedGroup]) -> Result<u32, ReadErr>
 }
 
 /// Declares a predicate, where its name is no reserved word and none of the earlier ones.
-fn add_name(
-    alloc: Global,
-    names: &mut NameTable,
-    span: Span,
-    name: &Text,
-) -> Result<(), ReadErr>
+fn add_name(alloc: Global, names: &mut NameTable, span: Span, name: &Text) -> Result<(), ReadErr>
     ensures sound { OnOk result (specs.predicate_name_flaws names.old span name.now ≡ []) }
     ensures names { OnOk result (names.new ≡ names.old ++ name.now ∷ []) }
     ensures fault { IfErr result (λ e. IfFault e (λ f. first_listed (specs.predicate_name_flaws names.old span name.now) ≡ Some f)) }
@@ -65,7 +60,13 @@ fn read_arity(alloc: Global, types: &NameTable, variables: &[Form]) -> Result<u3
     ensures fault { IfErr result (λ e. IfFault e (λ f. first_listed (specs.variables_flaws types.now (forest_of variables.now)) ≡ Some f)) }
 {
     let mut seen = NameTable::new(alloc);
-    let groups = read_typed_list(alloc, Declares::PredicateVariables, types, &mut seen, variables)?;
+    let groups = read_typed_list(
+        alloc,
+        Declares::PredicateVariables,
+        types,
+        &mut seen,
+        variables,
+    )?;
     count_names(&groups)
 }
 

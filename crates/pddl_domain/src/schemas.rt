@@ -24,12 +24,7 @@ use sexpr_text::{FaultKind, Form, Head, ReadErr, Span, Text, View, head_of, is_n
 use std::alloc::Global;
 
 /// Declares an action, where its name is one, and none of the earlier ones.
-fn add_name(
-    alloc: Global,
-    names: &mut NameTable,
-    span: Span,
-    name: &Text,
-) -> Result<(), ReadErr>
+fn add_name(alloc: Global, names: &mut NameTable, span: Span, name: &Text) -> Result<(), ReadErr>
     ensures sound { OnOk result (specs.action_name_flaws names.old span name.now ≡ []) }
     ensures names { OnOk result (names.new ≡ names.old ++ name.now ∷ []) }
     ensures fault { IfErr result (λ e. IfFault e (λ f. first_listed (specs.action_name_flaws names.old span name.now) ≡ Some f)) }
@@ -222,11 +217,7 @@ fn read_section(
 }
 
 /// All actions among the sections.
-pub fn read_actions(
-    alloc: Global,
-    known: &Known,
-    sections: &[Form],
-) -> Result<Vec<Schema>, ReadErr>
+pub fn read_actions(alloc: Global, known: &Known, sections: &[Form]) -> Result<Vec<Schema>, ReadErr>
     ensures sound { OnOk result (actions_flaws (known_value known.now) [] (forest_of sections.now) ≡ []) }
     ensures read { IfOk result (λ actions. map schema_value actions.items ≡ all_actions (known_value known.now) (forest_of sections.now)) }
     ensures fault { IfErr result (λ e. IfFault e (λ f. first_listed (actions_flaws (known_value known.now) [] (forest_of sections.now)) ≡ Some f)) }

@@ -63,9 +63,15 @@ fn faults_stand_where_the_rules_say(rt: HostRuntime) -> Result<(), Fail> {
         (b"(:types) ^(:types))", "6 BadForm"),
         (b"(:constants) (:predicates) ^(:constants))", "6 BadForm"),
         (b"(:predicates) (:action a) ^(:predicates))", "6 BadForm"),
-        (b"(:requirements :x) (:requirements) (:types) ^(:TYPES))", "6 BadForm"),
+        (
+            b"(:requirements :x) (:requirements) (:types) ^(:TYPES))",
+            "6 BadForm",
+        ),
         (b"(:types a a) ^(:derived (p) (q)))", "13 LeftOut :derived"),
-        (b"^(:durative-action x) (:types a - ))", "13 LeftOut :durative-action"),
+        (
+            b"^(:durative-action x) (:types a - ))",
+            "13 LeftOut :durative-action",
+        ),
         // types
         (b"(:types ^?a))", "6 BadForm"),
         (b"(:types a ^:b))", "6 BadForm"),
@@ -86,17 +92,29 @@ fn faults_stand_where_the_rules_say(rt: HostRuntime) -> Result<(), Fail> {
         (b"(:types ^a - a))", "10 TypeLoop"),
         (b"(:types a - b ^b - c c - b))", "10 TypeLoop"),
         (b"(:types z - a x - y ^a - b b - c c - a))", "10 TypeLoop"),
-        (b"(:types object - a a - object x - y ^y - y))", "10 TypeLoop"),
-        (b"(:types c - d d - object ^a b - c2 c2 - a))", "10 TypeLoop"),
+        (
+            b"(:types object - a a - object x - y ^y - y))",
+            "10 TypeLoop",
+        ),
+        (
+            b"(:types c - d d - object ^a b - c2 c2 - a))",
+            "10 TypeLoop",
+        ),
         (b"(:types a - a ^a))", "8 DoubleName"),
         // constants
         (b"(:constants c ^c))", "8 DoubleName"),
         (b"(:constants c - ^foo))", "7 UnknownName"),
-        (b"(:types object - foo) (:constants c - ^foo))", "7 UnknownName"),
+        (
+            b"(:types object - foo) (:constants c - ^foo))",
+            "7 UnknownName",
+        ),
         (b"(:constants c - ^foo c))", "7 UnknownName"),
         (b"(:constants c ^c - foo))", "8 DoubleName"),
         (b"(:constants ^?x))", "6 BadForm"),
-        (b"(:types a - b) (:constants x - b y - a z - ^c))", "7 UnknownName"),
+        (
+            b"(:types a - b) (:constants x - b y - a z - ^c))",
+            "7 UnknownName",
+        ),
         (b"(:predicates (p p)) (:constants c ^c))", "8 DoubleName"),
         // predicates
         (b"(:predicates ^p))", "6 BadForm"),
@@ -111,7 +129,10 @@ fn faults_stand_where_the_rules_say(rt: HostRuntime) -> Result<(), Fail> {
         (b"(:predicates (p ?x - ^foo)))", "7 UnknownName"),
         (b"(:predicates (p ?x ?x) (q ?x ^y)))", "6 BadForm"),
         (b"(:predicates (p ?x ^- )))", "6 BadForm"),
-        (b"(:predicates (p ?x - ^(either a b)) (p)))", "13 LeftOut either"),
+        (
+            b"(:predicates (p ?x - ^(either a b)) (p)))",
+            "13 LeftOut either",
+        ),
         // an action's shape
         (b"^(:action))", "6 BadForm"),
         (b"(:action ^(a)))", "6 BadForm"),
@@ -119,7 +140,10 @@ fn faults_stand_where_the_rules_say(rt: HostRuntime) -> Result<(), Fail> {
         (b"(:action a) (:action b) (:action ^a))", "8 DoubleName"),
         (b"(:action a ^:effect))", "6 BadForm"),
         (b"(:action a :effect () ^:effect ()))", "6 BadForm"),
-        (b"(:action a ^:duration 3 :effect (p)))", "13 LeftOut :duration"),
+        (
+            b"(:action a ^:duration 3 :effect (p)))",
+            "13 LeftOut :duration",
+        ),
         (b"(:action a ^effect ()))", "6 BadForm"),
         (b"(:action a ^() :effect))", "6 BadForm"),
         (b"(:action a :effect (nope) ^:vars))", "13 LeftOut :vars"),
@@ -127,28 +151,79 @@ fn faults_stand_where_the_rules_say(rt: HostRuntime) -> Result<(), Fail> {
         (b"(:action a :parameters ^?x))", "6 BadForm"),
         (b"(:action a :parameters (?x ^?x)))", "8 DoubleName"),
         (b"(:action a :parameters (?x - ^t)))", "7 UnknownName"),
-        (b"(:action a :precondition (nope) :parameters (^x)))", "6 BadForm"),
+        (
+            b"(:action a :precondition (nope) :parameters (^x)))",
+            "6 BadForm",
+        ),
         // preconditions
         (b"(:action a :precondition ^p))", "6 BadForm"),
-        (b"(:predicates (p)) (:action a :precondition ^(when () (p))))", "6 BadForm"),
-        (b"(:predicates (p ?x)) (:action a :precondition (p ^?x)))", "7 UnknownName"),
-        (b"(:predicates (p ?x)) (:action a :precondition ^(p)))", "9 WrongArity"),
-        (b"(:action a :precondition (^preference x ())))", "13 LeftOut preference"),
-        (b"(:action a :effect (nope) :precondition (and () (^p))))", "7 UnknownName"),
-        (b"(:action a :precondition (exists (?x ^?x) ())))", "8 DoubleName"),
+        (
+            b"(:predicates (p)) (:action a :precondition ^(when () (p))))",
+            "6 BadForm",
+        ),
+        (
+            b"(:predicates (p ?x)) (:action a :precondition (p ^?x)))",
+            "7 UnknownName",
+        ),
+        (
+            b"(:predicates (p ?x)) (:action a :precondition ^(p)))",
+            "9 WrongArity",
+        ),
+        (
+            b"(:action a :precondition (^preference x ())))",
+            "13 LeftOut preference",
+        ),
+        (
+            b"(:action a :effect (nope) :precondition (and () (^p))))",
+            "7 UnknownName",
+        ),
+        (
+            b"(:action a :precondition (exists (?x ^?x) ())))",
+            "8 DoubleName",
+        ),
         // effects
-        (b"(:predicates (p)) (:action x :effect ^(oneof)))", "12 EmptyOneof"),
-        (b"(:predicates (p)) (:action x :effect ^(p p)))", "9 WrongArity"),
-        (b"(:predicates (p)) (:action x :effect ^(or (p))))", "6 BadForm"),
-        (b"(:predicates (p)) (:action x :effect ^(not (not (p)))))", "6 BadForm"),
-        (b"(:action x :effect (^increase (cost) 1)))", "13 LeftOut increase"),
-        (b"(:predicates (p)) (:action x :effect (oneof (p) ^q)))", "6 BadForm"),
+        (
+            b"(:predicates (p)) (:action x :effect ^(oneof)))",
+            "12 EmptyOneof",
+        ),
+        (
+            b"(:predicates (p)) (:action x :effect ^(p p)))",
+            "9 WrongArity",
+        ),
+        (
+            b"(:predicates (p)) (:action x :effect ^(or (p))))",
+            "6 BadForm",
+        ),
+        (
+            b"(:predicates (p)) (:action x :effect ^(not (not (p)))))",
+            "6 BadForm",
+        ),
+        (
+            b"(:action x :effect (^increase (cost) 1)))",
+            "13 LeftOut increase",
+        ),
+        (
+            b"(:predicates (p)) (:action x :effect (oneof (p) ^q)))",
+            "6 BadForm",
+        ),
         // an effect's fault comes before the shape of a later action
-        (b"(:action a :effect (^p)) (:action a :effect))", "7 UnknownName"),
-        (b"(:action a :effect ()) (:action ^a :effect (p)))", "8 DoubleName"),
+        (
+            b"(:action a :effect (^p)) (:action a :effect))",
+            "7 UnknownName",
+        ),
+        (
+            b"(:action a :effect ()) (:action ^a :effect (p)))",
+            "8 DoubleName",
+        ),
         // the pass counts before the place
-        (b"(:action a :effect (p)) (:constants c ^c))", "8 DoubleName"),
-        (b"(:predicates (p ?x ?x - ^u) (p)) (:action a) (:action a))", "7 UnknownName"),
+        (
+            b"(:action a :effect (p)) (:constants c ^c))",
+            "8 DoubleName",
+        ),
+        (
+            b"(:predicates (p ?x ?x - ^u) (p)) (:action a) (:action a))",
+            "7 UnknownName",
+        ),
     ];
     for (rest, want) in table {
         let (text, column) = marked(alloc, rest)?;
@@ -169,11 +244,17 @@ fn the_domain_is_the_first_definition(rt: HostRuntime) -> Result<(), Fail> {
         (b"(define (domain ?d))", "5 NoDefine 1:1"),
         (b"(define (domain d e))", "5 NoDefine 1:1"),
         (b"(define (problem d))", "5 NoDefine 1:1"),
-        (b"(define domain d) x (DEFINE (Domain D2)) (define (domain e) x)", "d2"),
+        (
+            b"(define domain d) x (DEFINE (Domain D2)) (define (domain e) x)",
+            "d2",
+        ),
         (b"(define (domain a))\n)", "2 StrayClose 2:1"),
         (b"(define (domain a) (x)\n\xc8)", "1 BadByte 2:1"),
         (b"(define (domain a) x", "3 OpenAtEnd 1:1"),
-        (b"(define (domain a)\n  (:types a\n    a))", "8 DoubleName 3:5"),
+        (
+            b"(define (domain a)\n  (:types a\n    a))",
+            "8 DoubleName 3:5",
+        ),
     ];
     for (text, want) in table {
         assert_eq!(rt; fault_of(rt.alloc(), text)?.as_str(), want);
@@ -373,7 +454,10 @@ fn trees_have_each_field(rt: HostRuntime) -> Result<(), Fail> {
             b"(define (domain d) (:predicates (and2 ?x - object)) (:constants A) (:action Go :effect (AND2 a)))",
             "d | object 0 | a 0 | and2 1 | go (all)(+0 0)",
         ),
-        (b"; (\n(define (domain d) ; )\n(:types))\n(define (domain e) bad)", "d | object 0 | |"),
+        (
+            b"; (\n(define (domain d) ; )\n(:types))\n(define (domain e) bad)",
+            "d | object 0 | |",
+        ),
     ];
     for (text, want) in table {
         assert_eq!(rt; tree_of(rt.alloc(), text)?.as_str(), want);
@@ -400,7 +484,10 @@ fn the_longest_text_is_read(rt: HostRuntime) -> Result<(), Fail> {
     assert!(rt; bytes.len() == MAX_BYTES);
     match read_domain(alloc, &bytes) {
         Ok(domain) => {
-            assert_eq!(rt; (domain.predicates.len(), domain.actions.len()), (5000, 5000));
+            assert_eq!(rt;
+                (domain.predicates.len(), domain.actions.len()),
+                (5000, 5000)
+            );
             match &domain.actions[4999].effect {
                 Effect::Add(predicate, terms) => {
                     assert_eq!(rt; (*predicate, terms.len()), (4999, 1));

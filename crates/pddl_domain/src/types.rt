@@ -63,11 +63,7 @@ fn add_words(alloc: Global, names: &mut TypeNames, words: &[Text]) -> Result<(),
 }
 
 /// Adds the names of the groups.
-fn add_names(
-    alloc: Global,
-    names: &mut TypeNames,
-    groups: &[TypedGroup],
-) -> Result<(), AllocError>
+fn add_names(alloc: Global, names: &mut TypeNames, groups: &[TypedGroup]) -> Result<(), AllocError>
     requires { names.old.texts.items ≡ names.old.table }
     ensures table { OnOk result (names.new.table ≡ fold specs.with_name names.old.table (names_of (map group_value groups.now))) }
     ensures texts { OnOk result (names.new.texts.items ≡ names.new.table) }
