@@ -8,8 +8,7 @@ ghost use Rattle.sexpr_text.specs.Passes.{IfFault};
 ghost use Rattle.pddl_domain.specs.ActionParts.{parts_value, row_of};
 ghost use Rattle.pddl_domain.specs.Actions as specs;
 
-use crate::refusals::fault_at;
-use sexpr_text::{FaultKind, Form, Head, ReadErr, Span, Text, View, head_of};
+use sexpr_text::{FaultKind, Form, Head, ReadErr, Span, Text, View, fault_at, head_of};
 use std::alloc::Global;
 
 /// What a word means where a key of an action stands.

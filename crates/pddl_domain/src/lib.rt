@@ -13,7 +13,6 @@ mod domains;
 mod laws;
 mod loops;
 mod predicates;
-mod refusals;
 mod schemas;
 mod sections;
 #[cfg(test)]

@@ -8,9 +8,8 @@ ghost use Rattle.pddl_ast.specs.Environment.{group_value};
 ghost use Rattle.pddl_ast.specs.TypedLists.{names_of, typed_groups};
 ghost use Rattle.pddl_domain.specs.Constants as specs;
 
-use crate::refusals::fault_at;
 use pddl_ast::{Declares, NameTable, Predicate, TypedGroup, is_reserved, read_typed_list};
-use sexpr_text::{FaultKind, Form, Head, ReadErr, Span, Text, View, head_of, is_name};
+use sexpr_text::{FaultKind, Form, Head, ReadErr, Span, Text, View, fault_at, head_of, is_name};
 use std::alloc::{AllocError, Global};
 
 /// The predicates of a domain by their numbers: the names, and how many terms each takes.

@@ -14,13 +14,12 @@ ghost use Rattle.pddl_domain.specs.Actions as specs;
 ghost use Rattle.pddl_domain.specs.Constants.{with_first_word};
 
 use crate::actions::{ActionParts, read_parts};
-use crate::refusals::fault_at;
 use crate::sections::{Section, section_kind};
 use pddl_ast::{
     Effect, Formula, Known, NameTable, Schema, Scope, no_change, read_effect, read_formula,
     read_variables, truth,
 };
-use sexpr_text::{FaultKind, Form, Head, ReadErr, Span, Text, View, head_of, is_name};
+use sexpr_text::{FaultKind, Form, Head, ReadErr, Span, Text, View, fault_at, head_of, is_name};
 use std::alloc::Global;
 
 /// Declares an action, where its name is one, and none of the earlier ones.

@@ -7,10 +7,9 @@ ghost use Rattle.sexpr_text.specs.Flaws.{first_listed};
 ghost use Rattle.sexpr_text.specs.Passes.{IfFault};
 ghost use Rattle.pddl_domain.specs.Sections as specs;
 
-use crate::refusals::fault_at;
 use sexpr_text::{
-    FaultKind, Form, Head, InputFault, Place, ReadErr, Span, Text, View, first_definition,
-    first_group, head_of,
+    FaultKind, Form, Head, InputFault, Place, ReadErr, Span, Text, View, fault_at,
+    first_definition, first_group, head_of,
 };
 use std::alloc::Global;
 

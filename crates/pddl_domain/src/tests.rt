@@ -416,7 +416,7 @@ fn trees_have_each_field(rt: HostRuntime) -> Result<(), Fail> {
         ),
         (
             b"(define (domain d) (:types a b - c object - q d - b))",
-            "d | object 0 a 4 c 5 d 4 b 0 q 0 | |",
+            "d | object 0 a 4 b 4 d 2 c 0 | |",
         ),
         (
             b"(define (domain d) (:types object x - object b - ?a y - :z))",

@@ -11,9 +11,8 @@ ghost use Rattle.pddl_domain.specs.Ancestors.{is_own_ancestor};
 ghost use Rattle.pddl_domain.specs.Types as specs;
 
 use crate::loops::types_on_loops;
-use crate::refusals::fault_at;
 use pddl_ast::{Declares, NameTable, TypedGroup, is_dash, read_typed_list};
-use sexpr_text::{FaultKind, Form, ReadErr, Span, Text, View};
+use sexpr_text::{FaultKind, Form, ReadErr, Span, Text, View, fault_at};
 use std::alloc::{AllocError, Global};
 
 /// The types of a domain by their numbers: their names, and their parents.
