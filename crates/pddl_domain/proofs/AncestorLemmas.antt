@@ -117,7 +117,7 @@ same_bool false true f g = g refl
 same_bool false false f g = refl
 
 -- what is some type's ancestor as far up as there are types, or farther, stands on a loop
-on_loop_from_far : (ps : List ℕ) → All (λ t. t < length ps) ps → (n s t : ℕ) → length ps ≤ n → s < length ps → ancestor ps n s ≡ t → is_own_ancestor ps t ≡ true
+pub on_loop_from_far : (ps : List ℕ) → All (λ t. t < length ps) ps → (n s t : ℕ) → length ps ≤ n → s < length ps → ancestor ps n s ≡ t → is_own_ancestor ps t ≡ true
 on_loop_from_far ps within n s t far small above =
     let r = repeats (length ps) (λ i. ancestor ps i s) (λ i h. ancestor_below ps within i s small) in
     let before : r.i < r.j = r.before in

@@ -7,3 +7,5 @@ pub mod PassLemmas
 pub mod Risen
 pub mod Orders
 pub mod Answered
+pub mod FitTypes
+pub mod FitLoops
