@@ -116,9 +116,9 @@ number-at names i h lt =
     let place : position_or_len (bytes_eq w) names ≡ i =
     position_or_len_is (bytes_eq w) names i [] (omega arith)
     (λ k below. not_true (bytes_eq w (get_or names k [])) (λ same.
-        let front : list_any (bytes_eq w) (take i names) ≡ true = list_any_at (bytes_eq w) (take i names) k [] (let few = length-take-le i names (omega arith) in omega (arith, few)) (rw (get_or-take i names k [] below) same) in
-        let none : list_any (bytes_eq w) (take i names) ≡ false = none_before names i lt h in
-        cc))
+    let front : list_any (bytes_eq w) (take i names) ≡ true = list_any_at (bytes_eq w) (take i names) k [] (let few = length-take-le i names (omega arith) in omega (arith, few)) (rw (get_or-take i names k [] below) same) in
+    let none : list_any (bytes_eq w) (take i names) ≡ false = none_before names i lt h in
+    cc))
     (λ _. (bytes_eq-Decides w w).1 refl) in
     ap (λ (p : ℕ). unwrap_or (cond (nat_lt p (length names)) (Some p) None) 0) place
     ∙ ap (λ b. unwrap_or (cond b (Some i) None) 0) (lt-ltb i (length names) lt)

@@ -31,9 +31,10 @@ distinct-push [] w h g = (refl, tt)
 distinct-push (n ∷ names) w h g =
     let first : bytes_eq w n ≡ false = or-first (bytes_eq w n) (list_any (bytes_eq w) names) g in
     let others : list_any (bytes_eq w) names ≡ false = or-second (bytes_eq w n) (list_any (bytes_eq w) names) g in
-    let end : list_any (bytes_eq n) (w ∷ []) ≡ false = or-both (bytes_eq n w) false (other_way w n first) refl in
-    (list_any-append (bytes_eq n) names (w ∷ []) ∙ or-both (list_any (bytes_eq n) names) (list_any (bytes_eq n) (w ∷ [])) h.0 end,
-      distinct-push names w h.1 others)
+    let end : list_any (bytes_eq n) (w ∷ []) ≡ false = or-both (bytes_eq n w) false (other_way w n first) refl in (
+      list_any-append (bytes_eq n) names (w ∷ []) ∙ or-both (list_any (bytes_eq n) names) (list_any (bytes_eq n) (w ∷ [])) h.0 end,
+      distinct-push names w h.1 others,
+    )
 
 with_name-distinct : (names : List (List ℕ)) (w : List ℕ) → AreDistinct names → AreDistinct (specs.with_name names w)
 with_name-distinct names w h = go (list_any (bytes_eq w) names) refl
