@@ -9,3 +9,6 @@ pub mod Orders
 pub mod Answered
 pub mod FitTypes
 pub mod FitLoops
+pub mod FitNames
+pub mod FitActions
+pub mod Fitted

@@ -5,6 +5,7 @@ ghost use Rattle.sexpr_text.specs.Forest.{forest_of};
 ghost use Rattle.sexpr_text.specs.Flaws.{first_listed};
 ghost use Rattle.sexpr_text.specs.Passes.{IfFault};
 ghost use Rattle.pddl_ast.specs.Environment.{known_value};
+ghost use Rattle.pddl_ast.specs.Fits.{FitsDomain};
 ghost use Rattle.pddl_ast.specs.TypedLists.{names_of, typed_groups};
 ghost use Rattle.pddl_ast.specs.Values.{domain_value};
 ghost use Rattle.pddl_domain.specs.Constants as constant;
@@ -20,8 +21,8 @@ use crate::schemas::read_actions;
 use crate::sections::{check_sections, read_definition, section_named};
 use crate::types::{Types, check_loops, read_types};
 use pddl_ast::{
-    Domain, Known, NameTable, Named, Predicate, effects_in_order, formulas_in_order,
-    typed_lists_in_order,
+    Domain, Known, NameTable, Named, Predicate, effects_fit, effects_in_order, formulas_fit,
+    formulas_in_order, typed_lists_fit, typed_lists_in_order,
 };
 use sexpr_text::{Form, MAX_BYTES, ReadErr, Text, read_forms};
 use std::alloc::Global;
@@ -148,15 +149,20 @@ fn read_defined(alloc: Global, forms: &[Form]) -> Result<Domain, ReadErr>
 /// the first pass that has one. The passes are, in this order: the lexis; the list that defines the domain;
 /// its sections; the types; loops of types; the constants; the predicates; and of each action its shape, its
 /// parameters, its precondition and its effect. Names are looked up by hash, and types' ancestors are found
-/// once, so that for `n` bytes this takes about `n log n` steps.
+/// once, so that for `n` bytes this takes about `n log n` steps. A domain that is read fits: names of each kind
+/// differ, numbers are in range, types form a tree, and no tree is more than 200 deep.
 pub fn read_domain(alloc: Global, bytes: &[u8]) -> Result<Domain, ReadErr>
     requires { length bytes.now ≤ MAX_BYTES }
     ensures domain { IfOk result (λ d. SpellsDomain bytes.now (domain_value d)) }
+    ensures fits { IfOk result (λ d. FitsDomain (domain_value d)) }
     ensures fault { IfErr result (λ e. IfFault e (λ f. HasDomainFault bytes.now f)) }
 {
     typed_lists_in_order();
     formulas_in_order();
     effects_in_order();
+    typed_lists_fit();
+    formulas_fit();
+    effects_fit();
     match read_forms(alloc, bytes) {
         Ok(forms) => read_defined(alloc, &forms),
         Err(error) => Err(error),

@@ -1,4 +1,3 @@
-use Rattle.pddl_domain.proofs.FitTypes.{one_parent}
 use Rattle.pddl_domain.proofs.Answered.{spelled_or_faulty, one_domain, one_fault, never_both}
 use Rattle.pddl_domain.proofs.laws.domain_or_fault.Goals as goal
 
