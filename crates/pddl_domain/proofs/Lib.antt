@@ -1,0 +1,14 @@
+pub mod Pigeonhole
+pub mod AncestorLemmas
+pub mod TypeLemmas
+pub mod ListLemmas
+pub mod ActionLemmas
+pub mod PassLemmas
+pub mod Risen
+pub mod Orders
+pub mod Answered
+pub mod FitTypes
+pub mod FitLoops
+pub mod FitNames
+pub mod FitActions
+pub mod Fitted

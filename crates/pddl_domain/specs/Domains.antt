@@ -1,0 +1,75 @@
+-- A domain's text: its passes after the lexis, and the tree that it spells.
+--
+-- Each pass lists everything that is wrong in the text by its rules. The fault of the text is the first flaw
+-- of the first pass that has one; a text without flaws spells its tree.
+use Rattle.std.specs.Prelude.{ℕ, List, [], ◌∷◌, ◌++◌, map, codes}
+use Rattle.sexpr_text.specs.declared.faults.InputFault.{InputFault}
+use Rattle.sexpr_text.specs.Forest.{Forest}
+use Rattle.sexpr_text.specs.Flaws.{Flaw}
+use Rattle.sexpr_text.specs.Passes.{SpellsBy, HasFaultBy}
+use Rattle.pddl_ast.specs.declared.trees.Predicate.{Predicate}
+use Rattle.pddl_ast.specs.Known.{Known}
+use Rattle.pddl_ast.specs.Trees.{DomainTree}
+use Rattle.pddl_ast.specs.TypedLists.{typed_groups, names_of}
+use Rattle.pddl_domain.specs.Sections.{definition_flaws, name_of, sections_of, sections_flaws, none_came, section_named}
+use Rattle.pddl_domain.specs.Types.{types_flaws, loop_flaws, type_names, type_parents}
+use Rattle.pddl_domain.specs.Constants.{constants_flaws, constants_of, predicates_flaws, predicates_of}
+use Rattle.pddl_domain.specs.Actions.{actions_passes, schemas_of}
+
+-- what follows the first words of the sections
+abbrev pub types_section : Forest → Forest
+types_section sections = section_named (codes ":types") sections
+
+abbrev pub constants_section : Forest → Forest
+constants_section sections = section_named (codes ":constants") sections
+
+abbrev pub predicates_section : Forest → Forest
+predicates_section sections = section_named (codes ":predicates") sections
+
+-- the names of the types that the sections declare
+abbrev pub types_in : Forest → List (List ℕ)
+types_in sections = type_names (typed_groups (types_section sections))
+
+-- what is known where the actions are read
+abbrev pub known_of : Forest → Known
+known_of sections = record {
+  types = types_in sections;
+  predicates = map (λ (p : Predicate). p.name) (predicates_of (predicates_section sections));
+  arities = map (λ (p : Predicate). p.arity) (predicates_of (predicates_section sections));
+  objects = names_of (typed_groups (constants_section sections));
+}
+
+-- the passes over the sections
+abbrev pub section_passes : Forest → List (List Flaw)
+section_passes sections =
+    sections_flaws none_came sections
+    ∷ types_flaws (types_section sections)
+    ∷ loop_flaws (types_section sections)
+    ∷ constants_flaws (types_in sections) (constants_section sections)
+    ∷ predicates_flaws (types_in sections) [] (predicates_section sections)
+    ∷ actions_passes (known_of sections) [] sections
+
+-- all passes over the forms of a text
+abbrev pub domain_passes : Forest → List (List Flaw)
+domain_passes forms = definition_flaws forms ∷ section_passes (sections_of forms)
+
+-- the tree of the forms of a text without flaws
+abbrev pub domain_tree : Forest → DomainTree
+domain_tree forms =
+    let sections = sections_of forms in
+    record {
+      name = name_of forms;
+      type_names = types_in sections;
+      parents = type_parents (typed_groups (types_section sections));
+      constants = constants_of (types_in sections) (constants_section sections);
+      predicates = predicates_of (predicates_section sections);
+      actions = schemas_of (known_of sections) sections;
+    }
+
+-- the bytes spell this domain
+abbrev pub SpellsDomain : List ℕ → DomainTree → Type 0
+SpellsDomain bytes tree = SpellsBy domain_passes domain_tree bytes tree
+
+-- this is the fault of the bytes as a domain
+abbrev pub HasDomainFault : List ℕ → InputFault → Type 0
+HasDomainFault bytes fault = HasFaultBy domain_passes bytes fault

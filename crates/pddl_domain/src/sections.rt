@@ -1,0 +1,199 @@
+//! The list that defines a domain, and its sections.
+
+ghost use Rattle.std.specs.Prelude.{◌≡◌, [], IfOk, IfErr, IfSome, Some, codes};
+ghost use Rattle.std.specs.Option.{option_copied, option_map};
+ghost use Rattle.sexpr_text.specs.Forest.{forest_of};
+ghost use Rattle.sexpr_text.specs.Flaws.{first_listed};
+ghost use Rattle.sexpr_text.specs.Passes.{IfFault};
+ghost use Rattle.pddl_domain.specs.Sections as specs;
+
+use sexpr_text::{
+    FaultKind, Form, Head, InputFault, Place, ReadErr, Span, Text, View, fault_at,
+    first_definition, first_group, head_of,
+};
+use std::alloc::Global;
+
+/// The kinds of sections, by the words with which they begin.
+#[derive(Clone, Copy, Debug)]
+pub enum Section {
+    /// `:requirements`, which is passed over
+    Requirements,
+    /// `:types`
+    Types,
+    /// `:constants`
+    Constants,
+    /// `:predicates`
+    Predicates,
+    /// `:action`, which may come any number of times
+    Action,
+    /// Every other word.
+    Other,
+}
+
+/// The kind of section that begins with the word.
+#[tactic(auto, unfolding(crate::specs::Sections::section_kind))]
+pub fn section_kind(word: &Text) -> Section
+    ensures { result ≡ specs.section_kind word.now }
+{
+    if word.is(b":requirements") {
+        Section::Requirements
+    } else if word.is(b":types") {
+        Section::Types
+    } else if word.is(b":constants") {
+        Section::Constants
+    } else if word.is(b":predicates") {
+        Section::Predicates
+    } else if word.is(b":action") {
+        Section::Action
+    } else {
+        Section::Other
+    }
+}
+
+/// Which of the sections that may come once came already.
+#[derive(Clone, Copy, Debug)]
+pub struct Seen {
+    pub types: bool,
+    pub constants: bool,
+    pub predicates: bool,
+}
+
+impl Seen {
+    /// Whether a section of this kind may not come again.
+    fn came(self, section: Section) -> bool
+        ensures { result ≡ specs.came self section }
+    {
+        match section {
+            Section::Types => self.types,
+            Section::Constants => self.constants,
+            Section::Predicates => self.predicates,
+            _ => false,
+        }
+    }
+
+    /// What came, after a section of this kind.
+    fn and(self, section: Section) -> Seen
+        ensures { result ≡ specs.seen_after self section }
+    {
+        let mut seen = self;
+        match section {
+            Section::Types => seen.types = true,
+            Section::Constants => seen.constants = true,
+            Section::Predicates => seen.predicates = true,
+            _ => {}
+        }
+        seen
+    }
+}
+
+/// The second word of a row of words.
+fn name_in_title(title: &[Form]) -> Option<&Text>
+    ensures { option_copied result ≡ specs.name_in_title (forest_of title.now) }
+{
+    let Head::Word(_, _, rest) = head_of(title) else {
+        return None;
+    };
+    match head_of(rest) {
+        Head::Word(_, name, _) => Some(name),
+        _ => None,
+    }
+}
+
+/// Of `define (domain NAME) SECTION ..` the name and the sections.
+fn name_and_sections(parts: &[Form]) -> Option<(&Text, &[Form])>
+    ensures { option_map (λ p. (p.0.now, forest_of p.1.now)) result ≡ specs.name_and_sections (forest_of parts.now) }
+{
+    let Head::Word(_, _, rest) = head_of(parts) else {
+        return None;
+    };
+    match head_of(rest) {
+        Head::Group(_, title, sections) => Some((name_in_title(title)?, sections)),
+        _ => None,
+    }
+}
+
+/// The name and the sections of the first list that defines a domain.
+fn find_definition(forms: &[Form]) -> Option<(&Text, &[Form])>
+    ensures { option_map (λ p. (p.0.now, forest_of p.1.now)) result ≡ specs.definition (forest_of forms.now) }
+{
+    let (_, parts) = first_definition(forms, b"domain")?;
+    name_and_sections(parts)
+}
+
+/// The name and the sections of the domain that the forms of a text define.
+pub fn read_definition(forms: &[Form]) -> Result<(&Text, &[Form]), ReadErr>
+    ensures found { IfOk result (λ p. specs.definition_flaws (forest_of forms.now) ≡ []) }
+    ensures name { IfOk result (λ p. p.0.now ≡ specs.name_of (forest_of forms.now)) }
+    ensures sections { IfOk result (λ p. forest_of p.1.now ≡ specs.sections_of (forest_of forms.now)) }
+    ensures fault { IfErr result (λ e. IfFault e (λ f. first_listed (specs.definition_flaws (forest_of forms.now)) ≡ Some f)) }
+{
+    match find_definition(forms) {
+        Some(found) => Ok(found),
+        None => Err(ReadErr::Fault(InputFault {
+            kind: FaultKind::NoDefine,
+            place: Place { line: 1, column: 1 },
+        })),
+    }
+}
+
+/// What stands in the first section that begins with the word, after that word.
+pub fn section_named<'a>(sections: &'a [Form], word: &[u8]) -> &'a [Form]
+    ensures { forest_of result.now ≡ specs.section_named word.now (forest_of sections.now) }
+{
+    match first_group(sections, word) {
+        Some((_, parts)) => match head_of(parts) {
+            Head::Word(_, _, rest) => rest,
+            Head::Group(_, _, rest) => rest,
+            Head::Nothing => &[],
+        },
+        None => &[],
+    }
+}
+
+/// The flaw of a section of this kind, where it has one.
+fn check_kind(
+    alloc: Global,
+    seen: Seen,
+    span: Span,
+    word: &Text,
+    section: Section,
+) -> Result<(), ReadErr>
+    ensures sound { IfOk result (λ _. specs.kind_flaws seen span word.now section ≡ []) }
+    ensures fault { IfErr result (λ e. IfFault e (λ f. first_listed (specs.kind_flaws seen span word.now section) ≡ Some f)) }
+{
+    if let Section::Other = section {
+        let left_out = FaultKind::LeftOut(Text::new(alloc, word.as_bytes())?);
+        return Err(fault_at(span, left_out));
+    }
+    if seen.came(section) {
+        return Err(fault_at(span, FaultKind::BadForm));
+    }
+    Ok(())
+}
+
+/// Finds the first flaw of the sections as such: a form that is no section, one that is left out, or one
+/// that comes twice.
+pub fn check_sections(alloc: Global, sections: &[Form]) -> Result<(), ReadErr>
+    ensures sound { IfOk result (λ _. specs.sections_flaws specs.none_came (forest_of sections.now) ≡ []) }
+    ensures fault { IfErr result (λ e. IfFault e (λ f. first_listed (specs.sections_flaws specs.none_came (forest_of sections.now)) ≡ Some f)) }
+{
+    let mut seen = Seen {
+        types: false,
+        constants: false,
+        predicates: false,
+    };
+    for form in sections {
+        match form.view() {
+            View::Word(span, _) => return Err(fault_at(span, FaultKind::BadForm)),
+            View::Group(span, parts) => match head_of(parts) {
+                Head::Word(_, word, _) => {
+                    let section = section_kind(word);
+                    check_kind(alloc, seen, span, word, section)?;
+                    seen = seen.and(section);
+                }
+                _ => return Err(fault_at(span, FaultKind::BadForm)),
+            },
+        }
+    }
+    Ok(())
+}
