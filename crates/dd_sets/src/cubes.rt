@@ -14,8 +14,8 @@ pub type Cube = Vec<Lit>;
 
 /// Appends the cubes of a number, each behind the literals of the path to it.
 ///
-/// Each node has a path to the constant true, so each step leads to a cube. A child tests a greater fluent, so the calls are
-/// nested at most 257 deep.
+/// Each node has a path to the constant true, so each step leads to a cube. A child tests a greater
+/// fluent, so the calls are nested at most 257 deep.
 pub fn walk(
     alloc: Global,
     dd: &Dd,

@@ -1,4 +1,5 @@
-//! What is true of all sets, for callers to cite. Each function does nothing, and its contract is the law.
+//! What is true of all sets, for callers to cite. Each function does nothing, and its contract is
+//! the law.
 ghost use Rattle.dd_sets.specs.Laws.{TightIsMonotone, SetsDependOnFluents, OneSetPerSlot, FullIsTight};
 
 /// A limit that is tight for so many nodes is tight for more.
@@ -16,7 +17,8 @@ pub fn one_set_per_slot()
     ensures { OneSetPerSlot }
 {}
 
-/// Where a call with one piece finds no room, the limit is tight for the sets that were live before it, by their slots.
+/// Where a call with one piece finds no room, the limit is tight for the sets that were live before
+/// it, by their slots.
 pub fn full_is_tight()
     ensures { FullIsTight }
 {}

@@ -1,8 +1,9 @@
 //! Sets of states on diagrams.
 //!
-//! A set of states is a set of lists of truth values, one value a fluent. Each live set has a slot, and stands in one table of
-//! diagram nodes with all the others (R. E. Bryant, "Graph-Based Algorithms for Boolean Function Manipulation", IEEE
-//! Transactions on Computers, 1986), so two slots hold the same set exactly where they have the same number there.
+//! A set of states is a set of lists of truth values, one value a fluent. Each live set has a slot,
+//! and stands in one table of diagram nodes with all the others (R. E. Bryant, "Graph-Based
+//! Algorithms for Boolean Function Manipulation", IEEE Transactions on Computers, 1986), so two
+//! slots hold the same set exactly where they have the same number there.
 #![tactic(auto)]
 
 mod cubes;

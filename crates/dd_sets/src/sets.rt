@@ -23,11 +23,12 @@ use task_core::{FluentId, State};
 
 /// Sets of states in slots, over one table of diagram nodes.
 ///
-/// A contract sees it as the number of fluents (`vars`), the largest number of nodes (`limit`), the nodes, and for each live
-/// slot its set. A slot is live from the call that answers it up to its release. Each call but `release` leaves every live slot
-/// with its set, whether it answers or refuses, and an operation's answer is a slot that was not live before. It refuses with
-/// `Full` only where the table holds `limit` nodes and the limit is tight for the live sets and the functions whose nodes it
-/// may have to make, and with `Memory` where memory runs out.
+/// A contract sees it as the number of fluents (`vars`), the largest number of nodes (`limit`), the
+/// nodes, and for each live slot its set. A slot is live from the call that answers it up to its
+/// release. Each call but `release` leaves every live slot with its set, whether it answers or
+/// refuses, and an operation's answer is a slot that was not live before. It refuses with `Full`
+/// only where the table holds `limit` nodes and the limit is tight for the live sets and the
+/// functions whose nodes it may have to make, and with `Memory` where memory runs out.
 #[derive(Drop)]
 pub struct Sets {
     ops: Ops,
@@ -310,9 +311,10 @@ impl Sets {
         self.slots.remove(a.0);
     }
 
-    /// The cubes of a set, in the order of `task_core`'s definition: the empty set has none, the whole set has the empty cube, a
-    /// set that does not depend on the first fluent has the cubes over the rest, and another has the cubes of the half where the
-    /// first fluent is false, with that literal first, and then those of the true half.
+    /// The cubes of a set, in the order of `task_core`'s definition: the empty set has none, the
+    /// whole set has the empty cube, a set that does not depend on the first fluent has the cubes
+    /// over the rest, and another has the cubes of the half where the first fluent is false, with
+    /// that literal first, and then those of the true half.
     ///
     /// The time grows with the literals that it gives.
     pub fn cubes(&self, a: SetId) -> Result<Vec<Cube>, AllocError>

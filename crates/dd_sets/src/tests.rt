@@ -1,5 +1,5 @@
-//! Sets against truth tables: bit `s` of a table says whether state `s` is in the set, and bit `f` of `s` is the value of
-//! fluent `f`.
+//! Sets against truth tables: bit `s` of a table says whether state `s` is in the set, and bit `f`
+//! of `s` is the value of fluent `f`.
 ghost use Rattle.std.specs.Prelude.{◌≡◌, ℕ, ◌<◌, ◌≤◌, Bool, true, false, IfOk, OnOk, All};
 ghost use Rattle.std.specs.List.{list_any};
 ghost use Rattle.dd_nodes.specs.NodeList.{Values};
@@ -201,7 +201,8 @@ fn answers_as_truth_tables_do(rt: HostRuntime) -> Result<(), Fail> {
     Ok(())
 }
 
-/// Joins or complements known sets; where there is no room, every known slot must still have its table.
+/// Joins or complements known sets; where there is no room, every known slot must still have its
+/// table.
 ///
 /// It answers whether there was room.
 fn grow(sets: &mut Sets, known: &mut Vec<(SetId, u16)>, n: u32) -> Result<bool, Fail>
