@@ -17,8 +17,6 @@ mod known;
 mod laws;
 mod names;
 mod scope;
-#[cfg(test)]
-mod tests;
 mod trees;
 mod typed_lists;
 
