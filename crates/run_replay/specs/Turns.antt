@@ -1,0 +1,40 @@
+-- Private: one turn, as the code holds it.
+use Rattle.std.specs.Prelude.{◌≡◌, ℕ, Bool, nat_lt, if◌then◌else◌, List, [], ◌∷◌, Option, Some, None, slice_index_or, ⊤}
+use Rattle.task_core.specs.States.{IsWithin}
+use Rattle.run_replay.specs.declared.turns.Turn.{Turn as CodeTurn}
+use Rattle.run_replay.specs.declared.turns.Turn.TheVariants.{Ends as CodeEnds, Refuses, Goes as CodeGoes}
+use Rattle.run_replay.specs.Runs.{step_value, ending_of, IsRefusal}
+use Rattle.run_replay.specs.Traces.{Ending, Turn, Ends, Goes, Terminal, Ended, Capped, Stray, Unexecutable}
+use Rattle.task_core.specs.Vectors.{Vector}
+use Rattle.task_core.specs.Systems.{System}
+use Rattle.plan_rules.specs.Denoted.{can_execute, next_context}
+use Rattle.run_replay.specs.Advices.{Advised}
+
+-- Private: the code's turn is this turn, after which these outcome numbers are left
+abbrev pub IsTurn : ℕ → CodeTurn → List ℕ → Turn → Type 0
+IsTurn n (CodeEnds end) left turn = turn ≡ Ends (ending_of end) left
+IsTurn n (Refuses refusal) left turn = (ending : Ending) × (turn ≡ Ends ending left) × IsRefusal refusal ending
+IsTurn n (CodeGoes step context) left turn = turn ≡ Goes (step_value n step) context left
+
+-- Private: the state after the step, where one is made, has no true fluent from n on
+abbrev pub IsStepWithin : ℕ → CodeTurn → Type 0
+IsStepWithin n (CodeEnds end) = ⊤
+IsStepWithin n (Refuses refusal) = ⊤
+IsStepWithin n (CodeGoes step context) = IsWithin n step.after
+
+-- Private: the turn in which an action is taken that can be executed
+abbrev pub taking : System → ℕ → Vector → Advised → List ℕ → Turn
+taking sys number s a [] = Ends Ended []
+taking sys number s a (word ∷ words) =
+    if nat_lt word (sys.outcomes a.action)
+    then (let t = slice_index_or (sys.next s a.action) word [] in
+    Goes (record { number = number; action = a.action; outcome = word; before = s; after = t }) (next_context a.next t) words)
+    else Ends (Stray number word (sys.outcomes a.action)) words
+
+-- Private: the turn in which this is what counts, or nothing
+abbrev pub turn_by : System → Bool → ℕ → Vector → List ℕ → Option Advised → Turn
+turn_by sys full number s words None = Ends Terminal words
+turn_by sys full number s words (Some a) =
+    if can_execute sys s a.action
+    then (if full then Ends Capped words else taking sys number s a words)
+    else Ends (Unexecutable number) words

@@ -1,0 +1,129 @@
+//! One turn of a run.
+
+ghost use Rattle.plan_rules.specs.Plans.{IsPlanOf};
+ghost use Rattle.plan_rules.specs.Rules.{plain_of};
+ghost use Rattle.run_replay.specs.Traces.{run_plan, turn as turn_of};
+ghost use Rattle.run_replay.specs.Turns.{IsStepWithin, IsTurn, taking, turn_by};
+ghost use Rattle.std.specs.Prelude.{◌≡◌, ◌<◌, ◌↔◌, ◌∷◌, ℕ, IsTrue, length, List, Some};
+ghost use Rattle.plan_rules.specs.Denoted.{can_execute};
+ghost use Rattle.task_core.specs.Systems.{Exec};
+ghost use Rattle.run_replay.specs.Advices.{IsAdviceOf, advice_value};
+ghost use Rattle.task_core.specs.States.{IsWithin, vector};
+ghost use Rattle.task_core.specs.Tasks.{action_count, fluent_count, outcomes_at, system_of};
+
+use crate::advice::{Advice, context_in, rule_in};
+use crate::traces::{End, RunErr};
+use crate::worlds::{Step, World};
+use plan_rules::Plan;
+use task_core::{ActionId, State, Task, is_exec, step};
+
+/// What a turn does.
+pub(crate) enum Turn {
+    /// It ends the run.
+    Ends(End),
+    /// It refuses the run.
+    Refuses(RunErr),
+    /// It makes a step, and goes on in a context, or in none.
+    Goes(Step, Option<u32>),
+}
+
+/// The turn of a run in a state and a context, in which the step of this number would be made unless
+/// the run is full.
+pub(crate) fn take_turn(
+    task: &Task,
+    plan: &Plan,
+    full: bool,
+    number: u64,
+    state: &State,
+    context: Option<u32>,
+    world: &mut Box<dyn World>,
+) -> Turn
+    requires plan_of_task { IsPlanOf (fluent_count task.now) (action_count task.now) plan.now }
+    requires within { IsWithin (fluent_count task.now) state.now }
+    ensures turn { IsTurn (fluent_count task.now) result (left world.new)
+        (turn_of (system_of task.now) (run_plan (plain_of plan.now)) full number
+        (vector (fluent_count task.now) state.now) context (left world.old)) }
+    ensures after { IsStepWithin (fluent_count task.now) result }
+{
+    let Some(context) = context else {
+        return Turn::Ends(End::Terminal);
+    };
+    match rule_in(task, plan, state, context) {
+        None => Turn::Ends(End::Terminal),
+        Some(rule) => follow(task, full, number, state, &rule, world),
+    }
+}
+
+/// The turn in which this rule counts.
+fn follow(
+    task: &Task,
+    full: bool,
+    number: u64,
+    state: &State,
+    rule: &Advice<'_>,
+    world: &mut Box<dyn World>,
+) -> Turn
+    requires in_task { IsAdviceOf (fluent_count task.now) (action_count task.now) rule.now }
+    requires within { IsWithin (fluent_count task.now) state.now }
+    ensures turn { IsTurn (fluent_count task.now) result (left world.new)
+        (turn_by (system_of task.now) full number (vector (fluent_count task.now) state.now)
+        (left world.old) (Some (advice_value rule.now))) }
+    ensures after { IsStepWithin (fluent_count task.now) result }
+{
+    if !is_executable(task, state, rule.action) {
+        return Turn::Refuses(RunErr::Unexecutable { step: number });
+    }
+    if full {
+        return Turn::Ends(End::Capped);
+    }
+    match world.choose() {
+        None => Turn::Ends(End::Ended),
+        Some(word) => make_step(task, number, state, rule, word),
+    }
+}
+
+/// The turn in which this rule's action, which can be executed, has this outcome number.
+fn make_step(task: &Task, number: u64, state: &State, rule: &Advice<'_>, word: u32) -> Turn
+    requires in_task { IsAdviceOf (fluent_count task.now) (action_count task.now) rule.now }
+    requires within { IsWithin (fluent_count task.now) state.now }
+    requires executable { Exec (system_of task.now) (vector (fluent_count task.now) state.now) rule.now.action.0 }
+    ensures turn { (words : List ℕ) → IsTurn (fluent_count task.now) result words
+        (taking (system_of task.now) number (vector (fluent_count task.now) state.now)
+        (advice_value rule.now) (word ∷ words)) }
+    ensures after { IsStepWithin (fluent_count task.now) result }
+{
+    let outcomes = outcome_count(task, rule.action);
+    if word >= outcomes {
+        return Turn::Refuses(RunErr::StrayOutcome {
+            step: number,
+            word,
+            outcomes,
+        });
+    }
+    let after = step(task, state, rule.action, word);
+    let made = Step {
+        number,
+        action: rule.action,
+        outcome: word,
+        before: *state,
+        after,
+    };
+    Turn::Goes(made, context_in(task, &rule.onward, &after))
+}
+
+/// Whether an action can be executed in a state.
+fn is_executable(task: &Task, state: &State, action: ActionId) -> bool
+    requires { action.0 < action_count task.now }
+    ensures value { result ≡ can_execute (system_of task.now) (vector (fluent_count task.now) state.now) action.0 }
+    ensures executable { IsTrue result ↔ Exec (system_of task.now) (vector (fluent_count task.now) state.now) action.0 }
+{
+    is_exec(task, state, action)
+}
+
+/// How many outcomes an action has.
+fn outcome_count(task: &Task, action: ActionId) -> u32
+    requires { action.0 < action_count task.now }
+    ensures { result ≡ length (outcomes_at task.now action.0) }
+{
+    task.actions[action.0 as usize].outcomes.len() as u32
+}
