@@ -1,5 +1,9 @@
 pub mod Deciding
+pub mod PddlDecides
 pub mod PlanDecides
+pub mod GroundDecides
+pub mod PlanWritten
+pub mod GroundWritten
 pub mod ByCommand
 pub mod Statuses
 pub mod PlanAnswers
