@@ -6,6 +6,7 @@ pub mod PlanWritten
 pub mod GroundWritten
 pub mod ByCommand
 pub mod Statuses
+pub mod Listings
 pub mod PlanAnswers
 pub mod Later
 pub mod Refusals

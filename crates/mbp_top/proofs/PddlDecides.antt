@@ -75,9 +75,9 @@ refused_before held failed domain problem Then a (inr (d, holds, inl why)) = inr
 refused_before held failed domain problem Then a (inr (d, holds, inr (p, holds', never))) = absurd never
 
 pub refused_both : (held : Bytes → Held) (failed : Bytes → Type 0) (domain problem : Bytes) (Then : DomainTree → ProblemTree → Answer → Type 0) (r : Refusal)
-    → (r ≡ no_memory) ⊎ ReadBoth held failed domain problem (λ d p b. ⊥) (refused r)
+    → (refused r ≡ refused no_memory) ⊎ ReadBoth held failed domain problem (λ d p b. ⊥) (refused r)
     → (refused r ≡ refused no_memory) ⊎ ReadBoth held failed domain problem Then (refused r)
-refused_both held failed domain problem Then r (inl memory) = inl (ap refused memory)
+refused_both held failed domain problem Then r (inl memory) = inl memory
 refused_both held failed domain problem Then r (inr why) = inr (refused_before held failed domain problem Then (refused r) why)
 
 -- the goal's kind, and the limits, decide the answer, if what follows does

@@ -107,7 +107,7 @@ pub(crate) fn read_both<S: Shelf>(
     ensures fits_problem { IfOk result
         (λ both. FitsProblem (domain_value both.0) (problem_value both.1)) }
     ensures refused { let failed = FailedLast S.fetched S.faults shelf.old shelf.new in
-        IfErr result (λ refusal. (refusal_of refusal ≡ no_memory)
+        IfErr result (λ refusal. (refused (refusal_of refusal) ≡ refused no_memory)
         ⊎ ReadBoth (S.held shelf.old) failed domain_name.now problem_name.now
         (λ domain problem answer. ⊥) (refused (refusal_of refusal))) }
     ensures fetches { FetchesFirst S.fetched
