@@ -1,5 +1,5 @@
 -- What is true of every domain and problem: the statements of the laws.
-use Rattle.std.specs.Prelude.{◌≡◌, ℕ, List, length}
+use Rattle.std.specs.Prelude.{◌≡◌, ℕ, ◌<◌, List, length}
 use Rattle.pddl_ast.specs.Fits.{FitsEffect}
 use Rattle.pddl_ast.specs.Known.{Known}
 use Rattle.pddl_ast.specs.Trees.{AtomTree, EffectTree}
@@ -22,3 +22,16 @@ abbrev pub OutcomesAreCounted : Type 0
 OutcomesAreCounted =
     (objects : ℕ → List ℕ) (effect : EffectTree) (scope : List ℕ)
     → length (outcomes objects effect scope) ≡ outcome_count objects effect
+
+-- an effect in which each choice has an alternative has an outcome
+abbrev pub EffectsHaveOutcomes : Type 0
+EffectsHaveOutcomes =
+    (known : Known) (objects : ℕ → List ℕ) (effect : EffectTree) (n : ℕ) (scope : List ℕ)
+    → FitsEffect known effect n → 0 < length (outcomes objects effect scope)
+
+-- the atoms that an instance's effect names, by the walk over it, are those that some outcome may change
+abbrev pub NamedAtomsAreChanged : Type 0
+NamedAtomsAreChanged =
+    (known : Known) (n : ℕ) (at : Setting) (i : Instance) (a : AtomTree)
+    → FitsEffect known i.schema.effect n
+    → is_among (changed_by at i) a ≡ is_among (named_by_effect at i.schema.effect i.objects) a
