@@ -1,3 +1,9 @@
 mod Lists
 mod Counts
 mod NamedAtoms
+mod TreeTruth
+mod Soundness
+mod Members
+mod Numbers
+mod RigidAtoms
+mod SystemsAgree

@@ -59,7 +59,7 @@ may_hold-and None None = refl
 
 module _ (at : Setting) (a : AtomTree) where
   -- whether an outcome may change the atom
-  abbrev touches : OutcomeTree → Bool
+  abbrev pub touches : OutcomeTree → Bool
   touches outcome = is_among (atoms_changed (possible_changes at outcome)) a
 
   -- by its changes
@@ -71,7 +71,7 @@ module _ (at : Setting) (a : AtomTree) where
       list_any-map (same_atom a) (λ (c : ChangeTree). c.atom) (filter (may_change at) o)
       ∙ list_any-filter (may_change at) (λ (c : ChangeTree). same_atom a c.atom) o
 
-  touches-append : (x y : OutcomeTree) → touches (x ++ y) ≡ (touches x || touches y)
+  pub touches-append : (x y : OutcomeTree) → touches (x ++ y) ≡ (touches x || touches y)
   touches-append x y = touches_is (x ++ y) ∙ list_any-append is_touched_by x y ∙ both_are
     where
       both_are : (list_any is_touched_by x || list_any is_touched_by y) ≡ (touches x || touches y)
@@ -121,7 +121,7 @@ module _ (at : Setting) (a : AtomTree) where
       of_one : (change : ChangeTree) → is_touched_by (under c change) ≡ (may_hold (value at c.formula c.scope) && is_touched_by change)
       of_one change = ap (λ b. b && same_atom a change.atom) (may_hold-and (value at c.formula c.scope) (value_of_all (map (λ (k : Condition). value at k.formula k.scope) change.conditions))) ∙ and_assoc (may_hold (value at c.formula c.scope)) (may_change at change) (same_atom a change.atom)
 
-  under_same : (c : Condition) (os : List OutcomeTree) → list_any touches (map (map (under c)) os) ≡ (may_hold (value at c.formula c.scope) && list_any touches os)
+  pub under_same : (c : Condition) (os : List OutcomeTree) → list_any touches (map (map (under c)) os) ≡ (may_hold (value at c.formula c.scope) && list_any touches os)
   under_same c os =
       list_any-map touches (map (under c)) os
       ∙ list_any-same _ _ (touches-under c) os

@@ -2,7 +2,7 @@
 use Rattle.std.specs.Prelude.{◌≡◌, ℕ, ◌<◌, List, length}
 use Rattle.pddl_ast.specs.Fits.{FitsEffect}
 use Rattle.pddl_ast.specs.Known.{Known}
-use Rattle.pddl_ast.specs.Trees.{AtomTree, EffectTree}
+use Rattle.pddl_ast.specs.Trees.{AtomTree, EffectTree, DomainTree, ProblemTree}
 use Rattle.pddl_system.specs.Fluents.{changed_by, named_by_effect}
 use Rattle.pddl_system.specs.GroundAtoms.{is_among}
 use Rattle.pddl_system.specs.Instances.{Instance}
@@ -10,6 +10,11 @@ use Rattle.pddl_system.specs.Objects.{bindings}
 use Rattle.pddl_system.specs.Outcomes.{outcomes}
 use Rattle.pddl_system.specs.Settings.{Setting}
 use Rattle.pddl_system.specs.Sizes.{binding_count, outcome_count}
+use Rattle.pddl_system.specs.Systems.{system}
+use Rattle.pddl_system.specs.Tasks.{task_of}
+use Rattle.pddl_system.specs.Values.{task_value}
+use Rattle.task_core.specs.Tasks.{system_of}
+use Rattle.task_core.specs.declared.tasks.Task.{Task}
 
 -- there are as many bindings as their count says
 abbrev pub BindingsAreCounted : Type 0
@@ -35,3 +40,9 @@ NamedAtomsAreChanged =
     (known : Known) (n : ℕ) (at : Setting) (i : Instance) (a : AtomTree)
     → FitsEffect known i.schema.effect n
     → is_among (changed_by at i) a ≡ is_among (named_by_effect at i.schema.effect i.objects) a
+
+-- the system of a task that stands for the task of a domain and a problem is theirs
+abbrev pub TaskHasTheSystem : Type 0
+TaskHasTheSystem =
+    (d : DomainTree) (p : ProblemTree) (task : Task)
+    → task_value task ≡ task_of d p → system_of task ≡ system d p

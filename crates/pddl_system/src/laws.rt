@@ -6,6 +6,7 @@ ghost use Rattle.pddl_system.specs.Laws.{
   EffectsHaveOutcomes,
   NamedAtomsAreChanged,
   OutcomesAreCounted,
+  TaskHasTheSystem,
 };
 
 /// There are as many bindings of variables, and as many outcomes of an effect, as their counts say,
@@ -20,4 +21,9 @@ pub fn bindings_and_outcomes_are_counted()
 pub fn effects_name_what_they_change()
     ensures outcomes { EffectsHaveOutcomes }
     ensures atoms { NamedAtomsAreChanged }
+{}
+
+/// A task that stands for the task of a domain and a problem has their system.
+pub fn tasks_have_the_system()
+    ensures { TaskHasTheSystem }
 {}
