@@ -7,3 +7,4 @@ mod Members
 mod Numbers
 mod RigidAtoms
 mod SystemsAgree
+mod NameLaws

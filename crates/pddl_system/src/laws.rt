@@ -2,8 +2,10 @@
 //! callers' proofs can cite it.
 
 ghost use Rattle.pddl_system.specs.Laws.{
+  ActionNamesAreNames,
   BindingsAreCounted,
   EffectsHaveOutcomes,
+  FluentNamesAreNames,
   NamedAtomsAreChanged,
   OutcomesAreCounted,
   TaskHasTheSystem,
@@ -26,4 +28,11 @@ pub fn effects_name_what_they_change()
 /// A task that stands for the task of a domain and a problem has their system.
 pub fn tasks_have_the_system()
     ensures { TaskHasTheSystem }
+{}
+
+/// The names of fluents and of actions are those of a task: lists of words, all different, and no
+/// fluent's name begins with `not`.
+pub fn names_are_names()
+    ensures fluents { FluentNamesAreNames }
+    ensures actions { ActionNamesAreNames }
 {}
