@@ -24,7 +24,7 @@ use Rattle.pddl_system.specs.Objects.{all_objects, bindings, is_kind_of, objects
 use Rattle.pddl_system.specs.Settings.{Setting, setting}
 use Rattle.pddl_system.specs.Systems.{action_names, atom_name, fluent_names, instance_name, object_name, predicate_name}
 use Rattle.pddl_system.proofs.Members.{Among, Apart, AllPairs-from_Apart, All-from_Among, Among-filter_from, Among-flat_map_from, Among-map, Among-map_from, Among-range, Among-slice_get, Apart-filter, Apart-flat_map, Apart-map, Apart-range}
-use Rattle.pddl_system.proofs.Numbers.{bindings_apart, fluents_apart}
+use Rattle.pddl_system.proofs.Numbers.{bindings_apart, chosen_from, fluents_apart}
 
 -- elements at their places
 
@@ -40,18 +40,6 @@ numbered : {X : Type 0} (e : ℕ × X) (b : ℕ) (xs : List X) → Among e (enum
 numbered e b [] h = absurd h
 numbered e b (x ∷ xs) (inl is) = (0, sym (ap (λ (z : ℕ × _). z.0) is) ∙ omega arith, ap (λ (z : ℕ × _). Some z.1) is)
 numbered e b (x ∷ xs) (inr h) = let rest = numbered e (b + 1) xs h in (suc rest.0, rest.1 ∙ omega arith, rest.2)
-
--- what is chosen is an object of some type
-chosen_from : (objects : ℕ → List ℕ) (types chosen : List ℕ) → Among chosen (bindings objects types) → (x : ℕ) → Among x chosen → (t : ℕ) × Among x (objects t)
-chosen_from objects [] chosen (inl is) x h = absurd (subst (λ c. Among x c) (sym is) h)
-chosen_from objects [] chosen (inr k) x h = absurd k
-chosen_from objects (t ∷ ts) chosen k x h =
-    let one = Among-flat_map_from (λ o. map (λ rest. o ∷ rest) (bindings objects ts)) chosen (objects t) k in
-    let two = Among-map_from (λ rest. one.0 ∷ rest) chosen (bindings objects ts) one.2 in
-    elim (subst (λ c. Among x c) (sym two.2) h) as (λ _. (u : ℕ) × Among x (objects u)) [
-      | inl is ↦ (t, subst (λ z. Among z (objects t)) is one.1)
-      | inr g ↦ chosen_from objects ts two.0 two.1 x g
-    ]
 
 -- names that differ
 
@@ -196,17 +184,17 @@ module _ (d : DomainTree) (p : ProblemTree) (fits_d : FitsDomain d) (fits_p : Fi
   abbrev with : SchemaTree → List ℕ → Instance
   with s objects = record { schema = s; objects = objects }
 
-  of_schema : (s : SchemaTree) (i : Instance) → Among i (kept_of (setting d p) s) → (objects : List ℕ) × Among objects (bindings (setting d p).objects s.parameters) × (with s objects ≡ i)
+  pub of_schema : (s : SchemaTree) (i : Instance) → Among i (kept_of (setting d p) s) → (objects : List ℕ) × Among objects (bindings (setting d p).objects s.parameters) × (with s objects ≡ i)
   of_schema s i h =
       Among-map_from (with s) i (bindings (setting d p).objects s.parameters) (Among-filter_from (is_kept (setting d p)) i (instances_of (setting d p) s) h).0
 
-  schema_listed : (i : Instance) → Among i (kept_instances d p) → Among i.schema d.actions
+  pub schema_listed : (i : Instance) → Among i (kept_instances d p) → Among i.schema d.actions
   schema_listed i h =
       let one = Among-flat_map_from (kept_of (setting d p)) i d.actions h in
       let two = of_schema one.0 i one.2 in
       subst (λ s. Among s d.actions) (ap (λ (j : Instance). j.schema) two.2) one.1
 
-  arguments_below : (i : Instance) → Among i (kept_instances d p) → (o : ℕ) → Among o i.objects → o < count
+  pub arguments_below : (i : Instance) → Among i (kept_instances d p) → (o : ℕ) → Among o i.objects → o < count
   arguments_below i h o k =
       let one = Among-flat_map_from (kept_of (setting d p)) i d.actions h in
       let two = of_schema one.0 i one.2 in

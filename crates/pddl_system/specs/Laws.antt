@@ -1,5 +1,6 @@
 -- What is true of every domain and problem: the statements of the laws.
-use Rattle.std.specs.Prelude.{◌≡◌, ℕ, ◌<◌, List, length}
+use Rattle.std.specs.Prelude.{◌≡◌, ℕ, ◌<◌, List, length, Option, None, String, Vec}
+use Rattle.std.specs.declared.alloc.Global.{Global}
 use Rattle.pddl_ast.specs.Fits.{FitsDomain, FitsEffect, FitsProblem}
 use Rattle.pddl_ast.specs.Known.{Known}
 use Rattle.pddl_ast.specs.Trees.{AtomTree, EffectTree, DomainTree, ProblemTree}
@@ -10,12 +11,17 @@ use Rattle.pddl_system.specs.Names.{NamesAreWords}
 use Rattle.pddl_system.specs.Objects.{bindings}
 use Rattle.pddl_system.specs.Outcomes.{outcomes}
 use Rattle.pddl_system.specs.Settings.{Setting}
-use Rattle.pddl_system.specs.Sizes.{binding_count, outcome_count}
+use Rattle.pddl_system.specs.Sizes.{binding_count, first_passed, outcome_count}
 use Rattle.pddl_system.specs.Systems.{action_names, fluent_names, system}
 use Rattle.pddl_system.specs.Tasks.{task_of}
-use Rattle.pddl_system.specs.Values.{task_value}
+use Rattle.pddl_system.specs.Values.{ArePartsOf, task_value}
 use Rattle.task_core.specs.Names.{AreActionNames, AreFluentNames}
+use Rattle.task_core.specs.Parts.{MakesTask}
+use Rattle.task_core.specs.States.{IsWithin}
 use Rattle.task_core.specs.Tasks.{system_of}
+use Rattle.task_core.specs.declared.actions.GroundAction.{GroundAction}
+use Rattle.task_core.specs.declared.actions.InitSpec.{InitSpec}
+use Rattle.task_core.specs.declared.conditions.Cond.{Cond}
 use Rattle.task_core.specs.declared.tasks.Task.{Task}
 
 -- there are as many bindings as their count says
@@ -60,3 +66,14 @@ abbrev pub ActionNamesAreNames : Type 0
 ActionNamesAreNames =
     (d : DomainTree) (p : ProblemTree)
     → FitsDomain d → FitsProblem d p → NamesAreWords d p → AreActionNames (action_names d p)
+
+-- parts that stand for those of the task of a domain and a problem make a task, where no limit is passed:
+-- what they name is among the fluents, their conditions are at most 200 deep, each action has an outcome
+-- and each uncertain entry an alternative, and names are names
+abbrev pub PartsMakeTask : Type 0
+PartsMakeTask =
+    (d : DomainTree) (p : ProblemTree) (fluents : List (Vec (String Global) Global))
+    (actions : List GroundAction) (init : InitSpec) (goal : Option Cond)
+    → FitsDomain d → FitsProblem d p → NamesAreWords d p → first_passed d p ≡ None
+    → ArePartsOf d p fluents actions init goal → IsWithin (length fluents) init.facts
+    → MakesTask fluents actions init goal

@@ -8,6 +8,7 @@ ghost use Rattle.pddl_system.specs.Laws.{
   FluentNamesAreNames,
   NamedAtomsAreChanged,
   OutcomesAreCounted,
+  PartsMakeTask,
   TaskHasTheSystem,
 };
 
@@ -35,4 +36,11 @@ pub fn tasks_have_the_system()
 pub fn names_are_names()
     ensures fluents { FluentNamesAreNames }
     ensures actions { ActionNamesAreNames }
+{}
+
+/// Parts that stand for those of the task of a domain and a problem make a task, where no limit is
+/// passed: what they name is among the fluents, their conditions are at most 200 deep, each action
+/// has an outcome and each uncertain entry an alternative, and names are names.
+pub fn parts_make_a_task()
+    ensures { PartsMakeTask }
 {}
