@@ -11,3 +11,4 @@ pub mod NameLaws
 pub mod TreeBounds
 pub mod Occurrences
 pub mod TaskParts
+pub mod ReadNames

@@ -1,7 +1,7 @@
 -- The names of fluents and of actions are lists of words, and differ.
-use Rattle.std.proofs.Common.{◌≡◌, ◌≢◌, ℕ, zero, suc, ◌+◌, ◌<◌, Bool, true, false, not, ◌⊎◌, inl, inr, List, [], ◌∷◌, ◌++◌, map, length, get_or, Option, Some, None, refl, sym, ◌∙◌, ap, subst, arith}
+use Rattle.std.proofs.Common.{◌≡◌, ◌≢◌, ℕ, zero, suc, ◌+◌, ◌<◌, true, false, inl, inr, List, [], ◌∷◌, map, length, Option, Some, refl, sym, ◌∙◌, ap, subst, arith}
 use Rattle.std.specs.Prelude.{codes, slice_get, replicate}
-use Rattle.std.specs.List.{All, filter, flat_map, list_any, enumerate_from, range_with_len}
+use Rattle.std.specs.List.{All, list_any, enumerate_from, range_with_len}
 use Rattle.std.specs.Option.{option_map_or}
 use Rattle.std.specs.Str.{bytes_eq}
 use Rattle.std.proofs.lemmas.Bool.{or_parts, false≢true, true≢false}
@@ -21,7 +21,7 @@ use Rattle.pddl_system.specs.Instances.{Instance, instances_of, is_kept, kept_in
 use Rattle.pddl_system.specs.Laws.{ActionNamesAreNames, FluentNamesAreNames}
 use Rattle.pddl_system.specs.Names.{NamesAreWords}
 use Rattle.pddl_system.specs.Objects.{all_objects, bindings, is_kind_of, objects_of_type, type_of}
-use Rattle.pddl_system.specs.Settings.{Setting, setting}
+use Rattle.pddl_system.specs.Settings.{setting}
 use Rattle.pddl_system.specs.Systems.{action_names, atom_name, fluent_names, instance_name, object_name, predicate_name}
 use Rattle.pddl_system.proofs.Members.{Among, Apart, AllPairs-from_Apart, All-from_Among, Among-filter_from, Among-flat_map_from, Among-map, Among-map_from, Among-range, Among-slice_get, Apart-filter, Apart-flat_map, Apart-map, Apart-range}
 use Rattle.pddl_system.proofs.Numbers.{bindings_apart, chosen_from, fluents_apart}

@@ -1,17 +1,16 @@
 -- The parts that stand for those of the task of a domain and a problem make a task.
-use Rattle.std.proofs.Common.{◌≡◌, ℕ, zero, suc, ◌+◌, ◌^◌, ◌<◌, ◌≤◌, Bool, true, false, not, cond, ◌&&◌, ◌||◌, ◌⊎◌, inl, inr, List, [], ◌∷◌, ◌++◌, map, length, Option, Some, None, refl, sym, ◌∙◌, ap, subst, arith, ltb, leb}
+use Rattle.std.proofs.Common.{◌≡◌, ℕ, zero, suc, ◌+◌, ◌^◌, ◌<◌, ◌≤◌, Bool, true, false, not, cond, inl, inr, List, [], ◌∷◌, ◌++◌, map, length, Option, Some, None, refl, sym, ◌∙◌, ap, subst, arith}
 use Rattle.std.specs.Prelude.{max, nat_le, nat_lt, String, Vec, IfSome}
 use Rattle.std.specs.declared.alloc.Global.{Global}
-use Rattle.std.specs.List.{All, filter, find, list_all, list_any, position_or_len, range_with_len}
+use Rattle.std.specs.List.{find, list_all, list_any, position_or_len, range_with_len}
 use Rattle.std.specs.Option.{option_map}
-use Rattle.std.proofs.lemmas.Bool.{and_from, and_parts, leb-true, le-leb, lt-ltb, not-false, or_left, or_right, true≢false, false≢true}
-use Rattle.std.proofs.lemmas.List.{length-append, length-map, map-append}
+use Rattle.std.proofs.lemmas.Bool.{and_from, leb-true, le-leb, lt-ltb, or_left, or_right, true≢false}
+use Rattle.std.proofs.lemmas.List.{length-append, length-map}
 use Rattle.std.proofs.lemmas.Option.{none-some}
 use Rattle.std.proofs.Math.Nat.{max-le}
 use Rattle.task_core.specs.Actions.{action_is_shallow, action_within, change_within, goal_is_shallow, goal_within, outcome_within}
 use Rattle.task_core.specs.Conditions.{depth, ids_below, is_shallow}
-use Rattle.task_core.specs.Initial.{entries_of, entries_within, entry_within, lit_within}
-use Rattle.task_core.specs.Initial as initial
+use Rattle.task_core.specs.Initial.{entries_within, entry_within, lit_within}
 use Rattle.task_core.specs.Names.{AreActionNames, AreFluentNames, name_bytes, name_of}
 use Rattle.task_core.specs.Parts.{MakesTask}
 use Rattle.task_core.specs.States.{IsWithin}
@@ -22,29 +21,28 @@ use Rattle.task_core.specs.declared.actions.Outcome.{Outcome}
 use Rattle.task_core.specs.declared.actions.GroundAction.{GroundAction}
 use Rattle.task_core.specs.declared.actions.InitSpec.{InitSpec}
 use Rattle.pddl_ast.specs.declared.trees.Named.{Named}
-use Rattle.pddl_ast.specs.declared.trees.Predicate.{Predicate}
 use Rattle.pddl_ast.specs.Depth.{effect_depth, formula_depth}
 use Rattle.pddl_ast.specs.Fits.{FitsDomain, FitsEntry, FitsGroundAtom, FitsLiterals, FitsProblem, FitsSchema, deepest, known_in, known_with}
-use Rattle.pddl_ast.specs.Trees.{AtomTree, EffectTree, EffectTrees, add, delete, both, one_of, only_when, each, FormulaTree, LiteralTree, SchemaTree, DomainTree, ProblemTree}
+use Rattle.pddl_ast.specs.Trees.{AtomTree, EffectTree, add, delete, both, one_of, only_when, each, FormulaTree, LiteralTree, DomainTree, ProblemTree}
 use Rattle.pddl_system.specs.Fluents.{atoms_changed, changed_by, fluents, is_fluent, named_by}
 use Rattle.pddl_system.specs.GroundAtoms.{all_atoms, is_among, same_atom}
-use Rattle.pddl_system.specs.Instances.{Instance, instances_of, is_kept, kept_instances, kept_of}
+use Rattle.pddl_system.specs.Instances.{Instance, kept_instances, kept_of}
 use Rattle.pddl_system.specs.Laws.{PartsMakeTask}
 use Rattle.pddl_system.specs.Names.{NamesAreWords}
-use Rattle.pddl_system.specs.Objects.{all_objects, bindings, is_kind_of, type_of}
+use Rattle.pddl_system.specs.Objects.{all_objects, is_kind_of, type_of}
 use Rattle.pddl_system.specs.Outcomes.{ChangeTree, Condition, OutcomeTree, may_change, outcomes_of, possible_changes}
 use Rattle.pddl_system.specs.Settings.{setting}
-use Rattle.pddl_system.specs.Sizes.{Limit, object_limit, size_limit, instance_limit, action_limit, outcome_limit, fluent_limit, first_passed, keeps, limits, most_outcomes}
+use Rattle.pddl_system.specs.Sizes.{Limit, action_limit, outcome_limit, fluent_limit, first_passed, keeps, limits, most_outcomes}
 use Rattle.pddl_system.specs.Systems.{action_names, atom_name, fluent_names, instance_name, literal_of}
 use Rattle.pddl_system.specs.Systems as systems
-use Rattle.pddl_system.specs.Tasks.{ActionTree, CondTree, action_of, change_of, changed_if, condition_of, condition_row, outcome_of, task_of}
+use Rattle.pddl_system.specs.Tasks.{ActionTree, CondTree, action_of, change_of, changed_if, condition_of, condition_row, outcome_of}
 use Rattle.pddl_system.specs.Values.{ArePartsOf, action_value, change_value, condition_value, outcome_value}
 use Rattle.pddl_system.proofs.Lists.{zip_all, zip_length, zip_map}
 use Rattle.pddl_system.proofs.Members.{Among, All-Among, Among-filter, Among-filter_from, Among-flat_map, Among-flat_map_from, Among-map, Among-map_from, Among-range, list_all-from_Among, list_any-from_Among, passes_Among}
 use Rattle.pddl_system.proofs.NamedAtoms.{effects_have_outcomes}
 use Rattle.pddl_system.proofs.NameLaws.{action_names_are_names, arguments_below, fluent_names_are_names, of_schema, schema_listed}
 use Rattle.pddl_system.proofs.Numbers.{length-chosen, same_atom-refl}
-use Rattle.pddl_system.proofs.Occurrences.{IsFine, IsScope, Occurs, changes_are_fine, listed}
+use Rattle.pddl_system.proofs.Occurrences.{IsFine, IsScope, changes_are_fine, listed}
 use Rattle.pddl_system.proofs.TreeBounds.{below_is, depth_is, formula_below, formula_no_deeper, tree_below, tree_depth, trees_below-row, trees_depth}
 
 -- no limit is passed

@@ -5,7 +5,7 @@ use Rattle.pddl_ast.specs.Trees.{EffectTree, EffectTrees, add, delete, both, one
 use Rattle.pddl_system.specs.GroundAtoms.{all_atoms, atom_of, is_among}
 use Rattle.pddl_system.specs.Instances.{Instance, kept_instances}
 use Rattle.pddl_system.specs.Objects.{all_objects, bindings}
-use Rattle.pddl_system.specs.Outcomes.{ChangeTree, OutcomeTree, outcomes_of, possible_changes}
+use Rattle.pddl_system.specs.Outcomes.{ChangeTree, outcomes_of, possible_changes}
 use Rattle.pddl_system.specs.Settings.{Setting, setting}
 use Rattle.pddl_system.specs.ThreeValues.{may_hold, value}
 

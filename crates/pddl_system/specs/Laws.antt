@@ -3,11 +3,14 @@ use Rattle.std.specs.Prelude.{◌≡◌, ℕ, ◌<◌, List, length, Option, Non
 use Rattle.std.specs.declared.alloc.Global.{Global}
 use Rattle.pddl_ast.specs.Fits.{FitsDomain, FitsEffect, FitsProblem}
 use Rattle.pddl_ast.specs.Known.{Known}
-use Rattle.pddl_ast.specs.Trees.{AtomTree, EffectTree, DomainTree, ProblemTree}
+use Rattle.pddl_ast.specs.Trees.{AtomTree, EffectTree, SchemaTree, DomainTree, ProblemTree}
+use Rattle.pddl_ast.specs.declared.trees.Named.{Named}
+use Rattle.pddl_ast.specs.declared.trees.Predicate.{Predicate}
+use Rattle.std.specs.List.{All}
 use Rattle.pddl_system.specs.Fluents.{changed_by, named_by_effect}
 use Rattle.pddl_system.specs.GroundAtoms.{is_among}
 use Rattle.pddl_system.specs.Instances.{Instance}
-use Rattle.pddl_system.specs.Names.{NamesAreWords}
+use Rattle.pddl_system.specs.Names.{IsReadWord, NamesAreWords}
 use Rattle.pddl_system.specs.Objects.{bindings}
 use Rattle.pddl_system.specs.Outcomes.{outcomes}
 use Rattle.pddl_system.specs.Settings.{Setting}
@@ -54,6 +57,16 @@ abbrev pub TaskHasTheSystem : Type 0
 TaskHasTheSystem =
     (d : DomainTree) (p : ProblemTree) (task : Task)
     → task_value task ≡ task_of d p → system_of task ≡ system d p
+
+-- names that are words as the reader of forms gives them are words of a task
+abbrev pub ReadNamesAreWords : Type 0
+ReadNamesAreWords =
+    (d : DomainTree) (p : ProblemTree)
+    → All (λ (q : Predicate). IsReadWord q.name) d.predicates
+    → All (λ (s : SchemaTree). IsReadWord s.name) d.actions
+    → All (λ (n : Named). IsReadWord n.name) d.constants
+    → All (λ (n : Named). IsReadWord n.name) p.objects
+    → NamesAreWords d p
 
 -- the names of the fluents and of the actions are those of a task: lists of words, all different, and no
 -- fluent's name begins with `not`

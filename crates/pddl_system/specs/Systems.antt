@@ -1,6 +1,6 @@
 -- The planning system that a domain and a problem spell (Cimatti, Pistore, Roveri, Traverso 2003: a
 -- planning domain with initial states and goal states).
-use Rattle.std.specs.Prelude.{ℕ, Bool, List, [], ◌∷◌, map, length, slice_get, if◌then◌else◌}
+use Rattle.std.specs.Prelude.{ℕ, List, [], ◌∷◌, map, length, slice_get, if◌then◌else◌}
 use Rattle.std.specs.List.{filter, position_or_len}
 use Rattle.std.specs.Option.{option_map, option_map_or}
 use Rattle.task_core.specs.Initial.{Entry, after_entries}
@@ -15,7 +15,7 @@ use Rattle.pddl_system.specs.Fluents.{fluents}
 use Rattle.pddl_system.specs.GroundAtoms.{same_atom}
 use Rattle.pddl_system.specs.Instances.{Instance, kept_instances}
 use Rattle.pddl_system.specs.Objects.{all_objects}
-use Rattle.pddl_system.specs.Outcomes.{OutcomeTree, outcomes_of}
+use Rattle.pddl_system.specs.Outcomes.{outcomes_of}
 use Rattle.pddl_system.specs.Settings.{Setting, setting}
 use Rattle.pddl_system.specs.States.{formula_holds, state_after}
 

@@ -1,5 +1,5 @@
 -- The plain trees that a task's types stand for.
-use Rattle.std.specs.Prelude.{◌≡◌, ℕ, List, map, length, Option, String, Vec}
+use Rattle.std.specs.Prelude.{◌≡◌, List, map, length, Option, String, Vec}
 use Rattle.std.specs.declared.alloc.Global.{Global}
 use Rattle.std.specs.Option.{option_map}
 use Rattle.task_core.specs.Initial.{entries_of, facts_of}

@@ -9,6 +9,7 @@ ghost use Rattle.pddl_system.specs.Laws.{
   NamedAtomsAreChanged,
   OutcomesAreCounted,
   PartsMakeTask,
+  ReadNamesAreWords,
   TaskHasTheSystem,
 };
 
@@ -29,6 +30,11 @@ pub fn effects_name_what_they_change()
 /// A task that stands for the task of a domain and a problem has their system.
 pub fn tasks_have_the_system()
     ensures { TaskHasTheSystem }
+{}
+
+/// Names that are words as the reader of forms gives them are words of a task.
+pub fn read_names_are_words()
+    ensures { ReadNamesAreWords }
 {}
 
 /// The names of fluents and of actions are those of a task: lists of words, all different, and no
