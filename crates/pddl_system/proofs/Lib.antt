@@ -12,3 +12,4 @@ pub mod TreeBounds
 pub mod Occurrences
 pub mod TaskParts
 pub mod ReadNames
+mod Examples
