@@ -13,3 +13,4 @@ pub mod Occurrences
 pub mod TaskParts
 pub mod ReadNames
 mod Examples
+pub mod States

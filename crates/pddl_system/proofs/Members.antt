@@ -1,7 +1,7 @@
 -- Membership in a list, and lists whose elements all differ, by recursion on the list.
 use Rattle.std.proofs.Common.{◌≡◌, ◌≢◌, ℕ, zero, suc, ◌+◌, ◌<◌, ◌≤◌, Bool, true, false, ◌⊎◌, inl, inr, ◌||◌, List, [], ◌∷◌, ◌++◌, map, length, get_or, Some, refl, sym, ◌∙◌, ap, subst, arith, cond}
 use Rattle.std.specs.Prelude.{slice_get}
-use Rattle.std.specs.List.{All, AllPairs, flat_map, filter, list_all, list_any, enumerate_from, range_with_len}
+use Rattle.std.specs.List.{All, AllPairs, Contains, flat_map, filter, list_all, list_any, enumerate_from, range_with_len}
 use Rattle.std.proofs.lemmas.Bool.{false≢true, and_from, and_parts, or_left, or_right, cases_eq}
 use Rattle.std.proofs.lemmas.List.Elements.{All-cons, All-nil}
 use Rattle.std.proofs.lemmas.List.Kept.{AllPairs-cons}
@@ -210,3 +210,12 @@ numbered_from {X} (y ∷ xs) b (suc k) x h =
   where
     next : (m j : ℕ) → m + 1 + j ≡ m + suc j
     next m j = omega arith
+
+-- std's word for membership
+pub Among-from_Contains : {X : Type 0} (xs : List X) (x : X) → Contains xs x → Among x xs
+Among-from_Contains xs x h = subst (λ y. Among y xs) h.2 (Among-get_or xs h.0 x h.1)
+
+pub Contains-from_Among : {X : Type 0} (xs : List X) (x : X) → Among x xs → Contains xs x
+Contains-from_Among [] x h = absurd h
+Contains-from_Among (y ∷ xs) x (inl e) = (0, omega arith, e)
+Contains-from_Among (y ∷ xs) x (inr h) = let rest = Contains-from_Among xs x h in (suc rest.0, omega arith, rest.2)

@@ -86,7 +86,7 @@ deeper a b zero h k = absurd (omega arith)
 deeper a b (suc m) h k =
     let most : max a b ≤ m = max-le (let l : a ≤ m = omega arith in l) (let r : b ≤ m = omega arith in r) in omega arith
 
-module _ (d : DomainTree) (p : ProblemTree) (fits_d : FitsDomain d) (fits_p : FitsProblem d p) (words : NamesAreWords d p) where
+module _ (d : DomainTree) (p : ProblemTree) (fits_d : FitsDomain d) (fits_p : FitsProblem d p) where
   abbrev count : ℕ
   count = length (all_objects d p)
 
@@ -97,7 +97,7 @@ module _ (d : DomainTree) (p : ProblemTree) (fits_d : FitsDomain d) (fits_p : Fi
 
   schema_fits : (i : Instance) → Among i (kept_instances d p) → FitsSchema (known_in d) i.schema
   schema_fits i h =
-      All-Among (FitsSchema (known_in d)) i.schema d.actions fits_d.actions (schema_listed d p fits_d fits_p words i h)
+      All-Among (FitsSchema (known_in d)) i.schema d.actions fits_d.actions (schema_listed d p i h)
 
   no_objects : List Named
   no_objects = []
@@ -119,10 +119,10 @@ module _ (d : DomainTree) (p : ProblemTree) (fits_d : FitsDomain d) (fits_p : Fi
   in_scope : (i : Instance) → Among i (kept_instances d p) → IsScope d.predicates count (setting d p).objects objects_of_below (known_in d) refl few_known (length i.schema.parameters) i.objects
   in_scope i h =
       let one = Among-flat_map_from (kept_of (setting d p)) i d.actions h in
-      let two = of_schema d p fits_d fits_p words one.0 i one.2 in
+      let two = of_schema d p one.0 i one.2 in
       record {
         long = subst (λ (j : Instance). length j.objects ≡ length j.schema.parameters) two.2 (length-chosen (setting d p).objects (one.0).parameters two.0 two.1);
-        below = arguments_below d p fits_d fits_p words i h;
+        below = arguments_below d p i h;
       }
 
   change_is_fine : (i : Instance) → Among i (kept_instances d p) → (o : OutcomeTree) → Among o (outcomes_of (setting d p) i) → (t : ChangeTree) → Among t (possible_changes (setting d p) o)
@@ -131,7 +131,7 @@ module _ (d : DomainTree) (p : ProblemTree) (fits_d : FitsDomain d) (fits_p : Fi
       changes_are_fine d.predicates count (setting d p).objects objects_of_below (known_in d) refl few_known i.schema.effect (length i.schema.parameters) (schema_fits i h).effect i.objects (in_scope i h) t
       (o, k, (Among-filter_from (may_change (setting d p)) t o l).0)
 
-  changed_is_fluent : (i : Instance) → Among i (kept_instances d p) → (o : OutcomeTree) → Among o (outcomes_of (setting d p) i) → (t : ChangeTree) → Among t (possible_changes (setting d p) o) → Among t.atom (fluents d p)
+  pub changed_is_fluent : (i : Instance) → Among i (kept_instances d p) → (o : OutcomeTree) → Among o (outcomes_of (setting d p) i) → (t : ChangeTree) → Among t (possible_changes (setting d p) o) → Among t.atom (fluents d p)
   changed_is_fluent i h o k t l =
       let changed : Among t.atom (changed_by (setting d p) i) =
       Among-flat_map (λ u. atoms_changed (possible_changes (setting d p) u)) o t.atom (outcomes_of (setting d p) i) k (Among-map (λ (c : ChangeTree). c.atom) t (possible_changes (setting d p) o) l) in
@@ -140,7 +140,7 @@ module _ (d : DomainTree) (p : ProblemTree) (fits_d : FitsDomain d) (fits_p : Fi
       Among-filter (is_fluent d p) t.atom (all_atoms d.predicates count) (change_is_fine i h o k t l).atom_is_listed
       (or_left (list_any (λ j. is_among (changed_by (setting d p) j) t.atom) (kept_instances d p)) (list_any (λ entry. is_among (named_by entry) t.atom) p.entries) by_some)
 
-  named_is_fluent : (entry : List (List LiteralTree)) → Among entry p.entries → (ls : List LiteralTree) → Among ls entry → (l : LiteralTree) → Among l ls → Among l.atom (fluents d p)
+  pub named_is_fluent : (entry : List (List LiteralTree)) → Among entry p.entries → (ls : List LiteralTree) → Among ls entry → (l : LiteralTree) → Among l ls → Among l.atom (fluents d p)
   named_is_fluent entry h ls k l m =
       let fits : FitsGroundAtom (known_with d p.objects) l.atom =
       All-Among (λ (x : LiteralTree). FitsGroundAtom (known_with d p.objects) x.atom) l ls
@@ -277,7 +277,7 @@ module _ (d : DomainTree) (p : ProblemTree) (fits_d : FitsDomain d) (fits_p : Fi
 
   -- all parts
 
-  module _ (all_kept : first_passed d p ≡ None) (fluent_list : List (Vec (String Global) Global)) (actions : List GroundAction) (init : InitSpec) (goal : Option Cond) (parts : ArePartsOf d p fluent_list actions init goal) (facts : IsWithin (length fluent_list) init.facts) where
+  module _ (words : NamesAreWords d p) (all_kept : first_passed d p ≡ None) (fluent_list : List (Vec (String Global) Global)) (actions : List GroundAction) (init : InitSpec) (goal : Option Cond) (parts : ArePartsOf d p fluent_list actions init goal) (facts : IsWithin (length fluent_list) init.facts) where
     kept_limit : (limit : Limit) → Among limit limits → keeps d p limit ≡ true
     kept_limit limit h = none_found (keeps d p) limits all_kept limit h
 

@@ -20,9 +20,9 @@ changed_by at i = flat_map (λ o. atoms_changed (possible_changes at o)) (outcom
 abbrev pub named_by : List (List LiteralTree) → List AtomTree
 named_by = flat_map (map (λ (l : LiteralTree). l.atom))
 
--- the atoms that an effect adds or deletes under conditions that may hold: a walk over the effect, in
--- which a choice and a list of effects that happen together name what their parts name. For an effect
--- in which every choice has an alternative, these are the atoms that some outcome may change
+-- the atoms that an effect adds or deletes under conditions that may hold: a walk over the effect,
+-- in which a choice and a list of effects that happen together name what their parts name. For an
+-- effect in which every choice has an alternative, these are the atoms that some outcome may change
 abbrev mutual
   pub named_by_effect : Setting → EffectTree → List ℕ → List AtomTree
   named_by_effect at (add predicate terms) scope = atom_of scope predicate terms ∷ []

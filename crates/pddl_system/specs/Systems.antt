@@ -19,8 +19,8 @@ use Rattle.pddl_system.specs.Outcomes.{outcomes_of}
 use Rattle.pddl_system.specs.Settings.{Setting, setting}
 use Rattle.pddl_system.specs.States.{formula_holds, state_after}
 
--- the literal that a literal of an uncertain entry is, by its fluent's number. Each atom of an entry is a
--- fluent
+-- the literal that a literal of an uncertain entry is, by its fluent's number. Each atom of an
+-- entry is a fluent
 abbrev pub literal_of : List AtomTree → LiteralTree → Lit
 literal_of fluents l = record {
   fluent = record { 0 = position_or_len (same_atom l.atom) fluents };
@@ -67,8 +67,8 @@ system_over at fluents kept p = record {
 abbrev pub system : DomainTree → ProblemTree → System
 system d p = system_over (setting d p) (fluents d p) (kept_instances d p) p
 
--- the names of the fluents and of the actions, by their numbers: the word of the predicate or of the action,
--- and those of the objects
+-- the names of the fluents and of the actions, by their numbers: the word of the predicate or of
+-- the action, and those of the objects
 abbrev pub object_name : List Named → ℕ → List ℕ
 object_name objects o = option_map_or (λ (n : Named). n.name) (slice_get objects o) []
 

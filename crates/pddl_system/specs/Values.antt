@@ -51,10 +51,11 @@ task_value task = record {
   goal = option_map condition_value task.goal;
 }
 
--- the parts of a task, as they are handed to `Task::new`, stand for those of the task of a domain and a
--- problem
-pub record ArePartsOf (d : DomainTree) (p : ProblemTree) (fluents : List (Vec (String Global) Global))
-    (actions : List GroundAction) (init : InitSpec) (goal : Option Cond) : Type 0 where
+-- the parts of a task, as they are handed to `Task::new`, stand for those of the task of a domain
+-- and a problem
+pub record ArePartsOf (d : DomainTree) (p : ProblemTree)
+    (fluents : List (Vec (String Global) Global)) (actions : List GroundAction) (init : InitSpec)
+    (goal : Option Cond) : Type 0 where
   pub fluents_are : map name_bytes fluents ≡ (task_of d p).fluents
   pub actions_are : map action_value actions ≡ (task_of d p).actions
   pub facts_are : facts_of (length fluents) init ≡ (task_of d p).facts

@@ -17,6 +17,7 @@
 mod laws;
 
 pub use laws::{
-    bindings_and_outcomes_are_counted, effects_name_what_they_change, names_are_names,
-    parts_make_a_task, read_names_are_words, tasks_have_the_system,
+    bindings_and_outcomes_are_counted, domains_have_systems, effects_name_what_they_change,
+    fluents_are_what_changes, known_values_are_so, names_are_names, parts_make_a_task,
+    read_names_are_words, tasks_have_the_system,
 };
