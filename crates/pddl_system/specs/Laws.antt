@@ -117,8 +117,8 @@ ImpossibleChangesNeverCome =
     → may_change (setting d p) change ≡ false
     → comes_about (setting d p) (fluents d p) v change ≡ false
 
--- every atom that a change of a kept instance makes true or false, in whatever state, is a fluent, and
--- every atom that an uncertain entry names: so that all others keep their initial values for ever
+-- every atom that a change of a kept instance makes true or false, in whatever state, is a fluent,
+-- and every atom that an uncertain entry names: so all others keep their initial values for ever
 abbrev pub ChangedAtomsAreFluents : Type 0
 ChangedAtomsAreFluents =
     (d : DomainTree) (p : ProblemTree) (v : Vector) (i : Instance) (outcome : OutcomeTree)
