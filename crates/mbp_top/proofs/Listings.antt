@@ -73,5 +73,5 @@ pub same_listing : (d : DomainTree) (p : ProblemTree) (t : Task) → task_value 
     → listing (names_of_fluents t) (map listed_action t.actions.items) (length (entries_of t.init)) ≡ listing_of d p
 same_listing d p t is =
     ap (λ fs. listing fs (map listed_action t.actions.items) (length (entries_of t.init))) (same_fluents d p t is)
-    ∙ ap (λ as. listing (fluent_names d p) as (length (entries_of t.init))) (same_listed d p t is)
+    ∙ ap (λ actions. listing (fluent_names d p) actions (length (entries_of t.init))) (same_listed d p t is)
     ∙ ap (listing (fluent_names d p) (listed_actions d p)) (same_entries d p t is)

@@ -203,7 +203,7 @@ fn push_number(line: &mut Vec<u8>, number: u32) -> Result<(), AllocError>
 /// Appends a space and the word, where there is one.
 fn push_word(line: &mut Vec<u8>, word: Option<&Word>) -> Result<(), AllocError>
     ensures { OnOk result (line.new.items ≡ line.old.items
-        ++ option_map_or (λ w. codes " " ++ w) (option_copied word) []) }
+        ++ option_map_or (λ w. codes " " ++ w) (option_copied word.entry) []) }
 {
     if let Some(word) = word {
         line.push(b' ')?;

@@ -10,4 +10,4 @@ returns-clause-refused g c =
     let held = g.S.Shelf.held c.args.shelf.now in
     let failed = FailedLast g.S.Shelf.fetched g.S.Shelf.faults c.args.shelf.now c.fetch.new.shelf in
     let file = rw (← c.deref.ensures.value) at c.in_ok-bytes.ensures.file in
-    misread_file held failed (λ b fault. HasProblemFault b (domain_value c.args.domain.now) fault) c.args.name.now c.deref.result.now _ (refusal_of c.in_ok-misread.refusal) file c.in-Err.ensures.fault c.in_ok-misread.ensures
+    misread_file held failed (λ b fault. HasProblemFault b (domain_value c.args.domain.now) fault) c.args.name.now c.deref.result.now c.in-Err.error (refusal_of c.in_ok-misread-in-Err.field-0) file c.in-Err.ensures.fault c.in_ok-misread-in-Err.ensures
