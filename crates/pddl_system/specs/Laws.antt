@@ -7,10 +7,11 @@ use Rattle.pddl_ast.specs.Trees.{AtomTree, FormulaTree, LiteralTree, EffectTree,
 use Rattle.pddl_ast.specs.declared.trees.Named.{Named}
 use Rattle.pddl_ast.specs.declared.trees.Predicate.{Predicate}
 use Rattle.std.specs.List.{All, AllPairs, Contains}
+use Rattle.pddl_ast.specs.WordTexts.{IsWordText}
 use Rattle.pddl_system.specs.Fluents.{changed_by, fluents, named_by_effect}
 use Rattle.pddl_system.specs.GroundAtoms.{is_among}
 use Rattle.pddl_system.specs.Instances.{Instance, is_kept, kept_instances}
-use Rattle.pddl_system.specs.Names.{IsReadWord, NamesAreWords}
+use Rattle.pddl_system.specs.Names.{NamesAreWords}
 use Rattle.pddl_system.specs.Objects.{bindings}
 use Rattle.pddl_system.specs.Outcomes.{ChangeTree, OutcomeTree, may_change, outcomes, outcomes_of}
 use Rattle.pddl_system.specs.Settings.{Setting, is_rigid_in, setting}
@@ -63,14 +64,14 @@ TaskHasTheSystem =
     (d : DomainTree) (p : ProblemTree) (task : Task)
     → task_value task ≡ task_of d p → system_of task ≡ system d p
 
--- names that are words as the reader of forms gives them are words of a task
+-- names that are words as texts spell them are words of a task
 abbrev pub ReadNamesAreWords : Type 0
 ReadNamesAreWords =
     (d : DomainTree) (p : ProblemTree)
-    → All (λ (q : Predicate). IsReadWord q.name) d.predicates
-    → All (λ (s : SchemaTree). IsReadWord s.name) d.actions
-    → All (λ (n : Named). IsReadWord n.name) d.constants
-    → All (λ (n : Named). IsReadWord n.name) p.objects
+    → All (λ (q : Predicate). IsWordText q.name) d.predicates
+    → All (λ (s : SchemaTree). IsWordText s.name) d.actions
+    → All (λ (n : Named). IsWordText n.name) d.constants
+    → All (λ (n : Named). IsWordText n.name) p.objects
     → NamesAreWords d p
 
 -- the names of the fluents and of the actions are those of a task: lists of words, all different,

@@ -1,7 +1,5 @@
 -- What names are made of.
-use Rattle.std.specs.Prelude.{◌≡◌, ◌<◌, ℕ, true, List, length}
 use Rattle.std.specs.List.{All}
-use Rattle.sexpr_text.specs.Formed.{is_lower_word_byte}
 use Rattle.task_core.specs.Names.{IsWord}
 use Rattle.pddl_ast.specs.declared.trees.Named.{Named}
 use Rattle.pddl_ast.specs.declared.trees.Predicate.{Predicate}
@@ -15,7 +13,3 @@ pub record NamesAreWords (d : DomainTree) (p : ProblemTree) : Type 0 where
   pub predicates : All (λ (q : Predicate). IsWord q.name) d.predicates
   pub actions : All (λ (s : SchemaTree). IsWord s.name) d.actions
   pub objects : All (λ (n : Named). IsWord n.name) (all_objects d p)
-
--- a word as the reader of forms gives it, in lower case
-abbrev pub IsReadWord : List ℕ → Type 0
-IsReadWord text = (0 < length text) × All (λ c. is_lower_word_byte c ≡ true) text

@@ -40,7 +40,7 @@ pub fn tasks_have_the_system()
     ensures { TaskHasTheSystem }
 {}
 
-/// Names that are words as the reader of forms gives them are words of a task.
+/// Names that are words as texts spell them are words of a task.
 pub fn read_names_are_words()
     ensures { ReadNamesAreWords }
 {}
