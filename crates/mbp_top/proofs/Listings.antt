@@ -34,7 +34,7 @@ listed_instances : (d : DomainTree) (p : ProblemTree) (is : List Instance) → m
 listed_instances d p [] = refl
 listed_instances d p (i ∷ is) =
     let first : listed_tree (action_of d p i) ≡ (instance_name d p i, length (outcomes_of (setting d p) i)) =
-        ap (λ n. (instance_name d p i, n)) (length-map (outcomes_of (setting d p) i) (outcome_of (setting d p) (fluents d p))) in
+    ap (λ n. (instance_name d p i, n)) (length-map (outcomes_of (setting d p) i) (outcome_of (setting d p) (fluents d p))) in
     cc (first, listed_instances d p is)
 
 names_of_values : (xs : List GroundAction) → map (λ (a : ActionTree). a.name) (map action_value xs) ≡ map name_of xs

@@ -60,6 +60,11 @@ pub planned_answer : (asked : PlanWords) (d : DomainTree) (p : ProblemTree) (t :
     → first_passed d p ≡ None → length t.fluents.items ≤ most_planned
     → IsPlanResult asked.class (system_of t) (names_of_fluents t) (names_of_actions t) a → GroundThen d p (PlanThen asked d p) a
 planned_answer asked d p t a is system_is within few result =
-    inr (within, inr (subst (λ n. n ≤ most_planned) (same_count d p t is) few,
-    same_result asked.class (system_of t) (system d p) (names_of_fluents t) (fluent_names d p) (names_of_actions t) (action_names d p) a
-    system_is (same_fluents d p t is) (same_actions d p t is) result))
+    inr (
+      within,
+      inr (
+        subst (λ n. n ≤ most_planned) (same_count d p t is) few,
+        same_result asked.class (system_of t) (system d p) (names_of_fluents t) (fluent_names d p) (names_of_actions t) (action_names d p) a
+            system_is (same_fluents d p t is) (same_actions d p t is) result,
+      ),
+    )
