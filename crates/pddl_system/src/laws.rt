@@ -8,11 +8,15 @@ ghost use Rattle.pddl_system.specs.Laws.{
   DroppedInstancesNeverRun,
   EffectsHaveOutcomes,
   FluentNamesAreNames,
+  FluentsAreSorted,
   FluentsDiffer,
   ImpossibleChangesNeverCome,
   KnownValuesAreSo,
   NamedAtomsAreChanged,
   NamedAtomsAreFluents,
+  NamedAtomsAreNoMore,
+  NamedAtomsInOrderAreFluents,
+  NamedAtomsMakeFluents,
   OutcomesAreCounted,
   PartsMakeTask,
   ReadNamesAreWords,
@@ -81,4 +85,13 @@ pub fn fluents_are_what_changes()
 /// outcomes are states over the fluents, and only kept instances can be executed.
 pub fn domains_have_systems()
     ensures { TheyHaveASystem }
+{}
+
+/// The fluents are the atoms that kept instances' effects and uncertain entries name, each once, by
+/// predicate and then by objects.
+pub fn named_atoms_are_the_fluents()
+    ensures named { NamedAtomsMakeFluents }
+    ensures listed { NamedAtomsInOrderAreFluents }
+    ensures count { NamedAtomsAreNoMore }
+    ensures sorted { FluentsAreSorted }
 {}
