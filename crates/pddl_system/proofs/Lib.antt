@@ -14,3 +14,5 @@ pub mod TaskParts
 pub mod ReadNames
 mod Examples
 pub mod States
+pub mod Rising
+pub mod SortedFluents

@@ -5,6 +5,7 @@ use Rattle.std.specs.List.{All, AllPairs, Contains, flat_map, filter, list_all, 
 use Rattle.std.proofs.lemmas.Bool.{false≢true, and_from, and_parts, or_left, or_right, cases_eq}
 use Rattle.std.proofs.lemmas.List.Elements.{All-cons, All-nil}
 use Rattle.std.proofs.lemmas.List.Kept.{AllPairs-cons}
+use Rattle.std.proofs.lemmas.List.{length-append}
 use Rattle.std.proofs.lemmas.Option.{none-some, same_Some}
 
 -- x is an element
@@ -219,3 +220,41 @@ pub Contains-from_Among : {X : Type 0} (xs : List X) (x : X) → Among x xs → 
 Contains-from_Among [] x h = absurd h
 Contains-from_Among (y ∷ xs) x (inl e) = (0, omega arith, e)
 Contains-from_Among (y ∷ xs) x (inr h) = let rest = Contains-from_Among xs x h in (suc rest.0, omega arith, rest.2)
+
+pub Apart-from_AllPairs : {X : Type 0} (xs : List X) → AllPairs (λ x y. x ≢ y) xs → Apart xs
+Apart-from_AllPairs [] h = tt
+Apart-from_AllPairs (x ∷ xs) h = (fresh, Apart-from_AllPairs xs (λ i j d below within. h (suc i) (suc j) d (omega arith) (omega arith)))
+  where
+    fresh : Among x xs → ⊥
+    fresh k = let at = Contains-from_Among xs x k in let within = at.1 in h 0 (suc at.0) x (omega arith) (omega arith) (sym at.2)
+
+-- an element, with what stands before and after it
+pub record Around {X : Type 0} (x : X) (xs : List X) : Type 0 where
+  pub front : List X
+  pub back : List X
+  pub is : xs ≡ front ++ x ∷ back
+
+around : {X : Type 0} (x : X) (xs : List X) → Among x xs → Around x xs
+around x [] h = absurd h
+around x (y ∷ xs) (inl e) = record { front = []; back = xs; is = ap (λ z. z ∷ xs) e }
+around x (y ∷ xs) (inr h) = let rest = around x xs h in record { front = y ∷ rest.front; back = rest.back; is = ap (λ zs. y ∷ zs) rest.is }
+
+-- different elements of a list are no more than it has
+pub Apart-few : {X : Type 0} (xs ys : List X) → Apart xs → ((x : X) → Among x xs → Among x ys) → length xs ≤ length ys
+Apart-few [] ys apart there = omega arith
+Apart-few {X} (x ∷ xs) ys apart there =
+    let at = around x ys (there x (inl refl)) in
+    let fewer = Apart-few xs (at.front ++ at.back) apart.1 (λ z k. elsewhere at.front at.back z k (subst (λ zs. Among z zs) at.is (there z (inr k)))) in
+    let all_of_them : length ys ≡ length at.front + suc (length at.back) = ap length at.is ∙ length-append at.front (x ∷ at.back) in
+    let others = length-append at.front at.back in
+    omega arith
+  where
+    elsewhere : (front back : List X) (z : X) → Among z xs → Among z (front ++ x ∷ back) → Among z (front ++ back)
+    elsewhere front back z k l =
+        elim (Among-append_cases z front (x ∷ back) l) as (λ _. Among z (front ++ back)) [
+          | inl m ↦ Among-append_left z front back m
+          | inr m ↦ elim m as (λ _. Among z (front ++ back)) [
+            | inl e ↦ absurd (apart.0 (subst (λ w. Among w xs) (sym e) k))
+            | inr n ↦ Among-append_right z front back n
+          ]
+        ]

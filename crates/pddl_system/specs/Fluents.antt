@@ -48,3 +48,11 @@ is_fluent d p a =
 -- the fluents, by predicate as declared and then by their objects. Their places are their numbers
 abbrev pub fluents : DomainTree → ProblemTree → List AtomTree
 fluents d p = filter (is_fluent d p) (all_atoms d.predicates (length (all_objects d p)))
+
+-- the atoms that make a fluent, as the effects of kept instances and then the uncertain entries name
+-- them, some more than once
+abbrev pub named_atoms : DomainTree → ProblemTree → List AtomTree
+named_atoms d p =
+    flat_map (λ (i : Instance). named_by_effect (setting d p) i.schema.effect i.objects)
+    (kept_instances d p)
+    ++ flat_map named_by p.entries

@@ -1,5 +1,5 @@
 -- What is true of every domain and problem: the statements of the laws.
-use Rattle.std.specs.Prelude.{◌≡◌, ◌≢◌, ℕ, ◌<◌, List, length, Bool, true, false, Option, None, Some, String, Vec}
+use Rattle.std.specs.Prelude.{◌≡◌, ◌≢◌, ℕ, ◌<◌, ◌≤◌, ◌↔◌, List, length, Bool, true, false, Option, None, Some, String, Vec, slice_get}
 use Rattle.std.specs.declared.alloc.Global.{Global}
 use Rattle.pddl_ast.specs.Fits.{FitsDomain, FitsEffect, FitsProblem}
 use Rattle.pddl_ast.specs.Known.{Known}
@@ -8,10 +8,12 @@ use Rattle.pddl_ast.specs.declared.trees.Named.{Named}
 use Rattle.pddl_ast.specs.declared.trees.Predicate.{Predicate}
 use Rattle.std.specs.List.{All, AllPairs, Contains}
 use Rattle.pddl_ast.specs.WordTexts.{IsWordText}
-use Rattle.pddl_system.specs.Fluents.{changed_by, fluents, named_by_effect}
+use Rattle.pddl_system.specs.Fluents.{changed_by, fluents, is_fluent, named_atoms, named_by_effect}
 use Rattle.pddl_system.specs.GroundAtoms.{is_among}
 use Rattle.pddl_system.specs.Instances.{Instance, is_kept, kept_instances}
 use Rattle.pddl_system.specs.Names.{NamesAreWords}
+use Rattle.pddl_system.specs.Orders.{atom_order}
+use Rattle.std.specs.List.Sorted.{IsSorted}
 use Rattle.pddl_system.specs.Objects.{bindings}
 use Rattle.pddl_system.specs.Outcomes.{ChangeTree, OutcomeTree, may_change, outcomes, outcomes_of}
 use Rattle.pddl_system.specs.Settings.{Setting, is_rigid_in, setting}
@@ -24,7 +26,7 @@ use Rattle.pddl_system.specs.Values.{ArePartsOf, task_value}
 use Rattle.task_core.specs.Names.{AreActionNames, AreFluentNames}
 use Rattle.task_core.specs.Parts.{MakesTask}
 use Rattle.task_core.specs.States.{IsWithin}
-use Rattle.task_core.specs.Systems.{IsSystem}
+use Rattle.task_core.specs.Systems.{Exec, IsSystem}
 use Rattle.task_core.specs.Vectors.{Vector}
 use Rattle.task_core.specs.Tasks.{system_of}
 use Rattle.task_core.specs.declared.actions.GroundAction.{GroundAction}
@@ -149,3 +151,40 @@ RigidAtomsAreNoFluents =
 -- the parts of the system of a domain and a problem fit together
 abbrev pub TheyHaveASystem : Type 0
 TheyHaveASystem = (d : DomainTree) (p : ProblemTree) → IsSystem (system d p)
+
+-- and an action can be executed exactly where the precondition of its instance holds: it leads
+-- somewhere, since its effect has an outcome
+abbrev pub ExecutableWherePreconditionHolds : Type 0
+ExecutableWherePreconditionHolds =
+    (d : DomainTree) (p : ProblemTree) (v : Vector) (a : ℕ) (i : Instance)
+    → FitsDomain d → slice_get (kept_instances d p) a ≡ Some i
+    → Exec (system d p) v a
+    ↔ (formula_holds (setting d p) (fluents d p) v i.schema.precondition i.objects ≡ true)
+
+-- the atoms that are named are those that are fluents
+abbrev pub NamedAtomsMakeFluents : Type 0
+NamedAtomsMakeFluents =
+    (d : DomainTree) (p : ProblemTree) (a : AtomTree)
+    → FitsDomain d → is_among (named_atoms d p) a ≡ is_fluent d p a
+
+-- a list of the named atoms, each once and in order, is that of the fluents
+abbrev pub NamedAtomsInOrderAreFluents : Type 0
+NamedAtomsInOrderAreFluents =
+    (d : DomainTree) (p : ProblemTree) (atoms : List AtomTree)
+    → FitsDomain d → FitsProblem d p
+    → IsSorted atom_order atoms → AllPairs (λ a b. a ≢ b) atoms
+    → ((a : AtomTree) → is_among atoms a ≡ is_among (named_atoms d p) a)
+    → atoms ≡ fluents d p
+
+-- a list of some named atoms, each once, is no longer than that of the fluents
+abbrev pub NamedAtomsAreNoMore : Type 0
+NamedAtomsAreNoMore =
+    (d : DomainTree) (p : ProblemTree) (atoms : List AtomTree)
+    → FitsDomain d → FitsProblem d p
+    → AllPairs (λ a b. a ≢ b) atoms
+    → ((a : AtomTree) → is_among atoms a ≡ true → is_among (named_atoms d p) a ≡ true)
+    → length atoms ≤ length (fluents d p)
+
+-- the fluents are listed in order
+abbrev pub FluentsAreSorted : Type 0
+FluentsAreSorted = (d : DomainTree) (p : ProblemTree) → IsSorted atom_order (fluents d p)

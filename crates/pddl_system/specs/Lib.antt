@@ -4,6 +4,7 @@ pub mod Instances
 pub mod Laws
 pub mod Names
 pub mod Objects
+pub mod Orders
 pub mod Outcomes
 pub mod Settings
 pub mod Sizes

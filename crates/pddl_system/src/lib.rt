@@ -18,6 +18,6 @@ mod laws;
 
 pub use laws::{
     bindings_and_outcomes_are_counted, domains_have_systems, effects_name_what_they_change,
-    fluents_are_what_changes, known_values_are_so, names_are_names, parts_make_a_task,
-    read_names_are_words, tasks_have_the_system,
+    fluents_are_what_changes, known_values_are_so, named_atoms_are_the_fluents, names_are_names,
+    parts_make_a_task, read_names_are_words, tasks_have_the_system,
 };
