@@ -10,3 +10,4 @@ pub mod Distinct
 pub mod Fitting
 pub mod TreeFitting
 pub mod ListFitting
+pub mod WordTexts

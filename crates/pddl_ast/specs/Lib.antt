@@ -12,3 +12,4 @@ pub mod Fits
 pub mod Environment
 pub mod Pending
 pub mod Scopes
+pub mod WordTexts

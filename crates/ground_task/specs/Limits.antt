@@ -1,0 +1,14 @@
+-- Which limit a refusal of `ground` names.
+use Rattle.std.specs.Prelude.{Option, Some, None}
+use Rattle.ground_task.specs.declared.grounding.GroundErr.{GroundErr}
+use Rattle.ground_task.specs.declared.grounding.GroundErr.TheVariants.{Objects, Size, Instances, Actions, Outcomes, Fluents, Memory}
+use Rattle.pddl_system.specs.Sizes.{Limit, object_limit, size_limit, instance_limit, action_limit, outcome_limit, fluent_limit}
+
+abbrev pub limit_of : GroundErr → Option Limit
+limit_of Objects = Some object_limit
+limit_of Size = Some size_limit
+limit_of Instances = Some instance_limit
+limit_of Actions = Some action_limit
+limit_of Outcomes = Some outcome_limit
+limit_of Fluents = Some fluent_limit
+limit_of Memory = None

@@ -1,0 +1,15 @@
+pub mod Fluents
+pub mod GroundAtoms
+pub mod Instances
+pub mod Laws
+pub mod Names
+pub mod Objects
+pub mod Outcomes
+pub mod Settings
+pub mod Sizes
+pub mod States
+pub mod Systems
+pub mod Tasks
+pub mod ThreeValues
+pub mod Truth
+pub mod Values

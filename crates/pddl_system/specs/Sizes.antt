@@ -1,0 +1,131 @@
+-- How much grounding has to do, as numbers that are counted before anything is built, and their limits.
+use Rattle.std.specs.Prelude.{ℕ, ◌+◌, ◌*◌, ◌^◌, Bool, ◌&&◌, not, nat_le, List, [], ◌∷◌, map, length, Option}
+use Rattle.std.specs.List.{find, list_all, sum}
+use Rattle.std.specs.Option.{option_map_or}
+use Rattle.pddl_ast.specs.Trees.{FormulaTree, FormulaTrees, atom, equal, all, any, negation, implication, exists, forall, no_formula, formula_then, EffectTree, EffectTrees, add, delete, both, one_of, only_when, each, no_effect, effect_then, SchemaTree, DomainTree, ProblemTree}
+use Rattle.pddl_system.specs.Fluents.{fluents}
+use Rattle.pddl_system.specs.Instances.{kept_instances}
+use Rattle.pddl_system.specs.Objects.{all_objects}
+use Rattle.pddl_system.specs.Outcomes.{outcomes_of}
+use Rattle.pddl_system.specs.Settings.{setting}
+
+-- how many bindings there are of variables of these types
+abbrev pub binding_count : (ℕ → List ℕ) → List ℕ → ℕ
+binding_count objects [] = 1
+binding_count objects (t ∷ ts) = length (objects t) * binding_count objects ts
+
+-- the expanded size of a formula: an atom and an equality have 1, every other formula has 1 and the sizes
+-- of its parts, and a quantifier 1 and the size of its body for each binding
+abbrev mutual
+  pub formula_size : (ℕ → List ℕ) → FormulaTree → ℕ
+  formula_size objects (atom predicate terms) = 1
+  formula_size objects (equal left right) = 1
+  formula_size objects (all parts) = 1 + formulas_size objects parts
+  formula_size objects (any parts) = 1 + formulas_size objects parts
+  formula_size objects (negation part) = 1 + formula_size objects part
+  formula_size objects (implication left right) =
+      1 + (formula_size objects left + formula_size objects right)
+  formula_size objects (exists types part) =
+      1 + binding_count objects types * formula_size objects part
+  formula_size objects (forall types part) =
+      1 + binding_count objects types * formula_size objects part
+
+  pub formulas_size : (ℕ → List ℕ) → FormulaTrees → ℕ
+  formulas_size objects no_formula = 0
+  formulas_size objects (formula_then f fs) = formula_size objects f + formulas_size objects fs
+
+-- the expanded size of an effect: a literal has 1, also one that deletes
+abbrev mutual
+  pub effect_size : (ℕ → List ℕ) → EffectTree → ℕ
+  effect_size objects (add predicate terms) = 1
+  effect_size objects (delete predicate terms) = 1
+  effect_size objects (both parts) = 1 + effects_size objects parts
+  effect_size objects (one_of parts) = 1 + effects_size objects parts
+  effect_size objects (only_when condition part) =
+      1 + (formula_size objects condition + effect_size objects part)
+  effect_size objects (each types part) =
+      1 + binding_count objects types * effect_size objects part
+
+  pub effects_size : (ℕ → List ℕ) → EffectTrees → ℕ
+  effects_size objects no_effect = 0
+  effects_size objects (effect_then e es) = effect_size objects e + effects_size objects es
+
+-- how many outcomes an effect has: effects that happen together multiply, a choice adds, and an effect for
+-- all objects is to the power of the number of bindings. Conditions don't matter, so the objects that the
+-- variables in scope stand for don't either
+abbrev mutual
+  pub outcome_count : (ℕ → List ℕ) → EffectTree → ℕ
+  outcome_count objects (add predicate terms) = 1
+  outcome_count objects (delete predicate terms) = 1
+  outcome_count objects (both parts) = product_of_counts objects parts
+  outcome_count objects (one_of parts) = sum_of_counts objects parts
+  outcome_count objects (only_when condition part) = outcome_count objects part
+  outcome_count objects (each types part) =
+      outcome_count objects part ^ binding_count objects types
+
+  pub product_of_counts : (ℕ → List ℕ) → EffectTrees → ℕ
+  product_of_counts objects no_effect = 1
+  product_of_counts objects (effect_then e es) =
+      outcome_count objects e * product_of_counts objects es
+
+  pub sum_of_counts : (ℕ → List ℕ) → EffectTrees → ℕ
+  sum_of_counts objects no_effect = 0
+  sum_of_counts objects (effect_then e es) = outcome_count objects e + sum_of_counts objects es
+
+abbrev pub schema_size : (ℕ → List ℕ) → SchemaTree → ℕ
+schema_size objects s = formula_size objects s.precondition + effect_size objects s.effect
+
+abbrev pub goal_size : (ℕ → List ℕ) → Option FormulaTree → ℕ
+goal_size objects goal = option_map_or (formula_size objects) goal 0
+
+-- how many instances all actions have, kept or not
+abbrev pub instance_count : (ℕ → List ℕ) → List SchemaTree → ℕ
+instance_count objects schemas =
+    sum (map (λ (s : SchemaTree). binding_count objects s.parameters) schemas)
+
+-- the most objects, the most expanded size of an action and of a goal, the most instances, kept instances,
+-- outcomes of one kept instance, and fluents
+abbrev pub most_objects : ℕ
+most_objects = 1024
+
+abbrev pub most_size : ℕ
+most_size = 100000
+
+abbrev pub most_instances : ℕ
+most_instances = 1000000
+
+abbrev pub most_actions : ℕ
+most_actions = 16384
+
+abbrev pub most_outcomes : ℕ
+most_outcomes = 64
+
+abbrev pub most_fluents : ℕ
+most_fluents = 256
+
+-- the limits
+pub data Limit : Type 0 where
+  object_limit size_limit instance_limit action_limit outcome_limit fluent_limit : Limit
+
+-- whether what is counted is within a limit
+abbrev pub keeps : DomainTree → ProblemTree → Limit → Bool
+keeps d p object_limit = nat_le (length (all_objects d p)) most_objects
+keeps d p size_limit = let objects = (setting d p).objects in
+    list_all (λ s. nat_le (schema_size objects s) most_size) d.actions
+    && nat_le (goal_size objects p.goal) most_size
+keeps d p instance_limit =
+    nat_le (instance_count (setting d p).objects d.actions) most_instances
+keeps d p action_limit = nat_le (length (kept_instances d p)) most_actions
+keeps d p outcome_limit =
+    list_all (λ i. nat_le (length (outcomes_of (setting d p) i)) most_outcomes)
+    (kept_instances d p)
+keeps d p fluent_limit = nat_le (length (fluents d p)) most_fluents
+
+-- the limits in the order in which they are tried
+abbrev pub limits : List Limit
+limits =
+    object_limit ∷ size_limit ∷ instance_limit ∷ action_limit ∷ outcome_limit ∷ fluent_limit ∷ []
+
+-- the first limit that is passed, if one is
+abbrev pub first_passed : DomainTree → ProblemTree → Option Limit
+first_passed d p = find (λ limit. not (keeps d p limit)) limits

@@ -1,0 +1,50 @@
+-- States of a domain and a problem: a truth value for each fluent. Every other atom keeps its initial
+-- value in every state.
+use Rattle.std.specs.Prelude.{ℕ, Bool, true, false, ◌&&◌, if◌then◌else◌, List, map, Option, Some, None}
+use Rattle.std.specs.List.{list_all, list_any, position}
+use Rattle.task_core.specs.Vectors.{Vector, same_value, value_of}
+use Rattle.pddl_ast.specs.Trees.{AtomTree, FormulaTree}
+use Rattle.pddl_system.specs.GroundAtoms.{same_atom}
+use Rattle.pddl_system.specs.Outcomes.{ChangeTree, Condition, OutcomeTree}
+use Rattle.pddl_system.specs.Settings.{Setting}
+use Rattle.pddl_system.specs.Truth.{is_true}
+
+-- the number of an atom among the fluents
+abbrev pub number_of : List AtomTree → AtomTree → Option ℕ
+number_of fluents a = position (same_atom a) fluents
+
+-- the value of an atom that has this number, or of one that is no fluent
+abbrev pub value_at : Vector → Bool → Option ℕ → Bool
+value_at v initially (Some f) = value_of v f
+value_at v initially None = initially
+
+-- the value of an atom in the state v
+abbrev pub atom_holds : Setting → List AtomTree → Vector → AtomTree → Bool
+atom_holds at fluents v a = value_at v (at.is_fact a) (number_of fluents a)
+
+-- whether a formula holds in the state v, where the variables in scope stand for these objects
+abbrev pub formula_holds : Setting → List AtomTree → Vector → FormulaTree → List ℕ → Bool
+formula_holds at fluents v = is_true at.objects (atom_holds at fluents v)
+
+-- whether all conditions of a change hold in the state v
+abbrev pub comes_about : Setting → List AtomTree → Vector → ChangeTree → Bool
+comes_about at fluents v change =
+    list_all (λ (c : Condition). formula_holds at fluents v c.formula c.scope) change.conditions
+
+-- whether a change comes about in the state v and makes the atom true (positive) or false
+abbrev pub makes : Setting → List AtomTree → Vector → Bool → AtomTree → ChangeTree → Bool
+makes at fluents v positive a change =
+    same_atom a change.atom && same_value change.positive positive
+    && comes_about at fluents v change
+
+-- the value of a fluent after an outcome in the state v, whose conditions are all read in v: true where
+-- a change makes it true, else false where one makes it false, else as in v
+abbrev pub value_after : Setting → List AtomTree → Vector → OutcomeTree → AtomTree → Bool
+value_after at fluents v outcome a =
+    if list_any (makes at fluents v true a) outcome then true
+    else if list_any (makes at fluents v false a) outcome then false
+    else atom_holds at fluents v a
+
+-- the state after an outcome in the state v
+abbrev pub state_after : Setting → List AtomTree → Vector → OutcomeTree → Vector
+state_after at fluents v outcome = map (value_after at fluents v outcome) fluents

@@ -1,0 +1,49 @@
+-- The plain trees that a task's types stand for.
+use Rattle.std.specs.Prelude.{ℕ, List, map, length}
+use Rattle.std.specs.Option.{option_map}
+use Rattle.task_core.specs.Initial.{entries_of, facts_of}
+use Rattle.task_core.specs.Names.{name_of}
+use Rattle.task_core.specs.Tasks.{fluent_names}
+use Rattle.task_core.specs.declared.literals.Lit.{Lit}
+use Rattle.task_core.specs.declared.conditions.Cond.{Cond}
+use Rattle.task_core.specs.declared.conditions.Cond.TheOpen.{Cond-F, Yes, No, Is, Not, All, Any}
+use Rattle.task_core.specs.declared.conditions.Cond.TheFolds.{fold-Cond}
+use Rattle.task_core.specs.declared.actions.Change.{Change}
+use Rattle.task_core.specs.declared.actions.Outcome.{Outcome}
+use Rattle.task_core.specs.declared.actions.GroundAction.{GroundAction}
+use Rattle.task_core.specs.declared.tasks.Task.{Task}
+use Rattle.pddl_system.specs.Tasks.{CondTree, yes_always, no_never, is_fluent_true, not_so, all_of, any_of, condition_row, ActionTree, TaskTree}
+
+-- one layer of a condition, with the trees of its parts in their place
+abbrev pub condition_step : Cond-F CondTree → CondTree
+condition_step Yes = yes_always
+condition_step No = no_never
+condition_step (Is f) = is_fluent_true f.0
+condition_step (Not part) = not_so part.value
+condition_step (All parts) = all_of (condition_row parts.items)
+condition_step (Any parts) = any_of (condition_row parts.items)
+
+abbrev pub condition_value : Cond → CondTree
+condition_value = fold-Cond CondTree condition_step
+
+abbrev pub change_value : Change → CondTree × Lit
+change_value change = (condition_value change.cond, change.lit)
+
+abbrev pub outcome_value : Outcome → List (CondTree × Lit)
+outcome_value outcome = map change_value outcome.changes.items
+
+abbrev pub action_value : GroundAction → ActionTree
+action_value action = record {
+  name = name_of action;
+  exec = condition_value action.exec;
+  outcomes = map outcome_value action.outcomes.items;
+}
+
+abbrev pub task_value : Task → TaskTree
+task_value task = record {
+  fluents = fluent_names task;
+  actions = map action_value task.actions.items;
+  facts = facts_of (length task.fluents.items) task.init;
+  entries = entries_of task.init;
+  goal = option_map condition_value task.goal;
+}
