@@ -1,0 +1,5 @@
+pub mod Atoms
+pub mod Counts
+pub mod Kept
+pub mod Tables
+pub mod Values
