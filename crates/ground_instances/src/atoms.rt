@@ -26,7 +26,11 @@ impl Atom {
     ) -> Result<Atom, AllocError>
         ensures { IfOk result (λ atom. atom_tree atom ≡ atom_of scope.now predicate terms.now) }
     {
-        Err(AllocError)
+        let objects = terms
+            .iter()
+            .map(|term| object_of(scope, term))
+            .collect(alloc)?;
+        Ok(Atom { predicate, objects })
     }
 }
 
