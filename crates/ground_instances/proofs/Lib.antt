@@ -3,3 +3,5 @@ pub mod Numbered
 pub mod SameAtoms
 pub mod TreeValues
 pub mod ValueLemmas
+pub mod KeptLemmas
+pub mod EnteringLemmas

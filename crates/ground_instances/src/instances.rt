@@ -107,7 +107,7 @@ impl Setting {
         }
         kept.push(Instance {
             action,
-            objects: objects.clone()?,
+            objects: Vec::from_slice(alloc, objects)?,
         })?;
         Ok(true)
     }

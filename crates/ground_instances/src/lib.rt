@@ -8,7 +8,9 @@
 
 mod atoms;
 mod bindings;
+mod changed;
 mod instances;
+mod objects;
 mod setting;
 mod sizes;
 mod values;

@@ -9,6 +9,8 @@ ghost use Rattle.pddl_system.specs.Settings.{setting};
 ghost use Rattle.pddl_system.specs.Sizes.{keeps, object_limit};
 
 use crate::atoms::Atom;
+use crate::changed::{changed_predicates, fact_set};
+use crate::objects::objects_by_type;
 use indexmap::IndexSet;
 use pddl_ast::{Domain, ObjectId, PredicateId, Problem, TypeId};
 use std::alloc::{AllocError, Global};
@@ -50,7 +52,11 @@ impl Setting {
         ensures { IfOk result (λ s.
             setting_in s ≡ setting (domain_value domain.now) (problem_value problem.now)) }
     {
-        Err(AllocError)
+        Ok(Setting {
+            objects: objects_by_type(alloc, domain, problem)?,
+            changed: changed_predicates(alloc, domain, problem)?,
+            facts: fact_set(alloc, problem)?,
+        })
     }
 
     /// The objects of a type, in the order in which they are declared.

@@ -1,4 +1,4 @@
-use Rattle.std.proofs.Common.{◌≡◌, ◌+◌, ◌*◌, ◌∙◌, ap, sym, inl, inr}
+use Rattle.std.proofs.Common.{◌∙◌, ap, sym, inl, inr}
 use Rattle.ground_instances.specs.Counts.{shown}
 use Rattle.ground_instances.specs.Tables.{setting_in}
 use Rattle.ground_instances.proofs.Counts.{each_binding}

@@ -1,4 +1,4 @@
-use Rattle.std.proofs.Common.{◌≡◌, ◌++◌, drop, map, length}
+use Rattle.std.proofs.Common.{◌≡◌, ◌++◌, drop, map}
 use Rattle.ground_instances.specs.Tables.{setting_in}
 use Rattle.ground_instances.specs.Values.{known_value}
 use Rattle.pddl_ast.specs.Trees.{formula_row}

@@ -1,4 +1,4 @@
-use Rattle.std.proofs.Common.{◌≡◌, ◌<◌, ◌++◌, [], ◌∷◌, length, get_or, arith}
+use Rattle.std.proofs.Common.{arith}
 use Rattle.ground_instances.specs.Tables.{setting_in}
 use Rattle.ground_instances.proofs.Numbered.{within_objects, divided, remainder_below, scope_step}
 use Rattle.ground_instances.proofs.setting.Setting.bind.Goals as goal

@@ -9,5 +9,5 @@ abbrev pub invariant-loop-schema : goal.invariant-loop-schema
 invariant-loop-schema l = record {
   within : l.count ≤ 1000001;
   total : shown (l.count + instance_count (setting_in l.self).objects (map schema_value (drop l.schema-index l.schema-items)))
-  ≡ shown (instance_count (setting_in l.self).objects (domain_value l.domain).actions);
+      ≡ shown (instance_count (setting_in l.self).objects (domain_value l.domain).actions);
 }
