@@ -98,7 +98,7 @@ pub fn fact_set(alloc: Global, problem: &Problem) -> Result<IndexSet<Atom>, Allo
     for fact in &problem.facts {
         facts.insert(Atom {
             predicate: fact.predicate,
-            objects: fact.objects.clone()?,
+            objects: Vec::from_slice(alloc, &fact.objects)?,
         })?;
     }
     Ok(facts)

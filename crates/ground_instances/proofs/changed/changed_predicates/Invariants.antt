@@ -14,5 +14,5 @@ invariant-loop-schema l = (q : ℕ)
 abbrev pub invariant-loop-entry : goal.invariant-loop-entry
 invariant-loop-entry l = (q : ℕ)
     → (list_any (nat_eq q) l.changed.keys
-      || list_any (entry_names q) (map (λ entry. map (λ alternative. map literal_value alternative.items) entry.items) (drop l.entry-index l.entry-items)))
+    || list_any (entry_names q) (map (λ entry. map (λ alternative. map literal_value alternative.items) entry.items) (drop l.entry-index l.entry-items)))
     ≡ (list_any (λ (s : SchemaTree). changes q s.effect) (domain_value l.domain).actions || list_any (entry_names q) (problem_value l.problem).entries)

@@ -8,5 +8,5 @@ invariant-loop-object l = record {
   lists : length l.lists.items ≡ length l.parents;
   below : AreBelow l.number l.lists.items;
   entered : (t : ℕ) → t < length l.parents → list_of l.lists.items t ++ entered l.parents (drop l.object-index l.objects) l.number t
-  ≡ list_of l.fn.lists.items t ++ entered l.parents l.objects l.first t;
+      ≡ list_of l.fn.lists.items t ++ entered l.parents l.objects l.first t;
 }
