@@ -1,5 +1,5 @@
 -- The derived `==` of atoms is that of their trees.
-use Rattle.std.proofs.Common.{◌++◌, ◌&&◌, cond, inl, inr, subst, rules, ◌≡◌, Bool, true, false, ◌||◌, List, [], ◌∷◌, map, refl, ap, sym, ◌∙◌}
+use Rattle.std.proofs.Common.{◌++◌, ◌&&◌, cond, inl, inr, ◌≡◌, Bool, true, false, ◌||◌, List, [], ◌∷◌, map, refl, ap, sym, ◌∙◌}
 use Rattle.std.specs.List.{list_any}
 use Rattle.std.specs.Str.{bytes_eq}
 use Rattle.std.specs.Prelude.{◌==◌}

@@ -1,11 +1,11 @@
 -- The tree that each kind of formula and effect stands for: one equation a kind.
-use Rattle.std.proofs.Common.{◌≡◌, ℕ, map, sym, ◌∙◌, ap}
+use Rattle.std.proofs.Common.{◌≡◌, ℕ, sym, ◌∙◌, ap}
 use Rattle.std.specs.Prelude.{Vec, Box}
 use Rattle.std.specs.declared.alloc.Global.{Global}
 use Rattle.pddl_ast.specs.declared.trees.Formula.{Formula}
 use Rattle.pddl_ast.specs.declared.trees.Formula.TheOpen as Open
 use Rattle.pddl_ast.specs.declared.trees.Formula.TheFolds.{fold-roll-Formula}
-use Rattle.pddl_ast.specs.declared.trees.Formula.TheVariants.{All, Any, Exists, Forall, rolls-All, rolls-Any, rolls-Exists, rolls-Forall}
+use Rattle.pddl_ast.specs.declared.trees.Formula.TheVariants.{Exists, Forall, rolls-Exists, rolls-Forall}
 use Rattle.pddl_ast.specs.declared.trees.Effect.{Effect}
 use Rattle.pddl_ast.specs.declared.trees.Effect.TheOpen as OpenEffect
 use Rattle.pddl_ast.specs.declared.trees.Effect.TheFolds.{fold-roll-Effect}

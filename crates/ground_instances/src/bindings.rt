@@ -1,6 +1,6 @@
 //! Bindings of variables by their numbers.
 
-ghost use Rattle.std.specs.Prelude.{◌≡◌, ◌<◌, [], ◌++◌, ◌+◌, ◌*◌, ◌≤◌, slice_index_or, IfOk, OnOk};
+ghost use Rattle.std.specs.Prelude.{◌≡◌, ◌<◌, [], ◌++◌, ◌+◌, ◌*◌, ◌≤◌, ◌↔◌, slice_index_or, IfOk, IsErr, OnOk};
 ghost use Rattle.ground_instances.specs.Counts.{shown};
 ghost use Rattle.ground_instances.specs.Tables.{setting_in};
 ghost use Rattle.pddl_system.specs.Objects.{bindings};
@@ -71,8 +71,10 @@ impl Setting {
     /// How many bindings there are of variables of these types. More than 1,000,000 are refused as
     /// want of memory is.
     pub fn few_bindings(&self, types: &[TypeId]) -> Result<usize, AllocError>
-        ensures { IfOk result (λ count. count
+        ensures count { IfOk result (λ count. count
             ≡ binding_count (setting_in self.now).objects types.now) }
+        ensures many { IsErr result ↔
+            (1000000 < binding_count (setting_in self.now).objects types.now) }
     {
         let count = self.binding_count(types);
         if count == TOO_MANY {

@@ -1,6 +1,5 @@
-use Rattle.std.proofs.Common.{◌≡◌, ℕ, suc, ◌+◌, List, ◌∷◌, ◌||◌, drop, get_or, map, ap, sym, ◌∙◌, add-one}
+use Rattle.std.proofs.Common.{◌≡◌, suc, ◌+◌, ◌∷◌, ◌||◌, drop, map, ap, sym, ◌∙◌, add-one}
 use Rattle.std.proofs.Math.Seq.{drop-cons}
-use Rattle.pddl_ast.specs.Trees.{AtomTree}
 use Rattle.pddl_ast.specs.Values.{atom_value}
 use Rattle.pddl_system.specs.GroundAtoms.{is_among}
 use Rattle.ground_instances.specs.Atoms.{atom_tree}

@@ -1,4 +1,4 @@
-use Rattle.std.proofs.Common.{◌≡◌, ℕ, ◌||◌, drop, map}
+use Rattle.std.proofs.Common.{◌≡◌, ◌||◌, drop, map}
 use Rattle.pddl_ast.specs.Trees.{AtomTree}
 use Rattle.pddl_ast.specs.Values.{atom_value, problem_value}
 use Rattle.pddl_system.specs.GroundAtoms.{is_among}

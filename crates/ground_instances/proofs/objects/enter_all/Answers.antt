@@ -1,6 +1,6 @@
-use Rattle.std.proofs.Common.{◌≡◌, ℕ, ◌+◌, ◌<◌, ◌++◌, drop, length, get_or, ap, sym, subst, ◌∙◌, arith}
+use Rattle.std.proofs.Common.{◌≡◌, length, ◌∙◌, arith}
 use Rattle.pddl_system.specs.Objects.{is_kind_of}
-use Rattle.ground_instances.specs.Entering.{AreBelow, entered, list_of}
+use Rattle.ground_instances.specs.Entering.{list_of}
 use Rattle.ground_instances.proofs.EnteringLemmas.{enter_below, enter_next}
 use Rattle.ground_instances.proofs.objects.enter_all.Goals as goal
 
