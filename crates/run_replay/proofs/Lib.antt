@@ -2,6 +2,8 @@ pub mod Counting
 pub mod Matching
 pub mod PlanCubes
 pub mod Places
+pub mod Telling
+pub mod RunLaws
 pub mod TurnLemmas
 pub mod RecordOrder
 pub mod RecordFaults

@@ -5,3 +5,4 @@ pub mod Watching
 pub mod Runs
 pub mod Advices
 pub mod Turns
+pub mod Running

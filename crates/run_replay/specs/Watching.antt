@@ -1,6 +1,6 @@
 -- What becomes of a monitor that is told of steps.
 use Rattle.std.specs.Prelude.{◌≡◌, ℕ, ◌+◌, ◌<◌, ◌^◌, List, map, sum}
-use Rattle.std.specs.List.{All}
+use Rattle.std.specs.List.{All, AllZip}
 use Rattle.run_replay.specs.declared.worlds.Step.{Step}
 
 -- what a monitor is at one moment: its tally, its title, and what each step weighs
@@ -16,3 +16,8 @@ pub record IsTold (steps : List Step) (before after : Seen) : Type 0 where
   pub light : All (λ step. before.weight step < 2 ^ 64) steps
   pub titled : after.title ≡ before.title
   pub weighs : (step : Step) → after.weight step ≡ before.weight step
+
+-- each monitor of a list, of which `seen` says what it is, was told of these steps; the list has its monitors in
+-- their order
+abbrev pub AreTold : {X : Type 0} → (X → Seen) → List Step → List X → List X → Type 0
+AreTold seen steps = AllZip (λ before after. IsTold steps (seen before) (seen after))

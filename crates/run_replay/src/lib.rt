@@ -2,13 +2,15 @@
 //!
 //! `World` and `Monitor` are what a caller hands in; `RecordWorld`, `StepMonitor` and `ChangeMonitor`
 //! are the program's own. `read_words` reads a record of a run. `specs/Traces.antt` says what the
-//! trace of a plan is, by recursion on its turns; one turn of it is made in `turns`, and the monitors
-//! are told of its step in `watch`. Whole runs are not there yet.
+//! trace of a plan is, by recursion on its turns; `execute` runs a plan and gives exactly its trace, or
+//! the refusal that the trace ends with. One turn is made in `turns`, and the monitors are told of its
+//! step in `watch`.
 #![tactic(auto)]
 
 mod advice;
 mod monitors;
 mod records;
+mod runs;
 #[cfg(test)]
 mod tests;
 mod traces;
@@ -18,4 +20,6 @@ mod worlds;
 
 pub use monitors::{ChangeMonitor, Monitor, StepMonitor};
 pub use records::{Recorded, read_words};
+pub use runs::{MOST_STEPS, execute};
+pub use traces::{End, RunErr, Trace};
 pub use worlds::{RecordWorld, Step, World};
