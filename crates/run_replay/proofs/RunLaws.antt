@@ -13,7 +13,7 @@ use Rattle.plan_rules.specs.Denoted.{can_execute}
 use Rattle.run_replay.specs.declared.worlds.Step.{Step}
 use Rattle.run_replay.specs.declared.traces.RunErr.{RunErr}
 use Rattle.run_replay.specs.declared.traces.RunErr.TheVariants.{StrayOutcome, Unexecutable as UnexecutableErr, Memory}
-use Rattle.run_replay.specs.Runs.{IsFrontOf, IsRefused, outcome_numbers, step_value, steps_value}
+use Rattle.run_replay.specs.Runs.{IsStepOf, IsFrontOf, IsRefused, outcome_numbers, step_value, steps_value}
 use Rattle.run_replay.specs.Running.{HasRun, after_steps, next_turn_of, rest_of}
 use Rattle.run_replay.specs.Traces.{Trace, TraceStep, Turn, Ends, Goes, Ending, Terminal, Ended, Capped, Stray, Unexecutable, turn, acting, choosing, trace_from, trace_of, after_step, most_steps}
 use Rattle.run_replay.specs.Turns.{IsRefusal}
@@ -84,14 +84,14 @@ has_room : (k m : ℕ) → k ≤ m → (k == m) ≡ false → m - k ≡ suc (m -
 has_room k m le not = grind (arith, nat_tests)
 
 -- at the start
-pub starts : {X : Type 0} (seen : X → Seen) (sys : System) (plan : ContextPlan) (n : ℕ) (first : State) (words : List ℕ) (monitors : List X)
-    → IsWithin n first → HasRun seen sys plan n (vector n first) words monitors [] first (Some first_context) words monitors
-starts seen sys plan n first words monitors within = record {
+pub starts : {X : Type 0} (seen : X → Seen) (sys : System) (plan : ContextPlan) (n m : ℕ) (first : State) (words : List ℕ) (monitors : List X)
+    → IsWithin n first → HasRun seen sys plan n m (vector n first) words monitors [] first (Some first_context) words monitors
+starts seen sys plan n m first words monitors within = record {
   goes = refl;
   few = omega arith;
   taken = refl;
   told = are_told_none seen monitors;
-  inside = All-nil (λ (s : Step). IsWithin n s.before × IsWithin n s.after);
+  in_task = All-nil (IsStepOf n m);
   within = within;
 }
 
@@ -123,14 +123,14 @@ rest_more sys plan n steps state context next left rest step few turned =
     (steps_on sys plan (most_steps - (length steps + 1)) (length steps + 1) (vector n state) context next left rest (step_value n step) at)
 
 -- after one turn more, where it makes a step
-pub one_more : {X : Type 0} {seen : X → Seen} {sys : System} {plan : ContextPlan} {n : ℕ} {first : Vector} {words : List ℕ} {monitors : List X}
+pub one_more : {X : Type 0} {seen : X → Seen} {sys : System} {plan : ContextPlan} {n m : ℕ} {first : Vector} {words : List ℕ} {monitors : List X}
     {steps : List Step} {state : State} {context next : Option ℕ} {left rest : List ℕ} {now later : List X} (step : Step)
-    → HasRun seen sys plan n first words monitors steps state context left now
+    → HasRun seen sys plan n m first words monitors steps state context left now
     → next_turn_of sys plan n steps state context left ≡ Goes (step_value n step) next rest
-    → IsWithin n step.before × IsWithin n step.after
+    → IsStepOf n m step
     → AreTold seen (step ∷ []) now later
-    → HasRun seen sys plan n first words monitors (steps ++ step ∷ []) step.after next rest later
-one_more {seen} {sys} {plan} {n} {monitors} {steps} {state} {context} {next} {left} {rest} {now} {later} step run turned inside told =
+    → HasRun seen sys plan n m first words monitors (steps ++ step ∷ []) step.after next rest later
+one_more {seen} {sys} {plan} {n} {m} {monitors} {steps} {state} {context} {next} {left} {rest} {now} {later} step run turned in_task told =
     let takes = turn_takes sys plan (length steps == most_steps) (length steps + 1) (vector n state) context left rest (step_value n step) next turned in
     record {
       goes =
@@ -145,14 +145,14 @@ one_more {seen} {sys} {plan} {n} {monitors} {steps} {state} {context} {next} {le
           ∙ sym (numbers_more (steps_value n steps) (step_value n step) rest)
           ∙ ap (λ (all : List TraceStep). outcome_numbers all ++ rest) (sym (steps_more n steps step));
       told = are_told_more seen steps (step ∷ []) monitors now later run.told told;
-      inside = All-push (λ (s : Step). IsWithin n s.before × IsWithin n s.after) steps step run.inside inside;
-      within = inside.1;
+      in_task = All-push (IsStepOf n m) steps step run.in_task in_task;
+      within = in_task.after;
     }
 
 -- where the next turn ends the trace
-pub ends : {X : Type 0} {seen : X → Seen} {sys : System} {plan : ContextPlan} {n : ℕ} {first : Vector} {words : List ℕ} {monitors : List X}
+pub ends : {X : Type 0} {seen : X → Seen} {sys : System} {plan : ContextPlan} {n m : ℕ} {first : Vector} {words : List ℕ} {monitors : List X}
     {steps : List Step} {state : State} {context : Option ℕ} {left rest : List ℕ} {now : List X} {ending : Ending}
-    → HasRun seen sys plan n first words monitors steps state context left now
+    → HasRun seen sys plan n m first words monitors steps state context left now
     → next_turn_of sys plan n steps state context left ≡ Ends ending rest
     → trace_of sys plan first words ≡ record { steps = steps_value n steps; ending = ending; left = rest }
 ends {sys} {plan} {n} {steps} {state} {context} {left} {rest} {ending} run turned =
@@ -163,9 +163,9 @@ ends {sys} {plan} {n} {steps} {state} {context} {left} {rest} {ending} run turne
     ∙ ap (λ (all : List TraceStep). let t : Trace = record { steps = all; ending = ending; left = rest } in t) (append-nil (steps_value n steps))
 
 -- the steps so far are the first of the trace
-pub front_of : {X : Type 0} {seen : X → Seen} {sys : System} {plan : ContextPlan} {n : ℕ} {first : Vector} {words : List ℕ} {monitors : List X}
+pub front_of : {X : Type 0} {seen : X → Seen} {sys : System} {plan : ContextPlan} {n m : ℕ} {first : Vector} {words : List ℕ} {monitors : List X}
     {steps : List Step} {state : State} {context : Option ℕ} {left : List ℕ} {now : List X}
-    → HasRun seen sys plan n first words monitors steps state context left now
+    → HasRun seen sys plan n m first words monitors steps state context left now
     → IsFrontOf (trace_of sys plan first words) words (steps_value n steps) left
 front_of {sys} {plan} {n} {steps} {state} {context} {left} run = record {
   later = (rest_of sys plan n steps state context left).steps;
@@ -188,8 +188,8 @@ refuses (UnexecutableErr step) n trace words steps left ending is h =
 refuses Memory n trace words steps left ending is h = absurd is
 
 -- the tallies of monitors that had counted nothing when the run began
-pub tallies_of : {X : Type 0} {seen : X → Seen} {sys : System} {plan : ContextPlan} {n : ℕ} {first : Vector} {words : List ℕ} {monitors : List X}
+pub tallies_of : {X : Type 0} {seen : X → Seen} {sys : System} {plan : ContextPlan} {n m : ℕ} {first : Vector} {words : List ℕ} {monitors : List X}
     {steps : List Step} {state : State} {context : Option ℕ} {left : List ℕ} {now : List X}
-    → HasRun seen sys plan n first words monitors steps state context left now
+    → HasRun seen sys plan n m first words monitors steps state context left now
     → All (λ (x : X). (seen x).counted ≡ 0) monitors → All (λ (y : X). (seen y).counted ≤ 2 ^ 127) now
 tallies_of {seen} {monitors} {steps} {now} run untold = small_tallies seen steps monitors now untold run.told run.few

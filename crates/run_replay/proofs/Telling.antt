@@ -1,10 +1,11 @@
 -- Monitors that are told of steps, and then of more.
 use Rattle.std.proofs.Common.{◌≡◌, ℕ, ◌+◌, ◌*◌, ◌<◌, ◌≤◌, ◌^◌, List, [], ◌∷◌, ◌++◌, map, sum, length, get_or, arith, refl, ap, subst, ◌∙◌}
-use Rattle.std.specs.List.{All}
+use Rattle.std.specs.List.{All, flat_map}
 use Rattle.std.proofs.lemmas.List.{map-append}
 use Rattle.std.proofs.lemmas.List.Elements.{All-append, All-nil, AllZip-get_or, length_all_zip, All-head, All-tail}
 use Rattle.std.proofs.lemmas.List.Sums.{sum_by-append, sum_by-cons}
 use Rattle.run_replay.specs.declared.worlds.Step.{Step}
+use Rattle.run_replay.specs.TraceTexts.{tallies_text, tally_line}
 use Rattle.run_replay.specs.Watching.{Seen, IsTold, AreTold}
 
 map_same : {A B : Type 0} (f g : A → B) → ((x : A) → f x ≡ g x) → (xs : List A) → map f xs ≡ map g xs
@@ -71,3 +72,16 @@ small_tallies seen steps xs ys none told few k d lt =
     let in_xs : k < length xs = omega (arith, long, lt) in
     small_after steps (seen (get_or xs k d)) (seen (get_or ys k d)) (none k d in_xs)
     (AllZip-get_or (λ x y. IsTold steps (seen x) (seen y)) xs ys k d d told in_xs) few
+
+-- what is shown of monitors that had counted nothing, after they were told of these steps
+pub tallies_told : {X : Type 0} (seen : X → Seen) (steps : List Step) (xs ys : List X) → All (λ (x : X). (seen x).counted ≡ 0) xs
+    → AreTold seen steps xs ys
+    → flat_map (λ (y : X). tally_line (seen y).title (seen y).counted) ys ≡ tallies_text seen steps xs
+tallies_told seen steps [] [] none told = refl
+tallies_told seen steps [] (y ∷ ys) none told = absurd told
+tallies_told seen steps (x ∷ xs) [] none told = absurd told
+tallies_told {X} seen steps (x ∷ xs) (y ∷ ys) none told =
+    let here : (seen x).counted ≡ 0 = All-head (λ (z : X). (seen z).counted ≡ 0) x xs none in
+    let total : (seen y).counted ≡ sum (map (seen x).weight steps) = omega (arith, here, told.0.counts) in
+    let rest = tallies_told seen steps xs ys (All-tail (λ (z : X). (seen z).counted ≡ 0) x xs none) told.1 in
+    rw (told.0.titled, total) (ap (λ (l : List ℕ). tally_line (seen x).title (sum (map (seen x).weight steps)) ++ l) rest)

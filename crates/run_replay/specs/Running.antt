@@ -1,12 +1,13 @@
 -- Private: a run on its way, as the code holds it.
 use Rattle.std.specs.Prelude.{◌≡◌, ℕ, ◌+◌, ◌-◌, ◌≤◌, ◌==◌, List, ◌++◌, Option, length}
+use Rattle.std.specs.List.{All}
 use Rattle.task_core.specs.States.{IsWithin, vector}
 use Rattle.task_core.specs.Systems.{System}
 use Rattle.task_core.specs.ContextPlans.{ContextPlan}
 use Rattle.task_core.specs.Vectors.{Vector}
 use Rattle.task_core.specs.declared.states.State.{State}
 use Rattle.run_replay.specs.declared.worlds.Step.{Step}
-use Rattle.run_replay.specs.Runs.{AreWithin, outcome_numbers, steps_value}
+use Rattle.run_replay.specs.Runs.{IsStepOf, outcome_numbers, steps_value}
 use Rattle.run_replay.specs.Traces.{Trace, TraceStep, Turn, turn, trace_from, trace_of, most_steps}
 use Rattle.run_replay.specs.Watching.{Seen, AreTold}
 
@@ -25,12 +26,12 @@ rest_of sys plan n steps state context words =
     trace_from sys plan (most_steps - length steps) (length steps + 1) (vector n state) context words
 
 -- Private: a run that began in the state `first` with these words and these monitors has come so far
-pub record HasRun {X : Type 0} (seen : X → Seen) (sys : System) (plan : ContextPlan) (n : ℕ) (first : Vector)
+pub record HasRun {X : Type 0} (seen : X → Seen) (sys : System) (plan : ContextPlan) (n m : ℕ) (first : Vector)
     (words : List ℕ) (monitors : List X) (steps : List Step) (state : State) (context : Option ℕ) (left : List ℕ)
     (now : List X) : Type 0 where
   pub goes : trace_of sys plan first words ≡ after_steps (steps_value n steps) (rest_of sys plan n steps state context left)
   pub few : length steps ≤ most_steps
   pub taken : words ≡ outcome_numbers (steps_value n steps) ++ left
   pub told : AreTold seen steps monitors now
-  pub inside : AreWithin n steps
+  pub in_task : All (IsStepOf n m) steps
   pub within : IsWithin n state

@@ -1,6 +1,5 @@
 -- The steps and the ends of runs in the terms of traces.
-use Rattle.std.specs.Prelude.{◌≡◌, ℕ, List, ◌++◌, map}
-use Rattle.std.specs.List.{All}
+use Rattle.std.specs.Prelude.{◌≡◌, ℕ, ◌<◌, List, ◌++◌, map}
 use Rattle.task_core.specs.States.{IsWithin, vector}
 use Rattle.task_core.specs.Tasks.{fluent_count, system_of}
 use Rattle.task_core.specs.declared.states.State.{State}
@@ -28,9 +27,12 @@ step_value n s = record {
 abbrev pub steps_value : ℕ → List Step → List TraceStep
 steps_value n = map (step_value n)
 
--- the states of the steps have no true fluent from n on
-abbrev pub AreWithin : ℕ → List Step → Type 0
-AreWithin n = All (λ (s : Step). IsWithin n s.before × IsWithin n s.after)
+-- a step of a task with n fluents and m actions: its action is one of them, and its states have no true fluent from
+-- n on
+pub record IsStepOf (n m : ℕ) (s : Step) : Type 0 where
+  pub action : s.action.0 < m
+  pub before : IsWithin n s.before
+  pub after : IsWithin n s.after
 
 -- how the code's type says that a trace ends
 abbrev pub ending_of : End → Ending

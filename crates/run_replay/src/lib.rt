@@ -8,18 +8,24 @@
 #![tactic(auto)]
 
 mod advice;
+mod laws;
 mod monitors;
 mod records;
+#[cfg(test)]
+mod run_tests;
 mod runs;
 #[cfg(test)]
 mod tests;
+mod text;
 mod traces;
 mod turns;
 mod watch;
 mod worlds;
 
+pub use laws::traces_are_paths;
 pub use monitors::{ChangeMonitor, Monitor, StepMonitor};
 pub use records::{Recorded, read_words};
 pub use runs::{MOST_STEPS, execute};
+pub use text::write_trace;
 pub use traces::{End, RunErr, Trace};
 pub use worlds::{RecordWorld, Step, World};

@@ -4,9 +4,9 @@ ghost use Rattle.plan_rules.specs.Plans.{IsPlanOf};
 ghost use Rattle.plan_rules.specs.Rules.{plain_of};
 ghost use Rattle.run_replay.specs.declared.worlds.Step.{Step};
 ghost use Rattle.run_replay.specs.Running.{next_turn_of};
-ghost use Rattle.run_replay.specs.Runs.{AreWithin, IsRefused, trace_in, trace_value};
+ghost use Rattle.run_replay.specs.Runs.{IsRefused, IsStepOf, trace_in, trace_value};
 ghost use Rattle.run_replay.specs.Traces.{run_plan};
-ghost use Rattle.run_replay.specs.Turns.{IsStepWithin, IsTurn};
+ghost use Rattle.run_replay.specs.Turns.{IsTurn, MakesStepOf};
 ghost use Rattle.run_replay.specs.Watching.{AreTold};
 ghost use Rattle.std.specs.Prelude.{
   ◌≡◌,
@@ -69,14 +69,15 @@ pub fn execute(
     ensures first_state { IfOk result (λ trace. trace.first ≡ first) }
     ensures trace { IfOk result (λ trace. trace_value (fluent_count task.now) trace (left world.new)
         ≡ trace_in task.now plan.now first (left world.old)) }
-    ensures within { IfOk result (λ trace. AreWithin (fluent_count task.now) trace.steps.items) }
+    ensures in_task { IfOk result (λ trace.
+        All (IsStepOf (fluent_count task.now) (action_count task.now)) trace.steps.items) }
     ensures told { IfOk result (λ trace. AreTold
         (λ monitor. record { counted = counted monitor; title = title monitor; weight = weight monitor })
         trace.steps.items monitors.old.items monitors.new.items) }
     ensures refused { IfErr result (λ refusal. (steps : List Step) ×
         IsRefused (fluent_count task.now) refusal (trace_in task.now plan.now first (left world.old))
         (left world.old) steps (left world.new)
-        × AreWithin (fluent_count task.now) steps
+        × All (IsStepOf (fluent_count task.now) (action_count task.now)) steps
         × AreTold
         (λ monitor. record { counted = counted monitor; title = title monitor; weight = weight monitor })
         steps monitors.old.items monitors.new.items) }
@@ -108,7 +109,7 @@ fn next_turn(task: &Task, plan: &Plan, run: &Run, world: &mut Box<dyn World>) ->
     ensures turn { IsTurn (fluent_count task.now) result (left world.new)
         (next_turn_of (system_of task.now) (run_plan (plain_of plan.now)) (fluent_count task.now)
         run.now.steps.items run.now.state run.now.context (left world.old)) }
-    ensures after { IsStepWithin (fluent_count task.now) result }
+    ensures in_task { MakesStepOf (fluent_count task.now) (action_count task.now) result }
 {
     let made = run.steps.len();
     take_turn(

@@ -3,7 +3,7 @@ use Rattle.plan_rules.specs.Rules.{plain_of}
 use Rattle.run_replay.specs.Running.{HasRun}
 use Rattle.run_replay.specs.Traces.{most_steps, run_plan}
 use Rattle.task_core.specs.States.{vector}
-use Rattle.task_core.specs.Tasks.{fluent_count, system_of}
+use Rattle.task_core.specs.Tasks.{action_count, fluent_count, system_of}
 use Rattle.run_replay.proofs.runs.execute.Given as goal
 
 -- the run has come so far
@@ -14,7 +14,7 @@ invariant-loop-end g l = HasRun
       title = (goal.Monitor-dyn g (monitor.vtable, monitor.value)).title monitor.value;
       weight = (goal.Monitor-dyn g (monitor.vtable, monitor.value)).weight monitor.value;
     })
-    (system_of l.task) (run_plan (plain_of l.plan)) (fluent_count l.task) (vector (fluent_count l.task) l.first)
+    (system_of l.task) (run_plan (plain_of l.plan)) (fluent_count l.task) (action_count l.task) (vector (fluent_count l.task) l.first)
     ((goal.World-dyn g (l.initial.world.vtable, l.initial.world.value)).left l.initial.world.value)
     l.initial.monitors.items
     l.run.steps.items l.run.state l.run.context
