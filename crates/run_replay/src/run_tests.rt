@@ -46,6 +46,19 @@ struct ActionMonitor {
     drops: Rc<Cell<u32>>,
 }
 
+impl ActionMonitor {
+    /// A monitor that has seen nothing.
+    fn new(action: u32, drops: Rc<Cell<u32>>) -> ActionMonitor
+        ensures { result.count ≡ 0 }
+    {
+        ActionMonitor {
+            action: ActionId(action),
+            count: 0,
+            drops,
+        }
+    }
+}
+
 impl Monitor for ActionMonitor {
     ghost counted = { λ monitor. monitor.count };
 
@@ -296,25 +309,14 @@ fn a_caller_s_own_world_and_monitors(rt: HostRuntime) -> Result<(), Fail> {
     )?;
     world.load(alloc, vec![in alloc; 0, 2, 0, 1]?)?;
     let mut monitors: Vec<Box<dyn Monitor>> = Vec::new(alloc);
-    let tosses = ActionMonitor {
-        action: ActionId(2),
-        count: 0,
-        drops: drops.clone()?,
-    };
-    let uses = ActionMonitor {
-        action: ActionId(3),
-        count: 0,
-        drops: drops.clone()?,
-    };
-    monitors.push(Box::new(alloc, tosses)?)?;
-    monitors.push(Box::new(alloc, uses)?)?;
-    monitors.push(Box::new(alloc, StepMonitor::new())?)?;
+    monitors.push(Box::new(alloc, ActionMonitor::new(2, drops.clone()?))?)?;
+    monitors.push(Box::new(alloc, ActionMonitor::new(3, drops.clone()?))?)?;
     let told = told(alloc, TOSS, &mut world, &mut monitors)?;
     assert_eq!(rt;
         told.as_str(),
         "step 1 (toss) outcome 0\nstep 2 (toss) outcome 2\n\
         step 3 (use) outcome 0\nstep 4 (toss) outcome 1\nend record\n\
-        tally own 3\ntally own 1\ntally steps 4\nleft"
+        tally own 3\ntally own 1\nleft"
     );
     assert_eq!(rt; drops.get(), 0);
     drop(monitors);
