@@ -323,3 +323,58 @@ fn a_caller_s_own_world_and_monitors(rt: HostRuntime) -> Result<(), Fail> {
     assert_eq!(rt; drops.get(), 2);
     Ok(())
 }
+
+/// How a run ends that switches p on again and again: the word for the end, the number of steps, the
+/// tallies, and whether the world has a number left.
+fn told_at_the_end(
+    alloc: Global,
+    world: &mut Box<dyn World>,
+    monitors: &mut Vec<Box<dyn Monitor>>,
+) -> Result<String, Fail>
+    requires { All (λ monitor. counted monitor ≡ 0) monitors.old.items }
+{
+    let mut out = String::new(alloc);
+    let task = switches(alloc)?.ok_or("no task")?;
+    let read = match read_plan(alloc, b"(plan table cyclic (rule () (on)))", &task) {
+        Ok(read) => read,
+        Err(_) => return Ok(out),
+    };
+    if let Ok(trace) = execute(alloc, &task, &read.plan, State::none(), world, monitors) {
+        write!(out, "{:?} {}", trace.end, trace.steps.len())?;
+    }
+    for monitor in monitors.iter() {
+        write!(out, " {}", monitor.tally())?;
+    }
+    write!(out, " {}", world.choose().is_some())?;
+    Ok(out)
+}
+
+fn zeros(alloc: Global, count: u32) -> Result<Vec<u32>, AllocError> {
+    let mut zeros = Vec::new(alloc);
+    for _ in 0..count {
+        zeros.push(0)?;
+    }
+    Ok(zeros)
+}
+
+/// The same with the program's own world, which is given so many zeros, and its own monitors.
+fn told_of_zeros(alloc: Global, count: u32) -> Result<String, Fail> {
+    let mut world: Box<dyn World> = Box::new(alloc, RecordWorld::new(alloc))?;
+    world.load(alloc, zeros(alloc, count)?)?;
+    let mut monitors: Vec<Box<dyn Monitor>> = Vec::new(alloc);
+    monitors.push(Box::new(alloc, StepMonitor::new())?)?;
+    monitors.push(Box::new(alloc, ChangeMonitor::new())?)?;
+    told_at_the_end(alloc, &mut world, &mut monitors)
+}
+
+#[test]
+fn a_run_ends_after_a_million_steps(rt: HostRuntime) -> Result<(), Fail> {
+    for (zeros, told) in [
+        (999_999, "Ended 999999 999999 1 false"),
+        (1_000_000, "Capped 1000000 1000000 1 false"),
+        (1_000_001, "Capped 1000000 1000000 1 true"),
+    ] {
+        assert_eq!(rt; told_of_zeros(rt.alloc(), zeros)?.as_str(), told, "{zeros}");
+    }
+    Ok(())
+}
