@@ -11,7 +11,8 @@ use Rattle.run_replay.specs.Runs.{IsStepOf, outcome_numbers, steps_value}
 use Rattle.run_replay.specs.Traces.{Trace, TraceStep, Turn, turn, trace_from, trace_of, most_steps}
 use Rattle.run_replay.specs.Watching.{Seen, AreTold}
 
--- Private: the next turn of a run that made these steps, which led to this state and to this context or none
+-- Private: the next turn of a run that made these steps, which led to this state and to this
+-- context or none
 abbrev pub next_turn_of : System → ContextPlan → ℕ → List Step → State → Option ℕ → List ℕ → Turn
 next_turn_of sys plan n steps state context words =
     turn sys plan (length steps == most_steps) (length steps + 1) (vector n state) context words
@@ -25,7 +26,8 @@ abbrev pub rest_of : System → ContextPlan → ℕ → List Step → State → 
 rest_of sys plan n steps state context words =
     trace_from sys plan (most_steps - length steps) (length steps + 1) (vector n state) context words
 
--- Private: a run that began in the state `first` with these words and these monitors has come so far
+-- Private: a run that began in the state `first` with these words and these monitors has come so
+-- far
 pub record HasRun {X : Type 0} (seen : X → Seen) (sys : System) (plan : ContextPlan) (n m : ℕ) (first : Vector)
     (words : List ℕ) (monitors : List X) (steps : List Step) (state : State) (context : Option ℕ) (left : List ℕ)
     (now : List X) : Type 0 where

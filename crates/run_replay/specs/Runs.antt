@@ -27,8 +27,8 @@ step_value n s = record {
 abbrev pub steps_value : ℕ → List Step → List TraceStep
 steps_value n = map (step_value n)
 
--- a step of a task with n fluents and m actions: its action is one of them, and its states have no true fluent from
--- n on
+-- a step of a task with n fluents and m actions: its action is one of them, and its states have no
+-- true fluent from n on
 pub record IsStepOf (n m : ℕ) (s : Step) : Type 0 where
   pub action : s.action.0 < m
   pub before : IsWithin n s.before
@@ -52,14 +52,16 @@ trace_in task plan first words = trace_of (system_of task) (run_plan (plain_of p
 abbrev pub outcome_numbers : List TraceStep → List ℕ
 outcome_numbers = map (λ (s : TraceStep). s.outcome)
 
--- these steps are the first of a trace under these outcome numbers, of which they took their own and left the others
+-- these steps are the first of a trace under these outcome numbers, of which they took their own
+-- and left the others
 pub record IsFrontOf (trace : Trace) (words : List ℕ) (steps : List TraceStep) (left : List ℕ) : Type 0 where
   pub later : List TraceStep
   pub front : trace.steps ≡ steps ++ later
   pub taken : words ≡ outcome_numbers steps ++ left
 
--- a run whose trace under these outcome numbers is this one was refused after these steps, and left these outcome
--- numbers: all steps of the trace, which has the refusal as its end; or, for want of memory, the first of them
+-- a run whose trace under these outcome numbers is this one was refused after these steps, and left
+-- these outcome numbers: all steps of the trace, which has the refusal as its end; or, for want of
+-- memory, the first of them
 abbrev pub IsRefused : ℕ → RunErr → Trace → List ℕ → List Step → List ℕ → Type 0
 IsRefused n (StrayOutcome step word outcomes) trace words steps left =
     trace ≡ record { steps = steps_value n steps; ending = Stray step word outcomes; left = left }

@@ -1,4 +1,5 @@
--- What holds of every trace: it is a path of the plan (Pistore, Traverso 2001) under the outcome numbers that it takes.
+-- What holds of every trace: it is a path of the plan (Pistore, Traverso 2001) under the outcome
+-- numbers that it takes.
 use Rattle.std.specs.Prelude.{◌≡◌, ℕ, ◌<◌, ◌≤◌, List, [], ◌∷◌, ◌++◌, Option, Some, map, length, slice_index_or, ⊤}
 use Rattle.std.specs.List.{range_with_len}
 use Rattle.std.specs.Option.{option_and_then}
@@ -20,8 +21,8 @@ stray_number (Unexecutable step) = []
 abbrev pub taken_by : Trace → List ℕ
 taken_by trace = outcome_numbers trace.steps ++ stray_number trace.ending
 
--- the step is made in the state s and the context c: the plan has its action there, which can be executed and has so
--- many outcomes, and it leads to the outcome's state
+-- the step is made in the state s and the context c: the plan has its action there, which can be
+-- executed and has so many outcomes, and it leads to the outcome's state
 pub record IsStepFrom (sys : System) (plan : ContextPlan) (s : Vector) (c : Option ℕ) (step : TraceStep) : Type 0 where
   pub before : step.before ≡ s
   pub acts : option_and_then (plan.act s) c ≡ Some step.action
@@ -39,8 +40,8 @@ AreStepsFrom sys plan s c [] = ⊤
 AreStepsFrom sys plan s c (step ∷ steps) =
     IsStepFrom sys plan s c step × AreStepsFrom sys plan step.after (context_after plan s c step.after) steps
 
--- a path from the state s and the context c, of at most so many steps, numbered from this number on, under these
--- outcome numbers
+-- a path from the state s and the context c, of at most so many steps, numbered from this number
+-- on, under these outcome numbers
 pub record IsPathFrom (sys : System) (plan : ContextPlan) (most number : ℕ) (s : Vector) (c : Option ℕ) (words : List ℕ) (trace : Trace) : Type 0 where
   pub few : length trace.steps ≤ most
   pub numbered : map (λ (step : TraceStep). step.number) trace.steps ≡ range_with_len number (length trace.steps)

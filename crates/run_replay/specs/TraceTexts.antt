@@ -33,6 +33,7 @@ tally_line title tally = codes "tally " ++ title ++ codes " " ++ decimal tally +
 abbrev pub trace_text : List Name → List TraceStep → Ending → List ℕ
 trace_text actions steps ending = flat_map (step_line actions) steps ++ end_line ending
 
--- the lines of monitors that had counted nothing, after these steps: the title of each, and the sum of its weights
+-- the lines of monitors that had counted nothing, after these steps: the title of each, and the sum
+-- of its weights
 abbrev pub tallies_text : {X : Type 0} → (X → Seen) → List Step → List X → List ℕ
 tallies_text seen steps = flat_map (λ monitor. tally_line (seen monitor).title (sum (map (seen monitor).weight steps)))

@@ -1,10 +1,10 @@
 //! Running a plan under outcomes that a caller's world chooses, watched by a caller's monitors.
 //!
-//! `World` and `Monitor` are what a caller hands in; `RecordWorld`, `StepMonitor` and `ChangeMonitor`
-//! are the program's own. `read_words` reads a record of a run. `specs/Traces.antt` says what the
-//! trace of a plan is, by recursion on its turns; `execute` runs a plan and gives exactly its trace, or
-//! the refusal that the trace ends with. One turn is made in `turns`, and the monitors are told of its
-//! step in `watch`.
+//! `World` and `Monitor` are what a caller hands in; `RecordWorld`, `StepMonitor` and
+//! `ChangeMonitor` are the program's own. `read_words` reads a record of a run. `specs/Traces.antt`
+//! says what the trace of a plan is, by recursion on its turns; `execute` runs a plan and gives
+//! exactly its trace, or the refusal that the trace ends with, and `write_trace` gives the text of a
+//! run. One turn is made in `turns`, and the monitors are told of its step in `watch`.
 #![tactic(auto)]
 
 mod advice;

@@ -1,5 +1,5 @@
-//! Whole runs, with the program's own world and monitors and with those of a caller, and their texts.
-//! What is expected was worked out by hand.
+//! Whole runs, with the program's own world and monitors and with those of a caller, and their
+//! texts. What is expected was worked out by hand.
 
 ghost use Rattle.run_replay.specs.declared.worlds.Step.{Step};
 ghost use Rattle.std.specs.Prelude.{if◌then◌else◌, ◌≡◌, ◌==◌, All, codes};
@@ -123,8 +123,8 @@ fn sets(alloc: Global, fluent: u32, positive: bool) -> Result<Outcome, AllocErro
     })
 }
 
-/// Two switches, p and q. `on` and `off` set p; `toss` gives it either value or sets q; `use` can be
-/// executed where q holds, and clears it.
+/// Two switches, p and q. `on` and `off` set p; `toss` gives it either value or sets q; `use` can
+/// be executed where q holds, and clears it.
 fn switches(alloc: Global) -> Result<Option<Task>, AllocError> {
     let mut fluents = Vec::new(alloc);
     for word in ["p", "q"] {
@@ -324,8 +324,8 @@ fn a_caller_s_own_world_and_monitors(rt: HostRuntime) -> Result<(), Fail> {
     Ok(())
 }
 
-/// How a run ends that switches p on again and again: the word for the end, the number of steps, the
-/// tallies, and whether the world has a number left.
+/// How a run ends that switches p on again and again: the word for the end, the number of steps,
+/// the tallies, and whether the world has a number left.
 fn told_at_the_end(
     alloc: Global,
     world: &mut Box<dyn World>,

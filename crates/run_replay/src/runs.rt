@@ -47,14 +47,21 @@ struct Run {
 }
 
 /// Runs a plan from a state, in context 1, with the outcomes that the world chooses, and tells each
-/// monitor of each step, in order.
+/// monitor of each step.
 ///
-/// The run ends where no rule matches, where 1,000,000 steps were made, and where the world has no
-/// outcome left, which are looked at in this order. It is refused where the rule that counts has an
-/// action that can't be executed, which is looked at before the steps are counted, and where the
-/// world's number is none of the action's outcomes; that number has been taken then. Want of memory
-/// may stop it between any two steps. In every case the monitors were told of the steps that were
-/// made and of nothing else, and the list of monitors is as before.
+/// Each turn goes in this order. Where no rule matches, the run ends. Where the rule that counts,
+/// the first that matches, has an action that can't be executed, the run is refused. Where
+/// `MOST_STEPS` steps were made, and where the world has no number left, it ends. A number that is
+/// none of the action's outcomes has been taken then, and the run is refused. Otherwise the step is
+/// made, the monitors are told of it, and the next context is read on the new state. A table is run
+/// in context 1 throughout.
+///
+/// Want of memory may stop the run after any step. Whatever the answer, the monitors were told of
+/// the steps that were made and of nothing else, and the list has the same monitors in the same
+/// order, each with its title and its weights.
+///
+/// The plan's numbers are those of the task's fluents and actions, the state has no true fluent past
+/// the task's, and no monitor has counted anything yet.
 pub fn execute(
     alloc: Global,
     task: &Task,
@@ -75,8 +82,8 @@ pub fn execute(
         (λ monitor. record { counted = counted monitor; title = title monitor; weight = weight monitor })
         trace.steps.items monitors.old.items monitors.new.items) }
     ensures refused { IfErr result (λ refusal. (steps : List Step) ×
-        IsRefused (fluent_count task.now) refusal (trace_in task.now plan.now first (left world.old))
-        (left world.old) steps (left world.new)
+        IsRefused (fluent_count task.now) refusal
+        (trace_in task.now plan.now first (left world.old)) (left world.old) steps (left world.new)
         × All (IsStepOf (fluent_count task.now) (action_count task.now)) steps
         × AreTold
         (λ monitor. record { counted = counted monitor; title = title monitor; weight = weight monitor })

@@ -33,9 +33,10 @@ use itoa::{Buffer, Integer};
 use std::alloc::{AllocError, Global};
 use task_core::{GroundAction, Task};
 
-/// The text of a run of a task, in lines that each end with a line feed: `step S (ACTION) outcome O`
-/// for each step; `end terminal`, `end record` or `end cap`; and for each monitor, in the list's order,
-/// `tally TITLE VALUE`. Fails only where memory runs out.
+/// The text of a run of a task, in lines that each end with a line feed. Each step has the line
+/// `step S (ACTION) outcome O`; then comes `end terminal`, `end record` or `end cap`, and then, in
+/// the list's order, `tally TITLE VALUE` for each monitor. The actions of the steps are the task's.
+/// Fails only where memory runs out.
 pub fn write_trace(
     alloc: Global,
     task: &Task,
@@ -58,8 +59,8 @@ pub fn write_trace(
 /// The lines of steps.
 fn push_steps(out: &mut Vec<u8>, task: &Task, steps: &[Step]) -> Result<(), AllocError>
     requires { All (IsStepOf (fluent_count task.now) (action_count task.now)) steps.now }
-    ensures { OnOk result (out.new.items ≡ out.old.items
-        ++ flat_map (step_line (action_names task.now)) (steps_value (fluent_count task.now) steps.now)) }
+    ensures { OnOk result (out.new.items ≡ out.old.items ++ flat_map
+        (step_line (action_names task.now)) (steps_value (fluent_count task.now) steps.now)) }
 {
     for step in steps {
         push_step(out, &task.actions, step)?;
