@@ -9,3 +9,4 @@ pub mod TextLemmas
 pub mod TurnLemmas
 pub mod RecordOrder
 pub mod RecordFaults
+mod TraceExamples
