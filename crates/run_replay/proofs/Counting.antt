@@ -1,5 +1,5 @@
 -- Counting one fluent more.
-use Rattle.std.proofs.Common.{◌≡◌, ◌+◌, ℕ, suc, refl, add-one, true, false, if◌then◌else◌}
+use Rattle.std.proofs.Common.{◌≡◌, ◌+◌, ℕ, refl, add-one, if◌then◌else◌}
 use Rattle.task_core.specs.declared.states.State.{State}
 use Rattle.run_replay.specs.Changes.{differs, differences_below}
 

@@ -1,15 +1,15 @@
 -- A turn by the rule that counts in it.
-use Rattle.std.proofs.Common.{◌≡◌, ◌≢◌, ◌↔◌, ℕ, Bool, true, false, IsTrue, nat_lt, if◌then◌else◌, List, [], ◌∷◌, Option, Some, None, slice_index_or, refl, sym, ap, ◌∙◌, subst}
+use Rattle.std.proofs.Common.{◌≡◌, ◌≢◌, ◌↔◌, ℕ, Bool, true, false, IsTrue, nat_lt, if◌then◌else◌, List, [], ◌∷◌, Option, Some, None, slice_index_or, refl, sym, ap, ◌∙◌}
 use Rattle.std.specs.List.{list_any}
 use Rattle.std.proofs.lemmas.Bool.{false≢true}
 use Rattle.std.specs.Option.{option_map, option_and_then}
 use Rattle.task_core.specs.Vectors.{Vector}
 use Rattle.task_core.specs.Systems.{System, Exec}
-use Rattle.plan_rules.specs.Rules.{ContextRule, PlanNext}
+use Rattle.plan_rules.specs.Rules.{ContextRule}
 use Rattle.plan_rules.specs.Denoted.{can_execute, denoted_contexts, next_context, rule_at}
 use Rattle.run_replay.specs.Advices.{Advised, advised_by}
 use Rattle.run_replay.specs.Turns.{taking, turn_by}
-use Rattle.run_replay.specs.Traces.{Turn, Ends, Goes, Terminal, Ended, Capped, Stray, Unexecutable, acting, choosing, turn}
+use Rattle.run_replay.specs.Traces.{Turn, Ends, Goes, Capped, Stray, Unexecutable, acting, choosing, turn}
 
 choosing_is : (sys : System) (rules : List ContextRule) (number : ℕ) (s : Vector) (c : ℕ) (rule : ContextRule) (words : List ℕ)
     → rule_at rules s c ≡ Some rule → choosing sys (denoted_contexts rules) number s c rule.action words ≡ taking sys number s (advised_by rule) words

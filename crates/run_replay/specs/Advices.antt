@@ -1,5 +1,5 @@
 -- Private: the rule that counts, as the code holds it.
-use Rattle.std.specs.Prelude.{ℕ, ◌<◌, List, map, All, ⊤}
+use Rattle.std.specs.Prelude.{ℕ, ◌<◌, map, All, ⊤}
 use Rattle.plan_rules.specs.Plans.{IsCubeOf}
 use Rattle.plan_rules.specs.Rules.{PlanNext, PlanCase, ContextRule, always, by_cases, case_of}
 use Rattle.run_replay.specs.declared.advice.Advice.{Advice}

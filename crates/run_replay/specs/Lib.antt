@@ -1,7 +1,10 @@
 pub mod Changes
 pub mod Traces
 pub mod Records
+pub mod TraceLaws
+pub mod TraceTexts
 pub mod Watching
 pub mod Runs
 pub mod Advices
 pub mod Turns
+pub mod Running

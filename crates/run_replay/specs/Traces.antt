@@ -1,7 +1,7 @@
 -- The trace of a plan: the steps that it takes from a state, where a list of outcome numbers says which
 -- outcome comes at each step, and how it ends. It is a definition by recursion on the turns, in the
 -- terms of a system and of a plan with contexts, and knows of no worlds and no monitors.
-use Rattle.std.specs.Prelude.{ℕ, zero, suc, ◌+◌, Bool, true, false, not, nat_lt, if◌then◌else◌, List, [], ◌∷◌, ◌++◌, Option, Some, None, slice_index_or, map}
+use Rattle.std.specs.Prelude.{ℕ, zero, suc, ◌+◌, Bool, true, false, nat_lt, if◌then◌else◌, List, [], ◌∷◌, Option, Some, None, slice_index_or, map}
 use Rattle.task_core.specs.Vectors.{Vector}
 use Rattle.task_core.specs.Systems.{System}
 use Rattle.task_core.specs.ContextPlans.{ContextPlan, first_context}

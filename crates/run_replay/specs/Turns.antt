@@ -1,14 +1,21 @@
 -- Private: one turn, as the code holds it.
 use Rattle.std.specs.Prelude.{◌≡◌, ℕ, Bool, nat_lt, if◌then◌else◌, List, [], ◌∷◌, Option, Some, None, slice_index_or, ⊤}
-use Rattle.task_core.specs.States.{IsWithin}
 use Rattle.run_replay.specs.declared.turns.Turn.{Turn as CodeTurn}
 use Rattle.run_replay.specs.declared.turns.Turn.TheVariants.{Ends as CodeEnds, Refuses, Goes as CodeGoes}
-use Rattle.run_replay.specs.Runs.{step_value, ending_of, IsRefusal}
+use Rattle.run_replay.specs.declared.traces.RunErr.{RunErr}
+use Rattle.run_replay.specs.declared.traces.RunErr.TheVariants.{StrayOutcome, Unexecutable as UnexecutableErr, Memory}
+use Rattle.run_replay.specs.Runs.{IsStepOf, step_value, ending_of}
 use Rattle.run_replay.specs.Traces.{Ending, Turn, Ends, Goes, Terminal, Ended, Capped, Stray, Unexecutable}
 use Rattle.task_core.specs.Vectors.{Vector}
 use Rattle.task_core.specs.Systems.{System}
 use Rattle.plan_rules.specs.Denoted.{can_execute, next_context}
 use Rattle.run_replay.specs.Advices.{Advised}
+
+-- Private: the refusal has the trace's end; a turn takes no memory
+abbrev pub IsRefusal : RunErr → Ending → Type 0
+IsRefusal (StrayOutcome step word outcomes) ending = ending ≡ Stray step word outcomes
+IsRefusal (UnexecutableErr step) ending = ending ≡ Unexecutable step
+IsRefusal Memory ending = ⊥
 
 -- Private: the code's turn is this turn, after which these outcome numbers are left
 abbrev pub IsTurn : ℕ → CodeTurn → List ℕ → Turn → Type 0
@@ -16,11 +23,11 @@ IsTurn n (CodeEnds end) left turn = turn ≡ Ends (ending_of end) left
 IsTurn n (Refuses refusal) left turn = (ending : Ending) × (turn ≡ Ends ending left) × IsRefusal refusal ending
 IsTurn n (CodeGoes step context) left turn = turn ≡ Goes (step_value n step) context left
 
--- Private: the state after the step, where one is made, has no true fluent from n on
-abbrev pub IsStepWithin : ℕ → CodeTurn → Type 0
-IsStepWithin n (CodeEnds end) = ⊤
-IsStepWithin n (Refuses refusal) = ⊤
-IsStepWithin n (CodeGoes step context) = IsWithin n step.after
+-- Private: the step, where one is made, is one of a task with n fluents and m actions
+abbrev pub MakesStepOf : ℕ → ℕ → CodeTurn → Type 0
+MakesStepOf n m (CodeEnds end) = ⊤
+MakesStepOf n m (Refuses refusal) = ⊤
+MakesStepOf n m (CodeGoes step context) = IsStepOf n m step
 
 -- Private: the turn in which an action is taken that can be executed
 abbrev pub taking : System → ℕ → Vector → Advised → List ℕ → Turn

@@ -3,7 +3,7 @@
 ghost use Rattle.plan_rules.specs.Plans.{IsPlanOf};
 ghost use Rattle.plan_rules.specs.Rules.{plain_of};
 ghost use Rattle.run_replay.specs.Traces.{run_plan, turn as turn_of};
-ghost use Rattle.run_replay.specs.Turns.{IsStepWithin, IsTurn, taking, turn_by};
+ghost use Rattle.run_replay.specs.Turns.{IsTurn, MakesStepOf, taking, turn_by};
 ghost use Rattle.std.specs.Prelude.{◌≡◌, ◌<◌, ◌↔◌, ◌∷◌, ℕ, IsTrue, length, List, Some};
 ghost use Rattle.plan_rules.specs.Denoted.{can_execute};
 ghost use Rattle.task_core.specs.Systems.{Exec};
@@ -43,7 +43,7 @@ pub(crate) fn take_turn(
     ensures turn { IsTurn (fluent_count task.now) result (left world.new)
         (turn_of (system_of task.now) (run_plan (plain_of plan.now)) full number
         (vector (fluent_count task.now) state.now) context (left world.old)) }
-    ensures after { IsStepWithin (fluent_count task.now) result }
+    ensures in_task { MakesStepOf (fluent_count task.now) (action_count task.now) result }
 {
     let Some(context) = context else {
         return Turn::Ends(End::Terminal);
@@ -68,7 +68,7 @@ fn follow(
     ensures turn { IsTurn (fluent_count task.now) result (left world.new)
         (turn_by (system_of task.now) full number (vector (fluent_count task.now) state.now)
         (left world.old) (Some (advice_value rule.now))) }
-    ensures after { IsStepWithin (fluent_count task.now) result }
+    ensures in_task { MakesStepOf (fluent_count task.now) (action_count task.now) result }
 {
     if !is_executable(task, state, rule.action) {
         return Turn::Refuses(RunErr::Unexecutable { step: number });
@@ -90,7 +90,7 @@ fn make_step(task: &Task, number: u64, state: &State, rule: &Advice<'_>, word: u
     ensures turn { (words : List ℕ) → IsTurn (fluent_count task.now) result words
         (taking (system_of task.now) number (vector (fluent_count task.now) state.now)
         (advice_value rule.now) (word ∷ words)) }
-    ensures after { IsStepWithin (fluent_count task.now) result }
+    ensures in_task { MakesStepOf (fluent_count task.now) (action_count task.now) result }
 {
     let outcomes = outcome_count(task, rule.action);
     if word >= outcomes {

@@ -1,8 +1,7 @@
 //! Telling monitors what happens.
 
-ghost use Rattle.std.specs.List.{AllZip};
 ghost use Rattle.std.specs.Prelude.{[], ◌∷◌, ◌≤◌, ◌^◌, All};
-ghost use Rattle.run_replay.specs.Watching.{IsTold};
+ghost use Rattle.run_replay.specs.Watching.{AreTold, IsTold};
 
 use crate::monitors::Monitor;
 use crate::worlds::Step;
@@ -20,10 +19,9 @@ fn tell_one(monitor: &mut Box<dyn Monitor>, step: &Step)
 /// Tells each monitor of a step, in order.
 pub(crate) fn tell(monitors: &mut Vec<Box<dyn Monitor>>, step: &Step)
     requires small { All (λ monitor. counted monitor ≤ 2 ^ 127) monitors.old.items }
-    ensures { AllZip (λ before after. IsTold (step.now ∷ [])
-        (record { counted = counted before; title = title before; weight = weight before })
-        (record { counted = counted after; title = title after; weight = weight after }))
-        monitors.old.items monitors.new.items }
+    ensures { AreTold
+        (λ monitor. record { counted = counted monitor; title = title monitor; weight = weight monitor })
+        (step.now ∷ []) monitors.old.items monitors.new.items }
 {
     for monitor in monitors.iter_mut() {
         tell_one(monitor, step);

@@ -1,4 +1,4 @@
-use Rattle.std.proofs.Common.{rules, arith, ◌≡◌, sym}
+use Rattle.std.proofs.Common.{arith, sym}
 use Rattle.run_replay.proofs.Counting.{none_yet, one_more}
 use Rattle.run_replay.proofs.monitors.changes.Goals as goal
 

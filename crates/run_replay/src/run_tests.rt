@@ -1,0 +1,380 @@
+//! Whole runs, with the program's own world and monitors and with those of a caller, and their
+//! texts. What is expected was worked out by hand.
+
+ghost use Rattle.run_replay.specs.declared.worlds.Step.{Step};
+ghost use Rattle.std.specs.Prelude.{if◌then◌else◌, ◌≡◌, ◌==◌, All, codes};
+
+use crate::{
+    ChangeMonitor, Monitor, RecordWorld, RunErr, Step, StepMonitor, World, execute, write_trace,
+};
+use plan_rules::read_plan;
+use sexpr_text::MAX_BYTES;
+use std::alloc::{AllocError, Global};
+use std::cell::Cell;
+use std::collections::VecDeque;
+use std::fmt::Write;
+use std::rc::Rc;
+use std::test::Fail;
+use task_core::{
+    ActionId, Change, Cond, FluentId, GroundAction, InitSpec, Lit, Outcome, State, Task,
+};
+
+/// A world of a caller: it draws from a queue.
+#[derive(Drop)]
+struct Queue {
+    numbers: VecDeque<u32>,
+}
+
+impl World for Queue {
+    ghost left = { λ world. world.numbers.items };
+
+    fn load(&mut self, _: Global, words: Vec<u32>) -> Result<(), AllocError> {
+        self.numbers = VecDeque::from(words);
+        Ok(())
+    }
+
+    fn choose(&mut self) -> Option<u32> {
+        self.numbers.pop_front()
+    }
+}
+
+/// A monitor of a caller: it counts the steps with one action, under the title `own`, and counts in
+/// `drops` that it was dropped.
+struct ActionMonitor {
+    action: ActionId,
+    count: u128,
+    drops: Rc<Cell<u32>>,
+}
+
+impl ActionMonitor {
+    /// A monitor that has seen nothing.
+    fn new(action: u32, drops: Rc<Cell<u32>>) -> ActionMonitor
+        ensures { result.count ≡ 0 }
+    {
+        ActionMonitor {
+            action: ActionId(action),
+            count: 0,
+            drops,
+        }
+    }
+}
+
+impl Monitor for ActionMonitor {
+    ghost counted = { λ monitor. monitor.count };
+
+    ghost title = { λ _. codes "own" };
+
+    ghost weight = { λ monitor step. if step.action.0 == monitor.action.0 then 1 else 0 };
+
+    fn seen(&mut self, step: &Step) {
+        if step.action == self.action {
+            self.count += 1;
+        }
+    }
+
+    fn tally(&self) -> u128 {
+        self.count
+    }
+
+    fn name(&self, _: Global, out: &mut Vec<u8>) -> Result<(), AllocError> {
+        out.extend_from_slice(b"own")
+    }
+}
+
+impl Drop for ActionMonitor {
+    fn drop(self) {
+        let ActionMonitor {
+            action: _,
+            count: _,
+            drops,
+        } = self;
+        drops.set(drops.get().wrapping_add(1));
+    }
+}
+
+/// An action of one word.
+fn action(
+    alloc: Global,
+    word: &str,
+    exec: Cond,
+    outcomes: Vec<Outcome>,
+) -> Result<GroundAction, AllocError> {
+    let mut name = Vec::new(alloc);
+    name.push(String::from_str(alloc, word)?)?;
+    Ok(GroundAction {
+        name,
+        exec,
+        outcomes,
+    })
+}
+
+/// The outcome that gives one fluent a value.
+fn sets(alloc: Global, fluent: u32, positive: bool) -> Result<Outcome, AllocError> {
+    let lit = Lit {
+        fluent: FluentId(fluent),
+        positive,
+    };
+    let change = Change {
+        cond: Cond::Yes,
+        lit,
+    };
+    Ok(Outcome {
+        changes: vec![in alloc; change]?,
+    })
+}
+
+/// Two switches, p and q. `on` and `off` set p; `toss` gives it either value or sets q; `use` can
+/// be executed where q holds, and clears it.
+fn switches(alloc: Global) -> Result<Option<Task>, AllocError> {
+    let mut fluents = Vec::new(alloc);
+    for word in ["p", "q"] {
+        fluents.push(vec![in alloc; String::from_str(alloc, word)?]?)?;
+    }
+    let actions = vec![in alloc;
+        action(
+            alloc,
+            "on",
+            Cond::Yes,
+            vec![in alloc; sets(alloc, 0, true)?]?
+        )?,
+        action(
+            alloc,
+            "off",
+            Cond::Yes,
+            vec![in alloc; sets(alloc, 0, false)?]?
+        )?,
+        action(
+            alloc,
+            "toss",
+            Cond::Yes,
+            vec![in alloc;
+                sets(alloc, 0, true)?,
+                sets(alloc, 0, false)?,
+                sets(alloc, 1, true)?,
+            ]?
+        )?,
+        action(
+            alloc,
+            "use",
+            Cond::Is(FluentId(1)),
+            vec![in alloc; sets(alloc, 1, false)?]?
+        )?,
+    ]?;
+    let init = InitSpec {
+        facts: State::none(),
+        entries: Vec::new(alloc),
+    };
+    Ok(Task::try_new(fluents, actions, init, None))
+}
+
+/// What a run of the two switches gives from the state in which both are off: its text or its
+/// refusal, and then the outcome numbers that the world has left.
+fn told(
+    alloc: Global,
+    plan: &str,
+    world: &mut Box<dyn World>,
+    monitors: &mut Vec<Box<dyn Monitor>>,
+) -> Result<String, Fail>
+    requires { All (λ monitor. counted monitor ≡ 0) monitors.old.items }
+{
+    let mut out = String::new(alloc);
+    if plan.len() > MAX_BYTES {
+        return Ok(out);
+    }
+    let task = switches(alloc)?.ok_or("no task")?;
+    let read = match read_plan(alloc, plan.as_bytes(), &task) {
+        Ok(read) => read,
+        Err(_) => return Ok(out),
+    };
+    match execute(alloc, &task, &read.plan, State::none(), world, monitors) {
+        Ok(trace) => {
+            for byte in write_trace(alloc, &task, &trace, monitors)? {
+                out.push(char::from(byte))?;
+            }
+        }
+        Err(
+            RunErr::StrayOutcome {
+                step,
+                word,
+                outcomes,
+            },
+        ) => write!(out, "stray {step} {word} {outcomes} ")?,
+        Err(RunErr::Unexecutable { step }) => write!(out, "unexecutable {step} ")?,
+        Err(RunErr::Memory) => out.push_str("memory ")?,
+    }
+    out.push_str("left")?;
+    for _ in 0..9 {
+        if let Some(word) = world.choose() {
+            write!(out, " {word}")?;
+        }
+    }
+    Ok(out)
+}
+
+/// The same with the program's own world and monitors.
+fn told_by_record(alloc: Global, plan: &str, words: &[u32]) -> Result<String, Fail> {
+    let mut world: Box<dyn World> = Box::new(alloc, RecordWorld::new(alloc))?;
+    world.load(alloc, Vec::from_slice(alloc, words)?)?;
+    let mut monitors: Vec<Box<dyn Monitor>> = Vec::new(alloc);
+    monitors.push(Box::new(alloc, StepMonitor::new())?)?;
+    monitors.push(Box::new(alloc, ChangeMonitor::new())?)?;
+    told(alloc, plan, &mut world, &mut monitors)
+}
+
+/// A plan, the outcome numbers that the world is given, and what the run gives.
+struct Case {
+    plan: &'static str,
+    words: &'static [u32],
+    told: &'static str,
+}
+
+/// A coin tossed until it shows q, and then used.
+const TOSS: &str = "(plan table cyclic (rule ((not (q))) (toss)) (rule ((p) (q)) (use)))";
+
+static CASES: [Case; 9] = [
+    // The first rule that matches counts, and the end is looked at before a number is taken.
+    Case {
+        plan: "(plan table weak (rule ((not (p))) (on)) (rule () (off)) (rule () (on)))",
+        words: &[0, 0, 0],
+        told: "step 1 (on) outcome 0\nstep 2 (off) outcome 0\nstep 3 (on) outcome 0\n\
+            end record\ntally steps 3\ntally changes 3\nleft",
+    },
+    Case {
+        plan: "(plan table weak (rule ((not (p))) (on)))",
+        words: &[0, 7],
+        told: "step 1 (on) outcome 0\nend terminal\ntally steps 1\ntally changes 1\nleft 7",
+    },
+    // A stray number at the sixth step, of an action with one outcome.
+    Case {
+        plan: TOSS,
+        words: &[1, 0, 2, 0, 2, 5],
+        told: "stray 6 5 1 left",
+    },
+    // A stray number has been taken, and those behind it have not.
+    Case {
+        plan: TOSS,
+        words: &[0, 3, 1],
+        told: "stray 2 3 3 left 1",
+    },
+    // What can't be executed is refused before a number is taken, also where none is left.
+    Case {
+        plan: "(plan table weak (rule ((p)) (use)) (rule () (on)))",
+        words: &[0, 4],
+        told: "unexecutable 2 left 4",
+    },
+    Case {
+        plan: "(plan table weak (rule () (use)))",
+        words: &[],
+        told: "unexecutable 1 left",
+    },
+    // The next context is read on the new state, the first case that matches.
+    Case {
+        plan: "(plan automaton 2 (rule 1 () (on) ((((p)) 2) (() 1))) (rule 2 () (off) 1))",
+        words: &[0, 0, 0],
+        told: "step 1 (on) outcome 0\nstep 2 (off) outcome 0\nstep 3 (on) outcome 0\n\
+            end record\ntally steps 3\ntally changes 3\nleft",
+    },
+    // Where no case matches, no rule does.
+    Case {
+        plan: "(plan automaton 1 (rule 1 () (on) ((((q)) 1))))",
+        words: &[0, 0],
+        told: "step 1 (on) outcome 0\nend terminal\ntally steps 1\ntally changes 1\nleft 0",
+    },
+    // No rule at all.
+    Case {
+        plan: "(plan table strong)",
+        words: &[1, 2],
+        told: "end terminal\ntally steps 0\ntally changes 0\nleft 1 2",
+    },
+];
+
+#[test]
+fn runs_and_their_texts(rt: HostRuntime) -> Result<(), Fail> {
+    for case in &CASES {
+        let told = told_by_record(rt.alloc(), case.plan, case.words)?;
+        assert_eq!(rt; told.as_str(), case.told, "{}", case.plan);
+    }
+    Ok(())
+}
+
+#[test]
+fn a_caller_s_own_world_and_monitors(rt: HostRuntime) -> Result<(), Fail> {
+    let alloc = rt.alloc();
+    let drops = Rc::new(alloc, Cell::new(0))?;
+    let mut world: Box<dyn World> = Box::new(
+        alloc,
+        Queue {
+            numbers: VecDeque::new(alloc),
+        },
+    )?;
+    world.load(alloc, vec![in alloc; 0, 2, 0, 1]?)?;
+    let mut monitors: Vec<Box<dyn Monitor>> = Vec::new(alloc);
+    monitors.push(Box::new(alloc, ActionMonitor::new(2, drops.clone()?))?)?;
+    monitors.push(Box::new(alloc, ActionMonitor::new(3, drops.clone()?))?)?;
+    let told = told(alloc, TOSS, &mut world, &mut monitors)?;
+    assert_eq!(rt;
+        told.as_str(),
+        "step 1 (toss) outcome 0\nstep 2 (toss) outcome 2\n\
+        step 3 (use) outcome 0\nstep 4 (toss) outcome 1\nend record\n\
+        tally own 3\ntally own 1\nleft"
+    );
+    assert_eq!(rt; drops.get(), 0);
+    drop(monitors);
+    assert_eq!(rt; drops.get(), 2);
+    Ok(())
+}
+
+/// How a run ends that switches p on again and again: the word for the end, the number of steps,
+/// the tallies, and whether the world has a number left.
+fn told_at_the_end(
+    alloc: Global,
+    world: &mut Box<dyn World>,
+    monitors: &mut Vec<Box<dyn Monitor>>,
+) -> Result<String, Fail>
+    requires { All (λ monitor. counted monitor ≡ 0) monitors.old.items }
+{
+    let mut out = String::new(alloc);
+    let task = switches(alloc)?.ok_or("no task")?;
+    let read = match read_plan(alloc, b"(plan table cyclic (rule () (on)))", &task) {
+        Ok(read) => read,
+        Err(_) => return Ok(out),
+    };
+    if let Ok(trace) = execute(alloc, &task, &read.plan, State::none(), world, monitors) {
+        write!(out, "{:?} {}", trace.end, trace.steps.len())?;
+    }
+    for monitor in monitors.iter() {
+        write!(out, " {}", monitor.tally())?;
+    }
+    write!(out, " {}", world.choose().is_some())?;
+    Ok(out)
+}
+
+fn zeros(alloc: Global, count: u32) -> Result<Vec<u32>, AllocError> {
+    let mut zeros = Vec::new(alloc);
+    for _ in 0..count {
+        zeros.push(0)?;
+    }
+    Ok(zeros)
+}
+
+/// The same with the program's own world, which is given so many zeros, and its own monitors.
+fn told_of_zeros(alloc: Global, count: u32) -> Result<String, Fail> {
+    let mut world: Box<dyn World> = Box::new(alloc, RecordWorld::new(alloc))?;
+    world.load(alloc, zeros(alloc, count)?)?;
+    let mut monitors: Vec<Box<dyn Monitor>> = Vec::new(alloc);
+    monitors.push(Box::new(alloc, StepMonitor::new())?)?;
+    monitors.push(Box::new(alloc, ChangeMonitor::new())?)?;
+    told_at_the_end(alloc, &mut world, &mut monitors)
+}
+
+#[test]
+fn a_run_ends_after_a_million_steps(rt: HostRuntime) -> Result<(), Fail> {
+    for (zeros, told) in [
+        (999_999, "Ended 999999 999999 1 false"),
+        (1_000_000, "Capped 1000000 1000000 1 false"),
+        (1_000_001, "Capped 1000000 1000000 1 true"),
+    ] {
+        assert_eq!(rt; told_of_zeros(rt.alloc(), zeros)?.as_str(), told, "{zeros}");
+    }
+    Ok(())
+}

@@ -1,0 +1,154 @@
+//! Whole runs of a plan.
+
+ghost use Rattle.plan_rules.specs.Plans.{IsPlanOf};
+ghost use Rattle.plan_rules.specs.Rules.{plain_of};
+ghost use Rattle.run_replay.specs.declared.worlds.Step.{Step};
+ghost use Rattle.run_replay.specs.Running.{next_turn_of};
+ghost use Rattle.run_replay.specs.Runs.{IsRefused, IsStepOf, trace_in, trace_value};
+ghost use Rattle.run_replay.specs.Traces.{run_plan};
+ghost use Rattle.run_replay.specs.Turns.{IsTurn, MakesStepOf};
+ghost use Rattle.run_replay.specs.Watching.{AreTold};
+ghost use Rattle.std.specs.Prelude.{
+  ◌≡◌,
+  ◌≤◌,
+  ◌^◌,
+  ◌++◌,
+  ◌∷◌,
+  [],
+  All,
+  IfErr,
+  IfOk,
+  List,
+  OnOk,
+  length,
+};
+ghost use Rattle.task_core.specs.States.{IsWithin};
+ghost use Rattle.task_core.specs.Tasks.{action_count, fluent_count, system_of};
+
+use crate::advice::FIRST_CONTEXT;
+use crate::monitors::Monitor;
+use crate::traces::{RunErr, Trace};
+use crate::turns::{Turn, take_turn};
+use crate::watch::tell;
+use crate::worlds::{Step, World};
+use plan_rules::Plan;
+use std::alloc::{AllocFailed, Global};
+use task_core::{State, Task};
+
+/// How many steps a run makes at most.
+pub const MOST_STEPS: usize = 1_000_000;
+
+/// A run on its way: its steps so far, and the state and the context that they led to.
+#[derive(Drop)]
+struct Run {
+    steps: Vec<Step>,
+    state: State,
+    context: Option<u32>,
+}
+
+/// Runs a plan from a state, in context 1, with the outcomes that the world chooses, and tells each
+/// monitor of each step.
+///
+/// Each turn goes in this order. Where no rule matches, the run ends. Where the rule that counts,
+/// the first that matches, has an action that can't be executed, the run is refused. Where
+/// `MOST_STEPS` steps were made, and where the world has no number left, it ends. A number that is
+/// none of the action's outcomes has been taken then, and the run is refused. Otherwise the step is
+/// made, the monitors are told of it, and the next context is read on the new state. A table is run
+/// in context 1 throughout.
+///
+/// Want of memory may stop the run after any step. Whatever the answer, the monitors were told of
+/// the steps that were made and of nothing else, and the list has the same monitors in the same
+/// order, each with its title and its weights.
+///
+/// The plan's numbers are those of the task's fluents and actions, the state has no true fluent past
+/// the task's, and no monitor has counted anything yet.
+pub fn execute(
+    alloc: Global,
+    task: &Task,
+    plan: &Plan,
+    first: State,
+    world: &mut Box<dyn World>,
+    monitors: &mut Vec<Box<dyn Monitor>>,
+) -> Result<Trace, RunErr>
+    requires plan_of_task { IsPlanOf (fluent_count task.now) (action_count task.now) plan.now }
+    requires within { IsWithin (fluent_count task.now) first }
+    requires untold { All (λ monitor. counted monitor ≡ 0) monitors.old.items }
+    ensures first_state { IfOk result (λ trace. trace.first ≡ first) }
+    ensures trace { IfOk result (λ trace. trace_value (fluent_count task.now) trace (left world.new)
+        ≡ trace_in task.now plan.now first (left world.old)) }
+    ensures in_task { IfOk result (λ trace.
+        All (IsStepOf (fluent_count task.now) (action_count task.now)) trace.steps.items) }
+    ensures told { IfOk result (λ trace. AreTold
+        (λ monitor. record { counted = counted monitor; title = title monitor; weight = weight monitor })
+        trace.steps.items monitors.old.items monitors.new.items) }
+    ensures refused { IfErr result (λ refusal. (steps : List Step) ×
+        IsRefused (fluent_count task.now) refusal
+        (trace_in task.now plan.now first (left world.old)) (left world.old) steps (left world.new)
+        × All (IsStepOf (fluent_count task.now) (action_count task.now)) steps
+        × AreTold
+        (λ monitor. record { counted = counted monitor; title = title monitor; weight = weight monitor })
+        steps monitors.old.items monitors.new.items) }
+{
+    let mut run = Run {
+        steps: Vec::new(alloc),
+        state: first,
+        context: Some(FIRST_CONTEXT),
+    };
+    loop {
+        match next_turn(task, plan, &run, world) {
+            Turn::Ends(end) => {
+                return Ok(Trace {
+                    first,
+                    steps: run.steps,
+                    end,
+                });
+            }
+            Turn::Refuses(refusal) => return Err(refusal),
+            Turn::Goes(step, context) => run.go_on(step, context, monitors)?,
+        }
+    }
+}
+
+/// The next turn of a run.
+fn next_turn(task: &Task, plan: &Plan, run: &Run, world: &mut Box<dyn World>) -> Turn
+    requires plan_of_task { IsPlanOf (fluent_count task.now) (action_count task.now) plan.now }
+    requires within { IsWithin (fluent_count task.now) run.now.state }
+    ensures turn { IsTurn (fluent_count task.now) result (left world.new)
+        (next_turn_of (system_of task.now) (run_plan (plain_of plan.now)) (fluent_count task.now)
+        run.now.steps.items run.now.state run.now.context (left world.old)) }
+    ensures in_task { MakesStepOf (fluent_count task.now) (action_count task.now) result }
+{
+    let made = run.steps.len();
+    take_turn(
+        task,
+        plan,
+        made == MOST_STEPS,
+        made as u64 + 1,
+        &run.state,
+        run.context,
+        world,
+    )
+}
+
+impl Run {
+    /// Tells the monitors of a step, and adds it to the run, which goes on in a context or in none.
+    fn go_on(
+        &mut self,
+        step: Step,
+        context: Option<u32>,
+        monitors: &mut Vec<Box<dyn Monitor>>,
+    ) -> Result<(), AllocFailed<Step>>
+        requires small { All (λ monitor. counted monitor ≤ 2 ^ 127) monitors.old.items }
+        ensures told { AreTold
+            (λ monitor. record { counted = counted monitor; title = title monitor; weight = weight monitor })
+            (step ∷ []) monitors.old.items monitors.new.items }
+        ensures steps { OnOk result (self.new.steps.items ≡ self.old.steps.items ++ step ∷ []) }
+        ensures state { OnOk result (self.new.state ≡ step.after) }
+        ensures context { OnOk result (self.new.context ≡ context) }
+    {
+        tell(monitors, &step);
+        self.state = step.after;
+        self.context = context;
+        self.steps.push(step)
+    }
+}
