@@ -1,5 +1,5 @@
 -- Visits and graphs as the code holds them.
-use Rattle.std.proofs.Common.{◌≡◌, ℕ, zero, suc, ◌<◌, ◌≤◌, ◌||◌, Bool, false, List, [], ◌∷◌, ◌++◌, length, map, slice_get, nat_lt, Option, Some, Vec, refl, sym, ap, ◌∙◌, subst, arith}
+use Rattle.std.proofs.Common.{◌≡◌, ℕ, zero, suc, ◌<◌, ◌≤◌, ◌||◌, Bool, false, List, [], ◌∷◌, ◌++◌, length, map, slice_get, nat_lt, Option, Some, Vec, refl, sym, ap, ◌∙◌, subst, arith, take_all, ⊎_elim}
 use Rattle.std.specs.List.{All, AllPairs, Contains, fold}
 use Rattle.std.specs.Option.{option_map, option_map_or}
 use Rattle.std.specs.declared.alloc.Global.{Global}
@@ -11,6 +11,12 @@ use Rattle.task_core.specs.declared.states.State.{State}
 use Rattle.task_core.specs.Systems.{System, IsSystem}
 use Rattle.task_core.specs.ContextPlans.{Configuration}
 use Rattle.plan_rules.specs.Rules.{PlainPlan}
+use Rattle.task_core.specs.Initial.{after_entries, entries_of, facts_of}
+use Rattle.task_core.specs.Tasks.{fluent_count, states_after_entries, system_of}
+use Rattle.task_core.specs.declared.tasks.Task.{Task}
+use Rattle.task_core.proofs.EntryStates.{after_entries_differ}
+use Rattle.exec_graph.specs.Initials.{HasTooManyInitial}
+use Rattle.std.proofs.lemmas.Bool.{cases_lt}
 use Rattle.exec_graph.specs.Counting.{add_configuration, moves_from}
 use Rattle.exec_graph.specs.Drafts.{HasTooMany, IsNumbered, IsSearched, IsVisit, beginnings, draft_value, in_first}
 use Rattle.exec_graph.specs.Executions.{ReachesMoreThan}
@@ -129,3 +135,20 @@ module _ (n : ℕ) (sys : System) (states : List State) (initial : map (vector n
   pub first_count : (draft : Draft) → map (configuration_of n) draft.places.keys ≡ fold add_configuration [] (beginnings n states) → length draft.places.keys ≡ length sys.initial
   first_count draft places =
       sym (length-map draft.places.keys (configuration_of n)) ∙ ap length (places ∙ firsts_are) ∙ length-map sys.initial in_first
+
+-- where there are not too many states after some entries, the initial states are not too many
+pub few_initial : (task : Task) (limit : ℕ) → (HasTooManyInitial task limit → ⊥) → length (system_of task).initial ≤ limit
+few_initial task limit none =
+    let entries = entries_of task.init in
+    let n = fluent_count task in
+    let all : states_after_entries task (length entries) ≡ (system_of task).initial =
+    ap (after_entries n (facts_of n task.init)) (take_all (length entries) entries (omega arith)) in
+    ⊎_elim
+    (λ (more : limit < length (system_of task).initial).
+    absurd (none (record { entries = length entries; first = omega arith; more = subst (λ ys. limit < length ys) (sym all) more })))
+    (λ (few : length (system_of task).initial ≤ limit). few)
+    (cases_lt limit (length (system_of task).initial))
+
+-- they are all different
+pub initial_differ : (task : Task) → AllPairs (λ v w. v ≡ w → ⊥) (system_of task).initial
+initial_differ task = let n = fluent_count task in after_entries_differ n (facts_of n task.init) (entries_of task.init)
