@@ -39,16 +39,18 @@ reached_first sys (automaton contexts rules) x first = record { start = x; initi
 pub reached_next : (sys : System) (plan : PlainPlan) (x y : Configuration) → IsReachedBy sys plan x → GoesTo sys plan x y → IsReachedBy sys plan y
 reached_next sys (table class rules) x y r g =
     let pairs = denoted sys rules in
-    let p = r.0.path in
-    (record {
-      start = r.0.start;
-      initial = r.0.initial;
-      path = record {
-        rest = p.rest ++ y.state ∷ [];
-        path = path_onward sys pairs r.0.start p.rest y.state p.path (subst (λ s. Leads sys pairs s y.state) (sym p.ends) g.0);
-        ends = path_ends r.0.start p.rest y.state;
-      };
-    }, g.1)
+    let p = r.0.path in (
+      record {
+        start = r.0.start;
+        initial = r.0.initial;
+        path = record {
+          rest = p.rest ++ y.state ∷ [];
+          path = path_onward sys pairs r.0.start p.rest y.state p.path (subst (λ s. Leads sys pairs s y.state) (sym p.ends) g.0);
+          ends = path_ends r.0.start p.rest y.state;
+        };
+      },
+      g.1,
+    )
 reached_next sys (automaton contexts rules) x y r g = record {
   start = r.start;
   initial = r.initial;

@@ -119,22 +119,22 @@ module _ (sys : System) (plan : PlainPlan) where
       → IsTrue (before || here) ↔ SomeOfFirst P now (k + 1)
   marked P found now k x before here stays at new old = (
     (λ e. ⊎_elim
-    (λ t. let s = old.0 t in let l : s.number < k = s.below in
-    let r : SomeOfFirst P now (k + 1) = record { number = s.number; below = omega arith; place = s.place; is = stays s.number s.place s.is; has = s.has } in r)
-    (λ t. record { number = k; below = omega arith; place = x; is = stays k x at; has = new.0 t })
-    (or_cases before here e)),
+        (λ t. let s = old.0 t in let l : s.number < k = s.below in
+        let r : SomeOfFirst P now (k + 1) = record { number = s.number; below = omega arith; place = s.place; is = stays s.number s.place s.is; has = s.has } in r)
+        (λ t. record { number = k; below = omega arith; place = x; is = stays k x at; has = new.0 t })
+        (or_cases before here e)),
     (λ s. ⊎_elim
-    (λ (l : s.number < k).
-    let inside : s.number < length found = let m = slice_get_within found k x at in omega arith in
-    let known = get-known found s.number s.place inside in
-    let same : known.0 ≡ s.place = same_Some known.0 s.place (sym (stays s.number known.0 known.1) ∙ s.is) in
-    or_left before here (old.1 (record { number = s.number; below = l; place = s.place; is = known.1 ∙ ap Some same; has = s.has })))
-    (λ (l : k ≤ s.number).
-    let m = s.below in
-    let last : s.number ≡ k = omega arith in
-    let same : s.place ≡ x = same_Some s.place x (sym s.is ∙ ap (slice_get now) last ∙ stays k x at) in
-    or_right before here (new.1 (subst P same s.has)))
-    (cases_lt s.number k)),
+        (λ (l : s.number < k).
+        let inside : s.number < length found = let m = slice_get_within found k x at in omega arith in
+        let known = get-known found s.number s.place inside in
+        let same : known.0 ≡ s.place = same_Some known.0 s.place (sym (stays s.number known.0 known.1) ∙ s.is) in
+        or_left before here (old.1 (record { number = s.number; below = l; place = s.place; is = known.1 ∙ ap Some same; has = s.has })))
+        (λ (l : k ≤ s.number).
+        let m = s.below in
+        let last : s.number ≡ k = omega arith in
+        let same : s.place ≡ x = same_Some s.place x (sym s.is ∙ ap (slice_get now) last ∙ stays k x at) in
+        or_right before here (new.1 (subst P same s.has)))
+        (cases_lt s.number k)),
   )
 
   pub searched_visit : IsSystem sys → (before after : PlainDraft) → IsSearched sys plan before → IsVisit sys plan before after → IsSearched sys plan after
@@ -237,8 +237,8 @@ module _ (sys : System) (plan : PlainPlan) where
     mark_whole P b h = (
       (λ e. let s = h.0 e in (s.place, All-number (IsReachedBy sys plan) draft.found s.number s.place d.reached s.is, s.has)),
       (λ s.
-      let at = Contains-number draft.found s.0 (all_found s.0 s.1) in
-      h.1 (record { number = at.0; below = subst (λ k. at.0 < k) (sym whole) at.1; place = s.0; is = at.2; has = s.2 })),
+          let at = Contains-number draft.found s.0 (all_found s.0 s.1) in
+          h.1 (record { number = at.0; below = subst (λ k. at.0 < k) (sym whole) at.1; place = s.0; is = at.2; has = s.2 })),
     )
 
     -- the graph of a draft
@@ -269,17 +269,17 @@ module _ (sys : System) (plan : PlainPlan) where
           initial = λ i l. (
             (λ e. found_begun draft d i (graph.configuration i) (ltb-true i (length sys.initial) (sym (s.initial i) ∙ e)) (s.configuration i l)),
             (λ first.
-            let w = begun_found draft d (graph.configuration i) first in
-            let same : w.0 ≡ i = one_number draft.found w.0 i (graph.configuration i) d.different w.2 (s.configuration i l) in
-            s.initial i ∙ lt-ltb i (length sys.initial) (subst (λ k. k < length sys.initial) same w.1)),
+                let w = begun_found draft d (graph.configuration i) first in
+                let same : w.0 ≡ i = one_number draft.found w.0 i (graph.configuration i) d.different w.2 (s.configuration i l) in
+                s.initial i ∙ lt-ltb i (length sys.initial) (subst (λ k. k < length sys.initial) same w.1)),
           );
           next_below = λ i j l c. let w = (followed i l).sound j c in below j w.place w.is;
           next = λ i j li lj. (
             (λ c. let w = (followed i li).sound j c in subst (GoesTo sys plan (graph.configuration i)) (sym (is j w.place w.is)) w.follows),
             (λ g.
-            let w = (followed i li).whole (graph.configuration j) g in
-            let same : w.number ≡ j = one_number draft.found w.number j (graph.configuration j) d.different w.is (s.configuration j lj) in
-            subst (Contains (graph.next i)) same w.listed),
+                let w = (followed i li).whole (graph.configuration j) g in
+                let same : w.number ≡ j = one_number draft.found w.number j (graph.configuration j) d.different w.is (s.configuration j lj) in
+                subst (Contains (graph.next i)) same w.listed),
           );
           next_once = λ i l. (followed i l).once;
           unexecutable = (

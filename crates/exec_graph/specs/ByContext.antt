@@ -15,4 +15,5 @@ rules_in index c =
 -- Private: the rules stand by their contexts, where the plan is an automaton
 abbrev pub IsIndexOf : Plan → ByContext → Type 0
 IsIndexOf (Table p) index = ⊤
-IsIndexOf (Auto p) index = (c : ℕ) → rules_in index c ≡ filter (λ rule. rule.context == c) p.rules.items
+IsIndexOf (Auto p) index =
+    (c : ℕ) → rules_in index c ≡ filter (λ rule. rule.context == c) p.rules.items

@@ -1,4 +1,5 @@
--- Private: the rules of a plan that count in a configuration, and what each of them leads to, as lists.
+-- Private: the rules of a plan that count in a configuration, and what each of them leads to, as
+-- lists.
 use Rattle.std.specs.Prelude.{ℕ, ◌<◌, ◌≡◌, Bool, false, true, not, ◌||◌, ◌&&◌, ◌==◌, List, [], ◌∷◌, ◌++◌, map, All, ⊤, Option, Some, None, is_some, option_to_list, find, if◌then◌else◌}
 use Rattle.std.specs.List.{fold, list_any}
 use Rattle.std.specs.Option.{option_map}
@@ -47,17 +48,20 @@ pub record IsAdviceOf (n m : ℕ) (a : Advice) : Type 0 where
 
 -- Private: the configuration of an outcome; none where there is no next context
 abbrev pub onward_to : PlanNext → Vector → List Configuration
-onward_to next t = option_to_list (option_map (λ c. record { state = t; context = c }) (next_context next t))
+onward_to next t =
+    option_to_list (option_map (λ c. record { state = t; context = c }) (next_context next t))
 
--- Private: whether two configurations are the same, and one more in a list unless it is there already
+-- Private: whether two configurations are the same, and one more in a list unless it is there
 abbrev pub same_configuration : Configuration → Configuration → Bool
 same_configuration x y = same_vector x.state y.state && (x.context == y.context)
 
 abbrev pub add_configuration : List Configuration → Configuration → List Configuration
-add_configuration listed x = if list_any (same_configuration x) listed then listed else listed ++ x ∷ []
+add_configuration listed x =
+    if list_any (same_configuration x) listed then listed else listed ++ x ∷ []
 
--- Private: what is known of the moves from a configuration: those that follow it, each once, whether a rule
--- that counts can't be followed, and whether the plan doesn't go on
+-- Private: what is known of the moves from a configuration: those that follow it, each once,
+-- whether a rule that counts has an action that can't be executed, and whether the plan doesn't go
+-- on
 pub record Moved : Type 0 where
   pub next : List Configuration
   pub refused : Bool
@@ -90,7 +94,8 @@ moves_by sys s (Some a) = with_rule sys s (no_moves false) a
 
 -- Private: with one rule of a table more, if it matches the state
 abbrev pub with_table_rule : System → Vector → Moved → PlanRule → Moved
-with_table_rule sys s m rule = if matches rule.cube s then with_rule sys s m (advised_in_table rule) else m
+with_table_rule sys s m rule =
+    if matches rule.cube s then with_rule sys s m (advised_in_table rule) else m
 
 -- Private: the moves by the rules of a table
 abbrev pub moves_in_table : System → Vector → List PlanRule → Moved

@@ -1,5 +1,5 @@
--- Private: a graph that is being made. The configurations that were found are numbered in the order in
--- which they were found; the first of them were visited, that is, their followers were found too.
+-- Private: a graph that is being made. The configurations that were found are numbered in the order
+-- in which they were found. The first of them were visited: their followers were found too.
 use Rattle.std.specs.Prelude.{◌≡◌, ◌≢◌, ◌↔◌, ◌≤◌, ◌<◌, ◌||◌, ℕ, Bool, IsTrue, List, [], ◌∷◌, ◌++◌, length, map, slice_get, Some}
 use Rattle.std.specs.List.{All, AllPairs, Contains, fold}
 use Rattle.task_core.specs.Vectors.{Vector}
@@ -29,7 +29,7 @@ pub record PlainDraft : Type 0 where
   pub unexecutable : Bool
   pub stuck : Bool
 
--- Private: a draft over n fluents
+-- Private: a draft over n fluents, and that no state in it has a true fluent from n on
 abbrev pub draft_value : ℕ → Draft → PlainDraft
 draft_value n draft = record {
   found = map (configuration_of n) draft.places.keys;
@@ -41,7 +41,8 @@ draft_value n draft = record {
 abbrev pub IsDraftWithin : ℕ → Draft → Type 0
 IsDraftWithin n draft = All (IsPlaceWithin n) draft.places.keys
 
--- Private: these places got these numbers in the list of those that were found, which has grown by them
+-- Private: these places got these numbers in the list of those that were found, which has grown by
+-- them
 pub record IsNumbered (found places now : List Configuration) (numbers : List ℕ) : Type 0 where
   pub grown : now ≡ fold add_configuration found places
   pub numbered : map (slice_get now) numbers ≡ map Some places
@@ -53,35 +54,41 @@ pub record IsVisit (sys : System) (plan : PlainPlan) (before after : PlainDraft)
   pub numbers : List ℕ
   pub numbered : IsNumbered before.found (moves_from sys plan place).next after.found numbers
   pub next : after.next ≡ before.next ++ numbers ∷ []
-  pub unexecutable : after.unexecutable ≡ (before.unexecutable || (moves_from sys plan place).refused)
+  pub unexecutable : after.unexecutable
+      ≡ (before.unexecutable || (moves_from sys plan place).refused)
   pub stuck : after.stuck ≡ (before.stuck || (moves_from sys plan place).lost)
 
 -- Private: with the followers of the next configuration there are more than so many
-pub record HasTooMany (sys : System) (plan : PlainPlan) (limit : ℕ) (draft : PlainDraft) : Type 0 where
+pub record HasTooMany (sys : System) (plan : PlainPlan) (limit : ℕ)
+    (draft : PlainDraft) : Type 0 where
   pub place : Configuration
   pub is : slice_get draft.found (length draft.next) ≡ Some place
   pub more : limit < length (fold add_configuration draft.found (moves_from sys plan place).next)
 
 -- Private: the number of a configuration that was found
-pub record HasNumber (found : List Configuration) (numbers : List ℕ) (y : Configuration) : Type 0 where
+pub record HasNumber (found : List Configuration) (numbers : List ℕ)
+    (y : Configuration) : Type 0 where
   pub number : ℕ
   pub listed : Contains numbers number
   pub is : slice_get found number ≡ Some y
 
 -- Private: a number is that of a configuration that follows x
-pub record IsNumberOfNext (sys : System) (plan : PlainPlan) (found : List Configuration) (x : Configuration) (number : ℕ) : Type 0 where
+pub record IsNumberOfNext (sys : System) (plan : PlainPlan) (found : List Configuration)
+    (x : Configuration) (number : ℕ) : Type 0 where
   pub place : Configuration
   pub is : slice_get found number ≡ Some place
   pub follows : GoesTo sys plan x place
 
 -- Private: the numbers are those of the configurations that follow x, each once
-pub record IsFollowed (sys : System) (plan : PlainPlan) (found : List Configuration) (x : Configuration) (numbers : List ℕ) : Type 0 where
+pub record IsFollowed (sys : System) (plan : PlainPlan) (found : List Configuration)
+    (x : Configuration) (numbers : List ℕ) : Type 0 where
   pub once : AllPairs (λ i j. i ≢ j) numbers
   pub sound : (number : ℕ) → Contains numbers number → IsNumberOfNext sys plan found x number
   pub whole : (y : Configuration) → GoesTo sys plan x y → HasNumber found numbers y
 
 -- Private: some of the first k configurations has the property
-pub record SomeOfFirst (P : Configuration → Type 0) (found : List Configuration) (k : ℕ) : Type 0 where
+pub record SomeOfFirst (P : Configuration → Type 0) (found : List Configuration)
+    (k : ℕ) : Type 0 where
   pub number : ℕ
   pub below : number < k
   pub place : Configuration
@@ -93,7 +100,8 @@ pub record IsSearched (sys : System) (plan : PlainPlan) (draft : PlainDraft) : T
   pub different : AllPairs (λ x y. x ≢ y) draft.found
   pub reached : All (IsReachedBy sys plan) draft.found
   pub states : All (λ x. IsState sys x.state) draft.found
-  pub begun : (i : ℕ) (x : Configuration) → slice_get (map in_first sys.initial) i ≡ Some x → slice_get draft.found i ≡ Some x
+  pub begun : (i : ℕ) (x : Configuration) → slice_get (map in_first sys.initial) i ≡ Some x
+      → slice_get draft.found i ≡ Some x
   pub fewer : length draft.next ≤ length draft.found
   pub followed : (i : ℕ) (x : Configuration) (numbers : List ℕ) → slice_get draft.found i ≡ Some x
       → slice_get draft.next i ≡ Some numbers → IsFollowed sys plan draft.found x numbers

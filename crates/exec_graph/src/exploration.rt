@@ -78,7 +78,7 @@ impl From<AllocError> for GraphErr {
 }
 
 /// A graph that is being made: the configurations that were found, in the order in which they were
-/// found, and for each of the first of them, which were visited, the numbers of those that follow it.
+/// found, and for each of the first of them, which were visited, the numbers of those that follow.
 #[derive(Drop)]
 pub(crate) struct Draft {
     pub(crate) places: IndexSet<Place>,
@@ -90,8 +90,12 @@ pub(crate) struct Draft {
 /// The graph of the plan in the task.
 ///
 /// `Initial` comes exactly where `init_states` with the limit 262,144 has too many states. Where it
-/// doesn't, `TooLarge` comes exactly where the plan may reach more than 262,144 configurations. Both
-/// yield to want of memory.
+/// doesn't, `TooLarge` comes exactly where the plan may reach more than 262,144 configurations.
+/// Both yield to want of memory.
+///
+/// Each configuration is visited once. The time grows with the number of configurations times that
+/// of the rules that are tried in one: all rules of a table, or those of one context of an
+/// automaton. An automaton takes memory for each of its contexts.
 pub fn explore(alloc: Global, task: &Task, plan: &Plan) -> Result<Graph, GraphErr>
     requires { IsPlanOf (fluent_count task.now) (action_count task.now) plan.now }
     ensures graph { let n = fluent_count task.now in IfOk result (λ graph.
@@ -102,7 +106,8 @@ pub fn explore(alloc: Global, task: &Task, plan: &Plan) -> Result<Graph, GraphEr
     ensures too_large { IsErrOf result GraphErr.TooLarge
         → ReachesMoreThan (system_of task.now) (plain_of plan.now) 262144 }
     ensures not_initial { IsErrOf result GraphErr.TooLarge → HasTooManyInitial task.now 262144 → ⊥ }
-    ensures few { OnOk result (ReachesMoreThan (system_of task.now) (plain_of plan.now) 262144 → ⊥) }
+    ensures few { OnOk result
+        (ReachesMoreThan (system_of task.now) (plain_of plan.now) 262144 → ⊥) }
 {
     let states = initial_states(alloc, task)?;
     let index = index_of(alloc, plan)?;
@@ -255,10 +260,13 @@ fn first_places(alloc: Global, states: &[State]) -> Result<IndexSet<Place>, Allo
 {
     let mut places = IndexSet::new(alloc);
     for state in states {
-        number_of(&mut places, Place {
-            state: *state,
-            context: FIRST_CONTEXT,
-        })?;
+        number_of(
+            &mut places,
+            Place {
+                state: *state,
+                context: FIRST_CONTEXT,
+            },
+        )?;
     }
     Ok(places)
 }

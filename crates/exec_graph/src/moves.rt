@@ -117,10 +117,14 @@ impl Moves {
         ensures next_within { OnOk result (AreWithin (fluent_count task.now) self.new) }
     {
         if has_all(task, &rule.cube, state) {
-            self.add_rule(task, state, &Advice {
-                action: rule.action,
-                onward: Onward::Always(FIRST_CONTEXT),
-            })
+            self.add_rule(
+                task,
+                state,
+                &Advice {
+                    action: rule.action,
+                    onward: Onward::Always(FIRST_CONTEXT),
+                },
+            )
         } else {
             Ok(())
         }
@@ -166,10 +170,13 @@ impl Moves {
     {
         match context_in(task, onward, &after) {
             Some(context) => {
-                number_of(&mut self.next, Place {
-                    state: after,
-                    context,
-                })?;
+                number_of(
+                    &mut self.next,
+                    Place {
+                        state: after,
+                        context,
+                    },
+                )?;
             }
             None => self.lost = true,
         }
@@ -177,7 +184,7 @@ impl Moves {
     }
 }
 
-/// The moves from a configuration by a plan, whose rules stand in the index where it is an automaton.
+/// The moves from a configuration by a plan. The rules of an automaton stand in the index.
 pub(crate) fn moves_of(
     alloc: Global,
     task: &Task,

@@ -1,6 +1,6 @@
 //! The rules of a plan, as they are looked up.
 
-ghost use Rattle.std.specs.Prelude.{◌≡◌, ◌<◌, ◌≤◌, ◌+◌, ◌==◌, ℕ, [], All, IfOk, IfSome, length, map};
+ghost use Rattle.std.specs.Prelude.{◌≡◌, ◌<◌, ◌==◌, ℕ, [], All, IfOk, IfSome, length, map};
 ghost use Rattle.std.specs.List.{filter};
 ghost use Rattle.std.specs.Option.{option_map};
 ghost use Rattle.plan_rules.specs.Denoted.{rule_at};
@@ -29,8 +29,8 @@ pub(crate) struct Advice<'a> {
     pub(crate) onward: Onward<'a>,
 }
 
-/// The rules of an automaton, those of each context in a list of their own, in their order. The list
-/// of context `c` has the place `c`.
+/// The rules of an automaton, those of each context in a list of their own, in their order. The
+/// list of context `c` has the place `c`.
 #[derive(Drop)]
 pub(crate) struct ByContext<'a> {
     pub(crate) lists: Vec<Vec<&'a AutoRule>>,
@@ -44,7 +44,8 @@ impl<'a> ByContext<'a> {
         ensures counts { option_map advice_value result ≡ option_map advised_by
             (first_matching (vector (fluent_count task.now) state.now)
             (map context_rule_of (rules_in self.now context))) }
-        ensures in_task { IfSome result (IsAdviceOf (fluent_count task.now) (action_count task.now)) }
+        ensures in_task { IfSome result
+            (IsAdviceOf (fluent_count task.now) (action_count task.now)) }
     {
         match self.lists.get(context as usize) {
             Some(rules) => first_match(task, rules, state),

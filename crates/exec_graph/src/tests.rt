@@ -14,7 +14,7 @@ use task_core::{
 };
 
 fn name(alloc: Global, word: &str) -> Result<Vec<String>, AllocError> {
-    vec![in alloc; String::from_str(alloc, word)?]
+    Ok(vec![in alloc; String::from_str(alloc, word)?]?)
 }
 
 // An outcome that makes a fluent true.
@@ -57,17 +57,20 @@ fn either(alloc: Global, fluent: u32) -> Result<Vec<Alternative>, AllocError> {
     let mut entry = Vec::new(alloc);
     for positive in [true, false] {
         entry.push(Alternative {
-            lits: Vec::from_slice(alloc, &[Lit {
-                fluent: FluentId(fluent),
-                positive,
-            }])?,
+            lits: Vec::from_slice(
+                alloc,
+                &[Lit {
+                    fluent: FluentId(fluent),
+                    positive,
+                }],
+            )?,
         })?;
     }
     Ok(entry)
 }
 
-// Fluents `p` and `q`, of which the first so many are unknown at first, `flip` for `p` and `set` for
-// `q`.
+// Fluents `p` and `q`, of which the first so many are unknown at first, `flip` for `p` and `set`
+// for `q`.
 fn coin(alloc: Global, unknown: u32) -> Result<Option<Task>, AllocError> {
     let mut entries = Vec::new(alloc);
     for fluent in 0..unknown {
@@ -193,7 +196,8 @@ fn several_initial_states(rt: HostRuntime) -> Result<(), Fail> {
     Ok(())
 }
 
-// So many fluents, of which the first so many are unknown, and for each an action that makes it true.
+// So many fluents, of which the first so many are unknown, and for each an action that makes it
+// true.
 fn switches(alloc: Global, count: u32, unknown: u32) -> Result<Option<Task>, AllocError> {
     let mut fluents = Vec::new(alloc);
     let mut actions = Vec::new(alloc);

@@ -21,7 +21,6 @@ loop-outcome-preserved c =
       within = c.in_ok-add_outcome.ensures.next_within;
     }
 
-
 pub returns-clause-value : goal.returns-clause-value
 returns-clause-value c =
     let n = fluent_count c.args.task.now in
