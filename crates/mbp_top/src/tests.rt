@@ -15,7 +15,7 @@ const UP: &str = "(define (problem c) (:domain coin) (:init) (:goal (up)))\n";
 
 const DOWN: &str = "(define (problem c) (:domain coin) (:init (up)) (:goal (not (up))))\n";
 
-/// As many predicates as a small domain may have, each of them lit by its own action.
+/// As many fluents as plans are looked for so far, each of them lit by its own action.
 const EIGHT: &str = "(define (domain eight)
   (:predicates (a) (b) (c) (d) (e) (f) (g) (h))
   (:action la :effect (a)) (:action lb :effect (b)) (:action lc :effect (c))
@@ -42,6 +42,27 @@ const EIGHT_PLAN: &str = "(plan table weak
 )
 ";
 
+const LISTING: &str = "fluents 1\n(up)\nactions 1\n(flip) 2\nuncertain 0\n";
+
+/// 11 objects for 6 parameters: more instances than may be.
+const MANY: &str = "(define (domain many) (:predicates (p))
+  (:action x :parameters (?a ?b ?c ?d ?e ?f) :effect (p)))
+";
+
+const ELEVEN: &str = "(define (problem m) (:domain many)
+  (:objects a b c d e f g h i j k) (:init) (:goal (p)))
+";
+
+/// One fluent more than plans are looked for so far.
+const NINE: &str = "(define (domain nine)
+  (:predicates (a) (b) (c) (d) (e) (f) (g) (h) (i))
+  (:action all :effect (and (a) (b) (c) (d) (e) (f) (g) (h) (i))))
+";
+
+const LIT: &str = "(define (problem n) (:domain nine) (:init) (:goal (a)))\n";
+
+const LEFT_OUT: &str = "(define (domain d) (:requirements) (:functions (f)))\n";
+
 const NO_COMMAND: &str = "mbp: the words are none of the command forms\n";
 
 /// The text, and spaces up to so many bytes.
@@ -59,6 +80,11 @@ fn shelf(alloc: Global) -> Result<MemShelf, Fail> {
     shelf.add("down", DOWN.as_bytes())?;
     shelf.add("eight-d", EIGHT.as_bytes())?;
     shelf.add("one-dark", ONE_DARK.as_bytes())?;
+    shelf.add("many-d", MANY.as_bytes())?;
+    shelf.add("many", ELEVEN.as_bytes())?;
+    shelf.add("nine-d", NINE.as_bytes())?;
+    shelf.add("nine", LIT.as_bytes())?;
+    shelf.add("left-out", LEFT_OUT.as_bytes())?;
     shelf.add("longest-d", &padded(alloc, COIN, MAX_BYTES)?)?;
     shelf.add("longest-up", &padded(alloc, UP, MAX_BYTES)?)?;
     shelf.add("too-long", &padded(alloc, UP, MAX_BYTES + 1)?)?;
@@ -92,8 +118,19 @@ fn each_answer_goes_where_it_belongs(rt: HostRuntime) -> Result<(), Fail> {
         ("plan weak coin-d too-long", 4, "", "limit file\n"),
         ("plan weak nowhere up", 6, "", "read fault nowhere\n"),
         ("plan weak coin-d nowhere", 6, "", "read fault nowhere\n"),
-        ("plan weak up nowhere", 10, "", "not built up\n"),
-        ("plan weak coin-d coin-d", 10, "", "not built coin-d\n"),
+        ("plan weak up nowhere", 3, "", "up:1:1: 5 NoDefine\n"),
+        ("plan weak coin-d coin-d", 3, "", "coin-d:1:1: 5 NoDefine\n"),
+        ("ground coin-d down", 0, LISTING, ""),
+        ("ground longest-d longest-up", 0, LISTING, ""),
+        ("ground coin-d eight-d", 3, "", "eight-d:1:1: 5 NoDefine\n"),
+        ("ground many-d many", 4, "", "limit instances\n"),
+        ("plan weak nine-d nine", 10, "", "not built nine\n"),
+        (
+            "ground left-out nowhere",
+            3,
+            "",
+            "left-out:1:36: 13 LeftOut :functions\n",
+        ),
     ];
     for (line, status, text, errors) in wanted {
         let mut shelf = shelf(rt.alloc())?;
