@@ -9,7 +9,7 @@ use pddl_ast::{ObjectId, PredicateId, Term};
 use std::alloc::{AllocError, Global};
 
 /// A predicate with an object for each of its terms. Equal ones have equal hashes.
-#[derive(Debug, PartialEq, Eq, Hash, Drop)]
+#[derive(Debug, PartialEq, Eq, PartialOrd, Ord, Hash, Drop)]
 pub struct Atom {
     pub predicate: PredicateId,
     pub objects: Vec<ObjectId>,
