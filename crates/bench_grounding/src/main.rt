@@ -2,8 +2,8 @@
 //! counts.
 //!
 //! For each count there is a domain with an action from one object to another along an edge, and a
-//! problem with so many objects in a ring. The action has as many instances as the count squared, of
-//! which as many as the count are kept. A line for each count says how many are kept, so the same
+//! problem with so many objects in a ring. The action has as many instances as the count squared,
+//! of which as many as the count are kept. A line for each count says how many are kept, so the same
 //! words always give the same output; the time is for the caller to take.
 #![tactic(auto)]
 

@@ -8,7 +8,7 @@ pub const DOMAIN: &str = "(define (domain ring) (:predicates (edge ?a ?b) (at ?a
     (:action move :parameters (?a ?b) :precondition (and (at ?a) (edge ?a ?b))
     :effect (and (at ?b) (not (at ?a)))))";
 
-/// A problem with so many objects, each with an edge to the next one, and the last one to the first.
+/// A problem with so many objects, each with an edge to the next one, the last one to the first.
 pub fn problem(alloc: Global, count: u32) -> Result<String, AllocError> {
     let mut text = String::from_str(alloc, "(define (problem p) (:domain ring) (:objects")?;
     for object in 0..count {

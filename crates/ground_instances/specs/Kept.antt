@@ -28,7 +28,8 @@ all_of TooMany = None
 
 -- Private: of some lists of objects, those with which an action's instance is kept.
 abbrev pub kept_among : Setting → SchemaTree → List (List ℕ) → List (List ℕ)
-kept_among at schema = filter (λ objects. is_kept at (record { schema = schema; objects = objects }))
+kept_among at schema =
+    filter (λ objects. is_kept at (record { schema = schema; objects = objects }))
 
 -- Private: the objects of the kept instances of an action, in their order.
 abbrev pub kept_objects : Setting → SchemaTree → List (List ℕ)

@@ -16,8 +16,8 @@ pub struct Atom {
 }
 
 impl Atom {
-    /// The atom of a predicate and terms, where the variables in scope stand for these objects. Fails
-    /// only where memory runs out.
+    /// The atom of a predicate and terms, where the variables in scope stand for these objects.
+    /// Fails only where memory runs out.
     pub fn of_terms(
         alloc: Global,
         predicate: PredicateId,
