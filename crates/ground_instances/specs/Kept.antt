@@ -13,10 +13,11 @@ use Rattle.ground_instances.specs.declared.instances.Kept.TheVariants.{All, TooM
 -- the instance that an action's number and objects stand for, where the domain has that action
 abbrev pub instance_of : DomainTree → Instance → Option InstanceTree
 instance_of d i =
-    option_map (λ (s : SchemaTree). record { schema = s; objects = i.objects.items }) (slice_get d.actions i.action)
+    option_map (λ (s : SchemaTree). record { schema = s; objects = i.objects.items })
+    (slice_get d.actions i.action)
 
--- the kept instances of a domain's actions in a setting. In the setting of the domain and a problem these are
--- `kept_instances`
+-- the kept instances of a domain's actions in a setting. In the setting of the domain and a problem
+-- these are `kept_instances`
 abbrev pub kept_by : Setting → DomainTree → List InstanceTree
 kept_by at d = flat_map (kept_of at) d.actions
 
@@ -27,7 +28,8 @@ all_of TooMany = None
 
 -- Private: of some lists of objects, those with which an action's instance is kept.
 abbrev pub kept_among : Setting → SchemaTree → List (List ℕ) → List (List ℕ)
-kept_among at schema = filter (λ objects. is_kept at (record { schema = schema; objects = objects }))
+kept_among at schema =
+    filter (λ objects. is_kept at (record { schema = schema; objects = objects }))
 
 -- Private: the objects of the kept instances of an action, in their order.
 abbrev pub kept_objects : Setting → SchemaTree → List (List ℕ)

@@ -39,7 +39,8 @@ pub fn kept_instances(alloc: Global, setting: &Setting, domain: &Domain) -> Resu
         map (instance_of (domain_value domain.now)) instances
         ≡ map Some (kept_by (setting_in setting.now) (domain_value domain.now)))) }
     ensures within { IfOk result (λ kept. is_some (all_of kept)
-        ≡ nat_le (length (kept_by (setting_in setting.now) (domain_value domain.now))) most_actions) }
+        ≡ nat_le (length (kept_by (setting_in setting.now)
+        (domain_value domain.now))) most_actions) }
 {
     let mut kept = Vec::new(alloc);
     for action in 0..domain.actions.len() {

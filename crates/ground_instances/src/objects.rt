@@ -18,7 +18,8 @@ pub fn objects_by_type(
 ) -> Result<Vec<Vec<ObjectId>>, AllocError>
     requires fits_domain { FitsDomain (domain_value domain.now) }
     requires fits_problem { FitsProblem (domain_value domain.now) (problem_value problem.now) }
-    requires few_objects { keeps (domain_value domain.now) (problem_value problem.now) object_limit ≡ true }
+    requires few_objects { keeps (domain_value domain.now) (problem_value problem.now)
+        object_limit ≡ true }
     ensures { IfOk result (λ lists. (t : ℕ) → list_of lists.items t
         ≡ objects_of_type domain.now.parents.items
         (all_objects (domain_value domain.now) (problem_value problem.now)) t) }

@@ -48,7 +48,8 @@ impl Setting {
     pub fn new(alloc: Global, domain: &Domain, problem: &Problem) -> Result<Setting, AllocError>
         requires fits_domain { FitsDomain (domain_value domain.now) }
         requires fits_problem { FitsProblem (domain_value domain.now) (problem_value problem.now) }
-        requires few_objects { keeps (domain_value domain.now) (problem_value problem.now) object_limit ≡ true }
+        requires few_objects { keeps (domain_value domain.now) (problem_value problem.now)
+            object_limit ≡ true }
         ensures { IfOk result (λ s.
             setting_in s ≡ setting (domain_value domain.now) (problem_value problem.now)) }
     {

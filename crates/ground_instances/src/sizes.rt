@@ -32,7 +32,8 @@ pub fn has_few_objects(domain: &Domain, problem: &Problem) -> bool
 impl Setting {
     /// The expanded size of a formula; 1,000,001 where it is more than 1,000,000.
     pub fn formula_size(&self, formula: &Formula) -> usize
-        ensures { result ≡ shown (formula_size (setting_in self.now).objects (formula_value formula.now)) }
+        ensures { result
+            ≡ shown (formula_size (setting_in self.now).objects (formula_value formula.now)) }
     {
         match formula {
             Formula::Atom(_, _) | Formula::Equal(_, _) => 1,
@@ -58,7 +59,8 @@ impl Setting {
 
     /// The expanded size of an effect; 1,000,001 where it is more than 1,000,000.
     pub fn effect_size(&self, effect: &Effect) -> usize
-        ensures { result ≡ shown (effect_size (setting_in self.now).objects (effect_value effect.now)) }
+        ensures { result
+            ≡ shown (effect_size (setting_in self.now).objects (effect_value effect.now)) }
     {
         match effect {
             Effect::Add(_, _) | Effect::Delete(_, _) => 1,
@@ -109,7 +111,8 @@ impl Setting {
     /// Whether the expanded sizes of each action and of the goal are at most 100,000. `self` is the
     /// setting of the domain and the problem.
     pub fn has_small_trees(&self, domain: &Domain, problem: &Problem) -> bool
-        requires { setting_in self.now ≡ setting (domain_value domain.now) (problem_value problem.now) }
+        requires { setting_in self.now
+            ≡ setting (domain_value domain.now) (problem_value problem.now) }
         ensures { result ≡ keeps (domain_value domain.now) (problem_value problem.now) size_limit }
     {
         for schema in &domain.actions {
@@ -123,7 +126,8 @@ impl Setting {
     /// Whether the actions have at most 1,000,000 instances, kept or not. `self` is the setting of
     /// the domain and the problem.
     pub fn has_few_instances(&self, domain: &Domain, problem: &Problem) -> bool
-        requires { setting_in self.now ≡ setting (domain_value domain.now) (problem_value problem.now) }
+        requires { setting_in self.now
+            ≡ setting (domain_value domain.now) (problem_value problem.now) }
         ensures { result
             ≡ keeps (domain_value domain.now) (problem_value problem.now) instance_limit }
     {

@@ -77,8 +77,8 @@ impl Setting {
     }
 
     /// The value of a formula where the variables in scope stand for these objects. The scope is
-    /// afterwards as it was before. Fails only where memory runs out, or where a quantifier has more
-    /// than 1,000,000 bindings, which no formula within the limit of size has.
+    /// afterwards as it was before. Fails only where memory runs out, or where a quantifier has
+    /// more than 1,000,000 bindings, which no formula within the limit of size has.
     pub fn value(
         &self,
         alloc: Global,

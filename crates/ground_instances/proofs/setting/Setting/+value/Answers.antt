@@ -18,7 +18,7 @@ loop-number-preserved t c =
     let part = λ (chosen : List ℕ). value at (formula_value c.in-Exists.part.value) (scope ++ chosen) in
     let counted : length rows ≡ c.in_ok-count-in-Exists.count =
     length_bindings at.objects c.in-Exists.types.items
-    ∙ sym (c.in_ok-count-in-Exists.ensures ∙ ap (binding_count at.objects) c.deref-in-Exists.ensures.value) in
+    ∙ sym (c.in_ok-count-in-Exists.ensures.count ∙ ap (binding_count at.objects) c.deref-in-Exists.ensures.value) in
     let within : n < length rows = subst (λ k. n < k) (sym counted) c.loop-number-test.true in
     let bound : c.bind.new.scope.items ≡ scope ++ get_or rows n [] =
     c.in_ok-bind-in-Exists.ensures
@@ -42,7 +42,7 @@ returns-then-eq-4-clause-value t c =
     let part = λ (chosen : List ℕ). value at (formula_value c.in-Exists.part.value) (scope ++ chosen) in
     let counted : length rows ≡ c.in_ok-count-in-Exists.count =
     length_bindings at.objects c.in-Exists.types.items
-    ∙ sym (c.in_ok-count-in-Exists.ensures ∙ ap (binding_count at.objects) c.deref-in-Exists.ensures.value) in
+    ∙ sym (c.in_ok-count-in-Exists.ensures.count ∙ ap (binding_count at.objects) c.deref-in-Exists.ensures.value) in
     let within : n < length rows = subst (λ k. n < k) (sym counted) c.loop-number-test.true in
     let bound : c.bind.new.scope.items ≡ scope ++ get_or rows n [] =
     c.in_ok-bind-in-Exists.ensures
@@ -64,7 +64,7 @@ returns-after-loop-number-clause-value t c =
     let part = λ (chosen : List ℕ). value at (formula_value c.in-Exists.part.value) (scope ++ chosen) in
     let counted : length rows ≡ c.in_ok-count-in-Exists.count =
     length_bindings at.objects c.in-Exists.types.items
-    ∙ sym (c.in_ok-count-in-Exists.ensures ∙ ap (binding_count at.objects) c.deref-in-Exists.ensures.value) in
+    ∙ sym (c.in_ok-count-in-Exists.ensures.count ∙ ap (binding_count at.objects) c.deref-in-Exists.ensures.value) in
     or_end part rows n (known_value c.loop-number.known) _ (subst (λ k. k ≤ n) (sym counted) (omega arith)) c.loop-number.invariant.known
 
 pub loop-number-2-preserved : goal.loop-number-2-preserved
@@ -76,7 +76,7 @@ loop-number-2-preserved t c =
     let part = λ (chosen : List ℕ). value at (formula_value c.in-Forall.part.value) (scope ++ chosen) in
     let counted : length rows ≡ c.in_ok-count-in-Forall.count =
     length_bindings at.objects c.in-Forall.types.items
-    ∙ sym (c.in_ok-count-in-Forall.ensures ∙ ap (binding_count at.objects) c.deref-in-Forall.ensures.value) in
+    ∙ sym (c.in_ok-count-in-Forall.ensures.count ∙ ap (binding_count at.objects) c.deref-in-Forall.ensures.value) in
     let within : n < length rows = subst (λ k. n < k) (sym counted) c.loop-number-2-test.true in
     let bound : c.bind-in-loop-number-2.new.scope.items ≡ scope ++ get_or rows n [] =
     c.in_ok-bind-in-Forall.ensures
@@ -100,7 +100,7 @@ returns-then-eq-5-clause-value t c =
     let part = λ (chosen : List ℕ). value at (formula_value c.in-Forall.part.value) (scope ++ chosen) in
     let counted : length rows ≡ c.in_ok-count-in-Forall.count =
     length_bindings at.objects c.in-Forall.types.items
-    ∙ sym (c.in_ok-count-in-Forall.ensures ∙ ap (binding_count at.objects) c.deref-in-Forall.ensures.value) in
+    ∙ sym (c.in_ok-count-in-Forall.ensures.count ∙ ap (binding_count at.objects) c.deref-in-Forall.ensures.value) in
     let within : n < length rows = subst (λ k. n < k) (sym counted) c.loop-number-2-test.true in
     let bound : c.bind-in-loop-number-2.new.scope.items ≡ scope ++ get_or rows n [] =
     c.in_ok-bind-in-Forall.ensures
@@ -122,5 +122,5 @@ returns-after-loop-number-2-clause-value t c =
     let part = λ (chosen : List ℕ). value at (formula_value c.in-Forall.part.value) (scope ++ chosen) in
     let counted : length rows ≡ c.in_ok-count-in-Forall.count =
     length_bindings at.objects c.in-Forall.types.items
-    ∙ sym (c.in_ok-count-in-Forall.ensures ∙ ap (binding_count at.objects) c.deref-in-Forall.ensures.value) in
+    ∙ sym (c.in_ok-count-in-Forall.ensures.count ∙ ap (binding_count at.objects) c.deref-in-Forall.ensures.value) in
     and_end part rows n (known_value c.loop-number-2.known) _ (subst (λ k. k ≤ n) (sym counted) (omega arith)) c.loop-number-2.invariant.known

@@ -17,7 +17,7 @@ loop-number-preserved c =
     let n = c.loop-number.number in
     let rows = bindings at.objects c.args.schema.now.parameters.items in
     let counted : length rows ≡ c.in_ok-count.count =
-    length_bindings at.objects c.args.schema.now.parameters.items ∙ sym (c.in_ok-count.ensures ∙ ap (binding_count at.objects) c.deref.ensures.value) in
+    length_bindings at.objects c.args.schema.now.parameters.items ∙ sym (c.in_ok-count.ensures.count ∙ ap (binding_count at.objects) c.deref.ensures.value) in
     let inside : n < length rows = subst (λ k. n < k) (sym counted) c.loop-number-test.true in
     let bound : c.bind.new.scope.items ≡ get_or rows n [] =
     c.in_ok-bind.ensures
@@ -52,7 +52,7 @@ returns-then-not-branch-clause-within c =
     let n = c.loop-number.number in
     let rows = bindings at.objects c.args.schema.now.parameters.items in
     let counted : length rows ≡ c.in_ok-count.count =
-    length_bindings at.objects c.args.schema.now.parameters.items ∙ sym (c.in_ok-count.ensures ∙ ap (binding_count at.objects) c.deref.ensures.value) in
+    length_bindings at.objects c.args.schema.now.parameters.items ∙ sym (c.in_ok-count.ensures.count ∙ ap (binding_count at.objects) c.deref.ensures.value) in
     let inside : n < length rows = subst (λ k. n < k) (sym counted) c.loop-number-test.true in
     let bound : c.bind.new.scope.items ≡ get_or rows n [] =
     c.in_ok-bind.ensures
@@ -74,7 +74,7 @@ returns-clause-within c =
     let n = c.loop-number.number in
     let rows = bindings at.objects c.args.schema.now.parameters.items in
     let counted : length rows ≡ c.in_ok-count.count =
-    length_bindings at.objects c.args.schema.now.parameters.items ∙ sym (c.in_ok-count.ensures ∙ ap (binding_count at.objects) c.deref.ensures.value) in
+    length_bindings at.objects c.args.schema.now.parameters.items ∙ sym (c.in_ok-count.ensures.count ∙ ap (binding_count at.objects) c.deref.ensures.value) in
     let none : length (kept_among at s (drop n rows)) ≡ 0 = ap (λ xs. length xs) (kept_end at s rows n (subst (λ k. k ≤ n) (sym counted) (omega arith))) in
     let before = c.loop-number.invariant.count in
     let few = c.loop-number.invariant.few in
@@ -87,7 +87,7 @@ returns-clause-added c = λ _.
     let n = c.loop-number.number in
     let rows = bindings at.objects c.args.schema.now.parameters.items in
     let counted : length rows ≡ c.in_ok-count.count =
-    length_bindings at.objects c.args.schema.now.parameters.items ∙ sym (c.in_ok-count.ensures ∙ ap (binding_count at.objects) c.deref.ensures.value) in
+    length_bindings at.objects c.args.schema.now.parameters.items ∙ sym (c.in_ok-count.ensures.count ∙ ap (binding_count at.objects) c.deref.ensures.value) in
     sym (append-nil (map numbered c.loop-number.kept.items))
     ∙ ap (λ xs. map numbered c.loop-number.kept.items ++ map (with_number c.args.action) xs) (sym (kept_end at s rows n (subst (λ k. k ≤ n) (sym counted) (omega arith))))
     ∙ c.loop-number.invariant.added
