@@ -1,5 +1,5 @@
 -- Lists to which configurations are added, each once.
-use Rattle.std.proofs.Common.{◌≡◌, ◌≢◌, ℕ, zero, suc, ◌+◌, ◌<◌, ◌≤◌, true, false, cond, List, [], ◌∷◌, ◌++◌, length, get_or, slice_get, Some, refl, sym, ap, ◌∙◌, subst, arith, inl, inr, ⊎_elim, ◌⊎◌, append_assoc}
+use Rattle.std.proofs.Common.{◌≡◌, ◌≢◌, ℕ, zero, suc, ◌<◌, ◌≤◌, true, false, cond, List, [], ◌∷◌, ◌++◌, length, get_or, slice_get, Some, refl, sym, ap, ◌∙◌, subst, arith, inl, inr, ⊎_elim, ◌⊎◌, append_assoc}
 use Rattle.std.specs.List.{All, AllPairs, Contains, fold, list_any}
 use Rattle.std.proofs.lemmas.Bool.{true≢false, cases_lt}
 use Rattle.std.proofs.lemmas.List.{length-append, append-nil}
@@ -54,9 +54,6 @@ added_get xs x i y e = add_cases (λ ys. slice_get ys i ≡ Some y) xs x (λ _. 
 
 pub added_length : (xs : List Configuration) (x : Configuration) → length xs ≤ length (add_configuration xs x)
 added_length xs x = add_cases (λ ys. length xs ≤ length ys) xs x (λ _. omega arith) (λ _. omega (arith, length-append xs (x ∷ [])))
-
-pub added_length_most : (xs : List Configuration) (x : Configuration) → length (add_configuration xs x) ≤ length xs + 1
-added_length_most xs x = add_cases (λ ys. length ys ≤ length xs + 1) xs x (λ _. omega arith) (λ _. omega (arith, length-append xs (x ∷ [])))
 
 -- the same for a list of configurations that are added
 pub all_added_has : (xs ys : List Configuration) (y : Configuration) → Contains xs y ⊎ Contains ys y → Contains (fold add_configuration xs ys) y

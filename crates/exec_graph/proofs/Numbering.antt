@@ -8,9 +8,6 @@ use Rattle.exec_graph.specs.Counting.{add_configuration}
 use Rattle.exec_graph.specs.Drafts.{IsNumbered}
 use Rattle.exec_graph.proofs.Listed.{added_get, all_added_length}
 
-pub none_numbered : (found : List Configuration) → IsNumbered found [] found []
-none_numbered found = record { grown = refl; numbered = refl }
-
 -- numbers stay when the list grows
 numbers_stay : (now : List Configuration) (x : Configuration) (numbers : List ℕ) (places : List Configuration)
     → map (slice_get now) numbers ≡ map Some places → map (slice_get (add_configuration now x)) numbers ≡ map Some places
