@@ -1,14 +1,14 @@
 -- The walks of a table plan's graph are the paths of its table, and what follows from it for verdicts.
-use Rattle.std.proofs.Common.{◌≡◌, ◌≢◌, ◌⊎◌, ◌↔◌, ◌&&◌, ℕ, zero, suc, ◌+◌, ◌<◌, ◌≤◌, Bool, true, false, cond, List, [], ◌∷◌, ◌++◌, length, map, Some, None, Option, refl, sym, ap, ◌∙◌, subst, arith, ⊎_elim, inl, inr}
+use Rattle.std.proofs.Common.{◌≡◌, ◌&&◌, ℕ, ◌+◌, ◌<◌, ◌≤◌, true, List, [], ◌∷◌, ◌++◌, length, map, refl, sym, ap, ◌∙◌, subst, arith, ⊎_elim, inl, inr}
 use Rattle.std.specs.List.{Contains, filter, flat_map, list_any, range_with_len}
 use Rattle.std.proofs.lemmas.Bool.{false≢true, and_parts}
 use Rattle.std.proofs.lemmas.List.{length-append, length-map}
 use Rattle.std.proofs.lemmas.List.Elements.{Contains-append_cases}
 use Rattle.task_core.specs.Vectors.{Vector, all_vectors}
 use Rattle.task_core.specs.Systems.{System, HasOutcome}
-use Rattle.task_core.specs.Tables.{IsPath, IsTerminal, Leads, Reaches, Table, last_state}
-use Rattle.task_core.specs.Solutions.{HasNoCycle, IsReached, MayEnd, MayReachGoal}
-use Rattle.task_core.specs.ContextPlans.{Configuration, IsInitial, first_context}
+use Rattle.task_core.specs.Tables.{IsPath, IsTerminal, Leads, Table, last_state}
+use Rattle.task_core.specs.Solutions.{HasNoCycle, IsReached}
+use Rattle.task_core.specs.ContextPlans.{Configuration, first_context}
 use Rattle.task_core.specs.declared.classes.Class.{Class}
 use Rattle.task_core.proofs.Vectors.{Contains-map_image, Contains-filter_cases}
 use Rattle.plan_rules.specs.Rules.{PlanRule, table}

@@ -1,21 +1,20 @@
 -- What is found on the graph of a table plan gives the verdict.
-use Rattle.std.proofs.Common.{◌≡◌, ◌⊎◌, ◌↔◌, ℕ, zero, suc, ◌+◌, ◌<◌, ◌≤◌, Bool, true, false, IsTrue, List, [], ◌∷◌, length, map, Some, None, Option, unwrap_or, refl, sym, ap, ◌∙◌, subst, arith}
+use Rattle.std.proofs.Common.{◌≡◌, ◌↔◌, ℕ, zero, suc, ◌<◌, Bool, true, false, IsTrue, List, [], ◌∷◌, length, map, Some, None, Option, unwrap_or, refl, sym, ap, ◌∙◌, subst, arith}
 use Rattle.std.specs.Prelude.{slice_get}
 use Rattle.std.specs.List.{Contains}
 use Rattle.std.specs.Option.{option_map, option_map_or}
-use Rattle.std.proofs.lemmas.Bool.{false≢true, true≢false}
+use Rattle.std.proofs.lemmas.Bool.{false≢true}
 use Rattle.task_core.specs.Vectors.{Vector, value_of}
 use Rattle.task_core.specs.States.{truth, vector}
 use Rattle.task_core.specs.Conditions.{holds, holds_in, ids_below}
 use Rattle.task_core.specs.Actions.{goal_within}
 use Rattle.task_core.specs.declared.states.State.{State}
 use Rattle.task_core.proofs.Agreement.{holds_agree, ids_below_widen}
-use Rattle.task_core.specs.Cubes.{matches}
 use Rattle.task_core.specs.Systems.{System, goal_states}
-use Rattle.task_core.specs.Tables.{Reaches, last_state, IsTerminal}
+use Rattle.task_core.specs.Tables.{Reaches, IsTerminal}
 use Rattle.task_core.specs.Tasks.{fluent_count, states_where, system_of}
-use Rattle.task_core.specs.Solutions.{EndsInGoal, HasNoCycle, IsReached, IsWeakSolution, MayEnd, MayReachGoal}
-use Rattle.task_core.specs.ContextPlans.{Configuration, IsInitial, first_context}
+use Rattle.task_core.specs.Solutions.{EndsInGoal, IsWeakSolution, MayEnd, MayReachGoal}
+use Rattle.task_core.specs.ContextPlans.{IsInitial, first_context}
 use Rattle.task_core.specs.declared.classes.Class.{Class}
 use Rattle.task_core.specs.declared.classes.Class.TheVariants.{Weak, Strong, Cyclic}
 use Rattle.task_core.specs.declared.conditions.Cond.{Cond}
@@ -23,13 +22,12 @@ use Rattle.task_core.specs.declared.tasks.Task.{Task}
 use Rattle.task_core.proofs.TaskSystem.{length-vector, states_where_has, states_where_holds, value_of-vector}
 use Rattle.plan_rules.specs.Rules.{PlanRule, table}
 use Rattle.plan_rules.specs.Denoted.{denoted}
-use Rattle.exec_graph.specs.Executions.{HasBadRule, MayBeUnexecutable}
 use Rattle.exec_graph.specs.Graphs.{IsGraphOf}
 use Rattle.exec_graph.specs.Values.{followers_at, graph_size, plain_graph, state_at}
 use Rattle.exec_graph.specs.declared.graphs.Place.{Place}
 use Rattle.exec_graph.specs.declared.graphs.Graph.{Graph}
 use Rattle.plan_check.specs.Plain.{HasAllMarked, HasEndOutside, HasEndsInside, HasFollowersInside, HasMarkedStarts, HasUnmarked, HasUnmarkedStart, IsGoalEnd, is_goal_at}
-use Rattle.plan_check.specs.Verdicts.{CanFollowRules, HasReason, IsFirstReason, IsFreeOf, IsVerdict, IsYes, MayAlwaysEnd, MayComeRound, MayEndOutside, MayMissGoal, MayNeverEnd, ReachesBadRule, turn_of}
+use Rattle.plan_check.specs.Verdicts.{CanFollowRules, IsFreeOf, IsVerdict, MayAlwaysEnd, MayComeRound, MayEndOutside, MayMissGoal, MayNeverEnd, ReachesBadRule, turn_of}
 use Rattle.plan_check.specs.Walks.{ComesRound, IsLongestWalk, IsMarked, LeadsToMarked, last_number}
 use Rattle.plan_check.specs.declared.verdicts.Reason.{Reason}
 use Rattle.plan_check.specs.declared.verdicts.Reason.TheVariants.{Unexecutable, Stuck, Terminal, Cycle, Unreachable, Formula}

@@ -1,9 +1,9 @@
 -- The steps of a search in depth keep what holds between them.
-use Rattle.std.proofs.Common.{◌≡◌, ◌≢◌, ◌⊎◌, ℕ, zero, suc, ◌+◌, ◌-◌, ◌<◌, ◌≤◌, ◌^◌, Bool, true, false, cond, List, [], ◌∷◌, ◌++◌, length, take, drop, get_or, set, replicate, refl, sym, ap, ◌∙◌, subst, arith, ⊎_elim, inl, inr, max}
-use Rattle.std.specs.Prelude.{slice_index, sum_by, count_by}
-use Rattle.std.specs.List.{All, AllPairs, Contains}
+use Rattle.std.proofs.Common.{◌≡◌, ◌≢◌, ◌⊎◌, ℕ, zero, suc, ◌+◌, ◌-◌, ◌<◌, ◌≤◌, ◌^◌, List, [], ◌∷◌, ◌++◌, length, get_or, set, refl, sym, ap, ◌∙◌, subst, arith, ⊎_elim, inl, inr, max}
+use Rattle.std.specs.Prelude.{slice_index}
+use Rattle.std.specs.List.{AllPairs, Contains}
 use Rattle.std.proofs.lemmas.Bool.{cases_eq, cases_lt}
-use Rattle.std.proofs.lemmas.List.{length-set, get_or-set_same, get_or-set_other, get_or_past, get_or_append_left, get_or_push, length_push, get_or-replicate, length-replicate, get_or_default}
+use Rattle.std.proofs.lemmas.List.{length-set, get_or-set_same, get_or-set_other, get_or_past, get_or_append_left, get_or_push, length_push, get_or_default}
 use Rattle.std.proofs.lemmas.List.Elements.{All-push, All-contains, Contains-push, Contains-append_left, Contains-push_cases, Contains-get_or}
 use Rattle.std.proofs.lemmas.List.Quantifiers.{all_pairs_push}
 use Rattle.std.proofs.lemmas.List.Sums.{sum_by-cons, sum_by-set}
@@ -343,26 +343,6 @@ module _ (n : ℕ) (next : ℕ → List ℕ) (visits : List Visit) (front : List
 
   pub ended_keeps : KeepsSeen visits (set visits top ended)
   ended_keeps = keeps_seen visits top ended end_within (λ e. cc)
-
--- before anything is seen
-nothing_seen : (n i : ℕ) → visit_at (replicate n no_visit) i ≡ no_visit
-nothing_seen n i =
-    ⊎_elim (λ (l : i < n). get_or-replicate n i no_visit no_visit l)
-    (λ (past : n ≤ i). let e = length-replicate n no_visit in get_or_past (replicate n no_visit) i no_visit (omega arith))
-    (cases_lt i n)
-
-pub new_search : (n : ℕ) (next : ℕ → List ℕ) → IsSearch n next (replicate n no_visit) []
-new_search n next =
-    record {
-      count = length-replicate n no_visit;
-      each = λ i. subst (IsVisit next (replicate n no_visit) i) (sym (nothing_seen n i))
-          (record { tried = omega arith; all = λ e. cc; below = λ k l. absurd (omega arith); attained = inl refl });
-      low = λ i. subst (IsLow (done_count (replicate n no_visit))) (sym (nothing_seen n i)) (omega arith);
-      on_path = λ k d l. absurd (omega arith);
-      all_on_path = λ i e. let z : (visit_at (replicate n no_visit) i).mark ≡ Unseen = ap (λ (w : Visit). w.mark) (nothing_seen n i) in cc;
-      once = λ i j d l m. absurd (omega arith);
-      trail = tt;
-    }
 
 -- a walk of so many steps from a number
 record WalkFrom (next : ℕ → List ℕ) (m i : ℕ) : Type 0 where

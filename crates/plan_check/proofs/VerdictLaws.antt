@@ -1,5 +1,5 @@
 -- Laws of verdicts.
-use Rattle.std.proofs.Common.{◌≡◌, ◌↔◌, ◌⊎◌, ℕ, zero, suc, ◌<◌, ◌≤◌, List, Some, None, Option, refl, sym, ap, ◌∙◌, subst, arith, ⊎_elim}
+use Rattle.std.proofs.Common.{◌≡◌, ◌↔◌, ◌⊎◌, ℕ, zero, suc, ◌<◌, ◌≤◌, List, Some, Option, refl, sym, ap, ◌∙◌, arith, ⊎_elim}
 use Rattle.std.proofs.lemmas.Bool.{cases_order}
 use Rattle.task_core.specs.Systems.{System}
 use Rattle.task_core.specs.Tables.{Table}
@@ -8,7 +8,7 @@ use Rattle.task_core.specs.declared.classes.Class.{Class}
 use Rattle.task_core.specs.declared.classes.Class.TheVariants.{Weak, Strong, Cyclic}
 use Rattle.plan_rules.specs.Rules.{PlanRule}
 use Rattle.plan_rules.specs.Denoted.{denoted}
-use Rattle.plan_check.specs.Verdicts.{CanFollowRules, HasExecution, HasReason, IsBound, IsFirstReason, IsFreeOf, IsLongest, IsVerdict, IsYes, SaysYes, turn_of}
+use Rattle.plan_check.specs.Verdicts.{CanFollowRules, HasExecution, HasReason, IsBound, IsFirstReason, IsFreeOf, IsLongest, IsVerdict, SaysYes, turn_of}
 use Rattle.plan_check.specs.declared.verdicts.Reason.{Reason}
 use Rattle.plan_check.specs.declared.verdicts.Reason.TheVariants.{Unexecutable, Stuck, Terminal, Cycle, Unreachable, Formula}
 use Rattle.plan_check.specs.declared.verdicts.Verdict.{Verdict}

@@ -1,5 +1,5 @@
 -- Marks on numbers, and the list of the marked ones.
-use Rattle.std.specs.Prelude.{◌≡◌, ◌<◌, ◌↔◌, ℕ, Bool, not, List, [], length, count_by, slice_get, Vec}
+use Rattle.std.specs.Prelude.{ℕ, Bool, not, List, [], count_by, slice_get, Vec}
 use Rattle.std.specs.List.{All, Contains}
 use Rattle.std.specs.Option.{option_map_or}
 use Rattle.std.specs.declared.alloc.Global.{Global}

@@ -28,7 +28,8 @@ pub record HasEndOutside (n : ℕ) (goal : Cond) (graph : Graph) : Type 0 where
 
 -- Private: each configuration without a follower is in the goal
 abbrev pub HasEndsInside : ℕ → Cond → Graph → Type 0
-HasEndsInside n goal graph = (i : ℕ) → i < graph_size graph → followers_at graph i ≡ [] → is_goal_at n goal graph i ≡ true
+HasEndsInside n goal graph = (i : ℕ) → i < graph_size graph → followers_at graph i ≡ []
+    → is_goal_at n goal graph i ≡ true
 
 -- Private: a configuration without a follower, in the goal
 pub record IsGoalEnd (n : ℕ) (goal : Cond) (graph : Graph) (i : ℕ) : Type 0 where
@@ -44,7 +45,8 @@ pub record HasUnmarkedStart (graph : Graph) (marks : List Bool) : Type 0 where
 
 -- Private: each initial configuration has a mark
 abbrev pub HasMarkedStarts : Graph → List Bool → Type 0
-HasMarkedStarts graph marks = (i : ℕ) → i < graph_size graph → is_initial_at graph i ≡ true → IsMarked marks i
+HasMarkedStarts graph marks = (i : ℕ) → i < graph_size graph → is_initial_at graph i ≡ true
+    → IsMarked marks i
 
 -- Private: some number below a bound has no mark
 pub record HasUnmarked (n : ℕ) (marks : List Bool) : Type 0 where

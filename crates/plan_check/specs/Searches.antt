@@ -1,5 +1,6 @@
 -- A search in depth, and what it knows on its way.
-use Rattle.std.specs.Prelude.{◌≡◌, ◌≢◌, ◌⊎◌, ◌+◌, ◌-◌, ◌<◌, ◌≤◌, ◌^◌, ℕ, List, [], ◌∷◌, length, slice_index, slice_index_or, ⊤, sum_by}
+use Rattle.std.specs.Prelude.{◌≡◌, ◌≢◌, ◌⊎◌, ◌+◌, ◌-◌, ◌<◌, ◌≤◌, ◌^◌, ℕ, List, [], ◌∷◌, ⊤}
+use Rattle.std.specs.Prelude.{length, slice_index, slice_index_or, sum_by}
 use Rattle.std.specs.List.{All, AllPairs, Contains}
 use Rattle.plan_check.specs.Walks.{IsWalk}
 use Rattle.plan_check.specs.declared.search.Mark.{Mark}
@@ -26,8 +27,8 @@ pub record IsAboveSome (next : ℕ → List ℕ) (visits : List Visit) (i height
   pub done : (visit_at visits follower).mark ≡ Done
   pub above : height ≡ (visit_at visits follower).height + 1
 
--- Private: what is known of number i is true: of the numbers that follow it the first `tried` are done and
--- lower, it is no higher than it must be, and where it is done all have been tried
+-- Private: what is known of number i is true: of the numbers that follow it the first `tried` are
+-- done and lower, it is no higher than it must be, and where it is done all have been tried
 pub record IsVisit (next : ℕ → List ℕ) (visits : List Visit) (i : ℕ) (visit : Visit) : Type 0 where
   pub tried : visit.tried ≤ length (next i)
   pub all : visit.mark ≡ Done → visit.tried ≡ length (next i)
@@ -53,8 +54,8 @@ abbrev pub IsTrail : (ℕ → List ℕ) → List ℕ → Type 0
 IsTrail next [] = ⊤
 IsTrail next (i ∷ rest) = IsWalk next i rest
 
--- Private: what holds between two steps of the search: the numbers on its path are those that are open,
--- each once and each following the one before
+-- Private: what holds between two steps of the search: the numbers on its path are those that are
+-- open, each once and each following the one before
 pub record IsSearch (n : ℕ) (next : ℕ → List ℕ) (visits : List Visit) (path : List ℕ) : Type 0 where
   pub count : length visits ≡ n
   pub each : (i : ℕ) → IsVisit next visits i (visit_at visits i)
@@ -72,8 +73,8 @@ IsSeen visits i = (visit_at visits i).mark ≢ Unseen
 abbrev pub KeepsSeen : List Visit → List Visit → Type 0
 KeepsSeen before after = (i : ℕ) → IsSeen before i → IsSeen after i
 
--- Private: how much is left to do with a number of which so many followers have been tried: more than a list
--- of followers can be long where it wasn't seen, nothing where it is done
+-- Private: how much is left to do with a number of which so many followers have been tried: more
+-- than a list of followers can be long where it wasn't seen, nothing where it is done
 abbrev pub left_by : Mark → ℕ → ℕ
 left_by Unseen tried = 2 ^ 64 + 2
 left_by Open tried = (2 ^ 64 + 1) - tried

@@ -1,11 +1,12 @@
--- What a verdict on a table plan says, for each class of plans (Cimatti, Pistore, Roveri, Traverso 2003). It
--- speaks of the paths of the table that the rules denote, and of no graph.
+-- What a verdict on a table plan says, for each class of plans (Cimatti, Pistore, Roveri, Traverso
+-- 2003). It speaks of the paths of the table that the rules denote, and of no graph.
 use Rattle.std.specs.Prelude.{◌≡◌, ◌⊎◌, ◌<◌, ◌≤◌, ℕ, true, List, ◌∷◌, length, Option, Some, None, ⊤}
 use Rattle.std.specs.List.{Contains}
 use Rattle.task_core.specs.Vectors.{Vector}
 use Rattle.task_core.specs.Systems.{System, Exec, goal_states}
 use Rattle.task_core.specs.Tables.{Table, IsPath, IsTerminal, last_state}
-use Rattle.task_core.specs.Solutions.{EndsInGoal, HasNoCycle, IsReached, IsWeakSolution, MayEnd, MayReachGoal}
+use Rattle.task_core.specs.Solutions.{EndsInGoal, HasNoCycle, IsReached, IsWeakSolution}
+use Rattle.task_core.specs.Solutions.{MayEnd, MayReachGoal}
 use Rattle.task_core.specs.Cubes.{matches}
 use Rattle.task_core.specs.declared.classes.Class.{Class}
 use Rattle.task_core.specs.declared.classes.Class.TheVariants.{Weak, Strong, Cyclic}
@@ -13,7 +14,8 @@ use Rattle.plan_rules.specs.Rules.{PlanRule}
 use Rattle.plan_rules.specs.Denoted.{denoted}
 use Rattle.exec_graph.specs.Executions.{HasBadRule}
 use Rattle.plan_check.specs.declared.verdicts.Reason.{Reason}
-use Rattle.plan_check.specs.declared.verdicts.Reason.TheVariants.{Unexecutable, Stuck, Terminal, Cycle, Unreachable, Formula}
+use Rattle.plan_check.specs.declared.verdicts.Reason.TheVariants.{Unexecutable, Stuck, Terminal}
+use Rattle.plan_check.specs.declared.verdicts.Reason.TheVariants.{Cycle, Unreachable, Formula}
 use Rattle.plan_check.specs.declared.verdicts.Verdict.{Verdict}
 use Rattle.plan_check.specs.declared.verdicts.Verdict.TheVariants.{Yes, No}
 
@@ -60,9 +62,9 @@ pub record MayNeverEnd (sys : System) (table : Table) : Type 0 where
 abbrev pub MayAlwaysEnd : System → Table → Type 0
 MayAlwaysEnd sys table = (s : Vector) → IsReached sys table s → MayEnd sys table s
 
--- the reason speaks against the rules as a plan of the class. A strong plan needs no test of what is out of
--- reach: where no execution comes round, each of them ends. A table has no contexts in which it could be
--- stuck, and no goal formula.
+-- the reason speaks against the rules as a plan of the class. Of a strong plan it isn't asked what
+-- is out of reach: where no execution comes round, each of them ends. A table has no contexts in
+-- which it could be stuck, and no goal formula.
 abbrev pub HasReason : System → List PlanRule → Reason → Class → Type 0
 HasReason sys rules Unexecutable class = ReachesBadRule sys rules
 HasReason sys rules Stuck class = ⊥
@@ -77,7 +79,8 @@ HasReason sys rules Unreachable Strong = ⊥
 HasReason sys rules Unreachable Cyclic = MayNeverEnd sys (denoted sys rules)
 HasReason sys rules Formula class = ⊥
 
--- the reason doesn't speak against them: the opposite, with what there is in place of what isn't missing
+-- the reason doesn't speak against them: its opposite, which says what there is in place of what
+-- would be missing
 abbrev pub IsFreeOf : System → List PlanRule → Reason → Class → Type 0
 IsFreeOf sys rules Unexecutable class = CanFollowRules sys rules
 IsFreeOf sys rules Stuck class = ⊤
@@ -102,9 +105,11 @@ turn_of Unreachable = 4
 turn_of Formula = 5
 
 -- the reason speaks against the rules, and none that is tried before it does
-pub record IsFirstReason (sys : System) (rules : List PlanRule) (reason : Reason) (class : Class) : Type 0 where
+pub record IsFirstReason (sys : System) (rules : List PlanRule) (reason : Reason)
+    (class : Class) : Type 0 where
   pub has : HasReason sys rules reason class
-  pub first : (earlier : Reason) → turn_of earlier < turn_of reason → IsFreeOf sys rules earlier class
+  pub first : (earlier : Reason) → turn_of earlier < turn_of reason
+      → IsFreeOf sys rules earlier class
 
 -- some path of so many steps begins in an initial state
 pub record HasExecution (sys : System) (table : Table) (steps : ℕ) : Type 0 where
@@ -114,7 +119,8 @@ pub record HasExecution (sys : System) (table : Table) (steps : ℕ) : Type 0 wh
   pub path : IsPath sys table start rest
   pub long : length rest ≡ steps
 
--- the largest number of steps of a path that begins in an initial state; 0 where there is no initial state
+-- the largest number of steps of a path that begins in an initial state; 0 where there is no initial
+-- state
 pub record IsLongest (sys : System) (table : Table) (steps : ℕ) : Type 0 where
   pub most : (n : ℕ) → HasExecution sys table n → n ≤ steps
   pub attained : HasExecution sys table steps
@@ -127,11 +133,13 @@ IsBound sys table Strong bound = (steps : ℕ) × (bound ≡ Some steps) × IsLo
 IsBound sys table Cyclic bound = bound ≡ None
 
 -- a yes: no reason speaks against the rules as a plan of the class, and the bound is theirs
-pub record IsYes (sys : System) (rules : List PlanRule) (class : Class) (bound : Option ℕ) : Type 0 where
+pub record IsYes (sys : System) (rules : List PlanRule) (class : Class)
+    (bound : Option ℕ) : Type 0 where
   pub free : (reason : Reason) → IsFreeOf sys rules reason class
   pub bounded : IsBound sys (denoted sys rules) class bound
 
--- the verdict on the rules as a plan of the class: the first reason that speaks against them, else yes
+-- the verdict on the rules as a plan of the class: the first reason that speaks against them, else
+-- yes
 abbrev pub IsVerdict : System → List PlanRule → Class → Verdict → Type 0
 IsVerdict sys rules class (Yes bound) = IsYes sys rules class bound
 IsVerdict sys rules class (No reason) = IsFirstReason sys rules reason class

@@ -7,7 +7,13 @@ ghost use Rattle.task_core.specs.Solutions.{IsSolution};
 ghost use Rattle.task_core.specs.declared.classes.Class.{Class};
 ghost use Rattle.plan_rules.specs.Rules.{PlanRule};
 ghost use Rattle.plan_rules.specs.Denoted.{denoted};
-ghost use Rattle.plan_check.specs.Verdicts.{CanFollowRules, HasReason, IsFreeOf, IsVerdict, SaysYes};
+ghost use Rattle.plan_check.specs.Verdicts.{
+  CanFollowRules,
+  HasReason,
+  IsFreeOf,
+  IsVerdict,
+  SaysYes,
+};
 ghost use Rattle.plan_check.specs.declared.verdicts.Reason.{Reason};
 ghost use Rattle.plan_check.specs.declared.verdicts.Verdict.{Verdict};
 

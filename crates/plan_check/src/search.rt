@@ -187,7 +187,8 @@ impl Search {
     fn open(&mut self, number: u32) -> Result<(), AllocError>
         requires { number < length self.old.visits.items }
         ensures visits { IfOk result (λ _. self.new.visits.items
-            ≡ slice_set self.old.visits.items number (record { mark = Open; tried = 0; height = 0 })) }
+            ≡ slice_set self.old.visits.items number
+            (record { mark = Open; tried = 0; height = 0 })) }
         ensures path { IfOk result (λ _. self.new.path.items ≡ self.old.path.items ++ number ∷ []) }
     {
         self.visits[number as usize] = Visit {

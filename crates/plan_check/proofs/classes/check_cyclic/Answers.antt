@@ -1,6 +1,5 @@
-use Rattle.std.proofs.Common.{ℕ, Bool, List, length, subst}
+use Rattle.std.proofs.Common.{length, subst}
 use Rattle.task_core.specs.Tasks.{fluent_count, system_of}
-use Rattle.exec_graph.specs.Values.{graph_size}
 use Rattle.plan_check.specs.Plain.{HasAllMarked, HasUnmarked}
 use Rattle.plan_check.proofs.GraphVerdicts.{cyclic_ends, cyclic_no, cyclic_yes, ends_inside, ends_outside, goal_below, marked_may_end, unmarked_never_ends}
 use Rattle.plan_check.proofs.classes.check_cyclic.Goals as goal

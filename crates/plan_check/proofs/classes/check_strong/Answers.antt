@@ -1,4 +1,4 @@
-use Rattle.std.proofs.Common.{◌≡◌, ℕ, Option, Some, None, subst}
+use Rattle.std.proofs.Common.{subst}
 use Rattle.std.specs.Prelude.{IfSome, IfNone}
 use Rattle.task_core.specs.Tasks.{fluent_count, system_of}
 use Rattle.exec_graph.specs.Values.{followers_at, graph_size}

@@ -1,6 +1,5 @@
-use Rattle.std.proofs.Common.{ℕ, Bool, List, length, subst}
+use Rattle.std.proofs.Common.{subst}
 use Rattle.task_core.specs.Tasks.{fluent_count, system_of}
-use Rattle.exec_graph.specs.Values.{graph_size}
 use Rattle.plan_check.specs.Plain.{HasMarkedStarts, HasUnmarkedStart}
 use Rattle.plan_check.proofs.GraphVerdicts.{goal_below, marked_solves, unmarked_misses, weak_no, weak_yes}
 use Rattle.plan_check.proofs.classes.check_weak.Goals as goal

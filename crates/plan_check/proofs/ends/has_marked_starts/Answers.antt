@@ -1,4 +1,4 @@
-use Rattle.std.proofs.Common.{◌≡◌, ◌<◌, ℕ, Bool, true, false, sym, ◌∙◌, arith}
+use Rattle.std.proofs.Common.{◌≡◌, true, sym, ◌∙◌, arith}
 use borrow.Author.Count.{below_more}
 use Rattle.std.proofs.lemmas.Bool.{false≢true}
 use Rattle.plan_check.specs.Plain.{is_initial_at}

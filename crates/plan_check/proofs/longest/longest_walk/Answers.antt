@@ -1,4 +1,4 @@
-use Rattle.std.proofs.Common.{◌≡◌, ◌<◌, ℕ, List, [], subst, arith}
+use Rattle.std.proofs.Common.{subst, arith}
 use Rattle.exec_graph.specs.Values.{followers_at, graph_size}
 use Rattle.plan_check.specs.Searches.{IsSearch}
 use Rattle.plan_check.proofs.SearchSteps.{greatest_longest}

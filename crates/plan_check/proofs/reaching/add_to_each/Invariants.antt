@@ -1,4 +1,4 @@
-use Rattle.std.proofs.Common.{ℕ, ◌<◌, ◌≡◌, ◌↔◌, ◌⊎◌, length, take}
+use Rattle.std.proofs.Common.{ℕ, ◌≡◌, ◌↔◌, ◌⊎◌, length, take}
 use Rattle.std.specs.List.{Contains}
 use Rattle.plan_check.specs.Marks.{list_at}
 use Rattle.plan_check.proofs.reaching.add_to_each.Given as goal

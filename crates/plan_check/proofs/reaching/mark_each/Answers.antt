@@ -1,7 +1,7 @@
-use Rattle.std.proofs.Common.{◌≡◌, ◌⊎◌, ◌<◌, ℕ, List, get_or, take, take_all, length, inl, inr, ⊎_elim, ◌∙◌, sym, subst, arith}
+use Rattle.std.proofs.Common.{◌<◌, get_or, take_all, length, inl, inr, ⊎_elim, sym, subst, arith}
 use Rattle.std.specs.List.{Contains}
 use Rattle.std.proofs.lemmas.List.{get_or_default}
-use Rattle.plan_check.proofs.MarkFacts.{IsMarking, marking_none, marking_step}
+use Rattle.plan_check.proofs.MarkFacts.{marking_none, marking_step}
 use Rattle.plan_check.proofs.reaching.mark_each.Goals as goal
 
 pub loop-i-init : goal.loop-i-init

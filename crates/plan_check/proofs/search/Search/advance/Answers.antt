@@ -1,6 +1,6 @@
-use Rattle.std.proofs.Common.{◌≡◌, ◌<◌, ℕ, List, get_or, arith}
+use Rattle.std.proofs.Common.{arith}
 use Rattle.exec_graph.specs.Values.{followers_at, graph_size}
-use Rattle.plan_check.proofs.SearchTurns.{follower_below, follower_within, top_below, top_within, turn_ends, turn_ends_keeps, turn_ends_less, turn_fits, turn_opens, turn_opens_keeps, turn_opens_less, turn_round, turn_takes, turn_takes_keeps, turn_takes_less}
+use Rattle.plan_check.proofs.SearchTurns.{follower_within, top_below, top_within, turn_ends, turn_ends_keeps, turn_ends_less, turn_fits, turn_opens, turn_opens_keeps, turn_opens_less, turn_round, turn_takes, turn_takes_keeps, turn_takes_less}
 use Rattle.plan_check.proofs.search.Search.advance.Goals as goal
 
 pub next-followers-requires : goal.next-followers-requires
