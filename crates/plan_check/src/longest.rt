@@ -1,6 +1,6 @@
 //! The longest walk through a graph.
 
-ghost use Rattle.std.specs.Prelude.{◌≡◌, ℕ, IfOk, MatchOption, IfSome, IfNone};
+ghost use Rattle.std.specs.Prelude.{IfNone, IfOk, IfSome};
 ghost use Rattle.exec_graph.specs.Values.{followers_at, graph_size};
 ghost use Rattle.plan_check.specs.Plain.{HasFollowersInside};
 ghost use Rattle.plan_check.specs.Walks.{ComesRound, IsLongestWalk};

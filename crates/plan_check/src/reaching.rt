@@ -9,22 +9,22 @@ ghost use Rattle.std.specs.Prelude.{
   ◌^◌,
   ◌↔◌,
   ◌⊎◌,
-  ℕ,
+  ◌++◌,
+  ◌∷◌,
+  if◌then◌else◌,
+  [],
+  false,
   IfOk,
   length,
   List,
-  ◌++◌,
-  ◌∷◌,
-  [],
-  slice_set,
   slice_index_or,
-  if◌then◌else◌,
+  slice_set,
   true,
-  false,
+  ℕ,
 };
 ghost use Rattle.std.specs.List.{All, Contains};
 ghost use Rattle.exec_graph.specs.Values.{followers_at, graph_size};
-ghost use Rattle.plan_check.specs.Marks.{ListsMarked, list_at, unmarked};
+ghost use Rattle.plan_check.specs.Marks.{list_at, ListsMarked, unmarked};
 ghost use Rattle.plan_check.specs.Plain.{HasFollowersInside};
 ghost use Rattle.plan_check.specs.Walks.{IsMarked, LeadsToMarked};
 

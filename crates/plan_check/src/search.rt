@@ -3,30 +3,24 @@
 
 ghost use Rattle.std.specs.Prelude.{
   ◌≡◌,
-  ◌≢◌,
   ◌+◌,
   ◌^◌,
   ◌-◌,
   ◌<◌,
   ◌≤◌,
-  ℕ,
-  List,
-  IfOk,
-  IsTrue,
-  false,
-  true,
-  length,
-  max,
-  slice_set,
-  take,
   ◌++◌,
   ◌∷◌,
-  [],
-  MatchBool,
   ◌⊎◌,
-  ⊤,
+  [],
+  IfOk,
+  length,
+  List,
+  max,
   slice_get,
+  slice_set,
   Some,
+  take,
+  ℕ,
 };
 ghost use Rattle.exec_graph.specs.Values.{followers_at, graph_size};
 ghost use Rattle.plan_check.specs.Plain.{HasFollowersInside};
@@ -71,14 +65,7 @@ pub(crate) enum Turn {
 }
 
 impl Search {
-    ghost use Rattle.plan_check.specs.Searches.{
-      IsSearch,
-      IsSeen,
-      KeepsSeen,
-      left_in,
-      no_visit,
-      visit_at,
-    };
+    ghost use Rattle.plan_check.specs.Searches.{IsSearch, IsSeen, KeepsSeen, left_in, visit_at};
     ghost use Rattle.plan_check.specs.declared.search.Mark.TheVariants.{Done, Open, Unseen};
     ghost use Rattle.plan_check.specs.declared.search.Turn.TheVariants.{Further, Round};
 
