@@ -1,0 +1,16 @@
+pub mod ChangeLemmas
+pub mod EntryLemmas
+mod Examples
+pub mod ImageLemmas
+pub mod InitialLemmas
+pub mod LedLemmas
+pub mod MadeLemmas
+pub mod OwnedLemmas
+pub mod PartLemmas
+pub mod ShallowLemmas
+pub mod ShownLemmas
+pub mod StateLemmas
+pub mod StepLemmas
+pub mod TableLemmas
+pub mod TightLemmas
+pub mod WholeLemmas

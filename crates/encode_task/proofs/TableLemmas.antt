@@ -1,0 +1,121 @@
+-- The tables of slots, step by step, and what they are for a whole task.
+use Rattle.std.proofs.Common.{◌≡◌, ◌≢◌, ℕ, zero, suc, ◌+◌, ◌*◌, ◌<◌, ◌≤◌, ◌==◌, Bool, true, false, ◌||◌, List, [], ◌∷◌, ◌++◌, map, length, get_or, take, Option, Some, None, IsSome, slice_get, unwrap_or, slice_index_or, refl, sym, ap, subst, ◌∙◌, ⊎_elim, arith}
+use Rattle.std.proofs.lemmas.List.{map-append, take_more}
+use Rattle.std.specs.List.{list_all, list_any}
+use Rattle.std.specs.Option.{option_map_or}
+use Rattle.dd_nodes.specs.NodeList.{Values}
+use Rattle.dd_nodes.specs.Subfunctions.{Function}
+use Rattle.task_core.specs.Actions.{after_value}
+use Rattle.task_core.specs.Conditions.{holds}
+use Rattle.task_core.specs.declared.actions.GroundAction.{GroundAction}
+use Rattle.task_core.specs.declared.actions.Outcome.{Outcome}
+use Rattle.task_core.specs.declared.literals.FluentId.{FluentId}
+use Rattle.dd_sets.specs.Calls.{KeepsSets}
+use Rattle.dd_sets.specs.LiveSets.{LiveSets, AllLive, listed_set}
+use Rattle.dd_sets.specs.declared.slots.SetId.{SetId}
+use Rattle.encode_task.specs.Made.{Holds, HoldsOutcome}
+use Rattle.encode_task.specs.Slots.{ActionSlots, outcomes_in, changed_in}
+use Rattle.encode_task.specs.Tables.{ActionMade, AllPaired, OutcomeMade, SharesMore}
+use Rattle.encode_task.proofs.MadeLemmas.{holds_kept, outcome_kept}
+
+-- related lists: one pair more, a weaker relation, one length
+pub paired_more : {X Y : Type 0} (R : X → Y → Type 0) (xs : List X) (ys : List Y) (x : X) (y : Y) → AllPaired R xs ys → R x y → AllPaired R (xs ++ x ∷ []) (ys ++ y ∷ [])
+paired_more R [] [] x y all one = (one, tt)
+paired_more R (a ∷ xs) (b ∷ ys) x y all one = (all.0, paired_more R xs ys x y all.1 one)
+paired_more R (a ∷ xs) [] x y all one = absurd all
+paired_more R [] (b ∷ ys) x y all one = absurd all
+
+pub paired_weaker : {X Y : Type 0} (R S : X → Y → Type 0) → ((x : X) (y : Y) → R x y → S x y) → (xs : List X) (ys : List Y) → AllPaired R xs ys → AllPaired S xs ys
+paired_weaker R S weaker [] [] all = tt
+paired_weaker R S weaker (x ∷ xs) (y ∷ ys) all = (weaker x y all.0, paired_weaker R S weaker xs ys all.1)
+paired_weaker R S weaker (x ∷ xs) [] all = absurd all
+paired_weaker R S weaker [] (y ∷ ys) all = absurd all
+
+pub paired_length : {X Y : Type 0} (R : X → Y → Type 0) (xs : List X) (ys : List Y) → AllPaired R xs ys → length xs ≡ length ys
+paired_length R [] [] all = refl
+paired_length R (x ∷ xs) (y ∷ ys) all = ap suc (paired_length R xs ys all.1)
+paired_length R (x ∷ xs) [] all = absurd all
+paired_length R [] (y ∷ ys) all = absurd all
+
+-- one more of each list
+pub made_more : {X Y Z : Type 0} (R S : Z → Y → Type 0) (f : X → Z) (xs after : List X) (x : X) (ys : List Y) (i : ℕ) (y : Y) → ((z : Z) (y : Y) → R z y → S z y) → after ≡ xs ++ x ∷ [] → i < length ys → y ≡ get_or ys i y
+    → AllPaired R (map f xs) (take i ys) → S (f x) y → AllPaired S (map f after) (take (i + 1) ys)
+made_more R S f xs after x ys i y stays is within at all one =
+    let front : map f after ≡ map f xs ++ f x ∷ [] = ap (map f) is ∙ map-append f xs (x ∷ []) in
+    let back : take (i + 1) ys ≡ take i ys ++ y ∷ [] = take_more ys i y within ∙ ap (λ z. take i ys ++ z ∷ []) (sym at) in
+    subst (λ zs. AllPaired S zs (take (i + 1) ys)) (sym front)
+    (subst (AllPaired S (map f xs ++ f x ∷ [])) (sym back) (paired_more S (map f xs) (take i ys) (f x) y (paired_weaker R S stays (map f xs) (take i ys) all) one))
+
+-- what is made stays so while the sets are kept and more slots are shared
+pub outcome_stays : (n : ℕ) (before after : LiveSets) (few many : List (Option SetId)) → KeepsSets before after → SharesMore few many → (changed : List (FluentId × SetId)) (outcome : Outcome)
+    → OutcomeMade n before few changed outcome → OutcomeMade n after many changed outcome
+outcome_stays n before after few many kept more changed outcome made = record {
+  holds = outcome_kept before after kept changed (after_value outcome) made.holds;
+  has_shared = λ f small unlisted. more.more f (made.has_shared f small unlisted);
+}
+
+pub action_stays : (n : ℕ) (before after : LiveSets) (few many : List (Option SetId)) → KeepsSets before after → SharesMore few many → (slots : ActionSlots) (action : GroundAction)
+    → ActionMade n before few slots action → ActionMade n after many slots action
+action_stays n before after few many kept more slots action made = record {
+  exec = holds_kept before after kept slots.exec _ made.exec;
+  outcomes = paired_weaker (OutcomeMade n before few) (OutcomeMade n after many) (outcome_stays n before after few many kept more) slots.outcomes action.outcomes.items made.outcomes;
+}
+
+pub shares_same : (shared : List (Option SetId)) → SharesMore shared shared
+shares_same shared = record { long = refl; more = λ f is. is }
+
+pub shares_chain : (a b c : List (Option SetId)) → SharesMore a b → SharesMore b c → SharesMore a c
+shares_chain a b c first second = record { long = second.long ∙ first.long; more = λ f is. second.more f (first.more f is) }
+
+-- the outcomes of an action in a list
+abbrev pub outcomes_of : List GroundAction → ℕ → List Outcome
+outcomes_of actions a = option_map_or (λ action. action.outcomes.items) (slice_get actions a) []
+
+module _ (n : ℕ) (sets : LiveSets) (shared : List (Option SetId)) where
+  none_live : AllLive sets []
+  none_live k d within = absurd (omega arith)
+
+  outcome_live : (slots : List (List (FluentId × SetId))) (outcomes : List Outcome) → AllPaired (OutcomeMade n sets shared) slots outcomes → (o : ℕ) → AllLive sets (unwrap_or (slice_get slots o) [])
+  outcome_live [] [] all o = none_live
+  outcome_live (x ∷ slots) (y ∷ outcomes) all zero = all.0.holds.live
+  outcome_live (x ∷ slots) (y ∷ outcomes) all (suc o) = outcome_live slots outcomes all.1 o
+  outcome_live (x ∷ slots) [] all o = absurd all
+  outcome_live [] (y ∷ outcomes) all o = absurd all
+
+  pub changed_live : (slots : List ActionSlots) (actions : List GroundAction) → AllPaired (ActionMade n sets shared) slots actions → (a o : ℕ) → AllLive sets (changed_in slots a o)
+  changed_live [] [] all a o = none_live
+  changed_live (x ∷ slots) (y ∷ actions) all zero o = outcome_live x.outcomes y.outcomes.items all.0.outcomes o
+  changed_live (x ∷ slots) (y ∷ actions) all (suc a) o = changed_live slots actions all.1 a o
+  changed_live (x ∷ slots) [] all a o = absurd all
+  changed_live [] (y ∷ actions) all a o = absurd all
+
+  pub outcome_counts : (slots : List ActionSlots) (actions : List GroundAction) → AllPaired (ActionMade n sets shared) slots actions → (a : ℕ) → length (outcomes_in slots a) ≡ length (outcomes_of actions a)
+  outcome_counts [] [] all a = refl
+  outcome_counts (x ∷ slots) (y ∷ actions) all zero = paired_length (OutcomeMade n sets shared) x.outcomes y.outcomes.items all.0.outcomes
+  outcome_counts (x ∷ slots) (y ∷ actions) all (suc a) = outcome_counts slots actions all.1 a
+  outcome_counts (x ∷ slots) [] all a = absurd all
+  outcome_counts [] (y ∷ actions) all a = absurd all
+
+  pub exec_at : (slots : List ActionSlots) (actions : List GroundAction) → AllPaired (ActionMade n sets shared) slots actions → (a : ℕ) → a < length actions
+      → Holds sets (option_map_or (λ (action : ActionSlots). action.exec) (slice_get slots a) (record { 0 = 0 })) (λ values. option_map_or (λ (action : GroundAction). holds action.exec values) (slice_get actions a) false)
+  exec_at [] [] all a within = absurd (omega arith)
+  exec_at (x ∷ slots) (y ∷ actions) all zero within = all.0.exec
+  exec_at (x ∷ slots) (y ∷ actions) all (suc a) within = exec_at slots actions all.1 a (omega arith)
+  exec_at (x ∷ slots) [] all a within = absurd all
+  exec_at [] (y ∷ actions) all a within = absurd all
+
+  one_outcome : (slots : List (List (FluentId × SetId))) (outcomes : List Outcome) → AllPaired (OutcomeMade n sets shared) slots outcomes → (o : ℕ) → o < length outcomes
+      → (outcome : Outcome) × (slice_get outcomes o ≡ Some outcome) × OutcomeMade n sets shared (unwrap_or (slice_get slots o) []) outcome
+  one_outcome [] [] all o within = absurd (omega arith)
+  one_outcome (x ∷ slots) (y ∷ outcomes) all zero within = (y, refl, all.0)
+  one_outcome (x ∷ slots) (y ∷ outcomes) all (suc o) within = one_outcome slots outcomes all.1 o (omega arith)
+  one_outcome (x ∷ slots) [] all o within = absurd all
+  one_outcome [] (y ∷ outcomes) all o within = absurd all
+
+  pub outcome_at : (slots : List ActionSlots) (actions : List GroundAction) → AllPaired (ActionMade n sets shared) slots actions → (a o : ℕ) → o < length (outcomes_of actions a)
+      → (outcome : Outcome) × (slice_get (outcomes_of actions a) o ≡ Some outcome) × OutcomeMade n sets shared (changed_in slots a o) outcome
+  outcome_at [] [] all a o within = absurd (omega arith)
+  outcome_at (x ∷ slots) (y ∷ actions) all zero o within = one_outcome x.outcomes y.outcomes.items all.0.outcomes o within
+  outcome_at (x ∷ slots) (y ∷ actions) all (suc a) o within = outcome_at slots actions all.1 a o within
+  outcome_at (x ∷ slots) [] all a o within = absurd all
+  outcome_at [] (y ∷ actions) all a o within = absurd all

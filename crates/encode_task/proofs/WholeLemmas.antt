@@ -1,0 +1,79 @@
+-- The sets of a task from its pieces, and the bound on their slots.
+use Rattle.std.proofs.Common.{◌≡◌, ℕ, zero, suc, ◌+◌, ◌*◌, ◌^◌, ◌<◌, ◌≤◌, max, Bool, true, false, ◌&&◌, List, [], ◌∷◌, map, length, Option, Some, None, IsSome, slice_get, slice_index_or, leb, refl, rules, sym, ap, subst, ◌∙◌, arith, mul-le-mul_left, mul-le-mul_right}
+use Rattle.std.specs.List.{list_all}
+use Rattle.std.specs.Option.{option_map_or}
+use Rattle.std.proofs.lemmas.Bool.{and_from, le-leb, leb-true}
+use Rattle.dd_nodes.specs.NodeList.{Values}
+use Rattle.task_core.specs.Actions.{after_value}
+use Rattle.task_core.specs.Conditions.{greatest}
+use Rattle.task_core.specs.Tasks.{action_count, fluent_count, outcomes_at}
+use Rattle.task_core.specs.declared.actions.GroundAction.{GroundAction}
+use Rattle.task_core.specs.declared.actions.Outcome.{Outcome}
+use Rattle.task_core.specs.declared.tasks.Task.{Task}
+use Rattle.dd_sets.specs.LiveSets.{LiveSets, live_count, listed_set}
+use Rattle.dd_sets.specs.Rooms.{Tight, IsTightFor, nodes_of_slots}
+use Rattle.dd_sets.proofs.TightLemmas.{tight_more}
+use Rattle.encode_task.specs.Bounds.{most_outcomes, action_slots, working_slots}
+use Rattle.encode_task.specs.Made.{Holds, HoldsGoal, HoldsOutcome, IsReady, MadeOf}
+use Rattle.encode_task.specs.Names.{has_outcomes_within}
+use Rattle.encode_task.specs.Slots.{Encoded, changed_slots, next_slot, outcome_slots, shared_slot}
+use Rattle.encode_task.specs.Tables.{ActionMade, AllPaired, IsShared, OutcomeMade}
+use Rattle.encode_task.specs.TaskSets.{initial_set, after_values}
+use Rattle.encode_task.proofs.TableLemmas.{changed_live, exec_at, outcome_at, outcome_counts, paired_length}
+
+module _ (task : Task) (enc : Encoded) (fluents : enc.fluents ≡ fluent_count task) (vars : enc.sets.vars ≡ fluent_count task)
+    (made : AllPaired (ActionMade (fluent_count task) enc.sets enc.shared) enc.actions task.actions.items) where
+  one : (a o : ℕ) → o < length (outcomes_at task a) → (outcome : Outcome) × (slice_get (outcomes_at task a) o ≡ Some outcome) × OutcomeMade (fluent_count task) enc.sets enc.shared (changed_slots enc a o) outcome
+  one a o within = outcome_at (fluent_count task) enc.sets enc.shared enc.actions task.actions.items made a o within
+
+  counts : (a : ℕ) → length (outcome_slots enc a) ≡ length (outcomes_at task a)
+  counts a = outcome_counts (fluent_count task) enc.sets enc.shared enc.actions task.actions.items made a
+
+  has_next : (a o f : ℕ) → a < length enc.actions → o < length (outcome_slots enc a) → f < enc.fluents → IsSome (next_slot enc a o f)
+  has_next a o f action outcome small =
+      let found = one a o (omega (arith, counts a)) in
+      elim (listed_set (changed_slots enc a o) f) as (λ slot. listed_set (changed_slots enc a o) f ≡ slot → IsSome (option_map_or (λ s. Some s) slot (shared_slot enc f))) [
+        | Some slot ↦ λ listed. search rules
+        | None ↦ λ unlisted. found.2.has_shared f (omega arith) unlisted
+      ] refl
+
+  next : (a o : ℕ) → o < length (outcomes_at task a) → HoldsOutcome enc.sets (changed_slots enc a o) (after_values task a o)
+  next a o outcome =
+      let found = one a o outcome in
+      subst (λ (at : Option Outcome). HoldsOutcome enc.sets (changed_slots enc a o) (λ values f. option_map_or (λ (o : Outcome). after_value o values f) at (values f))) (sym found.1) found.2.holds
+
+  pub made_of_pieces : IsShared enc.sets enc.shared → Holds enc.sets enc.initial (initial_set task) → HoldsGoal enc.sets enc.goal task.goal → MadeOf task enc
+  made_of_pieces shared initial goal = record {
+    ready = record {
+      vars = vars ∙ sym fluents;
+      changed = changed_live (fluent_count task) enc.sets enc.shared enc.actions task.actions.items made;
+      next = has_next;
+    };
+    fluents = fluents;
+    actions = paired_length (ActionMade (fluent_count task) enc.sets enc.shared) enc.actions task.actions.items made;
+    outcomes = counts;
+    initial = initial;
+    goal = goal;
+    exec = λ a within. exec_at (fluent_count task) enc.sets enc.shared enc.actions task.actions.items made a within;
+    next = λ a o action outcome. next a o outcome;
+    shared = shared.holds;
+  }
+
+-- no action has more outcomes than the most of one
+few_outcomes : (actions : List GroundAction) (most : ℕ) → greatest (map (λ (action : GroundAction). length action.outcomes.items) actions) ≤ most → list_all (has_outcomes_within most) actions ≡ true
+few_outcomes [] most few = refl
+few_outcomes (x ∷ actions) most few = and_from (leb (length x.outcomes.items) most) (list_all (has_outcomes_within most) actions) (le-leb (length x.outcomes.items) most (omega arith)) (few_outcomes actions most (omega arith))
+
+pub outcomes_few : (task : Task) → list_all (has_outcomes_within (most_outcomes task)) task.actions.items ≡ true
+outcomes_few task = few_outcomes task.actions.items (most_outcomes task) (omega arith)
+
+-- the slots of all actions are within the bound
+pub slots_within : (actions most fluents : ℕ) → actions * (most * fluents + 1) ≤ actions * (most * (fluents + 1) + 1)
+slots_within actions most fluents = mul-le-mul_left actions (omega arith)
+
+-- a limit that is tight while the sets are made
+pub tight_whole : (sets : LiveSets) (limit fluents few many : ℕ) → sets.limit ≡ limit → sets.vars ≡ fluents → live_count sets + few ≤ many → IsTightFor few sets → Tight limit fluents (nodes_of_slots many fluents)
+tight_whole sets limit fluents few many limits vars within tight =
+    subst (λ v. Tight limit v (nodes_of_slots many v)) vars
+    (subst (λ l. Tight l sets.vars (nodes_of_slots many sets.vars)) limits
+    (tight_more sets.limit sets.vars (nodes_of_slots (live_count sets + few) sets.vars) (nodes_of_slots many sets.vars) (omega (arith, mul-le-mul_right (2 ^ sets.vars) within)) tight))

@@ -1,0 +1,31 @@
+-- One fluent earlier.
+use Rattle.std.proofs.Common.{◌≡◌, [], ◌∷◌, ◌-◌, ◌∙◌, arith, ap, subst}
+use Rattle.std.proofs.lemmas.Result.{err_from_is_err_and}
+use Rattle.dd_nodes.specs.Subfunctions.{Function}
+use Rattle.dd_ops.specs.Operations.{and_of}
+use Rattle.dd_sets.specs.Frames.{Owns}
+use Rattle.encode_task.specs.Images.{has_value}
+use Rattle.encode_task.proofs.OwnedLemmas.{handed, own_set}
+use Rattle.encode_task.proofs.PartLemmas.{answer_slot, same_refusal}
+use Rattle.encode_task.proofs.StateLemmas.{one_earlier, same_from, whole_state}
+use Rattle.encode_task.proofs.TightLemmas.{tight_owned}
+use Rattle.encode_task.proofs.initial.one_state.Goals as goal
+
+pub returns-in_err-all-2-clause-full : goal.returns-in_err-all-2-clause-full
+returns-in_err-all-2-clause-full c full =
+    let p = err_from_is_err_and c.from_residual-in_err-all-2.result c.from_residual-in_err-all-2.ensures.1 in
+    tight_owned _ _ _ c.loop-f.invariant 1 4 (omega arith) (c.where_value-next.ensures.full (same_refusal c.where_value-next.result c.from_residual-in_err-all-2.result _ c.in_err-all-2.was p full))
+
+pub loop-f-preserved : goal.loop-f-preserved
+loop-f-preserved c =
+    subst (λ (f : Function). Owns c.args.sets.now c.release.new.self ((c.in_ok-all-2.all.0, f) ∷ []))
+    (ap (λ (set : Function). and_of set (has_value (c.loop-f.f - 1) c.get.result)) (own_set _ _ _ _ [] [] c.loop-f.invariant)
+    ∙ one_earlier c.args.state.now c.args.fluents (c.loop-f.f - 1) c.loop-f.f c.get.result (omega arith) (omega arith) c.get.ensures.value)
+    (answer_slot _ _ _ c.where_value-next.result _ c.in_ok-all-2.was (handed _ _ _ _ _ _ _ c.where_value-next.result c.loop-f.invariant c.where_value-next.ensures.answer c.release.ensures.released))
+
+pub returns-clause-answer : goal.returns-clause-answer
+returns-clause-answer c =
+    let first : c.loop-f.f ≡ 0 = omega arith in
+    let rest : c.args.fluents - 0 ≡ c.args.fluents = omega arith in
+    subst (λ (f : Function). Owns c.args.sets.now c.loop-f.sets ((c.loop-f.all.0, f) ∷ []))
+    (ap (λ n. same_from c.args.state.now n (c.args.fluents - n)) first ∙ ap (same_from c.args.state.now 0) rest ∙ whole_state c.args.state.now c.args.fluents) c.loop-f.invariant

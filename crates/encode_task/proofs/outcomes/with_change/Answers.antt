@@ -1,0 +1,26 @@
+-- What a change adds to the set.
+use Rattle.std.proofs.Common.{[], ◌∷◌, ◌+◌, ◌∙◌, ⊎_elim, arith, subst, sym}
+use Rattle.std.proofs.lemmas.Bool.{leb-true}
+use Rattle.dd_nodes.specs.Subfunctions.{Function}
+use Rattle.dd_sets.specs.Frames.{Owns, OwnsAnswer}
+use Rattle.task_core.specs.Conditions.{depth}
+use Rattle.encode_task.proofs.ChangeLemmas.{about, not_about}
+use Rattle.encode_task.proofs.OwnedLemmas.{both}
+use Rattle.encode_task.proofs.PartLemmas.{tight_answer}
+use Rattle.encode_task.proofs.TightLemmas.{tight_wider}
+use Rattle.encode_task.proofs.outcomes.with_change.Goals as goal
+
+pub returns-then-is_about-clause-answer : goal.returns-then-is_about-clause-answer
+returns-then-is_about-clause-answer c before set owns =
+    subst (λ (f : Function). OwnsAnswer before c.in_some.new.sets f c.in_some.result) (about c.args.change.now c.args.f.0 c.args.positive set (sym c.is_about.ensures ∙ c.if-is_about.true))
+    (c.in_some.ensures.answer before set _ (both _ _ _ c.args.some _ _ c.set_where-answer.result owns c.set_where-answer.ensures.answer))
+
+pub returns-then-is_about-clause-full : goal.returns-then-is_about-clause-full
+returns-then-is_about-clause-full c full = ⊎_elim
+    (λ refused. tight_wider _ (depth c.args.change.now.cond + 4) 205 (omega (arith, leb-true (depth c.args.change.now.cond) 200 c.requires.shallow)) (c.set_where-answer.ensures.full refused))
+    (λ tight. tight_answer _ _ _ c.set_where-answer.result 0 205 c.set_where-answer.ensures.answer (omega arith) tight)
+    (c.in_some.ensures.full full)
+
+pub returns-else-is_about-clause-answer : goal.returns-else-is_about-clause-answer
+returns-else-is_about-clause-answer c before set owns =
+    subst (λ (f : Function). Owns before c.args.sets.now ((c.args.some.0, f) ∷ [])) (not_about c.args.change.now c.args.f.0 c.args.positive set (sym c.is_about.ensures ∙ c.if-is_about.false)) owns

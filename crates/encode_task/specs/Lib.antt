@@ -1,0 +1,10 @@
+pub mod Bounds
+pub mod Images
+pub mod Laws
+pub mod Made
+pub mod Names
+pub mod Owned
+pub mod Seen
+pub mod Slots
+pub mod Tables
+pub mod TaskSets

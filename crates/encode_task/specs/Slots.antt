@@ -1,0 +1,69 @@
+-- What callers see of the sets of a task: the live sets, and which slot is kept for what.
+use Rattle.std.specs.Prelude.{◌≡◌, ℕ, ◌==◌, ◌||◌, Bool, List, [], ◌∷◌, ◌++◌, map, Option, Some, None, slice_get, slice_index_or, unwrap_or}
+use Rattle.std.specs.List.{filter_map, flat_map, list_any}
+use Rattle.std.specs.Option.{option_map_or}
+use Rattle.task_core.specs.declared.literals.FluentId.{FluentId}
+use Rattle.dd_sets.specs.declared.slots.SetId.{SetId}
+use Rattle.dd_sets.specs.LiveSets.{LiveSets, listed_set}
+
+-- the slots of an action: where it can be executed, and for each outcome the fluents that it
+-- changes, each with the slot of its next value
+pub record ActionSlots : Type 0 where
+  pub exec : SetId
+  pub outcomes : List (List (FluentId × SetId))
+
+-- the live sets of a task, how many fluents it has, the slots of its initial states and of its goal
+-- where it has one, the slots that outcomes share, one for a fluent where some outcome leaves it
+-- alone, and the slots of each action
+pub record Encoded : Type 0 where
+  pub sets : LiveSets
+  pub fluents : ℕ
+  pub initial : SetId
+  pub goal : Option SetId
+  pub shared : List (Option SetId)
+  pub actions : List ActionSlots
+
+-- the outcomes of action a, and the fluents that one of them changes, each with the slot of its next
+-- value
+abbrev pub outcomes_in : List ActionSlots → ℕ → List (List (FluentId × SetId))
+outcomes_in actions a = option_map_or (λ action. action.outcomes) (slice_get actions a) []
+
+abbrev pub changed_in : List ActionSlots → ℕ → ℕ → List (FluentId × SetId)
+changed_in actions a o = unwrap_or (slice_get (outcomes_in actions a) o) []
+
+abbrev pub outcome_slots : Encoded → ℕ → List (List (FluentId × SetId))
+outcome_slots enc = outcomes_in enc.actions
+
+abbrev pub changed_slots : Encoded → ℕ → ℕ → List (FluentId × SetId)
+changed_slots enc = changed_in enc.actions
+
+-- the slot of the states where action a can be executed
+abbrev pub exec_slot : Encoded → ℕ → SetId
+exec_slot enc a = option_map_or (λ action. action.exec) (slice_get enc.actions a) (record { 0 = 0 })
+
+-- the slot that outcomes share which leave fluent f alone
+abbrev pub shared_slot : Encoded → ℕ → Option SetId
+shared_slot enc f = slice_index_or enc.shared f None
+
+-- the slot of the next value of fluent f under an outcome of action a: its own where the outcome
+-- changes f, else the shared one
+abbrev pub next_slot : Encoded → ℕ → ℕ → ℕ → Option SetId
+next_slot enc a o f =
+    option_map_or (λ slot. Some slot) (listed_set (changed_slots enc a o) f) (shared_slot enc f)
+
+-- the slots of an action, and all slots of the sets of a task
+abbrev pub slots_of_action : ActionSlots → List SetId
+slots_of_action action =
+    action.exec ∷ flat_map (λ changed. map (λ entry. entry.1) changed) action.outcomes
+
+abbrev pub slots_of_goal : Option SetId → List SetId
+slots_of_goal None = []
+slots_of_goal (Some slot) = slot ∷ []
+
+abbrev pub owned_slots : Encoded → List SetId
+owned_slots enc =
+    enc.initial ∷ slots_of_goal enc.goal ++ filter_map (λ slot. slot) enc.shared ++ flat_map slots_of_action enc.actions
+
+-- whether a slot is one of a list
+abbrev pub is_among : List SetId → ℕ → Bool
+is_among slots slot = list_any (λ other. other.0 == slot) slots

@@ -1,0 +1,260 @@
+//! A task in sets.
+ghost use Rattle.std.specs.Prelude.{◌≡◌, ℕ, ◌+◌, ◌<◌, ◌≤◌, Some, None, true, length, map, slice_index_or, IfOk, OnOk, OnErr, IsErrOf};
+ghost use Rattle.std.specs.Borrow.{Lends, sem};
+ghost use Rattle.dd_sets.specs.Calls.{KeepsSets, Adds, AddsNone};
+ghost use Rattle.dd_sets.specs.LiveSets.{IsLive, set_of, live_count};
+ghost use Rattle.dd_sets.specs.Rooms.{Tight, IsTightFor, nodes_of_slots};
+ghost use Rattle.dd_sets.specs.contracts.sets.Sets as SetsRow;
+ghost use Rattle.task_core.specs.Actions.{goal_is_shallow, goal_within};
+ghost use Rattle.task_core.specs.Conditions.{holds, ids_below, is_shallow};
+ghost use Rattle.task_core.specs.Tasks.{fluent_count};
+ghost use Rattle.encode_task.specs.Bounds.{action_slots, kept_slots, working_slots};
+ghost use Rattle.encode_task.specs.Made.{Holds, HoldsGoal, IsReady, MadeOf};
+ghost use Rattle.encode_task.specs.Seen.{slots_of};
+ghost use Rattle.encode_task.specs.Slots.{exec_slot, outcome_slots, next_slot};
+ghost use Rattle.encode_task.specs.TaskSets.{led_into, next_set};
+ghost use Rattle.encode_task.specs.contracts.enc.Enc.{the_row};
+
+use crate::action_sets::ActionSets;
+use crate::actions::{Shared, encode_actions};
+use crate::conditions::set_where;
+use crate::initial::initial_states;
+use crate::slots::{changed_by, slot_for};
+use dd_sets::{SetErr, SetId, Sets};
+use std::alloc::{AllocError, Global};
+use std::marker::Model;
+use task_core::{ActionId, Cond, FluentId, Task};
+
+/// The sets of a task, and the table that they stand in.
+///
+/// A contract sees it as the live sets, the number of fluents, and the slots that are kept: for the
+/// initial states, for the goal, for each action where it can be executed, and for each outcome the
+/// fluents that it changes with the sets of their next values. Fluents that an outcome leaves alone
+/// share one slot each. That these are the sets of a task is the relation `MadeOf`: `encode` gives
+/// it, each call here keeps it, and so does each call on the sets that releases none of these slots.
+#[derive(Drop)]
+pub struct Enc {
+    sets: Sets,
+    fluents: u32,
+    initial: SetId,
+    goal: Option<SetId>,
+    shared: Vec<Option<SetId>>,
+    actions: Vec<ActionSets>,
+}
+
+impl Model for Enc {
+    ghost use Rattle.std.specs.Prelude.{map};
+    ghost use Rattle.encode_task.specs.Seen.{slots_of};
+    ghost use Rattle.encode_task.specs.Slots.{Encoded};
+
+    ghost Value = { Encoded };
+
+    ghost view = { λ enc. record {
+      sets = enc.sets;
+      fluents = enc.fluents;
+      initial = enc.initial;
+      goal = enc.goal;
+      shared = enc.shared.items;
+      actions = map slots_of enc.actions.items;
+    } };
+}
+
+/// The sets of a task, in a table for at most `limit` nodes.
+///
+/// No list of states is made: the initial states are found as sets, entry by entry. An outcome takes
+/// a slot for each fluent that it changes; a fluent that some outcome leaves alone has one more slot,
+/// which all such outcomes share.
+pub fn encode(alloc: Global, task: &Task, limit: u32) -> Result<Enc, SetErr>
+    requires some_room { 0 < limit }
+    requires small_limit { limit ≤ 16777216 }
+    ensures made { IfOk result (λ enc. MadeOf task.now enc) }
+    ensures limit { IfOk result (λ enc. enc.sets.limit ≡ limit) }
+    ensures few { IfOk result (λ enc. live_count enc.sets ≤ kept_slots task.now) }
+    ensures full { IsErrOf result SetErr.Full → Tight limit (fluent_count task.now)
+        (nodes_of_slots (working_slots task.now) (fluent_count task.now)) }
+{
+    let fluents = task.fluents.len() as u32;
+    let mut sets = Sets::new(alloc, fluents, limit)?;
+    let kept = encode_sets(alloc, &mut sets, task)?;
+    Ok(Enc {
+        sets,
+        fluents,
+        initial: kept.initial,
+        goal: kept.goal,
+        shared: kept.shared,
+        actions: kept.actions,
+    })
+}
+
+/// The slots that are kept for a task.
+#[derive(Drop)]
+struct KeptSlots {
+    initial: SetId,
+    goal: Option<SetId>,
+    shared: Shared,
+    actions: Vec<ActionSets>,
+}
+
+/// The sets of a task, in new slots.
+fn encode_sets(alloc: Global, sets: &mut Sets, task: &Task) -> Result<KeptSlots, SetErr>
+    requires { sets.old.vars ≡ fluent_count task.now }
+    ensures made { IfOk result (λ kept. MadeOf task.now (record {
+      sets = sets.new;
+      fluents = fluent_count task.now;
+      initial = kept.initial;
+      goal = kept.goal;
+      shared = kept.shared.items;
+      actions = map slots_of kept.actions.items;
+    })) }
+    ensures kept { KeepsSets sets.old sets.new }
+    ensures few { OnOk result (live_count sets.new
+        ≤ live_count sets.old + action_slots task.now + 2) }
+    ensures full { IsErrOf result SetErr.Full → IsTightFor (action_slots task.now + 212) sets.old }
+{
+    let initial = initial_states(sets, task)?;
+    let goal = goal_states(sets, &task.goal)?;
+    let mut shared = no_slots(alloc, task.fluents.len())?;
+    let actions = encode_actions(alloc, sets, &mut shared, &task.actions)?;
+    Ok(KeptSlots {
+        initial,
+        goal,
+        shared,
+        actions,
+    })
+}
+
+/// The states of a goal in a new slot, where there is a goal.
+fn goal_states(sets: &mut Sets, goal: &Option<Cond>) -> Result<Option<SetId>, SetErr>
+    requires within { goal_within sets.old.vars goal.now ≡ true }
+    requires shallow { goal_is_shallow goal.now ≡ true }
+    ensures made { IfOk result (λ slot. HoldsGoal sets.new slot goal.now) }
+    ensures kept { KeepsSets sets.old sets.new }
+    ensures few { OnOk result (live_count sets.new ≤ live_count sets.old + 1) }
+    ensures full { IsErrOf result SetErr.Full → IsTightFor 204 sets.old }
+{
+    match goal {
+        Some(goal) => {
+            let slot = set_where(sets, goal)?;
+            Ok(Some(slot))
+        }
+        None => Ok(None),
+    }
+}
+
+/// No slot for any fluent.
+fn no_slots(alloc: Global, fluents: usize) -> Result<Shared, AllocError>
+    ensures long { IfOk result (λ shared. length shared.items ≡ fluents) }
+    ensures none { IfOk result (λ shared. (f : ℕ) → slice_index_or shared.items f None ≡ None) }
+{
+    vec![in alloc; None; fluents]
+}
+
+impl Enc {
+    /// How many fluents the task has.
+    pub fn fluents(&self) -> u32
+        ensures { result ≡ self.now.fluents }
+    {
+        self.fluents
+    }
+
+    /// How many outcomes an action has.
+    pub fn outcomes(&self, a: ActionId) -> u32
+        requires { a.0 < length self.now.actions }
+        ensures { result ≡ length (outcome_slots self.now a.0) }
+    {
+        self.actions[a.0 as usize].outcomes.len() as u32
+    }
+
+    /// The slot of the states where an action can be executed.
+    pub fn exec(&self, a: ActionId) -> SetId
+        requires { a.0 < length self.now.actions }
+        ensures { result ≡ exec_slot self.now a.0 }
+    {
+        self.actions[a.0 as usize].exec
+    }
+
+    /// The slot of the initial states.
+    pub fn initial(&self) -> SetId
+        ensures { result ≡ self.now.initial }
+    {
+        self.initial
+    }
+
+    /// The slot of the goal states; `None` exactly where the task has no goal.
+    pub fn goal(&self) -> Option<SetId>
+        ensures { result ≡ self.now.goal }
+    {
+        self.goal
+    }
+
+    /// The slot of the states after which a fluent is true under an outcome.
+    pub fn next(&self, a: ActionId, outcome: u32, f: FluentId) -> SetId
+        requires ready { IsReady self.now }
+        requires action { a.0 < length self.now.actions }
+        requires outcome { outcome < length (outcome_slots self.now a.0) }
+        requires fluent { f.0 < self.now.fluents }
+        ensures slot { next_slot self.now a.0 outcome f.0 ≡ Some result }
+        ensures holds { (task : Task) → MadeOf task self.now
+            → Holds self.now.sets result (next_set task a.0 outcome f.0) }
+    {
+        match slot_for(changed_by(&self.actions, a, outcome), f) {
+            Some(slot) => slot,
+            None => self.shared[f.0 as usize].unwrap(),
+        }
+    }
+
+    /// The sets and their table.
+    pub fn sets(&self) -> &Sets
+        ensures { result.now ≡ self.now.sets }
+    {
+        &self.sets
+    }
+
+    /// The sets and their table, to work on. The slots that are kept for the task aren't released.
+    pub fn sets_mut(&mut self) -> &mut Sets
+        ensures* writes_back { sem 𝓛 (Lends the_row SetsRow.the_row self.entry result
+            (λ sets. record self.old { sets = sets })) }
+        ensures value { result.now ≡ self.old.sets }
+    {
+        &mut self.sets
+    }
+
+    /// The lists of truth values at which a condition holds, in a new slot.
+    ///
+    /// While it works at most 204 slots more than at entry are live, where the condition is at most
+    /// 200 deep.
+    pub fn set_of(&mut self, cond: &Cond) -> Result<SetId, SetErr>
+        requires fluents { ids_below self.old.sets.vars cond.now ≡ true }
+        ensures added { IfOk result (λ slot. Adds self.old.sets self.new.sets slot.0
+            (holds cond.now)) }
+        ensures kept { KeepsSets self.old.sets self.new.sets }
+        ensures refused { OnErr result (AddsNone self.old.sets self.new.sets) }
+        ensures full { IsErrOf result SetErr.Full → is_shallow cond.now ≡ true
+            → IsTightFor 204 self.old.sets }
+        ensures same_slots { self.new ≡ record self.old { sets = self.new.sets } }
+        ensures made { (task : Task) → MadeOf task self.old → MadeOf task self.new }
+        ensures ready { IsReady self.old → IsReady self.new }
+    {
+        set_where(&mut self.sets, cond)
+    }
+
+    /// The lists of truth values that an outcome leads into a set, in a new slot: those whose
+    /// values after the outcome are in it. It isn't asked whether the action can be executed.
+    pub fn led_into(&mut self, a: ActionId, outcome: u32, x: SetId) -> Result<SetId, SetErr>
+        requires ready { IsReady self.old }
+        requires action { a.0 < length self.old.actions }
+        requires outcome { outcome < length (outcome_slots self.old a.0) }
+        requires live { IsLive self.old.sets x.0 }
+        ensures added { (task : Task) → MadeOf task self.old → IfOk result (λ slot.
+            Adds self.old.sets self.new.sets slot.0
+            (led_into task a.0 outcome (set_of self.old.sets x.0))) }
+        ensures kept { KeepsSets self.old.sets self.new.sets }
+        ensures refused { OnErr result (AddsNone self.old.sets self.new.sets) }
+        ensures full { IsErrOf result SetErr.Full → IsTightFor 0 self.old.sets }
+        ensures same_slots { self.new ≡ record self.old { sets = self.new.sets } }
+        ensures made { (task : Task) → MadeOf task self.old → MadeOf task self.new }
+        ensures ready { IsReady self.old → IsReady self.new }
+    {
+        self.sets.subst(x, changed_by(&self.actions, a, outcome))
+    }
+}

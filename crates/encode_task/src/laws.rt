@@ -1,0 +1,9 @@
+//! What is true of the sets of a task, for callers to cite. The function does nothing, and its
+//! contract is the laws.
+ghost use Rattle.encode_task.specs.Laws.{KeptSetsStayMade, KeptSetsStayReady};
+
+/// The sets stay those of the task while each live slot stays live and keeps its set.
+pub fn made_is_kept()
+    ensures made { KeptSetsStayMade }
+    ensures ready { KeptSetsStayReady }
+{}

@@ -1,0 +1,19 @@
+//! A planning task in sets: where each action can be executed, the values after each outcome, the
+//! initial states and the goal, each in a slot of one table of diagrams.
+//!
+//! This is the symbolic representation of Cimatti, Pistore, Roveri and Traverso, "Weak, strong, and
+//! strong cyclic planning via symbolic model checking" (Artificial Intelligence 147, 2003), with one
+//! set for each fluent's next value under each outcome in place of a transition relation.
+#![tactic(auto)]
+
+mod action_sets;
+mod actions;
+mod conditions;
+mod enc;
+mod initial;
+mod laws;
+mod outcomes;
+mod slots;
+
+pub use enc::{Enc, encode};
+pub use laws::made_is_kept;

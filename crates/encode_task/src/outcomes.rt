@@ -1,0 +1,88 @@
+//! The next values of fluents under an outcome, as sets.
+ghost use Rattle.std.specs.Prelude.{◌≡◌, ◌<◌, ◌==◌, ◌||◌, ◌&&◌, [], ◌∷◌, true, IsErrOf};
+ghost use Rattle.std.specs.List.{list_any};
+ghost use Rattle.dd_nodes.specs.Subfunctions.{Function};
+ghost use Rattle.dd_sets.specs.Frames.{Owns, OwnsAnswer};
+ghost use Rattle.dd_sets.specs.LiveSets.{LiveSets, IsLive};
+ghost use Rattle.dd_sets.specs.Rooms.{IsTightFor};
+ghost use Rattle.task_core.specs.Actions.{after_value, change_makes, change_within, outcome_within};
+ghost use Rattle.task_core.specs.Conditions.{is_shallow};
+ghost use Rattle.task_core.specs.Vectors.{same_value};
+ghost use Rattle.encode_task.specs.Names.{outcome_is_shallow, names_fluent as is_named};
+
+use crate::conditions::{in_some, set_where, without};
+use dd_sets::{SetErr, SetId, Sets};
+use task_core::{Change, FluentId, Outcome};
+
+/// The lists of truth values at which a fluent is true after an outcome, in a new slot: those at
+/// which a change adds it, and those at which it is true and no change deletes it.
+pub fn next_value(sets: &mut Sets, outcome: &Outcome, f: FluentId) -> Result<SetId, SetErr>
+    requires fluent { f.0 < sets.old.vars }
+    requires fluents { outcome_within sets.old.vars outcome.now ≡ true }
+    requires shallow { outcome_is_shallow outcome.now ≡ true }
+    ensures answer { OwnsAnswer sets.old sets.new (λ values. after_value outcome.now values f.0)
+        result }
+    ensures full { IsErrOf result SetErr.Full → IsTightFor 208 sets.old }
+{
+    let value = sets.of_fluent(f)?;
+    let deleted = made_so(sets, outcome, f, false);
+    let kept = without(sets, value, deleted)?;
+    let added = made_so(sets, outcome, f, true);
+    in_some(sets, kept, added)
+}
+
+/// The lists of truth values at which some change of an outcome makes a fluent true (positive) or
+/// false (not positive), in a new slot.
+fn made_so(sets: &mut Sets, outcome: &Outcome, f: FluentId, positive: bool) -> Result<SetId, SetErr>
+    requires fluents { outcome_within sets.old.vars outcome.now ≡ true }
+    requires shallow { outcome_is_shallow outcome.now ≡ true }
+    ensures answer { OwnsAnswer sets.old sets.new
+        (λ values. list_any (change_makes positive values f.0) outcome.now.changes.items) result }
+    ensures full { IsErrOf result SetErr.Full → IsTightFor 206 sets.old }
+{
+    let mut some = sets.none()?;
+    for change in &outcome.changes {
+        some = with_change(sets, some, change, f, positive)?;
+    }
+    Ok(some)
+}
+
+/// The set with the lists of truth values at which a change makes a fluent so, in the place of its
+/// slot.
+fn with_change(
+    sets: &mut Sets,
+    some: SetId,
+    change: &Change,
+    f: FluentId,
+    positive: bool,
+) -> Result<SetId, SetErr>
+    requires live { IsLive sets.old some.0 }
+    requires fluents { change_within sets.old.vars change.now ≡ true }
+    requires shallow { is_shallow change.now.cond ≡ true }
+    ensures answer { (before : LiveSets) (set : Function)
+        → Owns before sets.old ((some.0, set) ∷ []) → OwnsAnswer before sets.new
+        (λ values. set values || change_makes positive values f.0 change.now) result }
+    ensures full { IsErrOf result SetErr.Full → IsTightFor 205 sets.old }
+{
+    if is_about(change, f, positive) {
+        let answer = set_where(sets, &change.cond);
+        in_some(sets, some, answer)
+    } else {
+        Ok(some)
+    }
+}
+
+/// Whether a change has a fluent's literal of the sign.
+fn is_about(change: &Change, f: FluentId, positive: bool) -> bool
+    ensures { result ≡ (change.now.lit.fluent.0 == f.0
+        && same_value change.now.lit.positive positive) }
+{
+    change.lit.fluent == f && change.lit.positive == positive
+}
+
+/// Whether a change of an outcome names a fluent.
+pub fn names_fluent(outcome: &Outcome, f: FluentId) -> bool
+    ensures { result ≡ is_named outcome.now f.0 }
+{
+    outcome.changes.iter().any(|change| change.lit.fluent == f)
+}
