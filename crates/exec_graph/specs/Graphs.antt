@@ -1,0 +1,42 @@
+-- The graph of a plan: which configurations it may reach, and which follow which.
+use Rattle.std.specs.Prelude.{◌≡◌, ◌≢◌, ◌<◌, ◌↔◌, ℕ, Bool, IsTrue, List}
+use Rattle.std.specs.List.{AllPairs, Contains}
+use Rattle.task_core.specs.Systems.{System}
+use Rattle.task_core.specs.ContextPlans.{Configuration, IsInitial}
+use Rattle.plan_rules.specs.Rules.{PlainPlan}
+use Rattle.exec_graph.specs.Executions.{GoesTo, IsReachedBy, MayBeStuck, MayBeUnexecutable}
+
+-- a graph as plain data. Its nodes are the numbers below `size`: each has a configuration, a mark whether
+-- an execution may begin there, and the list of the numbers that follow it. Two marks are of the whole.
+pub record PlainGraph : Type 0 where
+  pub size : ℕ
+  pub configuration : ℕ → Configuration
+  pub initial : ℕ → Bool
+  pub next : ℕ → List ℕ
+  pub unexecutable : Bool
+  pub stuck : Bool
+
+-- x is the configuration of a number
+pub record HasNode (graph : PlainGraph) (x : Configuration) : Type 0 where
+  pub number : ℕ
+  pub below : number < graph.size
+  pub is : graph.configuration number ≡ x
+
+-- the graph is that of the plan in the system
+pub record IsGraphOf (sys : System) (plan : PlainPlan) (graph : PlainGraph) : Type 0 where
+  -- its configurations are exactly those that the plan may reach, each once
+  pub reached : (i : ℕ) → i < graph.size → IsReachedBy sys plan (graph.configuration i)
+  pub listed : (x : Configuration) → IsReachedBy sys plan x → HasNode graph x
+  pub once : (i j : ℕ) → i < graph.size → j < graph.size
+      → graph.configuration i ≡ graph.configuration j → i ≡ j
+  -- those in which an execution may begin are marked
+  pub initial : (i : ℕ) → i < graph.size
+      → IsTrue (graph.initial i) ↔ IsInitial sys (graph.configuration i)
+  -- after each come exactly those that follow it, each once
+  pub next_below : (i j : ℕ) → i < graph.size → Contains (graph.next i) j → j < graph.size
+  pub next : (i j : ℕ) → i < graph.size → j < graph.size
+      → Contains (graph.next i) j ↔ GoesTo sys plan (graph.configuration i) (graph.configuration j)
+  pub next_once : (i : ℕ) → i < graph.size → AllPairs (λ j k. j ≢ k) (graph.next i)
+  -- whether some rule counts where it can't be followed, and whether the plan may get stuck
+  pub unexecutable : IsTrue graph.unexecutable ↔ MayBeUnexecutable sys plan
+  pub stuck : IsTrue graph.stuck ↔ MayBeStuck sys plan

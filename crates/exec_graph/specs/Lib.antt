@@ -1,0 +1,4 @@
+pub mod Executions
+pub mod Graphs
+pub mod Initials
+pub mod Values

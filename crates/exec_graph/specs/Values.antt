@@ -1,0 +1,40 @@
+-- What a Graph says, as plain data. A state's vector has as many values as the task has fluents.
+use Rattle.std.specs.Prelude.{ℕ, List, [], length, nat_lt, slice_get}
+use Rattle.std.specs.List.{All}
+use Rattle.std.specs.Option.{option_map_or}
+use Rattle.task_core.specs.Vectors.{Vector}
+use Rattle.task_core.specs.States.{IsWithin, vector}
+use Rattle.exec_graph.specs.Graphs.{PlainGraph}
+use Rattle.exec_graph.specs.declared.graphs.Place.{Place}
+use Rattle.exec_graph.specs.declared.graphs.Graph.{Graph}
+
+-- how many configurations it has
+abbrev pub graph_size : Graph → ℕ
+graph_size graph = length graph.places.keys
+
+-- the state of a number, over n fluents; empty past the last one
+abbrev pub state_at : ℕ → Graph → ℕ → Vector
+state_at n graph i = option_map_or (λ (place : Place). vector n place.state) (slice_get graph.places.keys i) []
+
+-- the context of a number; 0 past the last one
+abbrev pub context_at : Graph → ℕ → ℕ
+context_at graph i = option_map_or (λ (place : Place). place.context) (slice_get graph.places.keys i) 0
+
+-- the numbers of those that follow it; none past the last one
+abbrev pub followers_at : Graph → ℕ → List ℕ
+followers_at graph i = option_map_or (λ next. next.items) (slice_get graph.next.items i) []
+
+-- the graph over n fluents
+abbrev pub plain_graph : ℕ → Graph → PlainGraph
+plain_graph n graph = record {
+  size = graph_size graph;
+  configuration = λ i. record { state = state_at n graph i; context = context_at graph i };
+  initial = λ i. nat_lt i graph.initials;
+  next = followers_at graph;
+  unexecutable = graph.unexecutable;
+  stuck = graph.stuck;
+}
+
+-- no state has a true fluent from n on
+abbrev pub IsWithinFluents : ℕ → Graph → Type 0
+IsWithinFluents n graph = All (λ (place : Place). IsWithin n place.state) graph.places.keys
