@@ -13,6 +13,7 @@ ghost use Rattle.mbp_top.specs.GroundCommand.{
 ghost use Rattle.mbp_top.specs.Values.{answer_of, ground_words_of};
 ghost use Rattle.pddl_ast.specs.Fits.{FitsDomain, FitsProblem};
 ghost use Rattle.pddl_ast.specs.Values.{domain_value, problem_value};
+ghost use Rattle.pddl_system.specs.Names.{NamesAreWords};
 ghost use Rattle.plan_io.specs.Fetches.{FailedLast, FetchesFirst};
 ghost use Rattle.std.specs.List.{flat_map};
 ghost use Rattle.std.specs.Prelude.{
@@ -69,6 +70,7 @@ fn list_grounded(alloc: Global, domain: &Domain, problem: &Problem) -> Result<Sh
     requires fits_domain { FitsDomain (domain_value domain.now) }
     requires fits_problem {
         FitsProblem (domain_value domain.now) (problem_value problem.now) }
+    requires names { NamesAreWords (domain_value domain.now) (problem_value problem.now) }
     ensures { (answer_of result ≡ refused no_memory)
         ⊎ IsListed (domain_value domain.now) (problem_value problem.now) (answer_of result) }
 {

@@ -13,6 +13,7 @@ ghost use Rattle.mbp_top.specs.Reading.{Holds, IsRefusedFile};
 ghost use Rattle.mbp_top.specs.Values.{refusal_for, refusal_of};
 ghost use Rattle.pddl_ast.specs.Fits.{FitsDomain, FitsProblem};
 ghost use Rattle.pddl_ast.specs.Values.{domain_value, problem_value};
+ghost use Rattle.pddl_system.specs.Names.{NamesAreWords};
 ghost use Rattle.pddl_domain.specs.Domains.{SpellsDomain};
 ghost use Rattle.plan_io.specs.Fetches.{FailedLast, FetchesFirst};
 ghost use Rattle.std.specs.Prelude.{◌≡◌, ◌≤◌, ◌⊎◌, [], ◌∷◌, IfErr, IfOk, List, OnOk, ℕ};
@@ -106,6 +107,8 @@ pub(crate) fn read_both<S: Shelf>(
     ensures fits_domain { IfOk result (λ both. FitsDomain (domain_value both.0)) }
     ensures fits_problem { IfOk result
         (λ both. FitsProblem (domain_value both.0) (problem_value both.1)) }
+    ensures names { IfOk result
+        (λ both. NamesAreWords (domain_value both.0) (problem_value both.1)) }
     ensures refused { let failed = FailedLast S.fetched S.faults shelf.old shelf.new in
         IfErr result (λ refusal. (refused (refusal_of refusal) ≡ refused no_memory)
         ⊎ ReadBoth (S.held shelf.old) failed domain_name.now problem_name.now

@@ -14,6 +14,7 @@ ghost use Rattle.mbp_top.specs.Values.{answer_of, bytes_of, plan_words_of, shown
 ghost use Rattle.mbp_top.specs.Words.{IsPlannedClass};
 ghost use Rattle.pddl_ast.specs.Fits.{FitsDomain, FitsProblem};
 ghost use Rattle.pddl_ast.specs.Values.{domain_value, problem_value};
+ghost use Rattle.pddl_system.specs.Names.{NamesAreWords};
 ghost use Rattle.plan_io.specs.Fetches.{FailedLast, FetchesFirst};
 ghost use Rattle.plan_rules.specs.Plans.{IsPlanOf, plan_text};
 ghost use Rattle.plan_rules.specs.Readings.{SpellsPlan};
@@ -21,14 +22,13 @@ ghost use Rattle.std.specs.Prelude.{◌≡◌, ◌≤◌, ◌⊎◌, [], ◌∷�
 ghost use Rattle.task_core.specs.Tasks.{action_names, fluent_names, system_of};
 
 use crate::answers::{Refusal, Shown, Text};
-use crate::grounding::grounded;
+use crate::grounding::{check_goal, grounded};
 use crate::pddl_texts::read_both;
 use crate::words::PlanWords;
 use pddl_ast::{Domain, Problem};
 use plan_io::Shelf;
 use plan_rules::{Class, Plan, write_plan};
 use reach_plan::{Found, plan_weak};
-use sexpr_text::{FaultKind, InputFault};
 use std::alloc::{AllocError, Global};
 use task_core::Task;
 
@@ -66,19 +66,12 @@ fn plan_problem(
     requires fits_domain { FitsDomain (domain_value domain.now) }
     requires fits_problem {
         FitsProblem (domain_value domain.now) (problem_value problem.now) }
+    requires names { NamesAreWords (domain_value domain.now) (problem_value problem.now) }
     ensures { (answer_of result ≡ refused no_memory)
         ⊎ IsPlanned (plan_words_of asked.now) (domain_value domain.now)
         (problem_value problem.now) (answer_of result) }
 {
-    if problem.goal.is_none() {
-        return Err(Refusal::TextFault(
-            String::from_str(alloc, asked.problem)?,
-            InputFault {
-                kind: FaultKind::WrongGoalKind,
-                place: problem.place,
-            },
-        ));
-    }
+    check_goal(alloc, asked.problem, problem)?;
     plan_grounded(alloc, asked, domain, problem)
 }
 
@@ -93,6 +86,7 @@ fn plan_grounded(
     requires fits_domain { FitsDomain (domain_value domain.now) }
     requires fits_problem {
         FitsProblem (domain_value domain.now) (problem_value problem.now) }
+    requires names { NamesAreWords (domain_value domain.now) (problem_value problem.now) }
     requires goal { IsSome (problem_value problem.now).goal }
     ensures { (answer_of result ≡ refused no_memory)
         ⊎ GroundThen (domain_value domain.now) (problem_value problem.now)

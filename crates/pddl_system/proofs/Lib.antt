@@ -1,0 +1,10 @@
+mod Lists
+mod Counts
+mod NamedAtoms
+mod TreeTruth
+mod Soundness
+mod Members
+mod Numbers
+mod RigidAtoms
+mod SystemsAgree
+mod NameLaws

@@ -1,6 +1,8 @@
 pub mod Fluents
 pub mod GroundAtoms
 pub mod Instances
+pub mod Laws
+pub mod Names
 pub mod Objects
 pub mod Outcomes
 pub mod Settings
