@@ -107,3 +107,45 @@ fn judge_plan(
         )),
     }
 }
+
+/// The verdict on a table plan.
+fn judge_table(alloc: Global, class: Class, task: &Task, plan: &Plan) -> Result<Shown, Refusal>
+    requires goal { IsSome task.now.goal }
+    requires in_task { IsPlanOf (fluent_count task.now) (action_count task.now) plan.now }
+    requires table { (word : Class) × ((rules : List PlanRule)
+        × (plain_of plan.now ≡ table word rules)) }
+    ensures { (word : Class) (rules : List PlanRule) → plain_of plan.now ≡ table word rules
+        → (answer_of result ≡ refused no_memory)
+        ⊎ ExploreThen (HasTooManyInitial task.now most_followed) (system_of task.now)
+        (plain_of plan.now) (IsJudged class (system_of task.now) rules) (answer_of result) }
+{
+    match explore(alloc, task, plan) {
+        Ok(graph) => {
+            let verdict = check_class(alloc, task, &graph, class)?;
+            Ok(show_verdict(alloc, &verdict)?)
+        }
+        Err(GraphErr::Initial) => Err(Refusal::OverLimit(Limit::Initial)),
+        Err(GraphErr::TooLarge) => Err(Refusal::OverLimit(Limit::Configurations)),
+        Err(GraphErr::Memory) => Err(Refusal::NoMemory),
+    }
+}
+
+/// What is shown of a verdict.
+fn show_verdict(alloc: Global, verdict: &Verdict) -> Result<Shown, AllocError>
+    ensures { IfOk result (λ shown. shown_of shown ≡ verdict_answer verdict.now) }
+{
+    Ok(match verdict {
+        Verdict::Yes { bound: None } => Shown::Affirmed(Text::Fixed("yes\n")),
+        Verdict::Yes { bound: Some(bound) } => Shown::Affirmed(Text::Made(
+            format!(in alloc; "yes bound {bound}\n")?.into_bytes(),
+        )),
+        Verdict::No(reason) => Shown::Denied(Text::Fixed(match reason {
+            Reason::Unexecutable => "no unexecutable\n",
+            Reason::Stuck => "no stuck\n",
+            Reason::Terminal => "no terminal\n",
+            Reason::Cycle => "no cycle\n",
+            Reason::Unreachable => "no unreachable\n",
+            Reason::Formula => "no formula\n",
+        })),
+    })
+}
