@@ -1,5 +1,5 @@
 -- Causes, command by command: the words say one command at most, and it has one answer at most.
-use Rattle.std.proofs.Common.{◌≡◌, ◌≢◌, List, ◌⊎◌, inl, inr, refl, subst, sym, ◌∙◌, ap, arith, get_or, [], codes, length}
+use Rattle.std.proofs.Common.{◌≡◌, ◌≢◌, List, ◌⊎◌, inl, inr, refl, subst, sym, ◌∙◌, ap, arith, get_or, [], codes}
 use Rattle.task_core.specs.declared.classes.Class.{Class}
 use Rattle.task_core.specs.declared.classes.Class.TheVariants.{Weak, Strong, Cyclic}
 use Rattle.plan_io.specs.Held.{Held}
@@ -38,8 +38,7 @@ same_ground words v w says says' =
 not_plan_and_ground : (words : List Bytes) (v : PlanWords) (w : GroundWords) → SaysPlan words v → SaysGround words w → ⊥
 not_plan_and_ground words v w says says' =
     let first : codes "plan" ≡ codes "ground" = ap (λ (ws : List Bytes). get_or ws 0 []) (sym says.written ∙ says') in
-    let lengths : 4 ≡ 6 = ap length first in
-    omega arith
+    omega (arith, ap (λ (w : Bytes). get_or w 0 0) first)
 
 -- the words say one command at most
 pub one_command : (words : List Bytes) (c d : Command) → Says words c → Says words d → c ≡ d

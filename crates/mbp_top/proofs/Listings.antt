@@ -34,7 +34,7 @@ listed_instances : (d : DomainTree) (p : ProblemTree) (is : List Instance) → m
 listed_instances d p [] = refl
 listed_instances d p (i ∷ is) =
     let first : listed_tree (action_of d p i) ≡ (instance_name d p i, length (outcomes_of (setting d p) i)) =
-        ap (λ n. (instance_name d p i, n)) (length-map (outcomes_of (setting d p) i) (outcome_of (setting d p) (fluents d p))) in
+    ap (λ n. (instance_name d p i, n)) (length-map (outcomes_of (setting d p) i) (outcome_of (setting d p) (fluents d p))) in
     cc (first, listed_instances d p is)
 
 names_of_values : (xs : List GroundAction) → map (λ (a : ActionTree). a.name) (map action_value xs) ≡ map name_of xs
@@ -73,5 +73,5 @@ pub same_listing : (d : DomainTree) (p : ProblemTree) (t : Task) → task_value 
     → listing (names_of_fluents t) (map listed_action t.actions.items) (length (entries_of t.init)) ≡ listing_of d p
 same_listing d p t is =
     ap (λ fs. listing fs (map listed_action t.actions.items) (length (entries_of t.init))) (same_fluents d p t is)
-    ∙ ap (λ as. listing (fluent_names d p) as (length (entries_of t.init))) (same_listed d p t is)
+    ∙ ap (λ actions. listing (fluent_names d p) actions (length (entries_of t.init))) (same_listed d p t is)
     ∙ ap (listing (fluent_names d p) (listed_actions d p)) (same_entries d p t is)

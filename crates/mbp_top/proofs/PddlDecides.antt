@@ -1,5 +1,6 @@
 -- The two files of a domain and a problem decide the answer, if what follows their reading does.
-use Rattle.std.proofs.Common.{◌≡◌, ◌≢◌, ◌⊎◌, ℕ, List, inl, inr, refl, sym, subst, ap, ◌∙◌, Some, None, IsSome, true, Unit}
+use Rattle.std.proofs.Common.{◌≡◌, ◌≢◌, ◌⊎◌, ℕ, List, inl, inr, refl, sym, subst, ap, ◌∙◌, Some, None, IsSome, true}
+use Rattle.std.proofs.lemmas.Bool.{false≢true}
 use Rattle.plan_io.specs.Held.{Held, Untold}
 use Rattle.pddl_ast.specs.Trees.{DomainTree, ProblemTree}
 use Rattle.pddl_domain.specs.Domains.{SpellsDomain, HasDomainFault}
@@ -84,8 +85,8 @@ refused_both held failed domain problem Then r (inr why) = inr (refused_before h
 pub goal_decides : (name : Bytes) (problem : ProblemTree) (Then Then' : Answer → Type 0) → Decides Then Then'
     → Decides (GoalThen name problem Then) (GoalThen name problem Then')
 goal_decides name problem Then Then' next a b (inl (none, is)) (inl (none', is')) = is ∙ sym is'
-goal_decides name problem Then Then' next a b (inl (none, is)) (inr (some, then)) = absurd (subst IsSome none some)
-goal_decides name problem Then Then' next a b (inr (some, then)) (inl (none, is)) = absurd (subst IsSome none some)
+goal_decides name problem Then Then' next a b (inl (none, is)) (inr (some, then)) = absurd (false≢true (subst IsSome none some))
+goal_decides name problem Then Then' next a b (inr (some, then)) (inl (none, is)) = absurd (false≢true (subst IsSome none some))
 goal_decides name problem Then Then' next a b (inr (some, then)) (inr (some', then')) = next a b then then'
 
 one_limit : (l m : Limit) → Some l ≡ Some m → l ≡ m
@@ -138,5 +139,5 @@ within_limits domain problem Then a kept (inl (l, passed, is)) = absurd (cc (pas
 within_limits domain problem Then a kept (inr (kept', then)) = then
 
 pub with_goal : (name : Bytes) (problem : ProblemTree) (Then : Answer → Type 0) (a : Answer) → IsSome problem.goal → GoalThen name problem Then a → Then a
-with_goal name problem Then a some (inl (none, is)) = absurd (subst IsSome none some)
+with_goal name problem Then a some (inl (none, is)) = absurd (false≢true (subst IsSome none some))
 with_goal name problem Then a some (inr (some', then)) = then

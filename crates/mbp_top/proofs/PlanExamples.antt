@@ -8,7 +8,7 @@ use Rattle.plan_rules.specs.Denoted.{denoted}
 use Rattle.plan_rules.specs.Texts.{table_text, line_feed}
 use Rattle.reach_plan.specs.Layers.{covers}
 use Rattle.reach_plan.specs.Printed.{printed_rules}
-use Rattle.mbp_top.specs.GroundCommand.{listing_of}
+use Rattle.mbp_top.specs.GroundCommand.{listing, listing_of}
 use Rattle.mbp_top.specs.Words.{Bytes}
 
 -- the text of the rules of the first layers
@@ -59,8 +59,6 @@ coin_text = refl
 coin_text_at_once : text_within coin coin_up 0 ≡ codes "(plan table weak" ++ line_feed ++ codes ")" ++ line_feed
 coin_text_at_once = refl
 
--- what is listed of it
-coin_listing : listing_of coin coin_up
-    ≡ codes "fluents 1" ++ line_feed ++ codes "(up)" ++ line_feed ++ codes "actions 1" ++ line_feed
-    ++ codes "(flip) 2" ++ line_feed ++ codes "uncertain 0" ++ line_feed
+-- what is listed of it: the fluent, the action with two outcomes, and no uncertain entry
+coin_listing : listing_of coin coin_up ≡ listing ((codes "up" ∷ []) ∷ []) ((codes "flip" ∷ [], 2) ∷ []) 0
 coin_listing = refl

@@ -1,6 +1,21 @@
--- Refusals, as answers.
-use Rattle.std.proofs.Common.{◌≡◌}
-use Rattle.mbp_top.specs.Answers.{refused, Refusal}
+-- Refusals, as answers, and of files whose texts have a fault.
+use Rattle.std.proofs.Common.{◌≡◌, ◌⊎◌, inl, inr}
+use Rattle.plan_io.specs.Held.{Held}
+use Rattle.sexpr_text.specs.Passes.{IfFault}
+use Rattle.sexpr_text.specs.declared.faults.InputFault.{InputFault}
+use Rattle.sexpr_text.specs.declared.faults.ReadErr.{ReadErr}
+use Rattle.sexpr_text.specs.declared.faults.ReadErr.TheVariants.{Fault, Memory}
+use Rattle.mbp_top.specs.Answers.{refused, Refusal, no_memory, text_fault}
+use Rattle.mbp_top.specs.Reading.{IsFile, IsRefusedFile}
+use Rattle.mbp_top.specs.Values.{refusal_for}
+use Rattle.mbp_top.specs.Words.{Bytes}
 
 pub refused-same : (r s : Refusal) → refused r ≡ refused s → r ≡ s
 refused-same r s same = cc
+
+-- the file is refused for the fault of its text, or memory was wanted
+pub misread_file : (held : Bytes → Held) (failed : Bytes → Type 0) (Has : Bytes → InputFault → Type 0) (name bytes : Bytes) (e : ReadErr) (r : Refusal)
+    → IsFile held name bytes → IfFault e (Has bytes) → r ≡ refusal_for name e
+    → (r ≡ no_memory) ⊎ IsRefusedFile held failed (λ n b refusal. (fault : InputFault) × Has b fault × (refusal ≡ text_fault n fault)) name r
+misread_file held failed Has name bytes (Fault fault) r file has is = inr (inr (inr (record { bytes = bytes; file = file; wrong = (fault, has, is) })))
+misread_file held failed Has name bytes Memory r file has is = inl is

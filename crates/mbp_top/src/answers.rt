@@ -11,9 +11,11 @@ ghost use Rattle.mbp_top.specs.Answers.{
 };
 ghost use Rattle.mbp_top.specs.Values.{bytes_of, limit_of, refusal_of, shown_of};
 ghost use Rattle.plan_rules.specs.Texts.{line_feed};
-ghost use Rattle.std.specs.Prelude.{◌≡◌, ◌++◌, IfOk, IsOk};
+ghost use Rattle.std.specs.Option.{option_copied, option_map_or};
+ghost use Rattle.std.specs.Prelude.{◌≡◌, ◌++◌, [], IfOk, IsOk, OnOk, codes, decimal};
 
-use sexpr_text::{InputFault, Place};
+use itoa::Buffer;
+use sexpr_text::{InputFault, Text as Word};
 use std::alloc::{AllocError, Global};
 
 /// The exit status where there is not enough memory.
@@ -183,14 +185,35 @@ impl Refusal {
 fn fault_line(alloc: Global, file: &str, fault: &InputFault) -> Result<Vec<u8>, AllocError>
     ensures { IfOk result (λ line. line.items ≡ fault_text file.now fault.now ++ line_feed) }
 {
-    let Place { line, column } = fault.place;
-    let code = fault.kind.code();
-    let name = fault.kind.name();
-    let mut text = format!(in alloc; "{file}:{line}:{column}: {code} {name}")?.into_bytes();
-    if let Some(word) = fault.kind.word() {
-        text.push(b' ')?;
-        text.extend_from_slice(word.as_bytes())?;
+    let mut line = Vec::from_slice(alloc, file.as_bytes())?;
+    line.push(b':')?;
+    push_number(&mut line, fault.place.line)?;
+    line.push(b':')?;
+    push_number(&mut line, fault.place.column)?;
+    line.extend_from_slice(b": ")?;
+    push_number(&mut line, u32::from(fault.kind.code()))?;
+    line.push(b' ')?;
+    line.extend_from_slice(fault.kind.name().as_bytes())?;
+    push_word(&mut line, fault.kind.word())?;
+    line.push(b'\n')?;
+    Ok(line)
+}
+
+/// Appends a number in decimal digits.
+fn push_number(line: &mut Vec<u8>, number: u32) -> Result<(), AllocError>
+    ensures { OnOk result (line.new.items ≡ line.old.items ++ decimal number) }
+{
+    line.extend_from_slice(Buffer::new().format(number).as_bytes())
+}
+
+/// Appends a space and the word, where there is one.
+fn push_word(line: &mut Vec<u8>, word: Option<&Word>) -> Result<(), AllocError>
+    ensures { OnOk result (line.new.items ≡ line.old.items
+        ++ option_map_or (λ w. codes " " ++ w) (option_copied word.entry) []) }
+{
+    if let Some(word) = word {
+        line.push(b' ')?;
+        line.extend_from_slice(word.as_bytes())?;
     }
-    text.push(b'\n')?;
-    Ok(text)
+    Ok(())
 }

@@ -68,8 +68,7 @@ pub(crate) fn ground_files<S: Shelf>(
 /// The listing of what a domain and a problem are grounded to.
 fn list_grounded(alloc: Global, domain: &Domain, problem: &Problem) -> Result<Shown, Refusal>
     requires fits_domain { FitsDomain (domain_value domain.now) }
-    requires fits_problem {
-        FitsProblem (domain_value domain.now) (problem_value problem.now) }
+    requires fits_problem { FitsProblem (domain_value domain.now) (problem_value problem.now) }
     requires names { NamesAreWords (domain_value domain.now) (problem_value problem.now) }
     ensures { (answer_of result ≡ refused no_memory)
         ⊎ IsListed (domain_value domain.now) (problem_value problem.now) (answer_of result) }

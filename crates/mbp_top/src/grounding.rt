@@ -43,8 +43,7 @@ pub(crate) fn check_goal(alloc: Global, name: &str, problem: &Problem) -> Result
 /// The task of a domain and a problem.
 pub(crate) fn grounded(alloc: Global, domain: &Domain, problem: &Problem) -> Result<Task, Refusal>
     requires fits_domain { FitsDomain (domain_value domain.now) }
-    requires fits_problem {
-        FitsProblem (domain_value domain.now) (problem_value problem.now) }
+    requires fits_problem { FitsProblem (domain_value domain.now) (problem_value problem.now) }
     requires names { NamesAreWords (domain_value domain.now) (problem_value problem.now) }
     ensures task { IfOk result (λ task. task_value task
         ≡ task_of (domain_value domain.now) (problem_value problem.now)) }

@@ -15,7 +15,9 @@ ghost use Rattle.pddl_ast.specs.Fits.{FitsDomain, FitsProblem};
 ghost use Rattle.pddl_ast.specs.Values.{domain_value, problem_value};
 ghost use Rattle.pddl_system.specs.Names.{NamesAreWords};
 ghost use Rattle.pddl_domain.specs.Domains.{SpellsDomain};
-ghost use Rattle.plan_io.specs.Fetches.{FailedLast, FetchesFirst};
+ghost use Rattle.pddl_domain.specs.WordNames.{HasWordNames};
+ghost use Rattle.pddl_problem.specs.WordNames.{HasWordObjects};
+ghost use Rattle.plan_io.specs.Fetches.{FailedLast, Fetches, FetchesFirst};
 ghost use Rattle.std.specs.Prelude.{◌≡◌, ◌≤◌, ◌⊎◌, [], ◌∷◌, IfErr, IfOk, List, OnOk, ℕ};
 
 use crate::answers::Refusal;
@@ -23,6 +25,7 @@ use crate::files::fetch;
 use pddl_ast::{Domain, Problem};
 use pddl_domain::read_domain;
 use pddl_problem::read_problem;
+use pddl_system::read_names_are_words;
 use plan_io::Shelf;
 use sexpr_text::ReadErr;
 use std::alloc::{AllocError, Global};
@@ -46,6 +49,7 @@ pub(crate) fn read_domain_file<S: Shelf>(
     ensures holds { IfOk result
         (λ d. Holds (S.held shelf.old) SpellsDomain name.now (domain_value d)) }
     ensures fits { IfOk result (λ d. FitsDomain (domain_value d)) }
+    ensures words { IfOk result (λ d. HasWordNames (domain_value d)) }
     ensures refused { let failed = FailedLast S.fetched S.faults shelf.old shelf.new in
         IfErr result (λ refusal. (refusal_of refusal ≡ no_memory)
         ⊎ IsRefusedFile (S.held shelf.old) failed IsFaultyDomain name.now (refusal_of refusal)) }
@@ -76,6 +80,7 @@ pub(crate) fn read_problem_file<S: Shelf>(
         (λ p. Holds (S.held shelf.old) (SpellsProblemOf (domain_value domain.now)) name.now
         (problem_value p)) }
     ensures fits { IfOk result (λ p. FitsProblem (domain_value domain.now) (problem_value p)) }
+    ensures words { IfOk result (λ p. HasWordObjects (problem_value p)) }
     ensures refused { let failed = FailedLast S.fetched S.faults shelf.old shelf.new in
         IfErr result (λ refusal. (refusal_of refusal ≡ no_memory)
         ⊎ IsRefusedFile (S.held shelf.old) failed (IsFaultyProblem (domain_value domain.now))
@@ -115,6 +120,8 @@ pub(crate) fn read_both<S: Shelf>(
         (λ domain problem answer. ⊥) (refused (refusal_of refusal))) }
     ensures fetches { FetchesFirst S.fetched
         (domain_name.now ∷ problem_name.now ∷ []) shelf.old shelf.new }
+    ensures fetched { OnOk result
+        (Fetches S.fetched (domain_name.now ∷ problem_name.now ∷ []) shelf.old shelf.new) }
     ensures quiet { OnOk result (S.faults shelf.new ≡ S.faults shelf.old) }
     ensures quiet_at { IfErr result
         (λ refusal. IsQuietAt (refused (refusal_of refusal)) (S.faults shelf.old)
@@ -122,6 +129,8 @@ pub(crate) fn read_both<S: Shelf>(
     ensures kept { (file : List ℕ) → S.held shelf.new file ≡ S.held shelf.old file }
     ensures later { S.faults shelf.old ≤ S.faults shelf.new }
 {
+    // This does nothing: `names` rests on what it promises.
+    read_names_are_words();
     let domain = read_domain_file(alloc, shelf, domain_name)?;
     let problem = read_problem_file(alloc, shelf, problem_name, &domain)?;
     Ok((domain, problem))

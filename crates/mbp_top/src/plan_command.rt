@@ -64,8 +64,7 @@ fn plan_problem(
 ) -> Result<Shown, Refusal>
     requires planned { IsPlannedClass asked.now.class }
     requires fits_domain { FitsDomain (domain_value domain.now) }
-    requires fits_problem {
-        FitsProblem (domain_value domain.now) (problem_value problem.now) }
+    requires fits_problem { FitsProblem (domain_value domain.now) (problem_value problem.now) }
     requires names { NamesAreWords (domain_value domain.now) (problem_value problem.now) }
     ensures { (answer_of result ≡ refused no_memory)
         ⊎ IsPlanned (plan_words_of asked.now) (domain_value domain.now)
@@ -84,8 +83,7 @@ fn plan_grounded(
 ) -> Result<Shown, Refusal>
     requires planned { IsPlannedClass asked.now.class }
     requires fits_domain { FitsDomain (domain_value domain.now) }
-    requires fits_problem {
-        FitsProblem (domain_value domain.now) (problem_value problem.now) }
+    requires fits_problem { FitsProblem (domain_value domain.now) (problem_value problem.now) }
     requires names { NamesAreWords (domain_value domain.now) (problem_value problem.now) }
     requires goal { IsSome (problem_value problem.now).goal }
     ensures { (answer_of result ≡ refused no_memory)

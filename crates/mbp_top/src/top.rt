@@ -50,9 +50,9 @@ ghost use Rattle.std.specs.Prelude.{
 
 use crate::commands::answer;
 use crate::delivery::deliver;
-use plan_io::{Shelf, Sink};
 use pddl_domain::domain_or_fault;
 use pddl_problem::one_answer;
+use plan_io::{Shelf, Sink};
 use std::alloc::Global;
 
 /// Does what the command words say, and gives the exit status.

@@ -1,10 +1,16 @@
-mod Lists
-mod Counts
-mod NamedAtoms
-mod TreeTruth
-mod Soundness
-mod Members
-mod Numbers
-mod RigidAtoms
-mod SystemsAgree
-mod NameLaws
+pub mod Lists
+pub mod Counts
+pub mod NamedAtoms
+pub mod TreeTruth
+pub mod Soundness
+pub mod Members
+pub mod Numbers
+pub mod RigidAtoms
+pub mod SystemsAgree
+pub mod NameLaws
+pub mod TreeBounds
+pub mod Occurrences
+pub mod TaskParts
+pub mod ReadNames
+mod Examples
+pub mod States

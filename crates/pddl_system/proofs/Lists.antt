@@ -1,11 +1,11 @@
 -- Lists that are put together of lists.
-use Rattle.std.proofs.Common.{◌≡◌, ℕ, zero, suc, ◌+◌, ◌*◌, ◌<◌, Bool, true, false, ◌&&◌, ◌||◌, List, [], ◌∷◌, ◌++◌, map, length, refl, sym, ◌∙◌, ap, arith, cond, Option, Some, None}
+use Rattle.std.proofs.Common.{◌≡◌, ℕ, zero, suc, ◌+◌, ◌*◌, ◌<◌, Bool, true, false, ◌&&◌, ◌||◌, inl, inr, List, [], ◌∷◌, map, length, refl, sym, ◌∙◌, ap, arith, Option, Some, None}
 use Rattle.std.specs.Prelude.{slice_get}
-use Rattle.std.proofs.lemmas.Bool.{or_parts, or_from}
+use Rattle.std.proofs.lemmas.Bool.{and_from, or_parts, or_from}
 use Rattle.std.specs.List.{flat_map, filter, list_all, list_any, range_with_len}
 use Rattle.std.proofs.lemmas.List.{length-append, length-map}
 use Rattle.std.proofs.lemmas.List.Folds.{list_any-append, list_all-append}
-use Rattle.std.proofs.Math.Bool.{or_assoc}
+use Rattle.pddl_system.proofs.Members.{Among}
 
 -- a list of lists of one length, put together
 pub length-flat_map_of : {X Y : Type 0} (f : X → List Y) (n : ℕ) → ((x : X) → length (f x) ≡ n) → (xs : List X) → length (flat_map f xs) ≡ length xs * n
@@ -117,6 +117,14 @@ zip_get f g R none some (x ∷ xs) (y ∷ ys) h zero = some x y (cc)
 zip_get f g R none some (x ∷ xs) (y ∷ ys) h (suc i) =
     let tail : map f xs ≡ map g ys = cc in
     zip_get f g R none some xs ys tail i
+
+pub zip_all : {X Y Z : Type 0} (f : X → Z) (g : Y → Z) (p : X → Bool) (xs : List X) (ys : List Y) → ((x : X) (y : Y) → Among y ys → f x ≡ g y → p x ≡ true) → map f xs ≡ map g ys → list_all p xs ≡ true
+zip_all f g p [] ys passes h = refl
+zip_all f g p (x ∷ xs) [] passes h = absurd (cc)
+zip_all f g p (x ∷ xs) (y ∷ ys) passes h =
+    let head : f x ≡ g y = cc in
+    let tail : map f xs ≡ map g ys = cc in
+    and_from (p x) (list_all p xs) (passes x y (inl refl) head) (zip_all f g p xs ys (λ z w k e. passes z w (inr k) e) tail)
 
 -- a list by its places
 pub map-range : {X Y : Type 0} (f : ℕ → Y) (g : X → Y) (xs : List X) (a : ℕ) → ((k : ℕ) (x : X) → slice_get xs k ≡ Some x → f (a + k) ≡ g x) → map f (range_with_len a (length xs)) ≡ map g xs

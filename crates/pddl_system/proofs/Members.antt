@@ -1,8 +1,8 @@
 -- Membership in a list, and lists whose elements all differ, by recursion on the list.
-use Rattle.std.proofs.Common.{◌≡◌, ◌≢◌, ℕ, zero, suc, ◌+◌, ◌<◌, ◌≤◌, Bool, true, false, ◌⊎◌, inl, inr, ◌||◌, List, [], ◌∷◌, ◌++◌, map, length, get_or, Option, Some, None, refl, sym, ◌∙◌, ap, subst, arith, cond}
+use Rattle.std.proofs.Common.{◌≡◌, ◌≢◌, ℕ, zero, suc, ◌+◌, ◌<◌, ◌≤◌, Bool, true, false, ◌⊎◌, inl, inr, ◌||◌, List, [], ◌∷◌, ◌++◌, map, length, get_or, Some, refl, sym, ◌∙◌, ap, subst, arith, cond}
 use Rattle.std.specs.Prelude.{slice_get}
-use Rattle.std.specs.List.{All, AllPairs, flat_map, filter, list_any, enumerate_from, range_with_len}
-use Rattle.std.proofs.lemmas.Bool.{false≢true, true≢false}
+use Rattle.std.specs.List.{All, AllPairs, Contains, flat_map, filter, list_all, list_any, enumerate_from, range_with_len}
+use Rattle.std.proofs.lemmas.Bool.{false≢true, and_from, and_parts, or_left, or_right, cases_eq}
 use Rattle.std.proofs.lemmas.List.Elements.{All-cons, All-nil}
 use Rattle.std.proofs.lemmas.List.Kept.{AllPairs-cons}
 use Rattle.std.proofs.lemmas.Option.{none-some, same_Some}
@@ -151,3 +151,71 @@ AllPairs-from_Apart (x ∷ xs) h = AllPairs-cons (λ y z. y ≢ z) x xs (all_oth
 pub All-from_Among : {X : Type 0} (P : X → Type 0) (xs : List X) → ((x : X) → Among x xs → P x) → All P xs
 All-from_Among P [] h = All-nil P
 All-from_Among P (x ∷ xs) h = All-cons P x xs (h x (inl refl)) (All-from_Among P xs (λ y k. h y (inr k)))
+
+-- the other way round
+pub Among-flat_map : {X Y : Type 0} (f : X → List Y) (x : X) (y : Y) (xs : List X) → Among x xs → Among y (f x) → Among y (flat_map f xs)
+Among-flat_map f x y [] h k = absurd h
+Among-flat_map f x y (z ∷ xs) (inl e) k = Among-append_left y (f z) (flat_map f xs) (subst (λ w. Among y (f w)) (sym e) k)
+Among-flat_map f x y (z ∷ xs) (inr h) k = Among-append_right y (f z) (flat_map f xs) (Among-flat_map f x y xs h k)
+
+pub Among-filter : {X : Type 0} (p : X → Bool) (x : X) (xs : List X) → Among x xs → p x ≡ true → Among x (filter p xs)
+Among-filter p x [] h e = absurd h
+Among-filter p x (y ∷ xs) (inl is) e = subst (λ t. Among x (cond t (y ∷ filter p xs) (filter p xs))) (sym (ap p is ∙ e)) (inl is)
+Among-filter p x (y ∷ xs) (inr h) e = by_test (p y) refl (Among-filter p x xs h e)
+  where
+    by_test : (b : Bool) → p y ≡ b → Among x (filter p xs) → Among x (filter p (y ∷ xs))
+    by_test true is rest = rw is (inr rest)
+    by_test false is rest = rw is rest
+
+pub list_any-from_Among : {X : Type 0} (p : X → Bool) (x : X) (xs : List X) → Among x xs → p x ≡ true → list_any p xs ≡ true
+list_any-from_Among p x [] h e = absurd h
+list_any-from_Among p x (y ∷ xs) (inl is) e = or_left (p y) (list_any p xs) (ap p is ∙ e)
+list_any-from_Among p x (y ∷ xs) (inr h) e = or_right (p y) (list_any p xs) (list_any-from_Among p x xs h e)
+
+pub list_all-from_Among : {X : Type 0} (p : X → Bool) (xs : List X) → ((x : X) → Among x xs → p x ≡ true) → list_all p xs ≡ true
+list_all-from_Among p [] h = refl
+list_all-from_Among p (x ∷ xs) h = and_from (p x) (list_all p xs) (h x (inl refl)) (list_all-from_Among p xs (λ y k. h y (inr k)))
+
+pub passes_Among : {X : Type 0} (p : X → Bool) (x : X) (xs : List X) → list_all p xs ≡ true → Among x xs → p x ≡ true
+passes_Among p x [] h k = absurd k
+passes_Among p x (y ∷ xs) h (inl e) = subst (λ z. p z ≡ true) e (and_parts (p y) (list_all p xs) h).0
+passes_Among p x (y ∷ xs) h (inr k) = passes_Among p x xs (and_parts (p y) (list_all p xs) h).1 k
+
+pub All-Among : {X : Type 0} (P : X → Type 0) (x : X) (xs : List X) → All P xs → Among x xs → P x
+All-Among P x [] all k = absurd k
+All-Among P x (y ∷ xs) all (inl is) = subst P is (all 0 y (omega arith))
+All-Among P x (y ∷ xs) all (inr k) = All-Among P x xs (λ n z within. all (suc n) z (omega arith)) k
+
+pub Among-get_or : {X : Type 0} (xs : List X) (k : ℕ) (d : X) → k < length xs → Among (get_or xs k d) xs
+Among-get_or [] k d h = absurd (omega arith)
+Among-get_or (x ∷ xs) zero d h = inl refl
+Among-get_or (x ∷ xs) (suc k) d h = inr (Among-get_or xs k d (omega arith))
+
+pub Among-in_range : (x a n : ℕ) → a ≤ x → x < a + n → Among x (range_with_len a n)
+Among-in_range x a zero low high = absurd (omega arith)
+Among-in_range x a (suc n) low high =
+    elim (cases_eq a x) as (λ _. Among x (range_with_len a (suc n))) [
+      | inl e ↦ inl e
+      | inr ne ↦ inr (Among-in_range x (a + 1) n (let above : a ≢ x = ne in grind arith) (omega arith))
+    ]
+
+pub numbered_from : {X : Type 0} (xs : List X) (b k : ℕ) (x : X) → slice_get xs k ≡ Some x → Among (b + k, x) (enumerate_from b xs)
+numbered_from [] b k x h = absurd (none-some x h)
+numbered_from (y ∷ xs) b zero x h = inl (λ i. (same b i, same_Some y x h i))
+  where
+    same : (m : ℕ) → m ≡ m + 0
+    same m = omega arith
+numbered_from {X} (y ∷ xs) b (suc k) x h =
+    inr (subst (λ m. Among (m, x) (enumerate_from (b + 1) xs)) (next b k) (numbered_from xs (b + 1) k x h))
+  where
+    next : (m j : ℕ) → m + 1 + j ≡ m + suc j
+    next m j = omega arith
+
+-- std's word for membership
+pub Among-from_Contains : {X : Type 0} (xs : List X) (x : X) → Contains xs x → Among x xs
+Among-from_Contains xs x h = subst (λ y. Among y xs) h.2 (Among-get_or xs h.0 x h.1)
+
+pub Contains-from_Among : {X : Type 0} (xs : List X) (x : X) → Among x xs → Contains xs x
+Contains-from_Among [] x h = absurd h
+Contains-from_Among (y ∷ xs) x (inl e) = (0, omega arith, e)
+Contains-from_Among (y ∷ xs) x (inr h) = let rest = Contains-from_Among xs x h in (suc rest.0, omega arith, rest.2)

@@ -1,7 +1,7 @@
 -- The names of fluents and of actions are lists of words, and differ.
-use Rattle.std.proofs.Common.{◌≡◌, ◌≢◌, ℕ, zero, suc, ◌+◌, ◌<◌, Bool, true, false, not, ◌⊎◌, inl, inr, List, [], ◌∷◌, ◌++◌, map, length, get_or, Option, Some, None, refl, sym, ◌∙◌, ap, subst, arith}
+use Rattle.std.proofs.Common.{◌≡◌, ◌≢◌, ℕ, zero, suc, ◌+◌, ◌<◌, true, false, inl, inr, List, [], ◌∷◌, map, length, Option, Some, refl, sym, ◌∙◌, ap, subst, arith}
 use Rattle.std.specs.Prelude.{codes, slice_get, replicate}
-use Rattle.std.specs.List.{All, filter, flat_map, list_any, enumerate_from, range_with_len}
+use Rattle.std.specs.List.{All, list_any, enumerate_from, range_with_len}
 use Rattle.std.specs.Option.{option_map_or}
 use Rattle.std.specs.Str.{bytes_eq}
 use Rattle.std.proofs.lemmas.Bool.{or_parts, false≢true, true≢false}
@@ -21,10 +21,10 @@ use Rattle.pddl_system.specs.Instances.{Instance, instances_of, is_kept, kept_in
 use Rattle.pddl_system.specs.Laws.{ActionNamesAreNames, FluentNamesAreNames}
 use Rattle.pddl_system.specs.Names.{NamesAreWords}
 use Rattle.pddl_system.specs.Objects.{all_objects, bindings, is_kind_of, objects_of_type, type_of}
-use Rattle.pddl_system.specs.Settings.{Setting, setting}
+use Rattle.pddl_system.specs.Settings.{setting}
 use Rattle.pddl_system.specs.Systems.{action_names, atom_name, fluent_names, instance_name, object_name, predicate_name}
 use Rattle.pddl_system.proofs.Members.{Among, Apart, AllPairs-from_Apart, All-from_Among, Among-filter_from, Among-flat_map_from, Among-map, Among-map_from, Among-range, Among-slice_get, Apart-filter, Apart-flat_map, Apart-map, Apart-range}
-use Rattle.pddl_system.proofs.Numbers.{bindings_apart, fluents_apart}
+use Rattle.pddl_system.proofs.Numbers.{bindings_apart, chosen_from, fluents_apart}
 
 -- elements at their places
 
@@ -40,18 +40,6 @@ numbered : {X : Type 0} (e : ℕ × X) (b : ℕ) (xs : List X) → Among e (enum
 numbered e b [] h = absurd h
 numbered e b (x ∷ xs) (inl is) = (0, sym (ap (λ (z : ℕ × _). z.0) is) ∙ omega arith, ap (λ (z : ℕ × _). Some z.1) is)
 numbered e b (x ∷ xs) (inr h) = let rest = numbered e (b + 1) xs h in (suc rest.0, rest.1 ∙ omega arith, rest.2)
-
--- what is chosen is an object of some type
-chosen_from : (objects : ℕ → List ℕ) (types chosen : List ℕ) → Among chosen (bindings objects types) → (x : ℕ) → Among x chosen → (t : ℕ) × Among x (objects t)
-chosen_from objects [] chosen (inl is) x h = absurd (subst (λ c. Among x c) (sym is) h)
-chosen_from objects [] chosen (inr k) x h = absurd k
-chosen_from objects (t ∷ ts) chosen k x h =
-    let one = Among-flat_map_from (λ o. map (λ rest. o ∷ rest) (bindings objects ts)) chosen (objects t) k in
-    let two = Among-map_from (λ rest. one.0 ∷ rest) chosen (bindings objects ts) one.2 in
-    elim (subst (λ c. Among x c) (sym two.2) h) as (λ _. (u : ℕ) × Among x (objects u)) [
-      | inl is ↦ (t, subst (λ z. Among z (objects t)) is one.1)
-      | inr g ↦ chosen_from objects ts two.0 two.1 x g
-    ]
 
 -- names that differ
 
@@ -102,18 +90,47 @@ not_is_reserved = refl
 name_some : (w : List ℕ) (rest : Name) → w ∷ rest ≢ []
 name_some w rest e = cc
 
-module _ (d : DomainTree) (p : ProblemTree) (fits_d : FitsDomain d) (fits_p : FitsProblem d p) (words : NamesAreWords d p) where
+-- the instances, whatever the names
+
+module _ (d : DomainTree) (p : ProblemTree) where
   -- an object is below this number
   abbrev count : ℕ
   count = length (all_objects d p)
 
-  object_word : (o : ℕ) → o < count → IsWord (object_name (all_objects d p) o)
+  -- an instance's action and objects
+  abbrev with : SchemaTree → List ℕ → Instance
+  with s objects = record { schema = s; objects = objects }
+
+  pub of_schema : (s : SchemaTree) (i : Instance) → Among i (kept_of (setting d p) s) → (objects : List ℕ) × Among objects (bindings (setting d p).objects s.parameters) × (with s objects ≡ i)
+  of_schema s i h =
+      Among-map_from (with s) i (bindings (setting d p).objects s.parameters) (Among-filter_from (is_kept (setting d p)) i (instances_of (setting d p) s) h).0
+
+  pub schema_listed : (i : Instance) → Among i (kept_instances d p) → Among i.schema d.actions
+  schema_listed i h =
+      let one = Among-flat_map_from (kept_of (setting d p)) i d.actions h in
+      let two = of_schema one.0 i one.2 in
+      subst (λ s. Among s d.actions) (ap (λ (j : Instance). j.schema) two.2) one.1
+
+  pub arguments_below : (i : Instance) → Among i (kept_instances d p) → (o : ℕ) → Among o i.objects → o < count
+  arguments_below i h o k =
+      let one = Among-flat_map_from (kept_of (setting d p)) i d.actions h in
+      let two = of_schema one.0 i one.2 in
+      let from = chosen_from (setting d p).objects (one.0).parameters two.0 two.1 o (subst (λ os. Among o os) (sym (ap (λ (j : Instance). j.objects) two.2)) k) in
+      let in_range = (Among-filter_from (λ u. is_kind_of d.parents (type_of (all_objects d p) u) from.0) o (range_with_len 0 count) from.1).0 in
+      let below = (Among-range o 0 count in_range).1 in
+      omega arith
+
+  objects_apart : (t : ℕ) → Apart (objects_of_type d.parents (all_objects d p) t)
+  objects_apart t = Apart-filter (λ o. is_kind_of d.parents (type_of (all_objects d p) o) t) (range_with_len 0 count) (Apart-range 0 count)
+
+module _ (d : DomainTree) (p : ProblemTree) (fits_d : FitsDomain d) (fits_p : FitsProblem d p) (words : NamesAreWords d p) where
+  object_word : (o : ℕ) → o < (count d p) → IsWord (object_name (all_objects d p) o)
   object_word o h =
       let there = is_there (all_objects d p) o h in
       subst (λ (r : Option Named). IsWord (option_map_or (λ (n : Named). n.name) r [])) (sym there.1)
       (all_at (λ (n : Named). IsWord n.name) (all_objects d p) words.objects o there.0 there.1)
 
-  same_object : (o u : ℕ) → o < count → u < count → object_name (all_objects d p) o ≡ object_name (all_objects d p) u → o ≡ u
+  same_object : (o u : ℕ) → o < (count d p) → u < (count d p) → object_name (all_objects d p) o ≡ object_name (all_objects d p) u → o ≡ u
   same_object o u ho hu e =
       let x = is_there (all_objects d p) o ho in
       let y = is_there (all_objects d p) u hu in
@@ -121,17 +138,17 @@ module _ (d : DomainTree) (p : ProblemTree) (fits_d : FitsDomain d) (fits_p : Fi
       let other : object_name (all_objects d p) u ≡ (y.0).name = ap (λ (r : Option Named). option_map_or (λ (n : Named). n.name) r []) y.1 in
       place_by_name (λ (n : Named). n.name) (all_objects d p) fits_p.objects_differ o u x.0 y.0 x.1 y.1 (sym named ∙ e ∙ other)
 
-  same_objects : (os us : List ℕ) → ((o : ℕ) → Among o os → o < count) → ((u : ℕ) → Among u us → u < count)
+  same_objects : (os us : List ℕ) → ((o : ℕ) → Among o os → o < (count d p)) → ((u : ℕ) → Among u us → u < (count d p))
       → map (object_name (all_objects d p)) os ≡ map (object_name (all_objects d p)) us → os ≡ us
   same_objects os us ho hu e =
       same_lists (object_name (all_objects d p)) os us (λ o u k l same. same_object o u (ho o k) (hu u l) same) e
 
-  objects_words : (os : List ℕ) → ((o : ℕ) → Among o os → o < count) → (w : List ℕ) → Among w (map (object_name (all_objects d p)) os) → IsWord w
+  objects_words : (os : List ℕ) → ((o : ℕ) → Among o os → o < (count d p)) → (w : List ℕ) → Among w (map (object_name (all_objects d p)) os) → IsWord w
   objects_words os ho w h =
       let from = Among-map_from (object_name (all_objects d p)) w os h in
       subst IsWord from.2 (object_word from.0 (ho from.0 from.1))
 
-  name_of_words : (w : List ℕ) (os : List ℕ) → IsWord w → ((o : ℕ) → Among o os → o < count) → IsName (w ∷ map (object_name (all_objects d p)) os)
+  name_of_words : (w : List ℕ) (os : List ℕ) → IsWord w → ((o : ℕ) → Among o os → o < (count d p)) → IsName (w ∷ map (object_name (all_objects d p)) os)
   name_of_words w os is ho = record {
     some = name_some w (map (object_name (all_objects d p)) os);
     each_word = All-cons IsWord w (map (object_name (all_objects d p)) os) is (All-from_Among IsWord (map (object_name (all_objects d p)) os) (objects_words os ho));
@@ -140,22 +157,22 @@ module _ (d : DomainTree) (p : ProblemTree) (fits_d : FitsDomain d) (fits_p : Fi
   -- a fluent's predicate and objects
   predicate_at : (a : AtomTree) → Among a (fluents d p) → (q : Predicate) × (slice_get d.predicates a.predicate ≡ Some q)
   predicate_at a h =
-      let listed = (Among-filter_from (is_fluent d p) a (all_atoms d.predicates count) h).0 in
-      let one = Among-flat_map_from (λ (e : ℕ × Predicate). atoms_of_predicate count e.0 e.1.arity) a (enumerate_from 0 d.predicates) listed in
+      let listed = (Among-filter_from (is_fluent d p) a (all_atoms d.predicates (count d p)) h).0 in
+      let one = Among-flat_map_from (λ (e : ℕ × Predicate). atoms_of_predicate (count d p) e.0 e.1.arity) a (enumerate_from 0 d.predicates) listed in
       let at = numbered one.0 0 d.predicates one.1 in
-      let two = Among-map_from (λ objects. record { predicate = (one.0).0; objects = objects }) a (bindings (λ _. range_with_len 0 count) (replicate (one.0).1.arity 0)) one.2 in
+      let two = Among-map_from (λ objects. record { predicate = (one.0).0; objects = objects }) a (bindings (λ _. range_with_len 0 (count d p)) (replicate (one.0).1.arity 0)) one.2 in
       let number : (one.0).0 ≡ a.predicate = ap (λ (b : AtomTree). b.predicate) two.2 in
       let place : at.0 ≡ a.predicate = omega arith in
       ((one.0).1, subst (λ k. slice_get d.predicates k ≡ Some (one.0).1) place at.2)
 
-  objects_below : (a : AtomTree) → Among a (fluents d p) → (o : ℕ) → Among o a.objects → o < count
+  objects_below : (a : AtomTree) → Among a (fluents d p) → (o : ℕ) → Among o a.objects → o < (count d p)
   objects_below a h o k =
-      let listed = (Among-filter_from (is_fluent d p) a (all_atoms d.predicates count) h).0 in
-      let one = Among-flat_map_from (λ (e : ℕ × Predicate). atoms_of_predicate count e.0 e.1.arity) a (enumerate_from 0 d.predicates) listed in
-      let two = Among-map_from (λ objects. record { predicate = (one.0).0; objects = objects }) a (bindings (λ _. range_with_len 0 count) (replicate (one.0).1.arity 0)) one.2 in
+      let listed = (Among-filter_from (is_fluent d p) a (all_atoms d.predicates (count d p)) h).0 in
+      let one = Among-flat_map_from (λ (e : ℕ × Predicate). atoms_of_predicate (count d p) e.0 e.1.arity) a (enumerate_from 0 d.predicates) listed in
+      let two = Among-map_from (λ objects. record { predicate = (one.0).0; objects = objects }) a (bindings (λ _. range_with_len 0 (count d p)) (replicate (one.0).1.arity 0)) one.2 in
       let listed_too : Among o two.0 = subst (λ os. Among o os) (sym (ap (λ (b : AtomTree). b.objects) two.2)) k in
-      let from = chosen_from (λ _. range_with_len 0 count) (replicate (one.0).1.arity 0) two.0 two.1 o listed_too in
-      let below = (Among-range o 0 count from.1).1 in
+      let from = chosen_from (λ _. range_with_len 0 (count d p)) (replicate (one.0).1.arity 0) two.0 two.1 o listed_too in
+      let below = (Among-range o 0 (count d p) from.1).1 in
       omega arith
 
   predicate_name_at : (a : AtomTree) (q : Predicate) → slice_get d.predicates a.predicate ≡ Some q → predicate_name d.predicates a.predicate ≡ q.name
@@ -192,32 +209,10 @@ module _ (d : DomainTree) (p : ProblemTree) (fits_d : FitsDomain d) (fits_p : Fi
     distinct = AllPairs-from_Apart (fluent_names d p) (Apart-map (atom_name d p) (fluents d p) same_fluent (fluents_apart d p));
   }
 
-  -- an instance's action and objects
-  abbrev with : SchemaTree → List ℕ → Instance
-  with s objects = record { schema = s; objects = objects }
-
-  of_schema : (s : SchemaTree) (i : Instance) → Among i (kept_of (setting d p) s) → (objects : List ℕ) × Among objects (bindings (setting d p).objects s.parameters) × (with s objects ≡ i)
-  of_schema s i h =
-      Among-map_from (with s) i (bindings (setting d p).objects s.parameters) (Among-filter_from (is_kept (setting d p)) i (instances_of (setting d p) s) h).0
-
-  schema_listed : (i : Instance) → Among i (kept_instances d p) → Among i.schema d.actions
-  schema_listed i h =
-      let one = Among-flat_map_from (kept_of (setting d p)) i d.actions h in
-      let two = of_schema one.0 i one.2 in
-      subst (λ s. Among s d.actions) (ap (λ (j : Instance). j.schema) two.2) one.1
-
-  arguments_below : (i : Instance) → Among i (kept_instances d p) → (o : ℕ) → Among o i.objects → o < count
-  arguments_below i h o k =
-      let one = Among-flat_map_from (kept_of (setting d p)) i d.actions h in
-      let two = of_schema one.0 i one.2 in
-      let from = chosen_from (setting d p).objects (one.0).parameters two.0 two.1 o (subst (λ os. Among o os) (sym (ap (λ (j : Instance). j.objects) two.2)) k) in
-      let in_range = (Among-filter_from (λ u. is_kind_of d.parents (type_of (all_objects d p) u) from.0) o (range_with_len 0 count) from.1).0 in
-      let below = (Among-range o 0 count in_range).1 in
-      omega arith
-
+  -- the names of actions
   action_is_name : (i : Instance) → Among i (kept_instances d p) → IsName (instance_name d p i)
   action_is_name i h =
-      name_of_words i.schema.name i.objects (all_among d.actions words.actions i.schema (schema_listed i h)) (arguments_below i h)
+      name_of_words i.schema.name i.objects (all_among d.actions words.actions i.schema (schema_listed d p i h)) (arguments_below d p i h)
     where
       all_among : (xs : List SchemaTree) → All (λ (s : SchemaTree). IsWord s.name) xs → (x : SchemaTree) → Among x xs → IsWord x.name
       all_among [] all x k = absurd k
@@ -228,19 +223,16 @@ module _ (d : DomainTree) (p : ProblemTree) (fits_d : FitsDomain d) (fits_p : Fi
   same_instance i j hi hj e =
       let head : i.schema.name ≡ j.schema.name = cc in
       let tail : map (object_name (all_objects d p)) i.objects ≡ map (object_name (all_objects d p)) j.objects = cc in
-      let schemas = same_by_name (λ (s : SchemaTree). s.name) d.actions fits_d.actions_differ i.schema j.schema (schema_listed i hi) (schema_listed j hj) head in
-      let objects = same_objects i.objects j.objects (arguments_below i hi) (arguments_below j hj) tail in
+      let schemas = same_by_name (λ (s : SchemaTree). s.name) d.actions fits_d.actions_differ i.schema j.schema (schema_listed d p i hi) (schema_listed d p j hj) head in
+      let objects = same_objects i.objects j.objects (arguments_below d p i hi) (arguments_below d p j hj) tail in
       λ n. record { schema = schemas n; objects = objects n }
-
-  objects_apart : (t : ℕ) → Apart (objects_of_type d.parents (all_objects d p) t)
-  objects_apart t = Apart-filter (λ o. is_kind_of d.parents (type_of (all_objects d p) o) t) (range_with_len 0 count) (Apart-range 0 count)
 
   instances_apart : Apart (kept_instances d p)
   instances_apart =
       Apart-flat_map (kept_of (setting d p)) (λ (s : SchemaTree). s.name) (λ (i : Instance). i.schema.name) d.actions
-      (λ s i k l. ap (λ (j : Instance). j.schema.name) (sym (of_schema s i l).2))
+      (λ s i k l. ap (λ (j : Instance). j.schema.name) (sym (of_schema d p s i l).2))
       (λ s k. Apart-filter (is_kept (setting d p)) (instances_of (setting d p) s)
-      (Apart-map (with s) (bindings (setting d p).objects s.parameters) (λ x y _ _ e. ap (λ (i : Instance). i.objects) e) (bindings_apart (setting d p).objects objects_apart s.parameters)))
+      (Apart-map ((with d p) s) (bindings (setting d p).objects s.parameters) (λ x y _ _ e. ap (λ (i : Instance). i.objects) e) (bindings_apart (setting d p).objects (objects_apart d p) s.parameters)))
       (names_apart (λ (s : SchemaTree). s.name) d.actions fits_d.actions_differ)
 
   action_names_are : AreActionNames (action_names d p)

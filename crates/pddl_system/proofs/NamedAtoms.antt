@@ -1,22 +1,21 @@
 -- The atoms that an effect names are those that some outcome may change.
 use Rattle.std.proofs.Common.{◌≡◌, ℕ, ◌+◌, ◌<◌, Bool, true, false, ◌&&◌, ◌||◌, List, [], ◌∷◌, ◌++◌, map, length, Some, None, refl, sym, ◌∙◌, ap, subst, arith, if◌then◌else◌}
-use Rattle.std.specs.List.{flat_map, filter, list_any}
+use Rattle.std.specs.List.{filter, list_any}
 use Rattle.std.proofs.lemmas.List.{length-append, length-map}
 use Rattle.std.proofs.lemmas.List.Folds.{list_any-append}
 use Rattle.std.proofs.Math.Bool.{or-false}
 use Rattle.std.proofs.Math.Nat.{mul-pos, one-le-pow}
 use Rattle.task_core.proofs.Vectors.{list_any-map}
-use Rattle.pddl_ast.specs.Fits.{FitsEffect, FitsEffects, HasEffect}
+use Rattle.pddl_ast.specs.Fits.{FitsEffect, FitsEffects}
 use Rattle.pddl_ast.specs.Known.{Known}
 use Rattle.pddl_ast.specs.Trees.{AtomTree, EffectTree, EffectTrees, add, delete, both, one_of, only_when, each, no_effect, effect_then}
-use Rattle.pddl_system.specs.Fluents.{atoms_changed, changed_by, named_by_effect, named_by_effects}
+use Rattle.pddl_system.specs.Fluents.{atoms_changed, named_by_effect, named_by_effects}
 use Rattle.pddl_system.specs.GroundAtoms.{is_among, same_atom}
-use Rattle.pddl_system.specs.Instances.{Instance}
 use Rattle.pddl_system.specs.Laws.{EffectsHaveOutcomes, NamedAtomsAreChanged}
 use Rattle.pddl_system.specs.Objects.{bindings}
 use Rattle.pddl_system.specs.Outcomes.{ChangeTree, Condition, OutcomeTree, may_change, outcomes, outcomes_of_both, outcomes_of_either, possible_changes, products, product_of_all, under}
 use Rattle.pddl_system.specs.Settings.{Setting}
-use Rattle.pddl_system.specs.Sizes.{outcome_count, product_of_counts, sum_of_counts}
+use Rattle.pddl_system.specs.Sizes.{outcome_count, product_of_counts}
 use Rattle.pddl_system.specs.ThreeValues.{Value, may_hold, value, value_and, value_of_all}
 use Rattle.pddl_system.proofs.Counts.{outcomes_are_counted}
 use Rattle.pddl_system.proofs.Lists.{list_any-flat_map, list_any-same, list_any_or, list_any_or_before, list_any_and, list_any-filter}

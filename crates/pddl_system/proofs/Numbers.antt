@@ -1,8 +1,8 @@
 -- Bindings, atoms and fluents differ, so that each fluent has its place as its number.
-use Rattle.std.proofs.Common.{◌≡◌, ◌≢◌, ℕ, zero, suc, ◌+◌, ◌<◌, Bool, true, false, ◌⊎◌, inl, inr, ◌&&◌, not, cond, List, [], ◌∷◌, ◌++◌, map, length, get_or, Option, Some, None, refl, sym, ◌∙◌, ap, subst, arith, eqb, ltb}
+use Rattle.std.proofs.Common.{◌≡◌, ℕ, zero, suc, ◌+◌, ◌<◌, Bool, true, false, inl, inr, not, cond, List, [], ◌∷◌, map, length, get_or, Some, None, refl, sym, ◌∙◌, ap, subst, arith, eqb, ltb}
 use Rattle.std.specs.Prelude.{slice_get, replicate}
-use Rattle.std.specs.List.{filter, flat_map, list_any, enumerate_from, position, position_or_len, range_with_len}
-use Rattle.std.proofs.lemmas.Bool.{and_parts, and_from, eqb-true, eq-eqb, ne_eqb, lt-ltb, false≢true, true≢false}
+use Rattle.std.specs.List.{enumerate_from, position_or_len, range_with_len}
+use Rattle.std.proofs.lemmas.Bool.{and_parts, and_from, eqb-true, eq-eqb, ne_eqb, lt-ltb, false≢true}
 use Rattle.std.proofs.lemmas.List.{map-id}
 use Rattle.std.proofs.lemmas.Option.{none-some, same_Some, slice_get_within}
 use Rattle.std.proofs.lemmas.Slice.Eq.{bytes_eq-Decides}
@@ -13,7 +13,7 @@ use Rattle.pddl_system.specs.Fluents.{fluents, is_fluent}
 use Rattle.pddl_system.specs.GroundAtoms.{all_atoms, atoms_of_predicate, same_atom}
 use Rattle.pddl_system.specs.Objects.{all_objects, bindings}
 use Rattle.pddl_system.specs.States.{number_of}
-use Rattle.pddl_system.proofs.Members.{Among, Apart, Among-map_from, Among-slice_get, Apart-filter, Apart-flat_map, Apart-map, Apart-range, numbers_are}
+use Rattle.pddl_system.proofs.Members.{Among, Apart, Among-flat_map, Among-flat_map_from, Among-in_range, Among-map, Among-map_from, Among-slice_get, Apart-filter, Apart-flat_map, Apart-map, Apart-range, numbers_are}
 
 -- atoms that pass the test are the same
 pub same_atom-equal : (a b : AtomTree) → same_atom a b ≡ true → a ≡ b
@@ -48,6 +48,37 @@ bindings_apart objects apart (t ∷ ts) =
     rest_of : List ℕ → List ℕ
     rest_of [] = []
     rest_of (x ∷ xs) = xs
+
+-- what is chosen is an object of some type
+pub chosen_from : (objects : ℕ → List ℕ) (types chosen : List ℕ) → Among chosen (bindings objects types) → (x : ℕ) → Among x chosen → (t : ℕ) × Among x (objects t)
+chosen_from objects [] chosen (inl is) x h = absurd (subst (λ c. Among x c) (sym is) h)
+chosen_from objects [] chosen (inr k) x h = absurd k
+chosen_from objects (t ∷ ts) chosen k x h =
+    let one = Among-flat_map_from (λ o. map (λ rest. o ∷ rest) (bindings objects ts)) chosen (objects t) k in
+    let two = Among-map_from (λ rest. one.0 ∷ rest) chosen (bindings objects ts) one.2 in
+    elim (subst (λ c. Among x c) (sym two.2) h) as (λ _. (u : ℕ) × Among x (objects u)) [
+      | inl is ↦ (t, subst (λ z. Among z (objects t)) is one.1)
+      | inr g ↦ chosen_from objects ts two.0 two.1 x g
+    ]
+
+pub length-chosen : (objects : ℕ → List ℕ) (types chosen : List ℕ) → Among chosen (bindings objects types) → length chosen ≡ length types
+length-chosen objects [] chosen (inl is) = ap length (sym is)
+length-chosen objects [] chosen (inr k) = absurd k
+length-chosen objects (t ∷ ts) chosen k =
+    let one = Among-flat_map_from (λ o. map (λ rest. o ∷ rest) (bindings objects ts)) chosen (objects t) k in
+    let two = Among-map_from (λ rest. one.0 ∷ rest) chosen (bindings objects ts) one.2 in
+    ap length (sym two.2) ∙ ap suc (length-chosen objects ts two.0 two.1)
+
+-- all lists of n numbers below a count are chosen
+pub all_chosen : (count n : ℕ) (chosen : List ℕ) → length chosen ≡ n → ((x : ℕ) → Among x chosen → x < count) → Among chosen (bindings (λ _. range_with_len 0 count) (replicate n 0))
+all_chosen count zero [] is below = inl refl
+all_chosen count zero (x ∷ chosen) is below = absurd (omega arith)
+all_chosen count (suc n) [] is below = absurd (omega arith)
+all_chosen count (suc n) (x ∷ chosen) is below =
+    let low = below x (inl refl) in
+    Among-flat_map (λ o. map (λ rest. o ∷ rest) (bindings (λ _. range_with_len 0 count) (replicate n 0))) x (x ∷ chosen) (range_with_len 0 count)
+    (Among-in_range x 0 count (omega arith) (omega arith))
+    (Among-map (λ rest. x ∷ rest) chosen (bindings (λ _. range_with_len 0 count) (replicate n 0)) (all_chosen count n chosen (omega arith) (λ y k. below y (inr k))))
 
 -- all atoms differ
 pub atoms_apart : (predicates : List Predicate) (n : ℕ) → Apart (all_atoms predicates n)

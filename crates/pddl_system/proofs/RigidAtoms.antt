@@ -1,6 +1,6 @@
 -- An atom of a rigid predicate is no fluent.
-use Rattle.std.proofs.Common.{◌≡◌, ℕ, ◌+◌, Bool, true, false, ◌&&◌, ◌||◌, not, cond, List, [], ◌∷◌, ◌++◌, map, length, Option, Some, None, refl, sym, ◌∙◌, ap, subst, arith, eqb, ltb, ◌==◌}
-use Rattle.std.specs.List.{filter, flat_map, list_any, position_or_len}
+use Rattle.std.proofs.Common.{◌≡◌, ℕ, ◌+◌, Bool, true, false, ◌&&◌, ◌||◌, not, cond, List, [], ◌∷◌, ◌++◌, map, length, Some, None, refl, sym, ◌∙◌, ap, subst, arith, ◌==◌}
+use Rattle.std.specs.List.{list_any, position_or_len}
 use Rattle.std.proofs.lemmas.Bool.{and_left, and_right, eqb-false, ne_eqb, not-true, or_parts, or_from, le-ltb, false≢true}
 use Rattle.std.proofs.lemmas.List.Folds.{list_any-append}
 use Rattle.std.specs.Str.{bytes_eq}
@@ -14,7 +14,7 @@ use Rattle.pddl_system.specs.Outcomes.{OutcomeTree, outcomes, outcomes_of_both, 
 use Rattle.pddl_system.specs.Settings.{Setting, changes, entry_names, is_rigid_in, setting, some_changes}
 use Rattle.pddl_system.specs.States.{number_of}
 use Rattle.pddl_system.specs.ThreeValues.{may_hold, value}
-use Rattle.pddl_system.proofs.Lists.{list_any-flat_map, list_any-never, list_any-same, list_any-weaker, list_any-filter}
+use Rattle.pddl_system.proofs.Lists.{list_any-flat_map, list_any-never, list_any-weaker, list_any-filter}
 use Rattle.pddl_system.proofs.Members.{Among-filter_from, Among-from_list_any}
 use Rattle.pddl_system.proofs.NamedAtoms.{touches, touches-append, under_same}
 use Rattle.pddl_system.proofs.Numbers.{same_atom-equal}

@@ -1,17 +1,17 @@
 -- The three values are sound: what is known of a formula is so in every state, where the atoms of rigid
 -- predicates are no fluents.
-use Rattle.std.proofs.Common.{◌≡◌, ℕ, Bool, true, false, not, ◌&&◌, ◌||◌, List, [], ◌∷◌, ◌++◌, map, Option, Some, None, refl, sym, ◌∙◌, ap, subst, ◌==◌, if◌then◌else◌}
+use Rattle.std.proofs.Common.{◌≡◌, ℕ, Bool, true, false, not, ◌&&◌, ◌||◌, List, [], ◌∷◌, ◌++◌, map, Some, None, refl, ◌∙◌, ap, subst, if◌then◌else◌}
 use Rattle.std.specs.List.{list_all, list_any}
-use Rattle.std.proofs.lemmas.Bool.{and_left, and_right, or_left, or_right, false≢true, true≢false}
+use Rattle.std.proofs.lemmas.Bool.{and_left, and_right, or_left, or_right, true≢false}
 use Rattle.task_core.specs.Vectors.{Vector}
 use Rattle.pddl_ast.specs.Trees.{FormulaTree, FormulaTrees, atom, equal, all, any, negation, implication, exists, forall, no_formula, formula_then, AtomTree}
 use Rattle.pddl_system.specs.GroundAtoms.{atom_of}
-use Rattle.pddl_system.specs.Objects.{bindings, object_of}
+use Rattle.pddl_system.specs.Objects.{bindings}
 use Rattle.pddl_system.specs.Outcomes.{ChangeTree, Condition, may_change}
 use Rattle.pddl_system.specs.Settings.{Setting}
 use Rattle.pddl_system.specs.States.{atom_holds, comes_about, formula_holds, number_of, value_at}
 use Rattle.pddl_system.specs.ThreeValues.{Value, may_hold, value, values, value_and, value_or, value_not, value_of_all, value_of_any}
-use Rattle.pddl_system.specs.Truth.{is_true, are_true, is_one_true}
+use Rattle.pddl_system.specs.Truth.{are_true, is_one_true}
 
 -- what is known is so
 abbrev Tells : Value → Bool → Type 0

@@ -1,16 +1,14 @@
 -- The system of the task of a domain and a problem is theirs.
-use Rattle.std.proofs.Common.{◌≡◌, ℕ, zero, suc, ◌+◌, Bool, true, false, ◌&&◌, cond, List, [], ◌∷◌, ◌++◌, map, length, Option, Some, None, refl, sym, ◌∙◌, ap, subst, arith, ◌==◌, if◌then◌else◌}
+use Rattle.std.proofs.Common.{◌≡◌, ℕ, Bool, true, false, ◌&&◌, cond, List, [], ◌∷◌, map, length, Option, Some, None, refl, sym, ◌∙◌, ap, ◌==◌, if◌then◌else◌}
 use Rattle.std.specs.Prelude.{slice_get}
-use Rattle.std.specs.List.{filter, list_all, list_any, position_or_len, range_with_len}
+use Rattle.std.specs.List.{list_all, list_any, position_or_len}
 use Rattle.std.specs.Option.{option_map, option_map_or}
 use Rattle.std.proofs.lemmas.Bool.{and_right}
-use Rattle.std.proofs.lemmas.List.{length-map}
 use Rattle.std.proofs.lemmas.List.Elements.{filter_agree}
 use Rattle.std.proofs.Math.Nat.{zero-add}
-use Rattle.task_core.specs.Actions.{adds, after, after_value, change_makes, deletes}
+use Rattle.task_core.specs.Actions.{after, after_value, change_makes, deletes}
 use Rattle.task_core.specs.Conditions.{holds}
 use Rattle.task_core.specs.Initial.{after_entries, entries_of}
-use Rattle.task_core.specs.Initial as initial
 use Rattle.task_core.specs.Names.{name_bytes}
 use Rattle.task_core.specs.Tasks.{action_count, fluent_count, initial_states, next_states, outcomes_at, system_of}
 use Rattle.task_core.specs.Tasks as tasks
@@ -28,7 +26,7 @@ use Rattle.pddl_system.specs.Instances.{Instance, kept_instances}
 use Rattle.pddl_system.specs.Laws.{TaskHasTheSystem}
 use Rattle.pddl_system.specs.Outcomes.{ChangeTree, Condition, OutcomeTree, may_change, outcomes_of, possible_changes}
 use Rattle.pddl_system.specs.Settings.{Setting, setting}
-use Rattle.pddl_system.specs.States.{atom_holds, comes_about, formula_holds, makes, number_of, state_after, value_after, value_at}
+use Rattle.pddl_system.specs.States.{atom_holds, comes_about, formula_holds, makes, state_after, value_after, value_at}
 use Rattle.pddl_system.specs.Systems.{facts_of, initial_of, next_of, states_where, system}
 use Rattle.pddl_system.specs.Systems as systems
 use Rattle.pddl_system.specs.Tasks.{ActionTree, CondTree, TaskTree, action_of, change_of, changed_if, condition_of, outcome_of, task_of}

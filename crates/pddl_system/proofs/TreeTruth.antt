@@ -17,7 +17,7 @@ use Rattle.pddl_system.specs.Objects.{bindings, object_of}
 use Rattle.pddl_system.specs.Settings.{Setting}
 use Rattle.pddl_system.specs.States.{atom_holds, formula_holds, number_of, value_at}
 use Rattle.pddl_system.specs.Tasks.{CondTree, CondTrees, yes_always, no_never, is_fluent_true, not_so, all_of, any_of, no_condition, condition_then, condition_row, constant, atom_condition, condition_of, conditions_of}
-use Rattle.pddl_system.specs.Truth.{is_true, are_true, is_one_true}
+use Rattle.pddl_system.specs.Truth.{are_true, is_one_true}
 use Rattle.pddl_system.specs.Values.{condition_step, condition_value}
 use Rattle.pddl_system.proofs.Lists.{list_all-same, list_any-same}
 

@@ -1,7 +1,7 @@
 use Rattle.std.proofs.Common.{map, string_bytes, inr, subst}
 use Rattle.plan_io.specs.Fetches.{FetchesFirst}
-use Rattle.mbp_top.specs.Values.{plan_words_of}
-use Rattle.mbp_top.specs.Words.{Command, plan, files_of}
+use Rattle.mbp_top.specs.Values.{ground_words_of, plan_words_of}
+use Rattle.mbp_top.specs.Words.{Command, plan, ground, files_of}
 use Rattle.mbp_top.proofs.ByCommand.{one_command}
 use Rattle.mbp_top.proofs.commands.answer.Goals as goal
 
@@ -16,3 +16,15 @@ returns-in-Plan-clause-fetches g c = λ command says.
 
 pub returns-in-Plan-clause-no_fetch : goal.returns-in-Plan-clause-no_fetch
 returns-in-Plan-clause-no_fetch g c = λ nothing. absurd (nothing (plan (plan_words_of c.in-Plan.asked)) c.in-Plan.ensures)
+
+pub returns-in-Ground-clause-cause : goal.returns-in-Ground-clause-cause
+returns-in-Ground-clause-cause g c = inr (ground (ground_words_of c.in-Ground.asked), c.in-Ground.ensures, c.ground_files.ensures.answer)
+
+pub returns-in-Ground-clause-fetches : goal.returns-in-Ground-clause-fetches
+returns-in-Ground-clause-fetches g c = λ command says.
+    subst (λ (said : Command). FetchesFirst g.S.Shelf.fetched (files_of said) c.args.shelf.now c.ground_files.new.shelf)
+    (one_command (map string_bytes c.args.words.now) (ground (ground_words_of c.in-Ground.asked)) command c.in-Ground.ensures says)
+    c.ground_files.ensures.fetches
+
+pub returns-in-Ground-clause-no_fetch : goal.returns-in-Ground-clause-no_fetch
+returns-in-Ground-clause-no_fetch g c = λ nothing. absurd (nothing (ground (ground_words_of c.in-Ground.asked)) c.in-Ground.ensures)

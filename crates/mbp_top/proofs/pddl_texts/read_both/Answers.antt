@@ -52,3 +52,14 @@ returns-clause-fetches g c = record {
   count = 2;
   fetches = (c.read_domain_file.new.shelf, c.in_ok-domain.ensures.fetch, (c.read_problem_file.new.shelf, c.in_ok-problem.ensures.fetch, refl));
 }
+
+pub returns-clause-names : goal.returns-clause-names
+returns-clause-names g c =
+    let domain = domain_value c.in_ok-domain.domain in
+    let problem = problem_value c.in_ok-problem.problem in
+    let words = c.in_ok-domain.ensures.words in
+    c.read_names_are_words.ensures domain problem words.predicates words.actions words.constants c.in_ok-problem.ensures.words
+
+pub returns-clause-fetched : goal.returns-clause-fetched
+returns-clause-fetched g c =
+    (c.read_domain_file.new.shelf, c.in_ok-domain.ensures.fetch, (c.read_problem_file.new.shelf, c.in_ok-problem.ensures.fetch, refl))
