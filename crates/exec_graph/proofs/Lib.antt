@@ -1,0 +1,14 @@
+pub mod SameValues
+pub mod PlanCubes
+pub mod Places
+pub mod Executes
+pub mod ListWrites
+pub mod Lists
+pub mod Listed
+pub mod DenotedPairs
+pub mod RuleMoves
+pub mod RuleLists
+pub mod Numbering
+pub mod Reaching
+pub mod Searching
+pub mod Visits

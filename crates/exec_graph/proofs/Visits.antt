@@ -1,0 +1,154 @@
+-- Visits and graphs as the code holds them.
+use Rattle.std.proofs.Common.{◌≡◌, ℕ, zero, suc, ◌<◌, ◌≤◌, ◌||◌, Bool, false, List, [], ◌∷◌, ◌++◌, length, map, slice_get, nat_lt, Option, Some, Vec, refl, sym, ap, ◌∙◌, subst, arith, take_all, ⊎_elim}
+use Rattle.std.specs.List.{All, AllPairs, Contains, fold}
+use Rattle.std.specs.Option.{option_map, option_map_or}
+use Rattle.std.specs.declared.alloc.Global.{Global}
+use Rattle.std.proofs.lemmas.List.{length-map, map-append, get_or-map}
+use Rattle.std.proofs.lemmas.Option.{slice_get-map, slice_get-get_or, slice_get_within}
+use Rattle.task_core.specs.Vectors.{Vector}
+use Rattle.task_core.specs.States.{IsWithin, vector}
+use Rattle.task_core.specs.declared.states.State.{State}
+use Rattle.task_core.specs.Systems.{System, IsSystem}
+use Rattle.task_core.specs.ContextPlans.{Configuration}
+use Rattle.plan_rules.specs.Rules.{PlainPlan}
+use Rattle.task_core.specs.Initial.{after_entries, entries_of, facts_of}
+use Rattle.task_core.specs.Tasks.{fluent_count, states_after_entries, system_of}
+use Rattle.task_core.specs.declared.tasks.Task.{Task}
+use Rattle.task_core.proofs.EntryStates.{after_entries_differ}
+use Rattle.exec_graph.specs.Initials.{HasTooManyInitial}
+use Rattle.std.proofs.lemmas.Bool.{cases_lt}
+use Rattle.exec_graph.specs.Counting.{add_configuration, moves_from}
+use Rattle.exec_graph.specs.Drafts.{HasTooMany, IsNumbered, IsSearched, IsVisit, beginnings, draft_value, in_first}
+use Rattle.exec_graph.specs.Executions.{ReachesMoreThan}
+use Rattle.exec_graph.specs.Graphs.{IsGraphOf}
+use Rattle.exec_graph.specs.Moves.{IsPlaceWithin, configuration_of, moves_value}
+use Rattle.exec_graph.specs.Values.{plain_graph}
+use Rattle.exec_graph.specs.declared.exploration.Draft.{Draft}
+use Rattle.exec_graph.specs.declared.graphs.Graph.{Graph}
+use Rattle.exec_graph.specs.declared.graphs.Place.{Place}
+use Rattle.exec_graph.specs.declared.moves.Moves.{Moves}
+use Rattle.exec_graph.proofs.Listed.{AreDifferent, fold_different}
+use Rattle.exec_graph.proofs.Searching.{IsShownBy, no_more, searched_first, shown_graph}
+
+-- the place that is visited
+place_is : (n : ℕ) (before : Draft) (place : Place) → slice_get before.places.keys (length before.next.items) ≡ Some place
+    → slice_get (draft_value n before).found (length (draft_value n before).next) ≡ Some (configuration_of n place)
+place_is n before place at =
+    ap (slice_get (draft_value n before).found) (length-map before.next.items (λ next. next.items))
+    ∙ slice_get-map (configuration_of n) before.places.keys (length before.next.items)
+    ∙ ap (option_map (configuration_of n)) at
+
+module _ (n : ℕ) (sys : System) (plan : PlainPlan) (before : Draft) (place : Place) (moves : Moves)
+    (at : slice_get before.places.keys (length before.next.items) ≡ Some place)
+    (value : moves_value n moves ≡ moves_from sys plan (configuration_of n place)) where
+  next_is : map (configuration_of n) moves.next.keys ≡ (moves_from sys plan (configuration_of n place)).next
+  next_is = ap (λ m. m.next) value
+
+  pub visit_made : (after : Draft) (numbers : Vec ℕ Global)
+      → IsNumbered (map (configuration_of n) before.places.keys) (map (configuration_of n) moves.next.keys) (map (configuration_of n) after.places.keys) numbers.items
+      → after.next.items ≡ before.next.items ++ numbers ∷ [] → after.unexecutable ≡ (before.unexecutable || moves.refused) → after.stuck ≡ (before.stuck || moves.lost)
+      → IsVisit sys plan (draft_value n before) (draft_value n after)
+  visit_made after numbers numbered next bad stuck = record {
+    place = configuration_of n place;
+    is = place_is n before place at;
+    numbers = numbers.items;
+    numbered = subst (λ ys. IsNumbered (map (configuration_of n) before.places.keys) ys (map (configuration_of n) after.places.keys) numbers.items) next_is numbered;
+    next = ap (map (λ next. next.items)) next ∙ map-append (λ next. next.items) before.next.items (numbers ∷ []);
+    unexecutable = bad ∙ ap (λ m. before.unexecutable || m.refused) value;
+    stuck = stuck ∙ ap (λ m. before.stuck || m.lost) value;
+  }
+
+  pub visit_too_many : (limit : ℕ) → limit < length (fold add_configuration (map (configuration_of n) before.places.keys) (map (configuration_of n) moves.next.keys))
+      → HasTooMany sys plan limit (draft_value n before)
+  visit_too_many limit more = record {
+    place = configuration_of n place;
+    is = place_is n before place at;
+    more = subst (λ ys. limit < length (fold add_configuration (map (configuration_of n) before.places.keys) ys)) next_is more;
+  }
+
+-- the graph of a draft in which every configuration was visited
+module _ (n : ℕ) (sys : System) (plan : PlainPlan) (draft : Draft) (searched : IsSearched sys plan (draft_value n draft))
+    (whole : length draft.next.items ≡ length draft.places.keys) where
+  whole_is : length (draft_value n draft).next ≡ length (draft_value n draft).found
+  whole_is = length-map draft.next.items (λ next. next.items) ∙ whole ∙ sym (length-map draft.places.keys (configuration_of n))
+
+  read_place : (keys : List Place) (i : ℕ) → i < length keys → slice_get (map (configuration_of n) keys) i
+      ≡ Some (record { state = option_map_or (λ (p : Place). vector n p.state) (slice_get keys i) []; context = option_map_or (λ (p : Place). p.context) (slice_get keys i) 0 })
+  read_place [] i h = absurd (omega arith)
+  read_place (k ∷ keys) zero h = refl
+  read_place (k ∷ keys) (suc i) h = read_place keys i (omega arith)
+
+  read_next : (lists : List (Vec ℕ Global)) (i : ℕ) → i < length lists → slice_get (map (λ (v : Vec ℕ Global). v.items) lists) i
+      ≡ Some (option_map_or (λ (v : Vec ℕ Global). v.items) (slice_get lists i) [])
+  read_next [] i h = absurd (omega arith)
+  read_next (l ∷ lists) zero h = refl
+  read_next (l ∷ lists) (suc i) h = read_next lists i (omega arith)
+
+  pub graph_made : (graph : Graph) → graph.places.keys ≡ draft.places.keys → graph.initials ≡ length sys.initial → graph.next ≡ draft.next
+      → graph.unexecutable ≡ draft.unexecutable → graph.stuck ≡ draft.stuck → IsGraphOf sys plan (plain_graph n graph)
+  graph_made graph places initials next bad stuck =
+      let shown : IsShownBy sys plan (draft_value n draft) searched whole_is (plain_graph n graph) = record {
+        size = ap length places ∙ sym (length-map draft.places.keys (configuration_of n));
+        configuration = λ i h. ap (λ keys. slice_get (map (configuration_of n) keys) i) (sym places) ∙ read_place graph.places.keys i h;
+        initial = λ i. ap (nat_lt i) initials;
+        next = λ i h.
+            let few : i < length graph.next.items =
+            subst (λ k. i < k) (ap length places ∙ sym whole ∙ ap (λ v. length v.items) (sym next)) h in
+            ap (λ v. slice_get (map (λ (w : Vec ℕ Global). w.items) v.items) i) (sym next) ∙ read_next graph.next.items i few;
+        unexecutable = bad;
+        stuck = stuck;
+      } in
+      shown_graph sys plan (draft_value n draft) searched whole_is (plain_graph n graph) shown
+
+  pub none_more : (limit : ℕ) → length draft.places.keys ≤ limit → ReachesMoreThan sys plan limit → ⊥
+  none_more limit few =
+      no_more sys plan (draft_value n draft) searched whole_is limit (subst (λ k. k ≤ limit) (sym (length-map draft.places.keys (configuration_of n))) few)
+
+-- the first draft
+beginnings_are : (n : ℕ) (states : List State) → beginnings n states ≡ map in_first (map (vector n) states)
+beginnings_are n [] = refl
+beginnings_are n (s ∷ states) = ap (λ ys. in_first (vector n s) ∷ ys) (beginnings_are n states)
+
+firsts_differ : (vs : List Vector) → AllPairs (λ v w. v ≡ w → ⊥) vs → AreDifferent (map in_first vs)
+firsts_differ vs differ i j d li lj e =
+    let short : j < length vs = subst (λ k. j < k) (length-map vs in_first) lj in
+    let early : i < length vs = omega arith in
+    differ i j d.state li short
+    (ap (λ (x : Configuration). x.state)
+    (sym (get_or-map in_first vs i d.state d early) ∙ e ∙ get_or-map in_first vs j d.state d short))
+
+module _ (n : ℕ) (sys : System) (states : List State) (initial : map (vector n) states ≡ sys.initial) (differ : AllPairs (λ v w. v ≡ w → ⊥) sys.initial) where
+  -- the places in which a plan begins are those of the initial states
+  pub firsts_are : fold add_configuration [] (beginnings n states) ≡ map in_first sys.initial
+  firsts_are =
+      let e : beginnings n states ≡ map in_first sys.initial = beginnings_are n states ∙ ap (map in_first) initial in
+      ap (fold add_configuration []) e ∙ fold_different (map in_first sys.initial) (firsts_differ sys.initial differ)
+
+  pub count_is : length states ≡ length sys.initial
+  count_is = sym (length-map states (vector n)) ∙ ap length initial
+
+  pub first_draft : (plan : PlainPlan) → IsSystem sys → (draft : Draft) → map (configuration_of n) draft.places.keys ≡ fold add_configuration [] (beginnings n states)
+      → draft.next.items ≡ [] → draft.unexecutable ≡ false → draft.stuck ≡ false → IsSearched sys plan (draft_value n draft)
+  first_draft plan ok draft places next bad stuck =
+      searched_first sys plan ok (firsts_differ sys.initial differ) (draft_value n draft) (places ∙ firsts_are) (ap (map (λ next. next.items)) next) bad stuck
+
+  pub first_count : (draft : Draft) → map (configuration_of n) draft.places.keys ≡ fold add_configuration [] (beginnings n states) → length draft.places.keys ≡ length sys.initial
+  first_count draft places =
+      sym (length-map draft.places.keys (configuration_of n)) ∙ ap length (places ∙ firsts_are) ∙ length-map sys.initial in_first
+
+-- where there are not too many states after some entries, the initial states are not too many
+pub few_initial : (task : Task) (limit : ℕ) → (HasTooManyInitial task limit → ⊥) → length (system_of task).initial ≤ limit
+few_initial task limit none =
+    let entries = entries_of task.init in
+    let n = fluent_count task in
+    let all : states_after_entries task (length entries) ≡ (system_of task).initial =
+    ap (after_entries n (facts_of n task.init)) (take_all (length entries) entries (omega arith)) in
+    ⊎_elim
+    (λ (more : limit < length (system_of task).initial).
+    absurd (none (record { entries = length entries; first = omega arith; more = subst (λ ys. limit < length ys) (sym all) more })))
+    (λ (few : length (system_of task).initial ≤ limit). few)
+    (cases_lt limit (length (system_of task).initial))
+
+-- they are all different
+pub initial_differ : (task : Task) → AllPairs (λ v w. v ≡ w → ⊥) (system_of task).initial
+initial_differ task = let n = fluent_count task in after_entries_differ n (facts_of n task.init) (entries_of task.init)

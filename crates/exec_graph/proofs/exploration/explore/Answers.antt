@@ -1,0 +1,55 @@
+use Rattle.std.proofs.Common.{◌≡◌, ◌≤◌, [], map, length, sym, ap, ◌∙◌, subst, refl, false}
+use Rattle.std.specs.List.{All, fold}
+use Rattle.task_core.specs.States.{IsWithin, vector}
+use Rattle.task_core.specs.Tasks.{fluent_count, system_of}
+use Rattle.task_core.proofs.TaskSystem.{is_system}
+use Rattle.plan_rules.specs.Rules.{plain_of}
+use Rattle.exec_graph.specs.Counting.{add_configuration}
+use Rattle.exec_graph.specs.Drafts.{beginnings}
+use Rattle.exec_graph.specs.Moves.{IsPlaceWithin, configuration_of}
+use Rattle.exec_graph.specs.declared.exploration.Draft.{Draft}
+use Rattle.exec_graph.proofs.Visits.{count_is, few_initial, first_count, first_draft, graph_made, initial_differ, none_more}
+use Rattle.exec_graph.proofs.exploration.explore.Goals as goal
+
+pub visit_all-requires-clause-few : goal.visit_all-requires-clause-few
+visit_all-requires-clause-few c =
+    let task = c.args.task.now in
+    let n = fluent_count task in
+    let states = c.in_ok-states.states.items in
+    let draft : Draft = record { places = c.in_ok-first_places.field-0; next = c.new.result; unexecutable = false; stuck = false } in
+    let within = subst (All (IsWithin n)) (sym c.deref.ensures.value) c.in_ok-states.ensures.within in
+    let places : map (configuration_of n) draft.places.keys ≡ fold add_configuration [] (beginnings n states) =
+    c.in_ok-first_places.ensures.list n within ∙ ap (λ ss. fold add_configuration [] (beginnings n ss)) c.deref.ensures.value in
+    subst (λ k. k ≤ 262144) (sym (first_count n (system_of task) states c.in_ok-states.ensures.list (initial_differ task) draft places))
+    (few_initial task 262144 c.in_ok-states.ensures.few)
+
+pub visit_all-requires-clause-searched : goal.visit_all-requires-clause-searched
+visit_all-requires-clause-searched c =
+    let task = c.args.task.now in
+    let n = fluent_count task in
+    let states = c.in_ok-states.states.items in
+    let draft : Draft = record { places = c.in_ok-first_places.field-0; next = c.new.result; unexecutable = false; stuck = false } in
+    let within = subst (All (IsWithin n)) (sym c.deref.ensures.value) c.in_ok-states.ensures.within in
+    let places : map (configuration_of n) draft.places.keys ≡ fold add_configuration [] (beginnings n states) =
+    c.in_ok-first_places.ensures.list n within ∙ ap (λ ss. fold add_configuration [] (beginnings n ss)) c.deref.ensures.value in
+    first_draft n (system_of task) states c.in_ok-states.ensures.list (initial_differ task) (plain_of c.args.plan.now) (is_system task) draft places
+    c.new.ensures.items refl refl
+
+pub returns-clause-graph : goal.returns-clause-graph
+returns-clause-graph c =
+    let task = c.args.task.now in
+    let n = fluent_count task in
+    let states = c.in_ok-states.states in
+    let made = c.into_graph.ensures in
+    graph_made n (system_of task) (plain_of c.args.plan.now) c.visit_all.new.self c.in_ok-visit_all.ensures.searched c.in_ok-visit_all.ensures.whole
+    c.into_graph.result made.places
+    (made.initials ∙ c.len.ensures ∙ states.ok.0 ∙ count_is n (system_of task) states.items c.in_ok-states.ensures.list (initial_differ task))
+    made.next made.unexecutable made.stuck
+
+pub returns-clause-within : goal.returns-clause-within
+returns-clause-within c = subst (All (IsPlaceWithin (fluent_count c.args.task.now))) (sym c.into_graph.ensures.places) c.in_ok-visit_all.ensures.within
+
+pub returns-clause-few : goal.returns-clause-few
+returns-clause-few c =
+    none_more (fluent_count c.args.task.now) (system_of c.args.task.now) (plain_of c.args.plan.now) c.visit_all.new.self
+    c.in_ok-visit_all.ensures.searched c.in_ok-visit_all.ensures.whole 262144 c.in_ok-visit_all.ensures.few

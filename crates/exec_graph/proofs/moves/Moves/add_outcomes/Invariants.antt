@@ -1,0 +1,16 @@
+-- The moves are those of before with the outcomes so far.
+use Rattle.std.proofs.Common.{◌≡◌, take}
+use Rattle.std.specs.List.{fold}
+use Rattle.task_core.specs.States.{vector}
+use Rattle.task_core.specs.Tasks.{fluent_count, system_of}
+use Rattle.exec_graph.specs.Counting.{onward_value, with_outcome}
+use Rattle.exec_graph.specs.Moves.{AreWithin, moves_value}
+use Rattle.exec_graph.proofs.moves.Moves.add_outcomes.Given as goal
+
+abbrev pub invariant-loop-outcome : goal.invariant-loop-outcome
+invariant-loop-outcome l = record {
+  value : moves_value (fluent_count l.task) l.self
+      ≡ fold (with_outcome (onward_value l.rule.onward)) (moves_value (fluent_count l.task) l.fn.self)
+      (take l.outcome ((system_of l.task).next (vector (fluent_count l.task) l.state) l.rule.action.0));
+  within : AreWithin (fluent_count l.task) l.self;
+}

@@ -1,0 +1,52 @@
+use Rattle.std.proofs.Common.{◌≡◌, ◌==◌, ℕ, ap, sym, ◌∙◌, map, subst}
+use Rattle.std.specs.List.{All, filter}
+use Rattle.task_core.specs.Tasks.{action_count, fluent_count, system_of}
+use Rattle.plan_rules.specs.declared.rules.AutoRule.{AutoRule}
+use Rattle.plan_rules.specs.declared.rules.Rule.{Rule}
+use Rattle.plan_rules.specs.Plans.{IsPlanOf, IsRuleOf}
+use Rattle.plan_rules.specs.Rules.{context_rule_of, plain_of, rule_of}
+use Rattle.plan_rules.specs.Denoted.{rule_at}
+use Rattle.std.specs.Option.{option_map}
+use Rattle.std.specs.Result.{IfOk}
+use Rattle.task_core.specs.States.{vector}
+use Rattle.exec_graph.specs.Moves.{configuration_of, moves_value}
+use Rattle.exec_graph.specs.ByContext.{IsIndexOf, rules_in}
+use Rattle.exec_graph.specs.Counting.{IsRuleWithin, advice_value, advised_by, first_matching, moves_by, moves_from}
+use Rattle.exec_graph.proofs.PlanCubes.{unmapped}
+use Rattle.exec_graph.proofs.RuleLists.{first_kept, kept_within}
+use Rattle.exec_graph.proofs.moves.moves_of.Goals as goal
+
+pub table_moves-requires-clause-in_task : goal.table_moves-requires-clause-in_task
+table_moves-requires-clause-in_task c =
+    let n = fluent_count c.args.task.now in
+    let m = action_count c.args.task.now in
+    subst (All (λ (rule : Rule). IsRuleOf n m (rule_of rule))) (sym c.deref.ensures.value)
+    (unmapped (IsRuleOf n m) rule_of c.in-Table.table.rules.items (subst (IsPlanOf n m) c.in-Table.is c.requires.plan_of_task))
+
+pub rule_at-rule-requires : goal.rule_at-rule-requires
+rule_at-rule-requires c =
+    let n = fluent_count c.args.task.now in
+    let m = action_count c.args.task.now in
+    let k = c.args.place.now.context in
+    let automaton = c.in-Auto.field-0 in
+    let plan = subst (IsPlanOf n m) c.in-Auto.is c.requires.plan_of_task in
+    let index = subst (λ p. IsIndexOf p c.args.index.now) c.in-Auto.is c.requires.index in
+    record {
+      in_task = subst (All (λ (rule : AutoRule). IsRuleWithin n m (context_rule_of rule))) (sym (index k))
+          (kept_within n m automaton.contexts (λ (rule : AutoRule). rule.context == k) automaton.rules.items plan.each);
+    }
+
+pub returns-in-Auto-clause-value : goal.returns-in-Auto-clause-value
+returns-in-Auto-clause-value c =
+    let n = fluent_count c.args.task.now in
+    let sys = system_of c.args.task.now in
+    let v = vector n c.args.place.now.state in
+    let k = c.args.place.now.context in
+    let automaton = c.in-Auto.field-0 in
+    let index = subst (λ p. IsIndexOf p c.args.index.now) c.in-Auto.is c.requires.index in
+    let counts : option_map advice_value c.rule_at-rule.result ≡ option_map advised_by (rule_at (map context_rule_of automaton.rules.items) v k) =
+    c.rule_at-rule.ensures.counts
+    ∙ ap (λ rs. option_map advised_by (first_matching v (map context_rule_of rs))) (index k)
+    ∙ ap (option_map advised_by) (first_kept v k automaton.rules.items) in
+    let here = subst (λ o. IfOk c.rule_moves.result (λ moves. moves_value n moves ≡ moves_by sys v o)) counts c.rule_moves.ensures.value in
+    subst (λ p. IfOk c.rule_moves.result (λ moves. moves_value n moves ≡ moves_from sys (plain_of p) (configuration_of n c.args.place.now))) (sym c.in-Auto.is) here

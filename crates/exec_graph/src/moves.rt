@@ -1,0 +1,290 @@
+//! The moves from one configuration.
+
+ghost use Rattle.std.specs.Prelude.{
+  ◌≡◌,
+  ◌<◌,
+  ◌||◌,
+  ℕ,
+  All,
+  false,
+  IfOk,
+  IfSome,
+  OnOk,
+  length,
+  map,
+  not,
+  IsTrue,
+  ◌↔◌,
+  slice_get,
+  Some,
+};
+ghost use Rattle.std.specs.List.{filter, fold};
+ghost use Rattle.std.specs.Option.{option_map};
+ghost use Rattle.task_core.specs.States.{IsWithin, vector};
+ghost use Rattle.task_core.specs.Systems.{Exec};
+ghost use Rattle.task_core.specs.Tasks.{
+  action_count,
+  fluent_count,
+  outcomes_at,
+  states_after,
+  system_of,
+};
+ghost use Rattle.plan_rules.specs.Denoted.{can_execute};
+ghost use Rattle.plan_rules.specs.Plans.{IsPlanOf, IsRuleOf};
+ghost use Rattle.plan_rules.specs.Rules.{plain_of, rule_of};
+ghost use Rattle.exec_graph.specs.ByContext.{IsIndexOf};
+ghost use Rattle.exec_graph.specs.Counting.{
+  AreCasesOf,
+  IsAdviceOf,
+  add_configuration,
+  advice_value,
+  moves_by,
+  moves_from,
+  moves_in_table,
+  no_moves,
+  onward_value,
+  with_outcome,
+  with_rule,
+  with_table_rule,
+};
+ghost use Rattle.exec_graph.specs.Moves.{AreWithin, IsPlaceWithin, configuration_of, moves_value};
+
+use crate::graphs::Place;
+use crate::matching::{Onward, context_in, has_all};
+use crate::rules::{Advice, ByContext};
+use indexmap::IndexSet;
+use plan_rules::{Plan, Rule};
+use std::alloc::{AllocError, Global};
+use task_core::{ActionId, State, Task, is_exec, step};
+
+/// The context in which every plan begins, and in which a table stays.
+pub(crate) const FIRST_CONTEXT: u32 = 1;
+
+/// The moves from a configuration: those that follow it, each once, whether a rule that counts has
+/// an action that can't be executed, and whether the plan doesn't go on.
+#[derive(Drop)]
+pub(crate) struct Moves {
+    pub(crate) next: IndexSet<Place>,
+    pub(crate) refused: bool,
+    pub(crate) lost: bool,
+}
+
+impl Moves {
+    /// No moves yet.
+    pub(crate) fn none(alloc: Global, lost: bool) -> Moves
+        ensures value { (n : ℕ) → moves_value n result ≡ no_moves lost }
+        ensures within { (n : ℕ) → AreWithin n result }
+    {
+        Moves {
+            next: IndexSet::new(alloc),
+            refused: false,
+            lost,
+        }
+    }
+
+    /// Adds the moves by a rule that counts in a state.
+    pub(crate) fn add_rule(
+        &mut self,
+        task: &Task,
+        state: &State,
+        rule: &Advice<'_>,
+    ) -> Result<(), AllocError>
+        requires in_task { IsAdviceOf (fluent_count task.now) (action_count task.now) rule.now }
+        requires within { IsWithin (fluent_count task.now) state.now }
+        requires next_within { AreWithin (fluent_count task.now) self.old }
+        ensures value { let n = fluent_count task.now in OnOk result (moves_value n self.new
+            ≡ with_rule (system_of task.now) (vector n state.now) (moves_value n self.old)
+            (advice_value rule.now)) }
+        ensures next_within { OnOk result (AreWithin (fluent_count task.now) self.new) }
+    {
+        if is_executable(task, state, rule.action) {
+            self.add_outcomes(task, state, rule)
+        } else {
+            self.refused = true;
+            Ok(())
+        }
+    }
+
+    // Adds the moves by a rule of a table, if it matches the state.
+    fn add_matching(&mut self, task: &Task, state: &State, rule: &Rule) -> Result<(), AllocError>
+        requires in_task { let n = fluent_count task.now in let m = action_count task.now in
+            IsRuleOf n m (rule_of rule.now) }
+        requires within { IsWithin (fluent_count task.now) state.now }
+        requires next_within { AreWithin (fluent_count task.now) self.old }
+        ensures value { let n = fluent_count task.now in OnOk result (moves_value n self.new
+            ≡ with_table_rule (system_of task.now) (vector n state.now) (moves_value n self.old)
+            (rule_of rule.now)) }
+        ensures next_within { OnOk result (AreWithin (fluent_count task.now) self.new) }
+    {
+        if has_all(task, &rule.cube, state) {
+            self.add_rule(
+                task,
+                state,
+                &Advice {
+                    action: rule.action,
+                    onward: Onward::Always(FIRST_CONTEXT),
+                },
+            )
+        } else {
+            Ok(())
+        }
+    }
+
+    // Adds the moves by a rule whose action can be executed.
+    fn add_outcomes(
+        &mut self,
+        task: &Task,
+        state: &State,
+        rule: &Advice<'_>,
+    ) -> Result<(), AllocError>
+        requires in_task { IsAdviceOf (fluent_count task.now) (action_count task.now) rule.now }
+        requires within { IsWithin (fluent_count task.now) state.now }
+        requires next_within { AreWithin (fluent_count task.now) self.old }
+        requires executable { let n = fluent_count task.now in
+            Exec (system_of task.now) (vector n state.now) rule.now.action.0 }
+        ensures value { let n = fluent_count task.now in OnOk result (moves_value n self.new
+            ≡ fold (with_outcome (onward_value rule.now.onward)) (moves_value n self.old)
+            ((system_of task.now).next (vector n state.now) rule.now.action.0)) }
+        ensures next_within { OnOk result (AreWithin (fluent_count task.now) self.new) }
+    {
+        for outcome in 0..outcome_count(task, rule.action) {
+            let after = step(task, state, rule.action, outcome);
+            self.add_outcome(task, after, &rule.onward)?;
+        }
+        Ok(())
+    }
+
+    // Adds the move to the state after an outcome.
+    fn add_outcome(
+        &mut self,
+        task: &Task,
+        after: State,
+        onward: &Onward<'_>,
+    ) -> Result<(), AllocError>
+        requires cases { AreCasesOf (fluent_count task.now) (onward_value onward.now) }
+        requires within { IsWithin (fluent_count task.now) after }
+        requires next_within { AreWithin (fluent_count task.now) self.old }
+        ensures value { let n = fluent_count task.now in OnOk result (moves_value n self.new
+            ≡ with_outcome (onward_value onward.now) (moves_value n self.old) (vector n after)) }
+        ensures next_within { OnOk result (AreWithin (fluent_count task.now) self.new) }
+    {
+        match context_in(task, onward, &after) {
+            Some(context) => {
+                number_of(
+                    &mut self.next,
+                    Place {
+                        state: after,
+                        context,
+                    },
+                )?;
+            }
+            None => self.lost = true,
+        }
+        Ok(())
+    }
+}
+
+/// The moves from a configuration by a plan. The rules of an automaton stand in the index.
+pub(crate) fn moves_of(
+    alloc: Global,
+    task: &Task,
+    plan: &Plan,
+    index: &ByContext<'_>,
+    place: &Place,
+) -> Result<Moves, AllocError>
+    requires plan_of_task { IsPlanOf (fluent_count task.now) (action_count task.now) plan.now }
+    requires index { IsIndexOf plan.now index.now }
+    requires within { IsPlaceWithin (fluent_count task.now) place.now }
+    ensures value { let n = fluent_count task.now in IfOk result (λ moves. moves_value n moves
+        ≡ moves_from (system_of task.now) (plain_of plan.now) (configuration_of n place.now)) }
+    ensures within { IfOk result (AreWithin (fluent_count task.now)) }
+{
+    match plan {
+        Plan::Table(table) => table_moves(alloc, task, &table.rules, &place.state),
+        Plan::Auto(_) => {
+            let rule = index.rule_at(task, &place.state, place.context);
+            rule_moves(alloc, task, &rule, &place.state)
+        }
+    }
+}
+
+/// The moves by the rule of an automaton that counts, where there is one.
+fn rule_moves(
+    alloc: Global,
+    task: &Task,
+    rule: &Option<Advice<'_>>,
+    state: &State,
+) -> Result<Moves, AllocError>
+    requires in_task { IfSome rule.now
+        (IsAdviceOf (fluent_count task.now) (action_count task.now)) }
+    requires within { IsWithin (fluent_count task.now) state.now }
+    ensures value { let n = fluent_count task.now in IfOk result (λ moves. moves_value n moves
+        ≡ moves_by (system_of task.now) (vector n state.now) (option_map advice_value rule.now)) }
+    ensures within { IfOk result (AreWithin (fluent_count task.now)) }
+{
+    match rule {
+        None => Ok(Moves::none(alloc, true)),
+        Some(rule) => {
+            let mut moves = Moves::none(alloc, false);
+            moves.add_rule(task, state, rule)?;
+            Ok(moves)
+        }
+    }
+}
+
+/// The moves by all rules of a table that match a state.
+fn table_moves(
+    alloc: Global,
+    task: &Task,
+    rules: &[Rule],
+    state: &State,
+) -> Result<Moves, AllocError>
+    requires in_task { let n = fluent_count task.now in let m = action_count task.now in
+        All (λ rule. IsRuleOf n m (rule_of rule)) rules.now }
+    requires within { IsWithin (fluent_count task.now) state.now }
+    ensures value { let n = fluent_count task.now in IfOk result (λ moves. moves_value n moves
+        ≡ moves_in_table (system_of task.now) (vector n state.now) (map rule_of rules.now)) }
+    ensures within { IfOk result (AreWithin (fluent_count task.now)) }
+{
+    let mut moves = Moves::none(alloc, false);
+    for rule in rules {
+        moves.add_matching(task, state, rule)?;
+    }
+    Ok(moves)
+}
+
+/// The number of a configuration in a set of them, to which it is added if it isn't there.
+pub(crate) fn number_of(places: &mut IndexSet<Place>, place: Place) -> Result<usize, AllocError>
+    ensures added { OnOk result ((n : ℕ) → IsPlaceWithin n place
+        → All (IsPlaceWithin n) places.old.keys → map (configuration_of n) places.new.keys
+        ≡ add_configuration (map (configuration_of n) places.old.keys) (configuration_of n place)) }
+    ensures within { OnOk result ((n : ℕ) → IsPlaceWithin n place
+        → All (IsPlaceWithin n) places.old.keys → All (IsPlaceWithin n) places.new.keys) }
+    ensures below { IfOk result (λ i. i < length places.new.keys) }
+    ensures number { IfOk result (λ i. (n : ℕ) → IsPlaceWithin n place
+        → All (IsPlaceWithin n) places.old.keys
+        → slice_get (map (configuration_of n) places.new.keys) i
+        ≡ Some (configuration_of n place)) }
+{
+    let (number, _) = places.insert_full(place)?;
+    Ok(number)
+}
+
+/// Whether an action can be executed in a state.
+fn is_executable(task: &Task, state: &State, action: ActionId) -> bool
+    requires { action.0 < action_count task.now }
+    ensures value { result
+        ≡ can_execute (system_of task.now) (vector (fluent_count task.now) state.now) action.0 }
+    ensures executable { IsTrue result
+        ↔ Exec (system_of task.now) (vector (fluent_count task.now) state.now) action.0 }
+{
+    is_exec(task, state, action)
+}
+
+/// How many outcomes an action has.
+fn outcome_count(task: &Task, action: ActionId) -> u32
+    requires { action.0 < action_count task.now }
+    ensures { result ≡ length (outcomes_at task.now action.0) }
+{
+    task.actions[action.0 as usize].outcomes.len() as u32
+}

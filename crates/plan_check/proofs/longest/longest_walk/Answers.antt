@@ -1,0 +1,26 @@
+use Rattle.std.proofs.Common.{◌≡◌, ◌<◌, ℕ, List, [], subst, arith}
+use Rattle.exec_graph.specs.Values.{followers_at, graph_size}
+use Rattle.plan_check.specs.Searches.{IsSearch}
+use Rattle.plan_check.proofs.SearchSteps.{greatest_longest}
+use Rattle.plan_check.proofs.longest.longest_walk.Goals as goal
+
+pub loop-root-init : goal.loop-root-init
+loop-root-init c =
+    record {
+      search = subst (λ n. IsSearch n (followers_at c.args.graph.now) c.in_ok-search.search.visits.items c.in_ok-search.search.path.items) (c.len.ensures.size 0)
+          (c.in_ok-search.ensures.search (followers_at c.args.graph.now));
+      path = c.in_ok-search.ensures.path;
+      seen = λ k l. absurd (omega arith);
+    }
+
+pub search_from-requires-clause-root : goal.search_from-requires-clause-root
+search_from-requires-clause-root c = omega (arith, c.len-root-end.ensures.size 0)
+
+pub returns-clause-longest : goal.returns-clause-longest
+returns-clause-longest c =
+    let next = followers_at c.args.graph.now in
+    let visits = c.loop-root.search.visits.items in
+    greatest_longest (graph_size c.args.graph.now) next visits
+    (subst (IsSearch (graph_size c.args.graph.now) next visits) c.loop-root.invariant.path c.loop-root.invariant.search)
+    (λ i l. c.loop-root.invariant.seen i (omega (arith, c.len-root-end.ensures.size 0)))
+    c.requires c.greatest.result c.greatest.ensures.most c.greatest.ensures.attained

@@ -1,0 +1,5 @@
+pub mod Marks
+pub mod Plain
+pub mod Searches
+pub mod Verdicts
+pub mod Walks

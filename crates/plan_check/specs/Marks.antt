@@ -1,0 +1,19 @@
+-- Marks on numbers, and the list of the marked ones.
+use Rattle.std.specs.Prelude.{◌≡◌, ◌<◌, ◌↔◌, ℕ, Bool, not, List, [], length, count_by, slice_get, Vec}
+use Rattle.std.specs.List.{All, Contains}
+use Rattle.std.specs.Option.{option_map_or}
+use Rattle.std.specs.declared.alloc.Global.{Global}
+use Rattle.plan_check.specs.Walks.{IsMarked}
+
+-- Private: the numbers with a mark are those of the list
+pub record ListsMarked (marks : List Bool) (found : List ℕ) : Type 0 where
+  pub listed : (i : ℕ) → IsMarked marks i → Contains found i
+  pub all : All (IsMarked marks) found
+
+-- Private: how many numbers have no mark
+abbrev pub unmarked : List Bool → ℕ
+unmarked marks = count_by not marks
+
+-- Private: the list at a place; empty past the last one
+abbrev pub list_at : List (Vec ℕ Global) → ℕ → List ℕ
+list_at lists i = option_map_or (λ (list : Vec ℕ Global). list.items) (slice_get lists i) []
