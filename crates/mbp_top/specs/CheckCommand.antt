@@ -5,22 +5,26 @@ use Rattle.pddl_ast.specs.Trees.{DomainTree, ProblemTree}
 use Rattle.pddl_system.specs.Fluents.{fluents}
 use Rattle.pddl_system.specs.Settings.{setting}
 use Rattle.pddl_system.specs.Systems.{action_names, entry_of, facts_of, fluent_names, system}
-use Rattle.plan_check.specs.Verdicts.{IsVerdict}
+use Rattle.plan_check.specs.Verdicts.{CanFollowRules, IsVerdict}
 use Rattle.plan_check.specs.declared.verdicts.Reason.{Reason}
 use Rattle.plan_check.specs.declared.verdicts.Reason.TheVariants.{Unexecutable, Stuck, Terminal, Cycle, Unreachable, Formula}
 use Rattle.plan_check.specs.declared.verdicts.Verdict.{Verdict}
 use Rattle.plan_check.specs.declared.verdicts.Verdict.TheVariants.{Yes, No}
 use Rattle.plan_io.specs.Held.{Held}
-use Rattle.plan_rules.specs.Rules.{PlainPlan, PlanRule}
+use Rattle.plan_rules.specs.Denoted.{denoted}
+use Rattle.plan_rules.specs.Rules.{PlainPlan, PlanRule, table}
 use Rattle.plan_rules.specs.Texts.{line_feed}
+use Rattle.sexpr_text.specs.declared.forms.Place.{Place}
 use Rattle.task_core.specs.Initial.{after_entries}
+use Rattle.task_core.specs.Names.{Name}
+use Rattle.task_core.specs.Solutions.{IsSolution}
 use Rattle.task_core.specs.Systems.{System}
 use Rattle.task_core.specs.declared.classes.Class.{Class}
 use Rattle.mbp_top.specs.Answers.{Answer, affirmed, denied, refused, over_limit}
 use Rattle.mbp_top.specs.Grounding.{GoalThen, GroundThen}
 use Rattle.mbp_top.specs.PddlTexts.{ReadBoth}
 use Rattle.mbp_top.specs.PlanFiles.{PlacedPlan, SpellsPlaced, IsFaultyPlan, TableThen}
-use Rattle.mbp_top.specs.Reading.{ReadThen}
+use Rattle.mbp_top.specs.Reading.{Holds, ReadThen}
 use Rattle.mbp_top.specs.Words.{Bytes, CheckWords}
 
 -- how many initial states, and how many configurations, are followed at most
@@ -89,3 +93,17 @@ IsChecked held failed asked domain problem =
 abbrev pub IsCheckAnswer : (Bytes → Held) → (Bytes → Type 0) → CheckWords → Answer → Type 0
 IsCheckAnswer held failed asked =
     ReadBoth held failed asked.domain asked.problem (IsChecked held failed asked)
+
+-- the file of this name spells a table with these rules
+pub record HoldsTable (held : Bytes → Held) (fluents actions : List Name) (name : Bytes)
+    (rules : List PlanRule) : Type 0 where
+  pub class : Class
+  pub place : Place
+  pub holds : Holds held (SpellsPlaced fluents actions) name
+      (record { plan = table class rules; place = place })
+
+-- the plan in the files of these words solves the problem in them: each rule that matches a state which it may
+-- reach can be followed there, and the table that its rules denote is a solution of the class
+pub record IsSolved (class : Class) (sys : System) (rules : List PlanRule) : Type 0 where
+  pub executable : CanFollowRules sys rules
+  pub solves : IsSolution class sys (denoted sys rules)
