@@ -1,8 +1,8 @@
 -- The table that rules denote, pair by pair.
 use Rattle.std.proofs.Common.{◌≡◌, ℕ, ◌<◌, Bool, true, false, not, List, [], ◌∷◌, refl, sym, ap, ◌∙◌, subst}
-use Rattle.std.specs.Prelude.{◌&&◌, ◌==◌}
+use Rattle.std.specs.Prelude.{◌&&◌}
 use Rattle.std.specs.List.{Contains, list_any, filter, range_with_len}
-use Rattle.std.proofs.lemmas.Bool.{false≢true, true≢false, and_parts, and_from}
+use Rattle.std.proofs.lemmas.Bool.{false≢true, and_parts, and_from}
 use Rattle.task_core.specs.Vectors.{Vector, all_vectors}
 use Rattle.task_core.specs.Systems.{System, IsState, Exec, HasOutcome}
 use Rattle.task_core.proofs.Vectors.{all_vectors_length, all_vectors_has}

@@ -1,5 +1,5 @@
 -- Lists of places, and the lists of their configurations.
-use Rattle.std.proofs.Common.{rules, ◌≡◌, ℕ, zero, suc, ◌<◌, Bool, true, false, cond, ◌||◌, ◌&&◌, eqb, List, [], ◌∷◌, ◌++◌, map, length, slice_get, Some, refl, sym, ◌∙◌, ap, subst, arith}
+use Rattle.std.proofs.Common.{◌≡◌, ℕ, suc, Bool, true, false, cond, ◌||◌, ◌&&◌, eqb, List, [], ◌∷◌, ◌++◌, map, slice_get, Some, refl, sym, ◌∙◌, ap, subst, arith}
 use Rattle.std.specs.List.{All, list_any}
 use Rattle.std.specs.Option.{option_map}
 use Rattle.std.proofs.lemmas.Bool.{and_parts, and_from, eqb-true, eq-eqb}
@@ -9,7 +9,6 @@ use Rattle.task_core.proofs.Vectors.{same_vector_refl, same_vector_equal}
 use Rattle.std.proofs.lemmas.List.{map-append}
 use Rattle.std.proofs.lemmas.List.Elements.{All-push}
 use Rattle.indexmap.specs.IndexSet.{insert_key}
-use Rattle.task_core.specs.States.{vector}
 use Rattle.task_core.proofs.StateLists.{state_eq, same_as_vectors}
 use Rattle.task_core.specs.ContextPlans.{Configuration}
 use Rattle.exec_graph.specs.Counting.{same_configuration, add_configuration}

@@ -1,5 +1,5 @@
 -- The cubes of a plan of a task name its fluents alone.
-use Rattle.std.proofs.Common.{◌≡◌, ℕ, ◌<◌, List, map, length, get_or, subst, sym}
+use Rattle.std.proofs.Common.{ℕ, ◌<◌, List, map, get_or, subst, sym}
 use Rattle.std.specs.List.{All}
 use Rattle.std.proofs.lemmas.List.{get_or-map, length-map}
 use Rattle.plan_rules.specs.declared.rules.Rule.{Rule}

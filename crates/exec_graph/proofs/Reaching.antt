@@ -1,11 +1,9 @@
 -- What a plan may reach, step by step.
-use Rattle.std.proofs.Common.{◌≡◌, ℕ, List, [], ◌∷◌, ◌++◌, refl, sym, ap, ◌∙◌, subst}
-use Rattle.std.specs.List.{Contains}
+use Rattle.std.proofs.Common.{◌≡◌, List, [], ◌∷◌, ◌++◌, refl, sym, subst}
 use Rattle.task_core.specs.Vectors.{Vector}
 use Rattle.task_core.specs.Systems.{System, IsState, IsSystem}
-use Rattle.task_core.specs.Tables.{IsPath, Leads, Reaches, Table, last_state}
-use Rattle.task_core.specs.Solutions.{IsReached}
-use Rattle.task_core.specs.ContextPlans.{Configuration, ContextPlan, Follows, IsInitial, IsReachable, IsRun, first_context, last_configuration}
+use Rattle.task_core.specs.Tables.{IsPath, Leads, Table, last_state}
+use Rattle.task_core.specs.ContextPlans.{Configuration, ContextPlan, Follows, IsInitial, IsRun, first_context, last_configuration}
 use Rattle.plan_rules.specs.Denoted.{denoted, denoted_contexts}
 use Rattle.plan_rules.specs.Rules.{PlainPlan, table, automaton}
 use Rattle.exec_graph.specs.Executions.{GoesTo, IsReachedBy}

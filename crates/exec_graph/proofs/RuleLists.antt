@@ -1,14 +1,14 @@
 -- The rules of one context among those of an automaton.
-use Rattle.std.proofs.Common.{◌≡◌, ◌==◌, ℕ, ◌<◌, Bool, true, false, cond, ◌&&◌, List, [], ◌∷◌, map, length, get_or, Option, Some, None, refl, sym, ap, ◌∙◌, subst}
-use Rattle.std.specs.List.{All, Contains, filter, find}
+use Rattle.std.proofs.Common.{◌≡◌, ◌==◌, ℕ, Bool, true, false, cond, ◌&&◌, List, [], ◌∷◌, map, get_or, Some, refl, ap, subst}
+use Rattle.std.specs.List.{All, filter}
 use Rattle.std.proofs.lemmas.List.Elements.{Contains-get_or}
 use Rattle.task_core.specs.Vectors.{Vector}
 use Rattle.task_core.specs.Cubes.{matches}
 use Rattle.plan_rules.specs.declared.rules.AutoRule.{AutoRule}
 use Rattle.plan_rules.specs.Denoted.{rule_at}
-use Rattle.plan_rules.specs.Plans.{IsContextRuleOf, IsNextOf}
-use Rattle.plan_rules.specs.Rules.{ContextRule, PlanNext, always, by_cases, context_rule_of}
-use Rattle.exec_graph.specs.Counting.{AreCasesOf, IsRuleWithin, first_matching}
+use Rattle.plan_rules.specs.Plans.{IsContextRuleOf}
+use Rattle.plan_rules.specs.Rules.{ContextRule, context_rule_of}
+use Rattle.exec_graph.specs.Counting.{IsRuleWithin, first_matching}
 use Rattle.exec_graph.proofs.Lists.{Contains-filter-witness}
 use Rattle.exec_graph.proofs.PlanCubes.{unmapped, cases_of_next}
 

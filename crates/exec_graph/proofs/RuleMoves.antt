@@ -1,22 +1,22 @@
 -- What the moves by one rule, and by the rules of a plan, mean.
-use Rattle.std.proofs.Common.{◌≡◌, ℕ, ◌<◌, Bool, true, false, not, ◌||◌, ◌&&◌, cond, IsTrue, ◌↔◌, List, [], ◌∷◌, Option, Some, None, is_some, option_to_list, refl, sym, ap, ◌∙◌, subst, inl, inr, ⊎_elim, ◌⊎◌, arith}
+use Rattle.std.proofs.Common.{◌≡◌, ℕ, Bool, true, false, not, ◌||◌, ◌&&◌, cond, IsTrue, ◌↔◌, List, [], ◌∷◌, Option, Some, None, is_some, option_to_list, refl, sym, ap, ◌∙◌, subst, inl, inr, ⊎_elim, ◌⊎◌}
 use Rattle.std.specs.Prelude.{◌==◌}
 use Rattle.std.specs.List.{Contains, fold, list_any}
 use Rattle.std.specs.Option.{option_map, option_and_then}
-use Rattle.std.proofs.lemmas.Bool.{false≢true, true≢false, and_parts, and_from, or_cases, or_left, or_right, eqb-true, eq-eqb}
+use Rattle.std.proofs.lemmas.Bool.{false≢true, and_parts, and_from, or_cases, or_left, or_right, eqb-true, eq-eqb}
 use Rattle.std.proofs.lemmas.Option.{none-some, same_Some}
 use Rattle.task_core.specs.Vectors.{Vector}
-use Rattle.task_core.specs.Systems.{System, Exec, HasOutcome, IsState, IsSystem}
+use Rattle.task_core.specs.Systems.{System, Exec, IsState, IsSystem}
 use Rattle.task_core.specs.Tables.{Leads}
 use Rattle.task_core.specs.ContextPlans.{Configuration, Follows, first_context}
 use Rattle.task_core.specs.Cubes.{matches}
 use Rattle.plan_rules.specs.Denoted.{advises, can_execute, denoted, denoted_contexts, next_context, rule_at}
 use Rattle.plan_rules.specs.Rules.{PlanRule, PlanNext, ContextRule, PlainPlan, always, table, automaton}
-use Rattle.exec_graph.specs.Counting.{Advised, Moved, add_configuration, advised_by, advised_in_table, moves_by, moves_from, moves_in_table, no_moves, onward_to, with_outcome, with_rule, with_table_rule}
+use Rattle.exec_graph.specs.Counting.{Advised, Moved, advised_by, advised_in_table, moves_by, moves_from, no_moves, onward_to, with_outcome, with_rule, with_table_rule}
 use Rattle.exec_graph.specs.Executions.{GoesTo, HasBadAction, HasBadRule, HasLostOutcome, IsStuckAt, IsUnexecutableAt}
 use Rattle.exec_graph.proofs.Lists.{Contains-head, Contains-cons, Contains-nil, Contains-cases, list_any-from, list_any-witness}
 use Rattle.exec_graph.proofs.Listed.{AreDifferent, all_added_has, all_added_only, all_added_differ, none_differ}
-use Rattle.exec_graph.proofs.DenotedPairs.{IsDenoted, can_execute-Exec, can_execute-outcome, cannot-refused, refused-cannot, denoted-from, denoted-pair}
+use Rattle.exec_graph.proofs.DenotedPairs.{can_execute-Exec, can_execute-outcome, cannot-refused, refused-cannot, denoted-from, denoted-pair}
 
 -- y is the configuration of an outcome t
 pub record IsOnward (next : PlanNext) (t : Vector) (y : Configuration) : Type 0 where

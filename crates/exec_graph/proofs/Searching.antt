@@ -1,25 +1,24 @@
 -- What is known of a draft: at first, after a visit, and at the end.
-use Rattle.std.proofs.Common.{◌≡◌, ◌≢◌, ◌↔◌, ◌⊎◌, ℕ, zero, suc, ◌+◌, ◌<◌, ◌≤◌, Bool, true, false, ◌||◌, IsTrue, nat_lt, List, [], ◌∷◌, ◌++◌, length, get_or, map, slice_get, Option, Some, None, refl, sym, ap, ◌∙◌, subst, inl, inr, ⊎_elim, arith}
+use Rattle.std.proofs.Common.{◌≡◌, ◌≢◌, ◌↔◌, ℕ, ◌+◌, ◌<◌, ◌≤◌, Bool, true, false, ◌||◌, IsTrue, nat_lt, List, [], ◌∷◌, ◌++◌, length, get_or, map, slice_get, Option, Some, refl, sym, ap, ◌∙◌, subst, ⊎_elim, arith}
 use Rattle.std.specs.List.{All, AllPairs, Contains, fold}
 use Rattle.std.specs.Option.{option_map}
 use Rattle.std.specs.Cmp.{IsEquivalence}
 use Rattle.std.specs.Bool.{Decides}
 use Rattle.std.proofs.lemmas.Bool.{false≢true, or_cases, or_left, or_right, cases_lt, ltb-true, lt-ltb}
-use Rattle.std.proofs.lemmas.List.{length-append, length-map}
+use Rattle.std.proofs.lemmas.List.{length-append}
 use Rattle.std.proofs.lemmas.List.Elements.{Contains-get_or}
 use Rattle.std.proofs.lemmas.List.Kept.{AllPairs-cons}
 use Rattle.std.proofs.lemmas.Map.Made.{length-le_from_is_member, IsDistinct-from_AllPairs, is_member-Decides}
 use Rattle.std.proofs.lemmas.Option.{none-some, same_Some, slice_get-get_or, slice_get-map, slice_get_past, slice_get_within}
-use Rattle.task_core.specs.Vectors.{Vector}
 use Rattle.task_core.specs.Systems.{System, IsState, IsSystem}
-use Rattle.task_core.specs.ContextPlans.{Configuration, IsInitial, first_context}
+use Rattle.task_core.specs.ContextPlans.{Configuration, IsInitial}
 use Rattle.plan_rules.specs.Rules.{PlainPlan}
-use Rattle.exec_graph.specs.Counting.{Moved, add_configuration, moves_from, same_configuration}
-use Rattle.exec_graph.specs.Drafts.{HasNumber, HasTooMany, IsFollowed, IsNumberOfNext, IsNumbered, IsSearched, IsVisit, PlainDraft, SomeOfFirst, in_first}
-use Rattle.exec_graph.specs.Executions.{GoesTo, IsReachedBy, IsStuckAt, IsUnexecutableAt, MayBeStuck, MayBeUnexecutable, ReachesMoreThan}
-use Rattle.exec_graph.specs.Graphs.{HasNode, IsGraphOf, PlainGraph}
+use Rattle.exec_graph.specs.Counting.{add_configuration, moves_from, same_configuration}
+use Rattle.exec_graph.specs.Drafts.{HasTooMany, IsFollowed, IsNumbered, IsSearched, IsVisit, PlainDraft, SomeOfFirst, in_first}
+use Rattle.exec_graph.specs.Executions.{GoesTo, IsReachedBy, IsStuckAt, IsUnexecutableAt, ReachesMoreThan}
+use Rattle.exec_graph.specs.Graphs.{IsGraphOf, PlainGraph}
 use Rattle.exec_graph.proofs.Lists.{Contains-head, Contains-cons, Contains-nil, Contains-cases, Contains-map-witness}
-use Rattle.exec_graph.proofs.Listed.{AreDifferent, All-number, Contains-number, all_added_all, all_added_differ, all_added_get, all_added_has, all_added_length, first_differs, get-front, number-Contains, one_number, rest_differ}
+use Rattle.exec_graph.proofs.Listed.{AreDifferent, All-number, Contains-number, all_added_all, all_added_differ, all_added_get, all_added_length, first_differs, get-front, number-Contains, one_number, rest_differ}
 use Rattle.exec_graph.proofs.Places.{same_configuration_equal, same_configuration_refl}
 use Rattle.exec_graph.proofs.Reaching.{goes_to_state, reached_first, reached_keeps, reached_next}
 use Rattle.exec_graph.proofs.RuleMoves.{goes_next, lost_means, next_differ, next_goes, refused_means}

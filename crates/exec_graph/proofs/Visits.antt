@@ -1,12 +1,12 @@
 -- Visits and graphs as the code holds them.
-use Rattle.std.proofs.Common.{◌≡◌, ℕ, zero, suc, ◌<◌, ◌≤◌, ◌||◌, Bool, false, List, [], ◌∷◌, ◌++◌, length, map, slice_get, nat_lt, Option, Some, Vec, refl, sym, ap, ◌∙◌, subst, arith, take_all, ⊎_elim}
-use Rattle.std.specs.List.{All, AllPairs, Contains, fold}
+use Rattle.std.proofs.Common.{◌≡◌, ℕ, zero, suc, ◌<◌, ◌≤◌, ◌||◌, false, List, [], ◌∷◌, ◌++◌, length, map, slice_get, nat_lt, Some, Vec, refl, sym, ap, ◌∙◌, subst, arith, take_all, ⊎_elim}
+use Rattle.std.specs.List.{AllPairs, fold}
 use Rattle.std.specs.Option.{option_map, option_map_or}
 use Rattle.std.specs.declared.alloc.Global.{Global}
 use Rattle.std.proofs.lemmas.List.{length-map, map-append, get_or-map}
-use Rattle.std.proofs.lemmas.Option.{slice_get-map, slice_get-get_or, slice_get_within}
+use Rattle.std.proofs.lemmas.Option.{slice_get-map}
 use Rattle.task_core.specs.Vectors.{Vector}
-use Rattle.task_core.specs.States.{IsWithin, vector}
+use Rattle.task_core.specs.States.{vector}
 use Rattle.task_core.specs.declared.states.State.{State}
 use Rattle.task_core.specs.Systems.{System, IsSystem}
 use Rattle.task_core.specs.ContextPlans.{Configuration}
@@ -21,7 +21,7 @@ use Rattle.exec_graph.specs.Counting.{add_configuration, moves_from}
 use Rattle.exec_graph.specs.Drafts.{HasTooMany, IsNumbered, IsSearched, IsVisit, beginnings, draft_value, in_first}
 use Rattle.exec_graph.specs.Executions.{ReachesMoreThan}
 use Rattle.exec_graph.specs.Graphs.{IsGraphOf}
-use Rattle.exec_graph.specs.Moves.{IsPlaceWithin, configuration_of, moves_value}
+use Rattle.exec_graph.specs.Moves.{configuration_of, moves_value}
 use Rattle.exec_graph.specs.Values.{plain_graph}
 use Rattle.exec_graph.specs.declared.exploration.Draft.{Draft}
 use Rattle.exec_graph.specs.declared.graphs.Graph.{Graph}

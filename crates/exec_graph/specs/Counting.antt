@@ -1,6 +1,6 @@
 -- Private: the rules of a plan that count in a configuration, and what each of them leads to, as
 -- lists.
-use Rattle.std.specs.Prelude.{ℕ, ◌<◌, ◌≡◌, Bool, false, true, not, ◌||◌, ◌&&◌, ◌==◌, List, [], ◌∷◌, ◌++◌, map, All, ⊤, Option, Some, None, is_some, option_to_list, find, if◌then◌else◌}
+use Rattle.std.specs.Prelude.{ℕ, ◌<◌, Bool, false, true, not, ◌||◌, ◌&&◌, ◌==◌, List, [], ◌∷◌, ◌++◌, map, All, ⊤, Option, Some, None, is_some, option_to_list, find, if◌then◌else◌}
 use Rattle.std.specs.List.{fold, list_any}
 use Rattle.std.specs.Option.{option_map}
 use Rattle.task_core.specs.Vectors.{Vector, same_vector}

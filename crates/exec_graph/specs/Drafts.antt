@@ -11,7 +11,6 @@ use Rattle.plan_rules.specs.Rules.{PlainPlan}
 use Rattle.exec_graph.specs.Counting.{add_configuration, moves_from}
 use Rattle.exec_graph.specs.Executions.{GoesTo, IsReachedBy, IsStuckAt, IsUnexecutableAt}
 use Rattle.exec_graph.specs.Moves.{IsPlaceWithin, configuration_of}
-use Rattle.exec_graph.specs.declared.graphs.Place.{Place}
 use Rattle.exec_graph.specs.declared.exploration.Draft.{Draft}
 
 -- Private: a state in the first context

@@ -1,7 +1,7 @@
--- What a plan does, one configuration at a time. A configuration is a state with the context that the plan
--- is in. An automaton is executed as its context plan is (Pistore, Traverso 2001). A table knows no contexts
--- (Cimatti, Pistore, Roveri, Traverso 2003): its executions go along the paths of the table that it denotes,
--- all in the first context.
+-- What a plan does, one configuration at a time. A configuration is a state with the context that
+-- the plan is in. An automaton is executed as its context plan is (Pistore, Traverso 2001). A table
+-- knows no contexts (Cimatti, Pistore, Roveri, Traverso 2003): its executions go along the paths of
+-- the table that it denotes, all in the first context.
 use Rattle.std.specs.Prelude.{◌≡◌, ◌≢◌, ◌⊎◌, ◌<◌, ℕ, true, List, length, Some, None}
 use Rattle.std.specs.List.{All, AllPairs, Contains}
 use Rattle.task_core.specs.Vectors.{Vector}
@@ -38,8 +38,8 @@ pub record HasBadAction (sys : System) (plan : ContextPlan) (x : Configuration) 
   pub acts : plan.act x.state x.context ≡ Some action
   pub refused : Exec sys x.state action → ⊥
 
--- a rule that counts at x has an action that can't be executed there: in a table every rule that matches
--- counts, in an automaton the first of the context
+-- a rule that counts at x has an action that can't be executed there: in a table every rule that
+-- matches counts, in an automaton the first of the context
 abbrev pub IsUnexecutableAt : System → PlainPlan → Configuration → Type 0
 IsUnexecutableAt sys (table class rules) x = HasBadRule sys rules x.state
 IsUnexecutableAt sys (automaton contexts rules) x = HasBadAction sys (denoted_contexts rules) x
@@ -52,12 +52,13 @@ pub record HasLostOutcome (sys : System) (plan : ContextPlan) (x : Configuration
   pub outcome : HasOutcome sys x.state action after
   pub lost : plan.ctxt x.state x.context after ≡ None
 
--- the plan doesn't go on at x: it has no rule there, or no next context for an outcome. A table is never
--- stuck: a state without a rule is terminal.
+-- the plan doesn't go on at x: it has no rule there, or no next context for an outcome. A table is
+-- never stuck: a state without a rule is terminal.
 abbrev pub IsStuckAt : System → PlainPlan → Configuration → Type 0
 IsStuckAt sys (table class rules) x = ⊥
 IsStuckAt sys (automaton contexts rules) x =
-    ((denoted_contexts rules).act x.state x.context ≡ None) ⊎ HasLostOutcome sys (denoted_contexts rules) x
+    ((denoted_contexts rules).act x.state x.context ≡ None)
+    ⊎ HasLostOutcome sys (denoted_contexts rules) x
 
 -- some configuration that the plan may reach has a rule that counts there and can't be followed
 pub record MayBeUnexecutable (sys : System) (plan : PlainPlan) : Type 0 where

@@ -6,8 +6,9 @@ use Rattle.task_core.specs.ContextPlans.{Configuration, IsInitial}
 use Rattle.plan_rules.specs.Rules.{PlainPlan}
 use Rattle.exec_graph.specs.Executions.{GoesTo, IsReachedBy, MayBeStuck, MayBeUnexecutable}
 
--- a graph as plain data. Its nodes are the numbers below `size`: each has a configuration, a mark whether
--- an execution may begin there, and the list of the numbers that follow it. Two marks are of the whole.
+-- a graph as plain data. Its nodes are the numbers below `size`: each has a configuration, a mark
+-- whether an execution may begin there, and the list of the numbers that follow it. Two marks are
+-- of the whole graph.
 pub record PlainGraph : Type 0 where
   pub size : ℕ
   pub configuration : ℕ → Configuration

@@ -1,5 +1,5 @@
 -- Private: the moves from a configuration, as the code holds them.
-use Rattle.std.specs.Prelude.{ℕ, List, map}
+use Rattle.std.specs.Prelude.{ℕ, map}
 use Rattle.std.specs.List.{All}
 use Rattle.task_core.specs.States.{IsWithin, vector}
 use Rattle.task_core.specs.ContextPlans.{Configuration}

@@ -14,11 +14,13 @@ graph_size graph = length graph.places.keys
 
 -- the state of a number, over n fluents; empty past the last one
 abbrev pub state_at : ℕ → Graph → ℕ → Vector
-state_at n graph i = option_map_or (λ (place : Place). vector n place.state) (slice_get graph.places.keys i) []
+state_at n graph i =
+    option_map_or (λ (place : Place). vector n place.state) (slice_get graph.places.keys i) []
 
 -- the context of a number; 0 past the last one
 abbrev pub context_at : Graph → ℕ → ℕ
-context_at graph i = option_map_or (λ (place : Place). place.context) (slice_get graph.places.keys i) 0
+context_at graph i =
+    option_map_or (λ (place : Place). place.context) (slice_get graph.places.keys i) 0
 
 -- the numbers of those that follow it; none past the last one
 abbrev pub followers_at : Graph → ℕ → List ℕ

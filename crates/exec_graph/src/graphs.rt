@@ -33,6 +33,7 @@ impl Graph {
 
     /// How many configurations there are: at most 262,144, numbered from 0.
     pub fn len(&self) -> u32
+        ensures len { result ≡ graph_size self.now }
         ensures size { (n : ℕ) → result ≡ (plain_graph n self.now).size }
         ensures few { result ≤ 262144 }
     {

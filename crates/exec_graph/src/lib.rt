@@ -9,6 +9,11 @@
 
 mod exploration;
 mod graphs;
+mod matching;
+mod moves;
+mod rules;
+#[cfg(test)]
+mod tests;
 
 pub use exploration::{GraphErr, MAX_CONFIGURATIONS, explore};
 pub use graphs::Graph;

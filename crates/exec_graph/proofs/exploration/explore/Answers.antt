@@ -1,6 +1,6 @@
-use Rattle.std.proofs.Common.{◌≡◌, ◌≤◌, [], map, length, sym, ap, ◌∙◌, subst, refl, false}
+use Rattle.std.proofs.Common.{◌≡◌, ◌≤◌, [], map, sym, ap, ◌∙◌, subst, refl, false}
 use Rattle.std.specs.List.{All, fold}
-use Rattle.task_core.specs.States.{IsWithin, vector}
+use Rattle.task_core.specs.States.{IsWithin}
 use Rattle.task_core.specs.Tasks.{fluent_count, system_of}
 use Rattle.task_core.proofs.TaskSystem.{is_system}
 use Rattle.plan_rules.specs.Rules.{plain_of}

@@ -1,4 +1,4 @@
-use Rattle.std.proofs.Common.{◌≡◌, ◌<◌, ◌+◌, ◌≤◌, get_or, length, subst, sym, arith}
+use Rattle.std.proofs.Common.{◌<◌, ◌+◌, subst, sym, arith}
 use Rattle.std.specs.List.{All}
 use Rattle.plan_rules.specs.declared.rules.AutoRule.{AutoRule}
 use Rattle.plan_rules.specs.Plans.{IsContextRuleOf, IsPlanOf}

@@ -1,10 +1,8 @@
-use Rattle.std.proofs.Common.{◌≡◌, ◌<◌, ◌≤◌, ◌+◌, ◌++◌, ◌∷◌, [], ℕ, List, map, take, length, slice_get, Some, sym, ap, ◌∙◌, subst, arith, get_or}
-use Rattle.std.specs.List.{All, fold}
+use Rattle.std.proofs.Common.{◌≡◌, ◌<◌, ◌+◌, ◌++◌, ◌∷◌, [], map, take, length, slice_get, Some, sym, ap, ◌∙◌, subst, arith}
+use Rattle.std.specs.List.{fold}
 use Rattle.std.proofs.lemmas.Result.{err_from_is_err_and}
 use Rattle.task_core.proofs.StateLists.{same_error}
-use Rattle.task_core.specs.ContextPlans.{Configuration}
 use Rattle.exec_graph.specs.Counting.{add_configuration}
-use Rattle.exec_graph.specs.Drafts.{IsNumbered}
 use Rattle.exec_graph.specs.Moves.{IsPlaceWithin, configuration_of}
 use Rattle.exec_graph.proofs.Numbering.{added_next, front_length, map_take_more, one_numbered}
 use Rattle.exec_graph.proofs.exploration.numbers_of.Goals as goal

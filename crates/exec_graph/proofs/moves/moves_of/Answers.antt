@@ -1,5 +1,5 @@
-use Rattle.std.proofs.Common.{◌≡◌, ◌==◌, ℕ, ap, sym, ◌∙◌, map, subst}
-use Rattle.std.specs.List.{All, filter}
+use Rattle.std.proofs.Common.{◌≡◌, ◌==◌, ap, sym, ◌∙◌, map, subst}
+use Rattle.std.specs.List.{All}
 use Rattle.task_core.specs.Tasks.{action_count, fluent_count, system_of}
 use Rattle.plan_rules.specs.declared.rules.AutoRule.{AutoRule}
 use Rattle.plan_rules.specs.declared.rules.Rule.{Rule}
@@ -10,7 +10,7 @@ use Rattle.std.specs.Option.{option_map}
 use Rattle.std.specs.Result.{IfOk}
 use Rattle.task_core.specs.States.{vector}
 use Rattle.exec_graph.specs.Moves.{configuration_of, moves_value}
-use Rattle.exec_graph.specs.ByContext.{IsIndexOf, rules_in}
+use Rattle.exec_graph.specs.ByContext.{IsIndexOf}
 use Rattle.exec_graph.specs.Counting.{IsRuleWithin, advice_value, advised_by, first_matching, moves_by, moves_from}
 use Rattle.exec_graph.proofs.PlanCubes.{unmapped}
 use Rattle.exec_graph.proofs.RuleLists.{first_kept, kept_within}

@@ -1,4 +1,4 @@
-use Rattle.std.proofs.Common.{◌≡◌, ap, ◌∙◌, map, subst, sym}
+use Rattle.std.proofs.Common.{ap, ◌∙◌, map, subst, sym}
 use Rattle.std.specs.List.{All}
 use Rattle.exec_graph.specs.Moves.{configuration_of, IsPlaceWithin}
 use Rattle.exec_graph.proofs.Places.{added_place, added_within, stored_place}

@@ -1,4 +1,4 @@
-use Rattle.std.proofs.Common.{◌≡◌, sym, ap, ◌∙◌, map, subst, length, slice_get, Some}
+use Rattle.std.proofs.Common.{◌≡◌, sym, ◌∙◌, map, subst, length, slice_get, Some}
 use Rattle.std.specs.List.{All}
 use Rattle.std.proofs.lemmas.Result.{err_from_is_err_and}
 use Rattle.task_core.proofs.StateLists.{same_error}

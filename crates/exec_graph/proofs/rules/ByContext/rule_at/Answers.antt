@@ -1,4 +1,4 @@
-use Rattle.std.proofs.Common.{rules, ◌≡◌, ◌<◌, ◌≤◌, ℕ, [], map, length, slice_get, sym, ap, ◌∙◌, subst, get_or, None}
+use Rattle.std.proofs.Common.{◌≡◌, ◌<◌, ◌≤◌, [], map, length, sym, ap, ◌∙◌, subst, get_or}
 use Rattle.std.specs.List.{All}
 use Rattle.std.specs.Option.{option_map, option_map_or}
 use Rattle.std.proofs.lemmas.Option.{slice_get-get_or, slice_get_past}
