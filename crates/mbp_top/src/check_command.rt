@@ -15,9 +15,10 @@ ghost use Rattle.mbp_top.specs.PlanFiles.{TableThen};
 ghost use Rattle.mbp_top.specs.Values.{answer_of, check_words_of, placed_of, shown_of};
 ghost use Rattle.pddl_ast.specs.Fits.{FitsDomain, FitsProblem};
 ghost use Rattle.pddl_ast.specs.Values.{domain_value, problem_value};
+ghost use Rattle.pddl_system.specs.Names.{NamesAreWords};
 ghost use Rattle.plan_io.specs.Fetches.{FailedLast, FetchesFirst};
 ghost use Rattle.plan_rules.specs.Plans.{IsPlanOf};
-ghost use Rattle.plan_rules.specs.Rules.{plain_of, rules_of, table};
+ghost use Rattle.plan_rules.specs.Rules.{PlanRule, plain_of, table};
 ghost use Rattle.std.specs.Prelude.{◌≡◌, ◌≤◌, ◌⊎◌, [], ◌∷◌, IfOk, IsSome, List, ℕ};
 ghost use Rattle.task_core.specs.Tasks.{action_count, fluent_count, system_of};
 
@@ -66,6 +67,7 @@ fn check_problem<S: Shelf>(
     requires fits_domain { FitsDomain (domain_value domain.now) }
     requires fits_problem {
         FitsProblem (domain_value domain.now) (problem_value problem.now) }
+    requires names { NamesAreWords (domain_value domain.now) (problem_value problem.now) }
     ensures answer { let failed = FailedLast S.fetched S.faults shelf.old shelf.new in
         (answer_of result ≡ refused no_memory)
         ⊎ IsChecked (S.held shelf.old) failed (check_words_of asked.now)
