@@ -90,8 +90,11 @@ explored X Y sys sys' plan class rules a to from same (inl (many, is)) = inl (to
 explored X Y sys sys' plan class rules a to from same (inr (inl (few, more, is))) =
     inr (inl (λ many. few (from many), subst (λ (s : System). ReachesMoreThan s plan most_followed) same more, is))
 explored X Y sys sys' plan class rules a to from same (inr (inr (few, small, then))) =
-    inr (inr (λ many. few (from many), λ more. small (subst (λ (s : System). ReachesMoreThan s plan most_followed) (sym same) more),
-    subst (λ (s : System). IsJudged class s rules a) same then))
+    inr (inr (
+      λ many. few (from many),
+      λ more. small (subst (λ (s : System). ReachesMoreThan s plan most_followed) (sym same) more),
+      subst (λ (s : System). IsJudged class s rules a) same then,
+    ))
 
 -- the file of the plan is refused
 pub plan_refused : (held : Bytes → Held) (failed : Bytes → Type 0) (asked : CheckWords) (d : DomainTree) (p : ProblemTree) (t : Task) (r : Refusal)
@@ -115,12 +118,21 @@ checked_answer held failed asked d p t placed a is system_is within goal holds (
 checked_answer held failed asked d p t placed a is system_is within goal holds (inr then) =
     let fluents_named = subst (λ (ns : List Name). Holds held (SpellsPlaced ns (names_of_actions t)) asked.plan placed) (same_fluents d p t is) holds in
     let named = subst (λ (ns : List Name). Holds held (SpellsPlaced (fluent_names d p) ns) asked.plan placed) (same_actions d p t is) fluents_named in
-    inr (inr (goal, inr (within, inr (placed, named,
-    table_map asked.plan placed.place placed.plan
-    (λ rules. ExploreThen (HasTooManyInitial t most_followed) (system_of t) placed.plan (IsJudged asked.class (system_of t) rules))
-    (λ rules. ExploreThen (HasTooManyStates d p) (system d p) placed.plan (IsJudged asked.class (system d p) rules)) a
-    (λ rules. explored (HasTooManyInitial t most_followed) (HasTooManyStates d p) (system_of t) (system d p) placed.plan asked.class rules a
-    (too_many d p t is) (too_many_back d p t is) system_is) then))))
+    inr (inr (
+      goal,
+      inr (
+        within,
+        inr (
+          placed,
+          named,
+          table_map asked.plan placed.place placed.plan
+              (λ rules. ExploreThen (HasTooManyInitial t most_followed) (system_of t) placed.plan (IsJudged asked.class (system_of t) rules))
+              (λ rules. ExploreThen (HasTooManyStates d p) (system d p) placed.plan (IsJudged asked.class (system d p) rules)) a
+              (λ rules. explored (HasTooManyInitial t most_followed) (HasTooManyStates d p) (system_of t) (system d p) placed.plan asked.class rules a
+              (too_many d p t is) (too_many_back d p t is) system_is) then,
+        ),
+      ),
+    ))
 
 -- the goal is of another kind, or a limit is passed
 pub goal_refused : (name : Bytes) (p : ProblemTree) (Then : Answer → Type 0) (r : Refusal)

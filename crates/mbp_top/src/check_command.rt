@@ -65,8 +65,7 @@ fn check_problem<S: Shelf>(
     problem: &Problem,
 ) -> Result<Shown, Refusal>
     requires fits_domain { FitsDomain (domain_value domain.now) }
-    requires fits_problem {
-        FitsProblem (domain_value domain.now) (problem_value problem.now) }
+    requires fits_problem { FitsProblem (domain_value domain.now) (problem_value problem.now) }
     requires names { NamesAreWords (domain_value domain.now) (problem_value problem.now) }
     ensures answer { let failed = FailedLast S.fetched S.faults shelf.old shelf.new in
         (answer_of result ≡ refused no_memory)
@@ -138,9 +137,9 @@ fn show_verdict(alloc: Global, verdict: &Verdict) -> Result<Shown, AllocError>
 {
     Ok(match verdict {
         Verdict::Yes { bound: None } => Shown::Affirmed(Text::Fixed("yes\n")),
-        Verdict::Yes { bound: Some(bound) } => Shown::Affirmed(Text::Made(
-            format!(in alloc; "yes bound {bound}\n")?.into_bytes(),
-        )),
+        Verdict::Yes { bound: Some(bound) } => Shown::Affirmed(Text::Made(format!(in alloc;
+            "yes bound {bound}\n"
+        )?.into_bytes())),
         Verdict::No(reason) => Shown::Denied(Text::Fixed(match reason {
             Reason::Unexecutable => "no unexecutable\n",
             Reason::Stuck => "no stuck\n",

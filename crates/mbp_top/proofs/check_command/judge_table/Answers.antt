@@ -10,5 +10,8 @@ returns-in_ok-show_verdict-in-Ok c = λ word rules is.
     let task = c.args.task.now in
     let graph = plain_graph (fluent_count task) c.in-Ok.graph in
     let of_table = subst (λ (p : PlainPlan). IsGraphOf (system_of task) p graph) is c.in-Ok.ensures.graph in
-    inr (inr (inr (c.in-Ok.ensures.few_initial, c.in-Ok.ensures.few,
-    (c.in_ok-verdict-in-Ok.verdict, c.in_ok-verdict-in-Ok.ensures word rules of_table, c.in_ok-show_verdict-in-Ok.ensures))))
+    inr (inr (inr (
+      c.in-Ok.ensures.few_initial,
+      c.in-Ok.ensures.few,
+      (c.in_ok-verdict-in-Ok.verdict, c.in_ok-verdict-in-Ok.ensures word rules of_table, c.in_ok-show_verdict-in-Ok.ensures),
+    )))
