@@ -6,8 +6,10 @@ use Rattle.plan_io.specs.Held.{Held}
 use Rattle.mbp_top.specs.Answers.{Answer, refused, no_command, no_memory}
 use Rattle.mbp_top.specs.Causes.{IsAnswerOf, HasCause}
 use Rattle.mbp_top.specs.Told.{AreFilesTold, IsDue}
-use Rattle.mbp_top.specs.Words.{Bytes, Command, plan, ground, PlanWords, GroundWords, IsPlannedClass, Says, SaysPlan, SaysGround}
+use Rattle.mbp_top.specs.Words.{Bytes, Command, plan, ground, check, PlanWords, GroundWords, CheckWords, IsPlannedClass, Says, SaysPlan, SaysGround, SaysCheck}
 use Rattle.mbp_top.proofs.Deciding.{Decides}
+use Rattle.plan_rules.specs.Texts.{class_word}
+use Rattle.mbp_top.proofs.CheckDecides.{check_decides}
 use Rattle.mbp_top.proofs.GroundDecides.{ground_command_decides}
 use Rattle.mbp_top.proofs.PddlDecides.{OneReading}
 use Rattle.mbp_top.proofs.PlanDecides.{plan_decides}
@@ -34,6 +36,37 @@ same_ground words v w says says' =
     let problems : v.problem ≡ w.problem = ap (λ (ws : List Bytes). get_or ws 2 []) both in
     λ i. record { domain = domains i; problem = problems i }
 
+-- the words of the classes differ
+same_class : (c d : Class) → class_word c ≡ class_word d → c ≡ d
+same_class Weak Weak same = refl
+same_class Weak Strong same = absurd (omega (arith, ap (λ (w : Bytes). get_or w 0 0) same))
+same_class Weak Cyclic same = absurd (omega (arith, ap (λ (w : Bytes). get_or w 0 0) same))
+same_class Strong Weak same = absurd (omega (arith, ap (λ (w : Bytes). get_or w 0 0) same))
+same_class Strong Strong same = refl
+same_class Strong Cyclic same = absurd (omega (arith, ap (λ (w : Bytes). get_or w 0 0) same))
+same_class Cyclic Weak same = absurd (omega (arith, ap (λ (w : Bytes). get_or w 0 0) same))
+same_class Cyclic Strong same = absurd (omega (arith, ap (λ (w : Bytes). get_or w 0 0) same))
+same_class Cyclic Cyclic same = refl
+
+same_check : (words : List Bytes) (v w : CheckWords) → SaysCheck words v → SaysCheck words w → v ≡ w
+same_check words v w says says' =
+    let both = sym says ∙ says' in
+    let classes = same_class v.class w.class (ap (λ (ws : List Bytes). get_or ws 1 []) both) in
+    let domains : v.domain ≡ w.domain = ap (λ (ws : List Bytes). get_or ws 2 []) both in
+    let problems : v.problem ≡ w.problem = ap (λ (ws : List Bytes). get_or ws 3 []) both in
+    let plans : v.plan ≡ w.plan = ap (λ (ws : List Bytes). get_or ws 4 []) both in
+    λ i. record { class = classes i; domain = domains i; problem = problems i; plan = plans i }
+
+not_plan_and_check : (words : List Bytes) (v : PlanWords) (w : CheckWords) → SaysPlan words v → SaysCheck words w → ⊥
+not_plan_and_check words v w says says' =
+    let first : codes "plan" ≡ codes "check" = ap (λ (ws : List Bytes). get_or ws 0 []) (sym says.written ∙ says') in
+    omega (arith, ap (λ (w : Bytes). get_or w 0 0) first)
+
+not_ground_and_check : (words : List Bytes) (v : GroundWords) (w : CheckWords) → SaysGround words v → SaysCheck words w → ⊥
+not_ground_and_check words v w says says' =
+    let first : codes "ground" ≡ codes "check" = ap (λ (ws : List Bytes). get_or ws 0 []) (sym says ∙ says') in
+    omega (arith, ap (λ (w : Bytes). get_or w 0 0) first)
+
 -- the commands differ in their first words
 not_plan_and_ground : (words : List Bytes) (v : PlanWords) (w : GroundWords) → SaysPlan words v → SaysGround words w → ⊥
 not_plan_and_ground words v w says says' =
@@ -46,6 +79,11 @@ one_command words (plan v) (plan w) says says' = ap plan (same_plan words v w sa
 one_command words (plan v) (ground w) says says' = absurd (not_plan_and_ground words v w says says')
 one_command words (ground v) (plan w) says says' = absurd (not_plan_and_ground words w v says' says)
 one_command words (ground v) (ground w) says says' = ap ground (same_ground words v w says says')
+one_command words (plan v) (check w) says says' = absurd (not_plan_and_check words v w says says')
+one_command words (ground v) (check w) says says' = absurd (not_ground_and_check words v w says says')
+one_command words (check v) (plan w) says says' = absurd (not_plan_and_check words w v says' says)
+one_command words (check v) (ground w) says says' = absurd (not_ground_and_check words w v says' says)
+one_command words (check v) (check w) says says' = ap check (same_check words v w says says')
 
 -- the words and the files decide the answer of a command
 one_answer : OneReading → (held : Bytes → Held) (failed failed' : Bytes → Type 0) (words : List Bytes) (command : Command)
@@ -55,6 +93,9 @@ one_answer once held failed failed' words (plan asked) says told quiet quiet' =
     plan_decides once held failed failed' asked (told (plan asked) asked.domain says (0, omega arith, refl)) (told (plan asked) asked.problem says (1, omega arith, refl)) quiet quiet'
 one_answer once held failed failed' words (ground asked) says told quiet quiet' =
     ground_command_decides once held failed failed' asked (told (ground asked) asked.domain says (0, omega arith, refl)) (told (ground asked) asked.problem says (1, omega arith, refl)) quiet quiet'
+one_answer once held failed failed' words (check asked) says told quiet quiet' =
+    check_decides once held failed failed' asked (told (check asked) asked.domain says (0, omega arith, refl)) (told (check asked) asked.problem says (1, omega arith, refl))
+    (told (check asked) asked.plan says (2, omega arith, refl)) quiet quiet'
 
 -- where the words say a command, an answer that has its cause is that command's, or want of memory
 pub of_command : (held : Bytes → Held) (failed : Bytes → Type 0) (words : List Bytes) (command : Command) (a : Answer)

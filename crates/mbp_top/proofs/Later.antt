@@ -1,6 +1,6 @@
 -- What a shelf tells stays: what a later step of a command says of its file holds from the command's start.
-use Rattle.std.proofs.Common.{◌≡◌, ◌⊎◌, ℕ, List, ◌∷◌, inl, inr, refl, subst, ap, ◌∙◌}
-use Rattle.plan_io.specs.Fetches.{FailedLast}
+use Rattle.std.proofs.Common.{◌≡◌, ◌⊎◌, ℕ, zero, suc, List, [], ◌∷◌, take, inl, inr, refl, subst, ap, ◌∙◌}
+use Rattle.plan_io.specs.Fetches.{FailedLast, Fetches, FetchesFirst}
 use Rattle.plan_io.specs.Held.{Held}
 use Rattle.mbp_top.specs.Answers.{Answer, refused, Refusal, no_memory}
 use Rattle.mbp_top.specs.Reading.{Holds, IsRefusedFile, ReadThen}
@@ -47,3 +47,44 @@ pub next_answer : {X : Type 0} (held : Bytes → Held) (failed : Bytes → Type 
     → (a ≡ refused no_memory) ⊎ ReadThen held failed name Spells Wrong Then a
 next_answer held failed name Spells Wrong Then tree a holds (inl memory) = inl memory
 next_answer held failed name Spells Wrong Then tree a holds (inr then) = inr (inr (tree, holds, then))
+
+-- what a later step says of reading a file holds from the command's start
+pub read_over : {X : Type 0} (held held' : Bytes → Held) (failed failed' : Bytes → Type 0) (name : Bytes) (Spells : Bytes → X → Type 0) (Wrong : Bytes → Bytes → Refusal → Type 0)
+    (Then : X → Answer → Type 0) (a : Answer) → ((file : Bytes) → held' file ≡ held file) → (failed' name → failed name)
+    → ReadThen held' failed' name Spells Wrong Then a → ReadThen held failed name Spells Wrong Then a
+read_over held held' failed failed' name Spells Wrong Then a same over (inl (r, is, why)) =
+    inl (r, is, refused_over held failed failed' Wrong name r over (subst (λ h. IsRefusedFile h failed' Wrong name r) (same_told held held' same) why))
+read_over held held' failed failed' name Spells Wrong Then a same over (inr (tree, holds, then)) =
+    inr (tree, holds_over held held' Spells name tree same holds, then)
+
+-- a fetch of a third file after those of two
+first_of_two : {S : Type 0} (fetched : S → List ℕ → S → Type 0) (a b : List ℕ) (rest : List (List ℕ)) (before after : S) (count : ℕ)
+    → Fetches fetched (take count (a ∷ b ∷ [])) before after → FetchesFirst fetched (a ∷ b ∷ rest) before after
+first_of_two fetched a b rest before after zero is = record { count = 0; fetches = is }
+first_of_two fetched a b rest before after (suc zero) is = record { count = 1; fetches = is }
+first_of_two fetched a b rest before after (suc (suc zero)) is = record { count = 2; fetches = is }
+first_of_two fetched a b rest before after (suc (suc (suc n))) is = record { count = 2; fetches = is }
+
+pub first_two : {S : Type 0} (fetched : S → List ℕ → S → Type 0) (a b : List ℕ) (rest : List (List ℕ)) (before after : S)
+    → FetchesFirst fetched (a ∷ b ∷ []) before after → FetchesFirst fetched (a ∷ b ∷ rest) before after
+first_two fetched a b rest before after first = first_of_two fetched a b rest before after first.count first.fetches
+
+pub two_then : {S : Type 0} (fetched : S → List ℕ → S → Type 0) (a b : List ℕ) (rest : List (List ℕ)) (before between after : S)
+    → Fetches fetched (a ∷ b ∷ []) before between → FetchesFirst fetched rest between after → FetchesFirst fetched (a ∷ b ∷ rest) before after
+two_then {S} fetched a b rest before between after (x, first, (y, second, is)) more = record {
+  count = suc (suc more.count);
+  fetches = (x, first, (y, second, subst (λ (s : S). Fetches fetched (take more.count rest) s after) is more.fetches));
+}
+
+-- the last fetch that failed after those of two files
+pub failed_after_two : {S : Type 0} (fetched : S → List ℕ → S → Type 0) (faults : S → ℕ) (a b : List ℕ) (before between after : S) (name : List ℕ)
+    → Fetches fetched (a ∷ b ∷ []) before between → faults between ≡ faults before → FailedLast fetched faults between after name
+    → FailedLast fetched faults before after name
+failed_after_two {S} fetched faults a b before between after name (x, first, (y, second, is)) quiet failed = record {
+  earlier = a ∷ b ∷ failed.earlier;
+  between = failed.between;
+  came = (x, first, (y, second, subst (λ (s : S). Fetches fetched failed.earlier s failed.between) is failed.came));
+  quiet = failed.quiet ∙ quiet;
+  fetch = failed.fetch;
+  rose = failed.rose;
+}

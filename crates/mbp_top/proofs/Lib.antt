@@ -2,6 +2,9 @@ pub mod Deciding
 pub mod PddlDecides
 pub mod PlanDecides
 pub mod GroundDecides
+pub mod CheckDecides
+pub mod CheckAnswers
+pub mod CheckWritten
 pub mod PlanWritten
 pub mod GroundWritten
 pub mod ByCommand

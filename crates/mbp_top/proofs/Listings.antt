@@ -60,7 +60,7 @@ pub same_count : (d : DomainTree) (p : ProblemTree) (t : Task) → task_value t 
 same_count d p t is =
     sym (length-map t.fluents.items _) ∙ ap length (same_fluents d p t is) ∙ length-map (fluents d p) (atom_name d p)
 
-same_entries : (d : DomainTree) (p : ProblemTree) (t : Task) → task_value t ≡ task_of d p → length (entries_of t.init) ≡ length p.entries
+pub same_entries : (d : DomainTree) (p : ProblemTree) (t : Task) → task_value t ≡ task_of d p → length (entries_of t.init) ≡ length p.entries
 same_entries d p t is = ap (λ (x : TaskTree). length x.entries) is ∙ length-map p.entries (entry_of (fluents d p))
 
 same_listed : (d : DomainTree) (p : ProblemTree) (t : Task) → task_value t ≡ task_of d p

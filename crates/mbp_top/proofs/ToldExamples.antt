@@ -5,7 +5,7 @@ use Rattle.plan_rules.specs.Texts.{line_feed}
 use Rattle.task_core.specs.declared.classes.Class.TheVariants.{Weak, Strong}
 use Rattle.mbp_top.specs.Answers.{no_command, over_limit, read_fault, refused, status_of, text_of}
 use Rattle.mbp_top.specs.Told.{AreFilesTold, IsDue}
-use Rattle.mbp_top.specs.Words.{Bytes, Command, PlanWords, plan, ground, Says, files_of}
+use Rattle.mbp_top.specs.Words.{Bytes, Command, PlanWords, plan, ground, check, Says, files_of}
 
 -- the words `plan weak coin-d coin-p`, the command that they say, and the two files that it names
 abbrev coin_words : List Bytes
@@ -41,6 +41,7 @@ missing_domain held missing = record {
 plan_alone : (command : Command) → Says (codes "plan" ∷ []) command → ⊥
 plan_alone (plan asked) says = let written = says.written in cc
 plan_alone (ground asked) says = cc
+plan_alone (check asked) says = cc
 
 -- so the answer to it is that, whatever the files
 no_command_due : (held : Bytes → Held) → IsDue held (codes "plan" ∷ []) (refused no_command)

@@ -5,6 +5,8 @@ pub mod PddlTexts
 pub mod Grounding
 pub mod GroundCommand
 pub mod PlanCommand
+pub mod PlanFiles
+pub mod CheckCommand
 pub mod Causes
 pub mod Told
 pub mod Delivery

@@ -2,12 +2,15 @@
 use Rattle.std.specs.Prelude.{ℕ, List, Result, Ok, Err, string_bytes, codes}
 use Rattle.mbp_top.specs.Answers.{Answer, affirmed, denied, refused, Refusal, no_command, text_fault, over_limit, read_fault, no_memory, not_built}
 use Rattle.pddl_system.specs.Sizes.{object_limit, size_limit, instance_limit, action_limit, outcome_limit, fluent_limit}
+use Rattle.plan_rules.specs.Rules.{plain_of}
+use Rattle.plan_rules.specs.declared.rules.PlanRead.{PlanRead}
 use Rattle.mbp_top.specs.Grounding.{limit_name}
-use Rattle.mbp_top.specs.Words.{Bytes, PlanWords, GroundWords, plan, ground, Says, SayNothing}
+use Rattle.mbp_top.specs.PlanFiles.{PlacedPlan}
+use Rattle.mbp_top.specs.Words.{Bytes, PlanWords, GroundWords, CheckWords, plan, ground, check, Says, SayNothing}
 use Rattle.sexpr_text.specs.declared.faults.ReadErr.{ReadErr}
 use Rattle.sexpr_text.specs.declared.faults.ReadErr.TheVariants.{Fault, Memory}
 use Rattle.mbp_top.specs.declared.answers.Limit.{Limit}
-use Rattle.mbp_top.specs.declared.answers.Limit.TheVariants.{File, Objects, Size, Instances, Actions, Outcomes, Fluents}
+use Rattle.mbp_top.specs.declared.answers.Limit.TheVariants.{File, Objects, Size, Instances, Actions, Outcomes, Fluents, Initial, Configurations}
 use Rattle.mbp_top.specs.declared.answers.Refusal.{Refusal as CodeRefusal}
 use Rattle.mbp_top.specs.declared.answers.Refusal.TheVariants.{NoCommand, TextFault, OverLimit, ReadFault, NoMemory, NotBuilt}
 use Rattle.mbp_top.specs.declared.answers.Shown.{Shown}
@@ -15,9 +18,10 @@ use Rattle.mbp_top.specs.declared.answers.Shown.TheVariants.{Affirmed, Denied}
 use Rattle.mbp_top.specs.declared.answers.Text.{Text}
 use Rattle.mbp_top.specs.declared.answers.Text.TheVariants.{Fixed, Made}
 use Rattle.mbp_top.specs.declared.words.Command.{Command as CodeCommand}
-use Rattle.mbp_top.specs.declared.words.Command.TheVariants.{Plan, Ground, Nothing}
+use Rattle.mbp_top.specs.declared.words.Command.TheVariants.{Plan, Ground, Check, Nothing}
 use Rattle.mbp_top.specs.declared.words.PlanWords.{PlanWords as CodePlanWords}
 use Rattle.mbp_top.specs.declared.words.GroundWords.{GroundWords as CodeGroundWords}
+use Rattle.mbp_top.specs.declared.words.CheckWords.{CheckWords as CodeCheckWords}
 
 abbrev pub bytes_of : Text → List ℕ
 bytes_of (Fixed text) = text.now
@@ -31,6 +35,8 @@ limit_of Instances = limit_name instance_limit
 limit_of Actions = limit_name action_limit
 limit_of Outcomes = limit_name outcome_limit
 limit_of Fluents = limit_name fluent_limit
+limit_of Initial = codes "initial"
+limit_of Configurations = codes "configurations"
 
 abbrev pub refusal_of : CodeRefusal → Refusal
 refusal_of NoCommand = no_command
@@ -55,10 +61,22 @@ plan_words_of words =
 abbrev pub ground_words_of : CodeGroundWords → GroundWords
 ground_words_of words = record { domain = words.domain.now; problem = words.problem.now }
 
+abbrev pub check_words_of : CodeCheckWords → CheckWords
+check_words_of words = record {
+  class = words.class;
+  domain = words.domain.now;
+  problem = words.problem.now;
+  plan = words.plan.now;
+}
+
+abbrev pub placed_of : PlanRead → PlacedPlan
+placed_of read = record { plan = plain_of read.plan; place = read.place }
+
 -- the words say the command
 abbrev pub IsSaid : List Bytes → CodeCommand → Type 0
 IsSaid words (Plan asked) = Says words (plan (plan_words_of asked))
 IsSaid words (Ground asked) = Says words (ground (ground_words_of asked))
+IsSaid words (Check asked) = Says words (check (check_words_of asked))
 IsSaid words Nothing = SayNothing words
 
 -- the refusal of the file of this name for what was wrong in reading it

@@ -20,9 +20,18 @@ pub record GroundWords : Type 0 where
   pub domain : Bytes
   pub problem : Bytes
 
+-- what `check` is asked: whether the plan is one of this class, for the domain and the problem, in the files
+-- of these names
+pub record CheckWords : Type 0 where
+  pub class : Class
+  pub domain : Bytes
+  pub problem : Bytes
+  pub plan : Bytes
+
 pub data Command : Type 0 where
   plan : PlanWords → Command
   ground : GroundWords → Command
+  check : CheckWords → Command
 
 -- the classes of which plans are looked for, so far
 abbrev pub IsPlannedClass : Class → Type 0
@@ -39,11 +48,17 @@ pub record SaysPlan (words : List Bytes) (asked : PlanWords) : Type 0 where
 abbrev pub SaysGround : List Bytes → GroundWords → Type 0
 SaysGround words asked = words ≡ codes "ground" ∷ asked.domain ∷ asked.problem ∷ []
 
+-- `check CLASS DOMAIN PROBLEM PLAN`
+abbrev pub SaysCheck : List Bytes → CheckWords → Type 0
+SaysCheck words asked =
+    words ≡ codes "check" ∷ class_word asked.class ∷ asked.domain ∷ asked.problem ∷ asked.plan ∷ []
+
 -- the words say the command. Fixed words are compared exactly, with case, and names may be any
 -- words
 abbrev pub Says : List Bytes → Command → Type 0
 Says words (plan asked) = SaysPlan words asked
 Says words (ground asked) = SaysGround words asked
+Says words (check asked) = SaysCheck words asked
 
 -- the words say no command
 abbrev pub SayNothing : List Bytes → Type 0
@@ -53,3 +68,4 @@ SayNothing words = (command : Command) → Says words command → ⊥
 abbrev pub files_of : Command → List Bytes
 files_of (plan asked) = asked.domain ∷ asked.problem ∷ []
 files_of (ground asked) = asked.domain ∷ asked.problem ∷ []
+files_of (check asked) = asked.domain ∷ asked.problem ∷ asked.plan ∷ []

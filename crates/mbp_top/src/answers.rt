@@ -91,6 +91,10 @@ pub(crate) enum Limit {
     /// Outcomes of a kept instance.
     Outcomes,
     Fluents,
+    /// Initial states that are followed.
+    Initial,
+    /// Configurations that are followed.
+    Configurations,
 }
 
 impl Limit {
@@ -105,6 +109,8 @@ impl Limit {
             Limit::Actions => "actions",
             Limit::Outcomes => "outcomes",
             Limit::Fluents => "fluents",
+            Limit::Initial => "initial",
+            Limit::Configurations => "configurations",
         }
     }
 }

@@ -2,12 +2,13 @@
 //!
 //! `specs/` says what the call answers: `Words` the commands, `Answers` each answer with its status
 //! and its text, `Reading` how a command reads its files, `PddlTexts` which domain and problem they
-//! spell, `Grounding` the limits, `PlanCommand` and `GroundCommand` the answers of `plan` and
-//! `ground`, `Causes` the cause of each answer, `Told` what the words and the files alone decide,
+//! spell, `Grounding` the limits, `PlanCommand`, `GroundCommand` and `CheckCommand` the answers
+//! of `plan`, `ground` and `check`, `PlanFiles` how a plan is read, `Causes` the cause of each answer, `Told` what the words and the files alone decide,
 //! and `Delivery` what is written.
 #![tactic(auto)]
 
 mod answers;
+mod check_command;
 mod commands;
 mod delivery;
 mod files;
@@ -15,6 +16,7 @@ mod ground_command;
 mod grounding;
 mod pddl_texts;
 mod plan_command;
+mod plan_files;
 #[cfg(test)]
 mod tests;
 mod top;

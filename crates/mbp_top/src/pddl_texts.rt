@@ -31,7 +31,7 @@ use sexpr_text::ReadErr;
 use std::alloc::{AllocError, Global};
 
 /// The refusal of the file of this name for what was wrong in reading it.
-fn misread(alloc: Global, name: &str, error: ReadErr) -> Result<Refusal, AllocError>
+pub(crate) fn misread(alloc: Global, name: &str, error: ReadErr) -> Result<Refusal, AllocError>
     ensures { IfOk result (λ refusal. refusal_of refusal ≡ refusal_for name.now error) }
 {
     Ok(match error {

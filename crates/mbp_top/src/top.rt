@@ -1,7 +1,15 @@
 //! The top call.
 
-ghost use Rattle.mbp_top.specs.Answers.{Answer, status_of};
+ghost use Rattle.exec_graph.specs.Executions.{ReachesMoreThan};
+ghost use Rattle.mbp_top.specs.Answers.{Answer, status_of, text_of};
 ghost use Rattle.mbp_top.specs.Causes.{HasCause, IsQuietAt};
+ghost use Rattle.mbp_top.specs.CheckCommand.{
+  HasTooManyStates,
+  HoldsTable,
+  IsSolved,
+  most_followed,
+  verdict_answer,
+};
 ghost use Rattle.mbp_top.specs.Delivery.{IsCut, IsDelivered, IsWhole, seen};
 ghost use Rattle.mbp_top.specs.GroundCommand.{listing_of};
 ghost use Rattle.mbp_top.specs.PlanCommand.{
@@ -14,11 +22,13 @@ ghost use Rattle.mbp_top.specs.PddlTexts.{HoldBoth};
 ghost use Rattle.mbp_top.specs.Told.{AreFilesTold, IsDue, NoFault};
 ghost use Rattle.mbp_top.specs.Words.{
   Bytes,
+  CheckWords,
   Command,
   GroundWords,
   PlanWords,
   SayNothing,
   Says,
+  SaysCheck,
   SaysGround,
   SaysPlan,
   files_of,
@@ -28,7 +38,11 @@ ghost use Rattle.pddl_ast.specs.Trees.{DomainTree, ProblemTree};
 ghost use Rattle.pddl_system.specs.Fluents.{fluents};
 ghost use Rattle.pddl_system.specs.Sizes.{first_passed};
 ghost use Rattle.pddl_system.specs.Systems.{action_names, fluent_names, system};
+ghost use Rattle.plan_check.specs.Verdicts.{IsBound, IsFirstReason};
+ghost use Rattle.plan_check.specs.declared.verdicts.Reason.{Reason};
 ghost use Rattle.plan_io.specs.Fetches.{FailedLast, FetchesFirst};
+ghost use Rattle.plan_rules.specs.Denoted.{denoted};
+ghost use Rattle.plan_rules.specs.Rules.{PlanRule, table};
 ghost use Rattle.task_core.specs.Solutions.{HasNoSolution};
 ghost use Rattle.std.specs.Io.KnownBytes.{append_known};
 ghost use Rattle.std.specs.Prelude.{
@@ -42,6 +56,7 @@ ghost use Rattle.std.specs.Prelude.{
   IsSome,
   List,
   None,
+  Option,
   length,
   map,
   string_bytes,
@@ -52,22 +67,27 @@ use crate::commands::answer;
 use crate::delivery::deliver;
 use pddl_domain::domain_or_fault;
 use pddl_problem::one_answer;
+use plan_check::{Verdict, one_verdict, yes_is_solution};
 use plan_io::{Shelf, Sink};
+use plan_rules::plan_or_fault;
+use sexpr_text::one_spelling;
 use std::alloc::Global;
 
 /// Does what the command words say, and gives the exit status.
 ///
 /// The words after the program's name are one command, where DOMAIN and PROBLEM are names of files
-/// on the shelf: `plan weak DOMAIN PROBLEM`, or `ground DOMAIN PROBLEM`. The text of a plan, `no
-/// plan`, or the listing of the fluents and actions goes to `out`; every other answer is one line
-/// on `err`. The statuses:
+/// on the shelf: `plan weak DOMAIN PROBLEM`, `ground DOMAIN PROBLEM`, or `check CLASS DOMAIN PROBLEM
+/// PLAN`, CLASS being `weak`, `strong` or `cyclic` and PLAN the name of a plan's file. The text of a
+/// plan, `no plan`, the listing of the fluents and actions, or the verdict on the plan goes to
+/// `out`; every other answer is one line on `err`. The statuses:
 ///
 /// - 0: a weak plan is on `out` (weak: from each initial state it may reach the goal), or the
-///   listing;
-/// - 1: there is no weak plan;
+///   listing, or that the plan is one of the class;
+/// - 1: there is no weak plan, or the plan is none of the class;
 /// - 2: the words are no command;
-/// - 3: a file spells no domain, or no problem of it, with the place of its fault;
-/// - 4: a limit is passed: a file is longer than 1,048,576 bytes, or there is too much to ground;
+/// - 3: a file spells no domain, no problem of it or no plan, with the place of its fault;
+/// - 4: a limit is passed: a file is longer than 1,048,576 bytes, or there is too much to ground or
+///   to follow;
 /// - 6: a file can't be read;
 /// - 7: the answer can't be written, and only a part of it is on `out` or `err`;
 /// - 8: there is not enough memory;
@@ -172,6 +192,52 @@ pub fn run<S: Shelf, O: Sink, E: Sink>(
         → NoFault (E.faults err.old) (E.faults err.new)
         → (result ≡ 0) ⊎ (result ≡ 8) }
 
+    // `check`, status 0: the table that the third file spells solves the problem that the two others
+    // spell, and the text that was written says yes, for a strong plan with the length of its
+    // longest execution.
+    ensures check_yes { (asked : CheckWords) → SaysCheck (map string_bytes words.now) asked
+        → result ≡ 0
+        → (domain : DomainTree) × (problem : ProblemTree) × (rules : List PlanRule)
+        × (bound : Option ℕ)
+        × HoldBoth (S.held shelf.old) asked.domain asked.problem domain problem
+        × HoldsTable (S.held shelf.old) (fluent_names domain problem)
+        (action_names domain problem) asked.plan rules
+        × IsSolved asked.class (system domain problem) rules
+        × IsBound (system domain problem) (denoted (system domain problem) rules) asked.class bound
+        × (O.written out.new ≡ append_known (O.written out.old)
+        (text_of (verdict_answer (Verdict.Yes bound)))) }
+
+    // `check`, status 1: the text that was written names the first reason that speaks against the
+    // table.
+    ensures check_no { (asked : CheckWords) → SaysCheck (map string_bytes words.now) asked
+        → result ≡ 1
+        → (domain : DomainTree) × (problem : ProblemTree) × (rules : List PlanRule)
+        × (reason : Reason)
+        × HoldBoth (S.held shelf.old) asked.domain asked.problem domain problem
+        × HoldsTable (S.held shelf.old) (fluent_names domain problem)
+        (action_names domain problem) asked.plan rules
+        × IsFirstReason (system domain problem) rules reason asked.class
+        × (O.written out.new ≡ append_known (O.written out.old)
+        (text_of (verdict_answer (Verdict.No reason)))) }
+
+    // `check` of files that spell a problem within the limits and a table that reaches few
+    // configurations: yes exactly where the table solves the problem, if no fault comes.
+    ensures check_exact { (asked : CheckWords) (domain : DomainTree) (problem : ProblemTree)
+        (rules : List PlanRule) → SaysCheck (map string_bytes words.now) asked
+        → HoldBoth (S.held shelf.old) asked.domain asked.problem domain problem
+        → IsSome problem.goal → first_passed domain problem ≡ None
+        → (plan : HoldsTable (S.held shelf.old) (fluent_names domain problem)
+        (action_names domain problem) asked.plan rules)
+        → (HasTooManyStates domain problem → ⊥)
+        → (ReachesMoreThan (system domain problem) (table plan.class rules) most_followed → ⊥)
+        → AreFilesTold (S.held shelf.old) (map string_bytes words.now)
+        → NoFault (S.faults shelf.old) (S.faults shelf.new)
+        → NoFault (O.faults out.old) (O.faults out.new)
+        → NoFault (E.faults err.old) (E.faults err.new)
+        → ((result ≡ 0) × IsSolved asked.class (system domain problem) rules)
+        ⊎ ((result ≡ 1) × (IsSolved asked.class (system domain problem) rules → ⊥))
+        ⊎ (result ≡ 8) }
+
     // Where the shelf tells of the files and has no fault, the words and the files alone decide the
     // answer and so the status, but for want of memory.
     ensures due { (answer : Answer) → IsDue (S.held shelf.old) (map string_bytes words.now) answer
@@ -207,9 +273,14 @@ pub fn run<S: Shelf, O: Sink, E: Sink>(
     ensures kept { (file : List ℕ) → S.held shelf.new file ≡ S.held shelf.old file }
     ensures later { S.faults shelf.old ≤ S.faults shelf.new }
 {
-    // These do nothing: `due`, `determined` and `plan_complete` rest on what they promise.
+    // These do nothing: that the files decide the answer, and what a yes means, rests on what they
+    // promise.
     domain_or_fault();
     one_answer();
+    one_spelling();
+    plan_or_fault();
+    one_verdict();
+    yes_is_solution();
     let found = answer(alloc, words, shelf);
     deliver(alloc, &found, out, err)
 }

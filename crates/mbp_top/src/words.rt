@@ -1,10 +1,12 @@
 //! The command words.
 
-ghost use Rattle.mbp_top.specs.Values.{IsSaid, ground_words_of, plan_words_of};
+ghost use Rattle.mbp_top.specs.Values.{IsSaid, check_words_of, ground_words_of, plan_words_of};
 ghost use Rattle.mbp_top.specs.Words.{
+  CheckWords as AskedCheck,
   GroundWords as AskedGround,
   IsPlannedClass,
   PlanWords as AskedPlan,
+  SaysCheck,
   SaysGround,
   SaysPlan,
 };
@@ -17,6 +19,7 @@ use plan_rules::Class;
 pub(crate) enum Command<'a> {
     Plan(PlanWords<'a>),
     Ground(GroundWords<'a>),
+    Check(CheckWords<'a>),
     /// The words are none of the commands.
     Nothing,
 }
@@ -37,6 +40,16 @@ pub(crate) struct GroundWords<'a> {
     pub(crate) problem: &'a str,
 }
 
+/// What `check` is asked: whether the plan is one of this class, for the domain and the problem, in
+/// the files of these names.
+#[derive(Clone, Copy)]
+pub(crate) struct CheckWords<'a> {
+    pub(crate) class: Class,
+    pub(crate) domain: &'a str,
+    pub(crate) problem: &'a str,
+    pub(crate) plan: &'a str,
+}
+
 /// The command that the words say.
 pub(crate) fn read_words<'a>(words: &'a [String]) -> Command<'a>
     ensures { IsSaid (map string_bytes words.now) result }
@@ -53,6 +66,12 @@ pub(crate) fn read_words<'a>(words: &'a [String]) -> Command<'a>
     if command.as_str() == "ground" {
         return match ground_words(rest) {
             Some(asked) => Command::Ground(asked),
+            None => Command::Nothing,
+        };
+    }
+    if command.as_str() == "check" {
+        return match check_words(rest) {
+            Some(asked) => Command::Check(asked),
             None => Command::Nothing,
         };
     }
@@ -95,6 +114,40 @@ fn planned_class(word: &str) -> Option<Class>
 {
     if word == "weak" {
         return Some(Class::Weak);
+    }
+    None
+}
+
+/// `check`, and these words after it.
+fn check_words<'a>(words: &'a [String]) -> Option<CheckWords<'a>>
+    ensures { let said = codes "check" ∷ map string_bytes words.now in
+        MatchOption result ((asked : AskedCheck) → SaysCheck said asked → ⊥)
+        (λ asked. SaysCheck said (check_words_of asked)) }
+{
+    match words {
+        [class, domain, problem, plan] => Some(CheckWords {
+            class: class_named(class)?,
+            domain,
+            problem,
+            plan,
+        }),
+        _ => None,
+    }
+}
+
+/// The class of this name.
+fn class_named(word: &str) -> Option<Class>
+    ensures { MatchOption result ((class : Class) → word.now ≡ class_word class → ⊥)
+        (λ class. word.now ≡ class_word class) }
+{
+    if word == "weak" {
+        return Some(Class::Weak);
+    }
+    if word == "strong" {
+        return Some(Class::Strong);
+    }
+    if word == "cyclic" {
+        return Some(Class::Cyclic);
     }
     None
 }

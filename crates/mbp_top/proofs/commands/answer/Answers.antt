@@ -1,7 +1,7 @@
 use Rattle.std.proofs.Common.{map, string_bytes, inr, subst}
 use Rattle.plan_io.specs.Fetches.{FetchesFirst}
-use Rattle.mbp_top.specs.Values.{ground_words_of, plan_words_of}
-use Rattle.mbp_top.specs.Words.{Command, plan, ground, files_of}
+use Rattle.mbp_top.specs.Values.{check_words_of, ground_words_of, plan_words_of}
+use Rattle.mbp_top.specs.Words.{Command, plan, ground, check, files_of}
 use Rattle.mbp_top.proofs.ByCommand.{one_command}
 use Rattle.mbp_top.proofs.commands.answer.Goals as goal
 
@@ -28,3 +28,15 @@ returns-in-Ground-clause-fetches g c = λ command says.
 
 pub returns-in-Ground-clause-no_fetch : goal.returns-in-Ground-clause-no_fetch
 returns-in-Ground-clause-no_fetch g c = λ nothing. absurd (nothing (ground (ground_words_of c.in-Ground.asked)) c.in-Ground.ensures)
+
+pub returns-in-Check-clause-cause : goal.returns-in-Check-clause-cause
+returns-in-Check-clause-cause g c = inr (check (check_words_of c.in-Check.asked), c.in-Check.ensures, c.check_files.ensures.answer)
+
+pub returns-in-Check-clause-fetches : goal.returns-in-Check-clause-fetches
+returns-in-Check-clause-fetches g c = λ command says.
+    subst (λ (said : Command). FetchesFirst g.S.Shelf.fetched (files_of said) c.args.shelf.now c.check_files.new.shelf)
+    (one_command (map string_bytes c.args.words.now) (check (check_words_of c.in-Check.asked)) command c.in-Check.ensures says)
+    c.check_files.ensures.fetches
+
+pub returns-in-Check-clause-no_fetch : goal.returns-in-Check-clause-no_fetch
+returns-in-Check-clause-no_fetch g c = λ nothing. absurd (nothing (check (check_words_of c.in-Check.asked)) c.in-Check.ensures)

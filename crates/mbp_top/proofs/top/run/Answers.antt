@@ -4,6 +4,7 @@ use Rattle.mbp_top.specs.Delivery.{seen}
 use Rattle.mbp_top.proofs.PddlDecides.{OneReading}
 use Rattle.mbp_top.proofs.PlanWritten.{plan_written, no_plan_written, plan_status}
 use Rattle.mbp_top.proofs.GroundWritten.{listing_written, listing_status}
+use Rattle.mbp_top.proofs.CheckWritten.{check_yes_written, check_no_written, check_status}
 use Rattle.mbp_top.proofs.Statuses.{
   done,
   of_delivery,
@@ -157,6 +158,10 @@ returns-clause-plan_complete g c asked domain problem says both goal kept few to
       one_problem = c.one_answer.ensures.one_problem;
       one_problem_fault = c.one_answer.ensures.one_fault;
       not_both_problem = c.one_answer.ensures.never_both;
+      one_forest = c.one_spelling.ensures.trees;
+      one_plan_fault = c.plan_or_fault.ensures.one_fault;
+      not_both_plan = c.plan_or_fault.ensures.not_both;
+      one_verdict = c.one_verdict.ensures;
     } in
     plan_status one held failed words before after out out' err err' status given asked domain problem d says both goal kept few told
     (λ file. no_failure g.S.Shelf.fetched g.S.Shelf.faults c.args.shelf.now c.answer-found.new.shelf file no_rise) no_out no_err
@@ -199,8 +204,75 @@ returns-clause-ground_complete g c asked domain problem says both kept told no_r
       one_problem = c.one_answer.ensures.one_problem;
       one_problem_fault = c.one_answer.ensures.one_fault;
       not_both_problem = c.one_answer.ensures.never_both;
+      one_forest = c.one_spelling.ensures.trees;
+      one_plan_fault = c.plan_or_fault.ensures.one_fault;
+      not_both_plan = c.plan_or_fault.ensures.not_both;
+      one_verdict = c.one_verdict.ensures;
     } in
     listing_status one held failed words before after out out' err err' status given asked domain problem d says both kept told
+    (λ file. no_failure g.S.Shelf.fetched g.S.Shelf.faults c.args.shelf.now c.answer-found.new.shelf file no_rise) no_out no_err
+
+pub returns-clause-check_yes : goal.returns-clause-check_yes
+returns-clause-check_yes g c asked says zero =
+    let held = g.S.Shelf.held c.args.shelf.now in
+    let failed = FailedLast g.S.Shelf.fetched g.S.Shelf.faults c.args.shelf.now c.answer-found.new.shelf in
+    let words = map string_bytes c.args.words.now in
+    let before = g.S.Shelf.faults c.args.shelf.now in
+    let after = g.S.Shelf.faults c.answer-found.new.shelf in
+    let out = seen (g.O.Sink.written c.args.out.now) (g.O.Sink.faults c.args.out.now) in
+    let out' = seen (g.O.Sink.written c.deliver.new.out) (g.O.Sink.faults c.deliver.new.out) in
+    let err = seen (g.E.Sink.written c.args.err.now) (g.E.Sink.faults c.args.err.now) in
+    let err' = seen (g.E.Sink.written c.deliver.new.err) (g.E.Sink.faults c.deliver.new.err) in
+    let status = c.deliver.result in
+    let given = c.deliver.ensures.0 in
+    let d = done held failed words before after out out' err err' status _ given c.answer-found.ensures.cause c.answer-found.ensures.quiet_at c.deliver.ensures.1 c.deliver.ensures.2 in
+    let w = check_yes_written c.yes_is_solution.ensures held failed words before after out out' err err' status given asked d says zero in
+    (w.domain, w.problem, w.rules, w.bound, w.both, w.plan, w.solved, w.bounded, w.written)
+
+pub returns-clause-check_no : goal.returns-clause-check_no
+returns-clause-check_no g c asked says one =
+    let held = g.S.Shelf.held c.args.shelf.now in
+    let failed = FailedLast g.S.Shelf.fetched g.S.Shelf.faults c.args.shelf.now c.answer-found.new.shelf in
+    let words = map string_bytes c.args.words.now in
+    let before = g.S.Shelf.faults c.args.shelf.now in
+    let after = g.S.Shelf.faults c.answer-found.new.shelf in
+    let out = seen (g.O.Sink.written c.args.out.now) (g.O.Sink.faults c.args.out.now) in
+    let out' = seen (g.O.Sink.written c.deliver.new.out) (g.O.Sink.faults c.deliver.new.out) in
+    let err = seen (g.E.Sink.written c.args.err.now) (g.E.Sink.faults c.args.err.now) in
+    let err' = seen (g.E.Sink.written c.deliver.new.err) (g.E.Sink.faults c.deliver.new.err) in
+    let status = c.deliver.result in
+    let given = c.deliver.ensures.0 in
+    let d = done held failed words before after out out' err err' status _ given c.answer-found.ensures.cause c.answer-found.ensures.quiet_at c.deliver.ensures.1 c.deliver.ensures.2 in
+    let w = check_no_written held failed words before after out out' err err' status given asked d says one in
+    (w.domain, w.problem, w.rules, w.reason, w.both, w.plan, w.first, w.written)
+
+pub returns-clause-check_exact : goal.returns-clause-check_exact
+returns-clause-check_exact g c asked domain problem rules says both goal kept plan few small told no_rise no_out no_err =
+    let held = g.S.Shelf.held c.args.shelf.now in
+    let failed = FailedLast g.S.Shelf.fetched g.S.Shelf.faults c.args.shelf.now c.answer-found.new.shelf in
+    let words = map string_bytes c.args.words.now in
+    let before = g.S.Shelf.faults c.args.shelf.now in
+    let after = g.S.Shelf.faults c.answer-found.new.shelf in
+    let out = seen (g.O.Sink.written c.args.out.now) (g.O.Sink.faults c.args.out.now) in
+    let out' = seen (g.O.Sink.written c.deliver.new.out) (g.O.Sink.faults c.deliver.new.out) in
+    let err = seen (g.E.Sink.written c.args.err.now) (g.E.Sink.faults c.args.err.now) in
+    let err' = seen (g.E.Sink.written c.deliver.new.err) (g.E.Sink.faults c.deliver.new.err) in
+    let status = c.deliver.result in
+    let given = c.deliver.ensures.0 in
+    let d = done held failed words before after out out' err err' status _ given c.answer-found.ensures.cause c.answer-found.ensures.quiet_at c.deliver.ensures.1 c.deliver.ensures.2 in
+    let one : OneReading = record {
+      one_domain = c.domain_or_fault.ensures.one_domain;
+      one_domain_fault = c.domain_or_fault.ensures.one_fault;
+      not_both_domain = c.domain_or_fault.ensures.never_both;
+      one_problem = c.one_answer.ensures.one_problem;
+      one_problem_fault = c.one_answer.ensures.one_fault;
+      not_both_problem = c.one_answer.ensures.never_both;
+      one_forest = c.one_spelling.ensures.trees;
+      one_plan_fault = c.plan_or_fault.ensures.one_fault;
+      not_both_plan = c.plan_or_fault.ensures.not_both;
+      one_verdict = c.one_verdict.ensures;
+    } in
+    check_status one c.yes_is_solution.ensures held failed words before after out out' err err' status given asked domain problem rules d says both goal kept plan few small told
     (λ file. no_failure g.S.Shelf.fetched g.S.Shelf.faults c.args.shelf.now c.answer-found.new.shelf file no_rise) no_out no_err
 
 pub returns-clause-due : goal.returns-clause-due
@@ -224,6 +296,10 @@ returns-clause-due g c answer is told no_rise =
       one_problem = c.one_answer.ensures.one_problem;
       one_problem_fault = c.one_answer.ensures.one_fault;
       not_both_problem = c.one_answer.ensures.never_both;
+      one_forest = c.one_spelling.ensures.trees;
+      one_plan_fault = c.plan_or_fault.ensures.one_fault;
+      not_both_plan = c.plan_or_fault.ensures.not_both;
+      one_verdict = c.one_verdict.ensures;
     } in
     (given, due_answer one held failed words given answer d.cause is told (λ file. no_failure g.S.Shelf.fetched g.S.Shelf.faults c.args.shelf.now c.answer-found.new.shelf file no_rise), d.delivered)
 
@@ -248,6 +324,10 @@ returns-clause-determined g c answer is told no_rise no_out no_err =
       one_problem = c.one_answer.ensures.one_problem;
       one_problem_fault = c.one_answer.ensures.one_fault;
       not_both_problem = c.one_answer.ensures.never_both;
+      one_forest = c.one_spelling.ensures.trees;
+      one_plan_fault = c.plan_or_fault.ensures.one_fault;
+      not_both_plan = c.plan_or_fault.ensures.not_both;
+      one_verdict = c.one_verdict.ensures;
     } in
     due_status one held failed words before after out out' err err' status given answer d is told
     (λ file. no_failure g.S.Shelf.fetched g.S.Shelf.faults c.args.shelf.now c.answer-found.new.shelf file no_rise) no_out no_err
