@@ -28,6 +28,8 @@ const ONE_DARK: &str = "(define (problem o) (:domain eight)
   (:goal (and (a) (b) (c) (d) (e) (f) (g) (h))))
 ";
 
+const ALL_LIT: &str = "(define (problem o) (:domain eight) (:init (a)) (:goal (a)))\n";
+
 const PLAN: &str = "(plan table weak\n  (rule ((not (up))) (flip))\n)\n";
 
 const EIGHT_PLAN: &str = "(plan table weak
@@ -85,6 +87,10 @@ fn shelf(alloc: Global) -> Result<MemShelf, Fail> {
     shelf.add("nine-d", NINE.as_bytes())?;
     shelf.add("nine", LIT.as_bytes())?;
     shelf.add("left-out", LEFT_OUT.as_bytes())?;
+    shelf.add("plan", PLAN.as_bytes())?;
+    shelf.add("no-rules", b"(plan table weak)")?;
+    shelf.add("one-context", b"(plan automaton 1)")?;
+    shelf.add("all-lit", ALL_LIT.as_bytes())?;
     shelf.add("longest-d", &padded(alloc, COIN, MAX_BYTES)?)?;
     shelf.add("longest-up", &padded(alloc, UP, MAX_BYTES)?)?;
     shelf.add("too-long", &padded(alloc, UP, MAX_BYTES + 1)?)?;
