@@ -1,14 +1,8 @@
 -- Worked examples of the definitions that compute.
-use Rattle.std.proofs.Common.{◌≡◌, ℕ, ◌==◌, Bool, true, false, List, [], ◌∷◌, Some, None, refl}
-use Rattle.dd_nodes.specs.NodeList.{Values}
-use Rattle.dd_sets.specs.LiveSets.{LiveSets}
+use Rattle.std.proofs.Common.{◌≡◌, ◌==◌, true, false, [], ◌∷◌, Some, None, refl}
 use Rattle.encode_task.specs.Images.{assigned, entry_image, image}
-use Rattle.encode_task.specs.Slots.{Encoded, exec_slot, changed_slots, next_slot, owned_slots, is_among}
+use Rattle.encode_task.specs.Slots.{Encoded, next_slot}
 use Rattle.encode_task.specs.TaskSets.{first_values, set_of_states}
-
--- fluent 1 alone is true
-second : Values
-second f = f == 1
 
 state_of_values : first_values 2 (λ f. f == 1) ≡ false ∷ true ∷ []
 state_of_values = refl

@@ -10,7 +10,8 @@ use Rattle.task_core.specs.declared.literals.FluentId.{FluentId}
 use Rattle.task_core.specs.declared.tasks.Task.{Task}
 use Rattle.dd_sets.specs.LiveSets.{LiveSets, IsLive, AllLive, set_of, listed_set}
 use Rattle.dd_sets.specs.declared.slots.SetId.{SetId}
-use Rattle.encode_task.specs.Slots.{Encoded, exec_slot, outcome_slots, changed_slots, shared_slot, next_slot}
+use Rattle.encode_task.specs.Slots.{Encoded, exec_slot, outcome_slots, changed_slots}
+use Rattle.encode_task.specs.Slots.{shared_slot, next_slot}
 use Rattle.encode_task.specs.TaskSets.{initial_set, exec_set, after_values}
 
 -- a slot is live and holds this set
@@ -27,17 +28,21 @@ HoldsGoal sets None (Some goal) = ⊥
 
 -- the slots that are listed for an outcome are live; each listed fluent has the set where it is
 -- true after the outcome, and a fluent that is not listed keeps its value
-pub record HoldsOutcome (sets : LiveSets) (changed : List (FluentId × SetId)) (after : Values → Values) : Type 0 where
+pub record HoldsOutcome (sets : LiveSets) (changed : List (FluentId × SetId))
+    (after : Values → Values) : Type 0 where
   pub live : AllLive sets changed
-  pub listed : (f : ℕ) (slot : SetId) → listed_set changed f ≡ Some slot → Holds sets slot (λ values. after values f)
-  pub unlisted : (f : ℕ) → listed_set changed f ≡ None → (values : Values) → after values f ≡ values f
+  pub listed : (f : ℕ) (slot : SetId) → listed_set changed f ≡ Some slot
+      → Holds sets slot (λ values. after values f)
+  pub unlisted : (f : ℕ) → listed_set changed f ≡ None
+      → (values : Values) → after values f ≡ values f
 
 -- the sets can be used: they are over the fluents, the slots that are listed for an outcome are
 -- live, and each fluent has a slot for its next value under each outcome
 pub record IsReady (enc : Encoded) : Type 0 where
   pub vars : enc.sets.vars ≡ enc.fluents
   pub changed : (a o : ℕ) → AllLive enc.sets (changed_slots enc a o)
-  pub next : (a o f : ℕ) → a < length enc.actions → o < length (outcome_slots enc a) → f < enc.fluents → IsSome (next_slot enc a o f)
+  pub next : (a o f : ℕ) → a < length enc.actions → o < length (outcome_slots enc a)
+      → f < enc.fluents → IsSome (next_slot enc a o f)
 
 -- the sets are those of the task: each slot that is kept for a set is live and holds it
 pub record MadeOf (task : Task) (enc : Encoded) : Type 0 where
@@ -51,5 +56,7 @@ pub record MadeOf (task : Task) (enc : Encoded) : Type 0 where
   pub goal : HoldsGoal enc.sets enc.goal task.goal
   pub exec : (a : ℕ) → a < action_count task → Holds enc.sets (exec_slot enc a) (exec_set task a)
   -- the values after each outcome, and for each fluent that some outcome leaves alone its own value
-  pub next : (a o : ℕ) → a < action_count task → o < length (outcomes_at task a) → HoldsOutcome enc.sets (changed_slots enc a o) (after_values task a o)
-  pub shared : (f : ℕ) (slot : SetId) → shared_slot enc f ≡ Some slot → Holds enc.sets slot (variable f)
+  pub next : (a o : ℕ) → a < action_count task → o < length (outcomes_at task a)
+      → HoldsOutcome enc.sets (changed_slots enc a o) (after_values task a o)
+  pub shared : (f : ℕ) (slot : SetId) → shared_slot enc f ≡ Some slot
+      → Holds enc.sets slot (variable f)

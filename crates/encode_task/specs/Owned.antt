@@ -1,16 +1,15 @@
 -- Private: slots that a function takes over, and what it makes of them.
-use Rattle.std.specs.Prelude.{◌≡◌, ◌≢◌, ℕ, ◌+◌, ◌||◌, List, [], ◌∷◌, map, length, Result, Ok, Err}
+use Rattle.std.specs.Prelude.{◌≢◌, [], ◌∷◌, Result, Ok, Err}
 use Rattle.dd_nodes.specs.Subfunctions.{Function}
-use Rattle.dd_sets.specs.Calls.{KeepsSets}
-use Rattle.dd_sets.specs.Frames.{Slots, Owns}
-use Rattle.dd_sets.specs.LiveSets.{LiveSets, IsLive, is_live, live_count}
+use Rattle.dd_sets.specs.Frames.{Owns}
+use Rattle.dd_sets.specs.LiveSets.{LiveSets, IsLive}
 use Rattle.dd_sets.specs.declared.errors.SetErr.{SetErr}
 use Rattle.dd_sets.specs.declared.slots.SetId.{SetId}
-use Rattle.encode_task.specs.Slots.{is_among}
 
 -- a slot and what a call answered are the slots of a caller: the answer is one more slot, or a
 -- refusal, which is none
-abbrev pub OwnsBoth : LiveSets → LiveSets → SetId → Function → Result SetId SetErr → Function → Type 0
+abbrev pub OwnsBoth : LiveSets → LiveSets → SetId → Function → Result SetId SetErr → Function
+    → Type 0
 OwnsBoth before now a f (Ok b) g = Owns before now ((b.0, g) ∷ (a.0, f) ∷ [])
 OwnsBoth before now a f (Err e) g = Owns before now ((a.0, f) ∷ [])
 
@@ -18,9 +17,3 @@ OwnsBoth before now a f (Err e) g = Owns before now ((a.0, f) ∷ [])
 abbrev pub AreTwo : LiveSets → SetId → Result SetId SetErr → Type 0
 AreTwo now a (Ok b) = IsLive now a.0 × IsLive now b.0 × (b.0 ≢ a.0)
 AreTwo now a (Err e) = IsLive now a.0
-
--- each of these slots became live; every live slot stays live and keeps its set
-pub record Makes (before after : LiveSets) (slots : List SetId) : Type 0 where
-  pub kept : KeepsSets before after
-  pub live : (slot : ℕ) → is_live after slot ≡ (is_among slots slot || is_live before slot)
-  pub count : live_count after ≡ live_count before + length slots

@@ -4,4 +4,7 @@ use Rattle.encode_task.specs.declared.action_sets.ActionSets.{ActionSets}
 use Rattle.encode_task.specs.Slots.{ActionSlots}
 
 abbrev pub slots_of : ActionSets → ActionSlots
-slots_of action = record { exec = action.exec; outcomes = map (λ changed. changed.items) action.outcomes.items }
+slots_of action = record {
+  exec = action.exec;
+  outcomes = map (λ changed. changed.items) action.outcomes.items;
+}

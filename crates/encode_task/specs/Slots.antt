@@ -1,6 +1,5 @@
 -- What callers see of the sets of a task: the live sets, and which slot is kept for what.
-use Rattle.std.specs.Prelude.{◌≡◌, ℕ, ◌==◌, ◌||◌, Bool, List, [], ◌∷◌, ◌++◌, map, Option, Some, None, slice_get, slice_index_or, unwrap_or}
-use Rattle.std.specs.List.{filter_map, flat_map, list_any}
+use Rattle.std.specs.Prelude.{ℕ, List, [], Option, Some, None, slice_get, slice_index_or, unwrap_or}
 use Rattle.std.specs.Option.{option_map_or}
 use Rattle.task_core.specs.declared.literals.FluentId.{FluentId}
 use Rattle.dd_sets.specs.declared.slots.SetId.{SetId}
@@ -23,8 +22,8 @@ pub record Encoded : Type 0 where
   pub shared : List (Option SetId)
   pub actions : List ActionSlots
 
--- the outcomes of action a, and the fluents that one of them changes, each with the slot of its next
--- value
+-- the outcomes of action a, and the fluents that one of them changes, each with the slot of its
+-- next value
 abbrev pub outcomes_in : List ActionSlots → ℕ → List (List (FluentId × SetId))
 outcomes_in actions a = option_map_or (λ action. action.outcomes) (slice_get actions a) []
 
@@ -50,20 +49,3 @@ shared_slot enc f = slice_index_or enc.shared f None
 abbrev pub next_slot : Encoded → ℕ → ℕ → ℕ → Option SetId
 next_slot enc a o f =
     option_map_or (λ slot. Some slot) (listed_set (changed_slots enc a o) f) (shared_slot enc f)
-
--- the slots of an action, and all slots of the sets of a task
-abbrev pub slots_of_action : ActionSlots → List SetId
-slots_of_action action =
-    action.exec ∷ flat_map (λ changed. map (λ entry. entry.1) changed) action.outcomes
-
-abbrev pub slots_of_goal : Option SetId → List SetId
-slots_of_goal None = []
-slots_of_goal (Some slot) = slot ∷ []
-
-abbrev pub owned_slots : Encoded → List SetId
-owned_slots enc =
-    enc.initial ∷ slots_of_goal enc.goal ++ filter_map (λ slot. slot) enc.shared ++ flat_map slots_of_action enc.actions
-
--- whether a slot is one of a list
-abbrev pub is_among : List SetId → ℕ → Bool
-is_among slots slot = list_any (λ other. other.0 == slot) slots

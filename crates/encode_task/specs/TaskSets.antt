@@ -32,7 +32,8 @@ exec_set task a values =
 -- the values of the fluents after an outcome of action a
 abbrev pub after_values : Task → ℕ → ℕ → Values → Values
 after_values task a o values f =
-    option_map_or (λ outcome. after_value outcome values f) (slice_get (outcomes_at task a) o) (values f)
+    option_map_or (λ outcome. after_value outcome values f)
+    (slice_get (outcomes_at task a) o) (values f)
 
 -- where fluent f is true after an outcome of action a
 abbrev pub next_set : Task → ℕ → ℕ → ℕ → Function

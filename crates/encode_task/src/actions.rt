@@ -1,5 +1,18 @@
 //! The slots of actions and of their outcomes.
-ghost use Rattle.std.specs.Prelude.{◌≡◌, ℕ, ◌+◌, ◌*◌, ◌<◌, ◌≤◌, true, length, map, IfOk, OnOk, IsErrOf};
+ghost use Rattle.std.specs.Prelude.{
+  ◌≡◌,
+  ℕ,
+  ◌+◌,
+  ◌*◌,
+  ◌<◌,
+  ◌≤◌,
+  true,
+  length,
+  map,
+  IfOk,
+  OnOk,
+  IsErrOf,
+};
 ghost use Rattle.std.specs.List.{list_all};
 ghost use Rattle.dd_sets.specs.Calls.{KeepsSets};
 ghost use Rattle.dd_sets.specs.LiveSets.{live_count};
@@ -7,7 +20,14 @@ ghost use Rattle.dd_sets.specs.Rooms.{IsTightFor};
 ghost use Rattle.task_core.specs.Actions.{action_is_shallow, action_within, outcome_within};
 ghost use Rattle.encode_task.specs.Names.{has_outcomes_within, outcome_is_shallow};
 ghost use Rattle.encode_task.specs.Seen.{slots_of};
-ghost use Rattle.encode_task.specs.Tables.{ActionMade, AllPaired, IsDone, IsShared, OutcomeMade, SharesMore};
+ghost use Rattle.encode_task.specs.Tables.{
+  ActionMade,
+  AllPaired,
+  IsDone,
+  IsShared,
+  OutcomeMade,
+  SharesMore,
+};
 
 use crate::action_sets::ActionSets;
 use crate::conditions::set_where;
@@ -143,8 +163,8 @@ fn encode_outcome(
     Ok(changed)
 }
 
-/// The next value of a fluent, if the outcome changes it; else the fluent's shared slot, if there is
-/// none yet.
+/// The next value of a fluent, if the outcome changes it; else the fluent's shared slot, if there
+/// is none yet.
 fn encode_fluent(
     sets: &mut Sets,
     shared: &mut Shared,

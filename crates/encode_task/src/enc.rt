@@ -1,5 +1,21 @@
 //! A task in sets.
-ghost use Rattle.std.specs.Prelude.{◌≡◌, ℕ, ◌+◌, ◌<◌, ◌≤◌, Some, None, true, length, map, slice_index_or, IfOk, OnOk, OnErr, IsErrOf};
+ghost use Rattle.std.specs.Prelude.{
+  ◌≡◌,
+  ℕ,
+  ◌+◌,
+  ◌<◌,
+  ◌≤◌,
+  Some,
+  None,
+  true,
+  length,
+  map,
+  slice_index_or,
+  IfOk,
+  OnOk,
+  OnErr,
+  IsErrOf,
+};
 ghost use Rattle.std.specs.Borrow.{Lends, sem};
 ghost use Rattle.dd_sets.specs.Calls.{KeepsSets, Adds, AddsNone};
 ghost use Rattle.dd_sets.specs.LiveSets.{IsLive, set_of, live_count};
@@ -31,7 +47,8 @@ use task_core::{ActionId, Cond, FluentId, Task};
 /// initial states, for the goal, for each action where it can be executed, and for each outcome the
 /// fluents that it changes with the sets of their next values. Fluents that an outcome leaves alone
 /// share one slot each. That these are the sets of a task is the relation `MadeOf`: `encode` gives
-/// it, each call here keeps it, and so does each call on the sets that releases none of these slots.
+/// it, each call here keeps it, and so does each call on the sets that releases none of these
+/// slots.
 #[derive(Drop)]
 pub struct Enc {
     sets: Sets,
@@ -61,9 +78,10 @@ impl Model for Enc {
 
 /// The sets of a task, in a table for at most `limit` nodes.
 ///
-/// No list of states is made: the initial states are found as sets, entry by entry. An outcome takes
-/// a slot for each fluent that it changes; a fluent that some outcome leaves alone has one more slot,
-/// which all such outcomes share.
+/// No list of states is made: the initial states are found as sets, entry by entry. An outcome
+/// takes a slot for each fluent that it changes; a fluent that some outcome leaves alone has one
+/// more slot, which all such outcomes share. Apart from a look at each fluent's name in each
+/// outcome, the time grows with the fluents that are changed.
 pub fn encode(alloc: Global, task: &Task, limit: u32) -> Result<Enc, SetErr>
     requires some_room { 0 < limit }
     requires small_limit { limit ≤ 16777216 }

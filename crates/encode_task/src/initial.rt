@@ -8,7 +8,14 @@ ghost use Rattle.dd_sets.specs.Rooms.{IsTightFor};
 ghost use Rattle.task_core.specs.Initial.{entry_of, lit_within};
 ghost use Rattle.task_core.specs.States.{vector};
 ghost use Rattle.task_core.specs.Tasks.{fluent_count};
-ghost use Rattle.encode_task.specs.Images.{has_value, assigned, assigned_literal, assigned_signed, image, entry_image};
+ghost use Rattle.encode_task.specs.Images.{
+  has_value,
+  assigned,
+  assigned_literal,
+  assigned_signed,
+  image,
+  entry_image,
+};
 ghost use Rattle.encode_task.specs.TaskSets.{initial_set, set_of_states};
 
 use crate::conditions::in_some;
@@ -75,8 +82,8 @@ fn for_some_value(sets: &mut Sets, a: SetId, f: FluentId) -> Result<SetId, SetEr
     requires live { IsLive sets.old a.0 }
     requires fluent { f.0 < sets.old.vars }
     ensures answer { OwnsAnswer sets.old sets.new
-        (or_of (cofactor_of (set_of sets.old a.0) f.0 false) (cofactor_of (set_of sets.old a.0) f.0 true))
-        result }
+        (or_of (cofactor_of (set_of sets.old a.0) f.0 false)
+        (cofactor_of (set_of sets.old a.0) f.0 true)) result }
     ensures full { IsErrOf result SetErr.Full → IsTightFor 2 sets.old }
 {
     let low = sets.cofactor(a, f, false)?;
@@ -88,7 +95,8 @@ fn for_some_value(sets: &mut Sets, a: SetId, f: FluentId) -> Result<SetId, SetEr
 fn value_assigned(sets: &mut Sets, a: SetId, f: FluentId, value: bool) -> Result<SetId, SetErr>
     requires live { IsLive sets.old a.0 }
     requires fluent { f.0 < sets.old.vars }
-    ensures answer { OwnsAnswer sets.old sets.new (assigned f.0 value (set_of sets.old a.0)) result }
+    ensures answer { OwnsAnswer sets.old sets.new
+        (assigned f.0 value (set_of sets.old a.0)) result }
     ensures full { IsErrOf result SetErr.Full → IsTightFor 2 sets.old }
 {
     let free = for_some_value(sets, a, f)?;

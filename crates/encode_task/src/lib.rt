@@ -2,8 +2,8 @@
 //! initial states and the goal, each in a slot of one table of diagrams.
 //!
 //! This is the symbolic representation of Cimatti, Pistore, Roveri and Traverso, "Weak, strong, and
-//! strong cyclic planning via symbolic model checking" (Artificial Intelligence 147, 2003), with one
-//! set for each fluent's next value under each outcome in place of a transition relation.
+//! strong cyclic planning via symbolic model checking" (Artificial Intelligence 147, 2003), with
+//! one set for each fluent's next value under each outcome in place of a transition relation.
 #![tactic(auto)]
 
 mod action_sets;
@@ -14,6 +14,8 @@ mod initial;
 mod laws;
 mod outcomes;
 mod slots;
+#[cfg(test)]
+mod tests;
 
 pub use enc::{Enc, encode};
 pub use laws::made_is_kept;
