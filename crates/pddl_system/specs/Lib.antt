@@ -1,6 +1,7 @@
 pub mod Fluents
 pub mod GroundAtoms
 pub mod Instances
+pub mod Laws
 pub mod Objects
 pub mod Outcomes
 pub mod Settings

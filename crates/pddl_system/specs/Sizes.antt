@@ -1,5 +1,5 @@
 -- How much grounding has to do, as numbers that are counted before anything is built, and their limits.
-use Rattle.std.specs.Prelude.{ℕ, ◌+◌, ◌*◌, Bool, ◌&&◌, not, nat_le, List, [], ◌∷◌, map, length, Option}
+use Rattle.std.specs.Prelude.{ℕ, ◌+◌, ◌*◌, ◌^◌, Bool, ◌&&◌, not, nat_le, List, [], ◌∷◌, map, length, Option}
 use Rattle.std.specs.List.{find, list_all, sum}
 use Rattle.std.specs.Option.{option_map_or}
 use Rattle.pddl_ast.specs.Trees.{FormulaTree, FormulaTrees, atom, equal, all, any, negation, implication, exists, forall, no_formula, formula_then, EffectTree, EffectTrees, add, delete, both, one_of, only_when, each, no_effect, effect_then, SchemaTree, DomainTree, ProblemTree}
@@ -49,6 +49,28 @@ abbrev mutual
   pub effects_size : (ℕ → List ℕ) → EffectTrees → ℕ
   effects_size objects no_effect = 0
   effects_size objects (effect_then e es) = effect_size objects e + effects_size objects es
+
+-- how many outcomes an effect has: effects that happen together multiply, a choice adds, and an effect for
+-- all objects is to the power of the number of bindings. Conditions don't matter, so the objects that the
+-- variables in scope stand for don't either
+abbrev mutual
+  pub outcome_count : (ℕ → List ℕ) → EffectTree → ℕ
+  outcome_count objects (add predicate terms) = 1
+  outcome_count objects (delete predicate terms) = 1
+  outcome_count objects (both parts) = product_of_counts objects parts
+  outcome_count objects (one_of parts) = sum_of_counts objects parts
+  outcome_count objects (only_when condition part) = outcome_count objects part
+  outcome_count objects (each types part) =
+      outcome_count objects part ^ binding_count objects types
+
+  pub product_of_counts : (ℕ → List ℕ) → EffectTrees → ℕ
+  product_of_counts objects no_effect = 1
+  product_of_counts objects (effect_then e es) =
+      outcome_count objects e * product_of_counts objects es
+
+  pub sum_of_counts : (ℕ → List ℕ) → EffectTrees → ℕ
+  sum_of_counts objects no_effect = 0
+  sum_of_counts objects (effect_then e es) = outcome_count objects e + sum_of_counts objects es
 
 abbrev pub schema_size : (ℕ → List ℕ) → SchemaTree → ℕ
 schema_size objects s = formula_size objects s.precondition + effect_size objects s.effect
