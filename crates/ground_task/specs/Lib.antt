@@ -1,1 +1,3 @@
+pub mod Built
+pub mod Capped
 pub mod Limits

@@ -3,6 +3,13 @@
 //! What the trees mean, the limits included, stands in `pddl_system`.
 #![tactic(auto)]
 
+mod conditions;
+mod copies;
+mod counts;
+mod fluents;
 mod grounding;
+mod guards;
+mod outcomes;
+mod products;
 
 pub use grounding::{GroundErr, Grounded, ground};
