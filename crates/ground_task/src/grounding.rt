@@ -3,6 +3,7 @@
 ghost use Rattle.ground_task.specs.Limits.{limit_of};
 ghost use Rattle.pddl_ast.specs.Fits.{FitsDomain, FitsProblem};
 ghost use Rattle.pddl_ast.specs.Values.{domain_value, problem_value};
+ghost use Rattle.pddl_system.specs.Names.{NamesAreWords};
 ghost use Rattle.pddl_system.specs.Sizes.{first_passed};
 ghost use Rattle.pddl_system.specs.Systems.{system};
 ghost use Rattle.pddl_system.specs.Tasks.{task_of};

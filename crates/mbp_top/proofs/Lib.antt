@@ -1,7 +1,12 @@
 pub mod Deciding
+pub mod PddlDecides
 pub mod PlanDecides
+pub mod GroundDecides
+pub mod PlanWritten
+pub mod GroundWritten
 pub mod ByCommand
 pub mod Statuses
+pub mod Listings
 pub mod PlanAnswers
 pub mod Later
 pub mod Refusals

@@ -1,12 +1,17 @@
 -- The answers of the program, each with its status and its text.
-use Rattle.std.specs.Prelude.{ℕ, Bool, true, false, ◌++◌, codes}
+use Rattle.std.specs.Prelude.{ℕ, Bool, true, false, [], ◌++◌, codes, decimal}
+use Rattle.std.specs.Option.{option_map_or}
 use Rattle.plan_rules.specs.Texts.{line_feed}
+use Rattle.sexpr_text.specs.Kinds.{code_of, name_of, word_of}
+use Rattle.sexpr_text.specs.declared.faults.InputFault.{InputFault}
 use Rattle.mbp_top.specs.Words.{Bytes}
 
 -- why a command, or what is no command, is refused
 pub data Refusal : Type 0 where
   -- the words are none of the commands
   no_command : Refusal
+  -- the text of the file of this name has this fault
+  text_fault : Bytes → InputFault → Refusal
   -- the limit of this name is passed
   over_limit : Bytes → Refusal
   -- the file of this name can't be read
@@ -23,6 +28,7 @@ pub data Answer : Type 0 where
 
 abbrev pub status_of_refusal : Refusal → ℕ
 status_of_refusal no_command = 2
+status_of_refusal (text_fault file fault) = 3
 status_of_refusal (over_limit name) = 4
 status_of_refusal (read_fault file) = 6
 status_of_refusal no_memory = 8
@@ -38,9 +44,17 @@ status_of (affirmed text) = 0
 status_of (denied text) = 1
 status_of (refused refusal) = status_of_refusal refusal
 
+-- the line of a fault, as slip-d:1:20: 13 LeftOut :functions; the word stands where the kind has one
+abbrev pub fault_line : Bytes → InputFault → Bytes
+fault_line file fault =
+    file ++ codes ":" ++ decimal fault.place.line ++ codes ":" ++ decimal fault.place.column
+    ++ codes ": " ++ decimal (code_of fault.kind) ++ codes " " ++ name_of fault.kind
+    ++ option_map_or (λ word. codes " " ++ word) (word_of fault.kind) []
+
 -- the one line of a refusal, without its end
 abbrev pub line_of : Refusal → Bytes
 line_of no_command = codes "mbp: the words are none of the command forms"
+line_of (text_fault file fault) = fault_line file fault
 line_of (over_limit name) = codes "limit " ++ name
 line_of (read_fault file) = codes "read fault " ++ file
 line_of no_memory = codes "no memory"

@@ -2,13 +2,15 @@
 -- command's, or want of memory, which has no further cause. `held` and `failed` are as in Reading.
 use Rattle.std.specs.Prelude.{◌≡◌, ℕ, ◌⊎◌, ⊤, List}
 use Rattle.plan_io.specs.Held.{Held}
-use Rattle.mbp_top.specs.Answers.{Answer, affirmed, denied, refused, Refusal, no_command, over_limit, read_fault, no_memory, not_built}
+use Rattle.mbp_top.specs.Answers.{Answer, affirmed, denied, refused, Refusal, no_command, text_fault, over_limit, read_fault, no_memory, not_built}
+use Rattle.mbp_top.specs.GroundCommand.{IsGroundAnswer}
 use Rattle.mbp_top.specs.PlanCommand.{IsPlanAnswer}
-use Rattle.mbp_top.specs.Words.{Bytes, Command, plan, Says, SayNothing}
+use Rattle.mbp_top.specs.Words.{Bytes, Command, plan, ground, Says, SayNothing}
 
 -- the answer of a command
 abbrev pub IsAnswerOf : (Bytes → Held) → (Bytes → Type 0) → Command → Answer → Type 0
 IsAnswerOf held failed (plan asked) = IsPlanAnswer held failed asked
+IsAnswerOf held failed (ground asked) = IsGroundAnswer held failed asked
 
 abbrev pub HasCause : (Bytes → Held) → (Bytes → Type 0) → List Bytes → Answer → Type 0
 HasCause held failed words answer =
@@ -20,6 +22,7 @@ HasCause held failed words answer =
 -- want of memory
 abbrev pub IsFault : Refusal → Type 0
 IsFault no_command = ⊥
+IsFault (text_fault file fault) = ⊥
 IsFault (over_limit name) = ⊥
 IsFault (read_fault file) = ⊤
 IsFault no_memory = ⊤

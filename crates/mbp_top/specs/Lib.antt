@@ -1,7 +1,9 @@
 pub mod Words
 pub mod Answers
 pub mod Reading
-pub mod SmallTexts
+pub mod PddlTexts
+pub mod Grounding
+pub mod GroundCommand
 pub mod PlanCommand
 pub mod Causes
 pub mod Told

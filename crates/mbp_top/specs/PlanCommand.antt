@@ -1,6 +1,9 @@
 -- The command `plan`: when a text is a plan that solves a system, which text is printed, and the
 -- answer of the command. The names are those of the system's fluents and actions, by their numbers.
-use Rattle.std.specs.Prelude.{◌≡◌, ℕ, ◌⊎◌, List, ◌++◌, codes}
+use Rattle.std.specs.Prelude.{◌≡◌, ℕ, ◌<◌, ◌≤◌, ◌⊎◌, List, ◌++◌, codes, length}
+use Rattle.pddl_ast.specs.Trees.{DomainTree, ProblemTree}
+use Rattle.pddl_system.specs.Fluents.{fluents}
+use Rattle.pddl_system.specs.Systems.{system, fluent_names, action_names}
 use Rattle.plan_io.specs.Held.{Held}
 use Rattle.plan_rules.specs.Denoted.{denoted, IsExecutable}
 use Rattle.plan_rules.specs.Readings.{SpellsTable}
@@ -10,14 +13,12 @@ use Rattle.task_core.specs.Names.{Name}
 use Rattle.task_core.specs.declared.classes.Class.{Class}
 use Rattle.reach_plan.specs.Layers.{IsLastLayer}
 use Rattle.reach_plan.specs.Printed.{printed_rules}
-use Rattle.small_pddl.specs.Meaning.{system, fluent_names, action_names}
-use Rattle.small_pddl.specs.Spelled.{SpellsDomain}
 use Rattle.task_core.specs.Solutions.{HasNoSolution, IsSolution}
 use Rattle.task_core.specs.Systems.{System}
 use Rattle.task_core.specs.Tables.{IsTable}
-use Rattle.mbp_top.specs.Answers.{Answer, affirmed, denied}
-use Rattle.mbp_top.specs.Reading.{ReadThen}
-use Rattle.mbp_top.specs.SmallTexts.{SpellsProblemOf, IsNoDomain, IsNoProblem}
+use Rattle.mbp_top.specs.Answers.{Answer, affirmed, denied, refused, not_built}
+use Rattle.mbp_top.specs.Grounding.{GoalThen, GroundThen}
+use Rattle.mbp_top.specs.PddlTexts.{ReadBoth}
 use Rattle.mbp_top.specs.Words.{Bytes, PlanWords}
 
 -- read as a form, the text spells rules that denote a solution of the class, and none of them
@@ -60,10 +61,27 @@ abbrev pub IsPlanResult : Class → System → List Name → List Name → Answe
 IsPlanResult class sys fluents actions answer =
     IsPlanFound class sys fluents actions answer ⊎ IsPlanMissing class sys answer
 
--- the answer of the command: the domain is read, and then the problem, and then a plan is looked
--- for
+-- how many fluents a task may have of which a plan is looked for, so far
+abbrev pub most_planned : ℕ
+most_planned = 8
+
+-- the problem in the file of this name has more fluents than may be so far, which is refused; or the
+-- answer is for its system
+abbrev pub PlanThen : PlanWords → DomainTree → ProblemTree → Answer → Type 0
+PlanThen asked domain problem answer =
+    ((most_planned < length (fluents domain problem))
+    × (answer ≡ refused (not_built asked.problem)))
+    ⊎ ((length (fluents domain problem) ≤ most_planned)
+    × IsPlanResult asked.class (system domain problem) (fluent_names domain problem)
+    (action_names domain problem) answer)
+
+-- what follows once both are read: the goal is of the kind that is wanted, the limits are kept, and a plan
+-- is looked for
+abbrev pub IsPlanned : PlanWords → DomainTree → ProblemTree → Answer → Type 0
+IsPlanned asked domain problem =
+    GoalThen asked.problem problem (GroundThen domain problem (PlanThen asked domain problem))
+
+-- the answer of the command
 abbrev pub IsPlanAnswer : (Bytes → Held) → (Bytes → Type 0) → PlanWords → Answer → Type 0
 IsPlanAnswer held failed asked =
-    ReadThen held failed asked.domain SpellsDomain IsNoDomain (λ domain.
-    ReadThen held failed asked.problem (SpellsProblemOf domain) (IsNoProblem domain) (λ problem.
-    IsPlanResult asked.class (system domain problem) (fluent_names domain) (action_names domain)))
+    ReadBoth held failed asked.domain asked.problem (IsPlanned asked)

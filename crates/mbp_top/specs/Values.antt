@@ -1,18 +1,23 @@
 -- Private: the answers and commands that the code's own types stand for.
 use Rattle.std.specs.Prelude.{ℕ, List, Result, Ok, Err, string_bytes, codes}
-use Rattle.mbp_top.specs.Answers.{Answer, affirmed, denied, refused, Refusal, no_command, over_limit, read_fault, no_memory, not_built}
-use Rattle.mbp_top.specs.Words.{Bytes, PlanWords, plan, Says, SayNothing}
+use Rattle.mbp_top.specs.Answers.{Answer, affirmed, denied, refused, Refusal, no_command, text_fault, over_limit, read_fault, no_memory, not_built}
+use Rattle.pddl_system.specs.Sizes.{object_limit, size_limit, instance_limit, action_limit, outcome_limit, fluent_limit}
+use Rattle.mbp_top.specs.Grounding.{limit_name}
+use Rattle.mbp_top.specs.Words.{Bytes, PlanWords, GroundWords, plan, ground, Says, SayNothing}
+use Rattle.sexpr_text.specs.declared.faults.ReadErr.{ReadErr}
+use Rattle.sexpr_text.specs.declared.faults.ReadErr.TheVariants.{Fault, Memory}
 use Rattle.mbp_top.specs.declared.answers.Limit.{Limit}
-use Rattle.mbp_top.specs.declared.answers.Limit.TheVariants.{File}
+use Rattle.mbp_top.specs.declared.answers.Limit.TheVariants.{File, Objects, Size, Instances, Actions, Outcomes, Fluents}
 use Rattle.mbp_top.specs.declared.answers.Refusal.{Refusal as CodeRefusal}
-use Rattle.mbp_top.specs.declared.answers.Refusal.TheVariants.{NoCommand, OverLimit, ReadFault, NoMemory, NotBuilt}
+use Rattle.mbp_top.specs.declared.answers.Refusal.TheVariants.{NoCommand, TextFault, OverLimit, ReadFault, NoMemory, NotBuilt}
 use Rattle.mbp_top.specs.declared.answers.Shown.{Shown}
 use Rattle.mbp_top.specs.declared.answers.Shown.TheVariants.{Affirmed, Denied}
 use Rattle.mbp_top.specs.declared.answers.Text.{Text}
 use Rattle.mbp_top.specs.declared.answers.Text.TheVariants.{Fixed, Made}
 use Rattle.mbp_top.specs.declared.words.Command.{Command as CodeCommand}
-use Rattle.mbp_top.specs.declared.words.Command.TheVariants.{Plan, Nothing}
+use Rattle.mbp_top.specs.declared.words.Command.TheVariants.{Plan, Ground, Nothing}
 use Rattle.mbp_top.specs.declared.words.PlanWords.{PlanWords as CodePlanWords}
+use Rattle.mbp_top.specs.declared.words.GroundWords.{GroundWords as CodeGroundWords}
 
 abbrev pub bytes_of : Text → List ℕ
 bytes_of (Fixed text) = text.now
@@ -20,9 +25,16 @@ bytes_of (Made bytes) = bytes.items
 
 abbrev pub limit_of : Limit → Bytes
 limit_of File = codes "file"
+limit_of Objects = limit_name object_limit
+limit_of Size = limit_name size_limit
+limit_of Instances = limit_name instance_limit
+limit_of Actions = limit_name action_limit
+limit_of Outcomes = limit_name outcome_limit
+limit_of Fluents = limit_name fluent_limit
 
 abbrev pub refusal_of : CodeRefusal → Refusal
 refusal_of NoCommand = no_command
+refusal_of (TextFault file fault) = text_fault (string_bytes file) fault
 refusal_of (OverLimit limit) = over_limit (limit_of limit)
 refusal_of (ReadFault file) = read_fault (string_bytes file)
 refusal_of NoMemory = no_memory
@@ -40,7 +52,16 @@ abbrev pub plan_words_of : CodePlanWords → PlanWords
 plan_words_of words =
     record { class = words.class; domain = words.domain.now; problem = words.problem.now }
 
+abbrev pub ground_words_of : CodeGroundWords → GroundWords
+ground_words_of words = record { domain = words.domain.now; problem = words.problem.now }
+
 -- the words say the command
 abbrev pub IsSaid : List Bytes → CodeCommand → Type 0
 IsSaid words (Plan asked) = Says words (plan (plan_words_of asked))
+IsSaid words (Ground asked) = Says words (ground (ground_words_of asked))
 IsSaid words Nothing = SayNothing words
+
+-- the refusal of the file of this name for what was wrong in reading it
+abbrev pub refusal_for : Bytes → ReadErr → Refusal
+refusal_for name (Fault fault) = text_fault name fault
+refusal_for name Memory = no_memory

@@ -15,24 +15,35 @@ pub record PlanWords : Type 0 where
   pub domain : Bytes
   pub problem : Bytes
 
+-- what `ground` is asked: a listing of the domain and the problem in the files of these names
+pub record GroundWords : Type 0 where
+  pub domain : Bytes
+  pub problem : Bytes
+
 pub data Command : Type 0 where
   plan : PlanWords → Command
+  ground : GroundWords → Command
 
 -- the classes of which plans are looked for, so far
-abbrev pub IsPlanned : Class → Type 0
-IsPlanned Weak = ⊤
-IsPlanned Strong = ⊥
-IsPlanned Cyclic = ⊥
+abbrev pub IsPlannedClass : Class → Type 0
+IsPlannedClass Weak = ⊤
+IsPlannedClass Strong = ⊥
+IsPlannedClass Cyclic = ⊥
 
 -- `plan CLASS DOMAIN PROBLEM`
 pub record SaysPlan (words : List Bytes) (asked : PlanWords) : Type 0 where
-  pub planned : IsPlanned asked.class
+  pub planned : IsPlannedClass asked.class
   pub written : words ≡ codes "plan" ∷ class_word asked.class ∷ asked.domain ∷ asked.problem ∷ []
+
+-- `ground DOMAIN PROBLEM`
+abbrev pub SaysGround : List Bytes → GroundWords → Type 0
+SaysGround words asked = words ≡ codes "ground" ∷ asked.domain ∷ asked.problem ∷ []
 
 -- the words say the command. Fixed words are compared exactly, with case, and names may be any
 -- words
 abbrev pub Says : List Bytes → Command → Type 0
 Says words (plan asked) = SaysPlan words asked
+Says words (ground asked) = SaysGround words asked
 
 -- the words say no command
 abbrev pub SayNothing : List Bytes → Type 0
@@ -41,3 +52,4 @@ SayNothing words = (command : Command) → Says words command → ⊥
 -- the files that a command names, in the order in which it reads them
 abbrev pub files_of : Command → List Bytes
 files_of (plan asked) = asked.domain ∷ asked.problem ∷ []
+files_of (ground asked) = asked.domain ∷ asked.problem ∷ []

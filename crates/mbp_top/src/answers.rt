@@ -1,6 +1,7 @@
 //! Answers: what a command shows, or a refusal; each with its exit status and its text.
 
 ghost use Rattle.mbp_top.specs.Answers.{
+  fault_line as fault_text,
   line_of,
   no_command,
   no_memory,
@@ -12,6 +13,7 @@ ghost use Rattle.mbp_top.specs.Values.{bytes_of, limit_of, refusal_of, shown_of}
 ghost use Rattle.plan_rules.specs.Texts.{line_feed};
 ghost use Rattle.std.specs.Prelude.{◌≡◌, ◌++◌, IfOk, IsOk};
 
+use sexpr_text::{InputFault, Place};
 use std::alloc::{AllocError, Global};
 
 /// The exit status where there is not enough memory.
@@ -76,6 +78,17 @@ impl Shown {
 pub(crate) enum Limit {
     /// The bytes of a file.
     File,
+    /// Constants and objects.
+    Objects,
+    /// The expanded size of an action or of the goal.
+    Size,
+    /// Instances of actions, kept or not.
+    Instances,
+    /// Kept instances of actions.
+    Actions,
+    /// Outcomes of a kept instance.
+    Outcomes,
+    Fluents,
 }
 
 impl Limit {
@@ -84,6 +97,12 @@ impl Limit {
     {
         match self {
             Limit::File => "file",
+            Limit::Objects => "objects",
+            Limit::Size => "size",
+            Limit::Instances => "instances",
+            Limit::Actions => "actions",
+            Limit::Outcomes => "outcomes",
+            Limit::Fluents => "fluents",
         }
     }
 }
@@ -93,6 +112,8 @@ impl Limit {
 pub(crate) enum Refusal {
     /// The words are none of the commands.
     NoCommand,
+    /// The text of the file of this name has this fault.
+    TextFault(String, InputFault),
     /// This limit is passed.
     OverLimit(Limit),
     /// The file of this name can't be read.
@@ -119,6 +140,7 @@ impl Refusal {
     {
         match self {
             Refusal::NoCommand => 2,
+            Refusal::TextFault(..) => 3,
             Refusal::OverLimit(_) => 4,
             Refusal::ReadFault(_) => 6,
             Refusal::NoMemory => NO_MEMORY,
@@ -134,6 +156,7 @@ impl Refusal {
     {
         Ok(match self {
             Refusal::NoCommand => Text::Fixed("mbp: the words are none of the command forms\n"),
+            Refusal::TextFault(file, fault) => Text::Made(fault_line(alloc, file, fault)?),
             Refusal::OverLimit(limit) => {
                 let name = limit.name();
                 Text::Made(format!(in alloc; "limit {name}\n")?.into_bytes())
@@ -147,4 +170,21 @@ impl Refusal {
             }
         })
     }
+}
+
+/// The line of a fault, with its end: the file, the line and the column of its place, its number,
+/// its name and, where its kind has one, its word.
+fn fault_line(alloc: Global, file: &str, fault: &InputFault) -> Result<Vec<u8>, AllocError>
+    ensures { IfOk result (λ line. line.items ≡ fault_text file.now fault.now ++ line_feed) }
+{
+    let Place { line, column } = fault.place;
+    let code = fault.kind.code();
+    let name = fault.kind.name();
+    let mut text = format!(in alloc; "{file}:{line}:{column}: {code} {name}")?.into_bytes();
+    if let Some(word) = fault.kind.word() {
+        text.push(b' ')?;
+        text.extend_from_slice(word.as_bytes())?;
+    }
+    text.push(b'\n')?;
+    Ok(text)
 }

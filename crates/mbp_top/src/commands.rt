@@ -7,6 +7,7 @@ ghost use Rattle.plan_io.specs.Fetches.{FailedLast, FetchesFirst};
 ghost use Rattle.std.specs.Prelude.{◌≡◌, ◌≤◌, List, map, string_bytes, ℕ};
 
 use crate::answers::{Refusal, Shown};
+use crate::ground_command::ground_files;
 use crate::plan_command::plan_files;
 use crate::words::{Command, read_words};
 use plan_io::Shelf;
@@ -29,6 +30,7 @@ pub(crate) fn answer<S: Shelf>(
 {
     match read_words(words) {
         Command::Plan(asked) => plan_files(alloc, shelf, &asked),
+        Command::Ground(asked) => ground_files(alloc, shelf, &asked),
         Command::Nothing => Err(Refusal::NoCommand),
     }
 }

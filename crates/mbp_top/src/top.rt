@@ -3,22 +3,32 @@
 ghost use Rattle.mbp_top.specs.Answers.{Answer, status_of};
 ghost use Rattle.mbp_top.specs.Causes.{HasCause, IsQuietAt};
 ghost use Rattle.mbp_top.specs.Delivery.{IsCut, IsDelivered, IsWhole, seen};
-ghost use Rattle.mbp_top.specs.PlanCommand.{IsPrintedText, IsSolvingText, no_plan_text};
-ghost use Rattle.mbp_top.specs.SmallTexts.{HoldBoth};
+ghost use Rattle.mbp_top.specs.GroundCommand.{listing_of};
+ghost use Rattle.mbp_top.specs.PlanCommand.{
+  IsPrintedText,
+  IsSolvingText,
+  most_planned,
+  no_plan_text,
+};
+ghost use Rattle.mbp_top.specs.PddlTexts.{HoldBoth};
 ghost use Rattle.mbp_top.specs.Told.{AreFilesTold, IsDue, NoFault};
 ghost use Rattle.mbp_top.specs.Words.{
   Bytes,
   Command,
+  GroundWords,
   PlanWords,
   SayNothing,
   Says,
+  SaysGround,
   SaysPlan,
   files_of,
 };
 ghost use Rattle.mbp_top.specs.Answers as answers;
+ghost use Rattle.pddl_ast.specs.Trees.{DomainTree, ProblemTree};
+ghost use Rattle.pddl_system.specs.Fluents.{fluents};
+ghost use Rattle.pddl_system.specs.Sizes.{first_passed};
+ghost use Rattle.pddl_system.specs.Systems.{action_names, fluent_names, system};
 ghost use Rattle.plan_io.specs.Fetches.{FailedLast, FetchesFirst};
-ghost use Rattle.small_pddl.specs.Meaning.{action_names, fluent_names, system};
-ghost use Rattle.small_pddl.specs.Trees.{Domain, Problem};
 ghost use Rattle.task_core.specs.Solutions.{HasNoSolution};
 ghost use Rattle.std.specs.Io.KnownBytes.{append_known};
 ghost use Rattle.std.specs.Prelude.{
@@ -29,7 +39,10 @@ ghost use Rattle.std.specs.Prelude.{
   [],
   ◌∷◌,
   Contains,
+  IsSome,
   List,
+  None,
+  length,
   map,
   string_bytes,
   ℕ,
@@ -38,23 +51,27 @@ ghost use Rattle.std.specs.Prelude.{
 use crate::commands::answer;
 use crate::delivery::deliver;
 use plan_io::{Shelf, Sink};
-use small_pddl::{one_domain, one_problem};
+use pddl_domain::domain_or_fault;
+use pddl_problem::one_answer;
 use std::alloc::Global;
 
 /// Does what the command words say, and gives the exit status.
 ///
-/// The words after the program's name are one command: `plan weak DOMAIN PROBLEM`, where DOMAIN and
-/// PROBLEM are names of files on the shelf. The text of a plan, or `no plan`, goes to `out`; every
-/// other answer is one line on `err`. The statuses:
+/// The words after the program's name are one command, where DOMAIN and PROBLEM are names of files
+/// on the shelf: `plan weak DOMAIN PROBLEM`, or `ground DOMAIN PROBLEM`. The text of a plan, `no
+/// plan`, or the listing of the fluents and actions goes to `out`; every other answer is one line
+/// on `err`. The statuses:
 ///
-/// - 0: a weak plan is on `out` (weak: from each initial state it may reach the goal);
+/// - 0: a weak plan is on `out` (weak: from each initial state it may reach the goal), or the
+///   listing;
 /// - 1: there is no weak plan;
 /// - 2: the words are no command;
-/// - 4: a limit is passed: a file is longer than 1,048,576 bytes;
+/// - 3: a file spells no domain, or no problem of it, with the place of its fault;
+/// - 4: a limit is passed: a file is longer than 1,048,576 bytes, or there is too much to ground;
 /// - 6: a file can't be read;
 /// - 7: the answer can't be written, and only a part of it is on `out` or `err`;
 /// - 8: there is not enough memory;
-/// - 10: a file spells no small domain or problem, the only ones that are taken so far.
+/// - 10: the problem has more fluents than plans are looked for so far.
 ///
 /// The clauses speak of what the shelf tells of its files (`held`) and of their fetches
 /// (`fetched`), of what the sinks tell that was written to them (`written`), and of their counts of
@@ -73,7 +90,7 @@ pub fn run<S: Shelf, O: Sink, E: Sink>(
         (seen (O.written out.old) (O.faults out.old)) (seen (O.written out.new) (O.faults out.new))
         (seen (E.written err.old) (E.faults err.old))
         (seen (E.written err.new) (E.faults err.new)) result }
-    ensures statuses { Contains (0 ∷ 1 ∷ 2 ∷ 4 ∷ 6 ∷ 7 ∷ 8 ∷ 10 ∷ []) result }
+    ensures statuses { Contains (0 ∷ 1 ∷ 2 ∷ 3 ∷ 4 ∷ 6 ∷ 7 ∷ 8 ∷ 10 ∷ []) result }
 
     // At each status but 7 that is the answer's, and the answer is written whole.
     ensures whole { let failed = FailedLast S.fetched S.faults shelf.old shelf.new in
@@ -99,38 +116,61 @@ pub fn run<S: Shelf, O: Sink, E: Sink>(
     // two files spell.
     ensures plan_solves { (asked : PlanWords) → SaysPlan (map string_bytes words.now) asked
         → result ≡ 0
-        → (domain : Domain) × (problem : Problem) × (text : Bytes)
+        → (domain : DomainTree) × (problem : ProblemTree) × (text : Bytes)
         × HoldBoth (S.held shelf.old) asked.domain asked.problem domain problem
-        × IsSolvingText asked.class (system domain problem) (fluent_names domain)
-        (action_names domain) text
+        × IsSolvingText asked.class (system domain problem) (fluent_names domain problem)
+        (action_names domain problem) text
         × (O.written out.new ≡ append_known (O.written out.old) text) }
 
     // And that text is the one that is defined, byte for byte.
     ensures plan_printed { (asked : PlanWords) → SaysPlan (map string_bytes words.now) asked
         → result ≡ 0
-        → (domain : Domain) × (problem : Problem) × (text : Bytes)
+        → (domain : DomainTree) × (problem : ProblemTree) × (text : Bytes)
         × HoldBoth (S.held shelf.old) asked.domain asked.problem domain problem
-        × IsPrintedText asked.class (system domain problem) (fluent_names domain)
-        (action_names domain) text
+        × IsPrintedText asked.class (system domain problem) (fluent_names domain problem)
+        (action_names domain problem) text
         × (O.written out.new ≡ append_known (O.written out.old) text) }
 
     // `plan`, status 1: no table at all is a solution of the problem that the two files spell.
     ensures no_plan { (asked : PlanWords) → SaysPlan (map string_bytes words.now) asked → result ≡ 1
-        → (domain : Domain) × (problem : Problem)
+        → (domain : DomainTree) × (problem : ProblemTree)
         × HoldBoth (S.held shelf.old) asked.domain asked.problem domain problem
         × HasNoSolution asked.class (system domain problem)
         × (O.written out.new ≡ append_known (O.written out.old) no_plan_text) }
 
-    // `plan` of two files that spell a problem: there is a plan or there is none, if no fault
-    // comes.
-    ensures plan_complete { (asked : PlanWords) (domain : Domain) (problem : Problem)
+    // `plan` of two files that spell a problem within the limits: there is a plan or there is none,
+    // if no fault comes.
+    ensures plan_complete { (asked : PlanWords) (domain : DomainTree) (problem : ProblemTree)
         → SaysPlan (map string_bytes words.now) asked
         → HoldBoth (S.held shelf.old) asked.domain asked.problem domain problem
+        → IsSome problem.goal → first_passed domain problem ≡ None
+        → length (fluents domain problem) ≤ most_planned
         → AreFilesTold (S.held shelf.old) (map string_bytes words.now)
         → NoFault (S.faults shelf.old) (S.faults shelf.new)
         → NoFault (O.faults out.old) (O.faults out.new)
         → NoFault (E.faults err.old) (E.faults err.new)
         → (result ≡ 0) ⊎ (result ≡ 1) ⊎ (result ≡ 8) }
+
+    // `ground`, status 0: the text that was written is the listing of the problem that the two
+    // files spell, which is within the limits.
+    ensures listed { (asked : GroundWords) → SaysGround (map string_bytes words.now) asked
+        → result ≡ 0
+        → (domain : DomainTree) × (problem : ProblemTree)
+        × HoldBoth (S.held shelf.old) asked.domain asked.problem domain problem
+        × (first_passed domain problem ≡ None)
+        × (O.written out.new ≡ append_known (O.written out.old) (listing_of domain problem)) }
+
+    // `ground` of two files that spell a problem within the limits: it is listed, if no fault
+    // comes.
+    ensures ground_complete { (asked : GroundWords) (domain : DomainTree) (problem : ProblemTree)
+        → SaysGround (map string_bytes words.now) asked
+        → HoldBoth (S.held shelf.old) asked.domain asked.problem domain problem
+        → first_passed domain problem ≡ None
+        → AreFilesTold (S.held shelf.old) (map string_bytes words.now)
+        → NoFault (S.faults shelf.old) (S.faults shelf.new)
+        → NoFault (O.faults out.old) (O.faults out.new)
+        → NoFault (E.faults err.old) (E.faults err.new)
+        → (result ≡ 0) ⊎ (result ≡ 8) }
 
     // Where the shelf tells of the files and has no fault, the words and the files alone decide the
     // answer and so the status, but for want of memory.
@@ -168,8 +208,8 @@ pub fn run<S: Shelf, O: Sink, E: Sink>(
     ensures later { S.faults shelf.old ≤ S.faults shelf.new }
 {
     // These do nothing: `due`, `determined` and `plan_complete` rest on what they promise.
-    one_domain();
-    one_problem();
+    domain_or_fault();
+    one_answer();
     let found = answer(alloc, words, shelf);
     deliver(alloc, &found, out, err)
 }

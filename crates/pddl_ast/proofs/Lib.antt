@@ -9,3 +9,4 @@ pub mod Distinct
 pub mod Fitting
 pub mod TreeFitting
 pub mod ListFitting
+pub mod WordTexts

@@ -10,3 +10,4 @@ pub mod Depth
 pub mod Fits
 pub mod Environment
 pub mod Pending
+pub mod WordTexts

@@ -49,7 +49,7 @@ pub record Flawless (sections : Forest) : Type 0 where
   pub predicates : predicates_flaws (types_in sections) [] (predicates_section sections) ≡ []
   pub actions : actions_flaws (known_of sections) [] sections ≡ []
 
-flawless : (forms : Forest) → domain_flaws forms ≡ [] → Flawless (sections_of forms)
+pub flawless : (forms : Forest) → domain_flaws forms ≡ [] → Flawless (sections_of forms)
 unfolding domain_flaws all_section_flaws contents_flaws vocabulary_flaws declared_flaws typed_flaws
 flawless forms h =
     let sections = sections_of forms in

@@ -12,3 +12,4 @@ pub mod FitLoops
 pub mod FitNames
 pub mod FitActions
 pub mod Fitted
+pub mod WordNames

@@ -6,3 +6,4 @@ pub mod Actions
 pub mod ActionParts
 pub mod Domains
 pub mod Reading
+pub mod WordNames

@@ -14,6 +14,7 @@ ghost use Rattle.pddl_domain.specs.Domains.{SpellsDomain, HasDomainFault};
 ghost use Rattle.pddl_domain.specs.Reading as reading;
 ghost use Rattle.pddl_domain.specs.Sections as section;
 ghost use Rattle.pddl_domain.specs.Types as types_of;
+ghost use Rattle.pddl_domain.specs.WordNames.{HasWordNames};
 
 use crate::constants::read_constants;
 use crate::predicates::{Predicates, read_predicates};
@@ -150,11 +151,12 @@ fn read_defined(alloc: Global, forms: &[Form]) -> Result<Domain, ReadErr>
 /// its sections; the types; loops of types; the constants; the predicates; and of each action its shape, its
 /// parameters, its precondition and its effect. Names are looked up by hash, and types' ancestors are found
 /// once, so that for `n` bytes this takes about `n log n` steps. A domain that is read fits: names of each kind
-/// differ, numbers are in range, types form a tree, and no tree is more than 200 deep.
+/// differ and are words, numbers are in range, types form a tree, and no tree is more than 200 deep.
 pub fn read_domain(alloc: Global, bytes: &[u8]) -> Result<Domain, ReadErr>
     requires { length bytes.now ≤ MAX_BYTES }
     ensures domain { IfOk result (λ d. SpellsDomain bytes.now (domain_value d)) }
     ensures fits { IfOk result (λ d. FitsDomain (domain_value d)) }
+    ensures words { IfOk result (λ d. HasWordNames (domain_value d)) }
     ensures fault { IfErr result (λ e. IfFault e (λ f. HasDomainFault bytes.now f)) }
 {
     typed_lists_in_order();

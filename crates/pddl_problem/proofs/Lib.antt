@@ -7,3 +7,4 @@ mod Ordered
 mod Answered
 mod TownLemmas
 mod Fitting
+pub mod WordNames

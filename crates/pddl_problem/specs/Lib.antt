@@ -4,3 +4,4 @@ pub mod Problems
 pub mod Values
 pub mod Listed
 pub mod Rising
+pub mod WordNames

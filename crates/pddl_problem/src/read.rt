@@ -12,6 +12,7 @@ ghost use Rattle.pddl_problem.specs.Problems.{SpellsProblem, HasProblemFault};
 ghost use Rattle.pddl_problem.specs.Problems.{problem_in, problem_passes};
 ghost use Rattle.pddl_problem.specs.Problems as problems;
 ghost use Rattle.pddl_problem.specs.Rising.{Rises};
+ghost use Rattle.pddl_problem.specs.WordNames.{HasWordObjects};
 
 use crate::definitions::definition_in;
 use crate::problems::read_definition;
@@ -39,6 +40,7 @@ fn read_in_forms(alloc: Global, forms: &[Form], domain: &Domain) -> Result<Probl
     ensures read { IfOk result (λ p. problem_in (domain_value domain.now) (forest_of forms.now)
         ≡ Some (problem_value p)) }
     ensures fits { IfOk result (λ p. FitsProblem (domain_value domain.now) (problem_value p)) }
+    ensures words { IfOk result (λ p. HasWordObjects (problem_value p)) }
     ensures fault { IfErr result (λ e. IfFault e (λ f.
         fault_of_passes (problem_passes (domain_value domain.now) (forest_of forms.now))
         ≡ Some f)) }
@@ -54,7 +56,8 @@ fn read_in_forms(alloc: Global, forms: &[Form], domain: &Domain) -> Result<Probl
 /// The problem that a text spells relative to a domain, or its first fault, or want of memory.
 ///
 /// The text has at most `MAX_BYTES` bytes. It either spells exactly one problem of the domain or
-/// has exactly one fault (`one_answer`). A problem that is read fits the domain. Names are looked
+/// has exactly one fault (`one_answer`). A problem that is read fits the domain, and the names of its
+/// objects are words. Names are looked
 /// up by hash, so that the time this takes grows with the length of the text and the size of the
 /// domain.
 pub fn read_problem(alloc: Global, bytes: &[u8], domain: &Domain) -> Result<Problem, ReadErr>
@@ -63,6 +66,7 @@ pub fn read_problem(alloc: Global, bytes: &[u8], domain: &Domain) -> Result<Prob
     ensures problem { IfOk result (λ p. SpellsProblem bytes.now (domain_value domain.now)
         (problem_value p)) }
     ensures fits { IfOk result (λ p. FitsProblem (domain_value domain.now) (problem_value p)) }
+    ensures words { IfOk result (λ p. HasWordObjects (problem_value p)) }
     ensures fault { IfErr result (λ e. IfFault e (λ f. HasProblemFault bytes.now
         (domain_value domain.now) f)) }
 {

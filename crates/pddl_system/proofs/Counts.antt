@@ -1,6 +1,5 @@
 -- Bindings and outcomes are as many as is counted.
-use Rattle.std.proofs.Common.{◌≡◌, ℕ, zero, suc, ◌+◌, ◌*◌, ◌^◌, List, [], ◌∷◌, ◌++◌, map, length, refl, sym, ◌∙◌, ap, arith}
-use Rattle.std.specs.List.{flat_map}
+use Rattle.std.proofs.Common.{◌≡◌, ℕ, ◌+◌, ◌*◌, ◌^◌, List, [], ◌∷◌, ◌++◌, map, length, refl, sym, ◌∙◌, ap}
 use Rattle.std.proofs.lemmas.List.{length-append, length-map}
 use Rattle.std.proofs.Math.Nat.{mul_comm, pow-suc, pow-zero}
 use Rattle.pddl_ast.specs.Trees.{EffectTree, EffectTrees, add, delete, both, one_of, only_when, each, no_effect, effect_then}

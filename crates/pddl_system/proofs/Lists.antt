@@ -1,9 +1,11 @@
 -- Lists that are put together of lists.
-use Rattle.std.proofs.Common.{◌≡◌, ℕ, zero, suc, ◌+◌, ◌*◌, ◌<◌, Bool, true, false, ◌&&◌, ◌||◌, List, [], ◌∷◌, ◌++◌, map, length, refl, sym, ◌∙◌, ap, arith, cond}
-use Rattle.std.specs.List.{flat_map, filter, list_all, list_any}
-use Rattle.std.proofs.lemmas.List.{length-append}
+use Rattle.std.proofs.Common.{◌≡◌, ℕ, zero, suc, ◌+◌, ◌*◌, ◌<◌, Bool, true, false, ◌&&◌, ◌||◌, inl, inr, List, [], ◌∷◌, map, length, refl, sym, ◌∙◌, ap, arith, Option, Some, None}
+use Rattle.std.specs.Prelude.{slice_get}
+use Rattle.std.proofs.lemmas.Bool.{and_from, or_parts, or_from}
+use Rattle.std.specs.List.{flat_map, filter, list_all, list_any, range_with_len}
+use Rattle.std.proofs.lemmas.List.{length-append, length-map}
 use Rattle.std.proofs.lemmas.List.Folds.{list_any-append, list_all-append}
-use Rattle.std.proofs.Math.Bool.{or_assoc}
+use Rattle.pddl_system.proofs.Members.{Among}
 
 -- a list of lists of one length, put together
 pub length-flat_map_of : {X Y : Type 0} (f : X → List Y) (n : ℕ) → ((x : X) → length (f x) ≡ n) → (xs : List X) → length (flat_map f xs) ≡ length xs * n
@@ -73,3 +75,61 @@ list_any-filter p q (x ∷ xs) = by_test (p x) refl (list_any-filter p q xs)
     by_test : (b : Bool) → p x ≡ b → list_any q (filter p xs) ≡ list_any (λ x. p x && q x) xs → list_any q (filter p (x ∷ xs)) ≡ list_any (λ x. p x && q x) (x ∷ xs)
     by_test true is rest = rw is (ap (λ b. q x || b) rest)
     by_test false is rest = rw is rest
+
+-- where no element passes p, none passes q
+pub list_any-weaker : {X : Type 0} (p q : X → Bool) → ((x : X) → p x ≡ false → q x ≡ false) → (xs : List X) → list_any p xs ≡ false → list_any q xs ≡ false
+list_any-weaker p q weaker [] h = refl
+list_any-weaker p q weaker (x ∷ xs) h =
+    let parts = or_parts (p x) (list_any p xs) h in
+    or_from (q x) (list_any q xs) (weaker x parts.0) (list_any-weaker p q weaker xs parts.1)
+
+pub list_any-never : {X : Type 0} (p : X → Bool) → ((x : X) → p x ≡ false) → (xs : List X) → list_any p xs ≡ false
+list_any-never p never [] = refl
+list_any-never p never (x ∷ xs) = or_from (p x) (list_any p xs) (never x) (list_any-never p never xs)
+
+-- two lists that have one image
+pub zip_length : {X Y Z : Type 0} (f : X → Z) (g : Y → Z) (xs : List X) (ys : List Y) → map f xs ≡ map g ys → length xs ≡ length ys
+zip_length f g xs ys h = sym (length-map xs f) ∙ ap length h ∙ length-map ys g
+
+pub zip_any : {X Y Z : Type 0} (f : X → Z) (g : Y → Z) (p : X → Bool) (q : Y → Bool) → ((x : X) (y : Y) → f x ≡ g y → p x ≡ q y) → (xs : List X) (ys : List Y) → map f xs ≡ map g ys → list_any p xs ≡ list_any q ys
+zip_any f g p q same [] [] h = refl
+zip_any f g p q same [] (y ∷ ys) h = absurd (cc)
+zip_any f g p q same (x ∷ xs) [] h = absurd (cc)
+zip_any f g p q same (x ∷ xs) (y ∷ ys) h =
+    let head : f x ≡ g y = cc in
+    let tail : map f xs ≡ map g ys = cc in
+    ap (λ b. b || list_any p xs) (same x y head) ∙ ap (λ b. q y || b) (zip_any f g p q same xs ys tail)
+
+pub zip_map : {X Y Z W : Type 0} (f : X → Z) (g : Y → Z) (h : X → W) (k : Y → W) → ((x : X) (y : Y) → f x ≡ g y → h x ≡ k y) → (xs : List X) (ys : List Y) → map f xs ≡ map g ys → map h xs ≡ map k ys
+zip_map f g h k same [] [] e = refl
+zip_map f g h k same [] (y ∷ ys) e = absurd (cc)
+zip_map f g h k same (x ∷ xs) [] e = absurd (cc)
+zip_map f g h k same (x ∷ xs) (y ∷ ys) e =
+    let head : f x ≡ g y = cc in
+    let tail : map f xs ≡ map g ys = cc in
+    ap (λ w. w ∷ map h xs) (same x y head) ∙ ap (λ ws. k y ∷ ws) (zip_map f g h k same xs ys tail)
+
+pub zip_get : {X Y Z : Type 0} (f : X → Z) (g : Y → Z) (R : Option X → Option Y → Type 0) → R None None → ((x : X) (y : Y) → f x ≡ g y → R (Some x) (Some y)) → (xs : List X) (ys : List Y) → map f xs ≡ map g ys → (i : ℕ) → R (slice_get xs i) (slice_get ys i)
+zip_get f g R none some [] [] h i = none
+zip_get f g R none some [] (y ∷ ys) h i = absurd (cc)
+zip_get f g R none some (x ∷ xs) [] h i = absurd (cc)
+zip_get f g R none some (x ∷ xs) (y ∷ ys) h zero = some x y (cc)
+zip_get f g R none some (x ∷ xs) (y ∷ ys) h (suc i) =
+    let tail : map f xs ≡ map g ys = cc in
+    zip_get f g R none some xs ys tail i
+
+pub zip_all : {X Y Z : Type 0} (f : X → Z) (g : Y → Z) (p : X → Bool) (xs : List X) (ys : List Y) → ((x : X) (y : Y) → Among y ys → f x ≡ g y → p x ≡ true) → map f xs ≡ map g ys → list_all p xs ≡ true
+zip_all f g p [] ys passes h = refl
+zip_all f g p (x ∷ xs) [] passes h = absurd (cc)
+zip_all f g p (x ∷ xs) (y ∷ ys) passes h =
+    let head : f x ≡ g y = cc in
+    let tail : map f xs ≡ map g ys = cc in
+    and_from (p x) (list_all p xs) (passes x y (inl refl) head) (zip_all f g p xs ys (λ z w k e. passes z w (inr k) e) tail)
+
+-- a list by its places
+pub map-range : {X Y : Type 0} (f : ℕ → Y) (g : X → Y) (xs : List X) (a : ℕ) → ((k : ℕ) (x : X) → slice_get xs k ≡ Some x → f (a + k) ≡ g x) → map f (range_with_len a (length xs)) ≡ map g xs
+map-range f g [] a same = refl
+map-range f g (x ∷ xs) a same =
+    let here : f a ≡ g x = ap f (omega arith) ∙ same 0 x refl in
+    let rest = map-range f g xs (a + 1) (λ k y e. ap f (omega arith) ∙ same (suc k) y e) in
+    ap (λ w. w ∷ map f (range_with_len (a + 1) (length xs))) here ∙ ap (λ ws. g x ∷ ws) rest

@@ -1,22 +1,21 @@
 -- The atoms that an effect names are those that some outcome may change.
 use Rattle.std.proofs.Common.{◌≡◌, ℕ, ◌+◌, ◌<◌, Bool, true, false, ◌&&◌, ◌||◌, List, [], ◌∷◌, ◌++◌, map, length, Some, None, refl, sym, ◌∙◌, ap, subst, arith, if◌then◌else◌}
-use Rattle.std.specs.List.{flat_map, filter, list_any}
+use Rattle.std.specs.List.{filter, list_any}
 use Rattle.std.proofs.lemmas.List.{length-append, length-map}
 use Rattle.std.proofs.lemmas.List.Folds.{list_any-append}
 use Rattle.std.proofs.Math.Bool.{or-false}
 use Rattle.std.proofs.Math.Nat.{mul-pos, one-le-pow}
 use Rattle.task_core.proofs.Vectors.{list_any-map}
-use Rattle.pddl_ast.specs.Fits.{FitsEffect, FitsEffects, HasEffect}
+use Rattle.pddl_ast.specs.Fits.{FitsEffect, FitsEffects}
 use Rattle.pddl_ast.specs.Known.{Known}
 use Rattle.pddl_ast.specs.Trees.{AtomTree, EffectTree, EffectTrees, add, delete, both, one_of, only_when, each, no_effect, effect_then}
-use Rattle.pddl_system.specs.Fluents.{atoms_changed, changed_by, named_by_effect, named_by_effects}
+use Rattle.pddl_system.specs.Fluents.{atoms_changed, named_by_effect, named_by_effects}
 use Rattle.pddl_system.specs.GroundAtoms.{is_among, same_atom}
-use Rattle.pddl_system.specs.Instances.{Instance}
 use Rattle.pddl_system.specs.Laws.{EffectsHaveOutcomes, NamedAtomsAreChanged}
 use Rattle.pddl_system.specs.Objects.{bindings}
 use Rattle.pddl_system.specs.Outcomes.{ChangeTree, Condition, OutcomeTree, may_change, outcomes, outcomes_of_both, outcomes_of_either, possible_changes, products, product_of_all, under}
 use Rattle.pddl_system.specs.Settings.{Setting}
-use Rattle.pddl_system.specs.Sizes.{outcome_count, product_of_counts, sum_of_counts}
+use Rattle.pddl_system.specs.Sizes.{outcome_count, product_of_counts}
 use Rattle.pddl_system.specs.ThreeValues.{Value, may_hold, value, value_and, value_of_all}
 use Rattle.pddl_system.proofs.Counts.{outcomes_are_counted}
 use Rattle.pddl_system.proofs.Lists.{list_any-flat_map, list_any-same, list_any_or, list_any_or_before, list_any_and, list_any-filter}
@@ -59,7 +58,7 @@ may_hold-and None None = refl
 
 module _ (at : Setting) (a : AtomTree) where
   -- whether an outcome may change the atom
-  abbrev touches : OutcomeTree → Bool
+  abbrev pub touches : OutcomeTree → Bool
   touches outcome = is_among (atoms_changed (possible_changes at outcome)) a
 
   -- by its changes
@@ -71,7 +70,7 @@ module _ (at : Setting) (a : AtomTree) where
       list_any-map (same_atom a) (λ (c : ChangeTree). c.atom) (filter (may_change at) o)
       ∙ list_any-filter (may_change at) (λ (c : ChangeTree). same_atom a c.atom) o
 
-  touches-append : (x y : OutcomeTree) → touches (x ++ y) ≡ (touches x || touches y)
+  pub touches-append : (x y : OutcomeTree) → touches (x ++ y) ≡ (touches x || touches y)
   touches-append x y = touches_is (x ++ y) ∙ list_any-append is_touched_by x y ∙ both_are
     where
       both_are : (list_any is_touched_by x || list_any is_touched_by y) ≡ (touches x || touches y)
@@ -121,7 +120,7 @@ module _ (at : Setting) (a : AtomTree) where
       of_one : (change : ChangeTree) → is_touched_by (under c change) ≡ (may_hold (value at c.formula c.scope) && is_touched_by change)
       of_one change = ap (λ b. b && same_atom a change.atom) (may_hold-and (value at c.formula c.scope) (value_of_all (map (λ (k : Condition). value at k.formula k.scope) change.conditions))) ∙ and_assoc (may_hold (value at c.formula c.scope)) (may_change at change) (same_atom a change.atom)
 
-  under_same : (c : Condition) (os : List OutcomeTree) → list_any touches (map (map (under c)) os) ≡ (may_hold (value at c.formula c.scope) && list_any touches os)
+  pub under_same : (c : Condition) (os : List OutcomeTree) → list_any touches (map (map (under c)) os) ≡ (may_hold (value at c.formula c.scope) && list_any touches os)
   under_same c os =
       list_any-map touches (map (under c)) os
       ∙ list_any-same _ _ (touches-under c) os

@@ -5,7 +5,7 @@ use Rattle.pddl_ast.specs.Trees.{EffectTree, EffectTrees, add, delete, both, one
 use Rattle.pddl_system.specs.GroundAtoms.{all_atoms, atom_of, is_among}
 use Rattle.pddl_system.specs.Instances.{Instance, kept_instances}
 use Rattle.pddl_system.specs.Objects.{all_objects, bindings}
-use Rattle.pddl_system.specs.Outcomes.{ChangeTree, OutcomeTree, outcomes_of, possible_changes}
+use Rattle.pddl_system.specs.Outcomes.{ChangeTree, outcomes_of, possible_changes}
 use Rattle.pddl_system.specs.Settings.{Setting, setting}
 use Rattle.pddl_system.specs.ThreeValues.{may_hold, value}
 
@@ -20,9 +20,9 @@ changed_by at i = flat_map (λ o. atoms_changed (possible_changes at o)) (outcom
 abbrev pub named_by : List (List LiteralTree) → List AtomTree
 named_by = flat_map (map (λ (l : LiteralTree). l.atom))
 
--- the atoms that an effect adds or deletes under conditions that may hold: a walk over the effect, in
--- which a choice and a list of effects that happen together name what their parts name. For an effect
--- in which every choice has an alternative, these are the atoms that some outcome may change
+-- the atoms that an effect adds or deletes under conditions that may hold: a walk over the effect,
+-- in which a choice and a list of effects that happen together name what their parts name. For an
+-- effect in which every choice has an alternative, these are the atoms that some outcome may change
 abbrev mutual
   pub named_by_effect : Setting → EffectTree → List ℕ → List AtomTree
   named_by_effect at (add predicate terms) scope = atom_of scope predicate terms ∷ []
@@ -48,3 +48,11 @@ is_fluent d p a =
 -- the fluents, by predicate as declared and then by their objects. Their places are their numbers
 abbrev pub fluents : DomainTree → ProblemTree → List AtomTree
 fluents d p = filter (is_fluent d p) (all_atoms d.predicates (length (all_objects d p)))
+
+-- the atoms that make a fluent, as the effects of kept instances and then the uncertain entries name
+-- them, some more than once
+abbrev pub named_atoms : DomainTree → ProblemTree → List AtomTree
+named_atoms d p =
+    flat_map (λ (i : Instance). named_by_effect (setting d p) i.schema.effect i.objects)
+    (kept_instances d p)
+    ++ flat_map named_by p.entries

@@ -2,7 +2,9 @@ pub mod Fluents
 pub mod GroundAtoms
 pub mod Instances
 pub mod Laws
+pub mod Names
 pub mod Objects
+pub mod Orders
 pub mod Outcomes
 pub mod Settings
 pub mod Sizes

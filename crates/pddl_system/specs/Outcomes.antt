@@ -1,5 +1,5 @@
--- The outcomes of an effect (Cimatti, Pistore, Roveri, Traverso 2003: the nondeterministic effects of an
--- action), each a list of changes: an atom that is added or deleted, under conditions.
+-- The outcomes of an effect (Cimatti, Pistore, Roveri, Traverso 2003: the nondeterministic effects
+-- of an action), each a list of changes: an atom that is added or deleted, under conditions.
 use Rattle.std.specs.Prelude.{ℕ, Bool, true, false, List, [], ◌∷◌, ◌++◌, map}
 use Rattle.std.specs.List.{filter, flat_map}
 use Rattle.pddl_ast.specs.Trees.{FormulaTree, EffectTree, EffectTrees, add, delete, both, one_of, only_when, each, no_effect, effect_then, AtomTree}
@@ -28,8 +28,8 @@ OutcomeTree = List ChangeTree
 abbrev pub one_change : AtomTree → Bool → List OutcomeTree
 one_change a positive = (record { conditions = []; atom = a; positive = positive } ∷ []) ∷ []
 
--- the outcomes of two effects that happen together: each outcome of the first with each of the second.
--- The first changes slowest
+-- the outcomes of two effects that happen together: each outcome of the first with each of the
+-- second. The first changes slowest
 abbrev pub products : List OutcomeTree → List OutcomeTree → List OutcomeTree
 products firsts seconds = flat_map (λ first. map (λ second. first ++ second) seconds) firsts
 
@@ -45,8 +45,8 @@ under condition change = record {
   positive = change.positive;
 }
 
--- the outcomes of an effect where the variables in scope stand for these objects. Equal ones are kept
--- apart
+-- the outcomes of an effect where the variables in scope stand for these objects. Equal ones are
+-- kept apart
 abbrev mutual
   pub outcomes : (ℕ → List ℕ) → EffectTree → List ℕ → List OutcomeTree
   outcomes objects (add predicate terms) scope = one_change (atom_of scope predicate terms) true
@@ -56,7 +56,8 @@ abbrev mutual
   outcomes objects (only_when formula part) scope =
       map (map (under (record { formula = formula; scope = scope }))) (outcomes objects part scope)
   outcomes objects (each types part) scope =
-      product_of_all (map (λ chosen. outcomes objects part (scope ++ chosen)) (bindings objects types))
+      product_of_all
+      (map (λ chosen. outcomes objects part (scope ++ chosen)) (bindings objects types))
 
   -- of several effects that happen together, and of a choice between them
   pub outcomes_of_both : (ℕ → List ℕ) → EffectTrees → List ℕ → List OutcomeTree

@@ -1,6 +1,6 @@
 -- What a domain and a problem fix before any action is looked at: the objects of each type, which
 -- predicates never change, and which atoms are initially true for certain.
-use Rattle.std.specs.Prelude.{ℕ, ◌==◌, Bool, true, false, ◌||◌, not, List, length}
+use Rattle.std.specs.Prelude.{ℕ, ◌==◌, Bool, false, ◌||◌, not, List}
 use Rattle.std.specs.List.{list_any}
 use Rattle.pddl_ast.specs.Trees.{EffectTree, EffectTrees, add, delete, both, one_of, only_when, each, no_effect, effect_then, AtomTree, LiteralTree, SchemaTree, DomainTree, ProblemTree}
 use Rattle.pddl_system.specs.GroundAtoms.{is_among}

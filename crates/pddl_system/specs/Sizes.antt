@@ -1,4 +1,5 @@
--- How much grounding has to do, as numbers that are counted before anything is built, and their limits.
+-- How much grounding has to do, as numbers that are counted before anything is built, and their
+-- limits.
 use Rattle.std.specs.Prelude.{ℕ, ◌+◌, ◌*◌, ◌^◌, Bool, ◌&&◌, not, nat_le, List, [], ◌∷◌, map, length, Option}
 use Rattle.std.specs.List.{find, list_all, sum}
 use Rattle.std.specs.Option.{option_map_or}
@@ -14,8 +15,8 @@ abbrev pub binding_count : (ℕ → List ℕ) → List ℕ → ℕ
 binding_count objects [] = 1
 binding_count objects (t ∷ ts) = length (objects t) * binding_count objects ts
 
--- the expanded size of a formula: an atom and an equality have 1, every other formula has 1 and the sizes
--- of its parts, and a quantifier 1 and the size of its body for each binding
+-- the expanded size of a formula: an atom and an equality have 1, every other formula has 1 and the
+-- sizes of its parts, and a quantifier 1 and the size of its body for each binding
 abbrev mutual
   pub formula_size : (ℕ → List ℕ) → FormulaTree → ℕ
   formula_size objects (atom predicate terms) = 1
@@ -50,9 +51,9 @@ abbrev mutual
   effects_size objects no_effect = 0
   effects_size objects (effect_then e es) = effect_size objects e + effects_size objects es
 
--- how many outcomes an effect has: effects that happen together multiply, a choice adds, and an effect for
--- all objects is to the power of the number of bindings. Conditions don't matter, so the objects that the
--- variables in scope stand for don't either
+-- how many outcomes an effect has: effects that happen together multiply, a choice adds, and an
+-- effect for all objects is to the power of the number of bindings. Conditions don't matter, so the
+-- objects that the variables in scope stand for don't either
 abbrev mutual
   pub outcome_count : (ℕ → List ℕ) → EffectTree → ℕ
   outcome_count objects (add predicate terms) = 1
@@ -83,8 +84,8 @@ abbrev pub instance_count : (ℕ → List ℕ) → List SchemaTree → ℕ
 instance_count objects schemas =
     sum (map (λ (s : SchemaTree). binding_count objects s.parameters) schemas)
 
--- the most objects, the most expanded size of an action and of a goal, the most instances, kept instances,
--- outcomes of one kept instance, and fluents
+-- the most objects, the most expanded size of an action and of a goal, the most instances, kept
+-- instances, outcomes of one kept instance, and fluents
 abbrev pub most_objects : ℕ
 most_objects = 1024
 

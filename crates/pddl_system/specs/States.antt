@@ -1,5 +1,5 @@
--- States of a domain and a problem: a truth value for each fluent. Every other atom keeps its initial
--- value in every state.
+-- States of a domain and a problem: a truth value for each fluent. Every other atom keeps its
+-- initial value in every state.
 use Rattle.std.specs.Prelude.{ℕ, Bool, true, false, ◌&&◌, if◌then◌else◌, List, map, Option, Some, None}
 use Rattle.std.specs.List.{list_all, list_any, position}
 use Rattle.task_core.specs.Vectors.{Vector, same_value, value_of}
@@ -37,8 +37,8 @@ makes at fluents v positive a change =
     same_atom a change.atom && same_value change.positive positive
     && comes_about at fluents v change
 
--- the value of a fluent after an outcome in the state v, whose conditions are all read in v: true where
--- a change makes it true, else false where one makes it false, else as in v
+-- the value of a fluent after an outcome in the state v, whose conditions are all read in v: true
+-- where a change makes it true, else false where one makes it false, else as in v
 abbrev pub value_after : Setting → List AtomTree → Vector → OutcomeTree → AtomTree → Bool
 value_after at fluents v outcome a =
     if list_any (makes at fluents v true a) outcome then true

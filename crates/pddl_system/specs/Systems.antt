@@ -1,6 +1,6 @@
 -- The planning system that a domain and a problem spell (Cimatti, Pistore, Roveri, Traverso 2003: a
 -- planning domain with initial states and goal states).
-use Rattle.std.specs.Prelude.{ℕ, Bool, List, [], ◌∷◌, map, length, slice_get, if◌then◌else◌}
+use Rattle.std.specs.Prelude.{ℕ, List, [], ◌∷◌, map, length, slice_get, if◌then◌else◌}
 use Rattle.std.specs.List.{filter, position_or_len}
 use Rattle.std.specs.Option.{option_map, option_map_or}
 use Rattle.task_core.specs.Initial.{Entry, after_entries}
@@ -15,12 +15,12 @@ use Rattle.pddl_system.specs.Fluents.{fluents}
 use Rattle.pddl_system.specs.GroundAtoms.{same_atom}
 use Rattle.pddl_system.specs.Instances.{Instance, kept_instances}
 use Rattle.pddl_system.specs.Objects.{all_objects}
-use Rattle.pddl_system.specs.Outcomes.{OutcomeTree, outcomes_of}
+use Rattle.pddl_system.specs.Outcomes.{outcomes_of}
 use Rattle.pddl_system.specs.Settings.{Setting, setting}
 use Rattle.pddl_system.specs.States.{formula_holds, state_after}
 
--- the literal that a literal of an uncertain entry is, by its fluent's number. Each atom of an entry is a
--- fluent
+-- the literal that a literal of an uncertain entry is, by its fluent's number. Each atom of an
+-- entry is a fluent
 abbrev pub literal_of : List AtomTree → LiteralTree → Lit
 literal_of fluents l = record {
   fluent = record { 0 = position_or_len (same_atom l.atom) fluents };
@@ -67,8 +67,8 @@ system_over at fluents kept p = record {
 abbrev pub system : DomainTree → ProblemTree → System
 system d p = system_over (setting d p) (fluents d p) (kept_instances d p) p
 
--- the names of the fluents and of the actions, by their numbers: the word of the predicate or of the action,
--- and those of the objects
+-- the names of the fluents and of the actions, by their numbers: the word of the predicate or of
+-- the action, and those of the objects
 abbrev pub object_name : List Named → ℕ → List ℕ
 object_name objects o = option_map_or (λ (n : Named). n.name) (slice_get objects o) []
 

@@ -1,5 +1,5 @@
--- The task that a domain and a problem spell: plain trees, in which a `Vec` is the list of its items. It is
--- one function of the two trees, and its system is theirs.
+-- The task that a domain and a problem spell: plain trees, in which a `Vec` is the list of its
+-- items. It is one function of the two trees, and its system is theirs.
 use Rattle.std.specs.Prelude.{ℕ, ◌==◌, Bool, if◌then◌else◌, List, [], ◌∷◌, ◌++◌, map, Option}
 use Rattle.std.specs.List.{position_or_len}
 use Rattle.std.specs.Option.{option_map, option_map_or}
@@ -35,8 +35,8 @@ abbrev pub condition_row : List CondTree → CondTrees
 condition_row [] = no_condition
 condition_row (c ∷ cs) = condition_then c (condition_row cs)
 
--- an action of a task: its name, when it can be executed, and its outcomes, each a list of changes under
--- a condition
+-- an action of a task: its name, when it can be executed, and its outcomes, each a list of changes
+-- under a condition
 pub record ActionTree : Type 0 where
   pub name : Name
   pub exec : CondTree
@@ -57,8 +57,9 @@ abbrev pub atom_condition : Setting → List AtomTree → AtomTree → CondTree
 atom_condition at fluents a =
     option_map_or is_fluent_true (number_of fluents a) (constant (at.is_fact a))
 
--- the condition of a formula where the variables in scope stand for these objects. An implication is that
--- the first part doesn't hold, or the second does; a quantifier is taken for each binding, in order
+-- the condition of a formula where the variables in scope stand for these objects. An implication
+-- is that the first part doesn't hold, or the second does; a quantifier is taken for each binding,
+-- in order
 abbrev mutual
   pub condition_of : Setting → List AtomTree → FormulaTree → List ℕ → CondTree
   condition_of at fluents (atom predicate terms) scope =

@@ -1,6 +1,6 @@
 -- The value of a formula as far as the setting alone decides it: true, false, or unknown, which is
--- `None` (the strong three-valued logic of Kleene 1952). An atom of a rigid predicate has its initial
--- value, and `=` its truth; every other atom is unknown.
+-- `None` (the strong three-valued logic of Kleene 1952). An atom of a rigid predicate has its
+-- initial value, and `=` its truth; every other atom is unknown.
 use Rattle.std.specs.Prelude.{ℕ, ◌==◌, Bool, true, false, not, List, [], ◌∷◌, ◌++◌, map, Option, Some, None, if◌then◌else◌}
 use Rattle.std.specs.Option.{option_map}
 use Rattle.pddl_ast.specs.Trees.{FormulaTree, FormulaTrees, atom, equal, all, any, negation, implication, exists, forall, no_formula, formula_then}

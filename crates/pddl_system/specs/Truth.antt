@@ -1,12 +1,13 @@
--- The truth of a formula where each atom has a value (first-order logic over finitely many objects).
+-- The truth of a formula where each atom has a value (first-order logic over finitely many
+-- objects).
 use Rattle.std.specs.Prelude.{ℕ, ◌==◌, Bool, true, false, ◌&&◌, ◌||◌, not, List, ◌++◌}
 use Rattle.std.specs.List.{list_all, list_any}
 use Rattle.pddl_ast.specs.Trees.{FormulaTree, FormulaTrees, atom, equal, all, any, negation, implication, exists, forall, no_formula, formula_then, AtomTree}
 use Rattle.pddl_system.specs.GroundAtoms.{atom_of}
 use Rattle.pddl_system.specs.Objects.{bindings, object_of}
 
--- whether a formula is true where the variables in scope stand for these objects. `objects` gives the
--- objects of a type, and `holds` the value of an atom
+-- whether a formula is true where the variables in scope stand for these objects. `objects` gives
+-- the objects of a type, and `holds` the value of an atom
 abbrev mutual
   pub is_true : (ℕ → List ℕ) → (AtomTree → Bool) → FormulaTree → List ℕ → Bool
   is_true objects holds (atom predicate terms) scope = holds (atom_of scope predicate terms)

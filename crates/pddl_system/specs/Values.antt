@@ -1,8 +1,9 @@
 -- The plain trees that a task's types stand for.
-use Rattle.std.specs.Prelude.{ℕ, List, map, length}
+use Rattle.std.specs.Prelude.{◌≡◌, List, map, length, Option, String, Vec}
+use Rattle.std.specs.declared.alloc.Global.{Global}
 use Rattle.std.specs.Option.{option_map}
 use Rattle.task_core.specs.Initial.{entries_of, facts_of}
-use Rattle.task_core.specs.Names.{name_of}
+use Rattle.task_core.specs.Names.{name_bytes, name_of}
 use Rattle.task_core.specs.Tasks.{fluent_names}
 use Rattle.task_core.specs.declared.literals.Lit.{Lit}
 use Rattle.task_core.specs.declared.conditions.Cond.{Cond}
@@ -11,8 +12,10 @@ use Rattle.task_core.specs.declared.conditions.Cond.TheFolds.{fold-Cond}
 use Rattle.task_core.specs.declared.actions.Change.{Change}
 use Rattle.task_core.specs.declared.actions.Outcome.{Outcome}
 use Rattle.task_core.specs.declared.actions.GroundAction.{GroundAction}
+use Rattle.task_core.specs.declared.actions.InitSpec.{InitSpec}
 use Rattle.task_core.specs.declared.tasks.Task.{Task}
-use Rattle.pddl_system.specs.Tasks.{CondTree, yes_always, no_never, is_fluent_true, not_so, all_of, any_of, condition_row, ActionTree, TaskTree}
+use Rattle.pddl_ast.specs.Trees.{DomainTree, ProblemTree}
+use Rattle.pddl_system.specs.Tasks.{CondTree, yes_always, no_never, is_fluent_true, not_so, all_of, any_of, condition_row, ActionTree, TaskTree, task_of}
 
 -- one layer of a condition, with the trees of its parts in their place
 abbrev pub condition_step : Cond-F CondTree → CondTree
@@ -47,3 +50,14 @@ task_value task = record {
   entries = entries_of task.init;
   goal = option_map condition_value task.goal;
 }
+
+-- the parts of a task, as they are handed to `Task::new`, stand for those of the task of a domain
+-- and a problem
+pub record ArePartsOf (d : DomainTree) (p : ProblemTree)
+    (fluents : List (Vec (String Global) Global)) (actions : List GroundAction) (init : InitSpec)
+    (goal : Option Cond) : Type 0 where
+  pub fluents_are : map name_bytes fluents ≡ (task_of d p).fluents
+  pub actions_are : map action_value actions ≡ (task_of d p).actions
+  pub facts_are : facts_of (length fluents) init ≡ (task_of d p).facts
+  pub entries_are : entries_of init ≡ (task_of d p).entries
+  pub goal_is : option_map condition_value goal ≡ (task_of d p).goal

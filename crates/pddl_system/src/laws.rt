@@ -2,10 +2,27 @@
 //! callers' proofs can cite it.
 
 ghost use Rattle.pddl_system.specs.Laws.{
+  ActionNamesAreNames,
   BindingsAreCounted,
+  ChangedAtomsAreFluents,
+  DroppedInstancesNeverRun,
   EffectsHaveOutcomes,
+  FluentNamesAreNames,
+  FluentsAreSorted,
+  FluentsDiffer,
+  ImpossibleChangesNeverCome,
+  KnownValuesAreSo,
   NamedAtomsAreChanged,
+  NamedAtomsAreFluents,
+  NamedAtomsAreNoMore,
+  NamedAtomsInOrderAreFluents,
+  NamedAtomsMakeFluents,
   OutcomesAreCounted,
+  PartsMakeTask,
+  ReadNamesAreWords,
+  RigidAtomsAreNoFluents,
+  TaskHasTheSystem,
+  TheyHaveASystem,
 };
 
 /// There are as many bindings of variables, and as many outcomes of an effect, as their counts say,
@@ -20,4 +37,61 @@ pub fn bindings_and_outcomes_are_counted()
 pub fn effects_name_what_they_change()
     ensures outcomes { EffectsHaveOutcomes }
     ensures atoms { NamedAtomsAreChanged }
+{}
+
+/// A task that stands for the task of a domain and a problem has their system.
+pub fn tasks_have_the_system()
+    ensures { TaskHasTheSystem }
+{}
+
+/// Names that are words as texts spell them are words of a task.
+pub fn read_names_are_words()
+    ensures { ReadNamesAreWords }
+{}
+
+/// The names of fluents and of actions are those of a task: lists of words, all different, and no
+/// fluent's name begins with `not`.
+pub fn names_are_names()
+    ensures fluents { FluentNamesAreNames }
+    ensures actions { ActionNamesAreNames }
+{}
+
+/// Parts that stand for those of the task of a domain and a problem make a task, where no limit is
+/// passed: what they name is among the fluents, their conditions are at most 200 deep, each action
+/// has an outcome and each uncertain entry an alternative, and names are names.
+pub fn parts_make_a_task()
+    ensures { PartsMakeTask }
+{}
+
+/// What is known of a formula, as far as what never changes decides it, is so in every state. So an
+/// instance that isn't kept can be executed in no state, and a change that is known not to come
+/// about never does.
+pub fn known_values_are_so()
+    ensures formulas { KnownValuesAreSo }
+    ensures instances { DroppedInstancesNeverRun }
+    ensures changes { ImpossibleChangesNeverCome }
+{}
+
+/// What a kept instance changes and what an uncertain entry names are fluents, each listed once, so
+/// that every other atom keeps its initial value; no atom of a rigid predicate is one.
+pub fn fluents_are_what_changes()
+    ensures changed { ChangedAtomsAreFluents }
+    ensures named { NamedAtomsAreFluents }
+    ensures once { FluentsDiffer }
+    ensures rigid { RigidAtomsAreNoFluents }
+{}
+
+/// The parts of the system of a domain and a problem fit together: initial and goal states and
+/// outcomes are states over the fluents, and only kept instances can be executed.
+pub fn domains_have_systems()
+    ensures { TheyHaveASystem }
+{}
+
+/// The fluents are the atoms that kept instances' effects and uncertain entries name, each once, by
+/// predicate and then by objects.
+pub fn named_atoms_are_the_fluents()
+    ensures named { NamedAtomsMakeFluents }
+    ensures listed { NamedAtomsInOrderAreFluents }
+    ensures count { NamedAtomsAreNoMore }
+    ensures sorted { FluentsAreSorted }
 {}

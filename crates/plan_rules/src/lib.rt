@@ -26,4 +26,4 @@ pub use auto_reader::MAX_CONTEXTS;
 pub use laws::{one_plan, plan_or_fault, printed_spells};
 pub use reader::read_plan;
 pub use rules::{AutoPlan, AutoRule, Case, Class, Next, Plan, PlanRead, Rule, TablePlan};
-pub use text::write_plan;
+pub use text::{push_name, write_plan};

@@ -82,8 +82,8 @@ fn push_words(out: &mut String, words: &[String]) -> Result<(), AllocError>
     Ok(())
 }
 
-// A name in parentheses.
-fn push_atom(out: &mut String, words: &[String]) -> Result<(), AllocError>
+/// Appends a name in parentheses, with one space between its words: as `(at a)`.
+pub fn push_name(out: &mut String, words: &[String]) -> Result<(), AllocError>
     ensures { OnOk result (string_bytes out.new ≡ string_bytes out.old ++ atom_text (map string_bytes words.now)) }
 {
     out.push('(')?;
@@ -99,10 +99,10 @@ fn push_literal(out: &mut String, fluents: &[Vec<String>], lit: &Lit) -> Result<
 {
     let name = &fluents[lit.fluent.0 as usize];
     if lit.positive {
-        push_atom(out, name)
+        push_name(out, name)
     } else {
         out.push_str("(not ")?;
-        push_atom(out, name)?;
+        push_name(out, name)?;
         out.push(')')?;
         Ok(())
     }
@@ -145,7 +145,7 @@ fn push_rule(
     out.push_str("  (rule ")?;
     push_cube(out, fluents, &rule.cube)?;
     out.push(' ')?;
-    push_atom(out, &actions[rule.action.0 as usize].name)?;
+    push_name(out, &actions[rule.action.0 as usize].name)?;
     out.push_str(")\n")?;
     Ok(())
 }
@@ -236,7 +236,7 @@ fn push_context_rule(
     out.push(' ')?;
     push_cube(out, fluents, &rule.cube)?;
     out.push(' ')?;
-    push_atom(out, &actions[rule.action.0 as usize].name)?;
+    push_name(out, &actions[rule.action.0 as usize].name)?;
     out.push(' ')?;
     push_next(out, fluents, &rule.next)?;
     out.push_str(")\n")?;

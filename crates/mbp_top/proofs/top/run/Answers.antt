@@ -1,7 +1,9 @@
 use Rattle.std.proofs.Common.{map, string_bytes}
 use Rattle.plan_io.specs.Fetches.{FailedLast}
 use Rattle.mbp_top.specs.Delivery.{seen}
-use Rattle.mbp_top.proofs.PlanDecides.{SpellOnce}
+use Rattle.mbp_top.proofs.PddlDecides.{OneReading}
+use Rattle.mbp_top.proofs.PlanWritten.{plan_written, no_plan_written, plan_status}
+use Rattle.mbp_top.proofs.GroundWritten.{listing_written, listing_status}
 use Rattle.mbp_top.proofs.Statuses.{
   done,
   of_delivery,
@@ -11,9 +13,6 @@ use Rattle.mbp_top.proofs.Statuses.{
   quiet_sinks,
   no_failure,
   due_status,
-  plan_written,
-  no_plan_written,
-  plan_status,
 }
 use Rattle.mbp_top.proofs.ByCommand.{due_answer}
 use Rattle.mbp_top.proofs.top.run.Goals as goal
@@ -138,7 +137,7 @@ returns-clause-no_plan g c asked says one =
     (w.domain, w.problem, w.both, w.none, w.written)
 
 pub returns-clause-plan_complete : goal.returns-clause-plan_complete
-returns-clause-plan_complete g c asked domain problem says both told no_rise no_out no_err =
+returns-clause-plan_complete g c asked domain problem says both goal kept few told no_rise no_out no_err =
     let held = g.S.Shelf.held c.args.shelf.now in
     let failed = FailedLast g.S.Shelf.fetched g.S.Shelf.faults c.args.shelf.now c.answer-found.new.shelf in
     let words = map string_bytes c.args.words.now in
@@ -151,8 +150,57 @@ returns-clause-plan_complete g c asked domain problem says both told no_rise no_
     let status = c.deliver.result in
     let given = c.deliver.ensures.0 in
     let d = done held failed words before after out out' err err' status _ given c.answer-found.ensures.cause c.answer-found.ensures.quiet_at c.deliver.ensures.1 c.deliver.ensures.2 in
-    let once : SpellOnce = record { one_domain = c.one_domain.ensures; one_problem = c.one_problem.ensures } in
-    plan_status once held failed words before after out out' err err' status given asked domain problem d says both told
+    let one : OneReading = record {
+      one_domain = c.domain_or_fault.ensures.one_domain;
+      one_domain_fault = c.domain_or_fault.ensures.one_fault;
+      not_both_domain = c.domain_or_fault.ensures.never_both;
+      one_problem = c.one_answer.ensures.one_problem;
+      one_problem_fault = c.one_answer.ensures.one_fault;
+      not_both_problem = c.one_answer.ensures.never_both;
+    } in
+    plan_status one held failed words before after out out' err err' status given asked domain problem d says both goal kept few told
+    (λ file. no_failure g.S.Shelf.fetched g.S.Shelf.faults c.args.shelf.now c.answer-found.new.shelf file no_rise) no_out no_err
+
+pub returns-clause-listed : goal.returns-clause-listed
+returns-clause-listed g c asked says zero =
+    let held = g.S.Shelf.held c.args.shelf.now in
+    let failed = FailedLast g.S.Shelf.fetched g.S.Shelf.faults c.args.shelf.now c.answer-found.new.shelf in
+    let words = map string_bytes c.args.words.now in
+    let before = g.S.Shelf.faults c.args.shelf.now in
+    let after = g.S.Shelf.faults c.answer-found.new.shelf in
+    let out = seen (g.O.Sink.written c.args.out.now) (g.O.Sink.faults c.args.out.now) in
+    let out' = seen (g.O.Sink.written c.deliver.new.out) (g.O.Sink.faults c.deliver.new.out) in
+    let err = seen (g.E.Sink.written c.args.err.now) (g.E.Sink.faults c.args.err.now) in
+    let err' = seen (g.E.Sink.written c.deliver.new.err) (g.E.Sink.faults c.deliver.new.err) in
+    let status = c.deliver.result in
+    let given = c.deliver.ensures.0 in
+    let d = done held failed words before after out out' err err' status _ given c.answer-found.ensures.cause c.answer-found.ensures.quiet_at c.deliver.ensures.1 c.deliver.ensures.2 in
+    let w = listing_written held failed words before after out out' err err' status given asked d says zero in
+    (w.domain, w.problem, w.both, w.within, w.written)
+
+pub returns-clause-ground_complete : goal.returns-clause-ground_complete
+returns-clause-ground_complete g c asked domain problem says both kept told no_rise no_out no_err =
+    let held = g.S.Shelf.held c.args.shelf.now in
+    let failed = FailedLast g.S.Shelf.fetched g.S.Shelf.faults c.args.shelf.now c.answer-found.new.shelf in
+    let words = map string_bytes c.args.words.now in
+    let before = g.S.Shelf.faults c.args.shelf.now in
+    let after = g.S.Shelf.faults c.answer-found.new.shelf in
+    let out = seen (g.O.Sink.written c.args.out.now) (g.O.Sink.faults c.args.out.now) in
+    let out' = seen (g.O.Sink.written c.deliver.new.out) (g.O.Sink.faults c.deliver.new.out) in
+    let err = seen (g.E.Sink.written c.args.err.now) (g.E.Sink.faults c.args.err.now) in
+    let err' = seen (g.E.Sink.written c.deliver.new.err) (g.E.Sink.faults c.deliver.new.err) in
+    let status = c.deliver.result in
+    let given = c.deliver.ensures.0 in
+    let d = done held failed words before after out out' err err' status _ given c.answer-found.ensures.cause c.answer-found.ensures.quiet_at c.deliver.ensures.1 c.deliver.ensures.2 in
+    let one : OneReading = record {
+      one_domain = c.domain_or_fault.ensures.one_domain;
+      one_domain_fault = c.domain_or_fault.ensures.one_fault;
+      not_both_domain = c.domain_or_fault.ensures.never_both;
+      one_problem = c.one_answer.ensures.one_problem;
+      one_problem_fault = c.one_answer.ensures.one_fault;
+      not_both_problem = c.one_answer.ensures.never_both;
+    } in
+    listing_status one held failed words before after out out' err err' status given asked domain problem d says both kept told
     (λ file. no_failure g.S.Shelf.fetched g.S.Shelf.faults c.args.shelf.now c.answer-found.new.shelf file no_rise) no_out no_err
 
 pub returns-clause-due : goal.returns-clause-due
@@ -169,8 +217,15 @@ returns-clause-due g c answer is told no_rise =
     let status = c.deliver.result in
     let given = c.deliver.ensures.0 in
     let d = done held failed words before after out out' err err' status _ given c.answer-found.ensures.cause c.answer-found.ensures.quiet_at c.deliver.ensures.1 c.deliver.ensures.2 in
-    let once : SpellOnce = record { one_domain = c.one_domain.ensures; one_problem = c.one_problem.ensures } in
-    (given, due_answer once held failed words given answer d.cause is told (λ file. no_failure g.S.Shelf.fetched g.S.Shelf.faults c.args.shelf.now c.answer-found.new.shelf file no_rise), d.delivered)
+    let one : OneReading = record {
+      one_domain = c.domain_or_fault.ensures.one_domain;
+      one_domain_fault = c.domain_or_fault.ensures.one_fault;
+      not_both_domain = c.domain_or_fault.ensures.never_both;
+      one_problem = c.one_answer.ensures.one_problem;
+      one_problem_fault = c.one_answer.ensures.one_fault;
+      not_both_problem = c.one_answer.ensures.never_both;
+    } in
+    (given, due_answer one held failed words given answer d.cause is told (λ file. no_failure g.S.Shelf.fetched g.S.Shelf.faults c.args.shelf.now c.answer-found.new.shelf file no_rise), d.delivered)
 
 pub returns-clause-determined : goal.returns-clause-determined
 returns-clause-determined g c answer is told no_rise no_out no_err =
@@ -186,8 +241,15 @@ returns-clause-determined g c answer is told no_rise no_out no_err =
     let status = c.deliver.result in
     let given = c.deliver.ensures.0 in
     let d = done held failed words before after out out' err err' status _ given c.answer-found.ensures.cause c.answer-found.ensures.quiet_at c.deliver.ensures.1 c.deliver.ensures.2 in
-    let once : SpellOnce = record { one_domain = c.one_domain.ensures; one_problem = c.one_problem.ensures } in
-    due_status once held failed words before after out out' err err' status given answer d is told
+    let one : OneReading = record {
+      one_domain = c.domain_or_fault.ensures.one_domain;
+      one_domain_fault = c.domain_or_fault.ensures.one_fault;
+      not_both_domain = c.domain_or_fault.ensures.never_both;
+      one_problem = c.one_answer.ensures.one_problem;
+      one_problem_fault = c.one_answer.ensures.one_fault;
+      not_both_problem = c.one_answer.ensures.never_both;
+    } in
+    due_status one held failed words before after out out' err err' status given answer d is told
     (λ file. no_failure g.S.Shelf.fetched g.S.Shelf.faults c.args.shelf.now c.answer-found.new.shelf file no_rise) no_out no_err
 
 pub returns-clause-shelf_quiet : goal.returns-clause-shelf_quiet

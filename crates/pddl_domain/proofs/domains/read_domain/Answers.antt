@@ -6,6 +6,7 @@ use Rattle.pddl_domain.proofs.Orders.{Laws}
 use Rattle.pddl_domain.proofs.Answered.{read_spelled, read_faulty}
 use Rattle.pddl_domain.proofs.Fitted.{ListLaws, read_fits}
 use Rattle.pddl_domain.proofs.FitActions.{TreeLaws}
+use Rattle.pddl_domain.proofs.WordNames.{read_words}
 use Rattle.pddl_domain.proofs.domains.read_domain.Goals as goal
 
 pub returns-in-Ok-clause-domain : goal.returns-in-Ok-clause-domain
@@ -28,3 +29,8 @@ returns-in-Ok-clause-fits c =
     let trees : TreeLaws = record { formulas = c.formulas_fit.ensures.first; effects = c.effects_fit.ensures.first } in
     let shallow : nesting_of (forest_of c.deref.result.now) ≤ 200 = rw c.deref.ensures.value c.in-Ok.ensures.formed.shallow in
     read_fits lists trees (forest_of c.deref.result.now) shallow c.read_defined.result c.read_defined.ensures.sound c.read_defined.ensures.read
+
+pub returns-in-Ok-clause-words : goal.returns-in-Ok-clause-words
+returns-in-Ok-clause-words c =
+    let rising : IsRising 0 (length c.args.bytes.now) (forest_of c.deref.result.now) = rw c.deref.ensures.value c.in-Ok.ensures.formed.rising in
+    read_words (forest_of c.deref.result.now) (length c.args.bytes.now) rising c.read_defined.result c.read_defined.ensures.sound c.read_defined.ensures.read

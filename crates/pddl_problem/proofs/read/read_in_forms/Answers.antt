@@ -15,6 +15,7 @@ use Rattle.pddl_problem.specs.Values.{definition_value}
 use Rattle.pddl_problem.proofs.Fitting.{definition-found, problem-fits}
 use Rattle.pddl_problem.proofs.Ordered.{problem-fault, no_definition-fault}
 use Rattle.pddl_problem.proofs.PassLemmas.{fault-along}
+use Rattle.pddl_problem.proofs.WordNames.{read_words}
 use Rattle.pddl_problem.proofs.read.read_in_forms.Goals as goal
 
 pub returns-in_default-clause-fault : goal.returns-in_default-clause-fault
@@ -58,3 +59,11 @@ returns-clause-fits c =
     let fits : FitsProblem domain (problem_of (known_in domain) d) =
     problem-fits domain forest d c.requires.domain (definition-found forest d (sym c.in-Some.ensures)) c.requires.shallow none in
     subst (FitsProblem domain) (sym (c.in_ok-problem.ensures.read ∙ ap (λ (k : Known). problem_of k d) known)) fits
+
+pub returns-clause-words : goal.returns-clause-words
+returns-clause-words c =
+    let domain : DomainTree = domain_value c.args.domain.now in
+    let d : Definition = definition_value c.in-Some.definition in
+    read_words domain (forest_of c.args.forms.now) _ c.requires.rising
+    (ap (option_map (problem_of (known_in domain))) (sym c.in-Some.ensures)
+    ∙ (ap (λ (known : Known). Some (problem_of known d)) (sym c.in_ok-known.ensures) ∙ ap Some (sym c.in_ok-problem.ensures.read)))

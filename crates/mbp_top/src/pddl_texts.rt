@@ -1,0 +1,128 @@
+//! Reading the domain and the problem out of their files.
+
+ghost use Rattle.mbp_top.specs.Answers.{no_memory, refused};
+ghost use Rattle.mbp_top.specs.Causes.{IsQuietAt};
+ghost use Rattle.mbp_top.specs.PddlTexts.{
+  HoldBoth,
+  IsFaultyDomain,
+  IsFaultyProblem,
+  ReadBoth,
+  SpellsProblemOf,
+};
+ghost use Rattle.mbp_top.specs.Reading.{Holds, IsRefusedFile};
+ghost use Rattle.mbp_top.specs.Values.{refusal_for, refusal_of};
+ghost use Rattle.pddl_ast.specs.Fits.{FitsDomain, FitsProblem};
+ghost use Rattle.pddl_ast.specs.Values.{domain_value, problem_value};
+ghost use Rattle.pddl_system.specs.Names.{NamesAreWords};
+ghost use Rattle.pddl_domain.specs.Domains.{SpellsDomain};
+ghost use Rattle.plan_io.specs.Fetches.{FailedLast, FetchesFirst};
+ghost use Rattle.std.specs.Prelude.{◌≡◌, ◌≤◌, ◌⊎◌, [], ◌∷◌, IfErr, IfOk, List, OnOk, ℕ};
+
+use crate::answers::Refusal;
+use crate::files::fetch;
+use pddl_ast::{Domain, Problem};
+use pddl_domain::read_domain;
+use pddl_problem::read_problem;
+use plan_io::Shelf;
+use sexpr_text::ReadErr;
+use std::alloc::{AllocError, Global};
+
+/// The refusal of the file of this name for what was wrong in reading it.
+fn misread(alloc: Global, name: &str, error: ReadErr) -> Result<Refusal, AllocError>
+    ensures { IfOk result (λ refusal. refusal_of refusal ≡ refusal_for name.now error) }
+{
+    Ok(match error {
+        ReadErr::Fault(fault) => Refusal::TextFault(String::from_str(alloc, name)?, fault),
+        ReadErr::Memory => Refusal::NoMemory,
+    })
+}
+
+/// The domain in a file.
+pub(crate) fn read_domain_file<S: Shelf>(
+    alloc: Global,
+    shelf: &mut S,
+    name: &str,
+) -> Result<Domain, Refusal>
+    ensures holds { IfOk result
+        (λ d. Holds (S.held shelf.old) SpellsDomain name.now (domain_value d)) }
+    ensures fits { IfOk result (λ d. FitsDomain (domain_value d)) }
+    ensures refused { let failed = FailedLast S.fetched S.faults shelf.old shelf.new in
+        IfErr result (λ refusal. (refusal_of refusal ≡ no_memory)
+        ⊎ IsRefusedFile (S.held shelf.old) failed IsFaultyDomain name.now (refusal_of refusal)) }
+    ensures fetch { S.fetched shelf.old name.now shelf.new }
+    ensures quiet { OnOk result (S.faults shelf.new ≡ S.faults shelf.old) }
+    ensures quiet_at { IfErr result
+        (λ refusal. IsQuietAt (refused (refusal_of refusal)) (S.faults shelf.old)
+        (S.faults shelf.new)) }
+    ensures kept { (file : List ℕ) → S.held shelf.new file ≡ S.held shelf.old file }
+    ensures later { S.faults shelf.old ≤ S.faults shelf.new }
+{
+    let bytes = fetch(alloc, shelf, name)?;
+    match read_domain(alloc, &bytes) {
+        Ok(domain) => Ok(domain),
+        Err(error) => Err(misread(alloc, name, error)?),
+    }
+}
+
+/// The problem of a domain in a file.
+pub(crate) fn read_problem_file<S: Shelf>(
+    alloc: Global,
+    shelf: &mut S,
+    name: &str,
+    domain: &Domain,
+) -> Result<Problem, Refusal>
+    requires { FitsDomain (domain_value domain.now) }
+    ensures holds { IfOk result
+        (λ p. Holds (S.held shelf.old) (SpellsProblemOf (domain_value domain.now)) name.now
+        (problem_value p)) }
+    ensures fits { IfOk result (λ p. FitsProblem (domain_value domain.now) (problem_value p)) }
+    ensures refused { let failed = FailedLast S.fetched S.faults shelf.old shelf.new in
+        IfErr result (λ refusal. (refusal_of refusal ≡ no_memory)
+        ⊎ IsRefusedFile (S.held shelf.old) failed (IsFaultyProblem (domain_value domain.now))
+        name.now (refusal_of refusal)) }
+    ensures fetch { S.fetched shelf.old name.now shelf.new }
+    ensures quiet { OnOk result (S.faults shelf.new ≡ S.faults shelf.old) }
+    ensures quiet_at { IfErr result
+        (λ refusal. IsQuietAt (refused (refusal_of refusal)) (S.faults shelf.old)
+        (S.faults shelf.new)) }
+    ensures kept { (file : List ℕ) → S.held shelf.new file ≡ S.held shelf.old file }
+    ensures later { S.faults shelf.old ≤ S.faults shelf.new }
+{
+    let bytes = fetch(alloc, shelf, name)?;
+    match read_problem(alloc, &bytes, domain) {
+        Ok(problem) => Ok(problem),
+        Err(error) => Err(misread(alloc, name, error)?),
+    }
+}
+
+/// The domain and the problem of it in two files.
+pub(crate) fn read_both<S: Shelf>(
+    alloc: Global,
+    shelf: &mut S,
+    domain_name: &str,
+    problem_name: &str,
+) -> Result<(Domain, Problem), Refusal>
+    ensures holds { IfOk result (λ both. HoldBoth (S.held shelf.old) domain_name.now
+        problem_name.now (domain_value both.0) (problem_value both.1)) }
+    ensures fits_domain { IfOk result (λ both. FitsDomain (domain_value both.0)) }
+    ensures fits_problem { IfOk result
+        (λ both. FitsProblem (domain_value both.0) (problem_value both.1)) }
+    ensures names { IfOk result
+        (λ both. NamesAreWords (domain_value both.0) (problem_value both.1)) }
+    ensures refused { let failed = FailedLast S.fetched S.faults shelf.old shelf.new in
+        IfErr result (λ refusal. (refused (refusal_of refusal) ≡ refused no_memory)
+        ⊎ ReadBoth (S.held shelf.old) failed domain_name.now problem_name.now
+        (λ domain problem answer. ⊥) (refused (refusal_of refusal))) }
+    ensures fetches { FetchesFirst S.fetched
+        (domain_name.now ∷ problem_name.now ∷ []) shelf.old shelf.new }
+    ensures quiet { OnOk result (S.faults shelf.new ≡ S.faults shelf.old) }
+    ensures quiet_at { IfErr result
+        (λ refusal. IsQuietAt (refused (refusal_of refusal)) (S.faults shelf.old)
+        (S.faults shelf.new)) }
+    ensures kept { (file : List ℕ) → S.held shelf.new file ≡ S.held shelf.old file }
+    ensures later { S.faults shelf.old ≤ S.faults shelf.new }
+{
+    let domain = read_domain_file(alloc, shelf, domain_name)?;
+    let problem = read_problem_file(alloc, shelf, problem_name, &domain)?;
+    Ok((domain, problem))
+}

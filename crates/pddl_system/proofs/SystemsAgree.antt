@@ -1,0 +1,163 @@
+-- The system of the task of a domain and a problem is theirs.
+use Rattle.std.proofs.Common.{◌≡◌, ℕ, Bool, true, false, ◌&&◌, cond, List, [], ◌∷◌, map, length, Option, Some, None, refl, sym, ◌∙◌, ap, ◌==◌, if◌then◌else◌}
+use Rattle.std.specs.Prelude.{slice_get}
+use Rattle.std.specs.List.{list_all, list_any, position_or_len}
+use Rattle.std.specs.Option.{option_map, option_map_or}
+use Rattle.std.proofs.lemmas.Bool.{and_right}
+use Rattle.std.proofs.lemmas.List.Elements.{filter_agree}
+use Rattle.std.proofs.Math.Nat.{zero-add}
+use Rattle.task_core.specs.Actions.{after, after_value, change_makes, deletes}
+use Rattle.task_core.specs.Conditions.{holds}
+use Rattle.task_core.specs.Initial.{after_entries, entries_of}
+use Rattle.task_core.specs.Names.{name_bytes}
+use Rattle.task_core.specs.Tasks.{action_count, fluent_count, initial_states, next_states, outcomes_at, system_of}
+use Rattle.task_core.specs.Tasks as tasks
+use Rattle.task_core.specs.Vectors.{Vector, all_vectors, same_value, value_of}
+use Rattle.task_core.specs.declared.literals.Lit.{Lit}
+use Rattle.task_core.specs.declared.conditions.Cond.{Cond}
+use Rattle.task_core.specs.declared.actions.Change.{Change}
+use Rattle.task_core.specs.declared.actions.Outcome.{Outcome}
+use Rattle.task_core.specs.declared.actions.GroundAction.{GroundAction}
+use Rattle.task_core.specs.declared.tasks.Task.{Task}
+use Rattle.pddl_ast.specs.Trees.{AtomTree, FormulaTree, DomainTree, ProblemTree}
+use Rattle.pddl_system.specs.Fluents.{fluents}
+use Rattle.pddl_system.specs.GroundAtoms.{same_atom}
+use Rattle.pddl_system.specs.Instances.{Instance, kept_instances}
+use Rattle.pddl_system.specs.Laws.{TaskHasTheSystem}
+use Rattle.pddl_system.specs.Outcomes.{ChangeTree, Condition, OutcomeTree, may_change, outcomes_of, possible_changes}
+use Rattle.pddl_system.specs.Settings.{Setting, setting}
+use Rattle.pddl_system.specs.States.{atom_holds, comes_about, formula_holds, makes, state_after, value_after, value_at}
+use Rattle.pddl_system.specs.Systems.{facts_of, initial_of, next_of, states_where, system}
+use Rattle.pddl_system.specs.Systems as systems
+use Rattle.pddl_system.specs.Tasks.{ActionTree, CondTree, TaskTree, action_of, change_of, changed_if, condition_of, outcome_of, task_of}
+use Rattle.pddl_system.specs.Values.{action_value, change_value, condition_value, outcome_value, task_value}
+use Rattle.pddl_system.proofs.Lists.{list_all-same, list_any-same, list_any-filter, map-range, zip_any, zip_get, zip_length, zip_map}
+use Rattle.pddl_system.proofs.Members.{Apart}
+use Rattle.pddl_system.proofs.Numbers.{fluents_apart, number_is, place_is}
+use Rattle.pddl_system.proofs.RigidAtoms.{rigid_is_no_fluent}
+use Rattle.pddl_system.proofs.Soundness.{RigidIsNoFluent, no_change}
+use Rattle.pddl_system.proofs.TreeTruth.{formula_same, holds_is, stands_for, tree_holds, trees_hold-row}
+
+-- a change, an outcome and an action that stand for those of the trees do the same
+
+module _ (at : Setting) (fl : List AtomTree) (apart : Apart fl) (rigid : RigidIsNoFluent at fl) (v : Vector) where
+  changed_same : (cs : List Condition) → tree_holds (changed_if at fl cs) (value_of v) ≡ list_all (λ (c : Condition). formula_holds at fl v c.formula c.scope) cs
+  changed_same [] = refl
+  changed_same (c ∷ cs) =
+      trees_hold-row (λ (k : Condition). condition_of at fl k.formula k.scope) (c ∷ cs) (value_of v)
+      ∙ list_all-same _ _ (λ (k : Condition). formula_same at fl v k.formula k.scope) (c ∷ cs)
+
+  -- at the fluent with the number k
+  module _ (k : ℕ) (a : AtomTree) (is_at : slice_get fl k ≡ Some a) (positive : Bool) where
+    change_same : (c : Change) (t : ChangeTree) → change_value c ≡ change_of at fl t → change_makes positive (value_of v) k c ≡ makes at fl v positive a t
+    change_same c t e =
+        let lit : c.lit ≡ record { fluent = record { 0 = position_or_len (same_atom t.atom) fl }; positive = t.positive } = ap (λ (x : CondTree × Lit). x.1) e in
+        let condition : condition_value c.cond ≡ changed_if at fl t.conditions = ap (λ (x : CondTree × Lit). x.0) e in
+        let fluent : (c.lit.fluent.0 == k) ≡ same_atom a t.atom = ap (λ (l : Lit). l.fluent.0 == k) lit ∙ place_is fl apart k a is_at t.atom in
+        let sign : same_value c.lit.positive positive ≡ same_value t.positive positive = ap (λ (l : Lit). same_value l.positive positive) lit in
+        let under : holds c.cond (value_of v) ≡ comes_about at fl v t = holds_is c.cond (value_of v) ∙ ap (λ x. tree_holds x (value_of v)) condition ∙ changed_same t.conditions in
+        ap (λ b. b && same_value c.lit.positive positive && holds c.cond (value_of v)) fluent
+        ∙ ap (λ b. same_atom a t.atom && b && holds c.cond (value_of v)) sign
+        ∙ ap (λ b. same_atom a t.atom && same_value t.positive positive && b) under
+
+    only_possible : (t : ChangeTree) → (may_change at t && makes at fl v positive a t) ≡ makes at fl v positive a t
+    only_possible t = by_test (may_change at t) refl
+      where
+        by_test : (b : Bool) → may_change at t ≡ b → (may_change at t && makes at fl v positive a t) ≡ makes at fl v positive a t
+        by_test true e = ap (λ b. b && makes at fl v positive a t) e
+        by_test false e =
+            ap (λ b. b && makes at fl v positive a t) e
+            ∙ sym (and_right (same_atom a t.atom && same_value t.positive positive) (comes_about at fl v t) (no_change at fl v rigid t e))
+
+    changes_same : (o : Outcome) (t : OutcomeTree) → outcome_value o ≡ outcome_of at fl t → list_any (change_makes positive (value_of v) k) o.changes.items ≡ list_any (makes at fl v positive a) t
+    changes_same o t e =
+        zip_any change_value (change_of at fl) (change_makes positive (value_of v) k) (makes at fl v positive a) change_same o.changes.items (possible_changes at t) e
+        ∙ list_any-filter (may_change at) (makes at fl v positive a) t
+        ∙ list_any-same _ _ only_possible t
+
+  value_same : (o : Outcome) (t : OutcomeTree) → outcome_value o ≡ outcome_of at fl t → (k : ℕ) (a : AtomTree) → slice_get fl k ≡ Some a → after_value o (value_of v) k ≡ value_after at fl v t a
+  value_same o t e k a is_at =
+      let added = changes_same k a is_at true o t e in
+      let deleted = changes_same k a is_at false o t e in
+      let before : value_of v k ≡ atom_holds at fl v a = sym (ap (value_at v (at.is_fact a)) (number_is fl apart k a is_at)) in
+      ap (λ b. cond b true (cond (deletes o (value_of v) k) false (value_of v k))) added
+      ∙ ap (λ b. cond (list_any (makes at fl v true a) t) true (cond b false (value_of v k))) deleted
+      ∙ ap (λ b. cond (list_any (makes at fl v true a) t) true (cond (list_any (makes at fl v false a) t) false b)) before
+
+  after_same : (o : Outcome) (t : OutcomeTree) → outcome_value o ≡ outcome_of at fl t → after (length fl) o v ≡ state_after at fl v t
+  after_same o t e =
+      map-range (after_value o (value_of v)) (value_after at fl v t) fl 0
+      (λ k a is_at. ap (after_value o (value_of v)) (zero-add k) ∙ value_same o t e k a is_at)
+
+  -- the states after an action, where there is one
+  states_of : Option GroundAction → List Vector
+  states_of o =
+      if option_map_or (λ (x : GroundAction). holds x.exec (value_of v)) o false
+      then map (λ q. after (length fl) q v) (option_map_or (λ (x : GroundAction). x.outcomes.items) o []) else []
+
+  next_same : (d : DomainTree) (p : ProblemTree) → setting d p ≡ at → fluents d p ≡ fl → (x : GroundAction) (i : Instance)
+      → condition_value x.exec ≡ condition_of at fl i.schema.precondition i.objects
+      → map outcome_value x.outcomes.items ≡ map (outcome_of at fl) (outcomes_of at i)
+      → states_of (Some x) ≡ next_of at fl v i
+  unfolding states_of
+  next_same d p s f x i exec outcomes =
+      ap (λ b. cond b (map (λ q. after (length fl) q v) x.outcomes.items) []) (stands_for at fl v x.exec i.schema.precondition i.objects exec)
+      ∙ ap (λ vs. cond (formula_holds at fl v i.schema.precondition i.objects) vs []) (zip_map outcome_value (outcome_of at fl) (λ q. after (length fl) q v) (state_after at fl v) after_same x.outcomes.items (outcomes_of at i) outcomes)
+
+module _ (d : DomainTree) (p : ProblemTree) (task : Task) (is : task_value task ≡ task_of d p) where
+  count_same : fluent_count task ≡ length (fluents d p)
+  count_same = zip_length name_bytes (systems.atom_name d p) task.fluents.items (fluents d p) (ap (λ (t : TaskTree). t.fluents) is)
+
+  actions_are : map action_value task.actions.items ≡ map (action_of d p) (kept_instances d p)
+  actions_are = ap (λ (t : TaskTree). t.actions) is
+
+  outcome_counts_same : (a : ℕ) → length (outcomes_at task a) ≡ option_map_or (λ i. length (outcomes_of (setting d p) i)) (slice_get (kept_instances d p) a) 0
+  outcome_counts_same a =
+      zip_get action_value (action_of d p)
+      (λ o q. length (option_map_or (λ (x : GroundAction). x.outcomes.items) o []) ≡ option_map_or (λ i. length (outcomes_of (setting d p) i)) q 0)
+      refl
+      (λ x i e. zip_length outcome_value (outcome_of (setting d p) (fluents d p)) x.outcomes.items (outcomes_of (setting d p) i) (ap (λ (t : ActionTree). t.outcomes) e))
+      task.actions.items (kept_instances d p) actions_are a
+
+  next_states_same : (v : Vector) (a : ℕ) → next_states task v a ≡ option_map_or (next_of (setting d p) (fluents d p) v) (slice_get (kept_instances d p) a) []
+  unfolding states_of
+  next_states_same v a =
+      ap (λ n. if option_map_or (λ (x : GroundAction). holds x.exec (value_of v)) (slice_get task.actions.items a) false
+      then map (λ q. after n q v) (option_map_or (λ (x : GroundAction). x.outcomes.items) (slice_get task.actions.items a) []) else []) count_same
+      ∙ zip_get action_value (action_of d p)
+      (λ o q. states_of (setting d p) (fluents d p) (fluents_apart d p) (rigid_is_no_fluent d p) v o ≡ option_map_or (next_of (setting d p) (fluents d p) v) q [])
+      refl
+      (λ x i e. next_same (setting d p) (fluents d p) (fluents_apart d p) (rigid_is_no_fluent d p) v d p refl refl x i (ap (λ (t : ActionTree). t.exec) e) (ap (λ (t : ActionTree). t.outcomes) e))
+      task.actions.items (kept_instances d p) actions_are a
+
+  initial_same : initial_states task ≡ initial_of (setting d p) (fluents d p) p.entries
+  initial_same =
+      ap (λ vs. after_entries (fluent_count task) vs (entries_of task.init)) (ap (λ (t : TaskTree). t.facts) is)
+      ∙ ap (λ es. after_entries (fluent_count task) (facts_of (setting d p) (fluents d p)) es) (ap (λ (t : TaskTree). t.entries) is)
+      ∙ ap (λ n. after_entries n (facts_of (setting d p) (fluents d p)) (map (systems.entry_of (fluents d p)) p.entries)) count_same
+
+  goal_of : (goal : Option Cond) (wanted : Option FormulaTree) → option_map condition_value goal ≡ option_map (λ f. condition_of (setting d p) (fluents d p) f []) wanted
+      → option_map (tasks.states_where (length (fluents d p))) goal ≡ option_map (states_where (setting d p) (fluents d p)) wanted
+  goal_of None None e = refl
+  goal_of None (Some f) e = absurd (cc)
+  goal_of (Some c) None e = absurd (cc)
+  goal_of (Some c) (Some f) e =
+      let one : condition_value c ≡ condition_of (setting d p) (fluents d p) f [] = cc in
+      ap Some (filter_agree (λ v. holds c (value_of v)) (λ v. formula_holds (setting d p) (fluents d p) v f []) (λ v. stands_for (setting d p) (fluents d p) v c f [] one) (all_vectors (length (fluents d p))))
+
+  goal_same : option_map (tasks.states_where (fluent_count task)) task.goal ≡ option_map (states_where (setting d p) (fluents d p)) p.goal
+  goal_same =
+      ap (λ n. option_map (tasks.states_where n) task.goal) count_same ∙ goal_of task.goal p.goal (ap (λ (t : TaskTree). t.goal) is)
+
+  system_same : system_of task ≡ system d p
+  system_same = λ i. record {
+    fluents = count_same i;
+    actions = zip_length action_value (action_of d p) task.actions.items (kept_instances d p) actions_are i;
+    outcomes = λ a. outcome_counts_same a i;
+    initial = initial_same i;
+    goal = goal_same i;
+    next = λ v a. next_states_same v a i;
+  }
+
+pub task_has_the_system : TaskHasTheSystem
+task_has_the_system d p task is = system_same d p task is
