@@ -1,12 +1,13 @@
 -- A table of atoms answers as the list of the plain atoms does.
-use Rattle.std.proofs.Common.{◌≡◌, ℕ, suc, ◌+◌, ◌<◌, ◌≤◌, arith, Bool, true, false, cond, not, List, [], ◌∷◌, ◌++◌, map, length, refl, ap, sym, ◌∙◌, Some, None, Option, ◌||◌}
+use Rattle.std.proofs.Common.{◌≡◌, ℕ, suc, ◌+◌, ◌<◌, ◌≤◌, arith, Bool, true, false, cond, not, List, [], ◌∷◌, ◌++◌, map, length, refl, ap, sym, ◌∙◌, Some, None, Option, ◌||◌, if◌then◌else◌}
 use Rattle.std.specs.Prelude.{nat_lt}
 use Rattle.std.specs.List.{list_any, position, position_or_len}
 use Rattle.std.proofs.lemmas.Bool.{ltb-false}
-use Rattle.std.proofs.lemmas.List.{length-map}
+use Rattle.std.proofs.lemmas.List.{length-map, map-append}
 use Rattle.ground_instances.specs.Atoms.{atom_tree}
 use Rattle.ground_instances.specs.declared.atoms.Atom.{Atom}
 use Rattle.ground_instances.specs.contracts.atoms.AtomPartialEq as derived
+use Rattle.ground_task.specs.Collecting.{with_atom}
 use Rattle.pddl_ast.specs.Trees.{AtomTree}
 use Rattle.pddl_system.specs.GroundAtoms.{is_among, same_atom}
 use Rattle.pddl_system.specs.States.{number_of}
@@ -47,3 +48,16 @@ no_place p xs none = pick (nat_lt (position_or_len p xs) (length xs)) refl none
     pick : (b : Bool) → nat_lt (position_or_len p xs) (length xs) ≡ b → None ≡ cond b (Some (position_or_len p xs)) None → length xs ≡ position_or_len p xs
     pick true is none = cc
     pick false is none = omega (arith, place_within p xs, ltb-false (position_or_len p xs) (length xs) is)
+
+-- the table after an atom is added
+pub table_with : (keys after : List Atom) (a : Atom) → nat_lt 256 (length (map atom_tree keys)) ≡ false
+    → after ≡ (if list_any (is_atom a) keys then keys else keys ++ a ∷ []) → map atom_tree after ≡ with_atom (map atom_tree keys) (atom_tree a)
+table_with keys after a few grows =
+    ap (map atom_tree) grows
+    ∙ ap (λ b. map atom_tree (if b then keys else keys ++ a ∷ [])) (any_atom a keys)
+    ∙ both (is_among (map atom_tree keys) (atom_tree a))
+    ∙ ap (λ b. if b || is_among (map atom_tree keys) (atom_tree a) then map atom_tree keys else map atom_tree keys ++ atom_tree a ∷ []) (sym few)
+  where
+    both : (b : Bool) → map atom_tree (if b then keys else keys ++ a ∷ []) ≡ (if b then map atom_tree keys else map atom_tree keys ++ atom_tree a ∷ [])
+    both true = refl
+    both false = map-append atom_tree keys (a ∷ [])

@@ -6,3 +6,4 @@ pub mod ConditionLemmas
 pub mod CountLemmas
 pub mod EffectLemmas
 pub mod ListSteps
+pub mod NamingLemmas

@@ -1,3 +1,5 @@
 pub mod Built
 pub mod Capped
+pub mod Collecting
 pub mod Limits
+pub mod Numbered

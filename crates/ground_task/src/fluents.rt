@@ -1,19 +1,24 @@
 //! The fluents of a task by their numbers.
 
-ghost use Rattle.std.specs.Prelude.{◌≡◌, ◌≤◌, length};
+ghost use Rattle.std.specs.Prelude.{◌≡◌, ◌≤◌, [], length, nat_lt, OnOk};
 ghost use Rattle.std.specs.List.{position_or_len};
 ghost use Rattle.std.specs.Option.{option_map};
 ghost use Rattle.ground_instances.specs.Atoms.{atom_tree};
+ghost use Rattle.ground_task.specs.Collecting.{with_atom};
 ghost use Rattle.pddl_system.specs.GroundAtoms.{same_atom};
 ghost use Rattle.pddl_system.specs.States.{number_of};
 
 use ground_instances::Atom;
 use indexmap::IndexSet;
+use std::alloc::{AllocError, Global};
 use std::marker::Model;
 use task_core::FluentId;
 
-/// The fluents of a task, at most 256. A clause sees the list of the atoms, whose places are their
-/// numbers.
+/// The most fluents of a task.
+const MOST_FLUENTS: usize = 256;
+
+/// The fluents of a task: different atoms, at most 257, by which it is seen that they are too many.
+/// A clause sees the list of the atoms, whose places are their numbers.
 #[derive(Drop)]
 pub(crate) struct Fluents {
     atoms: IndexSet<Atom>,
@@ -28,14 +33,41 @@ impl Model for Fluents {
 
     ghost view = { λ t. map atom_tree t.atoms.keys };
 
-    ghost invariant = { λ t. length t.atoms.keys ≤ 256 };
+    ghost invariant = { λ t. length t.atoms.keys ≤ 257 };
 }
 
 impl Fluents {
+    /// No atoms.
+    pub fn new(alloc: Global) -> Fluents
+        ensures { result ≡ [] }
+    {
+        Fluents {
+            atoms: IndexSet::new(alloc),
+        }
+    }
+
+    /// Whether there are too many.
+    pub fn is_full(&self) -> bool
+        ensures { result ≡ nat_lt 256 (length self.now) }
+    {
+        self.atoms.len() > MOST_FLUENTS
+    }
+
+    /// Adds an atom, unless it is there already or there are too many.
+    pub fn add(&mut self, atom: Atom) -> Result<(), AllocError>
+        ensures { OnOk result (self.new ≡ with_atom self.old (atom_tree atom)) }
+    {
+        if self.is_full() {
+            return Ok(());
+        }
+        self.atoms.insert(atom)?;
+        Ok(())
+    }
+
     /// How many fluents there are.
     pub fn len(&self) -> usize
         ensures count { result ≡ length self.now }
-        ensures few { result ≤ 256 }
+        ensures few { result ≤ 257 }
     {
         self.atoms.len()
     }

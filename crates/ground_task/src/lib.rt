@@ -9,7 +9,9 @@ mod counts;
 mod fluents;
 mod grounding;
 mod guards;
+mod naming;
 mod outcomes;
 mod products;
+mod schemas;
 
 pub use grounding::{GroundErr, Grounded, ground};

@@ -186,7 +186,9 @@ fn outcomes(
             Ok(one_change(alloc, fluents, guards, &atom, false)?)
         }
         Effect::Both(parts) => Ok(outcomes_of_both(alloc, setting, fluents, guards, parts, scope)?),
-        Effect::OneOf(parts) => Ok(outcomes_of_either(alloc, setting, fluents, guards, parts, scope)?),
+        Effect::OneOf(parts) => Ok(outcomes_of_either(
+            alloc, setting, fluents, guards, parts, scope,
+        )?),
         Effect::When(formula, part) => {
             let value = setting.value(alloc, formula, scope)?;
             let cond = condition(alloc, setting, fluents, formula, scope)?;

@@ -42,9 +42,9 @@ outcomes-returns-in_ok-outcomes-in-When-clause-outcomes t c =
     let inner = c.in_ok-inner-in-When.inner in
     let same_scope : c.condition.new.scope.items ≡ scope = c.in_ok-cond-in-When.ensures.scope ∙ c.in_ok-value-in-When.ensures.scope in
     let conds : guard_conditions inner ≡ guard_conditions g ++ condition_of at fluents f scope ∷ [] =
-        c.in_ok-inner-in-When.ensures.conditions ∙ ap (λ (k : CondTree). guard_conditions g ++ k ∷ []) (c.in_ok-cond-in-When.ensures.condition ∙ ap (condition_of at fluents f) c.in_ok-value-in-When.ensures.scope) in
+    c.in_ok-inner-in-When.ensures.conditions ∙ ap (λ (k : CondTree). guard_conditions g ++ k ∷ []) (c.in_ok-cond-in-When.ensures.condition ∙ ap (condition_of at fluents f) c.in_ok-value-in-When.ensures.scope) in
     let may : inner.may_hold ≡ (g.may_hold && may_hold (value at f scope)) =
-        c.in_ok-inner-in-When.ensures.may_hold ∙ ap (λ b. g.may_hold && b) (c.may_hold.ensures ∙ ap may_hold c.in_ok-value-in-When.ensures.value) in
+    c.in_ok-inner-in-When.ensures.may_hold ∙ ap (λ b. g.may_hold && b) (c.may_hold.ensures ∙ ap may_hold c.in_ok-value-in-When.ensures.value) in
     let os = plain.outcomes at.objects part scope in
     c.in_ok-outcomes-in-When.ensures.outcomes
     ∙ ap (λ s. outcomes_under at fluents inner (plain.outcomes at.objects part s)) same_scope
@@ -61,15 +61,16 @@ outcomes_of_both-loop-effect-init t c =
 pub outcomes_of_both-loop-effect-preserved : goal.outcomes_of_both-loop-effect-preserved
 outcomes_of_both-loop-effect-preserved t c =
     let at = setting_in c.args.setting.now in
-    let scope = c.args.scope.now.items in
-    (c.in_ok-next.ensures.scope ∙ c.loop-effect.invariant.0,
-    together_step at c.args.fluents.now c.args.guards.now (λ (e : Effect). plain.outcomes at.objects (effect_value e) scope) c.args.effects.now c.loop-effect.effect-index c.effect-item.result
-    (map outcome_value c.loop-effect.made.items) (map outcome_value c.in_ok-next.next.items) _ _ c.loop-effect-test.true
-    (c.in_ok-next.ensures.outcomes
-    ∙ ap (λ s. outcomes_under at c.args.fluents.now c.args.guards.now (plain.outcomes at.objects (effect_value c.effect-item.result) s)) c.loop-effect.invariant.0
-    ∙ ap (λ (e : Effect). outcomes_under at c.args.fluents.now c.args.guards.now (plain.outcomes at.objects (effect_value e) scope)) c.effect-item.is)
-    (c.in_ok-made-2.ensures ∙ ap (λ l. crossed (map outcome_value c.loop-effect.made.items) (map outcome_value l)) c.deref.ensures.value)
-    c.loop-effect.invariant.1)
+    let scope = c.args.scope.now.items in (
+      c.in_ok-next.ensures.scope ∙ c.loop-effect.invariant.0,
+      together_step at c.args.fluents.now c.args.guards.now (λ (e : Effect). plain.outcomes at.objects (effect_value e) scope) c.args.effects.now c.loop-effect.effect-index c.effect-item.result
+          (map outcome_value c.loop-effect.made.items) (map outcome_value c.in_ok-next.next.items) _ _ c.loop-effect-test.true
+          (c.in_ok-next.ensures.outcomes
+          ∙ ap (λ s. outcomes_under at c.args.fluents.now c.args.guards.now (plain.outcomes at.objects (effect_value c.effect-item.result) s)) c.loop-effect.invariant.0
+          ∙ ap (λ (e : Effect). outcomes_under at c.args.fluents.now c.args.guards.now (plain.outcomes at.objects (effect_value e) scope)) c.effect-item.is)
+          (c.in_ok-made-2.ensures ∙ ap (λ l. crossed (map outcome_value c.loop-effect.made.items) (map outcome_value l)) c.deref.ensures.value)
+          c.loop-effect.invariant.1,
+    )
 
 pub outcomes_of_both-returns-clause-outcomes : goal.outcomes_of_both-returns-clause-outcomes
 outcomes_of_both-returns-clause-outcomes t c =
@@ -99,13 +100,14 @@ outcomes_of_each-loop-number-preserved t c =
     let part = effect_value c.args.effect.now in
     let chosen = get_or all number [] in
     let there : number < length all = bound_below at.objects c.args.types.now c.binding_count-count.result number c.binding_count-count.ensures c.loop-number-test.true in
-    let entered : c.bind.new.scope.items ≡ scope ++ chosen = c.in_ok-bind.ensures ∙ ap (λ s. s ++ chosen) c.loop-number.invariant.0 in
-    (c.truncate.ensures.items ∙ unbound scope c.bind.new.scope.items c.outcomes.new.scope.items c.loop-number.scope.items chosen c.len-outer.result c.in_ok-bind.ensures c.loop-number.invariant.0 c.in_ok-next.ensures.scope (c.len-outer.ensures ∙ c.args.scope.now.ok.0),
-    together_step at c.args.fluents.now c.args.guards.now (λ (b : List ℕ). plain.outcomes at.objects part (scope ++ b)) all number []
-    (map outcome_value c.loop-number.made.items) (map outcome_value c.in_ok-next.next.items) _ _ there
-    (c.in_ok-next.ensures.outcomes ∙ ap (λ s. outcomes_under at c.args.fluents.now c.args.guards.now (plain.outcomes at.objects part s)) entered)
-    (c.in_ok-made-2.ensures ∙ ap (λ l. crossed (map outcome_value c.loop-number.made.items) (map outcome_value l)) c.deref.ensures.value)
-    c.loop-number.invariant.1)
+    let entered : c.bind.new.scope.items ≡ scope ++ chosen = c.in_ok-bind.ensures ∙ ap (λ s. s ++ chosen) c.loop-number.invariant.0 in (
+      c.truncate.ensures.items ∙ unbound scope c.bind.new.scope.items c.outcomes.new.scope.items c.loop-number.scope.items chosen c.len-outer.result c.in_ok-bind.ensures c.loop-number.invariant.0 c.in_ok-next.ensures.scope (c.len-outer.ensures ∙ c.args.scope.now.ok.0),
+      together_step at c.args.fluents.now c.args.guards.now (λ (b : List ℕ). plain.outcomes at.objects part (scope ++ b)) all number []
+          (map outcome_value c.loop-number.made.items) (map outcome_value c.in_ok-next.next.items) _ _ there
+          (c.in_ok-next.ensures.outcomes ∙ ap (λ s. outcomes_under at c.args.fluents.now c.args.guards.now (plain.outcomes at.objects part s)) entered)
+          (c.in_ok-made-2.ensures ∙ ap (λ l. crossed (map outcome_value c.loop-number.made.items) (map outcome_value l)) c.deref.ensures.value)
+          c.loop-number.invariant.1,
+    )
 
 pub outcomes_of_each-returns-clause-outcomes : goal.outcomes_of_each-returns-clause-outcomes
 outcomes_of_each-returns-clause-outcomes t c =
