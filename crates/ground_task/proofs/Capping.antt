@@ -68,6 +68,12 @@ shown_power a n = elim (cases_lt 1000001 n) [
   | inr below ↦ ap (λ k. capped (a ^ k)) (min-eq_left below)
 ]
 
+pub bounded_power : (a n : ℕ) → capped (a ^ min n 65) ≡ capped (a ^ n)
+bounded_power a n = elim (cases_lt 65 n) [
+  | inl above ↦ large_power a (min n 65) n (omega arith) (omega arith)
+  | inr below ↦ ap (λ k. capped (a ^ k)) (min-eq_left below)
+]
+
 -- a power of a count that stands at the bound, to a shown exponent
 pub power_of : (a n made exponent r : ℕ) → made ≡ capped a → exponent ≡ shown n → r ≡ capped (made ^ exponent) → r ≡ capped (a ^ n)
 power_of a n made exponent r is shows by =

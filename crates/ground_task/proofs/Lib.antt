@@ -2,8 +2,12 @@ pub mod AtomLemmas
 pub mod BindingLemmas
 pub mod BuiltLemmas
 pub mod Capping
+pub mod CollectedLemmas
 pub mod ConditionLemmas
 pub mod CountLemmas
 pub mod EffectLemmas
+pub mod FoundLemmas
 pub mod ListSteps
 pub mod NamingLemmas
+pub mod NumberedLemmas
+pub mod OrderLemmas

@@ -1,11 +1,14 @@
 //! The fluents of a task by their numbers.
 
-ghost use Rattle.std.specs.Prelude.{◌≡◌, ◌≤◌, [], length, nat_lt, OnOk};
-ghost use Rattle.std.specs.List.{position_or_len};
+ghost use Rattle.std.specs.Prelude.{◌≡◌, ◌≢◌, ◌≤◌, ◌<◌, [], length, nat_lt, slice_index_or, OnOk};
+ghost use Rattle.std.specs.List.{AllPairs, position_or_len};
+ghost use Rattle.std.specs.List.Sorted.{IsSorted};
 ghost use Rattle.std.specs.Option.{option_map};
 ghost use Rattle.ground_instances.specs.Atoms.{atom_tree};
+ghost use Rattle.pddl_ast.specs.Trees.{AtomTree};
 ghost use Rattle.ground_task.specs.Collecting.{with_atom};
-ghost use Rattle.pddl_system.specs.GroundAtoms.{same_atom};
+ghost use Rattle.pddl_system.specs.GroundAtoms.{is_among, same_atom};
+ghost use Rattle.pddl_system.specs.Orders.{atom_order};
 ghost use Rattle.pddl_system.specs.States.{number_of};
 
 use ground_instances::Atom;
@@ -62,6 +65,25 @@ impl Fluents {
         }
         self.atoms.insert(atom)?;
         Ok(())
+    }
+
+    /// Puts the atoms in order.
+    pub fn sort(&mut self) -> Result<(), AllocError>
+        ensures sorted { OnOk result (IsSorted atom_order self.new) }
+        ensures differ { OnOk result (AllPairs (λ a b. a ≢ b) self.new) }
+        ensures same { OnOk result ((a : AtomTree) → is_among self.new a ≡ is_among self.old a) }
+        ensures count { OnOk result (length self.new ≡ length self.old) }
+    {
+        self.atoms.sort()?;
+        Ok(())
+    }
+
+    /// The fluent with this number.
+    pub fn atom(&self, place: usize) -> &Atom
+        requires { place < length self.now }
+        ensures { (d : AtomTree) → atom_tree result.now ≡ slice_index_or self.now place d }
+    {
+        &self.atoms.as_slice()[place]
     }
 
     /// How many fluents there are.

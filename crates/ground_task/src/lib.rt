@@ -7,6 +7,7 @@ mod conditions;
 mod copies;
 mod counts;
 mod fluents;
+mod found;
 mod grounding;
 mod guards;
 mod naming;
