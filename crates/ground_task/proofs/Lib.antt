@@ -6,8 +6,11 @@ pub mod CollectedLemmas
 pub mod ConditionLemmas
 pub mod CountLemmas
 pub mod EffectLemmas
+pub mod FactLemmas
 pub mod FoundLemmas
+pub mod LimitLemmas
 pub mod ListSteps
 pub mod NamingLemmas
 pub mod NumberedLemmas
 pub mod OrderLemmas
+pub mod WordLemmas

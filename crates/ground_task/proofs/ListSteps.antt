@@ -1,5 +1,5 @@
 -- One step of a loop over a list, where what is made so far and what the rest gives are the whole.
-use Rattle.std.proofs.Common.{◌≡◌, ℕ, ◌+◌, ◌<◌, ◌≤◌, List, [], ◌∷◌, ◌++◌, map, length, get_or, drop, refl, ap, sym, ◌∙◌}
+use Rattle.std.proofs.Common.{add-one, suc, ◌≡◌, ℕ, ◌+◌, ◌<◌, ◌≤◌, List, [], ◌∷◌, ◌++◌, map, length, get_or, drop, refl, ap, sym, ◌∙◌}
 use Rattle.std.specs.List.{flat_map}
 use Rattle.std.proofs.lemmas.List.{append_assoc, append-nil, at_drop_more, at_drop_all, map-append}
 
@@ -30,3 +30,13 @@ flat_map_step F xs i d done all within so_far =
 
 pub flat_map_end : {X Y : Type 0} (F : X → List Y) (xs : List X) (i : ℕ) (done all : List Y) → length xs ≤ i → done ++ flat_map F (drop i xs) ≡ all → done ≡ all
 flat_map_end F xs i done all past so_far = sym (append-nil done) ∙ ap (λ l. done ++ l) (sym (at_drop_all (flat_map F) xs i past)) ∙ so_far
+
+pub map_turn : {X Y Z : Type 0} (read : Z → Y) (F : X → Y) (xs : List X) (i : ℕ) (x : X) (made : List Z) (new : Z) (all : List Y) → drop i xs ≡ x ∷ drop (suc i) xs
+    → read new ≡ F x → map read made ++ map F (drop i xs) ≡ all
+    → map read (made ++ new ∷ []) ++ map F (drop (i + 1) xs) ≡ all
+map_turn read F xs i x made new all here is so_far =
+    ap (λ n. map read (made ++ new ∷ []) ++ map F (drop n xs)) (add-one i)
+    ∙ ap (λ l. l ++ map F (drop (suc i) xs)) (map-append read made (new ∷ []) ∙ ap (λ y. map read made ++ y ∷ []) is)
+    ∙ append_assoc (map read made) (F x ∷ []) (map F (drop (suc i) xs))
+    ∙ ap (λ l. map read made ++ map F l) (sym here)
+    ∙ so_far

@@ -31,12 +31,13 @@ pub read_at_action : (d : DomainTree) (at : Setting) (few : List Bool) (item : I
     → (item.action < length few) × (r ≡ get_or few item.action r → r ≡ nat_le (length (outcomes_of at k)) most_outcomes)
 read_at_action d at few item k r made is =
     let there = picked item.objects.items d.actions item.action k is in
-    let n : length few ≡ length d.actions = ap length made ∙ length-map d.actions (has_few at) in
-    (omega (arith, there.0),
-    λ read. read ∙ ap (λ l. get_or l item.action r) made
-    ∙ get_or-map (has_few at) d.actions item.action k.schema r there.0
-    ∙ ap (has_few at) (sym there.1)
-    ∙ ap (λ c. nat_le c most_outcomes) (sym (outcomes_are_counted at.objects k.schema.effect k.objects)))
+    let n : length few ≡ length d.actions = ap length made ∙ length-map d.actions (has_few at) in (
+      omega (arith, there.0),
+      λ read. read ∙ ap (λ l. get_or l item.action r) made
+          ∙ get_or-map (has_few at) d.actions item.action k.schema r there.0
+          ∙ ap (has_few at) (sym there.1)
+          ∙ ap (λ c. nat_le c most_outcomes) (sym (outcomes_are_counted at.objects k.schema.effect k.objects)),
+    )
 
 pub all_fails : {X : Type 0} (test : X → Bool) (xs : List X) (i : ℕ) (x : X) (whole : Bool) → drop i xs ≡ x ∷ drop (suc i) xs → test x ≡ false → list_all test (drop i xs) ≡ whole → false ≡ whole
 all_fails test xs i x whole here fails so_far = sym (ap (list_all test) here ∙ ap (λ b. b && list_all test (drop (suc i) xs)) fails) ∙ so_far

@@ -1,3 +1,4 @@
+pub mod Actions
 pub mod Built
 pub mod Capped
 pub mod Collecting

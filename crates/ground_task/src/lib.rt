@@ -3,6 +3,7 @@
 //! What the trees mean, the limits included, stands in `pddl_system`.
 #![tactic(auto)]
 
+mod actions;
 mod conditions;
 mod copies;
 mod counts;
@@ -10,6 +11,8 @@ mod fluents;
 mod found;
 mod grounding;
 mod guards;
+mod initial;
+mod names;
 mod naming;
 mod outcomes;
 mod products;

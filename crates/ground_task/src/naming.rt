@@ -143,7 +143,7 @@ pub(crate) fn name_instances(
 }
 
 /// A copy of an atom of a problem.
-fn atom_of(alloc: Global, atom: &GroundAtom) -> Result<Atom, AllocError>
+pub(crate) fn atom_of(alloc: Global, atom: &GroundAtom) -> Result<Atom, AllocError>
     ensures { IfOk result (λ copy. atom_tree copy ≡ atom_value atom.now) }
 {
     Ok(Atom {
