@@ -1,5 +1,6 @@
 pub mod Atoms
 pub mod Counts
+pub mod Entering
 pub mod Kept
 pub mod Tables
 pub mod Values

@@ -1,8 +1,8 @@
 -- A setting as tables, which is what is seen of the type that holds one.
-use Rattle.std.specs.Prelude.{ℕ, nat_eq, not, List, [], slice_get}
+use Rattle.std.specs.Prelude.{ℕ, nat_eq, ◌==◌, Bool, not, List, [], slice_get}
 use Rattle.std.specs.List.{list_any}
 use Rattle.std.specs.Option.{option_map_or}
-use Rattle.pddl_ast.specs.Trees.{AtomTree}
+use Rattle.pddl_ast.specs.Trees.{AtomTree, LiteralTree}
 use Rattle.pddl_system.specs.GroundAtoms.{is_among}
 use Rattle.pddl_system.specs.Settings.{Setting}
 
@@ -25,3 +25,7 @@ setting_in tables = record {
   is_rigid = λ q. not (list_any (nat_eq q) tables.changed);
   is_fact = is_among tables.facts;
 }
+
+-- Private: whether some literals name a predicate.
+abbrev pub names_predicate : ℕ → List LiteralTree → Bool
+names_predicate q = list_any (λ (l : LiteralTree). l.atom.predicate == q)

@@ -9,15 +9,15 @@ use pddl_ast::{ObjectId, PredicateId, Term};
 use std::alloc::{AllocError, Global};
 
 /// A predicate with an object for each of its terms. Equal ones have equal hashes.
-#[derive(Debug, PartialEq, Eq, Hash, Drop)]
+#[derive(Debug, PartialEq, Eq, PartialOrd, Ord, Hash, Drop)]
 pub struct Atom {
     pub predicate: PredicateId,
     pub objects: Vec<ObjectId>,
 }
 
 impl Atom {
-    /// The atom of a predicate and terms, where the variables in scope stand for these objects. Fails
-    /// only where memory runs out.
+    /// The atom of a predicate and terms, where the variables in scope stand for these objects.
+    /// Fails only where memory runs out.
     pub fn of_terms(
         alloc: Global,
         predicate: PredicateId,
@@ -26,7 +26,11 @@ impl Atom {
     ) -> Result<Atom, AllocError>
         ensures { IfOk result (λ atom. atom_tree atom ≡ atom_of scope.now predicate terms.now) }
     {
-        Err(AllocError)
+        let objects = terms
+            .iter()
+            .map(|term| object_of(scope, term))
+            .collect(alloc)?;
+        Ok(Atom { predicate, objects })
     }
 }
 

@@ -1,6 +1,6 @@
 //! Bindings of variables by their numbers.
 
-ghost use Rattle.std.specs.Prelude.{◌≡◌, ◌<◌, [], ◌++◌, slice_index_or, OnOk};
+ghost use Rattle.std.specs.Prelude.{◌≡◌, ◌<◌, [], ◌++◌, ◌+◌, ◌*◌, ◌≤◌, ◌↔◌, slice_index_or, IfOk, IsErr, OnOk};
 ghost use Rattle.ground_instances.specs.Counts.{shown};
 ghost use Rattle.ground_instances.specs.Tables.{setting_in};
 ghost use Rattle.pddl_system.specs.Objects.{bindings};
@@ -10,13 +10,36 @@ use crate::setting::Setting;
 use pddl_ast::{ObjectId, TypeId};
 use std::alloc::AllocError;
 
+/// At this number counts stand still.
+const TOO_MANY: usize = 1_000_001;
+
+/// The sum of two counts that stand at a bound.
+pub fn total(first: usize, second: usize) -> usize
+    requires first { first ≤ 1000001 }
+    requires second { second ≤ 1000001 }
+    ensures { result ≡ shown (first + second) }
+{
+    (first + second).min(TOO_MANY)
+}
+
+/// The product of two counts, which stands at a bound.
+pub fn product(first: usize, second: usize) -> usize
+    ensures { result ≡ shown (first * second) }
+{
+    first.saturating_mul(second).min(TOO_MANY)
+}
+
 impl Setting {
     /// How many bindings there are of variables of these types; 1,000,001 where there are more than
     /// 1,000,000.
     pub fn binding_count(&self, types: &[TypeId]) -> usize
         ensures { result ≡ shown (binding_count (setting_in self.now).objects types.now) }
     {
-        0
+        let mut count = 1;
+        for type_id in types {
+            count = product(count, self.objects_of(*type_id).len());
+        }
+        count
     }
 
     /// Brings variables of these types into scope, with the objects of the binding that has this
@@ -34,6 +57,30 @@ impl Setting {
         ensures { OnOk result (scope.new.items ≡ scope.old.items
             ++ slice_index_or (bindings (setting_in self.now).objects types.now) number []) }
     {
-        Err(AllocError)
+        let mut below = count;
+        let mut rest = number;
+        for type_id in types {
+            let objects = self.objects_of(*type_id);
+            below /= objects.len();
+            scope.push(objects[rest / below])?;
+            rest %= below;
+        }
+        Ok(())
+    }
+
+    /// How many bindings there are of variables of these types. More than 1,000,000 are refused as
+    /// want of memory is.
+    pub fn few_bindings(&self, types: &[TypeId]) -> Result<usize, AllocError>
+        ensures count { IfOk result (λ count. count
+            ≡ binding_count (setting_in self.now).objects types.now) }
+        ensures many { IsErr result ↔
+            (1000000 < binding_count (setting_in self.now).objects types.now) }
+    {
+        let count = self.binding_count(types);
+        if count == TOO_MANY {
+            Err(AllocError)
+        } else {
+            Ok(count)
+        }
     }
 }

@@ -1,5 +1,5 @@
-//! What is counted and kept before a task is built: the setting of a domain and a problem, values of
-//! formulas as far as the setting decides them, sizes, and the numbered list of kept instances.
+//! What is counted and kept before a task is built: the setting of a domain and a problem, values
+//! of formulas as far as the setting decides them, sizes, and the numbered list of kept instances.
 //!
 //! The definitions stand in `pddl_system`; `specs/` says what the types here stand for. Everything
 //! here may fail for want of memory, and for no other reason within the limits that
@@ -8,7 +8,9 @@
 
 mod atoms;
 mod bindings;
+mod changed;
 mod instances;
+mod objects;
 mod setting;
 mod sizes;
 mod values;

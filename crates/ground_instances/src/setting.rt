@@ -9,6 +9,8 @@ ghost use Rattle.pddl_system.specs.Settings.{setting};
 ghost use Rattle.pddl_system.specs.Sizes.{keeps, object_limit};
 
 use crate::atoms::Atom;
+use crate::changed::{changed_predicates, fact_set};
+use crate::objects::objects_by_type;
 use indexmap::IndexSet;
 use pddl_ast::{Domain, ObjectId, PredicateId, Problem, TypeId};
 use std::alloc::{AllocError, Global};
@@ -46,11 +48,16 @@ impl Setting {
     pub fn new(alloc: Global, domain: &Domain, problem: &Problem) -> Result<Setting, AllocError>
         requires fits_domain { FitsDomain (domain_value domain.now) }
         requires fits_problem { FitsProblem (domain_value domain.now) (problem_value problem.now) }
-        requires few_objects { keeps (domain_value domain.now) (problem_value problem.now) object_limit ≡ true }
+        requires few_objects { keeps (domain_value domain.now) (problem_value problem.now)
+            object_limit ≡ true }
         ensures { IfOk result (λ s.
             setting_in s ≡ setting (domain_value domain.now) (problem_value problem.now)) }
     {
-        Err(AllocError)
+        Ok(Setting {
+            objects: objects_by_type(alloc, domain, problem)?,
+            changed: changed_predicates(alloc, domain, problem)?,
+            facts: fact_set(alloc, problem)?,
+        })
     }
 
     /// The objects of a type, in the order in which they are declared.

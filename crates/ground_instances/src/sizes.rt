@@ -1,53 +1,140 @@
 //! What is counted before anything is built.
 
-ghost use Rattle.std.specs.Prelude.{◌≡◌};
+ghost use Rattle.std.specs.Prelude.{◌≡◌, nat_le};
+ghost use Rattle.std.specs.Option.{option_map};
 ghost use Rattle.ground_instances.specs.Counts.{shown};
 ghost use Rattle.ground_instances.specs.Tables.{setting_in};
-ghost use Rattle.pddl_ast.specs.Values.{domain_value, problem_value, formula_value, effect_value};
+ghost use Rattle.pddl_ast.specs.Values.{domain_value, problem_value, formula_value, effect_value, schema_value};
 ghost use Rattle.pddl_system.specs.Settings.{setting};
-ghost use Rattle.pddl_system.specs.Sizes.{keeps, object_limit, size_limit, instance_limit, formula_size, effect_size};
+ghost use Rattle.pddl_system.specs.Sizes.{keeps, object_limit, size_limit, instance_limit, formula_size, effect_size, schema_size, goal_size, most_size};
 
+use crate::bindings::{product, total};
 use crate::setting::Setting;
-use pddl_ast::{Domain, Effect, Formula, Problem};
+use pddl_ast::{Domain, Effect, Formula, Problem, Schema};
+
+/// The most constants and objects.
+const MOST_OBJECTS: usize = 1_024;
+
+/// The greatest expanded size of an action or a goal.
+const MOST_SIZE: usize = 100_000;
+
+/// The most instances of all actions, kept or not.
+const MOST_INSTANCES: usize = 1_000_000;
 
 /// Whether a domain and a problem have at most 1,024 constants and objects.
 pub fn has_few_objects(domain: &Domain, problem: &Problem) -> bool
     ensures { result ≡ keeps (domain_value domain.now) (problem_value problem.now) object_limit }
 {
-    domain.constants.len() <= 1_024 && problem.objects.len() <= 1_024 - domain.constants.len()
+    let constants = domain.constants.len();
+    constants <= MOST_OBJECTS && problem.objects.len() <= MOST_OBJECTS - constants
 }
 
 impl Setting {
     /// The expanded size of a formula; 1,000,001 where it is more than 1,000,000.
     pub fn formula_size(&self, formula: &Formula) -> usize
-        ensures { result ≡ shown (formula_size (setting_in self.now).objects (formula_value formula.now)) }
+        ensures { result
+            ≡ shown (formula_size (setting_in self.now).objects (formula_value formula.now)) }
     {
-        0
+        match formula {
+            Formula::Atom(_, _) | Formula::Equal(_, _) => 1,
+            Formula::All(parts) | Formula::Any(parts) => {
+                let mut size = 1;
+                for part in parts {
+                    size = total(size, self.formula_size(part));
+                }
+                size
+            }
+            Formula::Not(part) => total(1, self.formula_size(part)),
+            Formula::Imply(left, right) => {
+                total(1, total(self.formula_size(left), self.formula_size(right)))
+            }
+            Formula::Exists(types, part) | Formula::Forall(types, part) => {
+                total(
+                    1,
+                    product(self.binding_count(types), self.formula_size(part)),
+                )
+            }
+        }
     }
 
     /// The expanded size of an effect; 1,000,001 where it is more than 1,000,000.
     pub fn effect_size(&self, effect: &Effect) -> usize
-        ensures { result ≡ shown (effect_size (setting_in self.now).objects (effect_value effect.now)) }
+        ensures { result
+            ≡ shown (effect_size (setting_in self.now).objects (effect_value effect.now)) }
     {
-        0
+        match effect {
+            Effect::Add(_, _) | Effect::Delete(_, _) => 1,
+            Effect::Both(parts) | Effect::OneOf(parts) => {
+                let mut size = 1;
+                for part in parts {
+                    size = total(size, self.effect_size(part));
+                }
+                size
+            }
+            Effect::When(condition, part) => {
+                total(
+                    1,
+                    total(self.formula_size(condition), self.effect_size(part)),
+                )
+            }
+            Effect::Each(types, part) => {
+                total(
+                    1,
+                    product(self.binding_count(types), self.effect_size(part)),
+                )
+            }
+        }
+    }
+
+    /// Whether the expanded size of an action is at most 100,000.
+    fn is_small_action(&self, schema: &Schema) -> bool
+        ensures { result ≡ nat_le (schema_size (setting_in self.now).objects
+            (schema_value schema.now)) most_size }
+    {
+        total(
+            self.formula_size(&schema.precondition),
+            self.effect_size(&schema.effect),
+        ) <= MOST_SIZE
+    }
+
+    /// Whether the expanded size of a goal is at most 100,000.
+    fn is_small_goal(&self, goal: &Option<Formula>) -> bool
+        ensures { result ≡ nat_le (goal_size (setting_in self.now).objects
+            (option_map formula_value goal.now)) most_size }
+    {
+        match goal {
+            Some(formula) => self.formula_size(formula) <= MOST_SIZE,
+            None => true,
+        }
     }
 
     /// Whether the expanded sizes of each action and of the goal are at most 100,000. `self` is the
     /// setting of the domain and the problem.
     pub fn has_small_trees(&self, domain: &Domain, problem: &Problem) -> bool
-        requires { setting_in self.now ≡ setting (domain_value domain.now) (problem_value problem.now) }
+        requires { setting_in self.now
+            ≡ setting (domain_value domain.now) (problem_value problem.now) }
         ensures { result ≡ keeps (domain_value domain.now) (problem_value problem.now) size_limit }
     {
-        false
+        for schema in &domain.actions {
+            if !self.is_small_action(schema) {
+                return false;
+            }
+        }
+        self.is_small_goal(&problem.goal)
     }
 
     /// Whether the actions have at most 1,000,000 instances, kept or not. `self` is the setting of
     /// the domain and the problem.
     pub fn has_few_instances(&self, domain: &Domain, problem: &Problem) -> bool
-        requires { setting_in self.now ≡ setting (domain_value domain.now) (problem_value problem.now) }
+        requires { setting_in self.now
+            ≡ setting (domain_value domain.now) (problem_value problem.now) }
         ensures { result
             ≡ keeps (domain_value domain.now) (problem_value problem.now) instance_limit }
     {
-        false
+        let mut count = 0;
+        for schema in &domain.actions {
+            count = total(count, self.binding_count(&schema.parameters));
+        }
+        count <= MOST_INSTANCES
     }
 }

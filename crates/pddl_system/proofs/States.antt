@@ -1,25 +1,29 @@
 -- What is so in every state, and that the parts of the system fit together.
-use Rattle.std.proofs.Common.{◌≡◌, ℕ, ◌<◌, Bool, true, false, [], map, length, Option, Some, None, refl, sym, ◌∙◌, ap, arith, cond}
+use Rattle.std.proofs.Common.{◌≡◌, ℕ, ◌<◌, Bool, true, false, [], map, length, Option, Some, None, refl, sym, ◌∙◌, ap, arith, cond, List, ◌∷◌}
 use Rattle.std.specs.Prelude.{slice_get}
 use Rattle.std.specs.List.{Contains}
 use Rattle.std.specs.Option.{option_map, option_map_or, unwrap_or}
-use Rattle.std.proofs.lemmas.Bool.{false≢true, true≢false}
+use Rattle.std.proofs.lemmas.Bool.{false≢true, true≢false, true_from_ne_false}
 use Rattle.std.proofs.lemmas.List.{length-map}
 use Rattle.std.proofs.lemmas.Option.{slice_get_within}
+use Rattle.task_core.specs.Systems.{Exec}
 use Rattle.task_core.specs.Vectors.{Vector, all_vectors}
 use Rattle.task_core.proofs.EntryStates.{after_entries_are}
 use Rattle.task_core.proofs.Vectors.{all_vectors_length, Contains-filter_cases, Contains-map_image}
+use Rattle.pddl_ast.specs.Fits.{FitsSchema, known_in}
 use Rattle.pddl_ast.specs.Trees.{FormulaTree, DomainTree, ProblemTree}
 use Rattle.pddl_system.specs.Fluents.{fluents}
 use Rattle.pddl_system.specs.Instances.{Instance, kept_instances}
-use Rattle.pddl_system.specs.Laws.{ChangedAtomsAreFluents, DroppedInstancesNeverRun, FluentsDiffer, ImpossibleChangesNeverCome, KnownValuesAreSo, NamedAtomsAreFluents, RigidAtomsAreNoFluents, TheyHaveASystem}
+use Rattle.pddl_system.specs.Laws.{ChangedAtomsAreFluents, DroppedInstancesNeverRun, ExecutableWherePreconditionHolds, FluentsDiffer, ImpossibleChangesNeverCome, KnownValuesAreSo, NamedAtomsAreFluents, RigidAtomsAreNoFluents, TheyHaveASystem}
 use Rattle.pddl_system.specs.Outcomes.{ChangeTree, OutcomeTree, may_change, outcomes_of}
 use Rattle.pddl_system.specs.Settings.{setting}
 use Rattle.pddl_system.specs.States.{comes_about, formula_holds, state_after, value_after}
 use Rattle.pddl_system.specs.Systems.{facts_of, next_of, states_where, system}
 use Rattle.pddl_system.specs.Systems as systems
 use Rattle.pddl_system.specs.ThreeValues.{Value, may_hold, value}
-use Rattle.pddl_system.proofs.Members.{AllPairs-from_Apart, Among-filter, Among-from_Contains, Contains-from_Among}
+use Rattle.pddl_system.proofs.NamedAtoms.{effects_have_outcomes}
+use Rattle.pddl_system.proofs.NameLaws.{schema_listed}
+use Rattle.pddl_system.proofs.Members.{All-Among, Among-slice_get, AllPairs-from_Apart, Among-filter, Among-from_Contains, Contains-from_Among}
 use Rattle.pddl_system.proofs.Numbers.{fluents_apart}
 use Rattle.pddl_system.proofs.RigidAtoms.{rigid_is_no_fluent}
 use Rattle.pddl_system.proofs.Soundness.{known_is_so, no_change}
@@ -97,3 +101,29 @@ they_have_a_system d p = record {
   next = λ s a t h. nexts_are_states d p s (slice_get (kept_instances d p) a) t h;
   actions = λ s a exec. only_kept d p s a (slice_get (kept_instances d p) a) refl exec;
 }
+
+-- an action leads somewhere exactly where its precondition holds
+
+leads : {X Y : Type 0} (f : X → Y) (xs : List X) → 0 < length xs → map f xs ≡ [] → ⊥
+leads f [] some e = omega arith
+leads f (x ∷ xs) some e = cc
+
+pub executable_where_precondition_holds : ExecutableWherePreconditionHolds
+executable_where_precondition_holds d p v a i fits is = (there, back)
+  where
+    next_is : (system d p).next v a ≡ next_of (setting d p) (fluents d p) v i
+    next_is = ap (λ o. option_map_or (next_of (setting d p) (fluents d p) v) o []) is
+
+    there : Exec (system d p) v a → formula_holds (setting d p) (fluents d p) v i.schema.precondition i.objects ≡ true
+    there exec = true_from_ne_false (formula_holds (setting d p) (fluents d p) v i.schema.precondition i.objects)
+        (λ e. exec (next_is ∙ ap (λ b. cond b (map (state_after (setting d p) (fluents d p) v) (outcomes_of (setting d p) i)) []) e))
+
+    some : 0 < length (outcomes_of (setting d p) i)
+    some =
+        let schema = All-Among (FitsSchema (known_in d)) i.schema d.actions fits.actions (schema_listed d p i (Among-slice_get (kept_instances d p) a i is)) in
+        effects_have_outcomes (known_in d) (setting d p).objects i.schema.effect (length i.schema.parameters) i.objects schema.effect
+
+    back : formula_holds (setting d p) (fluents d p) v i.schema.precondition i.objects ≡ true → Exec (system d p) v a
+    back holds none =
+        leads (state_after (setting d p) (fluents d p) v) (outcomes_of (setting d p) i) some
+        (sym (ap (λ b. cond b (map (state_after (setting d p) (fluents d p) v) (outcomes_of (setting d p) i)) []) holds) ∙ (sym next_is ∙ none))

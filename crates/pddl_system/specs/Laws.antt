@@ -1,5 +1,5 @@
 -- What is true of every domain and problem: the statements of the laws.
-use Rattle.std.specs.Prelude.{◌≡◌, ◌≢◌, ℕ, ◌<◌, ◌≤◌, List, length, Bool, true, false, Option, None, Some, String, Vec}
+use Rattle.std.specs.Prelude.{◌≡◌, ◌≢◌, ℕ, ◌<◌, ◌≤◌, ◌↔◌, List, length, Bool, true, false, Option, None, Some, String, Vec, slice_get}
 use Rattle.std.specs.declared.alloc.Global.{Global}
 use Rattle.pddl_ast.specs.Fits.{FitsDomain, FitsEffect, FitsProblem}
 use Rattle.pddl_ast.specs.Known.{Known}
@@ -26,7 +26,7 @@ use Rattle.pddl_system.specs.Values.{ArePartsOf, task_value}
 use Rattle.task_core.specs.Names.{AreActionNames, AreFluentNames}
 use Rattle.task_core.specs.Parts.{MakesTask}
 use Rattle.task_core.specs.States.{IsWithin}
-use Rattle.task_core.specs.Systems.{IsSystem}
+use Rattle.task_core.specs.Systems.{Exec, IsSystem}
 use Rattle.task_core.specs.Vectors.{Vector}
 use Rattle.task_core.specs.Tasks.{system_of}
 use Rattle.task_core.specs.declared.actions.GroundAction.{GroundAction}
@@ -151,6 +151,15 @@ RigidAtomsAreNoFluents =
 -- the parts of the system of a domain and a problem fit together
 abbrev pub TheyHaveASystem : Type 0
 TheyHaveASystem = (d : DomainTree) (p : ProblemTree) → IsSystem (system d p)
+
+-- and an action can be executed exactly where the precondition of its instance holds: it leads
+-- somewhere, since its effect has an outcome
+abbrev pub ExecutableWherePreconditionHolds : Type 0
+ExecutableWherePreconditionHolds =
+    (d : DomainTree) (p : ProblemTree) (v : Vector) (a : ℕ) (i : Instance)
+    → FitsDomain d → slice_get (kept_instances d p) a ≡ Some i
+    → Exec (system d p) v a
+    ↔ (formula_holds (setting d p) (fluents d p) v i.schema.precondition i.objects ≡ true)
 
 -- the atoms that are named are those that are fluents
 abbrev pub NamedAtomsMakeFluents : Type 0

@@ -7,6 +7,7 @@ ghost use Rattle.pddl_system.specs.Laws.{
   ChangedAtomsAreFluents,
   DroppedInstancesNeverRun,
   EffectsHaveOutcomes,
+  ExecutableWherePreconditionHolds,
   FluentNamesAreNames,
   FluentsAreSorted,
   FluentsDiffer,
@@ -82,9 +83,11 @@ pub fn fluents_are_what_changes()
 {}
 
 /// The parts of the system of a domain and a problem fit together: initial and goal states and
-/// outcomes are states over the fluents, and only kept instances can be executed.
+/// outcomes are states over the fluents, and only kept instances can be executed, each exactly
+/// where its precondition holds.
 pub fn domains_have_systems()
-    ensures { TheyHaveASystem }
+    ensures system { TheyHaveASystem }
+    ensures executable { ExecutableWherePreconditionHolds }
 {}
 
 /// The fluents are the atoms that kept instances' effects and uncertain entries name, each once, by

@@ -1,5 +1,8 @@
-use Rattle.pddl_system.proofs.States.{they_have_a_system}
+use Rattle.pddl_system.proofs.States.{executable_where_precondition_holds, they_have_a_system}
 use Rattle.pddl_system.proofs.laws.domains_have_systems.Goals as goal
 
-pub returns : goal.returns
-returns c = they_have_a_system
+pub returns-clause-system : goal.returns-clause-system
+returns-clause-system c = they_have_a_system
+
+pub returns-clause-executable : goal.returns-clause-executable
+returns-clause-executable c = executable_where_precondition_holds
