@@ -13,4 +13,5 @@ pub mod ListSteps
 pub mod NamingLemmas
 pub mod NumberedLemmas
 pub mod OrderLemmas
+pub mod PartLemmas
 pub mod WordLemmas

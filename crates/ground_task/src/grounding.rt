@@ -3,12 +3,11 @@
 ghost use Rattle.std.specs.Prelude.{
   ◌≡◌,
   ◌⊎◌,
+  ◌≤◌,
   [],
   true,
-  false,
   length,
   map,
-  nat_le,
   IfErr,
   IfOk,
   None,
@@ -20,10 +19,10 @@ ghost use Rattle.ground_instances.specs.Tables.{setting_in};
 ghost use Rattle.ground_task.specs.Limits.{KeepsFirst, limit_of};
 ghost use Rattle.pddl_ast.specs.Fits.{FitsDomain, FitsProblem};
 ghost use Rattle.pddl_ast.specs.Values.{domain_value, formula_value, problem_value};
-ghost use Rattle.pddl_system.specs.Fluents.{fluents};
+ghost use Rattle.pddl_system.specs.Fluents.{fluents as fluents_of};
 ghost use Rattle.pddl_system.specs.Names.{NamesAreWords};
 ghost use Rattle.pddl_system.specs.Settings.{setting as setting_of};
-ghost use Rattle.pddl_system.specs.Sizes.{first_passed, most_actions};
+ghost use Rattle.pddl_system.specs.Sizes.{action_limit, first_passed, keeps};
 ghost use Rattle.pddl_system.specs.Systems.{system};
 ghost use Rattle.pddl_system.specs.Tasks.{condition_of, task_of};
 ghost use Rattle.pddl_system.specs.Values.{condition_value, task_value};
@@ -85,25 +84,25 @@ impl From<AllocError> for GroundErr {
     }
 }
 
-/// What a task is built from: the setting, the kept instances and the fluents.
-#[derive(Drop)]
-struct Prepared {
-    setting: Setting,
-    instances: Vec<Instance>,
-    fluents: Fluents,
-}
-
-/// The kept instances, where there are at most 16,384.
-fn all_kept(alloc: Global, setting: &Setting, domain: &Domain) -> Result<Vec<Instance>, GroundErr>
+/// The kept instances of a domain and a problem, of which `setting` is the setting, where there
+/// are at most 16,384.
+fn all_kept(
+    alloc: Global,
+    setting: &Setting,
+    domain: &Domain,
+    problem: &Problem,
+) -> Result<Vec<Instance>, GroundErr>
+    requires setting { setting_in setting.now
+        ≡ setting_of (domain_value domain.now) (problem_value problem.now) }
+    requires first { KeepsFirst (domain_value domain.now) (problem_value problem.now) }
     ensures kept { IfOk result (λ instances.
         map (instance_of (domain_value domain.now)) instances.items
         ≡ map Some (kept_by (setting_in setting.now) (domain_value domain.now))) }
-    ensures within { IfOk result (λ _. true
-        ≡ nat_le (length (kept_by (setting_in setting.now) (domain_value domain.now))) most_actions) }
+    ensures within { IfOk result (λ _.
+        keeps (domain_value domain.now) (problem_value problem.now) action_limit ≡ true) }
     ensures limit { IfErr result (λ refusal. (refusal ≡ GroundErr.Memory)
-        ⊎ ((refusal ≡ GroundErr.Actions) × (false
-        ≡ nat_le (length (kept_by (setting_in setting.now) (domain_value domain.now)))
-        most_actions))) }
+        ⊎ (first_passed (domain_value domain.now) (problem_value problem.now)
+        ≡ limit_of refusal)) }
 {
     match kept_instances(alloc, setting, domain)? {
         Kept::All(instances) => Ok(instances),
@@ -137,34 +136,39 @@ fn small_setting(alloc: Global, domain: &Domain, problem: &Problem) -> Result<Se
     Ok(setting)
 }
 
-/// What the task is built from, or the first limit that is passed.
-fn prepare(alloc: Global, domain: &Domain, problem: &Problem) -> Result<Prepared, GroundErr>
+/// The fluents of a domain and a problem, of which these are the setting and the kept instances,
+/// where the last limits are kept.
+fn all_fluents(
+    alloc: Global,
+    setting: &Setting,
+    domain: &Domain,
+    problem: &Problem,
+    instances: &[Instance],
+) -> Result<Fluents, GroundErr>
     requires fits_domain { FitsDomain (domain_value domain.now) }
     requires fits_problem { FitsProblem (domain_value domain.now) (problem_value problem.now) }
-    ensures setting { IfOk result (λ r. setting_in r.setting
-        ≡ setting_of (domain_value domain.now) (problem_value problem.now)) }
-    ensures instances { IfOk result (λ r.
-        map (instance_of (domain_value domain.now)) r.instances.items
-        ≡ map Some (kept_by (setting_in r.setting) (domain_value domain.now))) }
-    ensures fluents { IfOk result (λ r. r.fluents
-        ≡ fluents (domain_value domain.now) (problem_value problem.now)) }
+    requires setting { setting_in setting.now
+        ≡ setting_of (domain_value domain.now) (problem_value problem.now) }
+    requires instances { map (instance_of (domain_value domain.now)) instances.now
+        ≡ map Some (kept_by (setting_in setting.now) (domain_value domain.now)) }
+    requires first { KeepsFirst (domain_value domain.now) (problem_value problem.now) }
+    requires actions { keeps (domain_value domain.now) (problem_value problem.now) action_limit
+        ≡ true }
+    ensures fluents { IfOk result (λ fs.
+        fs ≡ fluents_of (domain_value domain.now) (problem_value problem.now)) }
+    ensures few { IfOk result (λ fs. length fs ≤ 256) }
     ensures within { IfOk result (λ _.
         first_passed (domain_value domain.now) (problem_value problem.now) ≡ None) }
     ensures limit { IfErr result (λ refusal. (refusal ≡ GroundErr.Memory)
         ⊎ (first_passed (domain_value domain.now) (problem_value problem.now)
         ≡ limit_of refusal)) }
 {
-    let setting = small_setting(alloc, domain, problem)?;
-    let instances = all_kept(alloc, &setting, domain)?;
-    if !has_few_outcomes(alloc, &setting, domain, &instances)? {
+    let few = has_few_outcomes(alloc, setting, domain, instances)?;
+    if !few {
         return Err(GroundErr::Outcomes);
     }
-    match find_fluents(alloc, &setting, domain, problem, &instances)? {
-        Some(fluents) => Ok(Prepared {
-            setting,
-            instances,
-            fluents,
-        }),
+    match find_fluents(alloc, setting, domain, problem, instances)? {
+        Some(fluents) => Ok(fluents),
         None => Err(GroundErr::Fluents),
     }
 }
@@ -190,34 +194,93 @@ fn goal_condition(
     }
 }
 
-/// The task of a domain and a problem that pass no limit.
+/// The task of a domain and a problem that pass no limit, from their setting, kept instances and
+/// fluents.
 fn build(
     alloc: Global,
     domain: &Domain,
     problem: &Problem,
-    prepared: &Prepared,
+    setting: &Setting,
+    instances: &[Instance],
+    fluents: &Fluents,
 ) -> Result<Task, AllocError>
     requires fits_domain { FitsDomain (domain_value domain.now) }
     requires fits_problem { FitsProblem (domain_value domain.now) (problem_value problem.now) }
     requires names { NamesAreWords (domain_value domain.now) (problem_value problem.now) }
     requires within { first_passed (domain_value domain.now) (problem_value problem.now) ≡ None }
-    requires setting { setting_in prepared.now.setting
+    requires setting { setting_in setting.now
         ≡ setting_of (domain_value domain.now) (problem_value problem.now) }
-    requires instances { map (instance_of (domain_value domain.now)) prepared.now.instances.items
-        ≡ map Some (kept_by (setting_in prepared.now.setting) (domain_value domain.now)) }
-    requires fluents { prepared.now.fluents
-        ≡ fluents (domain_value domain.now) (problem_value problem.now) }
+    requires instances { map (instance_of (domain_value domain.now)) instances.now
+        ≡ map Some (kept_by (setting_in setting.now) (domain_value domain.now)) }
+    requires fluents { fluents.now
+        ≡ fluents_of (domain_value domain.now) (problem_value problem.now) }
+    requires few { length fluents.now ≤ 256 }
     ensures { IfOk result (λ task. task_value task
         ≡ task_of (domain_value domain.now) (problem_value problem.now)) }
 {
-    let setting = &prepared.setting;
-    let fluents = &prepared.fluents;
     let names = fluent_names(alloc, domain, problem, fluents)?;
-    let actions = actions(alloc, setting, fluents, domain, problem, &prepared.instances)?;
+    let actions = actions(alloc, setting, fluents, domain, problem, instances)?;
     let entries = entries(alloc, fluents, &problem.entries)?;
     let goal = goal_condition(alloc, setting, fluents, &problem.goal)?;
     let facts = facts(setting, fluents);
     Ok(Task::new(names, actions, InitSpec { facts, entries }, goal))
+}
+
+/// The task of a domain and a problem, of which these are the setting and the kept instances.
+fn ground_kept(
+    alloc: Global,
+    domain: &Domain,
+    problem: &Problem,
+    setting: &Setting,
+    instances: &[Instance],
+) -> Result<Task, GroundErr>
+    requires fits_domain { FitsDomain (domain_value domain.now) }
+    requires fits_problem { FitsProblem (domain_value domain.now) (problem_value problem.now) }
+    requires names { NamesAreWords (domain_value domain.now) (problem_value problem.now) }
+    requires setting { setting_in setting.now
+        ≡ setting_of (domain_value domain.now) (problem_value problem.now) }
+    requires instances { map (instance_of (domain_value domain.now)) instances.now
+        ≡ map Some (kept_by (setting_in setting.now) (domain_value domain.now)) }
+    requires first { KeepsFirst (domain_value domain.now) (problem_value problem.now) }
+    requires actions { keeps (domain_value domain.now) (problem_value problem.now) action_limit
+        ≡ true }
+    ensures task { IfOk result (λ task. task_value task
+        ≡ task_of (domain_value domain.now) (problem_value problem.now)) }
+    ensures within { IfOk result (λ _.
+        first_passed (domain_value domain.now) (problem_value problem.now) ≡ None) }
+    ensures limit { IfErr result (λ refusal. (refusal ≡ GroundErr.Memory)
+        ⊎ (first_passed (domain_value domain.now) (problem_value problem.now)
+        ≡ limit_of refusal)) }
+{
+    let fluents = all_fluents(alloc, setting, domain, problem, instances)?;
+    let task = build(alloc, domain, problem, setting, instances, &fluents)?;
+    Ok(task)
+}
+
+/// The task of a domain and a problem, of which this is the setting.
+fn ground_set(
+    alloc: Global,
+    domain: &Domain,
+    problem: &Problem,
+    setting: &Setting,
+) -> Result<Task, GroundErr>
+    requires fits_domain { FitsDomain (domain_value domain.now) }
+    requires fits_problem { FitsProblem (domain_value domain.now) (problem_value problem.now) }
+    requires names { NamesAreWords (domain_value domain.now) (problem_value problem.now) }
+    requires setting { setting_in setting.now
+        ≡ setting_of (domain_value domain.now) (problem_value problem.now) }
+    requires first { KeepsFirst (domain_value domain.now) (problem_value problem.now) }
+    ensures task { IfOk result (λ task. task_value task
+        ≡ task_of (domain_value domain.now) (problem_value problem.now)) }
+    ensures within { IfOk result (λ _.
+        first_passed (domain_value domain.now) (problem_value problem.now) ≡ None) }
+    ensures limit { IfErr result (λ refusal. (refusal ≡ GroundErr.Memory)
+        ⊎ (first_passed (domain_value domain.now) (problem_value problem.now)
+        ≡ limit_of refusal)) }
+{
+    let instances = all_kept(alloc, setting, domain, problem)?;
+    let task = ground_kept(alloc, domain, problem, setting, &instances)?;
+    Ok(task)
 }
 
 /// The task of a domain and a problem, whose system is theirs; or the first limit that is passed.
@@ -235,7 +298,7 @@ pub fn ground(alloc: Global, domain: &Domain, problem: &Problem) -> Result<Groun
         ⊎ (first_passed (domain_value domain.now) (problem_value problem.now)
         ≡ limit_of refusal)) }
 {
-    let prepared = prepare(alloc, domain, problem)?;
-    let task = build(alloc, domain, problem, &prepared)?;
+    let setting = small_setting(alloc, domain, problem)?;
+    let task = ground_set(alloc, domain, problem, &setting)?;
     Ok(Grounded { task })
 }
