@@ -1,0 +1,17 @@
+pub mod AtomLemmas
+pub mod BindingLemmas
+pub mod BuiltLemmas
+pub mod Capping
+pub mod CollectedLemmas
+pub mod ConditionLemmas
+pub mod CountLemmas
+pub mod EffectLemmas
+pub mod FactLemmas
+pub mod FoundLemmas
+pub mod LimitLemmas
+pub mod ListSteps
+pub mod NamingLemmas
+pub mod NumberedLemmas
+pub mod OrderLemmas
+pub mod PartLemmas
+pub mod WordLemmas

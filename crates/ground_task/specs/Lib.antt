@@ -1,1 +1,6 @@
+pub mod Actions
+pub mod Built
+pub mod Capped
+pub mod Collecting
 pub mod Limits
+pub mod Numbered

@@ -1,8 +1,9 @@
 -- Which limit a refusal of `ground` names.
-use Rattle.std.specs.Prelude.{Option, Some, None}
+use Rattle.std.specs.Prelude.{◌≡◌, true, Option, Some, None}
 use Rattle.ground_task.specs.declared.grounding.GroundErr.{GroundErr}
 use Rattle.ground_task.specs.declared.grounding.GroundErr.TheVariants.{Objects, Size, Instances, Actions, Outcomes, Fluents, Memory}
-use Rattle.pddl_system.specs.Sizes.{Limit, object_limit, size_limit, instance_limit, action_limit, outcome_limit, fluent_limit}
+use Rattle.pddl_ast.specs.Trees.{DomainTree, ProblemTree}
+use Rattle.pddl_system.specs.Sizes.{Limit, object_limit, size_limit, instance_limit, action_limit, outcome_limit, fluent_limit, keeps}
 
 abbrev pub limit_of : GroundErr → Option Limit
 limit_of Objects = Some object_limit
@@ -12,3 +13,9 @@ limit_of Actions = Some action_limit
 limit_of Outcomes = Some outcome_limit
 limit_of Fluents = Some fluent_limit
 limit_of Memory = None
+
+-- Private: the limits that are tried before any instance is made are kept
+pub record KeepsFirst (d : DomainTree) (p : ProblemTree) : Type 0 where
+  pub objects : keeps d p object_limit ≡ true
+  pub size : keeps d p size_limit ≡ true
+  pub instances : keeps d p instance_limit ≡ true

@@ -1,19 +1,44 @@
 //! The task of a domain and a problem.
 
-ghost use Rattle.ground_task.specs.Limits.{limit_of};
+ghost use Rattle.std.specs.Prelude.{
+  ◌≡◌,
+  ◌⊎◌,
+  ◌≤◌,
+  [],
+  true,
+  length,
+  map,
+  IfErr,
+  IfOk,
+  None,
+  Some,
+};
+ghost use Rattle.std.specs.Option.{option_map};
+ghost use Rattle.ground_instances.specs.Kept.{instance_of, kept_by};
+ghost use Rattle.ground_instances.specs.Tables.{setting_in};
+ghost use Rattle.ground_task.specs.Limits.{KeepsFirst, limit_of};
 ghost use Rattle.pddl_ast.specs.Fits.{FitsDomain, FitsProblem};
-ghost use Rattle.pddl_ast.specs.Values.{domain_value, problem_value};
+ghost use Rattle.pddl_ast.specs.Values.{domain_value, formula_value, problem_value};
+ghost use Rattle.pddl_system.specs.Fluents.{fluents as fluents_of};
 ghost use Rattle.pddl_system.specs.Names.{NamesAreWords};
-ghost use Rattle.pddl_system.specs.Sizes.{first_passed};
+ghost use Rattle.pddl_system.specs.Settings.{setting as setting_of};
+ghost use Rattle.pddl_system.specs.Sizes.{action_limit, first_passed, keeps};
 ghost use Rattle.pddl_system.specs.Systems.{system};
-ghost use Rattle.pddl_system.specs.Tasks.{task_of};
-ghost use Rattle.pddl_system.specs.Values.{task_value};
-ghost use Rattle.std.specs.Prelude.{◌≡◌, ◌⊎◌, IfErr, IfOk, None};
+ghost use Rattle.pddl_system.specs.Tasks.{condition_of, task_of};
+ghost use Rattle.pddl_system.specs.Values.{condition_value, task_value};
 ghost use Rattle.task_core.specs.Tasks.{system_of};
 
-use pddl_ast::{Domain, Problem};
+use crate::actions::actions;
+use crate::conditions::condition;
+use crate::counts::has_few_outcomes;
+use crate::fluents::Fluents;
+use crate::found::find_fluents;
+use crate::initial::{entries, facts};
+use crate::names::fluent_names;
+use ground_instances::{Instance, Kept, Setting, has_few_objects, kept_instances};
+use pddl_ast::{Domain, Formula, Problem};
 use std::alloc::{AllocError, Global};
-use task_core::Task;
+use task_core::{Cond, InitSpec, Task};
 use thiserror::Error;
 
 /// What a domain and a problem are grounded to.
@@ -59,10 +84,210 @@ impl From<AllocError> for GroundErr {
     }
 }
 
+/// The kept instances of a domain and a problem, of which `setting` is the setting, where there
+/// are at most 16,384.
+fn all_kept(
+    alloc: Global,
+    setting: &Setting,
+    domain: &Domain,
+    problem: &Problem,
+) -> Result<Vec<Instance>, GroundErr>
+    requires setting { setting_in setting.now
+        ≡ setting_of (domain_value domain.now) (problem_value problem.now) }
+    requires first { KeepsFirst (domain_value domain.now) (problem_value problem.now) }
+    ensures kept { IfOk result (λ instances.
+        map (instance_of (domain_value domain.now)) instances.items
+        ≡ map Some (kept_by (setting_in setting.now) (domain_value domain.now))) }
+    ensures within { IfOk result (λ _.
+        keeps (domain_value domain.now) (problem_value problem.now) action_limit ≡ true) }
+    ensures limit { IfErr result (λ refusal. (refusal ≡ GroundErr.Memory)
+        ⊎ (first_passed (domain_value domain.now) (problem_value problem.now)
+        ≡ limit_of refusal)) }
+{
+    match kept_instances(alloc, setting, domain)? {
+        Kept::All(instances) => Ok(instances),
+        Kept::TooMany => Err(GroundErr::Actions),
+    }
+}
+
+/// The setting of a domain and a problem, where the limits that are tried before their instances
+/// are made are kept.
+fn small_setting(alloc: Global, domain: &Domain, problem: &Problem) -> Result<Setting, GroundErr>
+    requires fits_domain { FitsDomain (domain_value domain.now) }
+    requires fits_problem { FitsProblem (domain_value domain.now) (problem_value problem.now) }
+    ensures setting { IfOk result (λ s. setting_in s
+        ≡ setting_of (domain_value domain.now) (problem_value problem.now)) }
+    ensures within { IfOk result (λ _.
+        KeepsFirst (domain_value domain.now) (problem_value problem.now)) }
+    ensures limit { IfErr result (λ refusal. (refusal ≡ GroundErr.Memory)
+        ⊎ (first_passed (domain_value domain.now) (problem_value problem.now)
+        ≡ limit_of refusal)) }
+{
+    if !has_few_objects(domain, problem) {
+        return Err(GroundErr::Objects);
+    }
+    let setting = Setting::new(alloc, domain, problem)?;
+    if !setting.has_small_trees(domain, problem) {
+        return Err(GroundErr::Size);
+    }
+    if !setting.has_few_instances(domain, problem) {
+        return Err(GroundErr::Instances);
+    }
+    Ok(setting)
+}
+
+/// The fluents of a domain and a problem, of which these are the setting and the kept instances,
+/// where the last limits are kept.
+fn all_fluents(
+    alloc: Global,
+    setting: &Setting,
+    domain: &Domain,
+    problem: &Problem,
+    instances: &[Instance],
+) -> Result<Fluents, GroundErr>
+    requires fits_domain { FitsDomain (domain_value domain.now) }
+    requires fits_problem { FitsProblem (domain_value domain.now) (problem_value problem.now) }
+    requires setting { setting_in setting.now
+        ≡ setting_of (domain_value domain.now) (problem_value problem.now) }
+    requires instances { map (instance_of (domain_value domain.now)) instances.now
+        ≡ map Some (kept_by (setting_in setting.now) (domain_value domain.now)) }
+    requires first { KeepsFirst (domain_value domain.now) (problem_value problem.now) }
+    requires actions { keeps (domain_value domain.now) (problem_value problem.now) action_limit
+        ≡ true }
+    ensures fluents { IfOk result (λ fs.
+        fs ≡ fluents_of (domain_value domain.now) (problem_value problem.now)) }
+    ensures few { IfOk result (λ fs. length fs ≤ 256) }
+    ensures within { IfOk result (λ _.
+        first_passed (domain_value domain.now) (problem_value problem.now) ≡ None) }
+    ensures limit { IfErr result (λ refusal. (refusal ≡ GroundErr.Memory)
+        ⊎ (first_passed (domain_value domain.now) (problem_value problem.now)
+        ≡ limit_of refusal)) }
+{
+    let few = has_few_outcomes(alloc, setting, domain, instances)?;
+    if !few {
+        return Err(GroundErr::Outcomes);
+    }
+    match find_fluents(alloc, setting, domain, problem, instances)? {
+        Some(fluents) => Ok(fluents),
+        None => Err(GroundErr::Fluents),
+    }
+}
+
+/// The condition of the goal, where there is one.
+fn goal_condition(
+    alloc: Global,
+    setting: &Setting,
+    fluents: &Fluents,
+    goal: &Option<Formula>,
+) -> Result<Option<Cond>, AllocError>
+    ensures { IfOk result (λ cond. option_map condition_value cond
+        ≡ option_map (λ g. condition_of (setting_in setting.now) fluents.now g [])
+        (option_map formula_value goal.now)) }
+{
+    match goal {
+        None => Ok(None),
+        Some(goal) => {
+            let mut scope = Vec::new(alloc);
+            let cond = condition(alloc, setting, fluents, goal, &mut scope)?;
+            Ok(Some(cond))
+        }
+    }
+}
+
+/// The task of a domain and a problem that pass no limit, from their setting, kept instances and
+/// fluents.
+fn build(
+    alloc: Global,
+    domain: &Domain,
+    problem: &Problem,
+    setting: &Setting,
+    instances: &[Instance],
+    fluents: &Fluents,
+) -> Result<Task, AllocError>
+    requires fits_domain { FitsDomain (domain_value domain.now) }
+    requires fits_problem { FitsProblem (domain_value domain.now) (problem_value problem.now) }
+    requires names { NamesAreWords (domain_value domain.now) (problem_value problem.now) }
+    requires within { first_passed (domain_value domain.now) (problem_value problem.now) ≡ None }
+    requires setting { setting_in setting.now
+        ≡ setting_of (domain_value domain.now) (problem_value problem.now) }
+    requires instances { map (instance_of (domain_value domain.now)) instances.now
+        ≡ map Some (kept_by (setting_in setting.now) (domain_value domain.now)) }
+    requires fluents { fluents.now
+        ≡ fluents_of (domain_value domain.now) (problem_value problem.now) }
+    requires few { length fluents.now ≤ 256 }
+    ensures { IfOk result (λ task. task_value task
+        ≡ task_of (domain_value domain.now) (problem_value problem.now)) }
+{
+    let names = fluent_names(alloc, domain, problem, fluents)?;
+    let actions = actions(alloc, setting, fluents, domain, problem, instances)?;
+    let entries = entries(alloc, fluents, &problem.entries)?;
+    let goal = goal_condition(alloc, setting, fluents, &problem.goal)?;
+    let facts = facts(setting, fluents);
+    Ok(Task::new(names, actions, InitSpec { facts, entries }, goal))
+}
+
+/// The task of a domain and a problem, of which these are the setting and the kept instances.
+fn ground_kept(
+    alloc: Global,
+    domain: &Domain,
+    problem: &Problem,
+    setting: &Setting,
+    instances: &[Instance],
+) -> Result<Task, GroundErr>
+    requires fits_domain { FitsDomain (domain_value domain.now) }
+    requires fits_problem { FitsProblem (domain_value domain.now) (problem_value problem.now) }
+    requires names { NamesAreWords (domain_value domain.now) (problem_value problem.now) }
+    requires setting { setting_in setting.now
+        ≡ setting_of (domain_value domain.now) (problem_value problem.now) }
+    requires instances { map (instance_of (domain_value domain.now)) instances.now
+        ≡ map Some (kept_by (setting_in setting.now) (domain_value domain.now)) }
+    requires first { KeepsFirst (domain_value domain.now) (problem_value problem.now) }
+    requires actions { keeps (domain_value domain.now) (problem_value problem.now) action_limit
+        ≡ true }
+    ensures task { IfOk result (λ task. task_value task
+        ≡ task_of (domain_value domain.now) (problem_value problem.now)) }
+    ensures within { IfOk result (λ _.
+        first_passed (domain_value domain.now) (problem_value problem.now) ≡ None) }
+    ensures limit { IfErr result (λ refusal. (refusal ≡ GroundErr.Memory)
+        ⊎ (first_passed (domain_value domain.now) (problem_value problem.now)
+        ≡ limit_of refusal)) }
+{
+    let fluents = all_fluents(alloc, setting, domain, problem, instances)?;
+    let task = build(alloc, domain, problem, setting, instances, &fluents)?;
+    Ok(task)
+}
+
+/// The task of a domain and a problem, of which this is the setting.
+fn ground_set(
+    alloc: Global,
+    domain: &Domain,
+    problem: &Problem,
+    setting: &Setting,
+) -> Result<Task, GroundErr>
+    requires fits_domain { FitsDomain (domain_value domain.now) }
+    requires fits_problem { FitsProblem (domain_value domain.now) (problem_value problem.now) }
+    requires names { NamesAreWords (domain_value domain.now) (problem_value problem.now) }
+    requires setting { setting_in setting.now
+        ≡ setting_of (domain_value domain.now) (problem_value problem.now) }
+    requires first { KeepsFirst (domain_value domain.now) (problem_value problem.now) }
+    ensures task { IfOk result (λ task. task_value task
+        ≡ task_of (domain_value domain.now) (problem_value problem.now)) }
+    ensures within { IfOk result (λ _.
+        first_passed (domain_value domain.now) (problem_value problem.now) ≡ None) }
+    ensures limit { IfErr result (λ refusal. (refusal ≡ GroundErr.Memory)
+        ⊎ (first_passed (domain_value domain.now) (problem_value problem.now)
+        ≡ limit_of refusal)) }
+{
+    let instances = all_kept(alloc, setting, domain, problem)?;
+    let task = ground_kept(alloc, domain, problem, setting, &instances)?;
+    Ok(task)
+}
+
 /// The task of a domain and a problem, whose system is theirs; or the first limit that is passed.
 pub fn ground(alloc: Global, domain: &Domain, problem: &Problem) -> Result<Grounded, GroundErr>
     requires fits_domain { FitsDomain (domain_value domain.now) }
     requires fits_problem { FitsProblem (domain_value domain.now) (problem_value problem.now) }
+    requires names { NamesAreWords (domain_value domain.now) (problem_value problem.now) }
     ensures task { IfOk result (λ grounded. task_value grounded.task
         ≡ task_of (domain_value domain.now) (problem_value problem.now)) }
     ensures system { IfOk result (λ grounded. system_of grounded.task
@@ -73,5 +298,7 @@ pub fn ground(alloc: Global, domain: &Domain, problem: &Problem) -> Result<Groun
         ⊎ (first_passed (domain_value domain.now) (problem_value problem.now)
         ≡ limit_of refusal)) }
 {
-    Err(GroundErr::Memory)
+    let setting = small_setting(alloc, domain, problem)?;
+    let task = ground_set(alloc, domain, problem, &setting)?;
+    Ok(Grounded { task })
 }

@@ -1,0 +1,46 @@
+-- What is collected and put in order is the list of the fluents, where there aren't too many.
+use Rattle.std.proofs.Common.{◌≡◌, ◌≢◌, ℕ, ◌<◌, ◌≤◌, Bool, true, false, ◌||◌, List, [], length, refl, ap, sym, subst, ◌∙◌, arith}
+use Rattle.std.specs.Prelude.{nat_le, nat_lt}
+use Rattle.std.specs.List.{AllPairs}
+use Rattle.std.specs.List.Sorted.{IsSorted}
+use Rattle.std.proofs.lemmas.Bool.{le-leb, lt-leb, ltb-false, ltb-true}
+use Rattle.pddl_ast.specs.Fits.{FitsDomain, FitsProblem}
+use Rattle.pddl_ast.specs.Trees.{AtomTree, DomainTree, ProblemTree}
+use Rattle.pddl_system.specs.Fluents.{fluents, named_atoms}
+use Rattle.pddl_system.specs.GroundAtoms.{is_among}
+use Rattle.pddl_system.specs.Orders.{atom_order}
+use Rattle.pddl_system.specs.Sizes.{keeps, fluent_limit}
+use Rattle.pddl_system.proofs.SortedFluents.{named_atoms_in_order_are_fluents, named_atoms_are_no_more}
+use Rattle.ground_task.specs.Collecting.{collected}
+use Rattle.ground_task.proofs.CollectedLemmas.{collected_all, collected_named}
+
+-- what is known of the sorted atoms
+pub record AreInOrder (gathered atoms : List AtomTree) : Type 0 where
+  pub sorted : IsSorted atom_order atoms
+  pub differ : AllPairs (λ a b. a ≢ b) atoms
+  pub same : (a : AtomTree) → is_among atoms a ≡ is_among gathered a
+  pub count : length atoms ≡ length gathered
+
+module _ (d : DomainTree) (p : ProblemTree) (fits_d : FitsDomain d) (fits_p : FitsProblem d p) (gathered atoms : List AtomTree) (gathers : gathered ≡ collected [] (named_atoms d p)) (order : AreInOrder gathered atoms) where
+  all_there : nat_lt 256 (length atoms) ≡ false → (a : AtomTree) → is_among atoms a ≡ is_among (named_atoms d p) a
+  all_there few a =
+      order.same a
+      ∙ ap (λ l. is_among l a) gathers
+      ∙ collected_all [] (named_atoms d p) a (sym (ap (λ l. nat_lt 256 (length l)) gathers) ∙ sym (ap (nat_lt 256) order.count) ∙ few)
+
+  none_other : (a : AtomTree) → is_among atoms a ≡ true → is_among (named_atoms d p) a ≡ true
+  none_other a there = collected_named [] (named_atoms d p) a (sym (ap (λ l. is_among l a) gathers) ∙ sym (order.same a) ∙ there)
+
+  pub are_fluents : nat_lt 256 (length atoms) ≡ false → atoms ≡ fluents d p
+  are_fluents few = named_atoms_in_order_are_fluents d p atoms fits_d fits_p order.sorted order.differ (all_there few)
+
+  pub are_few : nat_lt 256 (length atoms) ≡ false → true ≡ keeps d p fluent_limit
+  are_few few =
+      let small : length atoms ≤ 256 = ltb-false 256 (length atoms) few in
+      sym (le-leb (length (fluents d p)) 256 (subst (λ l. length l ≤ 256) (are_fluents few) small))
+
+  pub are_many : nat_lt 256 (length atoms) ≡ true → false ≡ keeps d p fluent_limit
+  are_many full =
+      let large : 256 < length atoms = ltb-true 256 (length atoms) full in
+      let more : length atoms ≤ length (fluents d p) = named_atoms_are_no_more d p atoms fits_d fits_p order.differ none_other in
+      sym (lt-leb (length (fluents d p)) 256 (omega arith))

@@ -1,0 +1,64 @@
+-- Atoms collected part by part.
+use Rattle.std.proofs.Common.{add-one, arith, zero, suc, Option, Some, ◌≡◌, ℕ, ◌+◌, ◌<◌, ◌≤◌, Bool, true, false, ◌||◌, List, [], ◌∷◌, ◌++◌, map, length, get_or, drop, refl, ap, sym, ◌∙◌, if◌then◌else◌}
+use Rattle.std.specs.Prelude.{nat_lt}
+use Rattle.std.specs.List.{flat_map}
+use Rattle.std.proofs.lemmas.List.{at_drop_more, at_drop_all, length-map}
+use Rattle.std.proofs.lemmas.List.Sums.{fold-append}
+use Rattle.pddl_ast.specs.Trees.{AtomTree, EffectTree, effect_row}
+use Rattle.pddl_system.specs.Fluents.{named_by_effect, named_by_effects}
+use Rattle.pddl_system.specs.GroundAtoms.{is_among}
+use Rattle.pddl_system.specs.Settings.{Setting}
+use Rattle.ground_task.specs.Collecting.{collected, with_atom}
+
+pub collected-append : (t xs ys : List AtomTree) → collected t (xs ++ ys) ≡ collected (collected t xs) ys
+collected-append = fold-append with_atom
+
+-- once there are too many, nothing is added
+full_atom : (t : List AtomTree) (a : AtomTree) → nat_lt 256 (length t) ≡ true → with_atom t a ≡ t
+full_atom t a full = ap (λ b. if b || is_among t a then t else t ++ a ∷ []) full
+
+pub full_stays : (t atoms : List AtomTree) → nat_lt 256 (length t) ≡ true → collected t atoms ≡ t
+full_stays t [] full = refl
+full_stays t (a ∷ atoms) full = ap (λ u. collected u atoms) (full_atom t a full) ∙ full_stays t atoms full
+
+-- one element more of a list whose elements name atoms
+pub collect_step : {X : Type 0} (f : X → List AtomTree) (xs : List X) (i : ℕ) (d : X) (t grown whole : List AtomTree) → i < length xs
+    → grown ≡ collected t (f (get_or xs i d)) → collected t (flat_map f (drop i xs)) ≡ whole → collected grown (flat_map f (drop (i + 1) xs)) ≡ whole
+collect_step f xs i d t grown whole within grows so_far =
+    ap (λ u. collected u (flat_map f (drop (i + 1) xs))) grows
+    ∙ sym (collected-append t (f (get_or xs i d)) (flat_map f (drop (i + 1) xs)))
+    ∙ ap (collected t) (sym (at_drop_more (flat_map f) xs i d within))
+    ∙ so_far
+
+pub collect_end : {X : Type 0} (f : X → List AtomTree) (xs : List X) (i : ℕ) (t whole : List AtomTree) → length xs ≤ i → collected t (flat_map f (drop i xs)) ≡ whole → t ≡ whole
+collect_end f xs i t whole past so_far = sym (ap (collected t) (at_drop_all (flat_map f) xs i past)) ∙ so_far
+
+pub effects_are : {X : Type 0} (at : Setting) (read : X → EffectTree) (es : List X) (scope : List ℕ) → named_by_effects at (effect_row (map read es)) scope ≡ flat_map (λ e. named_by_effect at (read e) scope) es
+effects_are at read [] scope = refl
+effects_are at read (e ∷ es) scope = ap (λ l. named_by_effect at (read e) scope ++ l) (effects_are at read es scope)
+
+-- the next of a list that is numbered by another
+pub turn : {X Y : Type 0} (f : X → Option Y) (xs : List X) (ys : List Y) (i : ℕ) (x : X) → map f xs ≡ map Some ys → i < length xs → x ≡ get_or xs i x
+    → (y : Y) × (f x ≡ Some y) × (drop i ys ≡ y ∷ drop (suc i) ys)
+turn f [] ys i x same within is = absurd (omega arith)
+turn f (z ∷ xs) [] i x same within is = cc
+turn f (z ∷ xs) (y ∷ ys) zero x same within is = (y, ap f is ∙ head_of (f z) (Some y) (map f xs) (map Some ys) same, refl)
+  where
+    head_of : {B : Type 0} (a b : B) (l m : List B) → a ∷ l ≡ b ∷ m → a ≡ b
+    head_of a b l m e = cc
+turn f (z ∷ xs) (y ∷ ys) (suc i) x same within is = turn f xs ys i x (tail_of (f z) (Some y) (map f xs) (map Some ys) same) (omega arith) is
+  where
+    tail_of : {B : Type 0} (a b : B) (l m : List B) → a ∷ l ≡ b ∷ m → l ≡ m
+    tail_of a b l m e = cc
+
+pub same_length : {X Y : Type 0} (f : X → Option Y) (xs : List X) (ys : List Y) → map f xs ≡ map Some ys → length xs ≡ length ys
+same_length f xs ys same = sym (length-map xs f) ∙ ap length same ∙ length-map ys Some
+
+pub collect_turn : {X : Type 0} (f : X → List AtomTree) (xs : List X) (i : ℕ) (x : X) (t grown whole : List AtomTree) → drop i xs ≡ x ∷ drop (suc i) xs
+    → grown ≡ collected t (f x) → collected t (flat_map f (drop i xs)) ≡ whole → collected grown (flat_map f (drop (i + 1) xs)) ≡ whole
+collect_turn f xs i x t grown whole here grows so_far =
+    ap (λ n. collected grown (flat_map f (drop n xs))) (add-one i)
+    ∙ ap (λ u. collected u (flat_map f (drop (suc i) xs))) grows
+    ∙ sym (collected-append t (f x) (flat_map f (drop (suc i) xs)))
+    ∙ ap (λ l. collected t (flat_map f l)) (sym here)
+    ∙ so_far
