@@ -1,3 +1,4 @@
+pub mod Bounds
 pub mod Layers
 pub mod Printed
 pub mod Listed
