@@ -16,3 +16,4 @@ pub mod WeakLists
 pub mod WeakPrinted
 pub mod StrongPrinted
 pub mod NoStrong
+pub mod LeastBounds

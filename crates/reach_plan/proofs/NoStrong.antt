@@ -72,7 +72,7 @@ last_more : (x : Vector) (rest : List Vector) (t : Vector) → last_state x (res
 last_more x [] t = refl
 last_more x (y ∷ rest) t = last_more y rest t
 
-reach_more : (sys : System) (table : Table) (x s t : Vector) → Reaches sys table x s → Leads sys table s t → Reaches sys table x t
+pub reach_more : (sys : System) (table : Table) (x s t : Vector) → Reaches sys table x s → Leads sys table s t → Reaches sys table x t
 reach_more sys table x s t r lead = record {
   rest = r.rest ++ t ∷ [];
   path = step_more sys table x r.rest t r.path (subst (λ v. Leads sys table v t) (sym r.ends) lead);
