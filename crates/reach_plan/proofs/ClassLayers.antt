@@ -1,21 +1,21 @@
 -- Layers of states and the chosen actions, for every class of plans.
-use Rattle.std.proofs.Common.{◌≡◌, ℕ, zero, suc, ◌+◌, ◌<◌, ◌≤◌, Bool, true, false, cond, List, [], ◌∷◌, map, Option, None, Some, refl, sym, ap, ◌∙◌, subst, arith, ⊎_elim, inl, inr, ◌⊎◌}
+use Rattle.std.proofs.Common.{◌≡◌, ℕ, zero, suc, ◌+◌, ◌<◌, ◌≤◌, Bool, true, false, cond, [], ◌∷◌, None, Some, refl, sym, ap, ◌∙◌, subst, arith, ⊎_elim, inl, inr, ◌⊎◌}
 use Rattle.std.specs.Prelude.{◌&&◌, ◌||◌, ◌==◌, if◌then◌else◌}
 use Rattle.std.specs.Option.{option_and_then, option_or}
 use Rattle.std.specs.List.{Contains, list_any, list_all, find, range_with_len}
-use Rattle.std.proofs.lemmas.Bool.{false≢true, true≢false, or_cases, or_left, or_right, or_parts, and_parts, and_from, cases_lt, eqb-true, eq-eqb, cond-true, cond-false}
+use Rattle.std.proofs.lemmas.Bool.{true≢false, or_cases, or_left, or_right, or_parts, and_parts, and_from, cases_lt, eqb-true, eq-eqb, cond-true, cond-false}
 use Rattle.std.proofs.lemmas.List.Folds.{find-append}
 use Rattle.std.proofs.lemmas.Option.{none-some}
 use Rattle.task_core.specs.Vectors.{Vector, same_vector}
 use Rattle.task_core.specs.Systems.{System, IsSystem, IsState, Exec, HasOutcome, goal_states}
 use Rattle.task_core.specs.Cubes.{Cube, SetOfVectors, matches, cubes_of}
-use Rattle.task_core.specs.Tables.{Table, IsTable, IsTerminal}
+use Rattle.task_core.specs.Tables.{IsTerminal}
 use Rattle.task_core.specs.declared.classes.Class.{Class}
 use Rattle.task_core.specs.declared.classes.Class.TheVariants.{Weak, Strong, Cyclic}
 use Rattle.plan_rules.specs.Rules.{PlanRule}
 use Rattle.plan_rules.specs.Denoted.{advises, denoted, IsExecutable}
-use Rattle.reach_plan.specs.Layers.{layer, covers, leads_by, may_lead, must_lead, action_numbers, rank_within, IsLastLayer}
-use Rattle.reach_plan.specs.Printed.{chosen_action, action_of_rank, is_action, takers, rules_of_action, printed_rules}
+use Rattle.reach_plan.specs.Layers.{layer, covers, leads_by, may_lead, action_numbers, rank_within, IsLastLayer}
+use Rattle.reach_plan.specs.Printed.{chosen_action, action_of_rank, takers, rules_of_action, printed_rules}
 use Rattle.reach_plan.proofs.Cubes.{cubes_match}
 use Rattle.reach_plan.proofs.Weak.{HasOutcome-Exec, same_vector-itself, same_vector-true}
 use Rattle.reach_plan.proofs.WeakDenoted.{denoted-from, denoted-pair, can_execute-outcome}
@@ -174,8 +174,6 @@ module _ (class : Class) where
   -- the printed rules can be executed wherever they match
   pub printed_executable : (sys : System) (K : ℕ) → IsExecutable sys (printed_rules class sys K)
   printed_executable sys K rule v c is m = chosen_executable sys v rule.action K (printed_rule sys K rule v c is m)
-
-
 
   -- layer 0 is the set of the goal states
   pub layer-zero : (sys : System) (v : Vector) → Contains (goal_states sys) v → layer class sys zero v ≡ true

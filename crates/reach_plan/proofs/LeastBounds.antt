@@ -1,11 +1,11 @@
 -- The printed plans are shortest; the layers stand still at last; and the laws by class.
 use Rattle.std.proofs.Common.{◌≡◌, ◌≢◌, ℕ, zero, suc, ◌+◌, ◌<◌, ◌≤◌, ◌^◌, Bool, true, false, cond, List, [], ◌∷◌, length, map, refl, sym, ◌∙◌, ap, subst, arith, ⊎_elim, inl, inr, ◌⊎◌}
 use Rattle.std.specs.List.{Contains, list_all, list_any}
-use Rattle.std.proofs.lemmas.Bool.{false≢true, true≢false, and_from, or_left, or_right, cases_lt}
+use Rattle.std.proofs.lemmas.Bool.{false≢true, and_from, or_left, or_right, cases_lt}
 use Rattle.task_core.specs.Cubes.{SetOfVectors}
 use Rattle.task_core.specs.Vectors.{Vector, all_vectors, same_vector}
-use Rattle.task_core.specs.Systems.{System, Exec, HasOutcome, IsSystem, IsState, goal_states}
-use Rattle.task_core.specs.Tables.{Table, IsTable, IsPath, IsTerminal, Leads, Reaches, last_state}
+use Rattle.task_core.specs.Systems.{System, Exec, HasOutcome, IsSystem}
+use Rattle.task_core.specs.Tables.{Table, IsTable, IsTerminal, Leads}
 use Rattle.task_core.specs.Solutions.{HasNoSolution, IsReached, IsSolution, IsStrongSolution}
 use Rattle.task_core.specs.declared.classes.Class.{Class}
 use Rattle.task_core.specs.declared.classes.Class.TheVariants.{Weak, Strong, Cyclic}
@@ -19,7 +19,7 @@ use Rattle.reach_plan.proofs.ClassLayers.{layer-grows, layer-zero}
 use Rattle.reach_plan.proofs.Cubes.{all_vectors-agree}
 use Rattle.reach_plan.proofs.NoStrong.{reach_more, stable_no_strong}
 use Rattle.reach_plan.proofs.StrongPrinted.{printed_short, printed_strong_solves, reaches_within}
-use Rattle.reach_plan.proofs.Weak.{path_in_layer, same_vector-itself, same_vector-true, no_cover_no_solution, stable_no_solution}
+use Rattle.reach_plan.proofs.Weak.{path_in_layer, same_vector-itself, same_vector-true, stable_no_solution}
 use Rattle.reach_plan.proofs.WeakPrinted.{printed_solves}
 use Rattle.reach_plan.proofs.WeakLists.{Contains-head, Contains-range_with_len, list_all-at, list_all-from, list_any-from, list_any-witness}
 

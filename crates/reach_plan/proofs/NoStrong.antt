@@ -1,20 +1,21 @@
 -- Where a layer of the class Strong is as the next one and doesn't hold every initial state, no table is a strong
 -- solution: from a state outside the layer one can always go on outside, and so comes back to a state at last.
-use Rattle.std.proofs.Common.{◌≡◌, ◌≢◌, ℕ, zero, suc, ◌+◌, ◌<◌, ◌≤◌, ◌^◌, Bool, true, false, ◌&&◌, List, [], ◌∷◌, ◌++◌, length, map, refl, sym, ◌∙◌, ap, subst, arith, ⊎_elim, inl, inr, ◌⊎◌}
+use Rattle.std.proofs.Common.{◌≡◌, ◌≢◌, ℕ, zero, suc, ◌+◌, ◌≤◌, ◌^◌, Bool, true, false, ◌&&◌, List, [], ◌∷◌, ◌++◌, length, refl, sym, ◌∙◌, ap, subst, arith, ⊎_elim}
 use Rattle.std.specs.List.{Contains, list_all, list_any}
 use Rattle.std.proofs.lemmas.Bool.{false≢true, true≢false, and_from, and_parts, or_left, or_right}
 use Rattle.std.proofs.lemmas.List.{length-append}
 use Rattle.task_core.specs.Vectors.{Vector, all_vectors, same_vector}
-use Rattle.task_core.specs.Systems.{System, Exec, HasOutcome, IsSystem, IsState, goal_states}
+use Rattle.task_core.specs.Systems.{System, Exec, HasOutcome, IsSystem, IsState}
 use Rattle.task_core.specs.Tables.{Table, IsTable, IsPath, IsTerminal, Leads, Reaches, last_state}
 use Rattle.task_core.specs.Solutions.{HasNoSolution, IsReached, IsStrongSolution}
 use Rattle.task_core.specs.declared.classes.Class.TheVariants.{Strong}
 use Rattle.task_core.proofs.Vectors.{length-all_vectors}
+use Rattle.reach_plan.specs.Bounds.{PathsAreWithin}
 use Rattle.reach_plan.specs.Layers.{action_numbers, covers, layer, may_lead, must_lead}
 use Rattle.reach_plan.proofs.ClassLayers.{layer-grows, layer-zero}
 use Rattle.reach_plan.proofs.Cubes.{all_vectors-holds}
 use Rattle.reach_plan.proofs.Weak.{same_vector-itself, same_vector-true}
-use Rattle.reach_plan.proofs.WeakLists.{Contains-cases, Contains-cons, Contains-head, Contains-nil, Contains-range_with_len, list_all-from, list_any-from, list_any-witness}
+use Rattle.reach_plan.proofs.WeakLists.{Contains-cases, Contains-cons, Contains-head, Contains-nil, Contains-range_with_len, list_any-from, list_any-witness}
 
 -- an element that fails a test of all
 failing : {X : Type 0} (p : X → Bool) (xs : List X) → list_all p xs ≡ false → (x : X) × Contains xs x × (p x ≡ false)
@@ -43,6 +44,7 @@ around {X} x (y ∷ xs) h =
   where
     here : y ≡ x → Around x (y ∷ xs)
     here e = record { front = []; back = xs; is = ap (λ z. z ∷ xs) e }
+
     later : Around x xs → Around x (y ∷ xs)
     later rest = record { front = y ∷ rest.front; back = rest.back; is = ap (λ zs. y ∷ zs) rest.is }
 
@@ -58,7 +60,7 @@ Apart-few [] ys apart there = omega arith
 Apart-few (x ∷ xs) ys apart there =
     let at = around x ys (there x (Contains-head x xs)) in
     let fewer = Apart-few xs (at.front ++ at.back) apart.1
-        (λ z k. elsewhere x at.front at.back z (λ e. apart.0 (subst (λ w. Contains xs w) (sym e) k)) (subst (λ zs. Contains zs z) at.is (there z (Contains-cons x xs z k)))) in
+    (λ z k. elsewhere x at.front at.back z (λ e. apart.0 (subst (λ w. Contains xs w) (sym e) k)) (subst (λ zs. Contains zs z) at.is (there z (Contains-cons x xs z k)))) in
     let all_of_them : length ys ≡ length at.front + suc (length at.back) = ap length at.is ∙ length-append at.front (x ∷ at.back) in
     let others = length-append at.front at.back in
     omega arith
@@ -109,6 +111,7 @@ module _ (sys : System) (ok : IsSystem sys) (k : ℕ) (stable : (v : Vector) →
       some_outcome : (ts : List Vector) → ts ≢ [] → list_all (layer Strong sys k) ts ≡ true → list_any (layer Strong sys k) ts ≡ true
       some_outcome [] some all = absurd (some refl)
       some_outcome (t ∷ ts) some all = or_left (layer Strong sys k t) (list_any (layer Strong sys k) ts) (and_parts (layer Strong sys k t) (list_all (layer Strong sys k) ts) all).0
+
       go : (b : Bool) → list_all (layer Strong sys k) (sys.next s a) ≡ b → (t : Vector) × HasOutcome sys s a t × (layer Strong sys k t ≡ false)
       go false e = failing (layer Strong sys k) (sys.next s a) e
       go true e =
@@ -123,12 +126,15 @@ module _ (sys : System) (ok : IsSystem sys) (k : ℕ) (stable : (v : Vector) →
       let pair = has_pair s out in
       let t = outcome_outside s out pair.0 pair.1 in
       let lead : Leads sys table s t.0 = record { action = pair.0; pair = pair.1; outcome = t.1 } in
-      let reached = out.reached in
-      (t.0, lead, record {
-        state = ok.next s pair.0 t.0 t.1;
-        reached = record { start = reached.start; initial = reached.initial; path = reach_more sys table reached.start s t.0 reached.path lead };
-        outside = t.2;
-      })
+      let reached = out.reached in (
+        t.0,
+        lead,
+        record {
+          state = ok.next s pair.0 t.0 t.1;
+          reached = record { start = reached.start; initial = reached.initial; path = reach_more sys table reached.start s t.0 reached.path lead };
+          outside = t.2;
+        },
+      )
 
   -- different states, from each of which the path leads to s
   record IsWalk (seen : List Vector) (s : Vector) : Type 0 where
@@ -176,3 +182,33 @@ pub stable_no_strong : (sys : System) (k : ℕ) → IsSystem sys → ((v : Vecto
 stable_no_strong sys k ok stable short table is_table solves =
     let s = failing (layer Strong sys k) sys.initial short in
     no_strong_from sys ok k stable table is_table solves s.0 s.1 s.2
+
+-- the paths of a strong solution pass no state twice, so that they are no longer than there are states
+module _ (sys : System) (ok : IsSystem sys) (table : Table) (solves : IsStrongSolution sys table) where
+  reach_from : (x t : Vector) (rest : List Vector) → IsPath sys table t rest → Contains (t ∷ rest) x → Reaches sys table t x
+  reach_from x t [] path h = ⊎_elim (λ e. subst (Reaches sys table t) e (here sys table t)) (λ c. absurd (Contains-nil x c)) (Contains-cases t [] x h)
+  reach_from x t (u ∷ rest) path h =
+      ⊎_elim (λ e. subst (Reaches sys table t) e (here sys table t))
+      (λ c. let r = reach_from x u rest path.1 c in record { rest = u ∷ r.rest; path = (path.0, r.path); ends = r.ends })
+      (Contains-cases t (u ∷ rest) x h)
+
+  never_twice : (s : Vector) (rest : List Vector) → IsReached sys table s → IsPath sys table s rest → Apart (s ∷ rest)
+  unfolding Apart
+  never_twice s [] reached path = ((λ h. Contains-nil s h), tt)
+  never_twice s (t ∷ rest) reached path = (
+    (λ h. let r = reach_from s t rest path.1 h in solves.no_cycle s t r.rest reached (path.0, r.path) r.ends),
+    never_twice t rest (record { start = reached.start; initial = reached.initial; path = reach_more sys table reached.start s t reached.path path.0 }) path.1,
+  )
+
+  all_states : (s : Vector) (rest : List Vector) → IsState sys s → IsPath sys table s rest → (x : Vector) → Contains (s ∷ rest) x → IsState sys x
+  all_states s [] is path x h = ⊎_elim (λ e. subst (IsState sys) e is) (λ c. absurd (Contains-nil x c)) (Contains-cases s [] x h)
+  all_states s (t ∷ rest) is path x h =
+      ⊎_elim (λ e. subst (IsState sys) e is)
+      (λ c. all_states t rest (ok.next s path.0.action t path.0.outcome) path.1 x c) (Contains-cases s (t ∷ rest) x h)
+
+  pub strong_is_bounded : (s : Vector) → Contains sys.initial s → PathsAreWithin sys table s (2 ^ sys.fluents)
+  strong_is_bounded s initial rest path =
+      let few = Apart-few (s ∷ rest) (all_vectors sys.fluents) (never_twice s rest (record { start = s; initial = initial; path = here sys table s }) path)
+      (λ x h. all_vectors-holds sys.fluents x (all_states s rest (ok.initial s initial) path x h)) in
+      let all = length-all_vectors sys.fluents in
+      omega arith

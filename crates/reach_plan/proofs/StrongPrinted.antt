@@ -1,18 +1,17 @@
 -- The printed plan of the class Strong is a strong solution; and how long its paths are.
-use Rattle.std.proofs.Common.{◌≡◌, ◌≢◌, ℕ, zero, suc, ◌+◌, ◌<◌, ◌≤◌, Bool, true, false, List, [], ◌∷◌, length, refl, sym, ◌∙◌, ap, subst, arith, ⊎_elim, inl, inr, ◌⊎◌}
-use Rattle.std.specs.List.{Contains, list_all, list_any}
+use Rattle.std.proofs.Common.{◌≡◌, ℕ, zero, suc, ◌<◌, ◌≤◌, Bool, true, false, List, [], ◌∷◌, refl, sym, ◌∙◌, ap, subst, arith, ⊎_elim}
+use Rattle.std.specs.List.{list_all}
 use Rattle.std.proofs.lemmas.Bool.{false≢true, true≢false, and_parts, cases_lt}
 use Rattle.task_core.specs.Vectors.{Vector}
-use Rattle.task_core.specs.Systems.{System, IsSystem, IsState, HasOutcome, goal_states}
-use Rattle.task_core.specs.Tables.{Table, IsTable, IsPath, IsTerminal, Leads, Reaches, last_state}
+use Rattle.task_core.specs.Systems.{System, IsSystem, IsState}
+use Rattle.task_core.specs.Tables.{Table, IsPath, Leads, last_state}
 use Rattle.task_core.specs.Solutions.{EndsInGoal, HasNoCycle, IsReached, IsStrongSolution}
 use Rattle.task_core.specs.declared.classes.Class.TheVariants.{Strong, Weak}
-use Rattle.plan_rules.specs.Denoted.{denoted, IsExecutable}
+use Rattle.plan_rules.specs.Denoted.{denoted}
 use Rattle.reach_plan.specs.Bounds.{PathsAreWithin, ReachesGoalWithin}
-use Rattle.reach_plan.specs.Layers.{IsLastLayer, layer, may_lead, must_lead}
+use Rattle.reach_plan.specs.Layers.{IsLastLayer, layer, may_lead}
 use Rattle.reach_plan.specs.Printed.{printed_rules}
-use Rattle.reach_plan.proofs.ClassLayers.{Ranked, first_layer, goal_terminal, layer-grows, layer-misses, layer-zero_goal, leads_outcome, pair_at, pair_ranked, printed_executable}
-use Rattle.reach_plan.proofs.WeakDenoted.{denoted-table}
+use Rattle.reach_plan.proofs.ClassLayers.{first_layer, goal_terminal, layer-grows, layer-zero_goal, leads_outcome, pair_at, pair_ranked}
 use Rattle.reach_plan.proofs.WeakLists.{list_all-at}
 
 module _ (sys : System) (ok : IsSystem sys) (K : ℕ) where
@@ -102,6 +101,7 @@ module _ (sys : System) (ok : IsSystem sys) (K : ℕ) where
     where
       longer : ReachesGoalWithin sys (denoted sys (printed_rules Weak sys K)) v k → ReachesGoalWithin sys (denoted sys (printed_rules Weak sys K)) v (suc k)
       longer r = record { rest = r.rest; path = r.path; short = (let s = r.short in omega arith); terminal = r.terminal; goal = r.goal }
+
       go : (b : Bool) → layer Weak sys k v ≡ b → ((t : Vector) → IsState sys t → layer Weak sys k t ≡ true → ReachesGoalWithin sys (denoted sys (printed_rules Weak sys K)) t k) → ReachesGoalWithin sys (denoted sys (printed_rules Weak sys K)) v (suc k)
       go true e after = longer (after v is e)
       go false e after =

@@ -58,6 +58,14 @@ pub fn printed_plan_solves()
         → IsExecutable sys (printed_rules class sys K) }
 {}
 
+/// From each initial state, the paths of a strong solution have at most as many steps as there are
+/// states.
+pub fn strong_plans_end()
+    ensures { (sys : System) (table : Table) (s : Vector) → IsSystem sys
+        → IsStrongSolution sys table → Contains sys.initial s
+        → PathsAreWithin sys table s (2 ^ sys.fluents) }
+{}
+
 /// From each initial state, the longest path of the printed strong plan is no longer than that of
 /// any strong solution, and the shortest path of the printed weak plan to a terminal goal state no
 /// longer than that of any table.

@@ -17,6 +17,6 @@ mod tests;
 
 pub use laws::{
     layers_grow, layers_stand_still, no_plan_once_stable, no_plan_without_cover,
-    printed_plan_is_shortest, printed_plan_solves,
+    printed_plan_is_shortest, printed_plan_solves, strong_plans_end,
 };
 pub use planner::{Found, plan_weak};
