@@ -46,8 +46,8 @@ pub fn no_plan_once_stable()
         → HasNoSolution class sys }
 {}
 
-/// Where layer K is the first that holds every initial state, the printed rules denote a solution of
-/// the class, weak or strong, and no rule matches a state in which its action can't be executed.
+/// Where layer K is the first that holds every initial state, the printed rules denote a solution
+/// of the class, weak or strong, and no rule matches a state where its action can't be executed.
 pub fn printed_plan_solves()
     ensures table { (class : Class) (sys : System) (K : ℕ)
         → IsTable sys (denoted sys (printed_rules class sys K)) }
