@@ -1,4 +1,5 @@
 pub mod ChoiceRules
+pub mod ClassLayers
 pub mod Cubes
 pub mod LastLayer
 pub mod LayerSteps
@@ -13,3 +14,6 @@ pub mod WeakDenoted
 mod WeakExamples
 pub mod WeakLists
 pub mod WeakPrinted
+pub mod StrongPrinted
+pub mod NoStrong
+pub mod LeastBounds

@@ -1,3 +1,5 @@
+pub mod Bounds
+pub mod Classes
 pub mod Layers
 pub mod Printed
 pub mod Listed

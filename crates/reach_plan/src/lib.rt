@@ -15,5 +15,8 @@ mod states;
 #[cfg(test)]
 mod tests;
 
-pub use laws::{layers_grow, no_plan_once_stable, no_plan_without_cover, printed_plan_solves};
+pub use laws::{
+    layers_grow, layers_stand_still, no_plan_once_stable, no_plan_without_cover,
+    printed_plan_is_shortest, printed_plan_solves, strong_plans_end,
+};
 pub use planner::{Found, plan_weak};

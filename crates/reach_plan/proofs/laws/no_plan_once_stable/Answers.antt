@@ -1,5 +1,5 @@
-use Rattle.reach_plan.proofs.Weak.{stable_no_solution}
+use Rattle.reach_plan.proofs.LeastBounds.{none_once_stable}
 use Rattle.reach_plan.proofs.laws.no_plan_once_stable.Goals as goal
 
 pub returns : goal.returns
-returns c = record { none = λ sys k ok stable short. stable_no_solution sys ok k stable short }
+returns c = record { none = none_once_stable }

@@ -1,5 +1,5 @@
-use Rattle.reach_plan.proofs.Weak.{no_cover_no_solution}
+use Rattle.reach_plan.proofs.LeastBounds.{none_without_cover}
 use Rattle.reach_plan.proofs.laws.no_plan_without_cover.Goals as goal
 
 pub returns : goal.returns
-returns c = record { none = no_cover_no_solution }
+returns c = record { none = none_without_cover }
