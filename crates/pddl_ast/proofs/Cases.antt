@@ -1,10 +1,9 @@
 -- A formula and an effect by what the word at the head means.
-use Rattle.std.proofs.Common.{◌≡◌, ℕ, Bool, true, false, ◌==◌, List, [], ◌∷◌, ◌++◌, if◌then◌else◌}
+use Rattle.std.proofs.Common.{ℕ, ◌==◌, List, [], ◌∷◌, if◌then◌else◌}
 use Rattle.sexpr_text.specs.declared.forms.Span.{Span}
 use Rattle.sexpr_text.specs.declared.faults.FaultKind.TheVariants.{EmptyOneof}
-use Rattle.sexpr_text.specs.Forest.{Forest, nothing, word, group}
+use Rattle.sexpr_text.specs.Forest.{Forest, word}
 use Rattle.sexpr_text.specs.Flaws.{Flaw, flaw_at}
-use Rattle.pddl_ast.specs.declared.keywords.Keyword.{Keyword}
 use Rattle.pddl_ast.specs.declared.keywords.Keyword.TheVariants.{And, Or, Not, Imply, Exists, Forall, Equals, When, Oneof, Unknown, Other}
 use Rattle.pddl_ast.specs.Words.{keyword_of}
 use Rattle.pddl_ast.specs.Known.{Known}

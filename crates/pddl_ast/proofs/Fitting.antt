@@ -1,15 +1,14 @@
 -- Terms, types and atoms without flaws fit what is known.
-use Rattle.std.proofs.Common.{◌≡◌, ℕ, zero, suc, ◌+◌, ◌<◌, ◌≤◌, ◌==◌, Bool, true, false, List, [], ◌∷◌, ◌++◌, map, length, get_or, reverse, refl, ap, sym, subst, ◌∙◌, arith, if◌then◌else◌}
-use Rattle.std.specs.Prelude.{Option, Some, None, All, slice_get, slice_index, position}
+use Rattle.std.proofs.Common.{◌≡◌, ℕ, ◌+◌, ◌<◌, ◌==◌, Bool, true, false, List, [], ◌∷◌, ◌++◌, map, length, reverse, refl, ap, sym, ◌∙◌, arith, if◌then◌else◌}
+use Rattle.std.specs.Prelude.{Option, Some, None, All, slice_get, slice_index}
 use Rattle.std.specs.Option.{is_some, option_map, unwrap_or}
 use Rattle.std.specs.Str.{bytes_eq}
 use Rattle.std.proofs.lemmas.Bool.Decides.{nat_tests}
 use Rattle.std.proofs.lemmas.Option.{slice_get-get_or}
 use Rattle.std.proofs.lemmas.List.{length-append, length-map, length-reverse}
-use Rattle.std.proofs.lemmas.List.Elements.{All-nil, All-cons, All-head, All-tail, All-append}
+use Rattle.std.proofs.lemmas.List.Elements.{All-nil, All-cons, All-append}
 use Rattle.std.proofs.lemmas.List.Quantifiers.{position-Some}
 use Rattle.sexpr_text.specs.declared.forms.Span.{Span}
-use Rattle.sexpr_text.specs.declared.faults.FaultKind.{FaultKind}
 use Rattle.sexpr_text.specs.declared.faults.FaultKind.TheVariants.{UnknownName, WrongArity}
 use Rattle.sexpr_text.specs.Forest.{Forest, nothing, word, group}
 use Rattle.sexpr_text.specs.Flaws.{Flaw, flaw_at}
@@ -18,9 +17,9 @@ use Rattle.pddl_ast.specs.declared.trees.Term.TheVariants.{Variable, Object}
 use Rattle.pddl_ast.specs.Words.{is_variable}
 use Rattle.pddl_ast.specs.Known.{Known, number_in, number_from_inside, variable_number}
 use Rattle.pddl_ast.specs.TypedLists.{Group, names_of, types_of, type_number, typed_groups}
-use Rattle.pddl_ast.specs.Atoms.{count, words_flaws, terms_flaws, terms_of, term_of, head_flaws, arity_flaws, atom_flaws, ground_atom_flaws, ground_atom, objects_flaws, numbers, object_number, predicate_number, head_fault}
+use Rattle.pddl_ast.specs.Atoms.{count, terms_flaws, terms_of, term_of, head_flaws, arity_flaws, atom_flaws, ground_atom_flaws, ground_atom, objects_flaws, numbers, object_number, predicate_number}
 use Rattle.pddl_ast.specs.Formulas.{inner_scope, variable_types}
-use Rattle.pddl_ast.specs.Fits.{IsKnown, FitsTerm, FitsAtom, FitsGroundAtom, AreTypes}
+use Rattle.pddl_ast.specs.Fits.{IsKnown, FitsTerm, FitsAtom, FitsGroundAtom}
 
 -- two lists of flaws without a flaw
 pub no_first : (fs gs : List Flaw) → fs ++ gs ≡ [] → fs ≡ []

@@ -1,10 +1,10 @@
 -- How many forms there are in a row.
-use Rattle.std.proofs.Common.{◌≡◌, ℕ, suc, ◌+◌, List, [], ◌∷◌, length, refl, ap, sym, ◌∙◌, arith}
+use Rattle.std.proofs.Common.{◌≡◌, ◌+◌, List, [], ◌∷◌, length, refl, ap, ◌∙◌, arith}
 use Rattle.sexpr_text.specs.declared.forms.Form.{Form}
 use Rattle.sexpr_text.specs.declared.forms.Form.TheOpen.{Form-F, Word, Group}
 use Rattle.sexpr_text.specs.declared.forms.Form.TheViews.{out-Form}
 use Rattle.sexpr_text.specs.declared.forms.Form.TheFolds.{map-Form, fold_out-Form}
-use Rattle.sexpr_text.specs.Forest.{Forest, nothing, word, group, form_step, form_then, forest_of}
+use Rattle.sexpr_text.specs.Forest.{Forest, form_step, form_then, forest_of}
 use Rattle.pddl_ast.specs.Atoms.{count}
 
 layer-count : (x : Form-F (Forest → Forest)) (rest : Forest) → count (form_step x rest) ≡ 1 + count rest

@@ -1,4 +1,5 @@
 pub mod NameLemmas
+pub mod ScopeLemmas
 pub mod Forests
 pub mod Weights
 pub mod Pending

@@ -1,5 +1,5 @@
 -- Names in the order of their numbers: a table of bytes answers as the list of the names does.
-use Rattle.std.proofs.Common.{◌≡◌, ℕ, ◌+◌, Bool, true, false, cond, List, [], ◌∷◌, ◌++◌, map, length, reverse, refl, ap, sym, ◌∙◌, Some, None, Option, if◌then◌else◌, ◌||◌, not, ◌<◌, ◌≤◌, take, get_or, arith}
+use Rattle.std.proofs.Common.{◌≡◌, ℕ, ◌+◌, Bool, true, false, cond, List, [], ◌∷◌, ◌++◌, map, length, refl, ap, sym, ◌∙◌, Some, None, Option, if◌then◌else◌, ◌||◌, not, ◌<◌, take, get_or, arith}
 use Rattle.std.specs.Prelude.{position, nat_lt}
 use Rattle.std.specs.List.{list_any, position_or_len}
 use Rattle.std.specs.Str.{bytes_eq}

@@ -1,20 +1,18 @@
 -- The flaws of typed lists, atoms, formulas and effects stand in the order of the text.
-use Rattle.std.proofs.Common.{◌≡◌, ℕ, suc, ◌+◌, ◌-◌, ◌<◌, ◌≤◌, ◌==◌, Bool, true, false, not, ◌&&◌, List, [], ◌∷◌, ◌++◌, length, refl, ap, sym, subst, ◌∙◌, arith, if◌then◌else◌}
+use Rattle.std.proofs.Common.{ℕ, suc, ◌<◌, ◌≤◌, ◌==◌, Bool, true, false, not, ◌&&◌, List, [], ◌∷◌, ◌++◌, arith, if◌then◌else◌}
 use Rattle.std.specs.Option.{is_some}
 use Rattle.std.specs.Prelude.{Option, Some, None, slice_index}
 use Rattle.std.specs.List.{list_any}
 use Rattle.std.specs.Str.{bytes_eq}
 use Rattle.sexpr_text.specs.declared.forms.Span.{Span}
 use Rattle.sexpr_text.specs.declared.faults.FaultKind.{FaultKind}
-use Rattle.sexpr_text.specs.declared.faults.FaultKind.TheVariants.{BadForm, UnknownName, DoubleName, WrongArity, EmptyOneof}
+use Rattle.sexpr_text.specs.declared.faults.FaultKind.TheVariants.{BadForm, UnknownName, DoubleName, WrongArity}
 use Rattle.sexpr_text.specs.Forest.{Forest, nothing, word, group}
 use Rattle.sexpr_text.specs.Formed.{IsRising}
 use Rattle.sexpr_text.specs.Flaws.{Flaw, IsInOrder, flaw_at}
-use Rattle.sexpr_text.proofs.FlawLaws.{in_order-from, in_order-up_to, in_order-append}
-use Rattle.sexpr_text.proofs.GroupLaws.{rising-bounds}
+use Rattle.sexpr_text.proofs.FlawLaws.{in_order-from, in_order-append}
 use Rattle.pddl_ast.specs.declared.typed_lists.Declares.{Declares}
-use Rattle.pddl_ast.specs.declared.typed_lists.Declares.TheVariants.{Variables}
-use Rattle.pddl_ast.specs.Words.{is_dash, keyword_of, is_reserved}
+use Rattle.pddl_ast.specs.Words.{is_dash}
 use Rattle.pddl_ast.specs.Known.{Known, number_in}
 use Rattle.pddl_ast.specs.TypedLists.{names_flaws, type_flaws, name_flaws, word_flaws, dash_flaws, seen_after, either_fault, begins_type, is_type, is_wanted, may_repeat}
 use Rattle.pddl_ast.specs.Atoms.{count, words_flaws, terms_flaws, objects_flaws, head_flaws, arity_flaws, atom_flaws, ground_atom_flaws, term_of, object_number}

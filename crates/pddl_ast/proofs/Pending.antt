@@ -1,5 +1,5 @@
 -- What a reader of a typed list has read: one more name, and one more group.
-use Rattle.std.proofs.Common.{◌≡◌, ℕ, Bool, true, false, List, [], ◌∷◌, ◌++◌, map, refl, ap, sym, ◌∙◌, ◌+◌, ◌<◌, length, take, get_or}
+use Rattle.std.proofs.Common.{◌≡◌, ℕ, List, [], ◌∷◌, ◌++◌, map, refl, ap, sym, ◌∙◌, ◌+◌, ◌<◌, length, take, get_or}
 use Rattle.std.proofs.lemmas.List.{append_assoc, append-nil, take_more}
 use Rattle.pddl_ast.specs.TypedLists.{Group, names_of, all_seen, seen_after, types_of, type_number}
 use Rattle.pddl_ast.specs.Environment.{group_value}

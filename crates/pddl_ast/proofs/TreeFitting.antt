@@ -1,20 +1,20 @@
 -- Formulas and effects without flaws fit what is known, and are no deeper than their forms.
-use Rattle.std.proofs.Common.{◌≡◌, ℕ, zero, suc, ◌+◌, ◌<◌, ◌≤◌, ◌==◌, Bool, true, false, List, [], ◌∷◌, ◌++◌, length, refl, ap, sym, subst, ◌∙◌, arith, if◌then◌else◌}
-use Rattle.std.specs.Prelude.{max, All}
+use Rattle.std.proofs.Common.{◌≡◌, ℕ, suc, ◌+◌, ◌≤◌, ◌==◌, false, List, [], ◌∷◌, ◌++◌, length, refl, subst, ◌∙◌, arith}
+use Rattle.std.specs.Prelude.{All}
 use Rattle.std.proofs.lemmas.List.Elements.{All-head, All-tail}
 use Rattle.sexpr_text.specs.declared.forms.Span.{Span}
 use Rattle.sexpr_text.specs.declared.faults.FaultKind.TheVariants.{BadForm, EmptyOneof}
 use Rattle.sexpr_text.specs.Forest.{Forest, nothing, word, group}
 use Rattle.sexpr_text.specs.Formed.{nesting_of}
-use Rattle.sexpr_text.specs.Flaws.{Flaw, flaw_at}
+use Rattle.sexpr_text.specs.Flaws.{flaw_at}
 use Rattle.pddl_ast.specs.declared.trees.Term.{Term}
 use Rattle.pddl_ast.specs.Words.{is_reserved}
 use Rattle.pddl_ast.specs.Known.{Known}
-use Rattle.pddl_ast.specs.Trees.{FormulaTree, atom, equal, all, any, negation, implication, exists, forall, formula_row, EffectTree, add, delete, both, one_of, only_when, each, effect_row}
-use Rattle.pddl_ast.specs.Atoms.{count, terms_flaws, terms_of, atom_flaws, predicate_number}
+use Rattle.pddl_ast.specs.Trees.{FormulaTree, exists, forall, formula_row, EffectTree, effect_row}
+use Rattle.pddl_ast.specs.Atoms.{count, terms_flaws, terms_of, atom_flaws}
 use Rattle.pddl_ast.specs.TypedLists.{typed_groups}
-use Rattle.pddl_ast.specs.Formulas.{truth, bad_list, variables_flaws, inner_scope, variable_types, formulas_flaws, formulas_of, formula_flaws, formula_of, quantifier_flaws, quantified_of, first_formula, implication_of, equality_of}
-use Rattle.pddl_ast.specs.Effects.{no_change, effects_flaws, effects_of, effect_flaws, effect_of, deleted_flaws, deleted_of, when_flaws, when_of, each_flaws, each_of, first_effect}
+use Rattle.pddl_ast.specs.Formulas.{bad_list, variables_flaws, inner_scope, variable_types, formulas_flaws, formulas_of, formula_flaws, formula_of, quantifier_flaws, quantified_of, first_formula, implication_of, equality_of}
+use Rattle.pddl_ast.specs.Effects.{effects_flaws, effects_of, effect_flaws, effect_of, deleted_flaws, deleted_of, when_flaws, when_of, each_flaws, each_of, first_effect}
 use Rattle.pddl_ast.specs.Depth.{formula_depth, formulas_depth, effect_depth, effects_depth}
 use Rattle.pddl_ast.specs.Fits.{IsKnown, FitsFormula, FitsFormulas, FitsEffect, FitsEffects, HasEffect, AreTypes}
 use Rattle.pddl_ast.proofs.Cases.{formula_cases, effect_cases}

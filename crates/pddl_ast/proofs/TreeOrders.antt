@@ -1,5 +1,5 @@
 -- The flaws of formulas and of effects stand in the order of the text.
-use Rattle.std.proofs.Common.{◌≡◌, ℕ, suc, ◌+◌, ◌-◌, ◌<◌, ◌≤◌, ◌==◌, Bool, true, false, List, [], ◌∷◌, ◌++◌, refl, arith, if◌then◌else◌}
+use Rattle.std.proofs.Common.{ℕ, ◌+◌, ◌-◌, ◌<◌, ◌≤◌, ◌==◌, false, List, [], ◌∷◌, ◌++◌, arith}
 use Rattle.sexpr_text.specs.declared.forms.Span.{Span}
 use Rattle.sexpr_text.specs.declared.faults.FaultKind.TheVariants.{BadForm, EmptyOneof}
 use Rattle.sexpr_text.specs.Forest.{Forest, nothing, word, group}
@@ -8,11 +8,10 @@ use Rattle.sexpr_text.specs.Flaws.{Flaw, IsInOrder, flaw_at}
 use Rattle.sexpr_text.proofs.FlawLaws.{in_order-from, in_order-up_to, in_order-append}
 use Rattle.sexpr_text.proofs.GroupLaws.{rising-bounds}
 use Rattle.pddl_ast.specs.declared.typed_lists.Declares.TheVariants.{Variables}
-use Rattle.pddl_ast.specs.Words.{keyword_of, is_reserved}
+use Rattle.pddl_ast.specs.Words.{is_reserved}
 use Rattle.pddl_ast.specs.Known.{Known}
 use Rattle.std.specs.Option.{is_some}
 use Rattle.pddl_ast.specs.Atoms.{count, terms_flaws, atom_flaws, term_of}
-use Rattle.pddl_ast.specs.Trees.{FormulaTree, EffectTree}
 use Rattle.pddl_ast.specs.Formulas.{bad_list, variables_flaws, inner_scope, formulas_flaws, formula_flaws, quantifier_flaws}
 use Rattle.pddl_ast.specs.Effects.{effects_flaws, effect_flaws, deleted_flaws, when_flaws, each_flaws}
 use Rattle.pddl_ast.proofs.Orders.{either, at_form, one_at, names-in_order, words-in_order, atom-in_order}

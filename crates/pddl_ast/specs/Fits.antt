@@ -1,7 +1,7 @@
 -- What holds of every domain and every problem that is read: numbers are in range, each atom has as many
 -- terms as its predicate takes, variables are in scope, every choice has an alternative, names differ, and
 -- no tree is more than 200 deep.
-use Rattle.std.specs.Prelude.{ℕ, zero, suc, ◌≡◌, ◌<◌, ◌≤◌, ◌+◌, ◌++◌, ◌⊎◌, Bool, true, false, List, [], ◌∷◌, All, Option, Some, None, length, map, slice_get, slice_index, IfSome}
+use Rattle.std.specs.Prelude.{ℕ, zero, suc, ◌≡◌, ◌<◌, ◌≤◌, ◌+◌, ◌++◌, true, false, List, [], ◌∷◌, All, Some, length, map, slice_get, slice_index, IfSome}
 use Rattle.std.specs.List.{list_any}
 use Rattle.std.specs.Str.{bytes_eq}
 use Rattle.pddl_ast.specs.declared.trees.Term.{Term}

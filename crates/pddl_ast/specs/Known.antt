@@ -1,7 +1,6 @@
 -- What is known where a formula or an effect is read: the names that are declared, and the variables in
 -- scope. Each kind of name is counted from 0.
-use Rattle.std.specs.Prelude.{ℕ, Bool, List, [], ◌∷◌, Option, Some, None, if◌then◌else◌, length, position, reverse}
-use Rattle.std.specs.Option.{is_some}
+use Rattle.std.specs.Prelude.{ℕ, List, [], ◌∷◌, Option, Some, None, if◌then◌else◌, length, position, reverse}
 use Rattle.std.specs.Str.{bytes_eq}
 
 -- the types (`object` first), the predicates with the number of terms that each takes, and the objects

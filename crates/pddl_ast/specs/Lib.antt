@@ -1,3 +1,4 @@
+pub mod Definitions
 pub mod Trees
 pub mod Values
 pub mod Words
@@ -10,4 +11,5 @@ pub mod Depth
 pub mod Fits
 pub mod Environment
 pub mod Pending
+pub mod Scopes
 pub mod WordTexts

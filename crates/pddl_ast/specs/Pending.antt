@@ -1,5 +1,5 @@
 -- Private: what a reader of a typed list has read, and what it has still before it.
-use Rattle.std.specs.Prelude.{ℕ, Bool, true, false, not, ◌==◌, List, [], ◌∷◌, ◌++◌, map, length}
+use Rattle.std.specs.Prelude.{ℕ, Bool, true, false, not, ◌==◌, List, ◌++◌, map, length}
 use Rattle.sexpr_text.specs.Forest.{Forest}
 use Rattle.sexpr_text.specs.Flaws.{Flaw}
 use Rattle.pddl_ast.specs.TypedLists.{Group, names_flaws, type_flaws, groups_after, typed_after, names_of}

@@ -1,5 +1,5 @@
 -- The plain trees that the types of `trees` stand for.
-use Rattle.std.specs.Prelude.{List, map}
+use Rattle.std.specs.Prelude.{map}
 use Rattle.std.specs.Option.{option_map}
 use Rattle.pddl_ast.specs.Trees.{FormulaTree, atom, equal, all, any, negation, implication, exists, forall, formula_row, EffectTree, add, delete, both, one_of, only_when, each, effect_row, SchemaTree, DomainTree, AtomTree, LiteralTree, ProblemTree}
 use Rattle.pddl_ast.specs.declared.trees.Formula.{Formula}

@@ -1,5 +1,5 @@
 -- What words mean where they stand. A word is the list of its bytes, in lower case.
-use Rattle.std.specs.Prelude.{ℕ, Bool, true, false, ◌||◌, not, ◌==◌, if◌then◌else◌, List, [], ◌∷◌, codes, slice_index}
+use Rattle.std.specs.Prelude.{ℕ, Bool, true, false, ◌||◌, not, ◌==◌, if◌then◌else◌, List, codes, slice_index}
 use Rattle.std.specs.Str.{bytes_eq}
 use Rattle.pddl_ast.specs.declared.keywords.Keyword.{Keyword}
 use Rattle.pddl_ast.specs.declared.keywords.Keyword.TheVariants.{And, Or, Not, Imply, Exists, Forall, Equals, When, Oneof, Unknown, Other}

@@ -59,21 +59,25 @@ fn equality_of(alloc: Global, terms: Vec<Term>) -> Formula
 }
 
 /// Brings variables into scope, the later ones inside the earlier ones.
-fn enter_names(scope: &mut Scope, names: Vec<Text>) -> Result<(), AllocError>
+fn enter_names(alloc: Global, scope: &mut Scope, names: Vec<Text>) -> Result<(), AllocError>
     ensures { OnOk result (scope.new ≡ scope.old ++ names.items) }
 {
     for name in names {
-        scope.enter(name)?;
+        scope.enter(alloc, name)?;
     }
     Ok(())
 }
 
 /// Brings the variables of some groups into scope, the later ones inside the earlier ones.
-pub fn enter_groups(scope: &mut Scope, groups: Vec<TypedGroup>) -> Result<(), AllocError>
+pub fn enter_groups(
+    alloc: Global,
+    scope: &mut Scope,
+    groups: Vec<TypedGroup>,
+) -> Result<(), AllocError>
     ensures { OnOk result (scope.new ≡ scope.old ++ names_of (map group_value groups.items)) }
 {
     for group in groups {
-        enter_names(scope, group.names)?;
+        enter_names(alloc, scope, group.names)?;
     }
     Ok(())
 }
@@ -97,7 +101,7 @@ pub fn read_variables(
     let mut seen = NameTable::new(alloc);
     let groups = read_typed_list(alloc, Declares::Variables, &known.types, &mut seen, list)?;
     let types = types_of(alloc, &known.types, &groups)?;
-    enter_groups(scope, groups)?;
+    enter_groups(alloc, scope, groups)?;
     Ok(types)
 }
 

@@ -75,7 +75,7 @@ fn table_of_objects(alloc: Global, objects: &[Named]) -> Result<NameTable, Alloc
 }
 
 /// How many terms each predicate takes.
-fn arities_of(alloc: Global, predicates: &[Predicate]) -> Result<Vec<u32>, AllocError>
+pub fn arities_of(alloc: Global, predicates: &[Predicate]) -> Result<Vec<u32>, AllocError>
     ensures { IfOk result (λ arities.
         arities.items ≡ map (λ predicate. predicate.arity) predicates.now) }
 {

@@ -10,6 +10,7 @@
 #![tactic(auto)]
 
 mod atoms;
+mod definitions;
 mod effects;
 mod formulas;
 mod keywords;
@@ -21,10 +22,11 @@ mod trees;
 mod typed_lists;
 
 pub use atoms::{read_atom, read_ground_atom, read_terms};
+pub use definitions::{no_define, title_of};
 pub use effects::{no_change, read_effect};
 pub use formulas::{enter_groups, read_formula, read_variables, truth};
 pub use keywords::{Keyword, is_dash, is_left_out, is_reserved, is_variable, keyword_of, spells};
-pub use known::Known;
+pub use known::{Known, arities_of};
 pub use laws::{
     atoms_in_order, effects_fit, effects_in_order, formulas_fit, formulas_in_order,
     ground_atoms_fit, names_are_added, typed_lists_fit, typed_lists_in_order, types_fit,

@@ -1,10 +1,12 @@
 //! The variables in scope.
 
-ghost use Rattle.std.specs.Prelude.{◌≡◌, ◌≤◌, [], ◌∷◌, ◌++◌, length, take, OnOk, if◌then◌else◌};
+ghost use Rattle.std.specs.Prelude.{◌≡◌, ◌≤◌, ◌<◌, ◌-◌, ℕ, List, [], ◌∷◌, ◌++◌, None, Some, true, length, take, OnOk, if◌then◌else◌};
+ghost use Rattle.std.specs.Option.{is_some};
 ghost use Rattle.std.specs.Str.{bytes_eq};
 ghost use Rattle.pddl_ast.specs.Known.{variable_number};
+ghost use Rattle.pddl_ast.specs.Scopes.{entry_of, meaning};
 
-use crate::keywords::spells;
+use indexmap::IndexMap;
 use sexpr_text::Text;
 use std::alloc::{AllocError, Global};
 use std::marker::Model;
@@ -13,21 +15,84 @@ use std::marker::Model;
 /// memory is; the longest text has fewer.
 const MAX_VARIABLES: usize = 4_294_967_295;
 
+/// For each name that has been in scope, the number of the variable that it means, where it means
+/// one. A look-up takes one step, whatever the number of names.
+#[derive(Drop)]
+struct Meanings {
+    numbers: IndexMap<Vec<u8>, Option<u32>>,
+}
+
+impl Meanings {
+    /// No name means a variable.
+    fn new(alloc: Global) -> Meanings
+        ensures { result.numbers.entries ≡ [] }
+    {
+        Meanings {
+            numbers: IndexMap::new(alloc),
+        }
+    }
+
+    /// The number of the variable that the name means.
+    fn number_of(&self, name: &Text) -> Option<u32>
+        ensures { result ≡ meaning self.now.numbers.entries name.now }
+    {
+        match self.numbers.get(name.as_bytes()) {
+            Some(number) => *number,
+            None => None,
+        }
+    }
+
+    /// Makes room for what the name means. What names mean stays as it was.
+    fn make_room(&mut self, alloc: Global, name: &Text) -> Result<(), AllocError>
+        ensures same { (any : List ℕ) → meaning self.new.numbers.entries any
+            ≡ meaning self.old.numbers.entries any }
+        ensures room { OnOk result (is_some (entry_of self.new.numbers.entries name.now) ≡ true) }
+    {
+        if self.numbers.contains_key(name.as_bytes()) {
+            return Ok(());
+        }
+        let bytes = Vec::from_slice(alloc, name.as_bytes())?;
+        self.numbers.insert(bytes, None)?;
+        Ok(())
+    }
+
+    /// Lets the name mean the variable with this number, or none.
+    fn set(&mut self, name: &Text, number: Option<u32>)
+        requires room { is_some (entry_of self.old.numbers.entries name.now) ≡ true }
+        ensures { (any : List ℕ) → meaning self.new.numbers.entries any
+            ≡ (if bytes_eq any name.now then number else meaning self.old.numbers.entries any) }
+    {
+        if let Some(place) = self.numbers.get_mut(name.as_bytes()) {
+            *place = number;
+        }
+    }
+}
+
+/// A variable in scope: its name, and the number of the variable that the name means outside it.
+#[derive(Drop)]
+struct Variable {
+    name: Text,
+    hidden: Option<u32>,
+}
+
 /// The variables in scope. A clause sees the list of their names, the outermost first. A later one
-/// hides an earlier one of its name, which keeps its number.
+/// hides an earlier one of its name, which keeps its number. What a name means is found by its
+/// hash.
 #[derive(Drop)]
 pub struct Scope {
-    names: Vec<Text>,
+    variables: Vec<Variable>,
+    meanings: Meanings,
 }
 
 impl Model for Scope {
-    ghost use Rattle.std.specs.Prelude.{ℕ, ◌≤◌, List, length};
+    ghost use Rattle.std.specs.Prelude.{ℕ, List};
+    ghost use Rattle.pddl_ast.specs.Scopes.{names_in, Tells};
 
     ghost Value = { List (List ℕ) };
 
-    ghost view = { λ s. s.names.items };
+    ghost view = { λ s. names_in s.variables.items };
 
-    ghost invariant = { λ s. length s.names.items ≤ 4294967295 };
+    ghost invariant = { λ s. Tells s.variables.items s.meanings.numbers.entries };
 }
 
 impl Scope {
@@ -36,7 +101,8 @@ impl Scope {
         ensures { result ≡ [] }
     {
         Scope {
-            names: Vec::new(alloc),
+            variables: Vec::new(alloc),
+            meanings: Meanings::new(alloc),
         }
     }
 
@@ -44,29 +110,40 @@ impl Scope {
     pub fn len(&self) -> usize
         ensures { result ≡ length self.now }
     {
-        self.names.len()
+        self.variables.len()
     }
 
     /// The number of the variable that the name means: the innermost of that name.
     pub fn number_of(&self, name: &Text) -> Option<u32>
         ensures { result ≡ variable_number self.now name.now }
     {
-        let mut number = None;
-        for (k, variable) in self.names.iter().enumerate() {
-            number = if_same(name, variable, k as u32, number);
-        }
-        number
+        self.meanings.number_of(name)
     }
 
     /// Adds a variable inside the others. Fails only where memory runs out.
-    pub fn enter(&mut self, name: Text) -> Result<(), AllocError>
+    pub fn enter(&mut self, alloc: Global, name: Text) -> Result<(), AllocError>
         ensures { OnOk result (self.new ≡ self.old ++ name ∷ []) }
     {
-        if self.names.len() == MAX_VARIABLES {
+        let number = self.variables.len();
+        if number == MAX_VARIABLES {
             return Err(AllocError);
         }
-        self.names.push(name)?;
+        self.meanings.make_room(alloc, &name)?;
+        let hidden = self.meanings.number_of(&name);
+        self.variables.push(Variable { name, hidden })?;
+        let inner = &self.variables[number].name;
+        self.meanings.set(inner, Some(number as u32));
         Ok(())
+    }
+
+    /// Takes away the innermost variable.
+    fn leave_innermost(&mut self)
+        requires { 0 < length self.old }
+        ensures { self.new ≡ take (length self.old - 1) self.old }
+    {
+        if let Some(variable) = self.variables.pop() {
+            self.meanings.set(&variable.name, variable.hidden);
+        }
     }
 
     /// Takes away all but so many of the outermost variables.
@@ -74,17 +151,8 @@ impl Scope {
         requires { len ≤ length self.old }
         ensures { self.new ≡ take len self.old }
     {
-        self.names.truncate(len);
-    }
-}
-
-/// The number of a variable where it has the name, else the other number.
-fn if_same(name: &Text, variable: &Text, number: u32, other: Option<u32>) -> Option<u32>
-    ensures { result ≡ (if bytes_eq name.now variable.now then Some number else other) }
-{
-    if spells(name, variable.as_bytes()) {
-        Some(number)
-    } else {
-        other
+        while self.variables.len() > len {
+            self.leave_innermost();
+        }
     }
 }

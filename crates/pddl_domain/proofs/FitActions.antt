@@ -22,7 +22,8 @@ use Rattle.pddl_ast.proofs.Fitting.{no_first, no_second, where_false, types-with
 use Rattle.pddl_domain.specs.declared.actions.Key.{Key}
 use Rattle.pddl_domain.specs.declared.actions.Key.TheVariants.{Parameters, Precondition, Effect, Other}
 use Rattle.pddl_domain.specs.declared.sections.Section.{Section}
-use Rattle.pddl_domain.specs.Sections.{name_and_sections, name_in_title, definition, sections_of, section_kind}
+use Rattle.pddl_ast.specs.Definitions.{title_of}
+use Rattle.pddl_domain.specs.Sections.{name_and_sections, definition, sections_of, section_kind}
 use Rattle.pddl_domain.specs.Constants.{with_first_word}
 use Rattle.pddl_domain.specs.ActionParts.{in_turn}
 use Rattle.pddl_domain.specs.Actions as act
@@ -233,7 +234,7 @@ nest-parts n (word span w nothing) h = tt
 nest-parts n (word span w (word s t rest)) h = tt
 nest-parts n (word span w (group s title sections)) h =
     let inner : nesting_of sections ≤ n = omega arith in
-    with-sections n (name_in_title title) sections inner
+    with-sections n (title_of title) sections inner
 
 nest-found : (n : ℕ) (o : Option (Span × Forest)) → GroupNests n o → DefinitionNests n (option_and_then (λ (d : Span × Forest). name_and_sections d.1) o)
 nest-found n None h = tt

@@ -16,7 +16,8 @@ use Rattle.pddl_ast.specs.Words.{is_reserved}
 use Rattle.pddl_ast.specs.Fits.{AreDistinct}
 use Rattle.pddl_ast.specs.TypedLists.{Group, names_of, type_number, typed_groups}
 use Rattle.pddl_ast.proofs.Fitting.{no_first, no_second, where_true, where_false}
-use Rattle.pddl_domain.specs.Sections.{name_in_title, name_and_sections, definition, name_of}
+use Rattle.pddl_ast.specs.Definitions.{title_of}
+use Rattle.pddl_domain.specs.Sections.{name_and_sections, definition, name_of}
 use Rattle.pddl_domain.specs.Constants as specs
 use Rattle.pddl_domain.proofs.TypeLemmas.{type_number_below}
 use Rattle.pddl_domain.proofs.FitTypes.{distinct-push}
@@ -39,7 +40,7 @@ abbrev pub DefinitionFits : Option (List ℕ × Forest) → Type 0
 DefinitionFits None = Unit {0}
 DefinitionFits (Some d) = is_name d.0 ≡ true
 
-title-fits : (kind : List ℕ) (title : Forest) → is_titled kind title ≡ true → NameFits (name_in_title title)
+title-fits : (kind : List ℕ) (title : Forest) → is_titled kind title ≡ true → NameFits (title_of title)
 title-fits kind nothing h = tt
 title-fits kind (group span parts rest) h = tt
 title-fits kind (word s w nothing) h = tt
@@ -56,7 +57,7 @@ parts-fit kind (group span parts rest) h = tt
 parts-fit kind (word span w nothing) h = tt
 parts-fit kind (word span w (word s t rest)) h = tt
 parts-fit kind (word span w (group s title sections)) h =
-    with-sections (name_in_title title) sections (title-fits kind title (right_of (bytes_eq w (codes "define")) (is_titled kind title) h))
+    with-sections (title_of title) sections (title-fits kind title (right_of (bytes_eq w (codes "define")) (is_titled kind title) h))
 
 abbrev pub GroupPasses : (Forest → Bool) → Option (Span × Forest) → Type 0
 GroupPasses test None = Unit {0}

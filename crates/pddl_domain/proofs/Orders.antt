@@ -24,7 +24,8 @@ use Rattle.pddl_domain.specs.declared.sections.Section.TheVariants.{Requirements
 use Rattle.pddl_domain.specs.declared.sections.Seen.{Seen}
 use Rattle.pddl_domain.specs.declared.actions.Key.{Key}
 use Rattle.pddl_domain.specs.declared.actions.Key.TheVariants.{Parameters, Precondition, Effect, Other as OtherKey}
-use Rattle.pddl_domain.specs.Sections.{definition, definition_flaws, no_define, section_kind, came, seen_after, kind_flaws, sections_flaws, none_came, sections_of}
+use Rattle.pddl_ast.specs.Definitions.{no_define}
+use Rattle.pddl_domain.specs.Sections.{definition, definition_flaws, section_kind, came, seen_after, kind_flaws, sections_flaws, none_came, sections_of}
 use Rattle.pddl_domain.specs.Types.{types_flaws, type_names, type_parents, is_looping, word_loop_flaws, loop_flaws_from, loop_flaws}
 use Rattle.pddl_domain.specs.Constants.{constants_flaws, predicate_name_flaws, variables_flaws, predicate_flaws, with_first_word, predicates_flaws}
 use Rattle.pddl_domain.specs.Actions as act

@@ -8,7 +8,8 @@ use Rattle.sexpr_text.specs.Formed.{IsRising}
 use Rattle.sexpr_text.specs.Parts.{after_first, begins_with, first_group_with, is_definition}
 use Rattle.pddl_domain.specs.declared.actions.Key.{Key}
 use Rattle.pddl_domain.specs.declared.actions.Key.TheVariants.{Parameters, Precondition, Effect, Other}
-use Rattle.pddl_domain.specs.Sections.{name_in_title, name_and_sections, definition, sections_of, section_named, section_kind}
+use Rattle.pddl_ast.specs.Definitions.{title_of}
+use Rattle.pddl_domain.specs.Sections.{name_and_sections, definition, sections_of, section_named, section_kind}
 use Rattle.pddl_domain.specs.Actions.{Parts, no_parts, key_of, with_part, parts_after, parts_of, action_in, is_action}
 
 -- spans that rise from some offset to some offset
@@ -61,7 +62,7 @@ in_parts (group span parts rest) h = tt
 in_parts (word span w nothing) h = tt
 in_parts (word span w (word s t rest)) h = tt
 in_parts (word span w (group s title sections)) h =
-    with_name (name_in_title title) sections (record { lo = s.end; hi = h.hi; rising = h.rising.4.3 })
+    with_name (title_of title) sections (record { lo = s.end; hi = h.hi; rising = h.rising.4.3 })
 
 in_group : (o : Option (Span × Forest)) → GroupRisen o → DefinitionRisen (option_and_then (λ (d : Span × Forest). name_and_sections d.1) o)
 in_group None h = tt

@@ -23,7 +23,8 @@ use Rattle.pddl_domain.specs.Actions as act
 use Rattle.pddl_domain.specs.Constants as specs
 use Rattle.pddl_domain.specs.Domains.{constants_section, domain_tree, known_of, predicates_section, types_in}
 use Rattle.pddl_domain.specs.Reading.{domain_flaws, tree_of}
-use Rattle.pddl_domain.specs.Sections.{definition, name_and_sections, name_in_title, name_of, section_kind, section_named, sections_of}
+use Rattle.pddl_ast.specs.Definitions.{title_of}
+use Rattle.pddl_domain.specs.Sections.{definition, name_and_sections, name_of, section_kind, section_named, sections_of}
 use Rattle.pddl_domain.specs.WordNames.{HasWordNames}
 use Rattle.pddl_domain.proofs.FitNames.{names-named_of}
 use Rattle.pddl_domain.proofs.Fitted.{flawless}
@@ -43,7 +44,7 @@ in_parts nothing h = tt
 in_parts (group span parts rest) h = tt
 in_parts (word span w nothing) h = tt
 in_parts (word span w (word s t rest)) h = tt
-in_parts (word span w (group s title sections)) h = with_name (name_in_title title) sections h.1.1
+in_parts (word span w (group s title sections)) h = with_name (title_of title) sections h.1.1
 
 in_group : (o : Option (Span × Forest)) → GroupHasWords o → DefinitionHasWords (option_and_then (λ (d : Span × Forest). name_and_sections d.1) o)
 in_group None h = tt

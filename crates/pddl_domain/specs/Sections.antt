@@ -3,38 +3,29 @@ use Rattle.std.specs.Prelude.{ℕ, Bool, true, false, List, [], ◌∷◌, ◌++
 use Rattle.std.specs.Option.{option_map, option_map_or, option_and_then}
 use Rattle.std.specs.Str.{bytes_eq}
 use Rattle.sexpr_text.specs.declared.forms.Span.{Span}
-use Rattle.sexpr_text.specs.declared.faults.FaultKind.TheVariants.{NoDefine, BadForm, LeftOut}
+use Rattle.sexpr_text.specs.declared.faults.FaultKind.TheVariants.{BadForm, LeftOut}
 use Rattle.sexpr_text.specs.Forest.{Forest, nothing, word, group}
 use Rattle.sexpr_text.specs.Flaws.{Flaw, flaw_at}
 use Rattle.sexpr_text.specs.Parts.{after_first, begins_with, first_group_with, is_definition}
+use Rattle.pddl_ast.specs.Definitions.{title_of, no_define}
 use Rattle.pddl_domain.specs.declared.sections.Seen.{Seen}
 use Rattle.pddl_domain.specs.declared.sections.Section.{Section}
 use Rattle.pddl_domain.specs.declared.sections.Section.TheVariants.{Requirements, Types, Constants, Predicates, Action, Other}
 
 -- of `define (domain NAME) SECTION ..`: the name, and the sections
-abbrev pub name_in_title : Forest → Option (List ℕ)
-name_in_title nothing = None
-name_in_title (group span parts rest) = None
-name_in_title (word span kind nothing) = None
-name_in_title (word span kind (group s parts rest)) = None
-name_in_title (word span kind (word s name rest)) = Some name
-
 abbrev pub name_and_sections : Forest → Option (List ℕ × Forest)
 name_and_sections nothing = None
 name_and_sections (group span parts rest) = None
 name_and_sections (word span define nothing) = None
 name_and_sections (word span define (word s w rest)) = None
-name_and_sections (word span define (group s title sections)) = option_map (λ name. (name, sections)) (name_in_title title)
+name_and_sections (word span define (group s title sections)) = option_map (λ name. (name, sections)) (title_of title)
 
 -- the name and the sections of the first list `define (domain NAME) ..` of the text. All other forms are
 -- passed over
 abbrev pub definition : Forest → Option (List ℕ × Forest)
 definition forms = option_and_then (λ d. name_and_sections d.1) (first_group_with (is_definition (codes "domain")) forms)
 
--- where there is none, that is the text's fault, at its very beginning
-abbrev pub no_define : Flaw
-no_define = record { offset = 0; fault = record { kind = NoDefine; place = record { line = 1; column = 1 } } }
-
+-- where there is none, that is the text's fault
 abbrev pub definition_flaws : Forest → List Flaw
 definition_flaws forms = option_map_or (λ d. []) (definition forms) (no_define ∷ [])
 

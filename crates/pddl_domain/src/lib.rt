@@ -17,6 +17,8 @@ mod schemas;
 mod sections;
 #[cfg(test)]
 mod tests;
+#[cfg(test)]
+mod tree_tests;
 mod types;
 
 pub use domains::read_domain;

@@ -8,9 +8,11 @@ ghost use Rattle.pddl_ast.specs.Environment.{group_value};
 ghost use Rattle.pddl_ast.specs.TypedLists.{names_of, typed_groups};
 ghost use Rattle.pddl_domain.specs.Constants as specs;
 
-use pddl_ast::{Declares, NameTable, Predicate, TypedGroup, is_reserved, read_typed_list};
+use pddl_ast::{
+    Declares, NameTable, Predicate, TypedGroup, arities_of, is_reserved, read_typed_list,
+};
 use sexpr_text::{FaultKind, Form, Head, ReadErr, Span, Text, View, fault_at, head_of, is_name};
-use std::alloc::{AllocError, Global};
+use std::alloc::Global;
 
 /// The predicates of a domain by their numbers: the names, and how many terms each takes.
 #[derive(Drop)]
@@ -97,13 +99,6 @@ fn read_predicate(
         }
         _ => Err(fault_at(span, FaultKind::BadForm)),
     }
-}
-
-/// How many terms each of the predicates takes.
-fn arities_of(alloc: Global, predicates: &[Predicate]) -> Result<Vec<u32>, AllocError>
-    ensures { IfOk result (λ arities. arities.items ≡ map (λ q. q.arity) predicates.now) }
-{
-    predicates.iter().map(|q| q.arity).collect(alloc)
 }
 
 /// The predicates of a `:predicates` section with these forms after its word.

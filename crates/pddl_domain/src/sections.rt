@@ -1,15 +1,16 @@
 //! The list that defines a domain, and its sections.
 
 ghost use Rattle.std.specs.Prelude.{◌≡◌, [], IfOk, IfErr, IfSome, Some, codes};
-ghost use Rattle.std.specs.Option.{option_copied, option_map};
+ghost use Rattle.std.specs.Option.{option_map};
 ghost use Rattle.sexpr_text.specs.Forest.{forest_of};
 ghost use Rattle.sexpr_text.specs.Flaws.{first_listed};
 ghost use Rattle.sexpr_text.specs.Passes.{IfFault};
 ghost use Rattle.pddl_domain.specs.Sections as specs;
 
+use pddl_ast::{no_define, title_of};
 use sexpr_text::{
-    FaultKind, Form, Head, InputFault, Place, ReadErr, Span, Text, View, fault_at,
-    first_definition, first_group, head_of,
+    FaultKind, Form, Head, ReadErr, Span, Text, View, fault_at, first_definition, first_group,
+    head_of,
 };
 use std::alloc::Global;
 
@@ -86,19 +87,6 @@ impl Seen {
     }
 }
 
-/// The second word of a row of words.
-fn name_in_title(title: &[Form]) -> Option<&Text>
-    ensures { option_copied result ≡ specs.name_in_title (forest_of title.now) }
-{
-    let Head::Word(_, _, rest) = head_of(title) else {
-        return None;
-    };
-    match head_of(rest) {
-        Head::Word(_, name, _) => Some(name),
-        _ => None,
-    }
-}
-
 /// Of `define (domain NAME) SECTION ..` the name and the sections.
 fn name_and_sections(parts: &[Form]) -> Option<(&Text, &[Form])>
     ensures { option_map (λ p. (p.0.now, forest_of p.1.now)) result ≡ specs.name_and_sections (forest_of parts.now) }
@@ -107,7 +95,7 @@ fn name_and_sections(parts: &[Form]) -> Option<(&Text, &[Form])>
         return None;
     };
     match head_of(rest) {
-        Head::Group(_, title, sections) => Some((name_in_title(title)?, sections)),
+        Head::Group(_, title, sections) => Some((title_of(title)?, sections)),
         _ => None,
     }
 }
@@ -129,10 +117,7 @@ pub fn read_definition(forms: &[Form]) -> Result<(&Text, &[Form]), ReadErr>
 {
     match find_definition(forms) {
         Some(found) => Ok(found),
-        None => Err(ReadErr::Fault(InputFault {
-            kind: FaultKind::NoDefine,
-            place: Place { line: 1, column: 1 },
-        })),
+        None => Err(no_define()),
     }
 }
 

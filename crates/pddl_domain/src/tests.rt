@@ -5,30 +5,50 @@ use crate::{domain_or_fault, read_domain};
 use sexpr_text::{MAX_BYTES, ReadErr, Text};
 use std::alloc::{AllocError, Global};
 use std::fmt::Write;
+use std::process::Abort;
 use std::test::Fail;
 
-// The text after `(define (domain d) `, without its mark, and the column of the mark.
-fn marked(alloc: Global, rest: &[u8]) -> Result<(Vec<u8>, usize), AllocError> {
-    let mut text = Vec::from_slice(alloc, b"(define (domain d) ")?;
+// The text between these two, without its mark; and the column of the mark in the whole line.
+fn marked(
+    alloc: Global,
+    front: &str,
+    part: &str,
+    back: &str,
+) -> Result<(Vec<u8>, usize), AllocError> {
+    let mut text = Vec::from_slice(alloc, front.as_bytes())?;
     let mut column = 0;
-    for byte in rest {
+    for byte in part.as_bytes() {
         if *byte == b'^' {
             column = text.len() + 1;
         } else {
             text.push(*byte)?;
         }
     }
+    text.extend_from_slice(back.as_bytes())?;
     Ok((text, column))
 }
 
-fn push_text(out: &mut String, text: &Text) -> Result<(), AllocError> {
+pub(crate) fn push_text(out: &mut String, text: &Text) -> Result<(), AllocError> {
     for byte in text.as_bytes() {
         out.push(char::from(*byte))?;
     }
     Ok(())
 }
 
-// The fault that is answered, as `CODE NAME WORD COLUMN`; of a domain its name.
+// A refusal, as `CODE NAME WORD LINE:COLUMN`.
+pub(crate) fn push_refusal(out: &mut String, refusal: &ReadErr) -> Result<(), AllocError> {
+    let ReadErr::Fault(fault) = refusal else {
+        return out.push_str("out of memory");
+    };
+    write!(out, "{} {}", fault.kind.code(), fault.kind.name())?;
+    if let Some(word) = fault.kind.word() {
+        out.push(' ')?;
+        push_text(out, word)?;
+    }
+    write!(out, " {}:{}", fault.place.line, fault.place.column)
+}
+
+// The fault that is answered; of a domain its name.
 fn fault_of(alloc: Global, bytes: &[u8]) -> Result<String, AllocError> {
     let mut out = String::new(alloc);
     if bytes.len() > MAX_BYTES {
@@ -36,15 +56,7 @@ fn fault_of(alloc: Global, bytes: &[u8]) -> Result<String, AllocError> {
     }
     match read_domain(alloc, bytes) {
         Ok(domain) => push_text(&mut out, &domain.name)?,
-        Err(ReadErr::Fault(fault)) => {
-            write!(out, "{} {}", fault.kind.code(), fault.kind.name())?;
-            if let Some(word) = fault.kind.word() {
-                out.push(' ')?;
-                push_text(&mut out, word)?;
-            }
-            write!(out, " {}:{}", fault.place.line, fault.place.column)?;
-        }
-        Err(ReadErr::Memory) => out.push_str("out of memory")?,
+        Err(refusal) => push_refusal(&mut out, &refusal)?,
     }
     Ok(out)
 }
@@ -217,16 +229,155 @@ static FAULTS: [(&str, &str); 84] = [
     ),
 ];
 
-#[test]
-fn faults_stand_where_the_rules_say(rt: HostRuntime) -> Result<(), Fail> {
-    let alloc = rt.alloc();
-    for (rest, want) in &FAULTS {
-        let (text, column) = marked(alloc, rest.as_bytes())?;
+// What stands before a precondition, and before an effect, in the two tables below.
+const BEFORE_PRECONDITION: &str =
+    "(define (domain d) (:constants k) (:predicates (p ?x) (z)) (:action a :parameters (?x) :precondition ";
+
+const BEFORE_EFFECT: &str =
+    "(define (domain d) (:constants k) (:predicates (p ?x) (z)) (:action a :parameters (?x) :effect ";
+
+// Preconditions, each with its fault.
+static FORMULA_FAULTS: [(&str, &str); 50] = [
+    // shapes
+    ("^z", "6 BadForm"),
+    ("^((z))", "6 BadForm"),
+    ("^(() z)", "6 BadForm"),
+    ("^(not)", "6 BadForm"),
+    ("^(not (z) (z))", "6 BadForm"),
+    ("^(imply (z))", "6 BadForm"),
+    ("^(imply (z) (z) (z))", "6 BadForm"),
+    ("^(= ?x)", "6 BadForm"),
+    ("^(= ?x k ?x)", "6 BadForm"),
+    ("^(exists)", "6 BadForm"),
+    ("^(exists (?y))", "6 BadForm"),
+    ("^(exists y)", "6 BadForm"),
+    ("^(forall (?y) (z) (z))", "6 BadForm"),
+    ("(exists ^y (z))", "6 BadForm"),
+    ("(exists (?y) ^z)", "6 BadForm"),
+    ("^(when (z) (z))", "6 BadForm"),
+    ("^(oneof (z))", "6 BadForm"),
+    ("(and (z) ^(unknown (z)))", "6 BadForm"),
+    // variables of quantifiers
+    ("(exists (^y) (z))", "6 BadForm"),
+    ("(exists (?y ^-) (z))", "6 BadForm"),
+    ("(forall (?y ^?y) (z))", "8 DoubleName"),
+    ("(forall (?y ?w ^?Y - t) (z))", "8 DoubleName"),
+    ("(exists (?y - ^t) (z))", "7 UnknownName"),
+    ("(exists (?y - ^(either a b)) (z))", "13 LeftOut either"),
+    // heads
+    ("(^< (z) 1)", "13 LeftOut <"),
+    ("(not (^>= 1 2))", "13 LeftOut >="),
+    ("(^assign)", "13 LeftOut assign"),
+    ("(^Scale-Down (z) 2)", "13 LeftOut scale-down"),
+    ("(^probabilistic 1 (z))", "13 LeftOut probabilistic"),
+    ("(^q)", "7 UnknownName"),
+    ("(^?x)", "7 UnknownName"),
+    ("(^- z)", "7 UnknownName"),
+    // atoms and terms
+    ("^(p)", "9 WrongArity"),
+    ("^(p ?x ?x)", "9 WrongArity"),
+    ("^(p (z) k)", "9 WrongArity"),
+    ("(p ^(z))", "6 BadForm"),
+    ("(p ^?y)", "7 UnknownName"),
+    ("(p ^z)", "7 UnknownName"),
+    ("(= ?x ^q)", "7 UnknownName"),
+    ("(= ^(k) q)", "6 BadForm"),
+    ("(= ^q (k))", "7 UnknownName"),
+    // scopes
+    ("(and (exists (?y) (p ?y)) (p ^?y))", "7 UnknownName"),
+    ("(or (p ^?y) (exists (?y) (p ?y)))", "7 UnknownName"),
+    ("(exists (?x ?y) (forall (?x) (= ?x ^?z)))", "7 UnknownName"),
+    // two faults, and a fault after odd forms
+    ("(imply (and (z) (^q)) (p))", "7 UnknownName"),
+    ("(imply ^(p) (q))", "9 WrongArity"),
+    ("(exists (?y - ^t) z)", "7 UnknownName"),
+    ("(exists (?y) (or ^z (exists (?y - t) (z))))", "6 BadForm"),
+    ("(and () (and) (or) (exists () ()) ^(not))", "6 BadForm"),
+    ("(forall () (forall (?x ?y) (not ^(p))))", "9 WrongArity"),
+];
+
+// Effects, each with its fault.
+static EFFECT_FAULTS: [(&str, &str); 46] = [
+    // shapes
+    ("^z", "6 BadForm"),
+    ("^((z))", "6 BadForm"),
+    ("^(when)", "6 BadForm"),
+    ("^(when (z))", "6 BadForm"),
+    ("^(when z)", "6 BadForm"),
+    ("^(when (z) (z) (z))", "6 BadForm"),
+    ("(when ^z (z))", "6 BadForm"),
+    ("(when (z) ^z)", "6 BadForm"),
+    ("(when ^(when (z) (z)) (z))", "6 BadForm"),
+    ("(when ^(oneof (z)) (z))", "6 BadForm"),
+    ("^(forall (?y))", "6 BadForm"),
+    ("(forall ^y (z))", "6 BadForm"),
+    ("(forall (?y) ^z)", "6 BadForm"),
+    ("^(or (z))", "6 BadForm"),
+    ("^(imply (z) (z))", "6 BadForm"),
+    ("^(exists (?y) (z))", "6 BadForm"),
+    ("^(= k k)", "6 BadForm"),
+    ("(oneof (z) ^(unknown (z)))", "6 BadForm"),
+    // `oneof` without alternatives
+    ("(and (oneof (z) ^(oneof)))", "12 EmptyOneof"),
+    ("(when (z) ^(oneof))", "12 EmptyOneof"),
+    // variables
+    ("(forall (?y ^?y) (z))", "8 DoubleName"),
+    ("(forall (?y - ^t) (z))", "7 UnknownName"),
+    ("(forall (?y - ^(either)) (z))", "13 LeftOut either"),
+    // deletions
+    ("^(not)", "6 BadForm"),
+    ("^(not (z) (z))", "6 BadForm"),
+    ("^(not z)", "6 BadForm"),
+    ("^(not ())", "6 BadForm"),
+    ("^(not ((z)))", "6 BadForm"),
+    ("^(not (and (z)))", "6 BadForm"),
+    ("^(not (= k k))", "6 BadForm"),
+    ("^(not (oneof))", "6 BadForm"),
+    ("(not (^q))", "7 UnknownName"),
+    ("(not (^increase))", "13 LeftOut increase"),
+    ("(not ^(p))", "9 WrongArity"),
+    ("(not (p ^?y))", "7 UnknownName"),
+    // atoms and scopes
+    ("(^q)", "7 UnknownName"),
+    ("(^decrease (z) 1)", "13 LeftOut decrease"),
+    ("(p ^(k))", "6 BadForm"),
+    ("(and (forall (?y) (p ?y)) (p ^?y))", "7 UnknownName"),
+    ("(when (exists (?y) (p ?y)) (p ^?y))", "7 UnknownName"),
+    // two faults, and a fault after odd forms
+    ("(when (^q) (oneof))", "7 UnknownName"),
+    ("(oneof (^q) (p))", "7 UnknownName"),
+    ("(oneof ^(p) (q))", "9 WrongArity"),
+    ("(and ^(oneof) (not))", "12 EmptyOneof"),
+    ("(and ^(not) (oneof))", "6 BadForm"),
+    (
+        "(and () (oneof ()) (oneof (oneof (and))) ^(oneof))",
+        "12 EmptyOneof",
+    ),
+];
+
+// Each part of the table, between the two texts, has the fault that stands beside it, at its mark.
+fn check_faults(
+    rt: &impl Abort,
+    alloc: Global,
+    front: &str,
+    table: &[(&str, &str)],
+    back: &str,
+) -> Result<(), Fail> {
+    for (part, want) in table {
+        let (text, column) = marked(alloc, front, part, back)?;
         let mut wanted = String::new(alloc);
         write!(wanted, "{want} 1:{column}")?;
         assert_eq!(rt; fault_of(alloc, &text)?.as_str(), wanted.as_str());
     }
     Ok(())
+}
+
+#[test]
+fn faults_stand_where_the_rules_say(rt: HostRuntime) -> Result<(), Fail> {
+    let alloc = rt.alloc();
+    check_faults(&rt, alloc, "(define (domain d) ", &FAULTS, "")?;
+    check_faults(&rt, alloc, BEFORE_PRECONDITION, &FORMULA_FAULTS, "))")?;
+    check_faults(&rt, alloc, BEFORE_EFFECT, &EFFECT_FAULTS, "))")
 }
 
 #[test]

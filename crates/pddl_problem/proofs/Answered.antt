@@ -9,7 +9,8 @@ use Rattle.sexpr_text.proofs.OneAnswer.{spells_trees-unique}
 use Rattle.sexpr_text.proofs.PassLaws.{answered, not_both, one_fault_by}
 use Rattle.pddl_ast.specs.Fits.{known_in}
 use Rattle.pddl_ast.specs.Trees.{DomainTree, ProblemTree}
-use Rattle.pddl_problem.specs.Problems.{Definition, SpellsProblem, HasProblemFault, definition_in, problem_in, problem_of, problem_passes, no_define}
+use Rattle.pddl_ast.specs.Definitions.{no_define}
+use Rattle.pddl_problem.specs.Problems.{Definition, SpellsProblem, HasProblemFault, definition_in, problem_in, problem_of, problem_passes}
 use Rattle.pddl_problem.proofs.Ordered.{no_definition-fault}
 
 -- forms in which no pass lists a flaw read as a problem

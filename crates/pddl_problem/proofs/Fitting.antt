@@ -28,7 +28,8 @@ use Rattle.pddl_ast.proofs.ListFitting.{names-fine, objects-seen}
 use Rattle.pddl_ast.proofs.TreeFitting.{formula-fits}
 use Rattle.pddl_problem.specs.Init.{AtomForm, atom_under, form_atom, form_flaws, under_atom, bad_form, left_out, positive, negative, part_flaws_by, part_flaws, part_literal_by, part_literal, alternative_flaws_by, alternative_flaws, alternative_by, alternative, entry_flaws_by, entry_flaws, facts_by, uncertain_by, entry_facts, entry_uncertain, either_way, each_entry, init_flaws, init_facts, init_entries}
 use Rattle.pddl_problem.specs.Listed.{listed_fault}
-use Rattle.pddl_problem.specs.Problems.{Definition, definition_in, defined, title, named, objects_of, object_list, with_objects, goal_flaws, goal_of, body_passes, definition_passes, problem_of, domain_flaws, missing_flaws}
+use Rattle.pddl_ast.specs.Definitions.{title_of}
+use Rattle.pddl_problem.specs.Problems.{Definition, definition_in, defined, named, objects_of, object_list, with_objects, goal_flaws, goal_of, body_passes, definition_passes, problem_of, domain_flaws, missing_flaws}
 use Rattle.pddl_problem.specs.Sections.{none_seen, sections_flaws, section, items_of}
 
 -- passes without a flaw: the first has none, and neither have the others
@@ -257,7 +258,7 @@ and-right : (a b : Bool) → (a && b) ≡ true → b ≡ true
 and-right true b h = h
 and-right false b h = absurd (cc)
 
-title-name : (ps : Forest) (name : List ℕ) → is_titled (codes "problem") ps ≡ true → title ps ≡ Some name → is_name name ≡ true
+title-name : (ps : Forest) (name : List ℕ) → is_titled (codes "problem") ps ≡ true → title_of ps ≡ Some name → is_name name ≡ true
 title-name nothing name h e = absurd (cc)
 title-name (group s qs rest) name h e = absurd (cc)
 title-name (word s w nothing) name h e = absurd (cc)
@@ -267,7 +268,7 @@ title-name (word s w (word s' text rest)) name h e =
     subst (λ n. is_name n ≡ true) same
     (and-right (bytes_eq w (codes "problem")) (is_name text) (and-left (bytes_eq w (codes "problem") && is_name text) (is_nothing rest) h))
 
-named-found : (span : Span) (ps rest : Forest) (d : Definition) (o : Option (List ℕ)) → title ps ≡ o → is_titled (codes "problem") ps ≡ true
+named-found : (span : Span) (ps rest : Forest) (d : Definition) (o : Option (List ℕ)) → title_of ps ≡ o → is_titled (codes "problem") ps ≡ true
     → option_map (λ name. record { span = span; name = name; items = rest }) o ≡ Some d → (is_name d.name ≡ true) × (nesting_of d.items ≤ nesting_of rest)
 named-found span ps rest d None t h e = absurd (cc)
 named-found span ps rest d (Some name) t h e =
@@ -282,7 +283,7 @@ defined-found span (group s ps rest) d h e = absurd (cc)
 defined-found span (word s w nothing) d h e = absurd (cc)
 defined-found span (word s w (word s' text rest)) d h e = absurd (cc)
 defined-found span (word s w (group s' ps rest)) d h e =
-    let p = named-found span ps rest d (title ps) refl (and-right (bytes_eq w (codes "define")) (is_titled (codes "problem") ps) h) e in
+    let p = named-found span ps rest d (title_of ps) refl (and-right (bytes_eq w (codes "define")) (is_titled (codes "problem") ps) h) e in
     let n = p.1 in
     (p.0, omega (arith, n))
 

@@ -14,7 +14,8 @@ use Rattle.pddl_ast.specs.Known.{Known}
 use Rattle.pddl_ast.specs.Trees.{DomainTree}
 use Rattle.pddl_ast.proofs.Orders.{names-in_order}
 use Rattle.pddl_problem.specs.Listed.{listed_fault}
-use Rattle.pddl_problem.specs.Problems.{Definition, definition_in, defined, title, object_list, with_objects, definition_passes, problem_passes, no_define}
+use Rattle.pddl_ast.specs.Definitions.{title_of, no_define}
+use Rattle.pddl_problem.specs.Problems.{Definition, definition_in, defined, object_list, with_objects, definition_passes, problem_passes}
 use Rattle.pddl_problem.specs.Rising.{Rises}
 use Rattle.pddl_problem.specs.Sections.{none_seen, section, items_of}
 use Rattle.pddl_problem.proofs.Orders.{sections-in_order, domain-in_order, init-in_order, goal_formula-in_order, missing-in_order}
@@ -96,7 +97,7 @@ defined-placed span (word s w nothing) d h e = cc
 defined-placed span (word s w (word s' w' rest)) d h e = cc
 defined-placed span (word s w (group s' ps rest)) d h e =
     let room : span.start + 2 ≤ span.end = h.room in
-    named-placed span rest d (title ps) (omega arith) (record { low = s'.end; high = span.end - 1; rising = h.rising.4.3 }) e
+    named-placed span rest d (title_of ps) (omega arith) (record { low = s'.end; high = span.end - 1; rising = h.rising.4.3 }) e
 
 found-placed : (lo hi : ℕ) (forest : Forest) (d : Definition) → IsRising lo hi forest → (g : Option (Span × Forest))
     → first_group_with (is_definition (codes "problem")) forest ≡ g → option_and_then (λ g. defined g.0 g.1) g ≡ Some d → IsPlaced d

@@ -12,7 +12,8 @@ use Rattle.pddl_ast.specs.Trees.{DomainTree, ProblemTree}
 use Rattle.pddl_ast.specs.TypedLists.{names_of, typed_groups, types_of}
 use Rattle.pddl_ast.specs.WordTexts.{HasWordTexts, IsWordText}
 use Rattle.pddl_ast.proofs.WordTexts.{GroupHasWords, rising_words, typed_list-words, words-after_first, words-first_group}
-use Rattle.pddl_problem.specs.Problems.{Definition, defined, definition_in, named, object_list, objects_of, problem_in, problem_of, title}
+use Rattle.pddl_ast.specs.Definitions.{title_of}
+use Rattle.pddl_problem.specs.Problems.{Definition, defined, definition_in, named, object_list, objects_of, problem_in, problem_of}
 use Rattle.pddl_problem.specs.Rising.{Rises}
 use Rattle.pddl_problem.specs.Sections.{items_of, section}
 use Rattle.pddl_problem.specs.WordNames.{HasWordObjects}
@@ -32,7 +33,7 @@ in_parts span nothing h = tt
 in_parts span (group s p rest) h = tt
 in_parts span (word s w nothing) h = tt
 in_parts span (word s w (word s' t rest)) h = tt
-in_parts span (word s w (group s' parts rest)) h = with_name span (title parts) rest h.1.1
+in_parts span (word s w (group s' parts rest)) h = with_name span (title_of parts) rest h.1.1
 
 in_group : (o : Option (Span × Forest)) → GroupHasWords o → DefinitionHasWords (option_and_then (λ (g : Span × Forest). defined g.0 g.1) o)
 in_group None h = tt

@@ -3,15 +3,15 @@ use Rattle.std.specs.Prelude.{ℕ, List, [], ◌∷◌, ◌++◌, Option, Some, 
 use Rattle.std.specs.Option.{option_map, option_map_or, option_and_then}
 use Rattle.std.specs.Str.{bytes_eq}
 use Rattle.sexpr_text.specs.declared.forms.Span.{Span}
-use Rattle.sexpr_text.specs.declared.forms.Place.{Place}
 use Rattle.sexpr_text.specs.declared.faults.InputFault.{InputFault}
-use Rattle.sexpr_text.specs.declared.faults.FaultKind.TheVariants.{BadForm, NoDefine, OtherDomain, GoalMissing}
+use Rattle.sexpr_text.specs.declared.faults.FaultKind.TheVariants.{BadForm, OtherDomain, GoalMissing}
 use Rattle.sexpr_text.specs.Forest.{Forest, nothing, word, group}
 use Rattle.sexpr_text.specs.Parts.{first_group_with, is_definition}
 use Rattle.sexpr_text.specs.Flaws.{Flaw, flaw_at}
 use Rattle.sexpr_text.specs.Passes.{SpellsBy, HasFaultBy}
 use Rattle.pddl_ast.specs.declared.trees.Named.{Named}
 use Rattle.pddl_ast.specs.declared.typed_lists.Declares.TheVariants.{Objects}
+use Rattle.pddl_ast.specs.Definitions.{title_of, no_define}
 use Rattle.pddl_ast.specs.Known.{Known}
 use Rattle.pddl_ast.specs.Fits.{known_in}
 use Rattle.pddl_ast.specs.Formulas.{formula_flaws, formula_of}
@@ -26,14 +26,6 @@ pub record Definition : Type 0 where
   pub name : List ℕ
   pub items : Forest
 
--- the name in `problem NAME`
-abbrev pub title : Forest → Option (List ℕ)
-title nothing = None
-title (group s parts rest) = None
-title (word s text nothing) = None
-title (word s text (group s' parts rest)) = None
-title (word s text (word s' name rest)) = Some name
-
 -- what `define (problem NAME) ..` defines, with the span of its list
 abbrev pub defined : Span → Forest → Option Definition
 defined span nothing = None
@@ -41,20 +33,12 @@ defined span (group s parts rest) = None
 defined span (word s text nothing) = None
 defined span (word s text (word s' name rest)) = None
 defined span (word s text (group s' parts rest)) =
-    option_map (λ name. record { span = span; name = name; items = rest }) (title parts)
+    option_map (λ name. record { span = span; name = name; items = rest }) (title_of parts)
 
 -- the first list that is `define (problem NAME) ..`
 abbrev pub definition_in : Forest → Option Definition
 definition_in forest =
     option_and_then (λ g. defined g.0 g.1) (first_group_with (is_definition (codes "problem")) forest)
-
--- where a text begins
-abbrev pub start : Place
-start = record { line = 1; column = 1 }
-
--- the pass that looks for the definition: where there is none, NoDefine at the text's begin
-abbrev pub no_define : Flaw
-no_define = record { offset = 0; fault = record { kind = NoDefine; place = start } }
 
 -- the pass over the domain's name: another name than the domain's is OtherDomain at it
 abbrev pub domain_flaws : List ℕ → Forest → List Flaw

@@ -1,11 +1,12 @@
 //! The list that defines a problem.
 
 ghost use Rattle.std.specs.Prelude.{◌≡◌};
-ghost use Rattle.std.specs.Option.{option_map, option_copied};
+ghost use Rattle.std.specs.Option.{option_map};
 ghost use Rattle.sexpr_text.specs.Forest.{forest_of};
 ghost use Rattle.pddl_problem.specs.Problems as problems;
 ghost use Rattle.pddl_problem.specs.Values.{definition_value};
 
+use pddl_ast::title_of;
 use sexpr_text::{Form, Head, Span, Text, first_definition, head_of};
 
 /// The list that defines a problem: its span, the problem's name, and its sections.
@@ -14,19 +15,6 @@ pub(crate) struct Definition<'a> {
     pub(crate) span: Span,
     pub(crate) name: &'a Text,
     pub(crate) items: &'a [Form],
-}
-
-/// The name in `problem NAME`.
-fn title(row: &[Form]) -> Option<&Text>
-    ensures { option_copied result ≡ problems.title (forest_of row.now) }
-{
-    let Head::Word(_, _, rest) = head_of(row) else {
-        return None;
-    };
-    match head_of(rest) {
-        Head::Word(_, name, _) => Some(name),
-        Head::Nothing | Head::Group(_, _, _) => None,
-    }
 }
 
 /// What `define (problem NAME) ..` defines, with the span of its list.
@@ -38,7 +26,7 @@ fn defined(span: Span, parts: &[Form]) -> Option<Definition<'_>>
     };
     match head_of(rest) {
         Head::Group(_, row, items) => {
-            let name = title(row)?;
+            let name = title_of(row)?;
             Some(Definition { span, name, items })
         }
         Head::Nothing | Head::Word(_, _, _) => None,

@@ -10,25 +10,14 @@ ghost use Rattle.pddl_ast.specs.Fits.{FitsDomain, FitsProblem};
 ghost use Rattle.pddl_ast.specs.Values.{domain_value, problem_value};
 ghost use Rattle.pddl_problem.specs.Problems.{SpellsProblem, HasProblemFault};
 ghost use Rattle.pddl_problem.specs.Problems.{problem_in, problem_passes};
-ghost use Rattle.pddl_problem.specs.Problems as problems;
 ghost use Rattle.pddl_problem.specs.Rising.{Rises};
 ghost use Rattle.pddl_problem.specs.WordNames.{HasWordObjects};
 
 use crate::definitions::definition_in;
 use crate::problems::read_definition;
-use pddl_ast::{Domain, Known, Problem};
-use sexpr_text::{FaultKind, Form, InputFault, MAX_BYTES, Place, ReadErr, read_forms};
+use pddl_ast::{Domain, Known, Problem, no_define};
+use sexpr_text::{Form, MAX_BYTES, ReadErr, read_forms};
 use std::alloc::Global;
-
-/// The refusal of a text that defines no problem.
-fn no_define() -> ReadErr
-    ensures { result ≡ ReadErr.Fault problems.no_define.fault }
-{
-    ReadErr::Fault(InputFault {
-        kind: FaultKind::NoDefine,
-        place: Place { line: 1, column: 1 },
-    })
-}
 
 /// The problem that forms read as, or the fault of their passes.
 fn read_in_forms(alloc: Global, forms: &[Form], domain: &Domain) -> Result<Problem, ReadErr>

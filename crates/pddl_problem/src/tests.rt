@@ -232,7 +232,7 @@ fn answer(alloc: Global, bytes: &[u8], domain: &Domain) -> Result<String, AllocE
 }
 
 // Texts, each with its fault: the kind's number and name, and its place.
-static FAULTS: [(&str, &str); 87] = [
+static FAULTS: [(&str, &str); 113] = [
     ("(define (problem q) (:goal (p))", "3 OpenAtEnd 1:1"),
     ("(define (problem q) (:goal (p))) )", "2 StrayClose 1:34"),
     ("(define (domain q)) )", "2 StrayClose 1:21"),
@@ -510,6 +510,110 @@ static FAULTS: [(&str, &str); 87] = [
         "(define (problem q) (:goal (exists (?x - foo) (at ?x))))",
         "7 UnknownName 1:42",
     ),
+    (
+        "(define (problem q) (:metric) (:goal-reward) (:init (and) (and (and (q)))) (:goal (p)))",
+        "7 UnknownName 1:70",
+    ),
+    (
+        "(define (problem q) (:init (oneof ()) (oneof)) (:goal (p)))",
+        "12 EmptyOneof 1:39",
+    ),
+    (
+        "(define (problem q) (:init (oneof) (p p)) (:goal (p)))",
+        "12 EmptyOneof 1:28",
+    ),
+    (
+        "(define (problem q) (:init (p p) (oneof)) (:goal (p)))",
+        "9 WrongArity 1:28",
+    ),
+    (
+        "(define (problem q) (:init (oneof (and (p) q))) (:goal (p)))",
+        "6 BadForm 1:44",
+    ),
+    (
+        "(define (problem q) (:init (oneof ((p)))) (:goal (p)))",
+        "6 BadForm 1:35",
+    ),
+    (
+        "(define (problem q) (:init (oneof (and ((p))))) (:goal (p)))",
+        "6 BadForm 1:40",
+    ),
+    (
+        "(define (problem q) (:init (oneof (not p))) (:goal (p)))",
+        "6 BadForm 1:35",
+    ),
+    (
+        "(define (problem q) (:init (oneof (and (not ())))) (:goal (p)))",
+        "6 BadForm 1:40",
+    ),
+    (
+        "(define (problem q) (:init (oneof (and (or)))) (:goal (p)))",
+        "13 LeftOut 1:40",
+    ),
+    (
+        "(define (problem q) (:init (oneof (forall))) (:goal (p)))",
+        "13 LeftOut 1:35",
+    ),
+    (
+        "(define (problem q) (:init (oneof (and (not (at))))) (:goal (p)))",
+        "9 WrongArity 1:45",
+    ),
+    (
+        "(define (problem q) (:init (unknown (increase))) (:goal (p)))",
+        "13 LeftOut 1:38",
+    ),
+    (
+        "(define (problem q) (:objects a hub b b) (:goal (p)))",
+        "8 DoubleName 1:33",
+    ),
+    (
+        "(define (problem q) (:objects b b hub) (:goal (p)))",
+        "8 DoubleName 1:33",
+    ),
+    (
+        "(define (problem q) (:objects b - foo b) (:goal (p)))",
+        "7 UnknownName 1:35",
+    ),
+    (
+        "(define (problem q) (:objects b b - foo) (:goal (p)))",
+        "8 DoubleName 1:33",
+    ),
+    (
+        "(define (problem q) (:domain) (:domain e) (:goal (p)))",
+        "6 BadForm 1:21",
+    ),
+    (
+        "(define (problem q) (:domain d) (:domain) (:goal (p)))",
+        "6 BadForm 1:33",
+    ),
+    (
+        "(define (problem q) (:goal (q)) (:init p))",
+        "6 BadForm 1:40",
+    ),
+    (
+        "(define (problem q) (:init (at hub)) (:goal (imply (at) (q))))",
+        "9 WrongArity 1:52",
+    ),
+    (
+        "(define (problem q) (:goal (imply (q) (at))))",
+        "7 UnknownName 1:36",
+    ),
+    (
+        "(define (problem q) (:goal (exists (?x) (and (exists (?y) (at ?y)) (at ?y)))))",
+        "7 UnknownName 1:72",
+    ),
+    (
+        "(define (problem q) (:goal (forall (?x ?y ?X) (p))))",
+        "8 DoubleName 1:43",
+    ),
+    (
+        "(define (problem q) (:goal (not (preference a (p)))))",
+        "13 LeftOut 1:34",
+    ),
+    (
+        "(define (problem q) (:init (q)) (:objects a a) (:goal (q)))",
+        "8 DoubleName 1:45",
+    ),
     ("(define (problem q) (:domain d))", "15 GoalMissing 1:1"),
     (
         "(define (domain d)) ; (\n  (define (problem q) (:init))",
@@ -518,7 +622,7 @@ static FAULTS: [(&str, &str); 87] = [
 ];
 
 // Texts, each with its tree as `show_problem` shows it.
-static TREES: [(&str, &str); 8] = [
+static TREES: [(&str, &str); 12] = [
     ("(define (problem q) (:goal ()))", "q 1:1;;;; all()"),
     (
         "(DEFINE (Problem Q) (:Domain D) (:Objects A B - Place C) (:Init (At A) (Road A B) (P)) (:Goal (At B)))",
@@ -543,6 +647,26 @@ static TREES: [(&str, &str); 8] = [
     (
         "(define (problem q) (:goal (p))) (define (problem r) (:goal))",
         "q 1:1;;;; 0()",
+    ),
+    // facts may come twice, and a goal may be false
+    (
+        "(define (problem q) (:init (p) (P) (and (p) (at hub))) (:goal (or)))",
+        "q 1:1;; 0() 0() 0() 1( 0);; any()",
+    ),
+    // objects may have the names of anything but constants and other objects
+    (
+        "(define (problem problem) (:objects p and define - place object) (:init (at and) (road define object)) (:goal (imply (at p) (p))))",
+        "problem 1:1; p 1 and 1 define 1 object 0; 1( 2) 2( 3 4);; 1( o1) implies 0()",
+    ),
+    // sections in any order
+    (
+        "(define (problem q) (:goal (at a)) (:metric) (:init (at a)) (:objects a) (:goal-reward x) (:goal-reward) (:DOMAIN D))",
+        "q 1:1; a 0; 1( 1);; 1( o1)",
+    ),
+    // an uncertain entry with one alternative, and one that says nothing
+    (
+        "(define (problem q) (:init (oneof (and (not (p)) (at hub))) (oneof (and)) (oneof () ())) (:goal (forall () (p))))",
+        "q 1:1;;; |-0()+1( 0)| || |||; forall: 0()",
     ),
     (
         "(define (problem q) (:goal (not (at hub))) (:init (and) (and (and)) (not (at hub))))",

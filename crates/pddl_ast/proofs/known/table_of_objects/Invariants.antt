@@ -1,5 +1,5 @@
 use Rattle.std.proofs.Common.{◌≡◌, take}
-use Rattle.pddl_ast.specs.Fits.{names_of_objects, names_of_predicates}
+use Rattle.pddl_ast.specs.Fits.{names_of_objects}
 use Rattle.pddl_ast.proofs.known.table_of_objects.Given as goal
 
 abbrev pub invariant-loop-object : goal.invariant-loop-object

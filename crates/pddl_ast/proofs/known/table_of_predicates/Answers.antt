@@ -1,4 +1,4 @@
-use Rattle.std.proofs.Common.{◌<◌, ◌≡◌, length, arith, ℕ, List}
+use Rattle.std.proofs.Common.{◌<◌, ◌≡◌, length, arith}
 use Rattle.std.proofs.lemmas.List.{length-map}
 use Rattle.pddl_ast.specs.Fits.{names_of_predicates}
 use Rattle.pddl_ast.specs.declared.trees.Predicate.{Predicate}

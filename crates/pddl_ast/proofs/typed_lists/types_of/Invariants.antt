@@ -1,4 +1,4 @@
-use Rattle.std.proofs.Common.{◌≡◌, ◌++◌, take, map}
+use Rattle.std.proofs.Common.{◌≡◌, take, map}
 use Rattle.pddl_ast.specs.TypedLists as lists
 use Rattle.pddl_ast.specs.Environment.{group_value}
 use Rattle.pddl_ast.proofs.typed_lists.types_of.Given as goal

@@ -1,5 +1,4 @@
-use Rattle.std.proofs.Common.{◌≡◌, ap, sym, refl, ◌∙◌, not}
-use Rattle.std.specs.List.{list_any}
+use Rattle.std.proofs.Common.{ap, sym, refl, ◌∙◌, not}
 use Rattle.pddl_ast.proofs.NameLemmas.{table_contains, table_adds}
 use Rattle.pddl_ast.proofs.names.NameTable.add.Goals as goal
 

@@ -1,4 +1,4 @@
-use Rattle.std.proofs.Common.{◌≡◌, Some, None, sym}
+use Rattle.std.proofs.Common.{Some, None, sym}
 use Rattle.pddl_ast.proofs.NameLemmas.{table_number}
 use Rattle.pddl_ast.proofs.names.NameTable.number_of.Goals as goal
 

@@ -1,0 +1,2 @@
+(define (problem c) (:domain coin)
+  (:init (= (cost) 0)) (:goal (up)))

@@ -1,0 +1,1 @@
+(define (problem o) (:domain once) (:init) (:goal (g)))
