@@ -1,0 +1,62 @@
+//! The weak and the strong preimage.
+ghost use Rattle.std.specs.Prelude.{◌≡◌, ◌<◌, length, IsErrOf};
+ghost use Rattle.dd_sets.specs.Frames.{OwnsAnswer};
+ghost use Rattle.dd_sets.specs.LiveSets.{IsLive, set_of};
+ghost use Rattle.dd_sets.specs.Rooms.{IsTightFor};
+ghost use Rattle.encode_task.specs.Made.{MadeOf};
+ghost use Rattle.task_core.specs.declared.tasks.Task.{Task};
+ghost use Rattle.preimage.specs.Preimages.{OfSomeTask, strong_preimage, weak_preimage};
+
+use crate::slots::{copied, in_both, rest_of, without};
+use dd_sets::{SetErr, SetId};
+use encode_task::Enc;
+use task_core::ActionId;
+
+/// The states in which an action can be executed and some outcome lies in `x`, in a new slot.
+///
+/// At most 3 slots more than at entry are live while it works. Time grows with the fluents that the
+/// outcomes change, and not with all of them.
+pub fn weak_pre(enc: &mut Enc, a: ActionId, x: SetId) -> Result<SetId, SetErr>
+    requires made { OfSomeTask enc.old }
+    requires action { a.0 < length enc.old.actions }
+    requires live { IsLive enc.old.sets x.0 }
+    ensures answer { (task : Task) → MadeOf task enc.old → OwnsAnswer enc.old.sets enc.new.sets
+        (weak_preimage task a.0 (set_of enc.old.sets x.0)) result }
+    ensures full { IsErrOf result SetErr.Full → IsTightFor 8 enc.old.sets }
+    ensures same_slots { enc.new ≡ record enc.old { sets = enc.new.sets } }
+    ensures made { (task : Task) → MadeOf task enc.old → MadeOf task enc.new }
+{
+    let exec = enc.exec(a);
+    let mut left = copied(enc, exec)?;
+    for o in 0..enc.outcomes(a) {
+        // A set of states, of which the outcome must be one, would be met with `led` here.
+        let led = enc.led_into(a, o, x);
+        left = without(enc, left, led)?;
+    }
+    rest_of(enc, exec, left)
+}
+
+/// The states in which an action can be executed and every outcome lies in `x`, in a new slot.
+///
+/// At most 3 slots more than at entry are live while it works. Time grows with the fluents that the
+/// outcomes change, and not with all of them.
+pub fn strong_pre(enc: &mut Enc, a: ActionId, x: SetId) -> Result<SetId, SetErr>
+    requires made { OfSomeTask enc.old }
+    requires action { a.0 < length enc.old.actions }
+    requires live { IsLive enc.old.sets x.0 }
+    ensures answer { (task : Task) → MadeOf task enc.old → OwnsAnswer enc.old.sets enc.new.sets
+        (strong_preimage task a.0 (set_of enc.old.sets x.0)) result }
+    ensures full { IsErrOf result SetErr.Full → IsTightFor 8 enc.old.sets }
+    ensures same_slots { enc.new ≡ record enc.old { sets = enc.new.sets } }
+    ensures made { (task : Task) → MadeOf task enc.old → MadeOf task enc.new }
+{
+    let exec = enc.exec(a);
+    let mut all = copied(enc, exec)?;
+    for o in 0..enc.outcomes(a) {
+        // A set of states, of which the outcome must be one, would lose `led` here, and `all` what
+        // is left of it.
+        let led = enc.led_into(a, o, x);
+        all = in_both(enc, all, led)?;
+    }
+    Ok(all)
+}
