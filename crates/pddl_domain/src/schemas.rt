@@ -242,8 +242,7 @@ fn action_in(parts: &[Form]) -> Option<&[Form]>
 }
 
 /// Adds the action that a section with this span and these parts declares, where it is an action.
-#[tactic(auto, unfolding(crate::specs::ActionParts::section_flaws,
-crate::specs::ActionParts::section_names, crate::specs::ActionParts::section_actions))]
+#[tactic(auto, unfolding(crate::specs::ActionParts::section_flaws, crate::specs::ActionParts::section_names, crate::specs::ActionParts::section_actions))]
 fn read_section(
     alloc: Global,
     known: &Known,

@@ -40,8 +40,7 @@ pub struct Task {
     pub ghost facts_within: { IsWithin (length fluents.items) init.facts } by { Prim.hlevel props },
     pub ghost entries_within: { entries_within (length fluents.items) init ≡ true },
     pub ghost goal_within: { goal_within (length fluents.items) goal ≡ true },
-    pub ghost fluent_names: { AreFluentNames (map name_bytes fluents.items) }
-    by { Prim.hlevel props },
+    pub ghost fluent_names: { AreFluentNames (map name_bytes fluents.items) } by { Prim.hlevel props },
     pub ghost action_names: { AreActionNames (map name_of actions.items) } by { Prim.hlevel props },
     pub ghost shallow_actions: { list_all action_is_shallow actions.items ≡ true },
     pub ghost shallow_goal: { goal_is_shallow goal ≡ true },
