@@ -1,7 +1,8 @@
-//! What the reader answers to texts with known answers, which are written by hand from the rules. A `^` in a
-//! text of the table stands before the form at which the fault is; it is taken out before the text is read.
+//! What the reader answers to texts with known answers, which are written by hand from the rules. A
+//! `^` in a text of the table stands before the form at which the fault is; it is taken out before
+//! the text is read.
 
-use crate::{domain_or_fault, read_domain};
+use crate::read_domain;
 use sexpr_text::{MAX_BYTES, ReadErr, Text};
 use std::alloc::{AllocError, Global};
 use std::fmt::Write;
@@ -406,9 +407,4 @@ fn the_domain_is_the_first_definition(rt: HostRuntime) -> Result<(), Fail> {
         assert_eq!(rt; fault_of(rt.alloc(), text)?.as_str(), want);
     }
     Ok(())
-}
-
-#[test]
-fn laws_can_be_cited() {
-    domain_or_fault();
 }

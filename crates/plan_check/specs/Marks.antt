@@ -1,4 +1,4 @@
--- Marks on numbers, and the list of the marked ones.
+-- Private: marks on numbers, and the list of the marked ones.
 use Rattle.std.specs.Prelude.{ℕ, Bool, not, List, [], count_by, slice_get, Vec}
 use Rattle.std.specs.List.{All, Contains}
 use Rattle.std.specs.Option.{option_map_or}

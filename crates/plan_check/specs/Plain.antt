@@ -1,4 +1,4 @@
--- What the functions on a graph speak of. The state of a configuration is over n fluents.
+-- Private: what the functions on a graph speak of. The state of a configuration is over n fluents.
 use Rattle.std.specs.Prelude.{◌≡◌, ◌<◌, ℕ, Bool, true, false, List, [], nat_lt}
 use Rattle.task_core.specs.Conditions.{holds}
 use Rattle.task_core.specs.Vectors.{value_of}

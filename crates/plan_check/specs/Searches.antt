@@ -1,4 +1,4 @@
--- A search in depth, and what it knows on its way.
+-- Private: a search in depth, and what it knows on its way.
 use Rattle.std.specs.Prelude.{◌≡◌, ◌≢◌, ◌⊎◌, ◌+◌, ◌-◌, ◌<◌, ◌≤◌, ◌^◌, ℕ, List, [], ◌∷◌, ⊤}
 use Rattle.std.specs.Prelude.{length, slice_index, slice_index_or, sum_by}
 use Rattle.std.specs.List.{All, AllPairs, Contains}
