@@ -1,5 +1,5 @@
--- Private: walks in a finite graph whose nodes are the numbers below n, each with the list of those that
--- follow it.
+-- Private: walks in a finite graph whose nodes are the numbers below n, each with the list of those
+-- that follow it.
 use Rattle.std.specs.Prelude.{◌≡◌, ◌⊎◌, ◌<◌, ◌≤◌, ℕ, true, false, Bool, List, [], ◌∷◌, ⊤}
 use Rattle.std.specs.Prelude.{length, slice_index_or}
 use Rattle.std.specs.List.{Contains}
