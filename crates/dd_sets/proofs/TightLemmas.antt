@@ -6,7 +6,7 @@ use Rattle.dd_nodes.specs.Subfunctions.{Function, constants, functions, function
 use Rattle.dd_ops.proofs.GrowthBounds.{grow_piece, grow-append, grow-nil}
 use Rattle.dd_ops.specs.Growth.{grow}
 use Rattle.dd_sets.specs.LiveSets.{LiveSets, live_count, live_sets}
-use Rattle.dd_sets.specs.Rooms.{Tight, IsFull, IsTightFor, nodes_of_slots}
+use Rattle.dd_sets.specs.Rooms.{Tight, IsFull, IsAtLimit, IsTightFor, nodes_of_slots}
 use Rattle.dd_sets.proofs.SetLemmas.{count_sets}
 
 pub tight_more : (limit fluents few many : ℕ) → few ≤ many → Tight limit fluents few → Tight limit fluents many
@@ -50,3 +50,7 @@ tight_for before after piece full vars limit more =
         let power : 2 ^ after.vars ≤ 4 ^ after.vars = power_within after.vars in
         let less : live_count before * 2 ^ after.vars ≤ (live_count before + more) * 2 ^ after.vars = omega arith in
         omega arith
+
+-- a table with the nodes and the limit of one that holds as many nodes as it may does so too
+pub at_limit_kept : (before after : LiveSets) → after.nodes ≡ before.nodes → after.limit ≡ before.limit → IsAtLimit before → IsAtLimit after
+at_limit_kept before after nodes limit full = ap length nodes ∙ full ∙ sym limit

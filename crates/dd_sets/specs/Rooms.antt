@@ -10,10 +10,14 @@ use Rattle.dd_sets.specs.LiveSets.{LiveSets, live_count, live_sets}
 unfoldable pub Tight : ℕ → ℕ → ℕ → Type 0
 Tight limit fluents nodes = limit < 2 ^ (2 ^ fluents)
 
+-- the table holds as many nodes as it may
+abbrev pub IsAtLimit : LiveSets → Type 0
+IsAtLimit sets = length sets.nodes ≡ sets.limit
+
 -- a call with these pieces was refused for want of room: the table holds as many nodes as it may,
 -- and its limit is tight for the sets that were live before the call and the pieces
 pub record IsFull (before after : LiveSets) (pieces : List Function) : Type 0 where
-  pub at_limit : length after.nodes ≡ after.limit
+  pub at_limit : IsAtLimit after
   pub tight : Tight after.limit after.vars (nodes after.vars (live_sets before ++ pieces))
 
 -- a bound on nodes by slots: each set over so many fluents has fewer than 2 ^ fluents nodes, as it

@@ -305,10 +305,11 @@ impl Sets {
         self.ops.table().eval(self.number(a), s.bits())
     }
 
-    /// Ends a slot.
+    /// Ends a slot. The nodes of its set stay in the table.
     pub fn release(&mut self, a: SetId)
         requires { IsLive self.old a.0 }
         ensures released { Releases self.old self.new a.0 }
+        ensures nodes { self.new.nodes ≡ self.old.nodes }
         ensures sound { IsSets self.new }
     {
         self.slots.remove(a.0);

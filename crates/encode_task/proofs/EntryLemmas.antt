@@ -5,7 +5,7 @@ use Rattle.std.proofs.lemmas.List.Folds.{list_any_more}
 use Rattle.dd_nodes.specs.Subfunctions.{Function}
 use Rattle.dd_ops.specs.Operations.{or_of}
 use Rattle.task_core.specs.Cubes.{Cube}
-use Rattle.task_core.specs.Initial.{Entry, entry_of, lit_within}
+use Rattle.task_core.specs.Initial.{entry_of, lit_within}
 use Rattle.task_core.specs.declared.actions.Alternative.{Alternative}
 use Rattle.task_core.proofs.StateLists.{alternative_at, length-entry_of, lits_within}
 use Rattle.encode_task.specs.Images.{image, entry_image}

@@ -1,5 +1,5 @@
 -- What an outcome leads into a set is a substitution of the next values.
-use Rattle.std.proofs.Common.{◌≡◌, ℕ, Option, Some, None, List, refl, sym, ap, subst, ◌∙◌, ◌+◌, ◌*◌, ◌^◌, ◌≤◌, ◌++◌, [], ◌∷◌, Bool, length, arith, length-append}
+use Rattle.std.proofs.Common.{◌≡◌, ℕ, Some, None, List, refl, sym, ap, subst, ◌∙◌, ◌+◌, ◌*◌, ◌^◌, ◌≤◌, ◌++◌, [], ◌∷◌, Bool, length, arith}
 use Rattle.std.specs.Option.{option_map_or}
 use Rattle.dd_nodes.specs.NodeList.{Values}
 use Rattle.dd_nodes.specs.Subfunctions.{Function, DependsOnly, constants, functions, functions_below, nodes, nodes_beside}

@@ -1,17 +1,15 @@
 -- A function's own slots, put together from those of its calls.
-use Rattle.std.proofs.Common.{◌≡◌, ◌≢◌, ℕ, ◌+◌, ◌==◌, Bool, true, false, ◌||◌, List, [], ◌∷◌, ◌++◌, length, Result, Ok, Err, IfOk, OnErr, refl, sym, ap, subst, ◌∙◌, arith, length-append}
-use Rattle.std.specs.List.{list_any}
+use Rattle.std.proofs.Common.{◌≡◌, ℕ, ◌+◌, ◌==◌, Bool, true, false, ◌||◌, [], ◌∷◌, ◌++◌, length, Result, Ok, Err, IfOk, OnErr, refl, sym, ap, ◌∙◌, arith, length-append}
 use borrow.Author.Tests.{eq-eqb}
 use Rattle.std.proofs.lemmas.Bool.{both_ways, or_parts, or_from, or_left, or_right}
 use Rattle.std.proofs.lemmas.List.Folds.{list_any-append}
 use Rattle.dd_nodes.specs.Subfunctions.{Function}
-use Rattle.dd_ops.specs.Operations.{not_of, and_of, or_of}
 use Rattle.dd_sets.specs.Calls.{KeepsSets, Adds, AddsNone, Releases}
 use Rattle.dd_sets.specs.Frames.{Slots, has_slot, AreNew, Owns, OwnsAnswer}
 use Rattle.dd_sets.specs.LiveSets.{LiveSets, is_live, set_of, live_count, IsLive}
 use Rattle.dd_sets.specs.declared.errors.SetErr.{SetErr}
 use Rattle.dd_sets.specs.declared.slots.SetId.{SetId}
-use Rattle.dd_sets.proofs.FrameLemmas.{kept_chain, not_before}
+use Rattle.dd_sets.proofs.FrameLemmas.{kept_chain}
 use Rattle.dd_sets.proofs.OwnLemmas.{own_none, own_live, own_same, own_add, own_end, own_one, own_nothing}
 use Rattle.encode_task.specs.Owned.{OwnsBoth, AreTwo}
 

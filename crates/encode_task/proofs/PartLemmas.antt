@@ -1,5 +1,5 @@
 -- The parts of a condition: what it means after some of them, and how deep each is.
-use Rattle.std.proofs.Common.{◌≡◌, ℕ, zero, suc, ◌+◌, ◌<◌, ◌≤◌, Bool, true, false, not, ◌&&◌, ◌||◌, ◌⊎◌, List, [], ◌∷◌, map, length, get_or, take, drop, max, Result, Ok, Err, IfOk, OnErr, IsErrOf, Vec, Box, refl, sym, ap, subst, ◌∙◌, ⊎_elim, inl, inr, arith}
+use Rattle.std.proofs.Common.{◌≡◌, ℕ, zero, suc, ◌+◌, ◌<◌, ◌≤◌, Bool, true, ◌&&◌, ◌||◌, ◌⊎◌, List, [], ◌∷◌, map, length, get_or, take, drop, Result, Ok, Err, IfOk, OnErr, IsErrOf, Vec, Box, sym, ap, subst, ◌∙◌, ⊎_elim, arith}
 use Rattle.std.specs.declared.alloc.Global.{Global}
 use Rattle.std.specs.List.{list_all, list_any}
 use Rattle.std.proofs.lemmas.List.{take_all}
@@ -9,7 +9,7 @@ use Rattle.dd_nodes.specs.Subfunctions.{Function}
 use Rattle.dd_ops.specs.Operations.{not_of, and_of, or_of}
 use Rattle.dd_sets.specs.Calls.{KeepsSets, Adds, AddsNone}
 use Rattle.dd_sets.specs.Frames.{Owns, OwnsAnswer}
-use Rattle.dd_sets.specs.LiveSets.{LiveSets, everything, nothing}
+use Rattle.dd_sets.specs.LiveSets.{LiveSets}
 use Rattle.dd_sets.specs.Rooms.{IsTightFor}
 use Rattle.dd_sets.specs.declared.errors.SetErr.{SetErr}
 use Rattle.dd_sets.specs.declared.errors.SetErr.TheVariants.{Full}
@@ -22,7 +22,7 @@ use Rattle.task_core.specs.declared.conditions.Cond.TheVariants.{Not, All, Any, 
 use Rattle.task_core.proofs.Holds.{holds_Not, holds_All, holds_Any, ids_below_All, ids_below_Any}
 use Rattle.encode_task.proofs.OwnedLemmas.{answered, both, are_two}
 use Rattle.encode_task.proofs.TightLemmas.{tight_owned}
-use Rattle.encode_task.specs.Owned.{OwnsBoth, AreTwo}
+use Rattle.encode_task.specs.Owned.{AreTwo}
 
 -- where all, or some, of the parts hold
 abbrev pub all_hold : List Cond → Function

@@ -1,24 +1,23 @@
--- One fluent more of an outcome.
-use Rattle.std.proofs.Common.{◌≡◌, ◌≢◌, ℕ, ◌+◌, ◌<◌, ◌≤◌, ◌==◌, Bool, true, false, cond, ◌&&◌, ◌||◌, List, [], ◌∷◌, ◌++◌, Option, Some, None, IsSome, is_some, length, get_or, find, option_map, slice_index_or, refl, rules, sym, ap, subst, ◌∙◌, ⊎_elim, inl, inr, ◌⊎◌, arith}
+-- One change more of an outcome.
+use Rattle.std.proofs.Common.{◌≡◌, ◌≢◌, ℕ, ◌==◌, Bool, true, false, cond, ◌&&◌, ◌||◌, List, [], ◌∷◌, ◌++◌, Some, None, is_some, find, option_map, refl, sym, ap, subst, ◌∙◌, ⊎_elim, arith}
 use Rattle.std.specs.List.{list_any}
 use borrow.Author.Tests.{eqb-true, eq-eqb}
-use Rattle.std.proofs.lemmas.Bool.{both_ways, cases_Bool, cases_lt, or_parts}
+use Rattle.std.proofs.lemmas.Bool.{both_ways, cases_Bool, ne_eqb, or_from, or_parts}
+use Rattle.std.proofs.lemmas.List.Folds.{list_any-append}
 use Rattle.std.proofs.lemmas.List.Elements.{All-push}
-use Rattle.std.proofs.lemmas.Option.{none-some, same_Some, slice_get-get_or}
+use Rattle.std.proofs.lemmas.Option.{none-some, same_Some}
 use Rattle.dd_nodes.specs.NodeList.{Values}
-use Rattle.task_core.specs.Actions.{after_value, change_makes, outcome_within}
+use Rattle.task_core.specs.Actions.{after_value, change_makes}
 use Rattle.task_core.specs.Vectors.{same_value}
 use Rattle.task_core.specs.Conditions.{holds}
 use Rattle.task_core.specs.declared.actions.Change.{Change}
 use Rattle.task_core.specs.declared.actions.Outcome.{Outcome}
 use Rattle.task_core.specs.declared.literals.FluentId.{FluentId}
-use Rattle.task_core.proofs.Changes.{after_value_above}
 use Rattle.dd_sets.specs.Calls.{KeepsSets}
 use Rattle.dd_sets.specs.LiveSets.{LiveSets, IsLive, listed_set}
 use Rattle.dd_sets.specs.declared.slots.SetId.{SetId}
 use Rattle.encode_task.specs.Made.{Holds}
-use Rattle.encode_task.specs.Names.{names_fluent}
-use Rattle.encode_task.specs.Tables.{IsDone, OutcomeMade, SharesMore}
+use Rattle.encode_task.specs.Tables.{IsDone, OutcomeMade}
 use Rattle.encode_task.proofs.MadeLemmas.{all_live_kept, holds_kept}
 
 -- what a list gives a fluent after one entry more
@@ -51,7 +50,7 @@ pub data Listing (changed : List (FluentId × SetId)) (e : FluentId × SetId) (g
   new : e.0.0 ≡ g → listed_set (changed ++ e ∷ []) g ≡ Some e.1 → Listing changed e g
   none : e.0.0 ≢ g → listed_set changed g ≡ None → listed_set (changed ++ e ∷ []) g ≡ None → Listing changed e g
 
-listing : (changed : List (FluentId × SetId)) (e : FluentId × SetId) (g : ℕ) → Listing changed e g
+pub listing : (changed : List (FluentId × SetId)) (e : FluentId × SetId) (g : ℕ) → Listing changed e g
 listing changed e g =
     elim (listed_set changed g) as (λ found. listed_set changed g ≡ found → Listing changed e g) [
       | Some slot ↦ λ listed. old slot listed (listed_before changed e g slot listed)
@@ -62,22 +61,40 @@ listing changed e g =
           (cases_Bool (e.0.0 == g))
     ] refl
 
-pub nothing_done : (sets : LiveSets) (shared : List (Option SetId)) (outcome : Outcome) → IsDone sets shared [] outcome 0
-nothing_done sets shared outcome = record {
+-- whether some change names a fluent
+abbrev names : ℕ → List Change → Bool
+names f changes = list_any (λ change. change.lit.fluent.0 == f) changes
+
+pub nothing_done : (sets : LiveSets) (outcome : Outcome) → IsDone sets [] outcome []
+nothing_done sets outcome = record {
   live = λ k d within. absurd (omega arith);
   listed = λ f slot listed. absurd (none-some slot listed);
-  unlisted = λ f small unlisted values. absurd (omega arith);
-  has_shared = λ f small unlisted. absurd (omega arith);
+  named = λ f unlisted. refl;
 }
 
--- the fluent is changed
-pub step_changed : (before after : LiveSets) (shared : List (Option SetId)) (changed : List (FluentId × SetId)) (outcome : Outcome) (f : FluentId) (next : SetId) → KeepsSets before after
-    → Holds after next (λ values. after_value outcome values f.0) → IsDone before shared changed outcome f.0 → IsDone after shared (changed ++ (f, next) ∷ []) outcome (f.0 + 1)
-step_changed before after shared changed outcome f next kept holds done = record {
+-- another change names no fluent but its own
+names_more : (g : ℕ) (front : List Change) (change : Change) → names g front ≡ false → change.lit.fluent.0 ≢ g → names g (front ++ change ∷ []) ≡ false
+names_more g front change before differs =
+    list_any-append (λ (c : Change). c.lit.fluent.0 == g) front (change ∷ []) ∙ or_from (names g front) (names g (change ∷ [])) before (or_from (change.lit.fluent.0 == g) false (ne_eqb change.lit.fluent.0 g differs) refl)
+
+-- a change whose fluent is listed already
+pub step_listed : (sets : LiveSets) (changed : List (FluentId × SetId)) (outcome : Outcome) (f : ℕ) (front : List Change) (change : Change) → is_some (listed_set changed f) ≡ true → change.lit.fluent.0 ≡ f
+    → IsDone sets changed outcome front → IsDone sets changed outcome (front ++ change ∷ [])
+step_listed sets changed outcome f front change listed is done = record {
+  live = done.live;
+  listed = done.listed;
+  named = λ g unlisted. names_more g front change (done.named g unlisted)
+      (λ same. let no : is_some (listed_set changed f) ≡ false = ap (λ h. is_some (listed_set changed h)) (sym is ∙ same) ∙ ap is_some unlisted in both_ways (is_some (listed_set changed f)) no listed);
+}
+
+-- a change whose fluent is new
+pub step_changed : (before after : LiveSets) (changed : List (FluentId × SetId)) (outcome : Outcome) (f : FluentId) (next : SetId) (front : List Change) (change : Change) → KeepsSets before after
+    → Holds after next (λ values. after_value outcome values f.0) → change.lit.fluent.0 ≡ f.0 → IsDone before changed outcome front
+    → IsDone after (changed ++ (f, next) ∷ []) outcome (front ++ change ∷ [])
+step_changed before after changed outcome f next front change kept holds is done = record {
   live = All-push (λ (entry : FluentId × SetId). IsLive after entry.1.0) changed (f, next) (all_live_kept before after kept changed done.live) holds.live;
   listed = listed;
-  unlisted = λ g small unlisted. done.unlisted g (smaller g small unlisted) (not_before g unlisted);
-  has_shared = λ g small unlisted. done.has_shared g (smaller g small unlisted) (not_before g unlisted);
+  named = named;
 }
   where
     listed : (g : ℕ) (slot : SetId) → listed_set (changed ++ (f, next) ∷ []) g ≡ Some slot → Holds after slot (λ values. after_value outcome values g)
@@ -87,64 +104,26 @@ step_changed before after shared changed outcome f next kept holds done = record
       | none differs before_at after_at ↦ absurd (none-some slot (sym after_at ∙ at))
     ]
 
-    not_before : (g : ℕ) → listed_set (changed ++ (f, next) ∷ []) g ≡ None → listed_set changed g ≡ None
-    not_before g at = elim (listing changed (f, next) g) [
+    named : (g : ℕ) → listed_set (changed ++ (f, next) ∷ []) g ≡ None → names g (front ++ change ∷ []) ≡ false
+    named g at = elim (listing changed (f, next) g) [
       | old other before_at after_at ↦ absurd (none-some other (sym at ∙ after_at))
       | new same after_at ↦ absurd (none-some next (sym at ∙ after_at))
-      | none differs before_at after_at ↦ before_at
-    ]
-
-    smaller : (g : ℕ) → g < f.0 + 1 → listed_set (changed ++ (f, next) ∷ []) g ≡ None → g < f.0
-    smaller g small at = elim (listing changed (f, next) g) [
-      | old other before_at after_at ↦ absurd (none-some other (sym at ∙ after_at))
-      | new same after_at ↦ absurd (none-some next (sym at ∙ after_at))
-      | none differs before_at after_at ↦ omega arith
+      | none differs before_at after_at ↦ names_more g front change (done.named g before_at) (λ same. differs (sym is ∙ same))
     ]
 
 -- a fluent that no change names keeps its value
-makes_nothing : (positive : Bool) (values : Values) (f : ℕ) (changes : List Change) → list_any (λ (change : Change). change.lit.fluent.0 == f) changes ≡ false → list_any (change_makes positive values f) changes ≡ false
+makes_nothing : (positive : Bool) (values : Values) (f : ℕ) (changes : List Change) → names f changes ≡ false → list_any (change_makes positive values f) changes ≡ false
 makes_nothing positive values f [] named = refl
 makes_nothing positive values f (x ∷ changes) named =
-    let parts = or_parts (x.lit.fluent.0 == f) (list_any (λ (change : Change). change.lit.fluent.0 == f) changes) named in
+    let parts = or_parts (x.lit.fluent.0 == f) (names f changes) named in
     (λ i. ((parts.0 i && same_value x.lit.positive positive) && holds x.cond values) || makes_nothing positive values f changes parts.1 i)
 
-pub unnamed_value : (outcome : Outcome) (f : ℕ) (values : Values) → names_fluent outcome f ≡ false → after_value outcome values f ≡ values f
-unnamed_value outcome f values named =
-    (λ i. cond (makes_nothing true values f outcome.changes.items named i) true (cond (makes_nothing false values f outcome.changes.items named i) false (values f)))
-
--- the fluent is left alone
-pub step_left : (before after : LiveSets) (few many : List (Option SetId)) (changed : List (FluentId × SetId)) (outcome : Outcome) (f : ℕ) → KeepsSets before after → SharesMore few many → IsSome (slice_index_or many f None)
-    → names_fluent outcome f ≡ false → IsDone before few changed outcome f → IsDone after many changed outcome (f + 1)
-step_left before after few many changed outcome f kept more has named done = record {
-  live = all_live_kept before after kept changed done.live;
-  listed = λ g slot listed. holds_kept before after kept slot _ (done.listed g slot listed);
-  unlisted = λ g small unlisted values. ⊎_elim
-      (λ (earlier : g < f). done.unlisted g earlier unlisted values)
-      (λ (here : f ≤ g). let same : f ≡ g = omega arith in subst (λ h. after_value outcome values h ≡ values h) same (unnamed_value outcome f values named))
-      (cases_lt g f);
-  has_shared = λ g small unlisted. ⊎_elim
-      (λ (earlier : g < f). more.more g (done.has_shared g earlier unlisted))
-      (λ (here : f ≤ g). let same : f ≡ g = omega arith in subst (λ h. IsSome (slice_index_or many h None)) same has)
-      (cases_lt g f);
+-- all changes are done
+pub all_done : (sets : LiveSets) (changed : List (FluentId × SetId)) (outcome : Outcome) (front : List Change) → front ≡ outcome.changes.items → IsDone sets changed outcome front → OutcomeMade sets changed outcome
+all_done sets changed outcome front whole done = record {
+  live = done.live;
+  listed = done.listed;
+  unlisted = λ f unlisted values.
+      let named : names f outcome.changes.items ≡ false = ap (names f) (sym whole) ∙ done.named f unlisted in
+      (λ i. cond (makes_nothing true values f outcome.changes.items named i) true (cond (makes_nothing false values f outcome.changes.items named i) false (values f)));
 }
-
--- all fluents are done
-pub all_done : (sets : LiveSets) (shared : List (Option SetId)) (changed : List (FluentId × SetId)) (outcome : Outcome) (n done : ℕ) → n ≤ done → outcome_within n outcome ≡ true → IsDone sets shared changed outcome done
-    → OutcomeMade n sets shared changed outcome
-all_done sets shared changed outcome n done whole within is = record {
-  holds = record {
-    live = is.live;
-    listed = is.listed;
-    unlisted = λ f unlisted values. ⊎_elim
-        (λ (small : f < n). is.unlisted f (omega arith) unlisted values)
-        (λ (large : n ≤ f). after_value_above n outcome values f within large)
-        (cases_lt f n);
-  };
-  has_shared = λ f small unlisted. is.has_shared f (omega arith) unlisted;
-}
-
--- a fluent whose shared slot was found
-pub has_slot_at : (shared : List (Option SetId)) (f : ℕ) (found : Option SetId) → f < length shared → found ≡ get_or shared f found → is_some found ≡ true → IsSome (slice_index_or shared f None)
-has_slot_at shared f found within at some =
-    let same : get_or shared f found ≡ get_or shared f None = same_Some _ _ (sym (slice_get-get_or shared f found within) ∙ slice_get-get_or shared f None within) in
-    ap is_some (sym same ∙ sym at) ∙ some

@@ -1,10 +1,9 @@
 -- The tables of slots, step by step, and what they are for a whole task.
-use Rattle.std.proofs.Common.{◌≡◌, ◌≢◌, ℕ, zero, suc, ◌+◌, ◌*◌, ◌<◌, ◌≤◌, ◌==◌, Bool, true, false, ◌||◌, List, [], ◌∷◌, ◌++◌, map, length, get_or, take, Option, Some, None, IsSome, slice_get, unwrap_or, slice_index_or, refl, sym, ap, subst, ◌∙◌, ⊎_elim, arith}
+use Rattle.std.proofs.Common.{◌≡◌, ℕ, zero, suc, ◌+◌, ◌<◌, true, false, not, List, [], ◌∷◌, ◌++◌, map, length, get_or, take, Some, None, is_some, slice_get, unwrap_or, refl, sym, ap, subst, ◌∙◌, arith}
+use Rattle.std.proofs.lemmas.Bool.{or_left, or_right}
 use Rattle.std.proofs.lemmas.List.{map-append, take_more}
-use Rattle.std.specs.List.{list_all, list_any}
+use Rattle.std.specs.List.{list_any}
 use Rattle.std.specs.Option.{option_map_or}
-use Rattle.dd_nodes.specs.NodeList.{Values}
-use Rattle.dd_nodes.specs.Subfunctions.{Function}
 use Rattle.task_core.specs.Actions.{after_value}
 use Rattle.task_core.specs.Conditions.{holds}
 use Rattle.task_core.specs.declared.actions.GroundAction.{GroundAction}
@@ -13,9 +12,10 @@ use Rattle.task_core.specs.declared.literals.FluentId.{FluentId}
 use Rattle.dd_sets.specs.Calls.{KeepsSets}
 use Rattle.dd_sets.specs.LiveSets.{LiveSets, AllLive, listed_set}
 use Rattle.dd_sets.specs.declared.slots.SetId.{SetId}
-use Rattle.encode_task.specs.Made.{Holds, HoldsOutcome}
+use Rattle.encode_task.specs.Counts.{leaves, action_leaves, some_leaves}
+use Rattle.encode_task.specs.Made.{Holds}
 use Rattle.encode_task.specs.Slots.{ActionSlots, outcomes_in, changed_in}
-use Rattle.encode_task.specs.Tables.{ActionMade, AllPaired, OutcomeMade, SharesMore}
+use Rattle.encode_task.specs.Tables.{ActionMade, AllPaired, OutcomeMade}
 use Rattle.encode_task.proofs.MadeLemmas.{holds_kept, outcome_kept}
 
 -- related lists: one pair more, a weaker relation, one length
@@ -46,57 +46,57 @@ made_more R S f xs after x ys i y stays is within at all one =
     subst (λ zs. AllPaired S zs (take (i + 1) ys)) (sym front)
     (subst (AllPaired S (map f xs ++ f x ∷ [])) (sym back) (paired_more S (map f xs) (take i ys) (f x) y (paired_weaker R S stays (map f xs) (take i ys) all) one))
 
--- what is made stays so while the sets are kept and more slots are shared
-pub outcome_stays : (n : ℕ) (before after : LiveSets) (few many : List (Option SetId)) → KeepsSets before after → SharesMore few many → (changed : List (FluentId × SetId)) (outcome : Outcome)
-    → OutcomeMade n before few changed outcome → OutcomeMade n after many changed outcome
-outcome_stays n before after few many kept more changed outcome made = record {
-  holds = outcome_kept before after kept changed (after_value outcome) made.holds;
-  has_shared = λ f small unlisted. more.more f (made.has_shared f small unlisted);
-}
+-- what is made stays so while the sets are kept
+pub outcome_stays : (before after : LiveSets) → KeepsSets before after → (changed : List (FluentId × SetId)) (outcome : Outcome) → OutcomeMade before changed outcome → OutcomeMade after changed outcome
+outcome_stays before after kept changed outcome made = outcome_kept before after kept changed (after_value outcome) made
 
-pub action_stays : (n : ℕ) (before after : LiveSets) (few many : List (Option SetId)) → KeepsSets before after → SharesMore few many → (slots : ActionSlots) (action : GroundAction)
-    → ActionMade n before few slots action → ActionMade n after many slots action
-action_stays n before after few many kept more slots action made = record {
+pub action_stays : (before after : LiveSets) → KeepsSets before after → (slots : ActionSlots) (action : GroundAction) → ActionMade before slots action → ActionMade after slots action
+action_stays before after kept slots action made = record {
   exec = holds_kept before after kept slots.exec _ made.exec;
-  outcomes = paired_weaker (OutcomeMade n before few) (OutcomeMade n after many) (outcome_stays n before after few many kept more) slots.outcomes action.outcomes.items made.outcomes;
+  outcomes = paired_weaker (OutcomeMade before) (OutcomeMade after) (outcome_stays before after kept) slots.outcomes action.outcomes.items made.outcomes;
 }
-
-pub shares_same : (shared : List (Option SetId)) → SharesMore shared shared
-shares_same shared = record { long = refl; more = λ f is. is }
-
-pub shares_chain : (a b c : List (Option SetId)) → SharesMore a b → SharesMore b c → SharesMore a c
-shares_chain a b c first second = record { long = second.long ∙ first.long; more = λ f is. second.more f (first.more f is) }
 
 -- the outcomes of an action in a list
 abbrev pub outcomes_of : List GroundAction → ℕ → List Outcome
 outcomes_of actions a = option_map_or (λ action. action.outcomes.items) (slice_get actions a) []
 
-module _ (n : ℕ) (sets : LiveSets) (shared : List (Option SetId)) where
+-- a fluent that an outcome doesn't list is left alone by it
+leaves_at : (f : ℕ) (outcomes : List (List (FluentId × SetId))) (o : ℕ) → o < length outcomes → listed_set (unwrap_or (slice_get outcomes o) []) f ≡ None → list_any (leaves f) outcomes ≡ true
+leaves_at f [] o within unlisted = absurd (omega arith)
+leaves_at f (x ∷ outcomes) zero within unlisted = or_left (leaves f x) (list_any (leaves f) outcomes) (ap (λ s. not (is_some s)) unlisted)
+leaves_at f (x ∷ outcomes) (suc o) within unlisted = or_right (leaves f x) (list_any (leaves f) outcomes) (leaves_at f outcomes o (omega arith) unlisted)
+
+pub left_at : (f : ℕ) (slots : List ActionSlots) (a o : ℕ) → a < length slots → o < length (outcomes_in slots a) → listed_set (changed_in slots a o) f ≡ None → some_leaves slots f ≡ true
+left_at f [] a o action outcome unlisted = absurd (omega arith)
+left_at f (x ∷ slots) zero o action outcome unlisted = or_left (action_leaves f x) (some_leaves slots f) (leaves_at f x.outcomes o outcome unlisted)
+left_at f (x ∷ slots) (suc a) o action outcome unlisted = or_right (action_leaves f x) (some_leaves slots f) (left_at f slots a o (omega arith) outcome unlisted)
+
+module _ (sets : LiveSets) where
   none_live : AllLive sets []
   none_live k d within = absurd (omega arith)
 
-  outcome_live : (slots : List (List (FluentId × SetId))) (outcomes : List Outcome) → AllPaired (OutcomeMade n sets shared) slots outcomes → (o : ℕ) → AllLive sets (unwrap_or (slice_get slots o) [])
+  outcome_live : (slots : List (List (FluentId × SetId))) (outcomes : List Outcome) → AllPaired (OutcomeMade sets) slots outcomes → (o : ℕ) → AllLive sets (unwrap_or (slice_get slots o) [])
   outcome_live [] [] all o = none_live
-  outcome_live (x ∷ slots) (y ∷ outcomes) all zero = all.0.holds.live
+  outcome_live (x ∷ slots) (y ∷ outcomes) all zero = all.0.live
   outcome_live (x ∷ slots) (y ∷ outcomes) all (suc o) = outcome_live slots outcomes all.1 o
   outcome_live (x ∷ slots) [] all o = absurd all
   outcome_live [] (y ∷ outcomes) all o = absurd all
 
-  pub changed_live : (slots : List ActionSlots) (actions : List GroundAction) → AllPaired (ActionMade n sets shared) slots actions → (a o : ℕ) → AllLive sets (changed_in slots a o)
+  pub changed_live : (slots : List ActionSlots) (actions : List GroundAction) → AllPaired (ActionMade sets) slots actions → (a o : ℕ) → AllLive sets (changed_in slots a o)
   changed_live [] [] all a o = none_live
   changed_live (x ∷ slots) (y ∷ actions) all zero o = outcome_live x.outcomes y.outcomes.items all.0.outcomes o
   changed_live (x ∷ slots) (y ∷ actions) all (suc a) o = changed_live slots actions all.1 a o
   changed_live (x ∷ slots) [] all a o = absurd all
   changed_live [] (y ∷ actions) all a o = absurd all
 
-  pub outcome_counts : (slots : List ActionSlots) (actions : List GroundAction) → AllPaired (ActionMade n sets shared) slots actions → (a : ℕ) → length (outcomes_in slots a) ≡ length (outcomes_of actions a)
+  pub outcome_counts : (slots : List ActionSlots) (actions : List GroundAction) → AllPaired (ActionMade sets) slots actions → (a : ℕ) → length (outcomes_in slots a) ≡ length (outcomes_of actions a)
   outcome_counts [] [] all a = refl
-  outcome_counts (x ∷ slots) (y ∷ actions) all zero = paired_length (OutcomeMade n sets shared) x.outcomes y.outcomes.items all.0.outcomes
+  outcome_counts (x ∷ slots) (y ∷ actions) all zero = paired_length (OutcomeMade sets) x.outcomes y.outcomes.items all.0.outcomes
   outcome_counts (x ∷ slots) (y ∷ actions) all (suc a) = outcome_counts slots actions all.1 a
   outcome_counts (x ∷ slots) [] all a = absurd all
   outcome_counts [] (y ∷ actions) all a = absurd all
 
-  pub exec_at : (slots : List ActionSlots) (actions : List GroundAction) → AllPaired (ActionMade n sets shared) slots actions → (a : ℕ) → a < length actions
+  pub exec_at : (slots : List ActionSlots) (actions : List GroundAction) → AllPaired (ActionMade sets) slots actions → (a : ℕ) → a < length actions
       → Holds sets (option_map_or (λ (action : ActionSlots). action.exec) (slice_get slots a) (record { 0 = 0 })) (λ values. option_map_or (λ (action : GroundAction). holds action.exec values) (slice_get actions a) false)
   exec_at [] [] all a within = absurd (omega arith)
   exec_at (x ∷ slots) (y ∷ actions) all zero within = all.0.exec
@@ -104,16 +104,16 @@ module _ (n : ℕ) (sets : LiveSets) (shared : List (Option SetId)) where
   exec_at (x ∷ slots) [] all a within = absurd all
   exec_at [] (y ∷ actions) all a within = absurd all
 
-  one_outcome : (slots : List (List (FluentId × SetId))) (outcomes : List Outcome) → AllPaired (OutcomeMade n sets shared) slots outcomes → (o : ℕ) → o < length outcomes
-      → (outcome : Outcome) × (slice_get outcomes o ≡ Some outcome) × OutcomeMade n sets shared (unwrap_or (slice_get slots o) []) outcome
+  one_outcome : (slots : List (List (FluentId × SetId))) (outcomes : List Outcome) → AllPaired (OutcomeMade sets) slots outcomes → (o : ℕ) → o < length outcomes
+      → (outcome : Outcome) × (slice_get outcomes o ≡ Some outcome) × OutcomeMade sets (unwrap_or (slice_get slots o) []) outcome
   one_outcome [] [] all o within = absurd (omega arith)
   one_outcome (x ∷ slots) (y ∷ outcomes) all zero within = (y, refl, all.0)
   one_outcome (x ∷ slots) (y ∷ outcomes) all (suc o) within = one_outcome slots outcomes all.1 o (omega arith)
   one_outcome (x ∷ slots) [] all o within = absurd all
   one_outcome [] (y ∷ outcomes) all o within = absurd all
 
-  pub outcome_at : (slots : List ActionSlots) (actions : List GroundAction) → AllPaired (ActionMade n sets shared) slots actions → (a o : ℕ) → o < length (outcomes_of actions a)
-      → (outcome : Outcome) × (slice_get (outcomes_of actions a) o ≡ Some outcome) × OutcomeMade n sets shared (changed_in slots a o) outcome
+  pub outcome_at : (slots : List ActionSlots) (actions : List GroundAction) → AllPaired (ActionMade sets) slots actions → (a o : ℕ) → o < length (outcomes_of actions a)
+      → (outcome : Outcome) × (slice_get (outcomes_of actions a) o ≡ Some outcome) × OutcomeMade sets (changed_in slots a o) outcome
   outcome_at [] [] all a o within = absurd (omega arith)
   outcome_at (x ∷ slots) (y ∷ actions) all zero o within = one_outcome x.outcomes y.outcomes.items all.0.outcomes o within
   outcome_at (x ∷ slots) (y ∷ actions) all (suc a) o within = outcome_at slots actions all.1 a o within

@@ -1,7 +1,5 @@
 -- Limits that are tight for later sets are tight for earlier ones, with the slots between.
-use Rattle.std.proofs.Common.{◌≡◌, ℕ, ◌+◌, ◌*◌, ◌^◌, ◌≤◌, List, [], ◌∷◌, length, refl, sym, ap, subst, ◌∙◌, arith, mul-le-mul_right}
-use Rattle.dd_nodes.specs.Subfunctions.{Function}
-use Rattle.dd_sets.specs.Calls.{KeepsSets}
+use Rattle.std.proofs.Common.{◌≡◌, ℕ, ◌+◌, ◌^◌, ◌≤◌, length, refl, subst, arith, mul-le-mul_right}
 use Rattle.dd_sets.specs.Frames.{Slots, Owns}
 use Rattle.dd_sets.specs.LiveSets.{LiveSets, live_count}
 use Rattle.dd_sets.specs.Rooms.{Tight, IsTightFor, nodes_of_slots}

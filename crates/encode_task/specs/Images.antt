@@ -1,7 +1,7 @@
 -- Private: what assignments of values make of a set of states.
-use Rattle.std.specs.Prelude.{ℕ, ◌||◌, ◌&&◌, Bool, true, false, if◌then◌else◌, List}
+use Rattle.std.specs.Prelude.{ℕ, ◌||◌, ◌&&◌, Bool, true, false, if◌then◌else◌}
 use Rattle.std.specs.List.{fold, list_any}
-use Rattle.dd_nodes.specs.NodeList.{Values, with_value}
+use Rattle.dd_nodes.specs.NodeList.{with_value}
 use Rattle.dd_nodes.specs.Subfunctions.{Function}
 use Rattle.task_core.specs.Cubes.{Cube}
 use Rattle.task_core.specs.Initial.{Entry}

@@ -1,4 +1,5 @@
 pub mod Bounds
+pub mod Counts
 pub mod Images
 pub mod Laws
 pub mod Made

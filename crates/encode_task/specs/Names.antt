@@ -1,13 +1,9 @@
 -- Private: what the changes of an outcome are like.
-use Rattle.std.specs.Prelude.{ℕ, Bool, ◌==◌, length, nat_le}
-use Rattle.std.specs.List.{list_all, list_any}
+use Rattle.std.specs.Prelude.{ℕ, Bool, length, nat_le}
+use Rattle.std.specs.List.{list_all}
 use Rattle.task_core.specs.Conditions.{is_shallow}
 use Rattle.task_core.specs.declared.actions.GroundAction.{GroundAction}
 use Rattle.task_core.specs.declared.actions.Outcome.{Outcome}
-
--- whether some change of an outcome names fluent f
-abbrev pub names_fluent : Outcome → ℕ → Bool
-names_fluent outcome f = list_any (λ change. change.lit.fluent.0 == f) outcome.changes.items
 
 -- whether the conditions of its changes are at most 200 deep
 abbrev pub outcome_is_shallow : Outcome → Bool

@@ -1,5 +1,7 @@
 -- What callers see of the sets of a task: the live sets, and which slot is kept for what.
-use Rattle.std.specs.Prelude.{ℕ, List, [], Option, Some, None, slice_get, slice_index_or, unwrap_or}
+use Rattle.std.specs.Prelude.{ℕ, Bool, false, ◌==◌, ◌||◌, List, [], Option, Some, None}
+use Rattle.std.specs.Prelude.{slice_get, slice_index_or, unwrap_or}
+use Rattle.std.specs.List.{list_any}
 use Rattle.std.specs.Option.{option_map_or}
 use Rattle.task_core.specs.declared.literals.FluentId.{FluentId}
 use Rattle.dd_sets.specs.declared.slots.SetId.{SetId}
@@ -49,3 +51,20 @@ shared_slot enc f = slice_index_or enc.shared f None
 abbrev pub next_slot : Encoded → ℕ → ℕ → ℕ → Option SetId
 next_slot enc a o f =
     option_map_or (λ slot. Some slot) (listed_set (changed_slots enc a o) f) (shared_slot enc f)
+
+-- whether a slot is this one, one of those that are listed for an outcome, or one of an action's
+abbrev pub is_slot : ℕ → Option SetId → Bool
+is_slot slot kept = option_map_or (λ own. own.0 == slot) kept false
+
+abbrev pub is_listed : ℕ → List (FluentId × SetId) → Bool
+is_listed slot changed = list_any (λ entry. entry.1.0 == slot) changed
+
+abbrev pub is_of_action : ℕ → ActionSlots → Bool
+is_of_action slot action = action.exec.0 == slot || list_any (is_listed slot) action.outcomes
+
+-- whether a slot is one of those that are kept for a task: for its initial states, its goal, a
+-- fluent that some outcome leaves alone, or an action
+abbrev pub is_kept : Encoded → ℕ → Bool
+is_kept enc slot =
+    enc.initial.0 == slot || is_slot slot enc.goal || list_any (is_slot slot) enc.shared
+    || list_any (is_of_action slot) enc.actions

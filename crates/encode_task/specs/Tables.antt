@@ -1,15 +1,18 @@
 -- Private: the tables of slots while they are made.
-use Rattle.std.specs.Prelude.{◌≡◌, ℕ, ◌<◌, ⊤, List, [], ◌∷◌, length, Option, Some, None, IsSome}
-use Rattle.std.specs.Prelude.{slice_index_or}
-use Rattle.dd_nodes.specs.NodeList.{Values}
+use Rattle.std.specs.Prelude.{◌≡◌, ℕ, ◌<◌, ◌==◌, ◌||◌, Bool, true, false, ⊤, List, [], ◌∷◌}
+use Rattle.std.specs.Prelude.{Option, Some, None, IsSome, slice_index_or}
+use Rattle.std.specs.List.{list_any}
 use Rattle.dd_ops.specs.Operations.{variable}
 use Rattle.task_core.specs.Actions.{after_value}
 use Rattle.task_core.specs.Conditions.{holds}
+use Rattle.task_core.specs.declared.actions.Change.{Change}
 use Rattle.task_core.specs.declared.actions.GroundAction.{GroundAction}
 use Rattle.task_core.specs.declared.actions.Outcome.{Outcome}
 use Rattle.task_core.specs.declared.literals.FluentId.{FluentId}
-use Rattle.dd_sets.specs.LiveSets.{LiveSets, AllLive, listed_set}
+use Rattle.dd_sets.specs.Frames.{Owns}
+use Rattle.dd_sets.specs.LiveSets.{LiveSets, AllLive, is_live, listed_set}
 use Rattle.dd_sets.specs.declared.slots.SetId.{SetId}
+use Rattle.encode_task.specs.Counts.{some_leaves}
 use Rattle.encode_task.specs.Made.{Holds, HoldsOutcome}
 use Rattle.encode_task.specs.Slots.{ActionSlots}
 
@@ -18,29 +21,26 @@ pub record IsShared (sets : LiveSets) (shared : List (Option SetId)) : Type 0 wh
   pub holds : (f : ℕ) (slot : SetId) → slice_index_or shared f None ≡ Some slot
       → Holds sets slot (variable f)
 
--- as many fluents have a shared slot as before, and maybe more
-pub record SharesMore (before after : List (Option SetId)) : Type 0 where
-  pub long : length after ≡ length before
-  pub more : (f : ℕ) → IsSome (slice_index_or before f None) → IsSome (slice_index_or after f None)
+-- a fluent that some outcome leaves alone has a new slot for its own value, another has none
+abbrev pub IsSharedSlot : LiveSets → LiveSets → Bool → ℕ → Option SetId → Type 0
+IsSharedSlot before after left f (Some slot) =
+    (left ≡ true) × Owns before after ((slot.0, variable f) ∷ [])
+IsSharedSlot before after left f None = (left ≡ false) × (after ≡ before)
 
--- the first fluents are done for an outcome: each has its next value's slot, or is left alone and
--- has a shared slot
-pub record IsDone (sets : LiveSets) (shared : List (Option SetId))
-    (changed : List (FluentId × SetId)) (outcome : Outcome) (done : ℕ) : Type 0 where
+-- each of the first n fluents that some outcome leaves alone has a shared slot
+abbrev pub SharesLeft : ℕ → List ActionSlots → List (Option SetId) → Type 0
+SharesLeft n actions shared =
+    (f : ℕ) → f < n → some_leaves actions f ≡ true → IsSome (slice_index_or shared f None)
+
+-- the first changes of an outcome are done: the fluent of each is listed, and each fluent that is
+-- listed has the slot of its next value
+pub record IsDone (sets : LiveSets) (changed : List (FluentId × SetId)) (outcome : Outcome)
+    (front : List Change) : Type 0 where
   pub live : AllLive sets changed
   pub listed : (f : ℕ) (slot : SetId) → listed_set changed f ≡ Some slot
       → Holds sets slot (λ values. after_value outcome values f)
-  pub unlisted : (f : ℕ) → f < done → listed_set changed f ≡ None
-      → (values : Values) → after_value outcome values f ≡ values f
-  pub has_shared : (f : ℕ) → f < done → listed_set changed f ≡ None
-      → IsSome (slice_index_or shared f None)
-
--- the slots of an outcome are made, over n fluents
-pub record OutcomeMade (n : ℕ) (sets : LiveSets) (shared : List (Option SetId))
-    (changed : List (FluentId × SetId)) (outcome : Outcome) : Type 0 where
-  pub holds : HoldsOutcome sets changed (after_value outcome)
-  pub has_shared : (f : ℕ) → f < n → listed_set changed f ≡ None
-      → IsSome (slice_index_or shared f None)
+  pub named : (f : ℕ) → listed_set changed f ≡ None
+      → list_any (λ change. change.lit.fluent.0 == f) front ≡ false
 
 -- two lists are as long as one another, and their elements are related in order
 abbrev pub AllPaired : {X Y : Type 0} → (X → Y → Type 0) → List X → List Y → Type 0
@@ -49,8 +49,17 @@ AllPaired R (x ∷ xs) (y ∷ ys) = R x y × AllPaired R xs ys
 AllPaired R (x ∷ xs) [] = ⊥
 AllPaired R [] (y ∷ ys) = ⊥
 
+-- the slots of an outcome are made
+abbrev pub OutcomeMade : LiveSets → List (FluentId × SetId) → Outcome → Type 0
+OutcomeMade sets changed outcome = HoldsOutcome sets changed (after_value outcome)
+
 -- the slots of an action are made
-pub record ActionMade (n : ℕ) (sets : LiveSets) (shared : List (Option SetId))
-    (slots : ActionSlots) (action : GroundAction) : Type 0 where
+pub record ActionMade (sets : LiveSets) (slots : ActionSlots) (action : GroundAction)
+    : Type 0 where
   pub exec : Holds sets slots.exec (holds action.exec)
-  pub outcomes : AllPaired (OutcomeMade n sets shared) slots.outcomes action.outcomes.items
+  pub outcomes : AllPaired (OutcomeMade sets) slots.outcomes action.outcomes.items
+
+-- each slot that is live after is one of a caller's, or was live before
+abbrev pub AddsOnly : LiveSets → LiveSets → (ℕ → Bool) → Type 0
+AddsOnly before after own =
+    (slot : ℕ) → is_live after slot ≡ true → (own slot || is_live before slot) ≡ true

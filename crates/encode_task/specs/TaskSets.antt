@@ -1,7 +1,7 @@
 -- The sets that a task names, each as the test of its members: the states where an action can be
 -- executed, the initial states, the goal, and the values after an outcome (Cimatti, Pistore,
 -- Roveri, Traverso 2003: the symbolic representation of a planning domain).
-use Rattle.std.specs.Prelude.{ℕ, Bool, false, List, Option, slice_get, map}
+use Rattle.std.specs.Prelude.{ℕ, false, List, slice_get, map}
 use Rattle.std.specs.List.{list_any, range_with_len}
 use Rattle.std.specs.Option.{option_map_or}
 use Rattle.dd_nodes.specs.NodeList.{Values}

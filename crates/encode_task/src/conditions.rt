@@ -4,7 +4,7 @@ ghost use Rattle.dd_nodes.specs.Subfunctions.{Function};
 ghost use Rattle.dd_ops.specs.Operations.{not_of, and_of, or_of, minus_of};
 ghost use Rattle.dd_sets.specs.Frames.{Owns, OwnsAnswer};
 ghost use Rattle.dd_sets.specs.LiveSets.{LiveSets, IsLive};
-ghost use Rattle.dd_sets.specs.Rooms.{IsTightFor};
+ghost use Rattle.dd_sets.specs.Rooms.{IsAtLimit, IsTightFor};
 ghost use Rattle.task_core.specs.Conditions.{depth, holds, ids_below};
 ghost use Rattle.encode_task.specs.Owned.{AreTwo, OwnsBoth};
 
@@ -19,6 +19,7 @@ pub fn set_where(sets: &mut Sets, cond: &Cond) -> Result<SetId, SetErr>
     requires { ids_below sets.old.vars cond.now ≡ true }
     ensures answer { OwnsAnswer sets.old sets.new (holds cond.now) result }
     ensures full { IsErrOf result SetErr.Full → IsTightFor (depth cond.now + 4) sets.old }
+    ensures at_limit { IsErrOf result SetErr.Full → IsAtLimit sets.new }
 {
     match cond {
         Cond::Yes => sets.whole(),
@@ -53,6 +54,7 @@ fn outside(sets: &mut Sets, a: SetId) -> Result<SetId, SetErr>
     ensures answer { (before : LiveSets) (f : Function)
         → Owns before sets.old ((a.0, f) ∷ []) → OwnsAnswer before sets.new (not_of f) result }
     ensures full { IsErrOf result SetErr.Full → IsTightFor 0 sets.old }
+    ensures at_limit { IsErrOf result SetErr.Full → IsAtLimit sets.new }
 {
     let complement = sets.complement(a);
     sets.release(a);
@@ -66,6 +68,8 @@ pub fn in_both(sets: &mut Sets, a: SetId, b: Result<SetId, SetErr>) -> Result<Se
         → OwnsBoth before sets.old a f b g → OwnsAnswer before sets.new (and_of f g) result }
     ensures full { IsErrOf result SetErr.Full
         → IsErrOf b SetErr.Full ⊎ IsTightFor 0 sets.old }
+    ensures at_limit { IsErrOf result SetErr.Full
+        → (IsErrOf b SetErr.Full → IsAtLimit sets.old) → IsAtLimit sets.new }
 {
     match b {
         Ok(b) => {
@@ -88,6 +92,8 @@ pub fn in_some(sets: &mut Sets, a: SetId, b: Result<SetId, SetErr>) -> Result<Se
         → OwnsBoth before sets.old a f b g → OwnsAnswer before sets.new (or_of f g) result }
     ensures full { IsErrOf result SetErr.Full
         → IsErrOf b SetErr.Full ⊎ IsTightFor 0 sets.old }
+    ensures at_limit { IsErrOf result SetErr.Full
+        → (IsErrOf b SetErr.Full → IsAtLimit sets.old) → IsAtLimit sets.new }
 {
     match b {
         Ok(b) => {
@@ -111,6 +117,8 @@ pub fn without(sets: &mut Sets, a: SetId, b: Result<SetId, SetErr>) -> Result<Se
         → OwnsBoth before sets.old a f b g → OwnsAnswer before sets.new (minus_of f g) result }
     ensures full { IsErrOf result SetErr.Full
         → IsErrOf b SetErr.Full ⊎ IsTightFor 0 sets.old }
+    ensures at_limit { IsErrOf result SetErr.Full
+        → (IsErrOf b SetErr.Full → IsAtLimit sets.old) → IsAtLimit sets.new }
 {
     match b {
         Ok(b) => {

@@ -6,11 +6,9 @@ ghost use Rattle.std.specs.Prelude.{
   ◌<◌,
   ◌≤◌,
   Some,
-  None,
   true,
   length,
   map,
-  slice_index_or,
   IfOk,
   OnOk,
   OnErr,
@@ -19,7 +17,7 @@ ghost use Rattle.std.specs.Prelude.{
 ghost use Rattle.std.specs.Borrow.{Lends, sem};
 ghost use Rattle.dd_sets.specs.Calls.{KeepsSets, Adds, AddsNone};
 ghost use Rattle.dd_sets.specs.LiveSets.{IsLive, set_of, live_count};
-ghost use Rattle.dd_sets.specs.Rooms.{Tight, IsTightFor, nodes_of_slots};
+ghost use Rattle.dd_sets.specs.Rooms.{IsAtLimit, IsTightFor, Tight, nodes_of_slots};
 ghost use Rattle.dd_sets.specs.contracts.sets.Sets as SetsRow;
 ghost use Rattle.task_core.specs.Actions.{goal_is_shallow, goal_within};
 ghost use Rattle.task_core.specs.Conditions.{holds, ids_below, is_shallow};
@@ -27,17 +25,19 @@ ghost use Rattle.task_core.specs.Tasks.{fluent_count};
 ghost use Rattle.encode_task.specs.Bounds.{action_slots, kept_slots, working_slots};
 ghost use Rattle.encode_task.specs.Made.{Holds, HoldsGoal, IsReady, MadeOf};
 ghost use Rattle.encode_task.specs.Seen.{slots_of};
-ghost use Rattle.encode_task.specs.Slots.{exec_slot, outcome_slots, next_slot};
+ghost use Rattle.encode_task.specs.Slots.{exec_slot, is_kept, is_slot, next_slot, outcome_slots};
+ghost use Rattle.encode_task.specs.Tables.{AddsOnly};
 ghost use Rattle.encode_task.specs.TaskSets.{led_into, next_set};
 ghost use Rattle.encode_task.specs.contracts.enc.Enc.{the_row};
 
 use crate::action_sets::ActionSets;
-use crate::actions::{Shared, encode_actions};
+use crate::actions::encode_actions;
 use crate::conditions::set_where;
 use crate::initial::initial_states;
+use crate::left_alone::{Shared, share};
 use crate::slots::{changed_by, slot_for};
 use dd_sets::{SetErr, SetId, Sets};
-use std::alloc::{AllocError, Global};
+use std::alloc::Global;
 use std::marker::Model;
 use task_core::{ActionId, Cond, FluentId, Task};
 
@@ -80,14 +80,16 @@ impl Model for Enc {
 ///
 /// No list of states is made: the initial states are found as sets, entry by entry. An outcome
 /// takes a slot for each fluent that it changes; a fluent that some outcome leaves alone has one
-/// more slot, which all such outcomes share. Apart from a look at each fluent's name in each
-/// outcome, the time grows with the fluents that are changed.
+/// more slot, which all such outcomes share. No other slot is live afterwards. The time grows with
+/// the fluents that are changed, for each with the changes of its outcome.
 pub fn encode(alloc: Global, task: &Task, limit: u32) -> Result<Enc, SetErr>
     requires some_room { 0 < limit }
     requires small_limit { limit ≤ 16777216 }
     ensures made { IfOk result (λ enc. MadeOf task.now enc) }
     ensures limit { IfOk result (λ enc. enc.sets.limit ≡ limit) }
     ensures few { IfOk result (λ enc. live_count enc.sets ≤ kept_slots task.now) }
+    ensures only_kept { IfOk result (λ enc.
+        (slot : ℕ) → IsLive enc.sets slot → is_kept enc slot ≡ true) }
     ensures full { IsErrOf result SetErr.Full → Tight limit (fluent_count task.now)
         (nodes_of_slots (working_slots task.now) (fluent_count task.now)) }
 {
@@ -125,14 +127,22 @@ fn encode_sets(alloc: Global, sets: &mut Sets, task: &Task) -> Result<KeptSlots,
       actions = map slots_of kept.actions.items;
     })) }
     ensures kept { KeepsSets sets.old sets.new }
+    ensures only { IfOk result (λ kept. AddsOnly sets.old sets.new (is_kept (record {
+      sets = sets.new;
+      fluents = fluent_count task.now;
+      initial = kept.initial;
+      goal = kept.goal;
+      shared = kept.shared.items;
+      actions = map slots_of kept.actions.items;
+    }))) }
     ensures few { OnOk result (live_count sets.new
         ≤ live_count sets.old + action_slots task.now + 2) }
     ensures full { IsErrOf result SetErr.Full → IsTightFor (action_slots task.now + 212) sets.old }
 {
     let initial = initial_states(sets, task)?;
     let goal = goal_states(sets, &task.goal)?;
-    let mut shared = no_slots(alloc, task.fluents.len())?;
-    let actions = encode_actions(alloc, sets, &mut shared, &task.actions)?;
+    let actions = encode_actions(alloc, sets, &task.actions)?;
+    let shared = share(alloc, sets, &actions, task.fluents.len() as u32)?;
     Ok(KeptSlots {
         initial,
         goal,
@@ -147,6 +157,8 @@ fn goal_states(sets: &mut Sets, goal: &Option<Cond>) -> Result<Option<SetId>, Se
     requires shallow { goal_is_shallow goal.now ≡ true }
     ensures made { IfOk result (λ slot. HoldsGoal sets.new slot goal.now) }
     ensures kept { KeepsSets sets.old sets.new }
+    ensures only { IfOk result (λ slot.
+        AddsOnly sets.old sets.new (λ other. is_slot other slot)) }
     ensures few { OnOk result (live_count sets.new ≤ live_count sets.old + 1) }
     ensures full { IsErrOf result SetErr.Full → IsTightFor 204 sets.old }
 {
@@ -157,14 +169,6 @@ fn goal_states(sets: &mut Sets, goal: &Option<Cond>) -> Result<Option<SetId>, Se
         }
         None => Ok(None),
     }
-}
-
-/// No slot for any fluent.
-fn no_slots(alloc: Global, fluents: usize) -> Result<Shared, AllocError>
-    ensures long { IfOk result (λ shared. length shared.items ≡ fluents) }
-    ensures none { IfOk result (λ shared. (f : ℕ) → slice_index_or shared.items f None ≡ None) }
-{
-    vec![in alloc; None; fluents]
 }
 
 impl Enc {
@@ -249,6 +253,7 @@ impl Enc {
         ensures refused { OnErr result (AddsNone self.old.sets self.new.sets) }
         ensures full { IsErrOf result SetErr.Full → is_shallow cond.now ≡ true
             → IsTightFor 204 self.old.sets }
+        ensures at_limit { IsErrOf result SetErr.Full → IsAtLimit self.new.sets }
         ensures same_slots { self.new ≡ record self.old { sets = self.new.sets } }
         ensures made { (task : Task) → MadeOf task self.old → MadeOf task self.new }
         ensures ready { IsReady self.old → IsReady self.new }
@@ -269,6 +274,7 @@ impl Enc {
         ensures kept { KeepsSets self.old.sets self.new.sets }
         ensures refused { OnErr result (AddsNone self.old.sets self.new.sets) }
         ensures full { IsErrOf result SetErr.Full → IsTightFor 0 self.old.sets }
+        ensures at_limit { IsErrOf result SetErr.Full → IsAtLimit self.new.sets }
         ensures same_slots { self.new ≡ record self.old { sets = self.new.sets } }
         ensures made { (task : Task) → MadeOf task self.old → MadeOf task self.new }
         ensures ready { IsReady self.old → IsReady self.new }

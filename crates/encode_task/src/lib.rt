@@ -12,6 +12,7 @@ mod conditions;
 mod enc;
 mod initial;
 mod laws;
+mod left_alone;
 mod outcomes;
 mod slots;
 #[cfg(test)]

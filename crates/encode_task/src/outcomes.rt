@@ -8,7 +8,7 @@ ghost use Rattle.dd_sets.specs.Rooms.{IsTightFor};
 ghost use Rattle.task_core.specs.Actions.{after_value, change_makes, change_within, outcome_within};
 ghost use Rattle.task_core.specs.Conditions.{is_shallow};
 ghost use Rattle.task_core.specs.Vectors.{same_value};
-ghost use Rattle.encode_task.specs.Names.{outcome_is_shallow, names_fluent as is_named};
+ghost use Rattle.encode_task.specs.Names.{outcome_is_shallow};
 
 use crate::conditions::{in_some, set_where, without};
 use dd_sets::{SetErr, SetId, Sets};
@@ -78,11 +78,4 @@ fn is_about(change: &Change, f: FluentId, positive: bool) -> bool
         && same_value change.now.lit.positive positive) }
 {
     change.lit.fluent == f && change.lit.positive == positive
-}
-
-/// Whether a change of an outcome names a fluent.
-pub fn names_fluent(outcome: &Outcome, f: FluentId) -> bool
-    ensures { result ≡ is_named outcome.now f.0 }
-{
-    outcome.changes.iter().any(|change| change.lit.fluent == f)
 }

@@ -4,7 +4,7 @@ ghost use Rattle.dd_nodes.specs.Subfunctions.{Function};
 ghost use Rattle.dd_ops.specs.Operations.{and_of, minus_of};
 ghost use Rattle.dd_sets.specs.Frames.{Owns, OwnsAnswer};
 ghost use Rattle.dd_sets.specs.LiveSets.{LiveSets, IsLive, set_of};
-ghost use Rattle.dd_sets.specs.Rooms.{IsTightFor};
+ghost use Rattle.dd_sets.specs.Rooms.{IsAtLimit, IsTightFor};
 ghost use Rattle.encode_task.specs.Owned.{AreTwo, OwnsBoth};
 
 use dd_sets::{SetErr, SetId, Sets};
@@ -29,6 +29,8 @@ pub fn in_both(enc: &mut Enc, a: SetId, b: Result<SetId, SetErr>) -> Result<SetI
     ensures same_slots { enc.new ≡ record enc.old { sets = enc.new.sets } }
     ensures full { IsErrOf result SetErr.Full
         → IsErrOf b SetErr.Full ⊎ IsTightFor 0 enc.old.sets }
+    ensures at_limit { IsErrOf result SetErr.Full
+        → (IsErrOf b SetErr.Full → IsAtLimit enc.old.sets) → IsAtLimit enc.new.sets }
 {
     meet(enc.sets_mut(), a, b)
 }
@@ -39,6 +41,8 @@ fn meet(sets: &mut Sets, a: SetId, b: Result<SetId, SetErr>) -> Result<SetId, Se
         → OwnsBoth before sets.old a f b g → OwnsAnswer before sets.new (and_of f g) result }
     ensures full { IsErrOf result SetErr.Full
         → IsErrOf b SetErr.Full ⊎ IsTightFor 0 sets.old }
+    ensures at_limit { IsErrOf result SetErr.Full
+        → (IsErrOf b SetErr.Full → IsAtLimit sets.old) → IsAtLimit sets.new }
 {
     match b {
         Ok(b) => {
@@ -64,6 +68,8 @@ pub fn without(enc: &mut Enc, a: SetId, b: Result<SetId, SetErr>) -> Result<SetI
     ensures same_slots { enc.new ≡ record enc.old { sets = enc.new.sets } }
     ensures full { IsErrOf result SetErr.Full
         → IsErrOf b SetErr.Full ⊎ IsTightFor 0 enc.old.sets }
+    ensures at_limit { IsErrOf result SetErr.Full
+        → (IsErrOf b SetErr.Full → IsAtLimit enc.old.sets) → IsAtLimit enc.new.sets }
 {
     minus(enc.sets_mut(), a, b)
 }
@@ -74,6 +80,8 @@ fn minus(sets: &mut Sets, a: SetId, b: Result<SetId, SetErr>) -> Result<SetId, S
         → OwnsBoth before sets.old a f b g → OwnsAnswer before sets.new (minus_of f g) result }
     ensures full { IsErrOf result SetErr.Full
         → IsErrOf b SetErr.Full ⊎ IsTightFor 0 sets.old }
+    ensures at_limit { IsErrOf result SetErr.Full
+        → (IsErrOf b SetErr.Full → IsAtLimit sets.old) → IsAtLimit sets.new }
 {
     match b {
         Ok(b) => {
@@ -98,6 +106,7 @@ pub fn rest_of(enc: &mut Enc, a: SetId, b: SetId) -> Result<SetId, SetErr>
         → OwnsAnswer before enc.new.sets (minus_of (set_of enc.old.sets a.0) f) result }
     ensures same_slots { enc.new ≡ record enc.old { sets = enc.new.sets } }
     ensures full { IsErrOf result SetErr.Full → IsTightFor 0 enc.old.sets }
+    ensures at_limit { IsErrOf result SetErr.Full → IsAtLimit enc.new.sets }
 {
     difference(enc.sets_mut(), a, b)
 }
@@ -108,6 +117,7 @@ fn difference(sets: &mut Sets, a: SetId, b: SetId) -> Result<SetId, SetErr>
     ensures answer { (before : LiveSets) (f : Function) → Owns before sets.old ((b.0, f) ∷ [])
         → OwnsAnswer before sets.new (minus_of (set_of sets.old a.0) f) result }
     ensures full { IsErrOf result SetErr.Full → IsTightFor 0 sets.old }
+    ensures at_limit { IsErrOf result SetErr.Full → IsAtLimit sets.new }
 {
     let rest = sets.minus(a, b);
     sets.release(b);

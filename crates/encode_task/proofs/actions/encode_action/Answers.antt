@@ -1,11 +1,8 @@
 -- Where the action can be executed, and its outcomes.
-use Rattle.std.proofs.Common.{◌≡◌, ◌+◌, ◌*◌, ◌≤◌, ◌<◌, ◌^◌, ◌&&◌, leb, ltb, map, length, arith, ap}
+use Rattle.std.proofs.Common.{◌+◌, length, arith, ap}
 use Rattle.std.proofs.lemmas.List.{length-map}
-use Rattle.std.specs.List.{list_all}
-use Rattle.std.proofs.lemmas.Bool.{and_parts, leb-true, ltb-true}
 use Rattle.std.proofs.lemmas.Result.{err_from_is_err_and}
-use Rattle.task_core.specs.Actions.{outcome_within}
-use Rattle.task_core.specs.Conditions.{depth, ids_below, is_shallow}
+use Rattle.task_core.specs.Conditions.{depth}
 use Rattle.encode_task.proofs.PartLemmas.{same_refusal_of}
 use Rattle.encode_task.proofs.ShallowLemmas.{exec_shallow, few_outcomes}
 use Rattle.encode_task.proofs.TableLemmas.{paired_length}

@@ -1,5 +1,5 @@
 -- A condition's set from those of its parts.
-use Rattle.std.proofs.Common.{◌≡◌, ◌+◌, take, ◌∷◌, [], ◌∙◌, Err, sym, ap, subst, arith, rules}
+use Rattle.std.proofs.Common.{◌+◌, take, ◌∷◌, [], ◌∙◌, Err, sym, ap, subst, arith}
 use Rattle.std.proofs.lemmas.Result.{err_from_is_err_and}
 use Rattle.dd_sets.specs.Frames.{Owns, OwnsAnswer}
 use Rattle.dd_ops.specs.Operations.{not_of}
@@ -8,7 +8,7 @@ use Rattle.task_core.specs.Conditions.{holds}
 use Rattle.dd_nodes.specs.Subfunctions.{Function}
 use Rattle.dd_sets.proofs.TightLemmas.{tight_for}
 use Rattle.encode_task.proofs.OwnedLemmas.{answered, both}
-use Rattle.encode_task.proofs.PartLemmas.{all_more, some_more, all_parts, some_parts, all_deeper, some_deeper, not_deeper, not_part, all_hold, some_hold, rest_below, all_begin_below, some_begin_below, answer_slot, answer_refusal, tight_part}
+use Rattle.encode_task.proofs.PartLemmas.{all_more, some_more, all_parts, some_parts, all_deeper, some_deeper, not_part, all_hold, some_hold, rest_below, all_begin_below, some_begin_below, answer_slot, answer_refusal, tight_part}
 use Rattle.encode_task.proofs.TightLemmas.{tight_owned}
 use Rattle.encode_task.proofs.conditions.+set_where.Goals as goal
 

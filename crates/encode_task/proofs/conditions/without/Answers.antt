@@ -1,5 +1,5 @@
 -- The answer takes the place of both slots.
-use Rattle.std.proofs.Common.{inl, inr}
+use Rattle.std.proofs.Common.{inr}
 use Rattle.dd_sets.proofs.TightLemmas.{tight_for}
 use Rattle.encode_task.proofs.conditions.without.Goals as goal
 

@@ -1,5 +1,5 @@
 -- At first no slot is live.
-use Rattle.std.proofs.Common.{◌≡◌, ◌+◌, ◌≤◌, arith, ap, subst, ◌∙◌, sym}
+use Rattle.std.proofs.Common.{◌≡◌, ◌+◌, arith}
 use Rattle.std.proofs.lemmas.Result.{err_from_is_err_and}
 use Rattle.task_core.specs.Tasks.{fluent_count}
 use Rattle.encode_task.specs.Bounds.{action_slots, working_slots}

@@ -1,19 +1,22 @@
 -- The sets of the task, put together.
-use Rattle.std.proofs.Common.{◌≡◌, ℕ, ◌+◌, ◌*◌, ◌≤◌, [], Some, None, true, List, Option, map, length, slice_index_or, arith, refl, sym, ap, subst, ◌∙◌}
+use Rattle.std.proofs.Common.{◌≡◌, ℕ, ◌+◌, ◌*◌, ◌≤◌, [], List, map, length, arith, refl, ap, subst, ◌∙◌}
 use Rattle.std.specs.List.{list_all}
-use Rattle.std.proofs.lemmas.Option.{none-some}
 use Rattle.std.proofs.lemmas.Result.{err_from_is_err_and}
 use Rattle.task_core.specs.Tasks.{action_count, fluent_count}
 use Rattle.task_core.specs.declared.actions.GroundAction.{GroundAction}
 use Rattle.dd_sets.specs.LiveSets.{live_count}
 use Rattle.dd_sets.proofs.FrameLemmas.{kept_chain}
 use Rattle.encode_task.specs.Bounds.{action_slots, most_outcomes}
+use Rattle.encode_task.specs.Counts.{left_in_actions}
 use Rattle.encode_task.specs.Names.{has_outcomes_within}
 use Rattle.encode_task.specs.Seen.{slots_of}
-use Rattle.encode_task.specs.Tables.{ActionMade, AllPaired, IsShared}
+use Rattle.encode_task.specs.Tables.{ActionMade, AllPaired, SharesLeft}
+use Rattle.encode_task.specs.declared.action_sets.ActionSets.{ActionSets}
 use Rattle.encode_task.proofs.MadeLemmas.{goal_kept, holds_kept}
+use Rattle.encode_task.proofs.OnlyLemmas.{only_owned, only_whole}
 use Rattle.encode_task.proofs.OwnedLemmas.{one_live, own_set}
 use Rattle.encode_task.proofs.PartLemmas.{answer_slot, same_refusal_of}
+use Rattle.encode_task.proofs.TableLemmas.{action_stays, paired_weaker}
 use Rattle.encode_task.proofs.TightLemmas.{tight_before, tight_owned, tight_wider}
 use Rattle.encode_task.proofs.WholeLemmas.{made_of_pieces, outcomes_few, slots_within}
 use Rattle.encode_task.proofs.enc.encode_sets.Goals as goal
@@ -44,19 +47,48 @@ returns-in_err-actions-clause-full c full =
     tight_before _ _ kept.vars kept.limit (length c.deref.result.now * (most * c.goal_states.new.sets.vars + 1) + 210) (action_slots c.args.task.now + 212) (omega (arith, c.in_ok-goal.ensures.few))
     (c.encode_actions.ensures.full (same_refusal_of c.encode_actions.result c.from_residual-in_err-actions.result _ c.in_err-actions.was p full) most few)
 
+pub returns-in_err-shared-clause-full : goal.returns-in_err-shared-clause-full
+returns-in_err-shared-clause-full c full =
+    let p = err_from_is_err_and c.from_residual-in_err-shared.result c.from_residual-in_err-shared.ensures.1 in
+    let initial = answer_slot _ _ _ c.initial_states.result _ c.in_ok-initial.was c.initial_states.ensures.answer in
+    let count : live_count c.initial_states.new.sets ≡ live_count c.args.sets.now + 1 = initial.count in
+    let kept = kept_chain _ _ _ initial.kept c.goal_states.ensures.kept in
+    let vars : c.goal_states.new.sets.vars ≡ fluent_count c.args.task.now = kept.vars ∙ c.requires in
+    let few = ap (list_all (has_outcomes_within (most_outcomes c.args.task.now))) c.deref.ensures.value ∙ outcomes_few c.args.task.now in
+    let most : ℕ = most_outcomes c.args.task.now in
+    let slots : length c.deref.result.now * (most * c.goal_states.new.sets.vars + 1) ≡ action_count c.args.task.now * (most * fluent_count c.args.task.now + 1) =
+    (λ i. length (c.deref.ensures.value i) * (most * vars i + 1)) in
+    let within : action_count c.args.task.now * (most * fluent_count c.args.task.now + 1) ≤ action_slots c.args.task.now = slots_within (action_count c.args.task.now) most (fluent_count c.args.task.now) in
+    let left : left_in_actions c.encode_actions.new.sets.vars (map slots_of c.deref-2.result.now) ≡ left_in_actions c.goal_states.new.sets.vars (map slots_of c.in_ok-actions.actions.items) =
+    (λ i. left_in_actions (c.encode_actions.ensures.kept.vars i) (map slots_of (c.deref-2.ensures.value i))) in
+    let whole = kept_chain _ _ _ kept c.encode_actions.ensures.kept in
+    tight_before _ _ whole.vars whole.limit (left_in_actions c.encode_actions.new.sets.vars (map slots_of c.deref-2.result.now)) (action_slots c.args.task.now + 212)
+    (omega (arith, c.in_ok-goal.ensures.few, c.in_ok-actions.ensures.few most few))
+    (c.share.ensures.full (same_refusal_of c.share.result c.from_residual-in_err-shared.result _ c.in_err-shared.was p full))
+
 pub returns-clause-made : goal.returns-clause-made
 returns-clause-made c =
     let initial = answer_slot _ _ _ c.initial_states.result _ c.in_ok-initial.was c.initial_states.ensures.answer in
     let kept = kept_chain _ _ _ initial.kept c.goal_states.ensures.kept in
-    let vars : c.goal_states.new.sets.vars ≡ fluent_count c.args.task.now = kept.vars ∙ c.requires in
-    let later = kept_chain _ _ _ c.goal_states.ensures.kept c.encode_actions.ensures.kept in
-    let actions : AllPaired (ActionMade (fluent_count c.args.task.now) c.encode_actions.new.sets c.encode_actions.new.shared.items) (map slots_of c.in_ok-actions.actions.items) c.args.task.now.actions.items =
-    subst (λ (l : List GroundAction). AllPaired (ActionMade (fluent_count c.args.task.now) c.encode_actions.new.sets c.encode_actions.new.shared.items) (map slots_of c.in_ok-actions.actions.items) l) c.deref.ensures.value
-    (subst (λ n. AllPaired (ActionMade n c.encode_actions.new.sets c.encode_actions.new.shared.items) (map slots_of c.in_ok-actions.actions.items) c.deref.result.now) vars c.in_ok-actions.ensures.made) in
-    let none : IsShared c.goal_states.new.sets c.in_ok-shared.shared.items = record { holds = λ f slot is. absurd (none-some slot (sym (c.in_ok-shared.ensures.none f) ∙ is)) } in
-    made_of_pieces c.args.task.now _ refl (c.encode_actions.ensures.kept.vars ∙ vars) actions (c.in_ok-actions.ensures.shared none)
-    (holds_kept _ _ later c.in_ok-initial.initial _ (record { live = one_live _ _ _ _ initial; holds = own_set _ _ _ _ [] [] initial }))
-    (goal_kept _ _ c.encode_actions.ensures.kept c.in_ok-goal.goal c.args.task.now.goal c.in_ok-goal.ensures.made)
+    let vars : c.encode_actions.new.sets.vars ≡ fluent_count c.args.task.now = c.encode_actions.ensures.kept.vars ∙ kept.vars ∙ c.requires in
+    let later = kept_chain _ _ _ c.encode_actions.ensures.kept c.share.ensures.kept in
+    let last = kept_chain _ _ _ c.goal_states.ensures.kept later in
+    let actions : AllPaired (ActionMade c.encode_actions.new.sets) (map slots_of c.in_ok-actions.actions.items) c.args.task.now.actions.items =
+    subst (λ (l : List GroundAction). AllPaired (ActionMade c.encode_actions.new.sets) (map slots_of c.in_ok-actions.actions.items) l) c.deref.ensures.value c.in_ok-actions.ensures.made in
+    let all : SharesLeft (fluent_count c.args.task.now) (map slots_of c.in_ok-actions.actions.items) c.in_ok-shared.shared.items =
+    subst (λ n. SharesLeft n (map slots_of c.in_ok-actions.actions.items) c.in_ok-shared.shared.items) vars
+    (subst (λ (l : List ActionSets). SharesLeft c.encode_actions.new.sets.vars (map slots_of l) c.in_ok-shared.shared.items) c.deref-2.ensures.value c.in_ok-shared.ensures.all) in
+    made_of_pieces c.args.task.now _ refl (c.share.ensures.kept.vars ∙ vars)
+    (paired_weaker (ActionMade c.encode_actions.new.sets) (ActionMade c.share.new.sets) (action_stays _ _ c.share.ensures.kept) _ _ actions)
+    c.in_ok-shared.ensures.holds all
+    (holds_kept _ _ last c.in_ok-initial.initial _ (record { live = one_live _ _ _ _ initial; holds = own_set _ _ _ _ [] [] initial }))
+    (goal_kept _ _ later c.in_ok-goal.goal c.args.task.now.goal c.in_ok-goal.ensures.made)
+
+pub returns-clause-only : goal.returns-clause-only
+returns-clause-only c =
+    let initial = answer_slot _ _ _ c.initial_states.result _ c.in_ok-initial.was c.initial_states.ensures.answer in
+    only_whole _ _ _ _ _ c.in_ok-initial.initial c.in_ok-goal.goal c.in_ok-shared.shared.items (map slots_of c.in_ok-actions.actions.items)
+    (only_owned _ _ c.in_ok-initial.initial.0 _ initial) c.in_ok-goal.ensures.only c.in_ok-actions.ensures.only c.in_ok-shared.ensures.only
 
 pub returns-clause-few : goal.returns-clause-few
 returns-clause-few c =
@@ -69,4 +101,6 @@ returns-clause-few c =
     let slots : length c.deref.result.now * (most * c.goal_states.new.sets.vars + 1) ≡ action_count c.args.task.now * (most * fluent_count c.args.task.now + 1) =
     (λ i. length (c.deref.ensures.value i) * (most * vars i + 1)) in
     let within : action_count c.args.task.now * (most * fluent_count c.args.task.now + 1) ≤ action_slots c.args.task.now = slots_within (action_count c.args.task.now) most (fluent_count c.args.task.now) in
-    omega (arith, c.in_ok-goal.ensures.few, c.in_ok-actions.ensures.few most few)
+    let left : left_in_actions c.encode_actions.new.sets.vars (map slots_of c.deref-2.result.now) ≡ left_in_actions c.goal_states.new.sets.vars (map slots_of c.in_ok-actions.actions.items) =
+    (λ i. left_in_actions (c.encode_actions.ensures.kept.vars i) (map slots_of (c.deref-2.ensures.value i))) in
+    omega (arith, c.in_ok-goal.ensures.few, c.in_ok-actions.ensures.few most few, c.in_ok-shared.ensures.few)

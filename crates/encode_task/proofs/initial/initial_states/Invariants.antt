@@ -1,5 +1,5 @@
 -- The states after the entries so far.
-use Rattle.std.proofs.Common.{[], ◌∷◌, take}
+use Rattle.std.proofs.Common.{[], ◌∷◌}
 use Rattle.dd_sets.specs.Frames.{Owns}
 use Rattle.task_core.specs.Tasks.{fluent_count, states_after_entries}
 use Rattle.encode_task.specs.TaskSets.{set_of_states}

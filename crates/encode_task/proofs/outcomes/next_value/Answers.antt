@@ -1,11 +1,10 @@
 -- What is added, and what is true and not deleted.
-use Rattle.std.proofs.Common.{◌≡◌, [], ◌∷◌, ◌∙◌, arith, ap, subst, true, false}
+use Rattle.std.proofs.Common.{◌∙◌, arith, ap, subst}
 use Rattle.std.proofs.lemmas.Result.{err_from_is_err_and}
 use Rattle.dd_nodes.specs.Subfunctions.{Function}
-use Rattle.dd_ops.specs.Operations.{variable, minus_of}
-use Rattle.dd_sets.specs.Frames.{Owns, OwnsAnswer}
+use Rattle.dd_sets.specs.Frames.{OwnsAnswer}
 use Rattle.dd_sets.proofs.TightLemmas.{tight_for}
-use Rattle.task_core.specs.Actions.{deletes, outcome_within}
+use Rattle.task_core.specs.Actions.{outcome_within}
 use Rattle.encode_task.proofs.ChangeLemmas.{next_from}
 use Rattle.encode_task.proofs.OwnedLemmas.{answer_kept, both}
 use Rattle.encode_task.proofs.PartLemmas.{answer_ready, answer_slot, answer_refusal, call_slot, same_refusal, tight_join}

@@ -1,5 +1,5 @@
 -- The next values are the sets that are listed.
-use Rattle.std.proofs.Common.{◌≡◌, ◌∙◌, ◌<◌, sym, subst, ap, arith, length, map}
+use Rattle.std.proofs.Common.{◌∙◌, ◌<◌, sym, subst, ap, arith, length, map}
 use Rattle.std.proofs.lemmas.Result.{IfOk-weaker}
 use Rattle.dd_nodes.specs.Subfunctions.{Function}
 use Rattle.task_core.specs.Tasks.{action_count, outcomes_at}
