@@ -9,6 +9,8 @@ pub mod LayersStable
 pub mod ListedSets
 pub mod PrintedWithin
 pub mod StateLists
+pub mod SetLayers
+pub mod WorkingSlots
 pub mod Weak
 pub mod WeakDenoted
 mod WeakExamples

@@ -11,6 +11,8 @@ mod cube_rules;
 mod laws;
 mod planner;
 mod preimages;
+mod search;
+mod slots;
 mod states;
 #[cfg(test)]
 mod tests;

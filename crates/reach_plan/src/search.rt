@@ -1,0 +1,202 @@
+//! The search back from the goal, layer by layer.
+
+ghost use Rattle.std.specs.Prelude.{◌≡◌, ℕ, ◌<◌, ◌≤◌, ◌↔◌, IfOk, IsErrOf, IsSome, IsTrue, OnErr, length, true};
+ghost use Rattle.dd_nodes.specs.NodeList.{Values};
+ghost use Rattle.dd_nodes.specs.Subfunctions.{Function};
+ghost use Rattle.dd_sets.specs.Calls.{Adds, AddsNone, KeepsSets};
+ghost use Rattle.dd_sets.specs.LiveSets.{IsLive, IsSets, set_of};
+ghost use Rattle.dd_sets.specs.Rooms.{IsTightFor};
+ghost use Rattle.encode_task.specs.Made.{MadeOf};
+ghost use Rattle.preimage.specs.Preimages.{OfSomeTask};
+ghost use Rattle.task_core.specs.declared.tasks.Task.{Task};
+ghost use Rattle.reach_plan.specs.Classes.{IsFoundByLayers};
+ghost use Rattle.reach_plan.specs.LayerSets.{AreTakers, IsRound, class_preimage, grown, taken_by};
+ghost use Rattle.reach_plan.specs.Searches.{IsBegun, IsGrowing, IsSearching, RoundLeft, SearchLeft, StillOne, StillTaken, StillTwo, with_one, with_two};
+ghost use Rattle.reach_plan.specs.Working.{At, Left, Start, entries};
+
+use crate::slots::add_hits;
+use dd_sets::{SetErr, SetId, sets_depend_on_fluents, tight_is_monotone};
+use encode_task::{Enc, made_is_kept};
+use plan_rules::Class;
+use preimage::{preimages_lead_into_their_sets, strong_pre, weak_pre};
+use task_core::ActionId;
+
+/// What a round of the search came to.
+enum Round {
+    /// The layer holds every initial state.
+    Covered,
+    /// It does not, and the next layer is the same set.
+    Stable,
+    /// It does not, and the next layer is another set, which has a slot of its own.
+    More(SetId),
+}
+
+/// Where an action leads into a set as the class wants it, in a new slot.
+fn hits_of(enc: &mut Enc, class: Class, a: ActionId, x: SetId) -> Result<SetId, SetErr>
+    requires made { OfSomeTask enc.old }
+    requires action { a.0 < length enc.old.actions }
+    requires live { IsLive enc.old.sets x.0 }
+    ensures added { (task : Task) → MadeOf task enc.old → IfOk result (λ slot.
+        Adds enc.old.sets enc.new.sets slot.0
+        (class_preimage class task a.0 (set_of enc.old.sets x.0))) }
+    ensures kept { KeepsSets enc.old.sets enc.new.sets }
+    ensures refused { OnErr result (AddsNone enc.old.sets enc.new.sets) }
+    ensures full { IsErrOf result SetErr.Full → IsTightFor 8 enc.old.sets }
+    ensures same_slots { enc.new ≡ record enc.old { sets = enc.new.sets } }
+{
+    match class {
+        Class::Weak | Class::Cyclic => weak_pre(enc, a, x),
+        Class::Strong => strong_pre(enc, a, x),
+    }
+}
+
+/// Whether a set holds every initial state.
+fn holds_initial(enc: &mut Enc, x: SetId) -> Result<bool, SetErr>
+    requires initial { IsLive enc.old.sets enc.old.initial.0 }
+    requires live { IsLive enc.old.sets x.0 }
+    ensures answer { IfOk result (λ inside. IsTrue inside ↔ ((values : Values)
+        → set_of enc.old.sets enc.old.initial.0 values ≡ true → set_of enc.old.sets x.0 values ≡ true)) }
+    ensures kept { KeepsSets enc.old.sets enc.new.sets }
+    ensures none { AddsNone enc.old.sets enc.new.sets }
+    ensures full { IsErrOf result SetErr.Full → IsTightFor 0 enc.old.sets }
+    ensures same_slots { enc.new ≡ record enc.old { sets = enc.new.sets } }
+{
+    let initial = enc.initial();
+    enc.sets_mut().inside(initial, x)
+}
+
+/// Whether two slots hold the same set.
+fn is_same(enc: &Enc, a: SetId, b: SetId) -> bool
+    requires a_live { IsLive enc.now.sets a.0 }
+    requires b_live { IsLive enc.now.sets b.0 }
+    ensures answer { IsTrue result ↔ (set_of enc.now.sets a.0 ≡ set_of enc.now.sets b.0) }
+    ensures sound { IsSets enc.now.sets }
+{
+    enc.sets().same(a, b)
+}
+
+/// Joins to a layer what each action leads into it, and to what each action takes that which it
+/// leads into the layer and no action before it does.
+fn grow(
+    enc: &mut Enc,
+    class: Class,
+    actions: u32,
+    last: SetId,
+    next: &mut SetId,
+    taken: &mut Vec<SetId>,
+) -> Result<(), SetErr>
+    requires actions { actions ≡ length enc.old.actions }
+    requires few { length taken.old.items ≤ actions }
+    requires work { IsGrowing enc.old taken.old.items next.old last }
+    ensures long { length taken.new.items ≡ length taken.old.items }
+    ensures left { (start : Start) (f : Function) (h : ℕ → Function)
+        → At start enc.old (with_two taken.old.items h next.old f last f)
+        → Left (λ done. At start enc.new (with_two taken.new.items
+        (taken_by class start.task f h actions) next.new (grown class start.task f actions) last f))
+        (StillTwo start enc.new taken.new.items next.new last f)
+        (IsTightFor start.room start.enc.sets) result }
+{
+    tight_is_monotone();
+    for a in 0..actions {
+        let hits = hits_of(enc, class, ActionId(a), last)?;
+        let added = add_hits(enc.sets_mut(), hits, next, taken, a as usize);
+        enc.sets_mut().release(hits);
+        added?;
+    }
+    Ok(())
+}
+
+/// The layer after a layer, in a new slot, with what each action takes up to it.
+fn next_layer(
+    enc: &mut Enc,
+    class: Class,
+    actions: u32,
+    last: SetId,
+    taken: &mut Vec<SetId>,
+) -> Result<SetId, SetErr>
+    requires actions { actions ≡ length enc.old.actions }
+    requires few { length taken.old.items ≤ actions }
+    requires work { IsSearching enc.old taken.old.items last }
+    ensures long { length taken.new.items ≡ length taken.old.items }
+    ensures left { (start : Start) (f : Function) (h : ℕ → Function)
+        → At start enc.old (with_one taken.old.items h last f)
+        → Left (λ next. At start enc.new (with_two taken.new.items
+        (taken_by class start.task f h actions) next (grown class start.task f actions) last f))
+        (StillOne start enc.new taken.new.items last f)
+        (IsTightFor start.room start.enc.sets) result }
+{
+    let mut next = enc.sets_mut().copy(last)?;
+    match grow(enc, class, actions, last, &mut next, taken) {
+        Ok(()) => Ok(next),
+        Err(refusal) => {
+            enc.sets_mut().release(next);
+            Err(refusal)
+        }
+    }
+}
+
+/// One round: whether the layer is the last one, and else the next layer.
+fn one_round(
+    enc: &mut Enc,
+    class: Class,
+    actions: u32,
+    last: SetId,
+    taken: &mut Vec<SetId>,
+) -> Result<Round, SetErr>
+    requires actions { actions ≡ length enc.old.actions }
+    requires few { length taken.old.items ≤ actions }
+    requires work { IsSearching enc.old taken.old.items last }
+    ensures long { length taken.new.items ≡ length taken.old.items }
+    ensures left { (start : Start) (f : Function) (h : ℕ → Function) (k : ℕ)
+        → At start enc.old (with_one taken.old.items h last f)
+        → IsRound class start.task k f h
+        → Left (RoundLeft class start enc.new taken.new.items last f k)
+        (StillOne start enc.new taken.new.items last f)
+        (IsTightFor start.room start.enc.sets) result }
+{
+    tight_is_monotone();
+    sets_depend_on_fluents();
+    preimages_lead_into_their_sets();
+    if holds_initial(enc, last)? {
+        return Ok(Round::Covered);
+    }
+    let next = next_layer(enc, class, actions, last, taken)?;
+    if is_same(enc, next, last) {
+        enc.sets_mut().release(next);
+        return Ok(Round::Stable);
+    }
+    Ok(Round::More(next))
+}
+
+/// Whether some layer holds every initial state. If one does, what is taken for each action is
+/// what it takes within the first such layer.
+pub(crate) fn search_back(
+    enc: &mut Enc,
+    class: Class,
+    actions: u32,
+    taken: &mut Vec<SetId>,
+) -> Result<bool, SetErr>
+    requires class { IsFoundByLayers class }
+    requires goal { IsSome enc.old.goal }
+    requires actions { actions ≡ length enc.old.actions }
+    requires few { length taken.old.items ≤ actions }
+    requires work { IsBegun class enc.old taken.old.items }
+    ensures long { length taken.new.items ≡ length taken.old.items }
+    ensures left { (start : Start) (h : ℕ → Function) → At start enc.old (entries taken.old.items 0 h)
+        → AreTakers class start.task 0 h
+        → Left (SearchLeft class start enc.new taken.new.items)
+        (StillTaken start enc.new taken.new.items) (IsTightFor start.room start.enc.sets) result }
+{
+    sets_depend_on_fluents();
+    let goal = enc.goal().unwrap();
+    let mut last = enc.sets_mut().copy(goal)?;
+    loop {
+        let round = one_round(enc, class, actions, last, taken);
+        enc.sets_mut().release(last);
+        match round? {
+            Round::Covered => return Ok(true),
+            Round::Stable => return Ok(false),
+            Round::More(next) => last = next,
+        }
+    }
+}
