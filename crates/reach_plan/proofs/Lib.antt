@@ -9,6 +9,7 @@ pub mod LayersStable
 pub mod ListedSets
 pub mod PrintedWithin
 pub mod StateLists
+pub mod SearchSteps
 pub mod SetLayers
 pub mod WorkingSlots
 pub mod Weak

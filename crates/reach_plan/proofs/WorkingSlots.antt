@@ -451,3 +451,8 @@ left_again answered refused tight outer e p left full = subst (Left answered ref
 pub left_map : {T : Type 0} (P Q : T → Type 0) (A B tight : Type 0) (result : Result T SetErr) → ((x : T) → P x → Q x) → (A → B) → Left P A tight result → Left Q B tight result
 left_map P Q A B tight (Ok x) answers refuses left = answers x left
 left_map P Q A B tight (Err e) answers refuses left = (refuses left.0, left.1)
+
+-- either way
+pub left_either : {T : Type 0} (P : T → Type 0) (A tight X : Type 0) (result : Result T SetErr) → ((x : T) → P x → X) → (A → X) → Left P A tight result → X
+left_either P A tight X (Ok x) answers refuses left = answers x left
+left_either P A tight X (Err e) answers refuses left = refuses left.0

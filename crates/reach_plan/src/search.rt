@@ -1,10 +1,10 @@
 //! The search back from the goal, layer by layer.
 
-ghost use Rattle.std.specs.Prelude.{◌≡◌, ℕ, ◌<◌, ◌≤◌, ◌↔◌, IfOk, IsErrOf, IsSome, IsTrue, OnErr, length, true};
+ghost use Rattle.std.specs.Prelude.{◌≡◌, ℕ, ◌+◌, ◌<◌, ◌≤◌, ◌↔◌, ◌++◌, [], ◌∷◌, IfErr, IfOk, IsErrOf, IsSome, IsTrue, OnErr, length, true};
 ghost use Rattle.dd_nodes.specs.NodeList.{Values};
 ghost use Rattle.dd_nodes.specs.Subfunctions.{Function};
-ghost use Rattle.dd_sets.specs.Calls.{Adds, AddsNone, KeepsSets};
-ghost use Rattle.dd_sets.specs.LiveSets.{IsLive, IsSets, set_of};
+ghost use Rattle.dd_sets.specs.Calls.{Adds, AddsNone, KeepsSets, Releases};
+ghost use Rattle.dd_sets.specs.LiveSets.{IsLive, IsSets, LiveSets, set_of};
 ghost use Rattle.dd_sets.specs.Rooms.{IsTightFor};
 ghost use Rattle.encode_task.specs.Made.{MadeOf};
 ghost use Rattle.preimage.specs.Preimages.{OfSomeTask};
@@ -12,10 +12,12 @@ ghost use Rattle.task_core.specs.declared.tasks.Task.{Task};
 ghost use Rattle.reach_plan.specs.Classes.{IsFoundByLayers};
 ghost use Rattle.reach_plan.specs.LayerSets.{AreTakers, IsRound, class_preimage, grown, taken_by};
 ghost use Rattle.reach_plan.specs.Searches.{IsBegun, IsGrowing, IsSearching, RoundLeft, SearchLeft, StillOne, StillTaken, StillTwo, with_one, with_two};
-ghost use Rattle.reach_plan.specs.Working.{At, Left, Start, entries};
+ghost use Rattle.reach_plan.specs.Working.{AddedSome, AreOwned, At, Left, Start, Working, entries, with_set};
+ghost use Rattle.dd_ops.specs.Operations.{minus_of, or_of};
+ghost use Rattle.dd_sets.specs.Frames.{Slots};
 
 use crate::slots::add_hits;
-use dd_sets::{SetErr, SetId, sets_depend_on_fluents, tight_is_monotone};
+use dd_sets::{SetErr, SetId, Sets, full_is_tight, sets_depend_on_fluents, tight_is_monotone};
 use encode_task::{Enc, made_is_kept};
 use plan_rules::Class;
 use preimage::{preimages_lead_into_their_sets, strong_pre, weak_pre};
@@ -61,18 +63,67 @@ fn holds_initial(enc: &mut Enc, x: SetId) -> Result<bool, SetErr>
     ensures full { IsErrOf result SetErr.Full → IsTightFor 0 enc.old.sets }
     ensures same_slots { enc.new ≡ record enc.old { sets = enc.new.sets } }
 {
+    full_is_tight();
     let initial = enc.initial();
     enc.sets_mut().inside(initial, x)
 }
 
 /// Whether two slots hold the same set.
-fn is_same(enc: &Enc, a: SetId, b: SetId) -> bool
-    requires a_live { IsLive enc.now.sets a.0 }
-    requires b_live { IsLive enc.now.sets b.0 }
-    ensures answer { IsTrue result ↔ (set_of enc.now.sets a.0 ≡ set_of enc.now.sets b.0) }
-    ensures sound { IsSets enc.now.sets }
+fn is_same(sets: &Sets, a: SetId, b: SetId) -> bool
+    requires a_live { IsLive sets.now a.0 }
+    requires b_live { IsLive sets.now b.0 }
+    ensures answer { IsTrue result ↔ (set_of sets.now a.0 ≡ set_of sets.now b.0) }
+    ensures sound { IsSets sets.now }
 {
-    enc.sets().same(a, b)
+    sets.same(a, b)
+}
+
+/// Joins `hits` to a layer, and what is new there to the set at a place, if there is one there. The
+/// slot of `hits` is ended.
+fn add(
+    enc: &mut Enc,
+    hits: SetId,
+    layer: &mut SetId,
+    taken: &mut Vec<SetId>,
+    place: usize,
+) -> Result<(), SetErr>
+    requires { AreOwned enc.old.sets taken.old.items (hits ∷ layer.old ∷ []) }
+    ensures long { length taken.new.items ≡ length taken.old.items }
+    ensures left { (before : LiveSets) (own : Slots) (f g : Function) (h : ℕ → Function) (room : ℕ)
+        → Working before enc.old.sets
+        (entries taken.old.items 0 h ++ (hits.0, f) ∷ (layer.old.0, g) ∷ own)
+        → length taken.old.items + length own + 3 ≤ room
+        → Left (λ done. Working before enc.new.sets
+        (entries taken.new.items 0 (with_set h place (or_of (h place) (minus_of f g)))
+        ++ (layer.new.0, or_of g f) ∷ own))
+        (AddedSome before enc.new.sets taken.new.items ((layer.new.0, g) ∷ own))
+        (IsTightFor room before) result }
+    ensures same_slots { enc.new ≡ record enc.old { sets = enc.new.sets } }
+{
+    add_hits(enc.sets_mut(), hits, layer, taken, place)
+}
+
+/// The same set in a new slot.
+fn copied(enc: &mut Enc, a: SetId) -> Result<SetId, SetErr>
+    requires { IsLive enc.old.sets a.0 }
+    ensures added { IfOk result (λ slot. Adds enc.old.sets enc.new.sets slot.0
+        (set_of enc.old.sets a.0)) }
+    ensures kept { KeepsSets enc.old.sets enc.new.sets }
+    ensures refused { OnErr result (AddsNone enc.old.sets enc.new.sets) }
+    ensures never_full { IfErr result (λ e. e ≡ SetErr.Memory) }
+    ensures same_slots { enc.new ≡ record enc.old { sets = enc.new.sets } }
+    ensures sound { IsSets enc.new.sets }
+{
+    enc.sets_mut().copy(a)
+}
+
+/// Ends a slot.
+fn release(enc: &mut Enc, a: SetId)
+    requires { IsLive enc.old.sets a.0 }
+    ensures released { Releases enc.old.sets enc.new.sets a.0 }
+    ensures same_slots { enc.new ≡ record enc.old { sets = enc.new.sets } }
+{
+    enc.sets_mut().release(a);
 }
 
 /// Joins to a layer what each action leads into it, and to what each action takes that which it
@@ -97,11 +148,10 @@ fn grow(
         (IsTightFor start.room start.enc.sets) result }
 {
     tight_is_monotone();
+    made_is_kept();
     for a in 0..actions {
         let hits = hits_of(enc, class, ActionId(a), last)?;
-        let added = add_hits(enc.sets_mut(), hits, next, taken, a as usize);
-        enc.sets_mut().release(hits);
-        added?;
+        add(enc, hits, next, taken, a as usize)?;
     }
     Ok(())
 }
@@ -125,11 +175,11 @@ fn next_layer(
         (StillOne start enc.new taken.new.items last f)
         (IsTightFor start.room start.enc.sets) result }
 {
-    let mut next = enc.sets_mut().copy(last)?;
+    let mut next = copied(enc, last)?;
     match grow(enc, class, actions, last, &mut next, taken) {
         Ok(()) => Ok(next),
         Err(refusal) => {
-            enc.sets_mut().release(next);
+            release(enc, next);
             Err(refusal)
         }
     }
@@ -155,14 +205,15 @@ fn one_round(
         (IsTightFor start.room start.enc.sets) result }
 {
     tight_is_monotone();
+    made_is_kept();
     sets_depend_on_fluents();
     preimages_lead_into_their_sets();
     if holds_initial(enc, last)? {
         return Ok(Round::Covered);
     }
     let next = next_layer(enc, class, actions, last, taken)?;
-    if is_same(enc, next, last) {
-        enc.sets_mut().release(next);
+    if is_same(enc.sets(), next, last) {
+        release(enc, next);
         return Ok(Round::Stable);
     }
     Ok(Round::More(next))
@@ -187,12 +238,13 @@ pub(crate) fn search_back(
         → Left (SearchLeft class start enc.new taken.new.items)
         (StillTaken start enc.new taken.new.items) (IsTightFor start.room start.enc.sets) result }
 {
+    made_is_kept();
     sets_depend_on_fluents();
     let goal = enc.goal().unwrap();
-    let mut last = enc.sets_mut().copy(goal)?;
+    let mut last = copied(enc, goal)?;
     loop {
         let round = one_round(enc, class, actions, last, taken);
-        enc.sets_mut().release(last);
+        release(enc, last);
         match round? {
             Round::Covered => return Ok(true),
             Round::Stable => return Ok(false),

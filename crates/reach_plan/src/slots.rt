@@ -66,7 +66,7 @@ pub(crate) fn take_new(
 }
 
 /// Joins `hits` to a layer, and what is new there to the set at a place, if there is one there.
-pub(crate) fn add_hits(
+fn add_both(
     sets: &mut Sets,
     hits: SetId,
     layer: &mut SetId,
@@ -86,6 +86,31 @@ pub(crate) fn add_hits(
 {
     take_new(sets, hits, *layer, taken, place)?;
     join_to(sets, layer, hits)
+}
+
+/// Joins `hits` to a layer, and what is new there to the set at a place, if there is one there. The
+/// slot of `hits` is ended.
+pub(crate) fn add_hits(
+    sets: &mut Sets,
+    hits: SetId,
+    layer: &mut SetId,
+    taken: &mut Vec<SetId>,
+    place: usize,
+) -> Result<(), SetErr>
+    requires { AreOwned sets.old taken.old.items (hits ∷ layer.old ∷ []) }
+    ensures long { length taken.new.items ≡ length taken.old.items }
+    ensures left { (before : LiveSets) (own : Slots) (f g : Function) (h : ℕ → Function) (room : ℕ)
+        → Working before sets.old (entries taken.old.items 0 h ++ (hits.0, f) ∷ (layer.old.0, g) ∷ own)
+        → length taken.old.items + length own + 3 ≤ room
+        → Left (λ done. Working before sets.new
+        (entries taken.new.items 0 (with_set h place (or_of (h place) (minus_of f g)))
+        ++ (layer.new.0, or_of g f) ∷ own))
+        (AddedSome before sets.new taken.new.items ((layer.new.0, g) ∷ own))
+        (IsTightFor room before) result }
+{
+    let added = add_both(sets, hits, layer, taken, place);
+    sets.release(hits);
+    added
 }
 
 /// One more set, with no state in it.
