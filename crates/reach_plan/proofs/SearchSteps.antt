@@ -1,27 +1,36 @@
 -- One step of the search: what it leaves in the slots of the task and its own.
-use Rattle.std.proofs.Common.{◌≡◌, ◌≢◌, ℕ, zero, suc, ◌+◌, ◌<◌, ◌≤◌, ◌==◌, Bool, true, false, cond, ◌||◌, ◌&&◌, not, List, [], ◌∷◌, ◌++◌, length, nat_lt, Result, Ok, Err, refl, sym, ap, subst, ◌∙◌, ⊎_elim, arith}
+use Rattle.std.proofs.Common.{IsTrue, ◌↔◌, Option, Some, None, append-nil, ◌≡◌, ◌≢◌, ℕ, zero, suc, ◌+◌, ◌<◌, ◌≤◌, ◌==◌, Bool, true, false, cond, ◌||◌, ◌&&◌, not, List, [], ◌∷◌, ◌++◌, length, nat_lt, Result, Ok, Err, refl, sym, ap, subst, ◌∙◌, ⊎_elim, arith}
 use Rattle.std.specs.List.{list_any, range_with_len}
 use Rattle.std.proofs.Math.Path.{fun_ext}
 use Rattle.std.proofs.lemmas.Bool.{cases_eq, cases_lt, cond-false, cond-true, eq-eqb, lt-ltb, ltb-true, ne_eqb, false_from_ne_true}
 use Rattle.std.proofs.lemmas.List.Folds.{list_any-append}
 use Rattle.dd_nodes.specs.Subfunctions.{DependsOnly, Function}
 use Rattle.dd_ops.specs.Operations.{minus_of, or_of}
-use Rattle.dd_sets.specs.Calls.{Adds, KeepsSets}
-use Rattle.dd_sets.specs.LiveSets.{IsLive, set_of}
-use Rattle.task_core.specs.Tasks.{action_count}
+use Rattle.dd_nodes.specs.NodeList.{Values}
+use Rattle.dd_sets.specs.Calls.{Adds, AddsNone, KeepsSets, Releases}
+use Rattle.dd_sets.specs.Laws.{SetsDependOnFluents}
+use Rattle.dd_sets.specs.LiveSets.{IsLive, IsSets, set_of}
+use Rattle.task_core.specs.Tasks.{action_count, fluent_count, system_of}
 use Rattle.dd_sets.specs.declared.errors.SetErr.{SetErr}
 use Rattle.dd_sets.specs.declared.slots.SetId.{SetId}
 use Rattle.encode_task.specs.Laws.{KeptSetsStayMade}
-use Rattle.encode_task.specs.Made.{MadeOf}
+use Rattle.encode_task.specs.Made.{Holds, HoldsGoal, MadeOf}
 use Rattle.encode_task.specs.Slots.{Encoded}
 use Rattle.dd_sets.specs.Frames.{Slots}
 use Rattle.task_core.specs.declared.classes.Class.{Class}
 use Rattle.task_core.specs.declared.tasks.Task.{Task}
-use Rattle.reach_plan.specs.LayerSets.{class_preimage, grown, taken_by}
-use Rattle.reach_plan.specs.Searches.{with_one, with_two}
+use Rattle.task_core.specs.Conditions.{holds}
+use Rattle.task_core.specs.declared.conditions.Cond.{Cond}
+use Rattle.preimage.specs.Laws.{StrongLeadsToAll, WeakLeadsToSome}
+use Rattle.reach_plan.specs.declared.search.Round.{Round}
+use Rattle.reach_plan.specs.declared.search.Round.TheVariants.{Covered, Stable, More}
+use Rattle.reach_plan.specs.Layers.{covers}
+use Rattle.reach_plan.specs.LayerSets.{AreTakers, IsLayerSet, IsRound, class_preimage, grown, taken_by}
+use Rattle.reach_plan.specs.Searches.{RoundLeft, with_one, with_two}
 use Rattle.reach_plan.specs.Working.{At, Left, Start, Working, entries, with_set}
 use Rattle.reach_plan.proofs.LayerSteps.{range-more}
-use Rattle.reach_plan.proofs.WorkingSlots.{length_behind, second_set, work_back, work_more}
+use Rattle.reach_plan.proofs.SetLayers.{covers_is, goal_set, next_layer_set, next_takers}
+use Rattle.reach_plan.proofs.WorkingSlots.{behind_live, behind_set, length_behind, second_front, second_live, second_set, work_back, work_front, work_less, work_more, work_same}
 
 pub same_chain : (a b c : Encoded) → b ≡ record a { sets = b.sets } → c ≡ record b { sets = c.sets } → c ≡ record a { sets = c.sets }
 same_chain a b c first second = second ∙ ap (λ (e : Encoded). record e { sets = c.sets }) first
@@ -124,3 +133,96 @@ pub at_first : (start : Start) (now : Encoded) (taken : List SetId) (h : ℕ →
 at_first start now taken h layer last f class at =
     subst (λ (g : Function). At start now (with_two taken (taken_by class start.task f h 0) layer g last f)) (grown_none class start.task f)
     (subst (λ (t : ℕ → Function). At start now (with_two taken t layer f last f)) (taken_none class start.task f h) at)
+
+-- a copy of the layer joins the slots, and a layer's slot leaves them
+pub with_copy : (start : Start) (now next : Encoded) (taken : List SetId) (h : ℕ → Function) (last : SetId) (f : Function) (copy : SetId) → At start now (with_one taken h last f) → next ≡ record now { sets = next.sets }
+    → KeepsSets now.sets next.sets → Adds now.sets next.sets copy.0 (set_of now.sets last.0) → At start next (with_two taken h copy f last f)
+with_copy start now next taken h last f copy at same kept adds =
+    let xs = entries taken 0 h in
+    let is : set_of now.sets last.0 ≡ f = behind_set start.enc.sets now.sets xs last.0 f [] at.working in
+    at_next start now next (with_one taken h last f) (with_two taken h copy f last f) at same
+    (work_back start.enc.sets next.sets xs copy.0 f ((last.0, f) ∷ [])
+    (work_more start.enc.sets now.sets next.sets (with_one taken h last f) copy.0 f at.working kept (subst (λ (set : Function). Adds now.sets next.sets copy.0 set) is adds)))
+
+pub end_next : (start : Start) (now next : Encoded) (taken : List SetId) (h : ℕ → Function) (layer : SetId) (g : Function) (last : SetId) (f : Function) → At start now (with_two taken h layer g last f) → next ≡ record now { sets = next.sets }
+    → Releases now.sets next.sets layer.0 → At start next (with_one taken h last f)
+end_next start now next taken h layer g last f at same ends =
+    at_next start now next (with_two taken h layer g last f) (with_one taken h last f) at same
+    (work_less start.enc.sets now.sets next.sets layer.0 g (with_one taken h last f) (work_front start.enc.sets now.sets (entries taken 0 h) layer.0 g ((last.0, f) ∷ []) at.working) ends)
+
+pub end_last : (start : Start) (now next : Encoded) (taken : List SetId) (h : ℕ → Function) (last : SetId) (f : Function) → At start now (with_one taken h last f) → next ≡ record now { sets = next.sets }
+    → Releases now.sets next.sets last.0 → At start next (entries taken 0 h)
+end_last start now next taken h last f at same ends =
+    at_next start now next (with_one taken h last f) (entries taken 0 h) at same
+    (subst (λ (own : Slots). Working start.enc.sets next.sets own) (append-nil (entries taken 0 h))
+    (work_less start.enc.sets now.sets next.sets last.0 f (entries taken 0 h ++ []) (work_front start.enc.sets now.sets (entries taken 0 h) last.0 f [] at.working) ends))
+
+pub end_second : (start : Start) (now next : Encoded) (taken : List SetId) (h : ℕ → Function) (layer : SetId) (g : Function) (last : SetId) (f : Function) → At start now (with_two taken h layer g last f) → next ≡ record now { sets = next.sets }
+    → Releases now.sets next.sets last.0 → At start next (with_one taken h layer g)
+end_second start now next taken h layer g last f at same ends =
+    at_next start now next (with_two taken h layer g last f) (with_one taken h layer g) at same
+    (work_less start.enc.sets now.sets next.sets last.0 f (with_one taken h layer g) (second_front start.enc.sets now.sets (entries taken 0 h) (layer.0, g) last.0 f [] at.working) ends)
+
+-- the slots are live
+pub one_live : (start : Start) (now : Encoded) (taken : List SetId) (h : ℕ → Function) (last : SetId) (f : Function) → At start now (with_one taken h last f) → IsLive now.sets last.0
+one_live start now taken h last f at = behind_live start.enc.sets now.sets (entries taken 0 h) last.0 f [] at.working
+
+pub one_holds : (start : Start) (now : Encoded) (taken : List SetId) (h : ℕ → Function) (last : SetId) (f : Function) → At start now (with_one taken h last f) → set_of now.sets last.0 ≡ f
+one_holds start now taken h last f at = behind_set start.enc.sets now.sets (entries taken 0 h) last.0 f [] at.working
+
+pub next_live : (start : Start) (now : Encoded) (taken : List SetId) (h : ℕ → Function) (layer : SetId) (g : Function) (last : SetId) (f : Function) → At start now (with_two taken h layer g last f) → IsLive now.sets layer.0
+next_live start now taken h layer g last f at = behind_live start.enc.sets now.sets (entries taken 0 h) layer.0 g ((last.0, f) ∷ []) at.working
+
+pub next_holds : (start : Start) (now : Encoded) (taken : List SetId) (h : ℕ → Function) (layer : SetId) (g : Function) (last : SetId) (f : Function) → At start now (with_two taken h layer g last f) → set_of now.sets layer.0 ≡ g
+next_holds start now taken h layer g last f at = behind_set start.enc.sets now.sets (entries taken 0 h) layer.0 g ((last.0, f) ∷ []) at.working
+
+pub last_live : (start : Start) (now : Encoded) (taken : List SetId) (h : ℕ → Function) (layer : SetId) (g : Function) (last : SetId) (f : Function) → At start now (with_two taken h layer g last f) → IsLive now.sets last.0
+last_live start now taken h layer g last f at = second_live start.enc.sets now.sets (entries taken 0 h) (layer.0, g) last.0 f [] at.working
+
+pub last_holds : (start : Start) (now : Encoded) (taken : List SetId) (h : ℕ → Function) (layer : SetId) (g : Function) (last : SetId) (f : Function) → At start now (with_two taken h layer g last f) → set_of now.sets last.0 ≡ f
+last_holds start now taken h layer g last f at = second_set start.enc.sets now.sets (entries taken 0 h) (layer.0, g) last.0 f [] at.working
+
+-- a call that adds no slot
+pub at_same : (start : Start) (now next : Encoded) (own : Slots) → At start now own → next ≡ record now { sets = next.sets } → KeepsSets now.sets next.sets → AddsNone now.sets next.sets → At start next own
+at_same start now next own at same kept none = at_next start now next own own at same (work_same start.enc.sets now.sets next.sets own at.working kept none)
+
+-- a set that depends on the fluents alone, by the table that it stands in
+pub depends_by : SetsDependOnFluents → KeptSetsStayMade → (start : Start) (now : Encoded) (own : Slots) (slot : ℕ) (f : Function) → At start now own → IsSets now.sets → set_of now.sets slot ≡ f → DependsOnly 0 (fluent_count start.task) f
+depends_by depends law start now own slot f at sound is =
+    let made = at_made law start now own at in
+    let vars : now.sets.vars ≡ fluent_count start.task = made.ready.vars ∙ made.fluents in
+    subst (λ (n : ℕ). DependsOnly 0 n f) vars (subst (λ (g : Function). DependsOnly 0 now.sets.vars g) is (depends now.sets sound slot))
+
+-- whether the layer holds every initial state
+pub covered_is : KeptSetsStayMade → (start : Start) (now : Encoded) (taken : List SetId) (h : ℕ → Function) (last : SetId) (f : Function) (class : Class) (k : ℕ) (inside : Bool) → At start now (with_one taken h last f) → IsLayerSet class start.task k f
+    → IsTrue inside ↔ ((values : Values) → set_of now.sets now.initial.0 values ≡ true → set_of now.sets last.0 values ≡ true) → inside ≡ covers class (system_of start.task) k
+covered_is law start now taken h last f class k inside at is iff =
+    covers_is class start.task k f is inside
+    (subst (λ (g : Function). IsTrue inside ↔ ((values : Values) → g values ≡ true → f values ≡ true)) (at_made law start now (with_one taken h last f) at).initial.holds
+    (subst (λ (g : Function). IsTrue inside ↔ ((values : Values) → set_of now.sets now.initial.0 values ≡ true → g values ≡ true)) (one_holds start now taken h last f at) iff))
+
+-- one round more
+pub next_round : WeakLeadsToSome → StrongLeadsToAll → (class : Class) (task : Task) (k : ℕ) (f : Function) (h : ℕ → Function) (actions : ℕ) → IsRound class task k f h → covers class (system_of task) k ≡ false → actions ≡ action_count task
+    → DependsOnly 0 (fluent_count task) (grown class task f actions) → IsRound class task (suc k) (grown class task f actions) (taken_by class task f h actions)
+next_round weak strong class task k f h actions round short all depends = record {
+  is_layer = next_layer_set weak strong task k f class round.is_layer (grown class task f actions) (ap (grown class task f) all) depends;
+  are_takers = subst (λ (n : ℕ). AreTakers class task (suc k) (taken_by class task f h n)) (sym all) (next_takers weak strong task k f class round.is_layer h round.are_takers);
+  before = λ j low. ⊎_elim (λ (l : j < k). round.before j l) (λ (l : k ≤ j). let e : k ≡ j = omega arith in subst (λ (n : ℕ). covers class (system_of task) n ≡ false) e short) (cases_lt j k);
+}
+
+-- the goal, where the search begins
+pub goal_slot : (task : Task) (enc : Encoded) (slot : SetId) → MadeOf task enc → enc.goal ≡ Some slot → (goal : Cond) × (task.goal ≡ Some goal) × Holds enc.sets slot (holds goal)
+goal_slot task enc slot made is = at task.goal refl (subst (λ (o : Option SetId). HoldsGoal enc.sets o task.goal) is made.goal)
+  where
+    at : (goal : Option Cond) → task.goal ≡ goal → HoldsGoal enc.sets (Some slot) goal → (goal : Cond) × (task.goal ≡ Some goal) × Holds enc.sets slot (holds goal)
+    at None e holds = absurd holds
+    at (Some goal) e holds = (goal, e, holds)
+
+pub first_round : (class : Class) (task : Task) (goal : Cond) (h : ℕ → Function) → task.goal ≡ Some goal → DependsOnly 0 (fluent_count task) (holds goal) → AreTakers class task 0 h → IsRound class task 0 (holds goal) h
+first_round class task goal h is depends takers = record { is_layer = goal_set class task goal is depends; are_takers = takers; before = λ j low. absurd (omega arith) }
+
+-- after a round the last slot is still there
+pub round_live : (class : Class) (start : Start) (enc : Encoded) (taken : List SetId) (last : SetId) (f : Function) (k : ℕ) (round : Round) → RoundLeft class start enc taken last f k round → IsLive enc.sets last.0
+round_live class start enc taken last f k Covered left = one_live start enc taken left.h last f left.at
+round_live class start enc taken last f k Stable left = one_live start enc taken left.h last f left.at
+round_live class start enc taken last f k (More next) left = last_live start enc taken left.h next left.g last f left.at
