@@ -26,10 +26,14 @@ use Rattle.reach_plan.specs.declared.search.Round.{Round}
 use Rattle.reach_plan.specs.declared.search.Round.TheVariants.{Covered, Stable, More}
 use Rattle.reach_plan.specs.Layers.{covers}
 use Rattle.reach_plan.specs.LayerSets.{AreTakers, IsLayerSet, IsRound, class_preimage, grown, taken_by}
-use Rattle.reach_plan.specs.Searches.{RoundLeft, with_one, with_two}
+use Rattle.reach_plan.specs.Searches.{FoundLast, FoundNone, IsCovered, IsMore, IsStill, RoundLeft, with_one, with_two}
+use Rattle.reach_plan.specs.Classes.{IsFoundByLayers}
+use Rattle.task_core.specs.Vectors.{all_vectors}
+use Rattle.task_core.proofs.TaskSystem.{is_system}
+use Rattle.reach_plan.proofs.LeastBounds.{none_once_stable}
 use Rattle.reach_plan.specs.Working.{At, Left, Start, Working, entries, with_set}
 use Rattle.reach_plan.proofs.LayerSteps.{range-more}
-use Rattle.reach_plan.proofs.SetLayers.{covers_is, goal_set, next_layer_set, next_takers}
+use Rattle.reach_plan.proofs.SetLayers.{covers_is, fewer_next, goal_set, missed, next_layer_set, next_takers}
 use Rattle.reach_plan.proofs.WorkingSlots.{behind_live, behind_set, length_behind, second_front, second_live, second_set, work_back, work_front, work_less, work_more, work_same}
 
 pub same_chain : (a b c : Encoded) → b ≡ record a { sets = b.sets } → c ≡ record b { sets = c.sets } → c ≡ record a { sets = c.sets }
@@ -226,3 +230,69 @@ pub round_live : (class : Class) (start : Start) (enc : Encoded) (taken : List S
 round_live class start enc taken last f k Covered left = one_live start enc taken left.h last f left.at
 round_live class start enc taken last f k Stable left = one_live start enc taken left.h last f left.at
 round_live class start enc taken last f k (More next) left = last_live start enc taken left.h next left.g last f left.at
+
+-- the last slot holds layer k, and no layer before it holds every initial state
+pub record Going (class : Class) (start : Start) (enc : Encoded) (taken : List SetId) (last : SetId) : Type 0 where
+  pub k : ℕ
+  pub f : Function
+  pub h : ℕ → Function
+  pub at : At start enc (with_one taken h last f)
+  pub round : IsRound class start.task k f h
+
+pub going_first : SetsDependOnFluents → KeptSetsStayMade → (class : Class) (start : Start) (now next : Encoded) (taken : List SetId) (h : ℕ → Function) (slot last : SetId) → At start now (entries taken 0 h) → AreTakers class start.task 0 h → now.goal ≡ Some slot
+    → next ≡ record now { sets = next.sets } → KeepsSets now.sets next.sets → Adds now.sets next.sets last.0 (set_of now.sets slot.0) → IsSets next.sets → Going class start next taken last
+going_first depends law class start now next taken h slot last at takers is same kept adds sound =
+    let goal = goal_slot start.task now slot (at_made law start now (entries taken 0 h) at) is in
+    let f = holds goal.0 in
+    let begun : At start next (with_one taken h last f) = at_next start now next (entries taken 0 h) (with_one taken h last f) at same
+    (work_back start.enc.sets next.sets (entries taken 0 h) last.0 f []
+    (subst (λ (own : Slots). Working start.enc.sets next.sets ((last.0, f) ∷ own)) (sym (append-nil (entries taken 0 h)))
+    (work_more start.enc.sets now.sets next.sets (entries taken 0 h) last.0 f at.working kept (subst (λ (set : Function). Adds now.sets next.sets last.0 set) goal.2.holds adds)))) in
+    record {
+      k = 0;
+      f = f;
+      h = h;
+      at = begun;
+      round = first_round class start.task goal.0 h goal.1 (depends_by depends law start next (with_one taken h last f) last.0 f begun sound (one_holds start next taken h last f begun)) takers;
+    }
+
+-- the layer after it misses fewer states
+pub going_fewer : KeptSetsStayMade → (class : Class) (start : Start) (now middle next : Encoded) (taken later : List SetId) (last layer : SetId) (going : Going class start now taken last) (more : IsMore class start middle later layer last going.f going.k)
+    → next ≡ record middle { sets = next.sets } → Releases middle.sets next.sets last.0 → missed (set_of next.sets layer.0) (all_vectors next.fluents) < missed (set_of now.sets last.0) (all_vectors now.fluents)
+going_fewer law class start now middle next taken later last layer going more same ends =
+    let at = end_second start middle next later more.h layer more.g last going.f more.at same ends in
+    let n = fluent_count start.task in
+    let less : missed more.g (all_vectors n) < missed going.f (all_vectors n) = fewer_next class start.task going.k going.f more.g going.round.is_layer more.round.is_layer more.differs in
+    let now_is : missed (set_of now.sets last.0) (all_vectors now.fluents) ≡ missed going.f (all_vectors n) =
+    ap (λ (g : Function). missed g (all_vectors now.fluents)) (one_holds start now taken going.h last going.f going.at) ∙ ap (λ (m : ℕ). missed going.f (all_vectors m)) ((at_made law start now (with_one taken going.h last going.f) going.at).fluents) in
+    let next_is : missed (set_of next.sets layer.0) (all_vectors next.fluents) ≡ missed more.g (all_vectors n) =
+    ap (λ (g : Function). missed g (all_vectors next.fluents)) (one_holds start next later more.h layer more.g at) ∙ ap (λ (m : ℕ). missed more.g (all_vectors m)) ((at_made law start next (with_one later more.h layer more.g) at).fluents) in
+    omega arith
+
+pub going_on : (class : Class) (start : Start) (middle next : Encoded) (later : List SetId) (last layer : SetId) (f : Function) (k : ℕ) → IsMore class start middle later layer last f k → next ≡ record middle { sets = next.sets } → Releases middle.sets next.sets last.0
+    → Going class start next later layer
+going_on class start middle next later last layer f k more same ends = record {
+  k = suc k;
+  f = more.g;
+  h = more.h;
+  at = end_second start middle next later more.h layer more.g last f more.at same ends;
+  round = more.round;
+}
+
+pub found_last : (class : Class) (start : Start) (now middle next : Encoded) (taken later : List SetId) (last : SetId) (going : Going class start now taken last) → IsCovered class start middle later last going.f going.k → next ≡ record middle { sets = next.sets }
+    → Releases middle.sets next.sets last.0 → FoundLast class start next later
+found_last class start now middle next taken later last going covered same ends = record {
+  h = covered.h;
+  at = end_last start middle next later covered.h last going.f covered.at same ends;
+  K = going.k;
+  last = record { covered = covered.covered; first = going.round.before };
+  takers = covered.takers;
+}
+
+pub found_none : (class : Class) → IsFoundByLayers class → (start : Start) (middle next : Encoded) (later : List SetId) (last : SetId) (f : Function) (k : ℕ) → IsStill class start middle later last f k → next ≡ record middle { sets = next.sets }
+    → Releases middle.sets next.sets last.0 → FoundNone class start next later
+found_none class by_layers start middle next later last f k still same ends = record {
+  h = still.h;
+  at = end_last start middle next later still.h last f still.at same ends;
+  none = none_once_stable class by_layers (system_of start.task) k (is_system start.task) still.stable still.short;
+}

@@ -1,6 +1,6 @@
 //! The search back from the goal, layer by layer.
 
-ghost use Rattle.std.specs.Prelude.{◌≡◌, ℕ, ◌+◌, ◌<◌, ◌≤◌, ◌↔◌, ◌++◌, [], ◌∷◌, IfErr, IfOk, IsErrOf, IsSome, IsTrue, OnErr, length, true};
+ghost use Rattle.std.specs.Prelude.{◌≡◌, ℕ, ◌+◌, ◌<◌, ◌≤◌, ◌↔◌, ◌++◌, [], ◌∷◌, IfErr, IfOk, IsErrOf, IsSome, IsTrue, OnErr, OnOk, length, true};
 ghost use Rattle.dd_nodes.specs.NodeList.{Values};
 ghost use Rattle.dd_nodes.specs.Subfunctions.{Function};
 ghost use Rattle.dd_sets.specs.Calls.{Adds, AddsNone, KeepsSets, Releases};
@@ -72,8 +72,7 @@ fn holds_initial(enc: &mut Enc, x: SetId) -> Result<bool, SetErr>
 fn is_same(sets: &Sets, a: SetId, b: SetId) -> bool
     requires a_live { IsLive sets.now a.0 }
     requires b_live { IsLive sets.now b.0 }
-    ensures answer { IsTrue result ↔ (set_of sets.now a.0 ≡ set_of sets.now b.0) }
-    ensures sound { IsSets sets.now }
+    ensures { IsTrue result ↔ (set_of sets.now a.0 ≡ set_of sets.now b.0) }
 {
     sets.same(a, b)
 }
@@ -99,6 +98,7 @@ fn add(
         (AddedSome before enc.new.sets taken.new.items ((layer.new.0, g) ∷ own))
         (IsTightFor room before) result }
     ensures same_slots { enc.new ≡ record enc.old { sets = enc.new.sets } }
+    ensures sound { IsSets enc.new.sets }
 {
     add_hits(enc.sets_mut(), hits, layer, taken, place)
 }
@@ -139,7 +139,9 @@ fn grow(
     requires actions { actions ≡ length enc.old.actions }
     requires few { length taken.old.items ≤ actions }
     requires work { IsGrowing enc.old taken.old.items next.old last }
+    requires sound { IsSets enc.old.sets }
     ensures long { length taken.new.items ≡ length taken.old.items }
+    ensures sound { OnOk result (IsSets enc.new.sets) }
     ensures left { (start : Start) (f : Function) (h : ℕ → Function)
         → At start enc.old (with_two taken.old.items h next.old f last f)
         → Left (λ done. At start enc.new (with_two taken.new.items
@@ -168,6 +170,7 @@ fn next_layer(
     requires few { length taken.old.items ≤ actions }
     requires work { IsSearching enc.old taken.old.items last }
     ensures long { length taken.new.items ≡ length taken.old.items }
+    ensures sound { OnOk result (IsSets enc.new.sets) }
     ensures left { (start : Start) (f : Function) (h : ℕ → Function)
         → At start enc.old (with_one taken.old.items h last f)
         → Left (λ next. At start enc.new (with_two taken.new.items
@@ -208,7 +211,8 @@ fn one_round(
     made_is_kept();
     sets_depend_on_fluents();
     preimages_lead_into_their_sets();
-    if holds_initial(enc, last)? {
+    let covered = holds_initial(enc, last)?;
+    if covered {
         return Ok(Round::Covered);
     }
     let next = next_layer(enc, class, actions, last, taken)?;

@@ -4,7 +4,7 @@ ghost use Rattle.std.specs.Prelude.{◌≡◌, ℕ, ◌+◌, ◌<◌, ◌≤◌,
 ghost use Rattle.dd_nodes.specs.Subfunctions.{Function};
 ghost use Rattle.dd_ops.specs.Operations.{minus_of, or_of};
 ghost use Rattle.dd_sets.specs.Frames.{Slots};
-ghost use Rattle.dd_sets.specs.LiveSets.{LiveSets, IsLive, nothing, set_of};
+ghost use Rattle.dd_sets.specs.LiveSets.{LiveSets, IsLive, IsSets, nothing, set_of};
 ghost use Rattle.dd_sets.specs.Rooms.{IsTightFor};
 ghost use Rattle.reach_plan.specs.Working.{AddedSome, AreOwned, Left, Working, entries, with_set};
 
@@ -99,6 +99,7 @@ pub(crate) fn add_hits(
 ) -> Result<(), SetErr>
     requires { AreOwned sets.old taken.old.items (hits ∷ layer.old ∷ []) }
     ensures long { length taken.new.items ≡ length taken.old.items }
+    ensures sound { IsSets sets.new }
     ensures left { (before : LiveSets) (own : Slots) (f g : Function) (h : ℕ → Function) (room : ℕ)
         → Working before sets.old (entries taken.old.items 0 h ++ (hits.0, f) ∷ (layer.old.0, g) ∷ own)
         → length taken.old.items + length own + 3 ≤ room

@@ -13,6 +13,7 @@ use Rattle.reach_plan.proofs.search.grow.Goals as goal
 pub loop-a-init : goal.loop-a-init
 loop-a-init c = record {
   long = refl;
+  sound = c.requires.sound;
   held = λ start f h at. at_first start c.args.enc.now c.args.taken.now.items h c.args.next.now c.args.last f c.args.class at;
 }
 
@@ -80,6 +81,7 @@ returns-in_err-add-clause-left c start f h begun =
 pub loop-a-preserved : goal.loop-a-preserved
 loop-a-preserved c = record {
   long = c.add.ensures.long ∙ c.loop-a.invariant.long;
+  sound = c.add.ensures.sound;
   held = λ start f h begun.
       let at = c.loop-a.invariant.held start f h begun in
       let t = taken_by c.args.class start.task f h c.loop-a.a in
