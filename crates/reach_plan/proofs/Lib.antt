@@ -7,6 +7,7 @@ pub mod Layers
 pub mod LayersChosen
 pub mod LayersStable
 pub mod ListedSets
+pub mod PlanSteps
 pub mod PrintedWithin
 pub mod StateLists
 pub mod SearchSteps

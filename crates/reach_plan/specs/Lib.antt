@@ -7,4 +7,5 @@ pub mod Listed
 pub mod LayerLists
 pub mod Found
 pub mod Searches
+pub mod SetRules
 pub mod Working

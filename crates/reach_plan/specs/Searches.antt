@@ -1,11 +1,15 @@
 -- Private: how far a search back from the goal has come, and with which slots.
-use Rattle.std.specs.Prelude.{◌≡◌, ℕ, suc, Bool, true, false, List, [], ◌∷◌, ◌++◌}
+use Rattle.std.specs.Prelude.{◌≡◌, ℕ, suc, Bool, true, false, List, [], ◌∷◌, ◌++◌, map, Option, Some, None, Vec}
+use Rattle.std.specs.declared.alloc.Global.{Global}
 use Rattle.dd_nodes.specs.Subfunctions.{Function}
 use Rattle.dd_sets.specs.declared.slots.SetId.{SetId}
 use Rattle.encode_task.specs.Slots.{Encoded}
 use Rattle.task_core.specs.Solutions.{HasNoSolution}
 use Rattle.task_core.specs.Tasks.{system_of}
 use Rattle.task_core.specs.declared.classes.Class.{Class}
+use Rattle.plan_rules.specs.Rules.{rule_of}
+use Rattle.plan_rules.specs.declared.rules.Rule.{Rule}
+use Rattle.reach_plan.specs.Printed.{printed_rules}
 use Rattle.reach_plan.specs.Classes.{IsStable}
 use Rattle.reach_plan.specs.Layers.{IsLastLayer, covers}
 use Rattle.reach_plan.specs.LayerSets.{AreTakers, IsRound, grown, taken_by}
@@ -104,3 +108,32 @@ pub record FoundNone (class : Class) (start : Start) (enc : Encoded) (taken : Li
 abbrev pub SearchLeft : Class → Start → Encoded → List SetId → Bool → Type 0
 SearchLeft class start enc taken true = FoundLast class start enc taken
 SearchLeft class start enc taken false = FoundNone class start enc taken
+
+-- work on a task begins, with no slot of its own
+pub record IsReady (enc : Encoded) : Type 0 where
+  pub start : Start
+  pub at : At start enc []
+
+-- the rules are those of the printed plan of the class, and the slots are there
+pub record HasPlan (class : Class) (start : Start) (enc : Encoded) (taken : List SetId)
+    (rules : Vec Rule Global) : Type 0 where
+  pub still : StillTaken start enc taken
+  pub K : ℕ
+  pub last : IsLastLayer class (system_of start.task) K
+  pub printed : map rule_of rules.items ≡ printed_rules class (system_of start.task) K
+
+-- the rules of the printed plan of the class, or none where there is no solution
+pub record IsPlan (class : Class) (start : Start) (enc : Encoded) (rules : Vec Rule Global)
+    : Type 0 where
+  pub at : At start enc []
+  pub K : ℕ
+  pub last : IsLastLayer class (system_of start.task) K
+  pub printed : map rule_of rules.items ≡ printed_rules class (system_of start.task) K
+
+pub record IsNoPlan (class : Class) (start : Start) (enc : Encoded) : Type 0 where
+  pub at : At start enc []
+  pub none : HasNoSolution class (system_of start.task)
+
+abbrev pub PlanLeft : Class → Start → Encoded → Option (Vec Rule Global) → Type 0
+PlanLeft class start enc None = IsNoPlan class start enc
+PlanLeft class start enc (Some rules) = IsPlan class start enc rules

@@ -12,6 +12,8 @@ mod laws;
 mod planner;
 mod preimages;
 mod search;
+mod set_planner;
+mod set_rules;
 mod slots;
 mod states;
 #[cfg(test)]
@@ -22,3 +24,4 @@ pub use laws::{
     printed_plan_is_shortest, printed_plan_solves, strong_plans_end,
 };
 pub use planner::{Found, plan_weak};
+pub use set_planner::{plan_strong_sets, plan_weak_sets};

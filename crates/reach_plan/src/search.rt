@@ -4,7 +4,7 @@ ghost use Rattle.std.specs.Prelude.{◌≡◌, ℕ, ◌+◌, ◌<◌, ◌≤◌,
 ghost use Rattle.dd_nodes.specs.NodeList.{Values};
 ghost use Rattle.dd_nodes.specs.Subfunctions.{Function};
 ghost use Rattle.dd_sets.specs.Calls.{Adds, AddsNone, KeepsSets, Releases};
-ghost use Rattle.dd_sets.specs.LiveSets.{IsLive, IsSets, LiveSets, set_of};
+ghost use Rattle.dd_sets.specs.LiveSets.{IsLive, IsSets, LiveSets, nothing, set_of};
 ghost use Rattle.dd_sets.specs.Rooms.{IsTightFor};
 ghost use Rattle.encode_task.specs.Made.{MadeOf};
 ghost use Rattle.preimage.specs.Preimages.{OfSomeTask};
@@ -16,7 +16,7 @@ ghost use Rattle.reach_plan.specs.Working.{AddedSome, AreOwned, At, Left, Start,
 ghost use Rattle.dd_ops.specs.Operations.{minus_of, or_of};
 ghost use Rattle.dd_sets.specs.Frames.{Slots};
 
-use crate::slots::add_hits;
+use crate::slots::{add_hits, push_none, release_all};
 use dd_sets::{SetErr, SetId, Sets, full_is_tight, sets_depend_on_fluents, tight_is_monotone};
 use encode_task::{Enc, made_is_kept};
 use plan_rules::Class;
@@ -255,4 +255,24 @@ pub(crate) fn search_back(
             Round::More(next) => last = next,
         }
     }
+}
+
+/// One more set, with no state in it.
+pub(crate) fn push_one(enc: &mut Enc, taken: &mut Vec<SetId>) -> Result<(), SetErr>
+    ensures long { OnOk result (length taken.new.items ≡ length taken.old.items + 1) }
+    ensures held { (start : Start) → At start enc.old (entries taken.old.items 0 (λ place. nothing))
+        → At start enc.new (entries taken.new.items 0 (λ place. nothing)) }
+    ensures never_full { IfErr result (λ e. e ≡ SetErr.Memory) }
+    ensures same_slots { enc.new ≡ record enc.old { sets = enc.new.sets } }
+{
+    push_none(enc.sets_mut(), taken)
+}
+
+/// Ends all slots of a list.
+pub(crate) fn end_all(enc: &mut Enc, taken: &[SetId])
+    requires { AreOwned enc.old.sets taken.now [] }
+    ensures { (start : Start) (h : ℕ → Function) → At start enc.old (entries taken.now 0 h)
+        → At start enc.new [] }
+{
+    release_all(enc.sets_mut(), taken);
 }

@@ -1,0 +1,99 @@
+-- The rules of the plan, from what the actions take.
+use Rattle.std.proofs.Common.{◌≡◌, ℕ, zero, suc, ◌+◌, ◌<◌, ◌≤◌, List, [], ◌∷◌, ◌++◌, map, length, get_or, refl, sym, ap, subst, ◌∙◌, arith, append-nil, All}
+use Rattle.std.specs.List.{Contains, flat_map, range_with_len}
+use Rattle.std.proofs.lemmas.List.Concat.{flat_map-append}
+use Rattle.dd_nodes.specs.Subfunctions.{Function}
+use Rattle.dd_sets.specs.LiveSets.{LiveSets, set_of}
+use Rattle.dd_sets.specs.declared.slots.SetId.{SetId}
+use Rattle.encode_task.specs.Laws.{KeptSetsStayMade}
+use Rattle.encode_task.specs.Slots.{Encoded}
+use Rattle.plan_rules.specs.Denoted.{denoted, IsExecutable}
+use Rattle.plan_rules.specs.Plans.{IsRuleOf}
+use Rattle.plan_rules.specs.Rules.{PlanRule}
+use Rattle.task_core.specs.Cubes.{Cube, cubes_of}
+use Rattle.task_core.specs.Solutions.{HasNoSolution, IsSolution}
+use Rattle.task_core.specs.Systems.{System}
+use Rattle.task_core.specs.Tables.{IsTable}
+use Rattle.task_core.specs.Tasks.{action_count, fluent_count, system_of}
+use Rattle.task_core.specs.Vectors.{value_of}
+use Rattle.task_core.specs.declared.classes.Class.{Class}
+use Rattle.task_core.specs.declared.tasks.Task.{Task}
+use Rattle.task_core.proofs.TaskSystem.{is_system}
+use Rattle.reach_plan.specs.Classes.{IsFoundByLayers}
+use Rattle.reach_plan.specs.LayerSets.{AreTakers}
+use Rattle.reach_plan.specs.Layers.{IsLastLayer, action_numbers}
+use Rattle.reach_plan.specs.Printed.{printed_rules, rules_of_action, takers}
+use Rattle.reach_plan.specs.SetRules.{rules_of_slot}
+use Rattle.reach_plan.specs.Working.{At, Start, Working, entries}
+use Rattle.reach_plan.proofs.ClassLayers.{printed_executable}
+use Rattle.reach_plan.proofs.LayerSteps.{range-more}
+use Rattle.reach_plan.proofs.LeastBounds.{solves_by_class}
+use Rattle.reach_plan.proofs.PrintedWithin.{printed_within}
+use Rattle.reach_plan.proofs.SearchSteps.{at_made}
+use Rattle.reach_plan.proofs.SetLayers.{cubes_agree}
+use Rattle.reach_plan.proofs.WeakDenoted.{denoted-table}
+use Rattle.reach_plan.proofs.WeakLists.{Contains-cons, Contains-head, Contains-range_with_len-below}
+use Rattle.reach_plan.proofs.WorkingSlots.{live_at, set_at}
+
+-- the rules of one number more
+pub rules_more : (f : ℕ → List PlanRule) (a : ℕ) (old new : List PlanRule) → old ≡ flat_map f (range_with_len 0 a) → new ≡ old ++ f a → new ≡ flat_map f (range_with_len 0 (a + 1))
+rules_more f a old new before more =
+    more ∙ ap (λ xs. xs ++ f a) before
+    ∙ sym (ap (flat_map f) (range-more a) ∙ flat_map-append f (range_with_len 0 a) (a ∷ []) ∙ ap (λ xs. flat_map f (range_with_len 0 a) ++ xs) (append-nil (f a)))
+
+flat_map_agree : (f g : ℕ → List PlanRule) (xs : List ℕ) → ((a : ℕ) → Contains xs a → f a ≡ g a) → flat_map f xs ≡ flat_map g xs
+flat_map_agree f g [] same = refl
+flat_map_agree f g (x ∷ xs) same = (λ j. same x (Contains-head x xs) j ++ flat_map_agree f g xs (λ a among. same a (Contains-cons x xs a among)) j)
+
+-- the rules of the slots' sets are the printed rules
+pub printed_by_slots : KeptSetsStayMade → (class : Class) (start : Start) (enc : Encoded) (slots : List SetId) (h : ℕ → Function) (K : ℕ) → At start enc (entries slots 0 h) → length slots ≡ action_count start.task → AreTakers class start.task K h
+    → flat_map (rules_of_slot enc.sets slots) (range_with_len 0 (length slots)) ≡ printed_rules class (system_of start.task) K
+printed_by_slots law class start enc slots h K at long taken =
+    ap (λ (n : ℕ). flat_map (rules_of_slot enc.sets slots) (range_with_len 0 n)) long
+    ∙ flat_map_agree (rules_of_slot enc.sets slots) (rules_of_action class (system_of start.task) K) (range_with_len 0 (action_count start.task)) same
+  where
+    n : ℕ
+    n = fluent_count start.task
+
+    work : Working start.enc.sets enc.sets (entries slots 0 h ++ [])
+    work = subst (λ own. Working start.enc.sets enc.sets own) (sym (append-nil (entries slots 0 h))) at.working
+
+    vars : enc.sets.vars ≡ n
+    vars = let made = at_made law start enc (entries slots 0 h) at in made.ready.vars ∙ made.fluents
+
+    same : (a : ℕ) → Contains (range_with_len 0 (action_count start.task)) a → rules_of_slot enc.sets slots a ≡ rules_of_action class (system_of start.task) K a
+    same a among =
+        let below : a < action_count start.task = Contains-range_with_len-below (action_count start.task) a among in
+        let slot = (get_or slots a (record { 0 = 0 })).0 in
+        let holds : set_of enc.sets slot ≡ h a = set_at start.enc.sets enc.sets slots h [] a (record { 0 = 0 }) work (omega arith) in
+        ap (λ (m : ℕ). map (λ (cube : Cube). record { cube = cube; action = a }) (cubes_of m (λ state. set_of enc.sets slot (value_of state)))) vars
+        ∙ ap (λ (cubes : List Cube). map (λ (cube : Cube). record { cube = cube; action = a }) cubes)
+        (cubes_agree 0 n (λ state. set_of enc.sets slot (value_of state)) (takers class (system_of start.task) K a)
+        (λ v is. ap (λ (set : Function). set (value_of v)) holds ∙ taken.takes a v below is))
+
+-- the slots are a function's own
+pub slots_live : (start : Start) (enc : Encoded) (slots : List SetId) (h : ℕ → Function) → At start enc (entries slots 0 h) → Working start.enc.sets enc.sets (entries slots 0 h ++ [])
+slots_live start enc slots h at = subst (λ own. Working start.enc.sets enc.sets own) (sym (append-nil (entries slots 0 h))) at.working
+
+-- where some layer is the last one there is a solution
+pub not_none : (class : Class) → IsFoundByLayers class → (task : Task) (K : ℕ) → IsLastLayer class (system_of task) K → HasNoSolution class (system_of task) → ⊥
+not_none class by_layers task K last none =
+    let sys = system_of task in
+    none (denoted sys (printed_rules class sys K)) (denoted-table sys (printed_rules class sys K)) (solves_by_class class by_layers sys K (is_system task) last)
+
+-- what the printed rules do
+pub record Solved (class : Class) (sys : System) (rules : List PlanRule) : Type 0 where
+  pub table : IsTable sys (denoted sys rules)
+  pub solves : IsSolution class sys (denoted sys rules)
+  pub executable : IsExecutable sys rules
+  pub within : All (IsRuleOf sys.fluents sys.actions) rules
+
+pub solved : (class : Class) → IsFoundByLayers class → (task : Task) (K : ℕ) (rules : List PlanRule) → IsLastLayer class (system_of task) K → rules ≡ printed_rules class (system_of task) K → Solved class (system_of task) rules
+solved class by_layers task K rules last is =
+    let sys = system_of task in
+    subst (Solved class sys) (sym is) (record {
+      table = denoted-table sys (printed_rules class sys K);
+      solves = solves_by_class class by_layers sys K (is_system task) last;
+      executable = printed_executable class sys K;
+      within = printed_within class sys K (IsRuleOf sys.fluents sys.actions) (λ cube a below lt. record { cube = below; action = lt });
+    })
