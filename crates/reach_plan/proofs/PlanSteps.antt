@@ -1,5 +1,8 @@
 -- The rules of the plan, from what the actions take.
-use Rattle.std.proofs.Common.{◌≡◌, ℕ, zero, suc, ◌+◌, ◌<◌, ◌≤◌, List, [], ◌∷◌, ◌++◌, map, length, get_or, refl, sym, ap, subst, ◌∙◌, arith, append-nil, All}
+use Rattle.std.proofs.Common.{◌≡◌, ℕ, zero, suc, ◌+◌, ◌<◌, ◌≤◌, List, [], ◌∷◌, ◌++◌, map, length, get_or, refl, sym, ap, subst, ◌∙◌, arith, append-nil, All, Bool, true, false, Result, Ok, Err, IfOk}
+use Rattle.std.specs.Prelude.{IfErr}
+use Rattle.dd_sets.specs.declared.errors.SetErr.{SetErr}
+use Rattle.dd_sets.specs.declared.errors.SetErr.TheVariants.{Full, Memory}
 use Rattle.std.specs.List.{Contains, flat_map, range_with_len}
 use Rattle.std.proofs.lemmas.List.Concat.{flat_map-append}
 use Rattle.dd_nodes.specs.Subfunctions.{Function}
@@ -24,7 +27,8 @@ use Rattle.reach_plan.specs.LayerSets.{AreTakers}
 use Rattle.reach_plan.specs.Layers.{IsLastLayer, action_numbers}
 use Rattle.reach_plan.specs.Printed.{printed_rules, rules_of_action, takers}
 use Rattle.reach_plan.specs.SetRules.{rules_of_slot}
-use Rattle.reach_plan.specs.Working.{At, Start, Working, entries}
+use Rattle.reach_plan.specs.Searches.{FoundLast, SearchLeft, StillTaken}
+use Rattle.reach_plan.specs.Working.{At, Left, Start, Working, entries}
 use Rattle.reach_plan.proofs.ClassLayers.{printed_executable}
 use Rattle.reach_plan.proofs.LayerSteps.{range-more}
 use Rattle.reach_plan.proofs.LeastBounds.{solves_by_class}
@@ -97,3 +101,17 @@ solved class by_layers task K rules last is =
       executable = printed_executable class sys K;
       within = printed_within class sys K (IsRuleOf sys.fluents sys.actions) (λ cube a below lt. record { cube = below; action = lt });
     })
+
+-- whatever the search found, the slots are there; where some layer is the last one, it found it
+pub search_still : (class : Class) (start : Start) (enc : Encoded) (taken : List SetId) (found : Bool) → SearchLeft class start enc taken found → StillTaken start enc taken
+search_still class start enc taken true left = record { h = left.h; at = left.at }
+search_still class start enc taken false left = record { h = left.h; at = left.at }
+
+pub search_last : (class : Class) → IsFoundByLayers class → (start : Start) (enc : Encoded) (taken : List SetId) (K : ℕ) → IsLastLayer class (system_of start.task) K → (found : Bool) → SearchLeft class start enc taken found → FoundLast class start enc taken
+search_last class by_layers start enc taken K last true left = left
+search_last class by_layers start enc taken K last false left = absurd (not_none class by_layers start.task K last left.none)
+
+-- an answer that is never a refusal for want of room
+pub left_by : {T : Type 0} (A P : T → Type 0) (refused tight : Type 0) (result : Result T SetErr) → IfOk result A → IfErr result (λ e. e ≡ Memory) → ((x : T) → A x → P x) → refused → Left P refused tight result
+left_by A P refused tight (Ok x) answer never gives left = gives x answer
+left_by A P refused tight (Err e) answer never gives left = (left, λ full. let memory : e ≡ Memory = never in let no_room : e ≡ Full = full in absurd (cc))

@@ -1,7 +1,9 @@
 //! The weak and the strong planner, on sets of states.
 
-ghost use Rattle.std.specs.Prelude.{◌≡◌, ℕ, ◌+◌, ◌≤◌, [], All, IfOk, IsErrOf, IsSome, IsTrue, MatchOption, length, map};
+ghost use Rattle.std.specs.Prelude.{◌≡◌, ℕ, ◌+◌, ◌<◌, ◌^◌, [], All, IfErr, IfOk, IsErrOf, IsSome, length, map};
+ghost use Rattle.std.specs.List.{flat_map, range_with_len};
 ghost use Rattle.dd_sets.specs.Frames.{Owns};
+ghost use Rattle.dd_sets.specs.LiveSets.{IsLive};
 ghost use Rattle.dd_sets.specs.Rooms.{IsTightFor};
 ghost use Rattle.encode_task.specs.Made.{MadeOf};
 ghost use Rattle.plan_rules.specs.Denoted.{denoted, IsExecutable};
@@ -17,7 +19,8 @@ ghost use Rattle.reach_plan.specs.Found.{IfNoPlan, IfPlan};
 ghost use Rattle.reach_plan.specs.Layers.{IsLastLayer};
 ghost use Rattle.reach_plan.specs.Printed.{printed_rules};
 ghost use Rattle.reach_plan.specs.Searches.{HasPlan, IsReady, PlanLeft, StillTaken};
-ghost use Rattle.reach_plan.specs.Working.{At, Left, Start, entries};
+ghost use Rattle.reach_plan.specs.SetRules.{rules_of_slot};
+ghost use Rattle.reach_plan.specs.Working.{At, Left, Start};
 
 use crate::Found;
 use crate::search::{end_all, push_one, search_back};
@@ -151,6 +154,7 @@ fn find_rules(
     ensures { (start : Start) → At start enc.old [] → Left (PlanLeft class start enc.new)
         (At start enc.new []) (IsTightFor start.room start.enc.sets) result }
 {
+    made_is_kept();
     let mut none = Vec::new(alloc);
     let covered = search_back(enc, class, actions, &mut none)?;
     if !covered {
@@ -179,10 +183,21 @@ fn rules_by_sets(
         → Left (HasPlan class start enc.new taken.new.items) (StillTaken start enc.new taken.new.items)
         (IsTightFor start.room start.enc.sets) result }
 {
+    made_is_kept();
     while taken.len() < actions as usize {
         push_one(enc, taken)?;
     }
     search_back(enc, class, actions, taken)?;
-    let rules = rules_of_sets(alloc, enc.sets(), taken)?;
-    Ok(rules)
+    rules_now(alloc, enc, taken)
+}
+
+/// The rules by which each action is taken in its set.
+fn rules_now(alloc: Global, enc: &Enc, taken: &[SetId]) -> Result<Vec<Rule>, SetErr>
+    requires few { length taken.now < 2 ^ 32 }
+    requires live { All (λ slot. IsLive enc.now.sets slot.0) taken.now }
+    ensures rules { IfOk result (λ rules. map rule_of rules.items
+        ≡ flat_map (rules_of_slot enc.now.sets taken.now) (range_with_len 0 (length taken.now))) }
+    ensures never_full { IfErr result (λ e. e ≡ SetErr.Memory) }
+{
+    Ok(rules_of_sets(alloc, enc.sets(), taken)?)
 }
