@@ -1,12 +1,15 @@
 -- The rules of the plan, from what the actions take.
-use Rattle.std.proofs.Common.{◌≡◌, ℕ, zero, suc, ◌+◌, ◌<◌, ◌≤◌, List, [], ◌∷◌, ◌++◌, map, length, get_or, refl, sym, ap, subst, ◌∙◌, arith, append-nil, All, Bool, true, false, Result, Ok, Err, IfOk}
+use Rattle.std.proofs.Common.{◌≡◌, ℕ, zero, suc, ◌+◌, ◌<◌, ◌≤◌, List, [], ◌∷◌, ◌++◌, map, length, get_or, refl, sym, ap, subst, ◌∙◌, arith, append-nil, All, Bool, true, false, Result, Ok, Err, IfOk, Vec}
 use Rattle.std.specs.Prelude.{IfErr}
 use Rattle.dd_sets.specs.declared.errors.SetErr.{SetErr}
 use Rattle.dd_sets.specs.declared.errors.SetErr.TheVariants.{Full, Memory}
 use Rattle.std.specs.List.{Contains, flat_map, range_with_len}
 use Rattle.std.proofs.lemmas.List.Concat.{flat_map-append}
 use Rattle.dd_nodes.specs.Subfunctions.{Function}
-use Rattle.dd_sets.specs.LiveSets.{LiveSets, set_of}
+use Rattle.dd_sets.specs.LiveSets.{LiveSets, nothing, set_of}
+use Rattle.dd_sets.specs.Frames.{Slots}
+use Rattle.std.specs.declared.alloc.Global.{Global}
+use Rattle.plan_rules.specs.declared.rules.Rule.{Rule}
 use Rattle.dd_sets.specs.declared.slots.SetId.{SetId}
 use Rattle.encode_task.specs.Laws.{KeptSetsStayMade}
 use Rattle.encode_task.specs.Slots.{Encoded}
@@ -27,7 +30,7 @@ use Rattle.reach_plan.specs.LayerSets.{AreTakers}
 use Rattle.reach_plan.specs.Layers.{IsLastLayer, action_numbers}
 use Rattle.reach_plan.specs.Printed.{printed_rules, rules_of_action, takers}
 use Rattle.reach_plan.specs.SetRules.{rules_of_slot}
-use Rattle.reach_plan.specs.Searches.{FoundLast, SearchLeft, StillTaken}
+use Rattle.reach_plan.specs.Searches.{FoundLast, HasPlan, SearchLeft, StillTaken}
 use Rattle.reach_plan.specs.Working.{At, Left, Start, Working, entries}
 use Rattle.reach_plan.proofs.ClassLayers.{printed_executable}
 use Rattle.reach_plan.proofs.LayerSteps.{range-more}
@@ -115,3 +118,23 @@ search_last class by_layers start enc taken K last false left = absurd (not_none
 pub left_by : {T : Type 0} (A P : T → Type 0) (refused tight : Type 0) (result : Result T SetErr) → IfOk result A → IfErr result (λ e. e ≡ Memory) → ((x : T) → A x → P x) → refused → Left P refused tight result
 left_by A P refused tight (Ok x) answer never gives left = gives x answer
 left_by A P refused tight (Err e) answer never gives left = (left, λ full. let memory : e ≡ Memory = never in let no_room : e ≡ Full = full in absurd (cc))
+
+-- an empty list of slots
+no_slots : (taken : List SetId) → length taken ≡ 0 → taken ≡ []
+no_slots [] none = refl
+no_slots (x ∷ taken) none = absurd (omega arith)
+
+pub at_none : (start : Start) (enc : Encoded) (taken : List SetId) (h : ℕ → Function) → length taken ≡ 0 → At start enc (entries taken 0 h) → At start enc []
+at_none start enc taken h none at = subst (λ (slots : List SetId). At start enc (entries slots 0 h)) (no_slots taken none) at
+
+pub begun_none : (class : Class) (start : Start) (enc : Encoded) (taken : List SetId) → taken ≡ [] → At start enc [] → At start enc (entries taken 0 (λ place. nothing))
+begun_none class start enc taken none at = subst (λ (slots : List SetId). At start enc (entries slots 0 (λ place. nothing))) (sym none) at
+
+-- what two searches leave alone
+pub same_between : (start : Start) (now next : Encoded) (own other : Slots) → At start now own → At start next other → next ≡ record now { sets = next.sets }
+same_between start now next own other at later = later.same ∙ sym (ap (λ (e : Encoded). record e { sets = next.sets }) at.same)
+
+-- after the rules are found, or not, the slots are there
+pub plan_still : (class : Class) (start : Start) (enc : Encoded) (taken : List SetId) (result : Result (Vec Rule Global) SetErr) (tight : Type 0) → Left (HasPlan class start enc taken) (StillTaken start enc taken) tight result → StillTaken start enc taken
+plan_still class start enc taken (Ok rules) tight left = left.still
+plan_still class start enc taken (Err e) tight left = left.0
