@@ -1,5 +1,5 @@
 -- The rules of the plan, from what the actions take.
-use Rattle.std.proofs.Common.{◌≡◌, ℕ, zero, suc, ◌+◌, ◌<◌, ◌≤◌, List, [], ◌∷◌, ◌++◌, map, length, get_or, refl, sym, ap, subst, ◌∙◌, arith, append-nil, All, Bool, true, false, Result, Ok, Err, IfOk, Vec}
+use Rattle.std.proofs.Common.{◌≡◌, ℕ, zero, suc, ◌+◌, ◌<◌, ◌≤◌, List, [], ◌∷◌, ◌++◌, map, length, get_or, refl, sym, ap, subst, ◌∙◌, arith, append-nil, All, Bool, true, false, Result, Ok, Err, IfOk, Vec, Option, Some, None}
 use Rattle.std.specs.Prelude.{IfErr}
 use Rattle.dd_sets.specs.declared.errors.SetErr.{SetErr}
 use Rattle.dd_sets.specs.declared.errors.SetErr.TheVariants.{Full, Memory}
@@ -7,7 +7,9 @@ use Rattle.std.specs.List.{Contains, flat_map, range_with_len}
 use Rattle.std.proofs.lemmas.List.Concat.{flat_map-append}
 use Rattle.dd_nodes.specs.Subfunctions.{Function}
 use Rattle.dd_sets.specs.LiveSets.{LiveSets, nothing, set_of}
-use Rattle.dd_sets.specs.Frames.{Slots}
+use Rattle.dd_sets.specs.Frames.{Owns, Slots}
+use Rattle.dd_sets.specs.Rooms.{IsTightFor}
+use Rattle.encode_task.specs.Made.{MadeOf}
 use Rattle.std.specs.declared.alloc.Global.{Global}
 use Rattle.plan_rules.specs.declared.rules.Rule.{Rule}
 use Rattle.dd_sets.specs.declared.slots.SetId.{SetId}
@@ -15,7 +17,7 @@ use Rattle.encode_task.specs.Laws.{KeptSetsStayMade}
 use Rattle.encode_task.specs.Slots.{Encoded}
 use Rattle.plan_rules.specs.Denoted.{denoted, IsExecutable}
 use Rattle.plan_rules.specs.Plans.{IsRuleOf}
-use Rattle.plan_rules.specs.Rules.{PlanRule}
+use Rattle.plan_rules.specs.Rules.{PlanRule, rule_of}
 use Rattle.task_core.specs.Cubes.{Cube, cubes_of}
 use Rattle.task_core.specs.Solutions.{HasNoSolution, IsSolution}
 use Rattle.task_core.specs.Systems.{System}
@@ -30,7 +32,7 @@ use Rattle.reach_plan.specs.LayerSets.{AreTakers}
 use Rattle.reach_plan.specs.Layers.{IsLastLayer, action_numbers}
 use Rattle.reach_plan.specs.Printed.{printed_rules, rules_of_action, takers}
 use Rattle.reach_plan.specs.SetRules.{rules_of_slot}
-use Rattle.reach_plan.specs.Searches.{FoundLast, HasPlan, SearchLeft, StillTaken}
+use Rattle.reach_plan.specs.Searches.{FoundLast, HasPlan, IsNoPlan, IsPlan, PlanLeft, SearchLeft, StillTaken}
 use Rattle.reach_plan.specs.Working.{At, Left, Start, Working, entries}
 use Rattle.reach_plan.proofs.ClassLayers.{printed_executable}
 use Rattle.reach_plan.proofs.LayerSteps.{range-more}
@@ -40,7 +42,7 @@ use Rattle.reach_plan.proofs.SearchSteps.{at_made}
 use Rattle.reach_plan.proofs.SetLayers.{cubes_agree}
 use Rattle.reach_plan.proofs.WeakDenoted.{denoted-table}
 use Rattle.reach_plan.proofs.WeakLists.{Contains-cons, Contains-head, Contains-range_with_len-below}
-use Rattle.reach_plan.proofs.WorkingSlots.{live_at, set_at}
+use Rattle.reach_plan.proofs.WorkingSlots.{set_at, work_none, work_owns}
 
 -- the rules of one number more
 pub rules_more : (f : ℕ → List PlanRule) (a : ℕ) (old new : List PlanRule) → old ≡ flat_map f (range_with_len 0 a) → new ≡ old ++ f a → new ≡ flat_map f (range_with_len 0 (a + 1))
@@ -138,3 +140,53 @@ same_between start now next own other at later = later.same ∙ sym (ap (λ (e :
 pub plan_still : (class : Class) (start : Start) (enc : Encoded) (taken : List SetId) (result : Result (Vec Rule Global) SetErr) (tight : Type 0) → Left (HasPlan class start enc taken) (StillTaken start enc taken) tight result → StillTaken start enc taken
 plan_still class start enc taken (Ok rules) tight left = left.still
 plan_still class start enc taken (Err e) tight left = left.0
+
+-- the work of a whole planner
+pub start_of : (task : Task) (enc : Encoded) → MadeOf task enc → Start
+start_of task enc made = record { task = task; enc = enc; made = made; room = action_count task + 24; wide = omega arith }
+
+pub at_start : (task : Task) (enc : Encoded) (made : MadeOf task enc) → At (start_of task enc made) enc []
+unfolding start_of
+at_start task enc made = record { same = refl; working = work_none enc.sets }
+
+-- what it leaves of the slots of entry
+pub record Kept (before after : Encoded) : Type 0 where
+  pub slots : Owns before.sets after.sets []
+  pub same : after ≡ record before { sets = after.sets }
+  pub made : (task : Task) → MadeOf task before → MadeOf task after
+
+pub kept : KeptSetsStayMade → (task : Task) (enc after : Encoded) (made : MadeOf task enc) → At (start_of task enc made) after [] → Kept enc after
+unfolding start_of
+kept law task enc after made at = record {
+  slots = work_owns enc.sets after.sets at.working;
+  same = at.same;
+  made = λ other was. subst (MadeOf other) (sym at.same) (law other enc after.sets at.working.kept was);
+}
+
+pub plan_at : (class : Class) (start : Start) (enc : Encoded) (found : Option (Vec Rule Global)) → PlanLeft class start enc found → At start enc []
+plan_at class start enc None left = left.at
+plan_at class start enc (Some rules) left = left.at
+
+pub tight_start : (task : Task) (enc : Encoded) (made : MadeOf task enc) → IsTightFor (start_of task enc made).room (start_of task enc made).enc.sets → IsTightFor (action_count task + 24) enc.sets
+unfolding start_of
+tight_start task enc made tight = tight
+
+pub task_of : (task : Task) (enc : Encoded) (made : MadeOf task enc) → (start_of task enc made).task ≡ task
+unfolding start_of
+task_of task enc made = refl
+
+pub no_plan_of : (class : Class) (task : Task) (enc after : Encoded) (made : MadeOf task enc) → IsNoPlan class (start_of task enc made) after → HasNoSolution class (system_of task)
+unfolding start_of
+no_plan_of class task enc after made none = none.none
+
+pub record IsPrinted (class : Class) (task : Task) (rules : List PlanRule) : Type 0 where
+  pub K : ℕ
+  pub last : IsLastLayer class (system_of task) K
+  pub printed : rules ≡ printed_rules class (system_of task) K
+
+pub plan_of : (class : Class) (task : Task) (enc after : Encoded) (made : MadeOf task enc) (rules : Vec Rule Global) → IsPlan class (start_of task enc made) after rules → IsPrinted class task (map rule_of rules.items)
+unfolding start_of
+plan_of class task enc after made rules plan = record { K = plan.K; last = plan.last; printed = plan.printed }
+
+pub solved_plan : (class : Class) → IsFoundByLayers class → (task : Task) (rules : List PlanRule) → IsPrinted class task rules → Solved class (system_of task) rules
+solved_plan class by_layers task rules is = solved class by_layers task is.K rules is.last is.printed

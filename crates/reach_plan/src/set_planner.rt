@@ -134,6 +134,7 @@ fn plan(alloc: Global, task: &Task, enc: &mut Enc, class: Class) -> Result<Found
     ensures same_slots { enc.new ≡ record enc.old { sets = enc.new.sets } }
     ensures made { (task : Task) → MadeOf task enc.old → MadeOf task enc.new }
 {
+    made_is_kept();
     match find_rules(alloc, enc, class, task.actions.len() as u32)? {
         None => Ok(Found::NoPlan),
         Some(rules) => Ok(Found::Plan(TablePlan { class, rules })),
