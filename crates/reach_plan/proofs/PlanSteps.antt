@@ -1,12 +1,12 @@
 -- The rules of the plan, from what the actions take.
-use Rattle.std.proofs.Common.{◌≡◌, ℕ, zero, suc, ◌+◌, ◌<◌, ◌≤◌, List, [], ◌∷◌, ◌++◌, map, length, get_or, refl, sym, ap, subst, ◌∙◌, arith, append-nil, All, Bool, true, false, Result, Ok, Err, IfOk, Vec, Option, Some, None}
+use Rattle.std.proofs.Common.{◌≡◌, ℕ, ◌+◌, ◌<◌, List, [], ◌∷◌, ◌++◌, map, length, get_or, refl, sym, ap, subst, ◌∙◌, arith, append-nil, All, Bool, true, false, Result, Ok, Err, IfOk, Vec, Option, Some, None}
 use Rattle.std.specs.Prelude.{IfErr}
 use Rattle.dd_sets.specs.declared.errors.SetErr.{SetErr}
 use Rattle.dd_sets.specs.declared.errors.SetErr.TheVariants.{Full, Memory}
 use Rattle.std.specs.List.{Contains, flat_map, range_with_len}
 use Rattle.std.proofs.lemmas.List.Concat.{flat_map-append}
 use Rattle.dd_nodes.specs.Subfunctions.{Function}
-use Rattle.dd_sets.specs.LiveSets.{LiveSets, nothing, set_of}
+use Rattle.dd_sets.specs.LiveSets.{nothing, set_of}
 use Rattle.dd_sets.specs.Frames.{Owns, Slots}
 use Rattle.dd_sets.specs.Rooms.{IsTightFor}
 use Rattle.encode_task.specs.Made.{MadeOf}
@@ -29,7 +29,7 @@ use Rattle.task_core.specs.declared.tasks.Task.{Task}
 use Rattle.task_core.proofs.TaskSystem.{is_system}
 use Rattle.reach_plan.specs.Classes.{IsFoundByLayers}
 use Rattle.reach_plan.specs.LayerSets.{AreTakers}
-use Rattle.reach_plan.specs.Layers.{IsLastLayer, action_numbers}
+use Rattle.reach_plan.specs.Layers.{IsLastLayer}
 use Rattle.reach_plan.specs.Printed.{printed_rules, rules_of_action, takers}
 use Rattle.reach_plan.specs.SetRules.{rules_of_slot}
 use Rattle.reach_plan.specs.Searches.{FoundLast, HasPlan, IsNoPlan, IsPlan, PlanLeft, SearchLeft, StillTaken}

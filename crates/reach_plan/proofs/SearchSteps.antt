@@ -1,5 +1,5 @@
 -- One step of the search: what it leaves in the slots of the task and its own.
-use Rattle.std.proofs.Common.{IsTrue, ◌↔◌, Option, Some, None, append-nil, ◌≡◌, ◌≢◌, ℕ, zero, suc, ◌+◌, ◌<◌, ◌≤◌, ◌==◌, Bool, true, false, cond, ◌||◌, ◌&&◌, not, List, [], ◌∷◌, ◌++◌, length, nat_lt, Result, Ok, Err, refl, sym, ap, subst, ◌∙◌, ⊎_elim, arith}
+use Rattle.std.proofs.Common.{IsTrue, ◌↔◌, Option, Some, None, append-nil, ◌≡◌, ◌≢◌, ℕ, suc, ◌+◌, ◌<◌, ◌≤◌, ◌==◌, Bool, true, false, ◌||◌, List, [], ◌∷◌, ◌++◌, length, nat_lt, refl, sym, ap, subst, ◌∙◌, ⊎_elim, arith}
 use Rattle.std.specs.List.{list_any, range_with_len}
 use Rattle.std.proofs.Math.Path.{fun_ext}
 use Rattle.std.proofs.lemmas.Bool.{cases_eq, cases_lt, cond-false, cond-true, eq-eqb, lt-ltb, ltb-true, ne_eqb, false_from_ne_true}
@@ -11,7 +11,6 @@ use Rattle.dd_sets.specs.Calls.{Adds, AddsNone, KeepsSets, Releases}
 use Rattle.dd_sets.specs.Laws.{SetsDependOnFluents}
 use Rattle.dd_sets.specs.LiveSets.{IsLive, IsSets, set_of}
 use Rattle.task_core.specs.Tasks.{action_count, fluent_count, system_of}
-use Rattle.dd_sets.specs.declared.errors.SetErr.{SetErr}
 use Rattle.dd_sets.specs.declared.slots.SetId.{SetId}
 use Rattle.encode_task.specs.Laws.{KeptSetsStayMade}
 use Rattle.encode_task.specs.Made.{Holds, HoldsGoal, MadeOf}
@@ -31,7 +30,7 @@ use Rattle.reach_plan.specs.Classes.{IsFoundByLayers}
 use Rattle.task_core.specs.Vectors.{all_vectors}
 use Rattle.task_core.proofs.TaskSystem.{is_system}
 use Rattle.reach_plan.proofs.LeastBounds.{none_once_stable}
-use Rattle.reach_plan.specs.Working.{At, Left, Start, Working, entries, with_set}
+use Rattle.reach_plan.specs.Working.{At, Start, Working, entries, with_set}
 use Rattle.reach_plan.proofs.LayerSteps.{range-more}
 use Rattle.reach_plan.proofs.SetLayers.{covers_is, fewer_next, goal_set, missed, next_layer_set, next_takers}
 use Rattle.reach_plan.proofs.WorkingSlots.{behind_live, behind_set, length_behind, second_front, second_live, second_set, work_back, work_front, work_less, work_more, work_same}

@@ -1,18 +1,17 @@
 -- The layers of a task's system as sets on diagrams: the goal, one layer more, and the last one.
-use Rattle.std.proofs.Common.{◌≡◌, ◌≢◌, ℕ, zero, suc, ◌+◌, ◌-◌, ◌<◌, ◌≤◌, ◌==◌, Bool, true, false, cond, not, ◌&&◌, ◌||◌, ◌⊎◌, List, [], ◌∷◌, ◌++◌, map, length, get_or, Option, Some, None, ◌↔◌, IsTrue, refl, sym, ap, subst, ◌∙◌, ⊎_elim, inl, inr, arith, nat_lt}
-use Rattle.std.specs.List.{Contains, find, flat_map, list_all, list_any, range_with_len}
+use Rattle.std.proofs.Common.{◌≡◌, ℕ, zero, suc, ◌+◌, ◌-◌, ◌<◌, ◌≤◌, Bool, true, false, cond, not, ◌&&◌, ◌||◌, List, [], ◌∷◌, ◌++◌, map, length, Some, None, ◌↔◌, IsTrue, refl, sym, ap, subst, ◌∙◌, ⊎_elim, arith, nat_lt}
+use Rattle.std.specs.List.{Contains, find, list_all, list_any, range_with_len}
 use Rattle.std.specs.Option.{option_and_then, option_map, option_or, unwrap_or}
 use Rattle.std.proofs.Math.Path.{fun_ext}
-use Rattle.std.proofs.lemmas.Bool.{cases_Bool, cond-true, cond-false, both_ways, eq-eqb, eqb-true, false_from_ne_true, false≢true, lt-ltb, ne_eqb, or_left, true≢false}
+use Rattle.std.proofs.lemmas.Bool.{cases_Bool, cond-true, both_ways, eq-eqb, false_from_ne_true, false≢true, lt-ltb, ne_eqb, or_left, true≢false}
 use Rattle.std.proofs.lemmas.List.Folds.{find-append}
 use Rattle.std.proofs.lemmas.List.FromFn.{get_or-map-range_with_len, length-map-range_with_len}
-use Rattle.std.proofs.lemmas.Option.{none-some, same_Some}
 use Rattle.dd_nodes.specs.NodeList.{Values}
 use Rattle.dd_nodes.specs.Subfunctions.{DependsOnly, Function}
 use Rattle.dd_ops.specs.Operations.{minus_of, or_of}
 use Rattle.task_core.specs.Conditions.{holds}
-use Rattle.task_core.specs.Cubes.{Cube, SetOfVectors, cubes_from, cubes_of, half, ignores_first, is_empty_set, is_whole_set, literal}
-use Rattle.task_core.specs.Systems.{IsState, IsSystem, System, goal_states}
+use Rattle.task_core.specs.Cubes.{SetOfVectors, cubes_from, half, ignores_first, is_empty_set, is_whole_set, literal}
+use Rattle.task_core.specs.Systems.{IsState, System, goal_states}
 use Rattle.task_core.specs.Tasks.{action_count, fluent_count, initial_states, is_executable, next_states, states_after, states_where, system_of}
 use Rattle.task_core.specs.Vectors.{Vector, all_vectors, same_value, same_vector, value_of}
 use Rattle.task_core.specs.declared.classes.Class.{Class}
@@ -22,11 +21,10 @@ use Rattle.task_core.specs.declared.tasks.Task.{Task}
 use Rattle.task_core.proofs.TaskSystem.{executable_exec, is_system, states_where_has, states_where_holds}
 use Rattle.encode_task.specs.TaskSets.{first_values, initial_set}
 use Rattle.preimage.specs.Laws.{StrongLeadsToAll, WeakLeadsToSome}
-use Rattle.plan_rules.specs.Rules.{PlanRule}
-use Rattle.reach_plan.specs.Classes.{IsFoundByLayers, IsStable}
-use Rattle.reach_plan.specs.Layers.{IsLastLayer, action_numbers, covers, layer, leads_by, rank_within}
-use Rattle.reach_plan.specs.LayerSets.{AreTakers, IsLayerSet, IsRound, class_preimage, grown, taken_by}
-use Rattle.reach_plan.specs.Printed.{action_of_rank, chosen_action, is_action, printed_rules, rules_of_action, takers}
+use Rattle.reach_plan.specs.Classes.{IsStable}
+use Rattle.reach_plan.specs.Layers.{action_numbers, covers, layer, leads_by}
+use Rattle.reach_plan.specs.LayerSets.{AreTakers, IsLayerSet, class_preimage, grown, taken_by}
+use Rattle.reach_plan.specs.Printed.{action_of_rank, chosen_action, is_action, takers}
 use Rattle.reach_plan.proofs.ClassLayers.{chosen_zero, layer-zero, layer-zero_goal, rank_within-None, step_choice}
 use Rattle.reach_plan.proofs.Cubes.{all_vectors-holds, all_vectors-length}
 use Rattle.reach_plan.proofs.LayerSteps.{find-first, range_split}

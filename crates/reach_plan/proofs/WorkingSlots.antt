@@ -1,7 +1,7 @@
 -- How a function's own slots change by each call.
-use Rattle.std.proofs.Common.{◌≡◌, ◌≢◌, ℕ, zero, suc, ◌+◌, ◌<◌, ◌≤◌, ◌==◌, ◌^◌, ◌||◌, Bool, true, false, cond, List, [], ◌∷◌, ◌++◌, length, get_or, set, drop, drop-cons, IsErrOf, Result, Ok, Err, IfOk, OnErr, refl, sym, ap, subst, ◌∙◌, ⊎_elim, arith, length-append, mul-le-mul_right, All}
+use Rattle.std.proofs.Common.{◌≡◌, ◌≢◌, ℕ, zero, suc, ◌+◌, ◌<◌, ◌≤◌, ◌==◌, ◌^◌, ◌||◌, Bool, true, false, List, [], ◌∷◌, ◌++◌, length, get_or, set, drop, drop-cons, IsErrOf, Result, Ok, Err, IfOk, OnErr, refl, sym, ap, subst, ◌∙◌, ⊎_elim, arith, length-append, mul-le-mul_right, All}
 use borrow.Author.Tests.{eq-eqb}
-use Rattle.std.proofs.lemmas.Bool.{cases_eq, cond-true, cond-false, both_ways, ne_eqb, or_from, or_left}
+use Rattle.std.proofs.lemmas.Bool.{cases_eq, cond-true, cond-false, ne_eqb, or_from, or_left}
 use Rattle.dd_nodes.specs.Subfunctions.{Function}
 use Rattle.dd_sets.specs.Calls.{KeepsSets, Adds, AddsNone, Releases}
 use Rattle.dd_sets.specs.Frames.{Slots, has_slot, Owns, OwnsAnswer}

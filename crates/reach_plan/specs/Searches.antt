@@ -12,7 +12,7 @@ use Rattle.plan_rules.specs.declared.rules.Rule.{Rule}
 use Rattle.reach_plan.specs.Printed.{printed_rules}
 use Rattle.reach_plan.specs.Classes.{IsStable}
 use Rattle.reach_plan.specs.Layers.{IsLastLayer, covers}
-use Rattle.reach_plan.specs.LayerSets.{AreTakers, IsRound, grown, taken_by}
+use Rattle.reach_plan.specs.LayerSets.{AreTakers, IsRound}
 use Rattle.reach_plan.specs.Working.{At, Start, entries}
 use Rattle.reach_plan.specs.declared.search.Round.{Round}
 use Rattle.reach_plan.specs.declared.search.Round.TheVariants.{Covered, Stable, More}

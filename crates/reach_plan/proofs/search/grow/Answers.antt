@@ -1,11 +1,10 @@
 -- One action more.
-use Rattle.std.proofs.Common.{◌≡◌, ◌≤◌, ◌+◌, ℕ, ◌==◌, cond, [], ◌∷◌, ◌++◌, ◌∙◌, arith, length, refl, subst}
+use Rattle.std.proofs.Common.{◌≡◌, ◌≤◌, ◌+◌, ℕ, ◌==◌, cond, [], ◌∷◌, ◌∙◌, arith, length, refl, subst}
 use Rattle.std.proofs.lemmas.Result.{err_from_is_err_and}
-use Rattle.dd_nodes.specs.Subfunctions.{Function}
 use Rattle.dd_sets.specs.Rooms.{IsTightFor}
 use Rattle.reach_plan.specs.LayerSets.{class_preimage, grown, taken_by}
 use Rattle.reach_plan.specs.Searches.{StillTwo, with_two}
-use Rattle.reach_plan.specs.Working.{At, Start, entries}
+use Rattle.reach_plan.specs.Working.{At, entries}
 use Rattle.reach_plan.proofs.SearchSteps.{at_first, at_made, at_next, length_two, one_more, room_for, same_actions, same_chain, with_hits}
 use Rattle.reach_plan.proofs.WorkingSlots.{left_again, left_err, second_live, work_same, work_tight}
 use Rattle.reach_plan.proofs.search.grow.Goals as goal

@@ -1,5 +1,5 @@
 -- A copy of the layer grows.
-use Rattle.std.proofs.Common.{◌≡◌, ap, length, sym, ◌∙◌}
+use Rattle.std.proofs.Common.{ap, length, sym, ◌∙◌}
 use Rattle.std.proofs.lemmas.Result.{err_from_is_err_and}
 use Rattle.dd_sets.specs.Rooms.{IsTightFor}
 use Rattle.encode_task.specs.Slots.{Encoded}

@@ -10,7 +10,6 @@ use Rattle.encode_task.specs.Slots.{Encoded}
 use Rattle.reach_plan.specs.Layers.{covers}
 use Rattle.reach_plan.specs.LayerSets.{grown, taken_by}
 use Rattle.reach_plan.specs.Searches.{StillOne, with_one}
-use Rattle.reach_plan.specs.Working.{At, Start}
 use Rattle.reach_plan.proofs.SearchSteps.{at_made, at_same, covered_is, depends_by, end_next, last_holds, last_live, next_holds, next_live, next_round, one_live, length_one, room_for}
 use Rattle.reach_plan.proofs.SetLayers.{stable_same}
 use Rattle.reach_plan.proofs.WorkingSlots.{left_again, left_err, work_tight}

@@ -1,5 +1,5 @@
 -- One round more.
-use Rattle.std.proofs.Common.{◌≡◌, ℕ, ◌∙◌, ap, length, refl, sym, subst}
+use Rattle.std.proofs.Common.{ℕ, ◌∙◌, ap, length, refl, sym, subst}
 use Rattle.std.proofs.lemmas.Result.{err_from_is_err_and}
 use Rattle.dd_nodes.specs.Subfunctions.{Function}
 use Rattle.dd_sets.specs.LiveSets.{IsLive}
@@ -9,7 +9,7 @@ use Rattle.reach_plan.specs.LayerSets.{AreTakers}
 use Rattle.reach_plan.specs.declared.search.Round.{Round}
 use Rattle.reach_plan.specs.Searches.{StillOne, StillTaken, RoundLeft}
 use Rattle.reach_plan.specs.Working.{At, Start, entries}
-use Rattle.reach_plan.proofs.SearchSteps.{at_made, at_same, end_last, found_last, found_none, going_fewer, going_first, going_on, one_live, round_live, same_actions, Going}
+use Rattle.reach_plan.proofs.SearchSteps.{at_same, end_last, found_last, found_none, going_fewer, going_first, going_on, one_live, round_live, same_actions, Going}
 use Rattle.reach_plan.proofs.WorkingSlots.{left_again, left_either}
 use Rattle.reach_plan.proofs.search.search_back.Goals as goal
 

@@ -1,5 +1,5 @@
 -- What the rules do, and what is left.
-use Rattle.std.proofs.Common.{◌≡◌, Option, Err, Vec, map, subst, sym, ◌∙◌}
+use Rattle.std.proofs.Common.{◌≡◌, Option, Vec, map, subst, sym, ◌∙◌}
 use Rattle.std.specs.declared.alloc.Global.{Global}
 use Rattle.std.proofs.lemmas.Result.{err_from_is_err_and}
 use Rattle.dd_sets.specs.declared.errors.SetErr.TheVariants.{Full}

@@ -5,7 +5,6 @@ use Rattle.std.proofs.lemmas.Result.{err_from_is_err_and}
 use Rattle.dd_sets.specs.LiveSets.{IsLive, nothing}
 use Rattle.dd_sets.specs.Rooms.{IsTightFor}
 use Rattle.dd_sets.specs.declared.slots.SetId.{SetId}
-use Rattle.encode_task.specs.Slots.{Encoded}
 use Rattle.std.specs.declared.alloc.Global.{Global}
 use Rattle.plan_rules.specs.declared.rules.Rule.{Rule}
 use Rattle.plan_rules.specs.Rules.{rule_of}

@@ -1,10 +1,9 @@
 -- The slot of the hits is ended.
-use Rattle.std.proofs.Common.{◌≡◌, ℕ, ◌+◌, [], ◌∷◌, ◌++◌, length, arith}
-use Rattle.dd_nodes.specs.Subfunctions.{Function}
-use Rattle.dd_ops.specs.Operations.{minus_of, or_of}
+use Rattle.std.proofs.Common.{◌+◌, ◌∷◌, length, arith}
+use Rattle.dd_ops.specs.Operations.{or_of}
 use Rattle.dd_sets.specs.LiveSets.{IsLive}
 use Rattle.dd_sets.specs.Rooms.{IsTightFor}
-use Rattle.reach_plan.specs.Working.{AddedSome, Working, entries, with_set}
+use Rattle.reach_plan.specs.Working.{AddedSome, entries}
 use Rattle.reach_plan.proofs.WorkingSlots.{behind_live, left_either, left_map, work_front, work_less}
 use Rattle.reach_plan.proofs.slots.add_hits.Goals as goal
 

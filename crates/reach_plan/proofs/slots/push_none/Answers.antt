@@ -1,5 +1,5 @@
 -- One slot more, or none.
-use Rattle.std.proofs.Common.{◌≡◌, ◌∷◌, List, [], ◌++◌, subst, sym}
+use Rattle.std.proofs.Common.{List, subst, sym}
 use Rattle.dd_sets.specs.LiveSets.{nothing}
 use Rattle.dd_sets.specs.declared.slots.SetId.{SetId}
 use Rattle.reach_plan.specs.Working.{Working, entries}

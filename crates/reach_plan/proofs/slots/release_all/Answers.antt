@@ -1,7 +1,7 @@
 -- One slot less.
-use Rattle.std.proofs.Common.{◌<◌, ◌≤◌, ◌∷◌, ◌++◌, length, subst, sym, arith, get_or}
+use Rattle.std.proofs.Common.{◌++◌, subst, arith, get_or}
 use Rattle.dd_sets.specs.Frames.{Slots}
-use Rattle.reach_plan.specs.Working.{Working, entries}
+use Rattle.reach_plan.specs.Working.{Working}
 use Rattle.reach_plan.proofs.WorkingSlots.{entries_drop, entries_past, head_live, work_less}
 use Rattle.reach_plan.proofs.slots.release_all.Goals as goal
 

@@ -4,7 +4,6 @@ use Rattle.dd_nodes.specs.Subfunctions.{Function}
 use Rattle.dd_sets.specs.Frames.{Slots}
 use Rattle.dd_sets.specs.LiveSets.{LiveSets}
 use Rattle.reach_plan.specs.Working.{Working, entries}
-use Rattle.reach_plan.proofs.SetLayers.{goal_set}
 use Rattle.reach_plan.proofs.slots.release_all.Given as goal
 
 abbrev pub invariant-loop-slot : goal.invariant-loop-slot

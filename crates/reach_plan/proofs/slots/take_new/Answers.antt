@@ -6,7 +6,7 @@ use Rattle.dd_sets.specs.Calls.{Releases}
 use Rattle.dd_sets.specs.LiveSets.{IsLive, set_of}
 use Rattle.dd_sets.specs.Rooms.{IsTightFor}
 use Rattle.dd_sets.specs.declared.slots.SetId.{SetId}
-use Rattle.reach_plan.specs.Working.{Working, entries, with_set}
+use Rattle.reach_plan.specs.Working.{Working, entries}
 use Rattle.reach_plan.proofs.WorkingSlots.{left_err, length_owned, set_at, work_beyond, work_holding, work_less, work_more, work_same, work_set, work_swapped, work_tight}
 use Rattle.reach_plan.proofs.slots.take_new.Goals as goal
 
