@@ -173,7 +173,7 @@ found_solves task list rules found is =
       table = all.0;
       solves = all.1;
       executable = all.2;
-      within = printed_within sys found.0 (IsRuleOf sys.fluents sys.actions) (λ cube a below lt. record { cube = below; action = lt });
+      within = printed_within Weak sys found.0 (IsRuleOf sys.fluents sys.actions) (λ cube a below lt. record { cube = below; action = lt });
     })
 
 pub found_plan : (task : Task) (o : Option Layer) (list : Layer) (rules : List PlanRule) (actions : ℕ) → o ≡ Some list → MatchOption o (HasNoSolution Weak (system_of task)) (IsFound (system_of task)) → actions ≡ action_count task

@@ -85,7 +85,7 @@ find-none p k before here =
     ap (find p) (range-more k) ∙ (find-append p (range_with_len 0 k) (k ∷ [])
     ∙ (ap (λ o. option_or o (find p (k ∷ []))) before ∙ cond-false (p k) (Some k) None here))
 
-range_split : (k m : ℕ) → range_with_len 0 (k + m) ≡ range_with_len 0 k ++ range_with_len k m
+pub range_split : (k m : ℕ) → range_with_len 0 (k + m) ≡ range_with_len 0 k ++ range_with_len k m
 range_split k zero = ap (range_with_len 0) (let e : k + 0 ≡ k = omega arith in e) ∙ sym (append-nil (range_with_len 0 k))
 range_split k (suc m) =
     let e : k + suc m ≡ (k + 1) + m = omega arith in

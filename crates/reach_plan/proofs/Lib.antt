@@ -7,8 +7,12 @@ pub mod Layers
 pub mod LayersChosen
 pub mod LayersStable
 pub mod ListedSets
+pub mod PlanSteps
 pub mod PrintedWithin
 pub mod StateLists
+pub mod SearchSteps
+pub mod SetLayers
+pub mod WorkingSlots
 pub mod Weak
 pub mod WeakDenoted
 mod WeakExamples

@@ -9,7 +9,7 @@ use Rattle.task_core.specs.Cubes.{Cube, SetOfVectors, literal, half, is_empty_se
 use Rattle.plan_rules.specs.Rules.{PlanRule}
 use Rattle.reach_plan.specs.Layers.{action_numbers}
 use Rattle.reach_plan.specs.Printed.{takers, rules_of_action, printed_rules}
-use Rattle.task_core.specs.declared.classes.Class.TheVariants.{Weak}
+use Rattle.task_core.specs.declared.classes.Class.{Class}
 
 abbrev IsBelow : ℕ → Lit → Type 0
 IsBelow m lit = lit.fluent.0 < m
@@ -47,9 +47,9 @@ All-flat_map Q P f (x ∷ xs) all each =
     All-append P (f x) (flat_map f xs) (each x (All-head Q x xs all)) (All-flat_map Q P f xs (All-tail Q x xs all) each)
 
 -- what holds of every rule of the system's fluents and actions holds of the printed rules
-pub printed_within : (sys : System) (K : ℕ) (P : PlanRule → Type 0) → ((cube : Cube) (a : ℕ) → CubeIsBelow sys.fluents cube → a < sys.actions → P (record { cube = cube; action = a })) → All P (printed_rules Weak sys K)
-printed_within sys K P each =
-    All-flat_map (λ a. a < sys.actions) P (rules_of_action Weak sys K) (action_numbers sys) (range_below 0 sys.actions sys.actions (omega arith))
-    (λ a lt. All-map P (λ (cube : Cube). record { cube = cube; action = a }) (cubes_from 0 sys.fluents (takers Weak sys K a))
-    (All-weaker (CubeIsBelow sys.fluents) (λ (cube : Cube). P (record { cube = cube; action = a })) (λ cube below. each cube a below lt) (cubes_from 0 sys.fluents (takers Weak sys K a))
-    (cubes_below 0 sys.fluents sys.fluents (takers Weak sys K a) (omega arith))))
+pub printed_within : (class : Class) (sys : System) (K : ℕ) (P : PlanRule → Type 0) → ((cube : Cube) (a : ℕ) → CubeIsBelow sys.fluents cube → a < sys.actions → P (record { cube = cube; action = a })) → All P (printed_rules class sys K)
+printed_within class sys K P each =
+    All-flat_map (λ a. a < sys.actions) P (rules_of_action class sys K) (action_numbers sys) (range_below 0 sys.actions sys.actions (omega arith))
+    (λ a lt. All-map P (λ (cube : Cube). record { cube = cube; action = a }) (cubes_from 0 sys.fluents (takers class sys K a))
+    (All-weaker (CubeIsBelow sys.fluents) (λ (cube : Cube). P (record { cube = cube; action = a })) (λ cube below. each cube a below lt) (cubes_from 0 sys.fluents (takers class sys K a))
+    (cubes_below 0 sys.fluents sys.fluents (takers class sys K a) (omega arith))))

@@ -1,7 +1,11 @@
 pub mod Bounds
 pub mod Classes
 pub mod Layers
+pub mod LayerSets
 pub mod Printed
 pub mod Listed
 pub mod LayerLists
 pub mod Found
+pub mod Searches
+pub mod SetRules
+pub mod Working

@@ -11,6 +11,10 @@ mod cube_rules;
 mod laws;
 mod planner;
 mod preimages;
+mod search;
+mod set_planner;
+mod set_rules;
+mod slots;
 mod states;
 #[cfg(test)]
 mod tests;
@@ -20,3 +24,4 @@ pub use laws::{
     printed_plan_is_shortest, printed_plan_solves, strong_plans_end,
 };
 pub use planner::{Found, plan_weak};
+pub use set_planner::{plan_strong_sets, plan_weak_sets};

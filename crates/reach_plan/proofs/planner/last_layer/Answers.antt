@@ -1,7 +1,5 @@
-use Rattle.std.proofs.Common.{◌≡◌, ◌∙◌, ap, sym, length}
+use Rattle.std.proofs.Common.{◌∙◌, ap, sym, length}
 use Rattle.task_core.specs.Tasks.{system_of}
-use Rattle.task_core.specs.declared.classes.Class.TheVariants.{Weak}
-use Rattle.reach_plan.specs.Layers.{covers}
 use Rattle.reach_plan.proofs.LastLayer.{covers_is, none_found, next_more, last_found, fewer_outside_next}
 use Rattle.reach_plan.proofs.planner.last_layer.Goals as goal
 
