@@ -9,9 +9,10 @@ use Rattle.task_core.specs.Systems.{System}
 abbrev pub most_outcomes : System → ℕ
 most_outcomes sys = greatest (map sys.outcomes (range_with_len 0 sys.actions))
 
--- nodes that are enough for all sets that are live at a time and for one operation. Over F fluents a set
--- has fewer than 2 ^ F nodes and an operation makes fewer than 4 ^ F; an action has sets of its own,
--- and for each outcome one a fluent and one more (Bryant 1986: the size of a reduced diagram)
+-- nodes that are enough for all sets that are live at a time and for one operation. Over F fluents
+-- a set has fewer than 2 ^ F nodes and an operation makes fewer than 4 ^ F; an action has sets of
+-- its own, and for each outcome one a fluent and one more (Bryant 1986: the size of a reduced
+-- diagram)
 abbrev pub enough : System → ℕ
 enough sys =
     2 * 4 ^ sys.fluents

@@ -1,5 +1,6 @@
 -- The command `plan`: when a text is a plan that solves a system, and a shortest one, which text is
--- printed, when the table of nodes may be too small, and the answer of the command. The names are those of the system's fluents and actions, by their numbers.
+-- printed, when the table of nodes may be too small, and the answer of the command. The names are
+-- those of the system's fluents and actions, by their numbers.
 use Rattle.std.specs.Prelude.{◌≡◌, ℕ, ◌⊎◌, ⊤, List, Contains, ◌++◌, codes, None, IsSome}
 use Rattle.pddl_ast.specs.Trees.{DomainTree, ProblemTree}
 use Rattle.pddl_system.specs.Sizes.{first_passed}
@@ -35,10 +36,10 @@ pub record IsSolvingText (class : Class) (sys : System) (fluents actions : List 
   pub solves : IsSolution class sys (denoted sys rules)
   pub executable : IsExecutable sys rules
 
--- no solution of the class is shorter from any initial state. The length of a strong plan is that of
--- its longest path, which is at most n for every n that bounds the paths of the other; the length of
--- a weak plan is that of its shortest path to a terminal goal state. Of strong cyclic plans nothing
--- is said
+-- no solution of the class is shorter from any initial state. The length of a strong plan is that
+-- of its longest path, which is at most n for every n that bounds the paths of the other; the
+-- length of a weak plan is that of its shortest path to a terminal goal state. Of strong cyclic
+-- plans nothing is said
 abbrev pub IsShortest : Class → System → Table → Type 0
 IsShortest Weak sys table =
     (other : Table) (s : Vector) (n : ℕ) → IsTable sys other → IsWeakSolution sys other
@@ -92,14 +93,14 @@ PlanThen asked domain problem =
     IsPlanResult asked.class (system domain problem) (fluent_names domain problem)
     (action_names domain problem)
 
--- what follows once both are read: the goal is of the kind that is wanted, the limits are kept, and a plan
--- is looked for
+-- what follows once both are read: the goal is of the kind that is wanted, the limits are kept, and
+-- a plan is looked for
 abbrev pub IsPlanned : PlanWords → DomainTree → ProblemTree → Answer → Type 0
 IsPlanned asked domain problem =
     GoalThen asked.problem problem (GroundThen domain problem (PlanThen asked domain problem))
 
--- a plan is looked for of this domain and problem, since the goal is of the kind that is wanted and the
--- limits are kept; and the nodes that are asked for may be too few for it
+-- a plan is looked for of this domain and problem, since the goal is of the kind that is wanted and
+-- the limits are kept; and the nodes that are asked for may be too few for it
 pub record MayBeTooFew (asked : PlanWords) (domain : DomainTree) (problem : ProblemTree)
     : Type 0 where
   pub goal : IsSome problem.goal

@@ -20,8 +20,8 @@ pub record IsDue (held : Bytes → Held) (words : List Bytes) (answer : Answer) 
   pub not_memory : answer ≢ refused no_memory
   pub not_full : (nodes : ℕ) → answer ≢ refused (full nodes)
 
--- an answer that may be given in place of one that is due: want of memory; or that the table of nodes
--- is full, where the words ask for a plan of a problem for which their limit may be too small
+-- an answer that may be given in place of one that is due: want of memory; or that the table of
+-- nodes is full, where the words ask for a plan of a problem for which their limit may be too small
 abbrev pub MayStandIn : (Bytes → Held) → List Bytes → Answer → Type 0
 MayStandIn held words given =
     (given ≡ refused no_memory)
