@@ -1,40 +1,19 @@
 -- Causes, command by command: the words say one command at most, and it has one answer at most.
-use Rattle.std.proofs.Common.{◌≡◌, ◌≢◌, List, ◌⊎◌, inl, inr, refl, subst, sym, ◌∙◌, ap, arith, get_or, [], codes}
+use Rattle.std.proofs.Common.{◌≡◌, ◌≢◌, ℕ, List, ◌⊎◌, inl, inr, refl, subst, sym, ◌∙◌, ap, arith, get_or, drop, length, [], codes, decimal}
+use Rattle.std.proofs.lemmas.Fmt.{decimal_injective}
 use Rattle.task_core.specs.declared.classes.Class.{Class}
 use Rattle.task_core.specs.declared.classes.Class.TheVariants.{Weak, Strong, Cyclic}
 use Rattle.plan_io.specs.Held.{Held}
-use Rattle.mbp_top.specs.Answers.{Answer, refused, no_command, no_memory}
+use Rattle.mbp_top.specs.Answers.{Answer, refused, full, no_command, no_memory}
 use Rattle.mbp_top.specs.Causes.{IsAnswerOf, HasCause}
-use Rattle.mbp_top.specs.Told.{AreFilesTold, IsDue}
-use Rattle.mbp_top.specs.Words.{Bytes, Command, plan, ground, check, PlanWords, GroundWords, CheckWords, IsPlannedClass, Says, SaysPlan, SaysGround, SaysCheck}
-use Rattle.mbp_top.proofs.Deciding.{Decides}
+use Rattle.mbp_top.specs.PlanCommand.{IsPlanAnswer}
+use Rattle.mbp_top.specs.Told.{AreFilesTold, IsDue, MayStandIn}
+use Rattle.mbp_top.specs.Words.{Bytes, Command, plan, ground, check, PlanOptions, PlanWords, GroundWords, CheckWords, IsNodeLimit, Says, SaysOptions, SaysPlan, SaysGround, SaysCheck}
 use Rattle.plan_rules.specs.Texts.{class_word}
 use Rattle.mbp_top.proofs.CheckDecides.{check_decides}
 use Rattle.mbp_top.proofs.GroundDecides.{ground_command_decides}
 use Rattle.mbp_top.proofs.PddlDecides.{OneReading}
 use Rattle.mbp_top.proofs.PlanDecides.{plan_decides}
-
-one_planned : (c d : Class) → IsPlannedClass c → IsPlannedClass d → c ≡ d
-one_planned Weak Weak is is' = refl
-one_planned Weak Strong is is' = absurd is'
-one_planned Weak Cyclic is is' = absurd is'
-one_planned Strong d is is' = absurd is
-one_planned Cyclic d is is' = absurd is
-
-same_plan : (words : List Bytes) (v w : PlanWords) → SaysPlan words v → SaysPlan words w → v ≡ w
-same_plan words v w says says' =
-    let classes = one_planned v.class w.class says.planned says'.planned in
-    let both = sym says.written ∙ says'.written in
-    let domains : v.domain ≡ w.domain = ap (λ (ws : List Bytes). get_or ws 2 []) both in
-    let problems : v.problem ≡ w.problem = ap (λ (ws : List Bytes). get_or ws 3 []) both in
-    λ i. record { class = classes i; domain = domains i; problem = problems i }
-
-same_ground : (words : List Bytes) (v w : GroundWords) → SaysGround words v → SaysGround words w → v ≡ w
-same_ground words v w says says' =
-    let both = sym says ∙ says' in
-    let domains : v.domain ≡ w.domain = ap (λ (ws : List Bytes). get_or ws 1 []) both in
-    let problems : v.problem ≡ w.problem = ap (λ (ws : List Bytes). get_or ws 2 []) both in
-    λ i. record { domain = domains i; problem = problems i }
 
 -- the words of the classes differ
 same_class : (c d : Class) → class_word c ≡ class_word d → c ≡ d
@@ -47,6 +26,33 @@ same_class Strong Cyclic same = absurd (omega (arith, ap (λ (w : Bytes). get_or
 same_class Cyclic Weak same = absurd (omega (arith, ap (λ (w : Bytes). get_or w 0 0) same))
 same_class Cyclic Strong same = absurd (omega (arith, ap (λ (w : Bytes). get_or w 0 0) same))
 same_class Cyclic Cyclic same = refl
+
+-- the words say one number of nodes at most
+same_options : (words : List Bytes) (v w : PlanOptions) → IsNodeLimit v.nodes → IsNodeLimit w.nodes → SaysOptions words v → SaysOptions words w → v ≡ w
+same_options words v w room room' (inl (none, is)) (inl (none', is')) = let nodes = is ∙ sym is' in λ i. record { nodes = nodes i }
+same_options words v w room room' (inl (none, is)) (inr some) = absurd (omega (arith, ap (length {A = Bytes}) (sym none ∙ some)))
+same_options words v w room room' (inr some) (inl (none, is)) = absurd (omega (arith, ap (length {A = Bytes}) (sym none ∙ some)))
+same_options words v w room room' (inr some) (inr some') =
+    let numerals : decimal v.nodes ≡ decimal w.nodes = ap (λ (ws : List Bytes). get_or ws 1 []) (sym some ∙ some') in
+    let nodes = decimal_injective v.nodes w.nodes (omega (arith, room.1)) (omega (arith, room'.1)) numerals in
+    λ i. record { nodes = nodes i }
+
+same_plan : (words : List Bytes) (v w : PlanWords) → SaysPlan words v → SaysPlan words w → v ≡ w
+same_plan words v w says says' =
+    let both = sym says.written ∙ says'.written in
+    let classes = same_class v.class w.class (ap (λ (ws : List Bytes). get_or ws 1 []) both) in
+    let domains : v.domain ≡ w.domain = ap (λ (ws : List Bytes). get_or ws 2 []) both in
+    let problems : v.problem ≡ w.problem = ap (λ (ws : List Bytes). get_or ws 3 []) both in
+    let rests : says.rest ≡ says'.rest = ap (λ (ws : List Bytes). drop 4 ws) both in
+    let options = same_options says'.rest v.options w.options says.room says'.room (subst (λ (ws : List Bytes). SaysOptions ws v.options) rests says.options) says'.options in
+    λ i. record { class = classes i; domain = domains i; problem = problems i; options = options i }
+
+same_ground : (words : List Bytes) (v w : GroundWords) → SaysGround words v → SaysGround words w → v ≡ w
+same_ground words v w says says' =
+    let both = sym says ∙ says' in
+    let domains : v.domain ≡ w.domain = ap (λ (ws : List Bytes). get_or ws 1 []) both in
+    let problems : v.problem ≡ w.problem = ap (λ (ws : List Bytes). get_or ws 2 []) both in
+    λ i. record { domain = domains i; problem = problems i }
 
 same_check : (words : List Bytes) (v w : CheckWords) → SaysCheck words v → SaysCheck words w → v ≡ w
 same_check words v w says says' =
@@ -85,17 +91,28 @@ one_command words (check v) (plan w) says says' = absurd (not_plan_and_check wor
 one_command words (check v) (ground w) says says' = absurd (not_ground_and_check words w v says' says)
 one_command words (check v) (check w) says says' = ap check (same_check words v w says says')
 
--- the words and the files decide the answer of a command
+-- the two files decide the answer of `plan`, unless the table of nodes is full
+one_plan_answer : OneReading → (held : Bytes → Held) (failed failed' : Bytes → Type 0) (words : List Bytes) (asked : PlanWords)
+    → SaysPlan words asked → AreFilesTold held words → ((file : Bytes) → failed file → ⊥) → ((file : Bytes) → failed' file → ⊥)
+    → (a b : Answer) → ((nodes : ℕ) → b ≢ refused (full nodes)) → IsPlanAnswer held failed asked a → IsPlanAnswer held failed' asked b
+    → (a ≡ b) ⊎ MayStandIn held words a
+one_plan_answer once held failed failed' words asked says told quiet quiet' a b not_full (inl (may, is)) is' = inr (inr (asked, says, may, is))
+one_plan_answer once held failed failed' words asked says told quiet quiet' a b not_full (inr read) (inl (may, is)) = absurd (not_full asked.options.nodes is)
+one_plan_answer once held failed failed' words asked says told quiet quiet' a b not_full (inr read) (inr read') =
+    inl (plan_decides once held failed failed' asked (told (plan asked) asked.domain says (0, omega arith, refl)) (told (plan asked) asked.problem says (1, omega arith, refl)) quiet quiet' a b read read')
+
+-- the words and the files decide the answer of a command, but for one that may stand in
 one_answer : OneReading → (held : Bytes → Held) (failed failed' : Bytes → Type 0) (words : List Bytes) (command : Command)
     → Says words command → AreFilesTold held words → ((file : Bytes) → failed file → ⊥) → ((file : Bytes) → failed' file → ⊥)
-    → Decides (IsAnswerOf held failed command) (IsAnswerOf held failed' command)
-one_answer once held failed failed' words (plan asked) says told quiet quiet' =
-    plan_decides once held failed failed' asked (told (plan asked) asked.domain says (0, omega arith, refl)) (told (plan asked) asked.problem says (1, omega arith, refl)) quiet quiet'
-one_answer once held failed failed' words (ground asked) says told quiet quiet' =
-    ground_command_decides once held failed failed' asked (told (ground asked) asked.domain says (0, omega arith, refl)) (told (ground asked) asked.problem says (1, omega arith, refl)) quiet quiet'
-one_answer once held failed failed' words (check asked) says told quiet quiet' =
-    check_decides once held failed failed' asked (told (check asked) asked.domain says (0, omega arith, refl)) (told (check asked) asked.problem says (1, omega arith, refl))
-    (told (check asked) asked.plan says (2, omega arith, refl)) quiet quiet'
+    → (a b : Answer) → ((nodes : ℕ) → b ≢ refused (full nodes)) → IsAnswerOf held failed command a → IsAnswerOf held failed' command b
+    → (a ≡ b) ⊎ MayStandIn held words a
+one_answer once held failed failed' words (plan asked) says told quiet quiet' a b not_full is is' =
+    one_plan_answer once held failed failed' words asked says told quiet quiet' a b not_full is is'
+one_answer once held failed failed' words (ground asked) says told quiet quiet' a b not_full is is' =
+    inl (ground_command_decides once held failed failed' asked (told (ground asked) asked.domain says (0, omega arith, refl)) (told (ground asked) asked.problem says (1, omega arith, refl)) quiet quiet' a b is is')
+one_answer once held failed failed' words (check asked) says told quiet quiet' a b not_full is is' =
+    inl (check_decides once held failed failed' asked (told (check asked) asked.domain says (0, omega arith, refl)) (told (check asked) asked.problem says (1, omega arith, refl))
+    (told (check asked) asked.plan says (2, omega arith, refl)) quiet quiet' a b is is')
 
 -- where the words say a command, an answer that has its cause is that command's, or want of memory
 pub of_command : (held : Bytes → Held) (failed : Bytes → Type 0) (words : List Bytes) (command : Command) (a : Answer)
@@ -105,20 +122,20 @@ of_command held failed words command a says (inr (said, says', inl memory)) = in
 of_command held failed words command a says (inr (said, says', inr is)) =
     inr (subst (λ c. IsAnswerOf held failed c a) (one_command words said command says' says) is)
 
--- an answer that has its cause is the one that is due, or want of memory
+-- an answer that has its cause is the one that is due, or one that may stand in
 pub due_answer : OneReading → (held : Bytes → Held) (failed : Bytes → Type 0) (words : List Bytes) (a b : Answer)
     → HasCause held failed words a → IsDue held words b → AreFilesTold held words → ((file : Bytes) → failed file → ⊥)
-    → (a ≡ b) ⊎ (a ≡ refused no_memory)
+    → (a ≡ b) ⊎ MayStandIn held words a
 due_answer once held failed words a b (inl (nothing, is)) due told quiet = none due.cause where
-  none : HasCause held (λ file. ⊥) words b → (a ≡ b) ⊎ (a ≡ refused no_memory)
+  none : HasCause held (λ file. ⊥) words b → (a ≡ b) ⊎ MayStandIn held words a
   none (inl (nothing', is')) = inl (is ∙ sym is')
   none (inr (said, says, why)) = absurd (nothing said says)
-due_answer once held failed words a b (inr (said, says, inl memory)) due told quiet = inr memory
+due_answer once held failed words a b (inr (said, says, inl memory)) due told quiet = inr (inl memory)
 due_answer once held failed words a b (inr (said, says, inr is)) due told quiet =
-    inl (same (of_command held (λ file. ⊥) words said b says due.cause)) where
-      same : (b ≡ refused no_memory) ⊎ IsAnswerOf held (λ file. ⊥) said b → a ≡ b
+    same (of_command held (λ file. ⊥) words said b says due.cause) where
+      same : (b ≡ refused no_memory) ⊎ IsAnswerOf held (λ file. ⊥) said b → (a ≡ b) ⊎ MayStandIn held words a
       same (inl memory) = absurd (due.not_memory memory)
-      same (inr is') = one_answer once held failed (λ file. ⊥) words said says told quiet (λ file never. never) a b is is'
+      same (inr is') = one_answer once held failed (λ file. ⊥) words said says told quiet (λ file never. never) a b due.not_full is is'
 
 -- want of memory may come in place of an answer of a command
 pub memory_instead : (held : Bytes → Held) (failed : Bytes → Type 0) (words : List Bytes) (a : Answer)

@@ -11,8 +11,10 @@ pub mod ByCommand
 pub mod Statuses
 pub mod Listings
 pub mod PlanAnswers
+pub mod EnoughNodes
 pub mod Later
 pub mod Refusals
 pub mod WordLists
+pub mod NodeNumerals
 mod PlanExamples
 mod ToldExamples

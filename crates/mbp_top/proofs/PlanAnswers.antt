@@ -1,52 +1,69 @@
--- The answer for a plan of a system, and the same for a system and names that are equal.
-use Rattle.std.proofs.Common.{length, ◌≡◌, ◌≤◌, ℕ, List, subst, sym, ap, ◌∙◌, inl, inr, refl, None}
+-- The answer for a plan that was found, for a system and names that are equal, and for what was read.
+use Rattle.std.proofs.Common.{◌≡◌, ◌⊎◌, ℕ, List, Contains, subst, sym, ap, ◌∙◌, inl, inr, refl, None, IsSome, All}
+use Rattle.std.specs.Prelude.{IfOk, Result, Ok, Err}
+use Rattle.dd_sets.specs.declared.errors.SetErr.{SetErr}
+use Rattle.reach_plan.specs.Found.{IfNoPlan, IfPlan}
+use Rattle.reach_plan.specs.declared.planner.Found.{Found}
+use Rattle.reach_plan.specs.declared.planner.Found.TheVariants.{NoPlan, Plan}
+use Rattle.plan_rules.specs.Plans.{IsRuleOf}
 use Rattle.pddl_ast.specs.Trees.{DomainTree, ProblemTree}
 use Rattle.pddl_system.specs.Sizes.{first_passed}
 use Rattle.pddl_system.specs.Systems.{action_names, fluent_names, system}
 use Rattle.pddl_system.specs.Tasks.{task_of}
 use Rattle.pddl_system.specs.Values.{task_value}
-use Rattle.task_core.specs.Tasks.{action_names as names_of_actions, fluent_names as names_of_fluents, system_of}
+use Rattle.task_core.specs.Tasks.{action_count, fluent_count, action_names as names_of_actions, fluent_names as names_of_fluents, system_of}
 use Rattle.task_core.specs.declared.tasks.Task.{Task}
-use Rattle.task_core.specs.Systems.{System}
-use Rattle.task_core.specs.Tables.{IsTable}
-use Rattle.task_core.specs.Solutions.{IsSolution}
+use Rattle.task_core.specs.Systems.{IsSystem, System}
+use Rattle.task_core.specs.Tables.{IsTable, Table}
+use Rattle.task_core.specs.Vectors.{Vector}
+use Rattle.task_core.specs.Solutions.{HasNoSolution, IsSolution, IsStrongSolution}
+use Rattle.plan_io.specs.Held.{Held}
 use Rattle.plan_rules.specs.Denoted.{denoted, IsExecutable}
 use Rattle.plan_rules.specs.Readings.{SpellsTable}
 use Rattle.plan_rules.specs.Rules.{PlanRule, rules_of}
 use Rattle.plan_rules.specs.Texts.{table_text}
 use Rattle.task_core.specs.Names.{Name}
 use Rattle.task_core.specs.declared.classes.Class.{Class}
+use Rattle.task_core.specs.declared.classes.Class.TheVariants.{Strong, Weak}
 use Rattle.plan_rules.specs.declared.rules.TablePlan.{TablePlan}
+use Rattle.reach_plan.specs.Bounds.{PathsAreWithin, ReachesGoalWithin}
 use Rattle.reach_plan.specs.Layers.{IsLastLayer}
 use Rattle.reach_plan.specs.Printed.{printed_rules}
-use Rattle.mbp_top.specs.Answers.{Answer, affirmed}
+use Rattle.mbp_top.specs.Answers.{Answer, affirmed, full, no_memory, refused}
+use Rattle.mbp_top.specs.Enough.{IsTightLimit}
+use Rattle.mbp_top.specs.FoundPlans.{IsFoundPlan, IsSearched}
 use Rattle.mbp_top.specs.Grounding.{GroundThen}
-use Rattle.mbp_top.specs.PlanCommand.{IsPlanResult, PlanThen, most_planned}
+use Rattle.mbp_top.specs.PddlTexts.{HoldBoth, ReadBoth}
+use Rattle.mbp_top.specs.PlanCommand.{IsPlanAnswer, IsPlanResult, IsPlanned, IsShortest, MayBeTooFew, PlanThen}
 use Rattle.mbp_top.specs.Words.{Bytes, PlanWords}
 use Rattle.mbp_top.proofs.Listings.{same_actions, same_count, same_fluents}
 
-pub plan_is_result : (class : Class) (sys : System) (fluents actions : List Name) (p : TablePlan) (text : Bytes) → p.class ≡ class
-    → (K : ℕ) × IsLastLayer class sys K × (rules_of p ≡ printed_rules class sys K)
-    → IsTable sys (denoted sys (rules_of p)) → IsSolution class sys (denoted sys (rules_of p)) → IsExecutable sys (rules_of p)
-    → SpellsTable fluents actions text p.class (rules_of p)
-    → text ≡ table_text fluents actions p.class (rules_of p)
-    → IsPlanResult class sys fluents actions (affirmed text)
-plan_is_result class sys fluents actions p text of_class printed table solves executable spelled is = inl (record {
-  text = text;
-  shown = refl;
-  solves = record {
-    rules = rules_of p;
-    spelled = subst (λ (k : Class). SpellsTable fluents actions text k (rules_of p)) of_class spelled;
-    table = table;
-    solves = solves;
-    executable = executable;
-  };
-  printed = record {
-    last = printed.0;
-    is_last = printed.1;
-    spelled = is ∙ ap (λ k. table_text fluents actions k (rules_of p)) of_class ∙ ap (λ rs. table_text fluents actions class rs) printed.2;
-  };
-})
+pub plan_is_result : (class : Class) (t : Task) (p : TablePlan) (text : Bytes) → IsFoundPlan class t p
+    → SpellsTable (names_of_fluents t) (names_of_actions t) text p.class (rules_of p)
+    → text ≡ table_text (names_of_fluents t) (names_of_actions t) p.class (rules_of p)
+    → IsPlanResult class (system_of t) (names_of_fluents t) (names_of_actions t) (affirmed text)
+plan_is_result class t p text found spelled is =
+    let fluents = names_of_fluents t in
+    let actions = names_of_actions t in
+    let of_class : SpellsTable fluents actions text class (rules_of p) =
+    subst (λ (k : Class). SpellsTable fluents actions text k (rules_of p)) found.of_class spelled in
+    inl (record {
+      text = text;
+      shown = refl;
+      solves = record {
+        rules = rules_of p;
+        spelled = of_class;
+        table = found.table;
+        solves = found.solves;
+        executable = found.executable;
+      };
+      shortest = record { rules = rules_of p; spelled = of_class; shortest = found.shortest };
+      printed = record {
+        last = found.last;
+        is_last = found.is_last;
+        spelled = is ∙ ap (λ k. table_text fluents actions k (rules_of p)) found.of_class ∙ ap (λ rs. table_text fluents actions class rs) found.printed;
+      };
+    })
 
 pub same_result : (class : Class) (sys sys' : System) (fluents fluents' actions actions' : List Name) (answer : Answer) → sys ≡ sys' → fluents ≡ fluents' → actions ≡ actions'
     → IsPlanResult class sys fluents actions answer → IsPlanResult class sys' fluents' actions' answer
@@ -57,14 +74,74 @@ same_result class sys sys' fluents fluents' actions actions' answer s f a h =
 
 -- the answer for a task is that for the domain and the problem that it comes from
 pub planned_answer : (asked : PlanWords) (d : DomainTree) (p : ProblemTree) (t : Task) (a : Answer) → task_value t ≡ task_of d p → system_of t ≡ system d p
-    → first_passed d p ≡ None → length t.fluents.items ≤ most_planned
-    → IsPlanResult asked.class (system_of t) (names_of_fluents t) (names_of_actions t) a → GroundThen d p (PlanThen asked d p) a
-planned_answer asked d p t a is system_is within few result =
+    → first_passed d p ≡ None → IsPlanResult asked.class (system_of t) (names_of_fluents t) (names_of_actions t) a → GroundThen d p (PlanThen asked d p) a
+planned_answer asked d p t a is system_is within result =
     inr (
       within,
-      inr (
-        subst (λ n. n ≤ most_planned) (same_count d p t is) few,
-        same_result asked.class (system_of t) (system d p) (names_of_fluents t) (fluent_names d p) (names_of_actions t) (action_names d p) a
-            system_is (same_fluents d p t is) (same_actions d p t is) result,
-      ),
+      same_result asked.class (system_of t) (system d p) (names_of_fluents t) (fluent_names d p) (names_of_actions t) (action_names d p) a
+          system_is (same_fluents d p t is) (same_actions d p t is) result,
     )
+
+-- the nodes may be too few for the problem where they may be for its task
+pub too_few : (asked : PlanWords) (d : DomainTree) (p : ProblemTree) (t : Task) → system_of t ≡ system d p → IsSome p.goal → first_passed d p ≡ None
+    → IsTightLimit asked.options.nodes (system_of t) → MayBeTooFew asked d p
+too_few asked d p t system_is goal within tight = record {
+  goal = goal;
+  within = within;
+  tight = subst (IsTightLimit asked.options.nodes) system_is tight;
+}
+
+-- no solution is shorter than the plan of the printed rules
+pub shortest_weak : (sys : System) (K : ℕ) (rules : List PlanRule)
+    → ((K : ℕ) (table : Table) (s : Vector) (n : ℕ) → IsSystem sys → IsLastLayer Weak sys K → Contains sys.initial s
+    → ReachesGoalWithin sys table s n → ReachesGoalWithin sys (denoted sys (printed_rules Weak sys K)) s n)
+    → IsSystem sys → IsLastLayer Weak sys K → rules ≡ printed_rules Weak sys K → IsShortest Weak sys (denoted sys rules)
+shortest_weak sys K rules law is last printed other s n of solves initial reaches =
+    subst (λ (rs : List PlanRule). ReachesGoalWithin sys (denoted sys rs) s n) (sym printed) (law K other s n is last initial reaches)
+
+pub shortest_strong : (sys : System) (K : ℕ) (rules : List PlanRule)
+    → ((K : ℕ) (table : Table) (s : Vector) (n : ℕ) → IsSystem sys → IsTable sys table → IsStrongSolution sys table → Contains sys.initial s
+    → PathsAreWithin sys table s n → PathsAreWithin sys (denoted sys (printed_rules Strong sys K)) s n)
+    → IsSystem sys → rules ≡ printed_rules Strong sys K → IsShortest Strong sys (denoted sys rules)
+shortest_strong sys K rules law is printed other s n of solves initial within =
+    subst (λ (rs : List PlanRule). PathsAreWithin sys (denoted sys rs) s n) (sym printed) (law K other s n is of solves initial within)
+
+-- after both files were read: the table of nodes is full, or what follows
+pub after_plan : (held : Bytes → Held) (failed : Bytes → Type 0) (asked : PlanWords) (d : DomainTree) (p : ProblemTree) (a : Answer)
+    → HoldBoth held asked.domain asked.problem d p
+    → (a ≡ refused no_memory) ⊎ (MayBeTooFew asked d p × (a ≡ refused (full asked.options.nodes))) ⊎ IsPlanned asked d p a
+    → (a ≡ refused no_memory) ⊎ IsPlanAnswer held failed asked a
+after_plan held failed asked d p a both (inl memory) = inl memory
+after_plan held failed asked d p a both (inr (inl (few, is))) = inr (inl (record { domain = d; problem = p; both = both; few = few }, is))
+after_plan held failed asked d p a both (inr (inr then)) = inr (inr (inr (d, both.holds_domain, inr (p, both.holds_problem, then))))
+
+-- one of the files is refused
+pub before_plan : (held : Bytes → Held) (failed : Bytes → Type 0) (asked : PlanWords) (a : Answer)
+    → (a ≡ refused no_memory) ⊎ ReadBoth held failed asked.domain asked.problem (IsPlanned asked) a
+    → (a ≡ refused no_memory) ⊎ IsPlanAnswer held failed asked a
+before_plan held failed asked a (inl memory) = inl memory
+before_plan held failed asked a (inr read) = inr (inr read)
+
+-- what a planner found, with what the law of shortest plans says of it
+pub found_plan : (class : Class) (t : Task) (r : Result Found SetErr)
+    → ((K : ℕ) (rules : List PlanRule) → IsLastLayer class (system_of t) K → rules ≡ printed_rules class (system_of t) K → IsShortest class (system_of t) (denoted (system_of t) rules))
+    → IfOk r (λ found. IfPlan found (λ plan. plan.class ≡ class))
+    → IfOk r (λ found. IfPlan found (λ plan. (K : ℕ) × IsLastLayer class (system_of t) K × (rules_of plan ≡ printed_rules class (system_of t) K)))
+    → IfOk r (λ found. IfPlan found (λ plan. All (IsRuleOf (fluent_count t) (action_count t)) (rules_of plan)))
+    → IfOk r (λ found. IfPlan found (λ plan. IsTable (system_of t) (denoted (system_of t) (rules_of plan))))
+    → IfOk r (λ found. IfPlan found (λ plan. IsSolution class (system_of t) (denoted (system_of t) (rules_of plan))))
+    → IfOk r (λ found. IfPlan found (λ plan. IsExecutable (system_of t) (rules_of plan)))
+    → IfOk r (λ found. IfNoPlan found (HasNoSolution class (system_of t))) → IsSearched class t r
+found_plan class t (Err e) shortest of_class printed in_task table solves executable none = tt
+found_plan class t (Ok NoPlan) shortest of_class printed in_task table solves executable none = none
+found_plan class t (Ok (Plan p)) shortest of_class printed in_task table solves executable none = record {
+  of_class = of_class;
+  in_task = in_task;
+  last = printed.0;
+  is_last = printed.1;
+  printed = printed.2;
+  table = table;
+  solves = solves;
+  executable = executable;
+  shortest = shortest printed.0 (rules_of p) printed.1 printed.2;
+}

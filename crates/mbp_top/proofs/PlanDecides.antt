@@ -1,4 +1,4 @@
--- The two files and the class decide the answer of `plan`.
+-- The two files and the class decide the answer of `plan`, unless the table of nodes is full.
 use Rattle.std.proofs.Common.{◌≡◌, ◌≢◌, ℕ, true, false, ◌<◌, List, inl, inr, sym, ap, ◌∙◌, arith}
 use Rattle.plan_io.specs.Held.{Held, Untold}
 use Rattle.pddl_ast.specs.Trees.{DomainTree, ProblemTree}
@@ -12,7 +12,8 @@ use Rattle.reach_plan.specs.Layers.{IsLastLayer}
 use Rattle.reach_plan.specs.Printed.{printed_rules}
 use Rattle.mbp_top.specs.Answers.{Answer, affirmed}
 use Rattle.mbp_top.specs.Grounding.{GoalThen, GroundThen}
-use Rattle.mbp_top.specs.PlanCommand.{IsPrintedText, IsPlanResult, IsPlanAnswer, IsPlanned, PlanThen}
+use Rattle.mbp_top.specs.PddlTexts.{ReadBoth}
+use Rattle.mbp_top.specs.PlanCommand.{IsPrintedText, IsPlanResult, IsPlanned, PlanThen}
 use Rattle.mbp_top.specs.Words.{Bytes, PlanWords}
 use Rattle.mbp_top.proofs.Deciding.{Decides}
 use Rattle.mbp_top.proofs.PddlDecides.{OneReading, both_decides, goal_decides, ground_decides}
@@ -40,17 +41,11 @@ result_decides class sys fluents actions a b (inl p) (inr n) = absurd (n.none (d
 result_decides class sys fluents actions a b (inr n) (inl p) = absurd (n.none (denoted sys p.solves.rules) p.solves.table p.solves.solves)
 result_decides class sys fluents actions a b (inr m) (inr n) = m.shown ∙ sym n.shown
 
-then_decides : (asked : PlanWords) (domain : DomainTree) (problem : ProblemTree) → Decides (PlanThen asked domain problem) (PlanThen asked domain problem)
-then_decides asked domain problem a b (inl (many, is)) (inl (many', is')) = is ∙ sym is'
-then_decides asked domain problem a b (inl (many, is)) (inr (few, then)) = absurd (omega (arith, many, few))
-then_decides asked domain problem a b (inr (few, then)) (inl (many, is)) = absurd (omega (arith, many, few))
-then_decides asked domain problem a b (inr (few, then)) (inr (few', then')) =
-    result_decides asked.class (system domain problem) (fluent_names domain problem) (action_names domain problem) a b then then'
-
 pub plan_decides : OneReading → (held : Bytes → Held) (failed failed' : Bytes → Type 0) (asked : PlanWords)
     → held asked.domain ≢ Untold → held asked.problem ≢ Untold → ((file : Bytes) → failed file → ⊥) → ((file : Bytes) → failed' file → ⊥)
-    → Decides (IsPlanAnswer held failed asked) (IsPlanAnswer held failed' asked)
+    → Decides (ReadBoth held failed asked.domain asked.problem (IsPlanned asked)) (ReadBoth held failed' asked.domain asked.problem (IsPlanned asked))
 plan_decides one held failed failed' asked told told' quiet quiet' =
     both_decides one held failed failed' asked.domain asked.problem (IsPlanned asked) (IsPlanned asked) told told' quiet quiet' (λ d p.
     goal_decides asked.problem p (GroundThen d p (PlanThen asked d p)) (GroundThen d p (PlanThen asked d p))
-    (ground_decides d p (PlanThen asked d p) (PlanThen asked d p) (then_decides asked d p)))
+    (ground_decides d p (PlanThen asked d p) (PlanThen asked d p)
+    (result_decides asked.class (system d p) (fluent_names d p) (action_names d p))))

@@ -1,20 +1,21 @@
--- `plan`: what was written at status 0 and 1, and which statuses come.
-use Rattle.std.proofs.Common.{◌≡◌, ℕ, ◌≤◌, List, ◌⊎◌, inl, inr, refl, sym, arith, ◌∙◌, ap, true, IsSome, None, length}
+-- `plan`: what was written at status 0, 1 and 5, and which statuses come.
+use Rattle.std.proofs.Common.{◌≡◌, ◌≢◌, ℕ, List, ◌⊎◌, inl, inr, refl, sym, arith, ◌∙◌, ap, true, IsSome, None}
 use Rattle.std.specs.Io.KnownBytes.{append_known}
-use Rattle.plan_io.specs.Held.{Held}
+use Rattle.plan_io.specs.Held.{Held, Untold}
 use Rattle.pddl_ast.specs.Trees.{DomainTree, ProblemTree}
-use Rattle.pddl_system.specs.Fluents.{fluents}
 use Rattle.pddl_system.specs.Sizes.{first_passed}
 use Rattle.pddl_system.specs.Systems.{system, fluent_names, action_names}
 use Rattle.task_core.specs.Names.{Name}
 use Rattle.task_core.specs.declared.classes.Class.{Class}
 use Rattle.task_core.specs.Systems.{System}
 use Rattle.task_core.specs.Solutions.{HasNoSolution}
-use Rattle.mbp_top.specs.Answers.{Answer, refused, no_memory, not_built, status_of, text_of, is_shown}
-use Rattle.mbp_top.specs.Delivery.{Seen}
+use Rattle.mbp_top.specs.Answers.{Answer, Refusal, refused, no_memory, full, status_of, status_of_refusal, text_of, is_shown}
+use Rattle.mbp_top.specs.Delivery.{IsWhole, Seen}
 use Rattle.mbp_top.specs.Grounding.{GroundThen}
-use Rattle.mbp_top.specs.PddlTexts.{HoldBoth}
-use Rattle.mbp_top.specs.PlanCommand.{IsSolvingText, IsPrintedText, IsPlanFound, IsPlanMissing, IsPlanResult, IsPlanAnswer, IsPlanned, PlanThen, most_planned, no_plan_text}
+use Rattle.mbp_top.specs.Enough.{IsTightLimit}
+use Rattle.mbp_top.specs.PddlTexts.{HoldBoth, IsFaultyDomain, IsFaultyProblem, ReadBoth}
+use Rattle.mbp_top.specs.PlanCommand.{IsSolvingText, IsPrintedText, IsPlanFound, IsPlanMissing, IsPlanResult, IsPlanAnswer, IsPlanned, IsShortestText, MayRunOut, PlanThen, no_plan_text}
+use Rattle.mbp_top.specs.Reading.{IsRefusedFile}
 use Rattle.mbp_top.specs.Told.{AreFilesTold, NoFault}
 use Rattle.mbp_top.specs.Words.{Bytes, PlanWords, plan, SaysPlan}
 use Rattle.mbp_top.proofs.ByCommand.{of_command}
@@ -28,25 +29,20 @@ pub record PlanFor (held : Bytes → Held) (asked : PlanWords) (answer : Answer)
   pub both : HoldBoth held asked.domain asked.problem domain problem
   pub result : IsPlanResult asked.class (system domain problem) (fluent_names domain problem) (action_names domain problem) answer
 
-shown_result : (asked : PlanWords) (d : DomainTree) (p : ProblemTree) (a : Answer) → is_shown a ≡ true → PlanThen asked d p a
-    → IsPlanResult asked.class (system d p) (fluent_names d p) (action_names d p) a
-shown_result asked d p a shown (inl (many, is)) = absurd (not_refused (not_built asked.problem) a is shown)
-shown_result asked d p a shown (inr (few, result)) = result
-
 plan_for : (held : Bytes → Held) (asked : PlanWords) (a : Answer) → is_shown a ≡ true → ReadFor held asked.domain asked.problem (IsPlanned asked) a → PlanFor held asked a
 plan_for held asked a shown read = record {
   domain = read.domain;
   problem = read.problem;
   both = read.both;
-  result = shown_result asked read.domain read.problem a shown
-      (shown_grounded read.domain read.problem (PlanThen asked read.domain read.problem) a shown
+  result = (shown_grounded read.domain read.problem (PlanThen asked read.domain read.problem) a shown
       (shown_goal asked.problem read.problem (GroundThen read.domain read.problem (PlanThen asked read.domain read.problem)) a shown read.result)).1;
 }
 
 shown_plan : (held : Bytes → Held) (failed : Bytes → Type 0) (asked : PlanWords) (a : Answer) → is_shown a ≡ true
     → (a ≡ refused no_memory) ⊎ IsPlanAnswer held failed asked a → PlanFor held asked a
 shown_plan held failed asked a shown (inl is) = absurd (not_refused no_memory a is shown)
-shown_plan held failed asked a shown (inr is) = plan_for held asked a shown (shown_both held failed asked.domain asked.problem (IsPlanned asked) a shown is)
+shown_plan held failed asked a shown (inr (inl (may, is))) = absurd (not_refused (full asked.options.nodes) a is shown)
+shown_plan held failed asked a shown (inr (inr is)) = plan_for held asked a shown (shown_both held failed asked.domain asked.problem (IsPlanned asked) a shown is)
 
 plan_found : (class : Class) (sys : System) (fluents actions : List Name) (a : Answer) → IsPlanResult class sys fluents actions a → status_of a ≡ 0 → IsPlanFound class sys fluents actions a
 plan_found class sys fluents actions a (inl found) zero = found
@@ -63,6 +59,7 @@ pub record PlanWritten (held : Bytes → Held) (asked : PlanWords) (out out' : S
   pub text : Bytes
   pub both : HoldBoth held asked.domain asked.problem domain problem
   pub solves : IsSolvingText asked.class (system domain problem) (fluent_names domain problem) (action_names domain problem) text
+  pub shortest : IsShortestText asked.class (system domain problem) (fluent_names domain problem) (action_names domain problem) text
   pub printed : IsPrintedText asked.class (system domain problem) (fluent_names domain problem) (action_names domain problem) text
   pub written : out'.written ≡ append_known out.written text
 
@@ -80,6 +77,7 @@ plan_written held failed words before after out out' err err' status a asked d s
       text = found.text;
       both = trees.both;
       solves = found.solves;
+      shortest = found.shortest;
       printed = found.printed;
       written = written_shown a found.text out out' err err' whole.1 shown (ap text_of found.shown);
     }
@@ -113,30 +111,78 @@ result_code : (class : Class) (sys : System) (fluents actions : List Name) (a : 
 result_code class sys fluents actions a status (inl found) code = inl (code ∙ ap status_of found.shown)
 result_code class sys fluents actions a status (inr missing) code = inr (inl (code ∙ ap status_of missing.shown))
 
-few_result : (asked : PlanWords) (d : DomainTree) (p : ProblemTree) (a : Answer) → length (fluents d p) ≤ most_planned → PlanThen asked d p a
-    → IsPlanResult asked.class (system d p) (fluent_names d p) (action_names d p) a
-few_result asked d p a few (inl (many, is)) = absurd (omega (arith, many, few))
-few_result asked d p a few (inr (few', result)) = result
+-- a file that is refused has another status than a full table
+refused_not_full : (held : Bytes → Held) (failed : Bytes → Type 0) (Wrong : Bytes → Bytes → Refusal → Type 0) (name : Bytes) (r : Refusal)
+    → ((bytes : Bytes) → Wrong name bytes r → status_of_refusal r ≡ 3) → IsRefusedFile held failed Wrong name r → status_of_refusal r ≢ 5
+refused_not_full held failed Wrong name r wrong (inl (is, why)) five = omega (arith, ap status_of_refusal is, five)
+refused_not_full held failed Wrong name r wrong (inr (inl (is, long))) five = omega (arith, ap status_of_refusal is, five)
+refused_not_full held failed Wrong name r wrong (inr (inr misspelled)) five = omega (arith, wrong misspelled.bytes misspelled.wrong, five)
+
+-- and so has whatever follows the reading of both files
+read_not_full : (held : Bytes → Held) (failed : Bytes → Type 0) (asked : PlanWords) (a : Answer)
+    → ReadBoth held failed asked.domain asked.problem (IsPlanned asked) a → status_of a ≢ 5
+read_not_full held failed asked a (inl (r, is, why)) five =
+    refused_not_full held failed IsFaultyDomain asked.domain r (λ bytes wrong. ap status_of_refusal wrong.2) why (sym (ap status_of is) ∙ five)
+read_not_full held failed asked a (inr (d, holds, inl (r, is, why))) five =
+    refused_not_full held failed (IsFaultyProblem d) asked.problem r (λ bytes wrong. ap status_of_refusal wrong.2) why (sym (ap status_of is) ∙ five)
+read_not_full held failed asked a (inr (d, holds, inr (p, holds', inl (none, is)))) five = omega (arith, ap status_of is, five)
+read_not_full held failed asked a (inr (d, holds, inr (p, holds', inr (some, inl (l, passed, is))))) five = omega (arith, ap status_of is, five)
+read_not_full held failed asked a (inr (d, holds, inr (p, holds', inr (some, inr (within, inl found))))) five = omega (arith, ap status_of found.shown, five)
+read_not_full held failed asked a (inr (d, holds, inr (p, holds', inr (some, inr (within, inr missing))))) five = omega (arith, ap status_of missing.shown, five)
+
+-- what was written at status 5
+pub record FullWritten (held : Bytes → Held) (asked : PlanWords) (err err' : Seen) : Type 0 where
+  pub may : MayRunOut held asked
+  pub written : err'.written ≡ append_known err.written (text_of (refused (full asked.options.nodes)))
+
+pub full_written : (held : Bytes → Held) (failed : Bytes → Type 0) (words : List Bytes) (before after : ℕ) (out out' err err' : Seen) (status : ℕ) (a : Answer) (asked : PlanWords)
+    → Done held failed words before after out out' err err' status a → SaysPlan words asked → status ≡ 5 → FullWritten held asked err err'
+full_written held failed words before after out out' err err' status a asked d says five =
+    go (of_command held failed words (plan asked) a says d.cause) where
+      whole : (status ≡ status_of a) × IsWhole a out out' err err'
+      whole = whole_delivery a out out' err err' status d.delivered (λ seven. let e : 5 ≡ 7 = sym five ∙ seven in omega arith)
+
+      code : status_of a ≡ 5
+      code = sym whole.0 ∙ five
+
+      line : (a ≡ refused (full asked.options.nodes)) → IsWhole a out out' err err' → err'.written ≡ append_known err.written (text_of (refused (full asked.options.nodes)))
+      line is (inl showed) = absurd (not_refused (full asked.options.nodes) a is showed.shown)
+      line is (inr refusal) = refusal.errors.written ∙ ap (λ b. append_known err.written (text_of b)) is
+
+      go : (a ≡ refused no_memory) ⊎ IsPlanAnswer held failed asked a → FullWritten held asked err err'
+      go (inl is) = absurd (let e : 5 ≡ 8 = sym code ∙ ap status_of is in omega arith)
+      go (inr (inl (may, is))) = record { may = may; written = line is whole.1 }
+      go (inr (inr read)) = absurd (read_not_full held failed asked a read code)
+
+-- the nodes are too few for the problem that both files spell, if they are for what is known of them
+tight_of : OneReading → (held : Bytes → Held) (failed : Bytes → Type 0) (asked : PlanWords) (domain : DomainTree) (problem : ProblemTree) (a : Answer)
+    → held asked.domain ≢ Untold → held asked.problem ≢ Untold → ((file : Bytes) → failed file → ⊥)
+    → HoldBoth held asked.domain asked.problem domain problem → MayRunOut held asked → IsTightLimit asked.options.nodes (system domain problem)
+tight_of one held failed asked domain problem a told told' quiet both may =
+    both_as one held failed asked.domain asked.problem (λ d p b. IsTightLimit asked.options.nodes (system d p)) domain problem a told told' quiet both
+    (inr (may.domain, may.both.holds_domain, inr (may.problem, may.both.holds_problem, may.few.tight)))
 
 -- the status where the files spell a domain and a problem of it within the limits
 pub plan_status : OneReading → (held : Bytes → Held) (failed : Bytes → Type 0) (words : List Bytes) (before after : ℕ) (out out' err err' : Seen) (status : ℕ) (a : Answer)
     (asked : PlanWords) (domain : DomainTree) (problem : ProblemTree) → Done held failed words before after out out' err err' status a
     → SaysPlan words asked → HoldBoth held asked.domain asked.problem domain problem
-    → IsSome problem.goal → first_passed domain problem ≡ None → length (fluents domain problem) ≤ most_planned
+    → IsSome problem.goal → first_passed domain problem ≡ None → (IsTightLimit asked.options.nodes (system domain problem) → ⊥)
     → AreFilesTold held words → ((file : Bytes) → failed file → ⊥)
     → NoFault out.faults out'.faults → NoFault err.faults err'.faults → (status ≡ 0) ⊎ (status ≡ 1) ⊎ (status ≡ 8)
-plan_status one held failed words before after out out' err err' status a asked domain problem d says both goal kept few told quiet no_out no_err =
+plan_status one held failed words before after out out' err err' status a asked domain problem d says both goal kept room told quiet no_out no_err =
     go (of_command held failed words (plan asked) a says d.cause) where
       code : status ≡ status_of a
       code = undisturbed a out out' err err' status no_out no_err d.delivered
 
       go : (a ≡ refused no_memory) ⊎ IsPlanAnswer held failed asked a → (status ≡ 0) ⊎ (status ≡ 1) ⊎ (status ≡ 8)
       go (inl is) = inr (inr (code ∙ ap status_of is))
-      go (inr is) =
+      go (inr (inl (may, is))) =
+          absurd (room (tight_of one held failed asked domain problem a
+          (told (plan asked) asked.domain says (0, omega arith, refl)) (told (plan asked) asked.problem says (1, omega arith, refl)) quiet both may))
+      go (inr (inr is)) =
           result_code asked.class (system domain problem) (fluent_names domain problem) (action_names domain problem) a status
-          (few_result asked domain problem a few
           (within_limits domain problem (PlanThen asked domain problem) a kept
           (with_goal asked.problem problem (GroundThen domain problem (PlanThen asked domain problem)) a goal
           (both_as one held failed asked.domain asked.problem (IsPlanned asked) domain problem a
-          (told (plan asked) asked.domain says (0, omega arith, refl)) (told (plan asked) asked.problem says (1, omega arith, refl)) quiet both is))))
+          (told (plan asked) asked.domain says (0, omega arith, refl)) (told (plan asked) asked.problem says (1, omega arith, refl)) quiet both is)))
           code

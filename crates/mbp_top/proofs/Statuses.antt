@@ -5,11 +5,12 @@ use Rattle.std.specs.Io.KnownBytes.{append_known}
 use Rattle.plan_io.specs.Counts.{Rose}
 use Rattle.plan_io.specs.Fetches.{FailedLast}
 use Rattle.plan_io.specs.Held.{Held}
-use Rattle.mbp_top.specs.Answers.{Answer, affirmed, denied, refused, Refusal, no_command, text_fault, over_limit, read_fault, no_memory, not_built, status_of, text_of, is_shown}
+use Rattle.mbp_top.specs.Answers.{Answer, affirmed, denied, refused, Refusal, no_command, text_fault, over_limit, read_fault, no_memory, full, status_of, text_of, is_shown}
 use Rattle.mbp_top.specs.Causes.{HasCause, IsQuietAt, MayHaveFault}
 use Rattle.mbp_top.specs.Delivery.{Seen, IsWhole, IsCut, IsDelivered}
-use Rattle.mbp_top.specs.Told.{AreFilesTold, IsDue, NoFault}
-use Rattle.mbp_top.specs.Words.{Bytes}
+use Rattle.mbp_top.specs.PlanCommand.{MayRunOut}
+use Rattle.mbp_top.specs.Told.{AreFilesTold, IsDue, MayStandIn, NoFault}
+use Rattle.mbp_top.specs.Words.{Bytes, PlanWords, SaysPlan}
 use Rattle.mbp_top.proofs.ByCommand.{due_answer, memory_instead}
 use Rattle.mbp_top.proofs.PddlDecides.{OneReading}
 
@@ -36,7 +37,7 @@ done held failed words before after out out' err err' status found given cause q
 }
 
 abbrev statuses : List ℕ
-statuses = 0 ∷ 1 ∷ 2 ∷ 3 ∷ 4 ∷ 6 ∷ 7 ∷ 8 ∷ 10 ∷ []
+statuses = 0 ∷ 1 ∷ 2 ∷ 3 ∷ 4 ∷ 5 ∷ 6 ∷ 7 ∷ 8 ∷ []
 
 of_answer : (answer : Answer) → Contains statuses (status_of answer)
 of_answer (affirmed text) = (0, omega arith, refl)
@@ -44,13 +45,13 @@ of_answer (denied text) = (1, omega arith, refl)
 of_answer (refused no_command) = (2, omega arith, refl)
 of_answer (refused (text_fault file fault)) = (3, omega arith, refl)
 of_answer (refused (over_limit name)) = (4, omega arith, refl)
-of_answer (refused (read_fault file)) = (5, omega arith, refl)
-of_answer (refused no_memory) = (7, omega arith, refl)
-of_answer (refused (not_built file)) = (8, omega arith, refl)
+of_answer (refused (read_fault file)) = (6, omega arith, refl)
+of_answer (refused no_memory) = (8, omega arith, refl)
+of_answer (refused (full nodes)) = (5, omega arith, refl)
 
 pub of_delivery : (answer : Answer) (out out' err err' : Seen) (status : ℕ) → IsDelivered answer out out' err err' status → Contains statuses status
 of_delivery answer out out' err err' status (inl (is, whole)) = subst (Contains statuses) (sym is) (of_answer answer)
-of_delivery answer out out' err err' status (inr (is, cut)) = subst (Contains statuses) (sym is) (6, omega arith, refl)
+of_delivery answer out out' err err' status (inr (is, cut)) = subst (Contains statuses) (sym is) (7, omega arith, refl)
 
 -- no answer has the status of a write fault
 not_seven : (answer : Answer) → status_of answer ≢ 7
@@ -61,7 +62,7 @@ not_seven (refused (text_fault file fault)) is = omega arith
 not_seven (refused (over_limit name)) is = omega arith
 not_seven (refused (read_fault file)) is = omega arith
 not_seven (refused no_memory) is = omega arith
-not_seven (refused (not_built file)) is = omega arith
+not_seven (refused (full nodes)) is = omega arith
 
 pub whole_delivery : (answer : Answer) (out out' err err' : Seen) (status : ℕ) → IsDelivered answer out out' err err' status → status ≢ 7
     → (status ≡ status_of answer) × IsWhole answer out out' err err'
@@ -82,7 +83,7 @@ fault_status (refused (text_fault file fault)) may six eight = may
 fault_status (refused (over_limit name)) may six eight = may
 fault_status (refused (read_fault file)) may six eight = six refl
 fault_status (refused no_memory) may six eight = eight refl
-fault_status (refused (not_built file)) may six eight = may
+fault_status (refused (full nodes)) may six eight = may
 
 pub quiet_shelf : (answer : Answer) (before after status : ℕ) → IsQuietAt answer before after → status ≡ status_of answer → status ≢ 6 → status ≢ 8 → after ≡ before
 quiet_shelf answer before after status (inl same) is six eight = same
@@ -104,16 +105,22 @@ undisturbed answer out out' err err' status no_out no_err (inl (is, whole)) = is
 undisturbed answer out out' err err' status no_out no_err (inr (is, inl cut)) = absurd (no_out cut.output.fault)
 undisturbed answer out out' err err' status no_out no_err (inr (is, inr cut)) = absurd (no_err cut.errors.fault)
 
-same_code : (a b : Answer) (status : ℕ) → (a ≡ b) ⊎ (a ≡ refused no_memory) → status ≡ status_of a → (status ≡ status_of b) ⊎ (status ≡ 8)
-same_code a b status (inl is) code = inl (code ∙ ap status_of is)
-same_code a b status (inr is) code = inr (code ∙ ap status_of is)
+-- the status where the table of nodes is full
+abbrev pub IsFullStatus : (Bytes → Held) → List Bytes → ℕ → Type 0
+IsFullStatus held words status = (status ≡ 5) × (asked : PlanWords) × SaysPlan words asked × MayRunOut held asked
+
+same_code : (held : Bytes → Held) (words : List Bytes) (a b : Answer) (status : ℕ) → (a ≡ b) ⊎ MayStandIn held words a → status ≡ status_of a
+    → (status ≡ status_of b) ⊎ (status ≡ 8) ⊎ IsFullStatus held words status
+same_code held words a b status (inl is) code = inl (code ∙ ap status_of is)
+same_code held words a b status (inr (inl is)) code = inr (inl (code ∙ ap status_of is))
+same_code held words a b status (inr (inr (asked, says, may, is))) code = inr (inr (code ∙ ap status_of is, asked, says, may))
 
 -- the status is that of the answer that is due
 pub due_status : OneReading → (held : Bytes → Held) (failed : Bytes → Type 0) (words : List Bytes) (before after : ℕ) (out out' err err' : Seen) (status : ℕ) (a b : Answer)
     → Done held failed words before after out out' err err' status a → IsDue held words b → AreFilesTold held words → ((file : Bytes) → failed file → ⊥)
-    → NoFault out.faults out'.faults → NoFault err.faults err'.faults → (status ≡ status_of b) ⊎ (status ≡ 8)
+    → NoFault out.faults out'.faults → NoFault err.faults err'.faults → (status ≡ status_of b) ⊎ (status ≡ 8) ⊎ IsFullStatus held words status
 due_status once held failed words before after out out' err err' status a b d due told quiet no_out no_err =
-    same_code a b status (due_answer once held failed words a b d.cause due told quiet) (undisturbed a out out' err err' status no_out no_err d.delivered)
+    same_code held words a b status (due_answer once held failed words a b d.cause due told quiet) (undisturbed a out out' err err' status no_out no_err d.delivered)
 
 -- what was written of an answer with status 0 or 1
 pub written_shown : (answer : Answer) (text : Bytes) (out out' err err' : Seen) → IsWhole answer out out' err err' → is_shown answer ≡ true → text_of answer ≡ text
@@ -130,4 +137,4 @@ shown_at (refused (text_fault file fault)) is = grind arith
 shown_at (refused (over_limit name)) is = grind arith
 shown_at (refused (read_fault file)) is = grind arith
 shown_at (refused no_memory) is = grind arith
-shown_at (refused (not_built file)) is = grind arith
+shown_at (refused (full nodes)) is = grind arith

@@ -1,29 +1,53 @@
 -- Worked examples of commands, of reading files, and of what the words and the files alone decide.
-use Rattle.std.proofs.Common.{◌≡◌, List, [], ◌∷◌, ◌++◌, codes, inl, inr, refl}
+use Rattle.std.proofs.Common.{◌≡◌, List, [], ◌∷◌, ◌++◌, arith, codes, inl, inr, refl}
+use Rattle.std.specs.Fmt.{digits}
 use Rattle.plan_io.specs.Held.{Held, Missing}
 use Rattle.plan_rules.specs.Texts.{line_feed}
-use Rattle.task_core.specs.declared.classes.Class.TheVariants.{Weak, Strong}
-use Rattle.mbp_top.specs.Answers.{no_command, over_limit, read_fault, refused, status_of, text_of}
+use Rattle.task_core.specs.declared.classes.Class.TheVariants.{Weak, Strong, Cyclic}
+use Rattle.mbp_top.specs.Answers.{full, no_command, over_limit, read_fault, refused, status_of, text_of}
 use Rattle.mbp_top.specs.Told.{AreFilesTold, IsDue}
-use Rattle.mbp_top.specs.Words.{Bytes, Command, PlanWords, plan, ground, check, Says, files_of}
+use Rattle.mbp_top.specs.Words.{Bytes, Command, PlanOptions, PlanWords, plan, ground, check, Says, files_of}
 
 -- the words `plan weak coin-d coin-p`, the command that they say, and the two files that it names
 abbrev coin_words : List Bytes
 coin_words = codes "plan" ∷ codes "weak" ∷ codes "coin-d" ∷ codes "coin-p" ∷ []
 
 abbrev coin_plan : PlanWords
-coin_plan = record { class = Weak; domain = codes "coin-d"; problem = codes "coin-p" }
+coin_plan = record {
+  class = Weak;
+  domain = codes "coin-d";
+  problem = codes "coin-p";
+  options = record { nodes = 1048576 };
+}
 
 coin_said : Says coin_words (plan coin_plan)
-coin_said = record { planned = tt; written = refl }
+coin_said = record {
+  planned = tt;
+  room = (omega arith, omega arith);
+  rest = [];
+  written = refl;
+  options = inl (refl, refl);
+}
 
 coin_files : files_of (plan coin_plan) ≡ codes "coin-d" ∷ codes "coin-p" ∷ []
 coin_files = refl
 
--- no words ask for a strong plan so far
-strong_unsaid : (words : List Bytes) (domain problem : Bytes)
-    → Says words (plan (record { class = Strong; domain = domain; problem = problem })) → ⊥
-strong_unsaid words domain problem says = says.planned
+-- no words ask for a strong cyclic plan so far
+cyclic_unsaid : (words : List Bytes) (domain problem : Bytes)
+    → (options : PlanOptions) → Says words (plan (record { class = Cyclic; domain = domain; problem = problem; options = options })) → ⊥
+cyclic_unsaid words domain problem options says = says.planned
+
+-- the words `plan strong coin-d coin-p --nodes 40`, and the command that they say
+few_said : Says (codes "plan" ∷ codes "strong" ∷ codes "coin-d" ∷ codes "coin-p" ∷ codes "--nodes" ∷ codes "40" ∷ [])
+    (plan (record { class = Strong; domain = codes "coin-d"; problem = codes "coin-p"; options = record { nodes = 40 } }))
+unfolding digits
+few_said = record {
+  planned = tt;
+  room = (omega arith, omega arith);
+  rest = codes "--nodes" ∷ codes "40" ∷ [];
+  written = refl;
+  options = inr refl;
+}
 
 -- a shelf that holds nothing tells of every file, whatever the words
 empty_shelf_told : (words : List Bytes) → AreFilesTold (λ file. Missing) words
@@ -33,8 +57,9 @@ empty_shelf_told words command file says named untold = cc
 missing_domain : (held : Bytes → Held) → held (codes "coin-d") ≡ Missing
     → IsDue held coin_words (refused (read_fault (codes "coin-d")))
 missing_domain held missing = record {
-  cause = inr (plan coin_plan, coin_said, inr (inl (read_fault (codes "coin-d"), refl, inl (refl, inl missing))));
+  cause = inr (plan coin_plan, coin_said, inr (inr (inl (read_fault (codes "coin-d"), refl, inl (refl, inl missing)))));
   not_memory = λ same. cc;
+  not_full = λ nodes same. cc;
 }
 
 -- the word `plan` alone is no command
@@ -45,11 +70,14 @@ plan_alone (check asked) says = cc
 
 -- so the answer to it is that, whatever the files
 no_command_due : (held : Bytes → Held) → IsDue held (codes "plan" ∷ []) (refused no_command)
-no_command_due held = record { cause = inl (plan_alone, refl); not_memory = λ same. cc }
+no_command_due held = record { cause = inl (plan_alone, refl); not_memory = λ same. cc; not_full = λ nodes same. cc }
 
 -- statuses and lines
 long_status : status_of (refused (over_limit (codes "file"))) ≡ 4
 long_status = refl
+
+full_status : status_of (refused (full 40)) ≡ 5
+full_status = refl
 
 long_line : text_of (refused (over_limit (codes "file"))) ≡ codes "limit file" ++ line_feed
 long_line = refl

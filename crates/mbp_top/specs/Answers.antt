@@ -17,8 +17,8 @@ pub data Refusal : Type 0 where
   -- the file of this name can't be read
   read_fault : Bytes → Refusal
   no_memory : Refusal
-  -- the file of this name spells nothing that the program takes so far
-  not_built : Bytes → Refusal
+  -- the table of diagram nodes is full: it may hold so many
+  full : ℕ → Refusal
 
 -- what a command shows, that says yes or no; or a refusal
 pub data Answer : Type 0 where
@@ -32,7 +32,7 @@ status_of_refusal (text_fault file fault) = 3
 status_of_refusal (over_limit name) = 4
 status_of_refusal (read_fault file) = 6
 status_of_refusal no_memory = 8
-status_of_refusal (not_built file) = 10
+status_of_refusal (full nodes) = 5
 
 -- the status where the text of an answer can't be written whole
 abbrev pub write_fault_status : ℕ
@@ -59,7 +59,7 @@ line_of (text_fault file fault) = fault_line file fault
 line_of (over_limit name) = codes "limit " ++ name
 line_of (read_fault file) = codes "read fault " ++ file
 line_of no_memory = codes "no memory"
-line_of (not_built file) = codes "not built " ++ file
+line_of (full nodes) = codes "full " ++ decimal nodes
 
 -- what is written
 abbrev pub text_of : Answer → Bytes

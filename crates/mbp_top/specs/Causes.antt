@@ -3,7 +3,7 @@
 use Rattle.std.specs.Prelude.{◌≡◌, ℕ, ◌⊎◌, ⊤, List}
 use Rattle.plan_io.specs.Held.{Held}
 use Rattle.mbp_top.specs.Answers.{Answer, affirmed, denied, refused, Refusal, no_command}
-use Rattle.mbp_top.specs.Answers.{text_fault, over_limit, read_fault, no_memory, not_built}
+use Rattle.mbp_top.specs.Answers.{text_fault, over_limit, read_fault, no_memory, full}
 use Rattle.mbp_top.specs.CheckCommand.{IsCheckAnswer}
 use Rattle.mbp_top.specs.GroundCommand.{IsGroundAnswer}
 use Rattle.mbp_top.specs.PlanCommand.{IsPlanAnswer}
@@ -29,7 +29,7 @@ IsFault (text_fault file fault) = ⊥
 IsFault (over_limit name) = ⊥
 IsFault (read_fault file) = ⊤
 IsFault no_memory = ⊤
-IsFault (not_built file) = ⊥
+IsFault (full nodes) = ⊥
 
 abbrev pub MayHaveFault : Answer → Type 0
 MayHaveFault (affirmed text) = ⊥

@@ -4,6 +4,7 @@ pub mod Reading
 pub mod PddlTexts
 pub mod Grounding
 pub mod GroundCommand
+pub mod Enough
 pub mod PlanCommand
 pub mod PlanFiles
 pub mod CheckCommand
@@ -11,3 +12,4 @@ pub mod Causes
 pub mod Told
 pub mod Delivery
 pub mod Values
+pub mod FoundPlans

@@ -1,8 +1,9 @@
--- The command `plan`: when a text is a plan that solves a system, which text is printed, and the
--- answer of the command. The names are those of the system's fluents and actions, by their numbers.
-use Rattle.std.specs.Prelude.{◌≡◌, ℕ, ◌<◌, ◌≤◌, ◌⊎◌, List, ◌++◌, codes, length}
+-- The command `plan`: when a text is a plan that solves a system, and a shortest one, which text is
+-- printed, when the table of nodes may be too small, and the answer of the command. The names are
+-- those of the system's fluents and actions, by their numbers.
+use Rattle.std.specs.Prelude.{◌≡◌, ℕ, ◌⊎◌, ⊤, List, Contains, ◌++◌, codes, None, IsSome}
 use Rattle.pddl_ast.specs.Trees.{DomainTree, ProblemTree}
-use Rattle.pddl_system.specs.Fluents.{fluents}
+use Rattle.pddl_system.specs.Sizes.{first_passed}
 use Rattle.pddl_system.specs.Systems.{system, fluent_names, action_names}
 use Rattle.plan_io.specs.Held.{Held}
 use Rattle.plan_rules.specs.Denoted.{denoted, IsExecutable}
@@ -11,14 +12,18 @@ use Rattle.plan_rules.specs.Rules.{PlanRule}
 use Rattle.plan_rules.specs.Texts.{table_text, line_feed}
 use Rattle.task_core.specs.Names.{Name}
 use Rattle.task_core.specs.declared.classes.Class.{Class}
+use Rattle.task_core.specs.declared.classes.Class.TheVariants.{Weak, Strong, Cyclic}
+use Rattle.reach_plan.specs.Bounds.{PathsAreWithin, ReachesGoalWithin}
 use Rattle.reach_plan.specs.Layers.{IsLastLayer}
 use Rattle.reach_plan.specs.Printed.{printed_rules}
-use Rattle.task_core.specs.Solutions.{HasNoSolution, IsSolution}
+use Rattle.task_core.specs.Solutions.{HasNoSolution, IsSolution, IsStrongSolution, IsWeakSolution}
 use Rattle.task_core.specs.Systems.{System}
-use Rattle.task_core.specs.Tables.{IsTable}
-use Rattle.mbp_top.specs.Answers.{Answer, affirmed, denied, refused, not_built}
+use Rattle.task_core.specs.Tables.{IsTable, Table}
+use Rattle.task_core.specs.Vectors.{Vector}
+use Rattle.mbp_top.specs.Answers.{Answer, affirmed, denied, refused, full}
 use Rattle.mbp_top.specs.Grounding.{GoalThen, GroundThen}
-use Rattle.mbp_top.specs.PddlTexts.{ReadBoth}
+use Rattle.mbp_top.specs.Enough.{IsTightLimit}
+use Rattle.mbp_top.specs.PddlTexts.{HoldBoth, ReadBoth}
 use Rattle.mbp_top.specs.Words.{Bytes, PlanWords}
 
 -- read as a form, the text spells rules that denote a solution of the class, and none of them
@@ -30,6 +35,26 @@ pub record IsSolvingText (class : Class) (sys : System) (fluents actions : List 
   pub table : IsTable sys (denoted sys rules)
   pub solves : IsSolution class sys (denoted sys rules)
   pub executable : IsExecutable sys rules
+
+-- no solution of the class is shorter from any initial state. The length of a strong plan is that
+-- of its longest path, which is at most n for every n that bounds the paths of the other; the
+-- length of a weak plan is that of its shortest path to a terminal goal state. Of strong cyclic
+-- plans nothing is said
+abbrev pub IsShortest : Class → System → Table → Type 0
+IsShortest Weak sys table =
+    (other : Table) (s : Vector) (n : ℕ) → IsTable sys other → IsWeakSolution sys other
+    → Contains sys.initial s → ReachesGoalWithin sys other s n → ReachesGoalWithin sys table s n
+IsShortest Strong sys table =
+    (other : Table) (s : Vector) (n : ℕ) → IsTable sys other → IsStrongSolution sys other
+    → Contains sys.initial s → PathsAreWithin sys other s n → PathsAreWithin sys table s n
+IsShortest Cyclic sys table = ⊤
+
+-- read as a form, the text spells rules that denote a table than which no solution is shorter
+pub record IsShortestText (class : Class) (sys : System) (fluents actions : List Name)
+    (text : Bytes) : Type 0 where
+  pub rules : List PlanRule
+  pub spelled : SpellsTable fluents actions text class rules
+  pub shortest : IsShortest class sys (denoted sys rules)
 
 -- the text is the one that is printed: that of the rules of the layers from the goal up to the
 -- first that holds every initial state
@@ -49,6 +74,7 @@ pub record IsPlanFound (class : Class) (sys : System) (fluents actions : List Na
   pub text : Bytes
   pub shown : answer ≡ affirmed text
   pub solves : IsSolvingText class sys fluents actions text
+  pub shortest : IsShortestText class sys fluents actions text
   pub printed : IsPrintedText class sys fluents actions text
 
 -- the answer is that there is no plan: no table at all is a solution of the class
@@ -61,19 +87,11 @@ abbrev pub IsPlanResult : Class → System → List Name → List Name → Answe
 IsPlanResult class sys fluents actions answer =
     IsPlanFound class sys fluents actions answer ⊎ IsPlanMissing class sys answer
 
--- how many fluents a task may have of which a plan is looked for, so far
-abbrev pub most_planned : ℕ
-most_planned = 8
-
--- the problem in the file of this name has more fluents than may be so far, which is refused; or
--- the answer is for its system
+-- the answer for the system of a domain and a problem
 abbrev pub PlanThen : PlanWords → DomainTree → ProblemTree → Answer → Type 0
-PlanThen asked domain problem answer =
-    ((most_planned < length (fluents domain problem))
-    × (answer ≡ refused (not_built asked.problem)))
-    ⊎ ((length (fluents domain problem) ≤ most_planned)
-    × IsPlanResult asked.class (system domain problem) (fluent_names domain problem)
-    (action_names domain problem) answer)
+PlanThen asked domain problem =
+    IsPlanResult asked.class (system domain problem) (fluent_names domain problem)
+    (action_names domain problem)
 
 -- what follows once both are read: the goal is of the kind that is wanted, the limits are kept, and
 -- a plan is looked for
@@ -81,7 +99,24 @@ abbrev pub IsPlanned : PlanWords → DomainTree → ProblemTree → Answer → T
 IsPlanned asked domain problem =
     GoalThen asked.problem problem (GroundThen domain problem (PlanThen asked domain problem))
 
--- the answer of the command
+-- a plan is looked for of this domain and problem, since the goal is of the kind that is wanted and
+-- the limits are kept; and the nodes that are asked for may be too few for it
+pub record MayBeTooFew (asked : PlanWords) (domain : DomainTree) (problem : ProblemTree)
+    : Type 0 where
+  pub goal : IsSome problem.goal
+  pub within : first_passed domain problem ≡ None
+  pub tight : IsTightLimit asked.options.nodes (system domain problem)
+
+-- the same of what the two files spell
+pub record MayRunOut (held : Bytes → Held) (asked : PlanWords) : Type 0 where
+  pub domain : DomainTree
+  pub problem : ProblemTree
+  pub both : HoldBoth held asked.domain asked.problem domain problem
+  pub few : MayBeTooFew asked domain problem
+
+-- the answer of the command: that the table of nodes is full, where it may be; or what follows the
+-- reading of both files
 abbrev pub IsPlanAnswer : (Bytes → Held) → (Bytes → Type 0) → PlanWords → Answer → Type 0
-IsPlanAnswer held failed asked =
-    ReadBoth held failed asked.domain asked.problem (IsPlanned asked)
+IsPlanAnswer held failed asked answer =
+    (MayRunOut held asked × (answer ≡ refused (full asked.options.nodes)))
+    ⊎ ReadBoth held failed asked.domain asked.problem (IsPlanned asked) answer

@@ -1,10 +1,11 @@
 -- What the words and the files alone decide. `held` is what the shelf tells of each name.
-use Rattle.std.specs.Prelude.{◌≢◌, ℕ, List, Contains}
+use Rattle.std.specs.Prelude.{◌≡◌, ◌≢◌, ℕ, ◌⊎◌, List, Contains}
 use Rattle.plan_io.specs.Counts.{Rose}
 use Rattle.plan_io.specs.Held.{Held, Untold}
-use Rattle.mbp_top.specs.Answers.{Answer, refused, no_memory}
+use Rattle.mbp_top.specs.Answers.{Answer, refused, full, no_memory}
 use Rattle.mbp_top.specs.Causes.{HasCause}
-use Rattle.mbp_top.specs.Words.{Bytes, Command, Says, files_of}
+use Rattle.mbp_top.specs.PlanCommand.{MayRunOut}
+use Rattle.mbp_top.specs.Words.{Bytes, Command, PlanWords, Says, SaysPlan, files_of}
 
 -- of each file that the words name, the shelf tells its bytes, or that there is none
 abbrev pub AreFilesTold : (Bytes → Held) → List Bytes → Type 0
@@ -13,10 +14,19 @@ AreFilesTold held words =
     → held file ≢ Untold
 
 -- the words and the files alone call for this answer: no fault of the shelf is a part of its cause,
--- and it isn't want of memory
+-- and it is neither want of memory nor that the table of nodes is full
 pub record IsDue (held : Bytes → Held) (words : List Bytes) (answer : Answer) : Type 0 where
   pub cause : HasCause held (λ file. ⊥) words answer
   pub not_memory : answer ≢ refused no_memory
+  pub not_full : (nodes : ℕ) → answer ≢ refused (full nodes)
+
+-- an answer that may be given in place of one that is due: want of memory; or that the table of
+-- nodes is full, where the words ask for a plan of a problem for which their limit may be too small
+abbrev pub MayStandIn : (Bytes → Held) → List Bytes → Answer → Type 0
+MayStandIn held words given =
+    (given ≡ refused no_memory)
+    ⊎ ((asked : PlanWords) × SaysPlan words asked × MayRunOut held asked
+    × (given ≡ refused (full asked.options.nodes)))
 
 -- no fault came: the count of faults didn't rise
 abbrev pub NoFault : ℕ → ℕ → Type 0

@@ -1,15 +1,15 @@
 -- Private: the answers and commands that the code's own types stand for.
 use Rattle.std.specs.Prelude.{ℕ, List, Result, Ok, Err, string_bytes, codes}
 use Rattle.mbp_top.specs.Answers.{Answer, affirmed, denied, refused, Refusal, no_command}
-use Rattle.mbp_top.specs.Answers.{text_fault, over_limit, read_fault, no_memory, not_built}
+use Rattle.mbp_top.specs.Answers.{text_fault, over_limit, read_fault, no_memory, full}
 use Rattle.pddl_system.specs.Sizes.{object_limit, size_limit, instance_limit, action_limit}
 use Rattle.pddl_system.specs.Sizes.{outcome_limit, fluent_limit}
 use Rattle.plan_rules.specs.Rules.{plain_of}
 use Rattle.plan_rules.specs.declared.rules.PlanRead.{PlanRead}
 use Rattle.mbp_top.specs.Grounding.{limit_name}
 use Rattle.mbp_top.specs.PlanFiles.{PlacedPlan}
-use Rattle.mbp_top.specs.Words.{Bytes, PlanWords, GroundWords, CheckWords, plan, ground, check}
-use Rattle.mbp_top.specs.Words.{Says, SayNothing}
+use Rattle.mbp_top.specs.Words.{Bytes, PlanOptions, PlanWords, GroundWords, CheckWords, plan}
+use Rattle.mbp_top.specs.Words.{ground, check, Says, SayNothing}
 use Rattle.sexpr_text.specs.declared.faults.ReadErr.{ReadErr}
 use Rattle.sexpr_text.specs.declared.faults.ReadErr.TheVariants.{Fault, Memory}
 use Rattle.mbp_top.specs.declared.answers.Limit.{Limit}
@@ -18,13 +18,14 @@ use Rattle.mbp_top.specs.declared.answers.Limit.TheVariants.{Actions, Outcomes, 
 use Rattle.mbp_top.specs.declared.answers.Limit.TheVariants.{Configurations}
 use Rattle.mbp_top.specs.declared.answers.Refusal.{Refusal as CodeRefusal}
 use Rattle.mbp_top.specs.declared.answers.Refusal.TheVariants.{NoCommand, TextFault, OverLimit}
-use Rattle.mbp_top.specs.declared.answers.Refusal.TheVariants.{ReadFault, NoMemory, NotBuilt}
+use Rattle.mbp_top.specs.declared.answers.Refusal.TheVariants.{ReadFault, NoMemory, Full}
 use Rattle.mbp_top.specs.declared.answers.Shown.{Shown}
 use Rattle.mbp_top.specs.declared.answers.Shown.TheVariants.{Affirmed, Denied}
 use Rattle.mbp_top.specs.declared.answers.Text.{Text}
 use Rattle.mbp_top.specs.declared.answers.Text.TheVariants.{Fixed, Made}
 use Rattle.mbp_top.specs.declared.words.Command.{Command as CodeCommand}
 use Rattle.mbp_top.specs.declared.words.Command.TheVariants.{Plan, Ground, Check, Nothing}
+use Rattle.mbp_top.specs.declared.words.PlanOptions.{PlanOptions as CodePlanOptions}
 use Rattle.mbp_top.specs.declared.words.PlanWords.{PlanWords as CodePlanWords}
 use Rattle.mbp_top.specs.declared.words.GroundWords.{GroundWords as CodeGroundWords}
 use Rattle.mbp_top.specs.declared.words.CheckWords.{CheckWords as CodeCheckWords}
@@ -50,7 +51,7 @@ refusal_of (TextFault file fault) = text_fault (string_bytes file) fault
 refusal_of (OverLimit limit) = over_limit (limit_of limit)
 refusal_of (ReadFault file) = read_fault (string_bytes file)
 refusal_of NoMemory = no_memory
-refusal_of (NotBuilt file) = not_built (string_bytes file)
+refusal_of (Full nodes) = full nodes
 
 abbrev pub shown_of : Shown → Answer
 shown_of (Affirmed text) = affirmed (bytes_of text)
@@ -60,9 +61,16 @@ abbrev pub answer_of : Result Shown CodeRefusal → Answer
 answer_of (Ok shown) = shown_of shown
 answer_of (Err refusal) = refused (refusal_of refusal)
 
+abbrev pub plan_options_of : CodePlanOptions → PlanOptions
+plan_options_of options = record { nodes = options.nodes }
+
 abbrev pub plan_words_of : CodePlanWords → PlanWords
-plan_words_of words =
-    record { class = words.class; domain = words.domain.now; problem = words.problem.now }
+plan_words_of words = record {
+  class = words.class;
+  domain = words.domain.now;
+  problem = words.problem.now;
+  options = plan_options_of words.options;
+}
 
 abbrev pub ground_words_of : CodeGroundWords → GroundWords
 ground_words_of words = record { domain = words.domain.now; problem = words.problem.now }

@@ -1,5 +1,5 @@
 -- The command words: which commands there are, and which words say them.
-use Rattle.std.specs.Prelude.{◌≡◌, ℕ, List, [], ◌∷◌, codes, ⊤}
+use Rattle.std.specs.Prelude.{◌≡◌, ℕ, ◌≤◌, ◌⊎◌, List, [], ◌∷◌, codes, decimal, ⊤}
 use Rattle.plan_rules.specs.Texts.{class_word}
 use Rattle.task_core.specs.declared.classes.Class.{Class}
 use Rattle.task_core.specs.declared.classes.Class.TheVariants.{Weak, Strong, Cyclic}
@@ -8,12 +8,17 @@ use Rattle.task_core.specs.declared.classes.Class.TheVariants.{Weak, Strong, Cyc
 abbrev pub Bytes : Type 0
 Bytes = List ℕ
 
+-- the options of `plan`: how many nodes the table of diagrams may hold
+pub record PlanOptions : Type 0 where
+  pub nodes : ℕ
+
 -- what `plan` is asked: a plan of this class, for the domain and the problem in the files of these
--- names
+-- names, with these options
 pub record PlanWords : Type 0 where
   pub class : Class
   pub domain : Bytes
   pub problem : Bytes
+  pub options : PlanOptions
 
 -- what `ground` is asked: a listing of the domain and the problem in the files of these names
 pub record GroundWords : Type 0 where
@@ -36,13 +41,33 @@ pub data Command : Type 0 where
 -- the classes of which plans are looked for, so far
 abbrev pub IsPlannedClass : Class → Type 0
 IsPlannedClass Weak = ⊤
-IsPlannedClass Strong = ⊥
+IsPlannedClass Strong = ⊤
 IsPlannedClass Cyclic = ⊥
 
--- `plan CLASS DOMAIN PROBLEM`
+-- the most nodes that may be asked for, and how many there may be where nothing is said of them
+abbrev pub most_nodes : ℕ
+most_nodes = 16777216
+
+abbrev pub default_nodes : ℕ
+default_nodes = 1048576
+
+-- so many nodes may be asked for
+abbrev pub IsNodeLimit : ℕ → Type 0
+IsNodeLimit nodes = (1 ≤ nodes) × (nodes ≤ most_nodes)
+
+-- nothing, or `--nodes N`, N in decimal digits without sign and without a leading zero
+abbrev pub SaysOptions : List Bytes → PlanOptions → Type 0
+SaysOptions words options =
+    ((words ≡ []) × (options.nodes ≡ default_nodes))
+    ⊎ (words ≡ codes "--nodes" ∷ decimal options.nodes ∷ [])
+
+-- `plan CLASS DOMAIN PROBLEM`, and then the options
 pub record SaysPlan (words : List Bytes) (asked : PlanWords) : Type 0 where
   pub planned : IsPlannedClass asked.class
-  pub written : words ≡ codes "plan" ∷ class_word asked.class ∷ asked.domain ∷ asked.problem ∷ []
+  pub room : IsNodeLimit asked.options.nodes
+  pub rest : List Bytes
+  pub written : words ≡ codes "plan" ∷ class_word asked.class ∷ asked.domain ∷ asked.problem ∷ rest
+  pub options : SaysOptions rest asked.options
 
 -- `ground DOMAIN PROBLEM`
 abbrev pub SaysGround : List Bytes → GroundWords → Type 0

@@ -127,8 +127,8 @@ pub(crate) enum Refusal {
     /// The file of this name can't be read.
     ReadFault(String),
     NoMemory,
-    /// The file of this name spells nothing that the program takes so far.
-    NotBuilt(String),
+    /// The table of diagram nodes is full: it may hold so many.
+    Full(u32),
 }
 
 impl From<AllocError> for Refusal {
@@ -152,7 +152,7 @@ impl Refusal {
             Refusal::OverLimit(_) => 4,
             Refusal::ReadFault(_) => 6,
             Refusal::NoMemory => NO_MEMORY,
-            Refusal::NotBuilt(_) => 10,
+            Refusal::Full(_) => 5,
         }
     }
 
@@ -173,8 +173,8 @@ impl Refusal {
                 Text::Made(format!(in alloc; "read fault {file}\n")?.into_bytes())
             }
             Refusal::NoMemory => Text::Fixed(NO_MEMORY_LINE),
-            Refusal::NotBuilt(file) => {
-                Text::Made(format!(in alloc; "not built {file}\n")?.into_bytes())
+            Refusal::Full(nodes) => {
+                Text::Made(format!(in alloc; "full {nodes}\n")?.into_bytes())
             }
         })
     }

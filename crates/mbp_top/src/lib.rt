@@ -3,8 +3,9 @@
 //! `specs/` says what the call answers: `Words` the commands, `Answers` each answer with its status
 //! and its text, `Reading` how a command reads its files, `PddlTexts` which domain and problem they
 //! spell, `Grounding` the limits, `PlanCommand`, `GroundCommand` and `CheckCommand` the answers of
-//! `plan`, `ground` and `check`, `PlanFiles` how a plan is read, `Causes` the cause of each answer,
-//! `Told` what the words and the files alone decide, and `Delivery` what is written.
+//! `plan`, `ground` and `check`, `Enough` how many nodes are enough for a plan, `PlanFiles` how a
+//! plan is read, `Causes` the cause of each answer, `Told` what the words and the files alone
+//! decide, and `Delivery` what is written.
 #![tactic(auto)]
 
 mod answers;

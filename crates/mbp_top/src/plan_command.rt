@@ -1,39 +1,50 @@
 //! The command `plan`.
 
-ghost use Rattle.mbp_top.specs.Answers.{no_memory, refused};
+ghost use Rattle.dd_sets.specs.Rooms.{IsTightFor};
+ghost use Rattle.encode_task.specs.Made.{MadeOf};
+ghost use Rattle.mbp_top.specs.Answers.{full, no_memory, refused};
 ghost use Rattle.mbp_top.specs.Causes.{IsQuietAt};
+ghost use Rattle.mbp_top.specs.Enough.{IsTightLimit};
+ghost use Rattle.mbp_top.specs.FoundPlans.{IsSearched};
+ghost use Rattle.mbp_top.specs.PlanCommand.{IsPlanAnswer, IsPlanResult, IsPlanned, MayBeTooFew};
+ghost use Rattle.mbp_top.specs.PlanCommand.{PlanThen};
 ghost use Rattle.mbp_top.specs.Grounding.{GroundThen};
-ghost use Rattle.mbp_top.specs.PlanCommand.{
-  IsPlanAnswer,
-  IsPlanResult,
-  IsPlanned,
-  PlanThen,
-  most_planned,
-};
 ghost use Rattle.mbp_top.specs.Values.{answer_of, bytes_of, plan_words_of, shown_of};
-ghost use Rattle.mbp_top.specs.Words.{IsPlannedClass};
+ghost use Rattle.mbp_top.specs.Words.{IsNodeLimit, IsPlannedClass};
 ghost use Rattle.pddl_ast.specs.Fits.{FitsDomain, FitsProblem};
 ghost use Rattle.pddl_ast.specs.Values.{domain_value, problem_value};
 ghost use Rattle.pddl_system.specs.Names.{NamesAreWords};
 ghost use Rattle.plan_io.specs.Fetches.{FailedLast, FetchesFirst};
 ghost use Rattle.plan_rules.specs.Plans.{IsPlanOf, plan_text};
 ghost use Rattle.plan_rules.specs.Readings.{SpellsPlan};
-ghost use Rattle.std.specs.Prelude.{◌≡◌, ◌≤◌, ◌⊎◌, [], ◌∷◌, IfOk, IsSome, List, length, ℕ};
-ghost use Rattle.task_core.specs.Tasks.{action_names, fluent_names, system_of};
+ghost use Rattle.std.specs.Prelude.{
+  ◌≡◌,
+  ◌≤◌,
+  ◌+◌,
+  ◌⊎◌,
+  [],
+  ◌∷◌,
+  IfOk,
+  IsErrOf,
+  IsSome,
+  List,
+  length,
+  ℕ,
+};
+ghost use Rattle.task_core.specs.Tasks.{action_count, action_names, fluent_names, system_of};
 
 use crate::answers::{Refusal, Shown, Text};
 use crate::grounding::{check_goal, grounded};
 use crate::pddl_texts::read_both;
 use crate::words::PlanWords;
+use dd_sets::{SetErr, tight_is_monotone};
+use encode_task::{Enc, encode};
 use pddl_ast::{Domain, Problem};
 use plan_io::Shelf;
 use plan_rules::{Class, Plan, write_plan};
-use reach_plan::{Found, plan_weak};
+use reach_plan::{Found, plan_strong_sets, plan_weak_sets, printed_plan_is_shortest};
 use std::alloc::{AllocError, Global};
-use task_core::Task;
-
-/// How many fluents a task may have of which a plan is looked for, so far.
-const MOST_PLANNED: usize = 8;
+use task_core::{Task, tasks_have_systems};
 
 /// The plan for the domain and the problem in two files, or that there is none.
 pub(crate) fn plan_files<S: Shelf>(
@@ -41,7 +52,8 @@ pub(crate) fn plan_files<S: Shelf>(
     shelf: &mut S,
     asked: &PlanWords,
 ) -> Result<Shown, Refusal>
-    requires { IsPlannedClass asked.now.class }
+    requires planned { IsPlannedClass asked.now.class }
+    requires room { IsNodeLimit asked.now.options.nodes }
     ensures answer { let failed = FailedLast S.fetched S.faults shelf.old shelf.new in
         (answer_of result ≡ refused no_memory)
         ⊎ IsPlanAnswer (S.held shelf.old) failed (plan_words_of asked.now) (answer_of result) }
@@ -63,12 +75,16 @@ fn plan_problem(
     problem: &Problem,
 ) -> Result<Shown, Refusal>
     requires planned { IsPlannedClass asked.now.class }
+    requires room { IsNodeLimit asked.now.options.nodes }
     requires fits_domain { FitsDomain (domain_value domain.now) }
     requires fits_problem { FitsProblem (domain_value domain.now) (problem_value problem.now) }
     requires names { NamesAreWords (domain_value domain.now) (problem_value problem.now) }
-    ensures { (answer_of result ≡ refused no_memory)
-        ⊎ IsPlanned (plan_words_of asked.now) (domain_value domain.now)
-        (problem_value problem.now) (answer_of result) }
+    ensures { let asked = plan_words_of asked.now in
+        (answer_of result ≡ refused no_memory)
+        ⊎ (MayBeTooFew asked (domain_value domain.now) (problem_value problem.now)
+        × (answer_of result ≡ refused (full asked.options.nodes)))
+        ⊎ IsPlanned asked (domain_value domain.now) (problem_value problem.now)
+        (answer_of result) }
 {
     check_goal(alloc, asked.problem, problem)?;
     plan_grounded(alloc, asked, domain, problem)
@@ -82,39 +98,99 @@ fn plan_grounded(
     problem: &Problem,
 ) -> Result<Shown, Refusal>
     requires planned { IsPlannedClass asked.now.class }
+    requires room { IsNodeLimit asked.now.options.nodes }
     requires fits_domain { FitsDomain (domain_value domain.now) }
     requires fits_problem { FitsProblem (domain_value domain.now) (problem_value problem.now) }
     requires names { NamesAreWords (domain_value domain.now) (problem_value problem.now) }
     requires goal { IsSome (problem_value problem.now).goal }
-    ensures { (answer_of result ≡ refused no_memory)
+    ensures { let asked = plan_words_of asked.now in
+        (answer_of result ≡ refused no_memory)
+        ⊎ (MayBeTooFew asked (domain_value domain.now) (problem_value problem.now)
+        × (answer_of result ≡ refused (full asked.options.nodes)))
         ⊎ GroundThen (domain_value domain.now) (problem_value problem.now)
-        (PlanThen (plan_words_of asked.now) (domain_value domain.now)
-        (problem_value problem.now)) (answer_of result) }
+        (PlanThen asked (domain_value domain.now) (problem_value problem.now))
+        (answer_of result) }
 {
     let task = grounded(alloc, domain, problem)?;
-    if task.fluents.len() > MOST_PLANNED {
-        return Err(Refusal::NotBuilt(String::from_str(alloc, asked.problem)?));
+    match plan_task(alloc, asked.class, asked.options.nodes, &task) {
+        Ok(shown) => Ok(shown),
+        Err(SetErr::Full) => Err(Refusal::Full(asked.options.nodes)),
+        Err(SetErr::Memory) => Err(Refusal::NoMemory),
     }
-    Ok(plan_task(alloc, asked.class, &task)?)
 }
 
-/// The plan for a task.
-fn plan_task(alloc: Global, class: Class, task: &Task) -> Result<Shown, AllocError>
+/// The plan for a task, found in a table for so many nodes.
+fn plan_task(alloc: Global, class: Class, nodes: u32, task: &Task) -> Result<Shown, SetErr>
     requires planned { IsPlannedClass class }
+    requires room { IsNodeLimit nodes }
     requires goal { IsSome task.now.goal }
-    requires small { length task.now.fluents.items ≤ most_planned }
-    ensures { IfOk result
+    ensures plan { IfOk result
         (λ shown. IsPlanResult class (system_of task.now) (fluent_names task.now)
         (action_names task.now) (shown_of shown)) }
+    ensures full { IsErrOf result SetErr.Full → IsTightLimit nodes (system_of task.now) }
 {
-    let found = match class {
-        Class::Weak => plan_weak(alloc, task)?,
-        Class::Strong | Class::Cyclic => unreachable!(),
-    };
-    match found {
+    match search_task(alloc, class, nodes, task)? {
         Found::Plan(table) => Ok(Shown::Affirmed(text_of_plan(alloc, &Plan::Table(table), task)?)),
         Found::NoPlan => Ok(Shown::Denied(Text::Fixed("no plan\n"))),
     }
+}
+
+/// What is found for a task, in a table for so many nodes.
+fn search_task(alloc: Global, class: Class, nodes: u32, task: &Task) -> Result<Found, SetErr>
+    requires planned { IsPlannedClass class }
+    requires room { IsNodeLimit nodes }
+    requires goal { IsSome task.now.goal }
+    ensures found { IsSearched class task.now result }
+    ensures full { IsErrOf result SetErr.Full → IsTightLimit nodes (system_of task.now) }
+{
+    // This does nothing: that few nodes are too few for more sets rests on what it promises.
+    tight_is_monotone();
+    let mut enc = encode(alloc, task, nodes)?;
+    find_plan(alloc, class, task, &mut enc)
+}
+
+/// The plan for a task, over its sets.
+fn find_plan(alloc: Global, class: Class, task: &Task, enc: &mut Enc) -> Result<Found, SetErr>
+    requires planned { IsPlannedClass class }
+    requires made { MadeOf task.now enc.old }
+    requires goal { IsSome task.now.goal }
+    ensures found { IsSearched class task.now result }
+    ensures full { IsErrOf result SetErr.Full
+        → IsTightFor (action_count task.now + 24) enc.old.sets }
+{
+    match class {
+        Class::Weak => weak_plan(alloc, task, enc),
+        Class::Strong => strong_plan(alloc, task, enc),
+        Class::Cyclic => unreachable!(),
+    }
+}
+
+/// The weak plan for a task, which is a shortest one.
+fn weak_plan(alloc: Global, task: &Task, enc: &mut Enc) -> Result<Found, SetErr>
+    requires made { MadeOf task.now enc.old }
+    requires goal { IsSome task.now.goal }
+    ensures found { IsSearched Class.Weak task.now result }
+    ensures full { IsErrOf result SetErr.Full
+        → IsTightFor (action_count task.now + 24) enc.old.sets }
+{
+    // These do nothing: that no solution is shorter rests on what they promise.
+    tasks_have_systems(task);
+    printed_plan_is_shortest();
+    plan_weak_sets(alloc, task, enc)
+}
+
+/// The strong plan for a task, which is a shortest one.
+fn strong_plan(alloc: Global, task: &Task, enc: &mut Enc) -> Result<Found, SetErr>
+    requires made { MadeOf task.now enc.old }
+    requires goal { IsSome task.now.goal }
+    ensures found { IsSearched Class.Strong task.now result }
+    ensures full { IsErrOf result SetErr.Full
+        → IsTightFor (action_count task.now + 24) enc.old.sets }
+{
+    // These do nothing: that no solution is shorter rests on what they promise.
+    tasks_have_systems(task);
+    printed_plan_is_shortest();
+    plan_strong_sets(alloc, task, enc)
 }
 
 /// The text of a plan.

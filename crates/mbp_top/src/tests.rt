@@ -15,7 +15,7 @@ const UP: &str = "(define (problem c) (:domain coin) (:init) (:goal (up)))\n";
 
 const DOWN: &str = "(define (problem c) (:domain coin) (:init (up)) (:goal (not (up))))\n";
 
-/// As many fluents as plans are looked for so far, each of them lit by its own action.
+/// Eight fluents, each of them lit by its own action.
 const EIGHT: &str = "(define (domain eight)
   (:predicates (a) (b) (c) (d) (e) (f) (g) (h))
   (:action la :effect (a)) (:action lb :effect (b)) (:action lc :effect (c))
@@ -55,13 +55,15 @@ const ELEVEN: &str = "(define (problem m) (:domain many)
   (:objects a b c d e f g h i j k) (:init) (:goal (p)))
 ";
 
-/// One fluent more than plans are looked for so far.
+/// Nine fluents, which one action lights.
 const NINE: &str = "(define (domain nine)
   (:predicates (a) (b) (c) (d) (e) (f) (g) (h) (i))
   (:action all :effect (and (a) (b) (c) (d) (e) (f) (g) (h) (i))))
 ";
 
 const LIT: &str = "(define (problem n) (:domain nine) (:init) (:goal (a)))\n";
+
+const NINE_PLAN: &str = "(plan table strong\n  (rule ((not (a))) (all))\n)\n";
 
 const LEFT_OUT: &str = "(define (domain d) (:requirements) (:functions (f)))\n";
 
@@ -118,8 +120,21 @@ fn each_answer_goes_where_it_belongs(rt: HostRuntime) -> Result<(), Fail> {
         ("", 2, "", NO_COMMAND),
         ("plan", 2, "", NO_COMMAND),
         ("plan Weak coin-d up", 2, "", NO_COMMAND),
-        ("plan strong coin-d up", 2, "", NO_COMMAND),
+        ("plan strong coin-d up", 1, "no plan\n", ""),
+        (
+            "plan strong eight-d all-lit",
+            0,
+            "(plan table strong\n)\n",
+            "",
+        ),
+        ("plan strong nine-d nine", 0, NINE_PLAN, ""),
+        ("plan cyclic coin-d up", 2, "", NO_COMMAND),
         ("plan weak coin-d up --nodes", 2, "", NO_COMMAND),
+        ("plan weak coin-d up --nodes 0", 2, "", NO_COMMAND),
+        ("plan weak coin-d up --nodes 02", 2, "", NO_COMMAND),
+        ("plan weak coin-d up --nodes 16777217", 2, "", NO_COMMAND),
+        ("plan weak coin-d up --nodes 1", 5, "", "full 1\n"),
+        ("plan weak coin-d up --nodes 2", 0, PLAN, ""),
         ("plan weak too-long up", 4, "", "limit file\n"),
         ("plan weak coin-d too-long", 4, "", "limit file\n"),
         ("plan weak nowhere up", 6, "", "read fault nowhere\n"),
@@ -130,7 +145,6 @@ fn each_answer_goes_where_it_belongs(rt: HostRuntime) -> Result<(), Fail> {
         ("ground longest-d longest-up", 0, LISTING, ""),
         ("ground coin-d eight-d", 3, "", "eight-d:1:1: 5 NoDefine\n"),
         ("ground many-d many", 4, "", "limit instances\n"),
-        ("plan weak nine-d nine", 10, "", "not built nine\n"),
         (
             "ground left-out nowhere",
             3,

@@ -12,14 +12,16 @@ ghost use Rattle.mbp_top.specs.CheckCommand.{
 };
 ghost use Rattle.mbp_top.specs.Delivery.{IsCut, IsDelivered, IsWhole, seen};
 ghost use Rattle.mbp_top.specs.GroundCommand.{listing_of};
+ghost use Rattle.mbp_top.specs.Enough.{IsTightLimit};
 ghost use Rattle.mbp_top.specs.PlanCommand.{
   IsPrintedText,
+  IsShortestText,
   IsSolvingText,
-  most_planned,
+  MayRunOut,
   no_plan_text,
 };
 ghost use Rattle.mbp_top.specs.PddlTexts.{HoldBoth};
-ghost use Rattle.mbp_top.specs.Told.{AreFilesTold, IsDue, NoFault};
+ghost use Rattle.mbp_top.specs.Told.{AreFilesTold, IsDue, MayStandIn, NoFault};
 ghost use Rattle.mbp_top.specs.Words.{
   Bytes,
   CheckWords,
@@ -35,7 +37,6 @@ ghost use Rattle.mbp_top.specs.Words.{
 };
 ghost use Rattle.mbp_top.specs.Answers as answers;
 ghost use Rattle.pddl_ast.specs.Trees.{DomainTree, ProblemTree};
-ghost use Rattle.pddl_system.specs.Fluents.{fluents};
 ghost use Rattle.pddl_system.specs.Sizes.{first_passed};
 ghost use Rattle.pddl_system.specs.Systems.{action_names, fluent_names, system};
 ghost use Rattle.plan_check.specs.Verdicts.{IsBound, IsFirstReason};
@@ -57,7 +58,6 @@ ghost use Rattle.std.specs.Prelude.{
   List,
   None,
   Option,
-  length,
   map,
   string_bytes,
   ℕ,
@@ -110,7 +110,7 @@ pub fn run<S: Shelf, O: Sink, E: Sink>(
         (seen (O.written out.old) (O.faults out.old)) (seen (O.written out.new) (O.faults out.new))
         (seen (E.written err.old) (E.faults err.old))
         (seen (E.written err.new) (E.faults err.new)) result }
-    ensures statuses { Contains (0 ∷ 1 ∷ 2 ∷ 3 ∷ 4 ∷ 6 ∷ 7 ∷ 8 ∷ 10 ∷ []) result }
+    ensures statuses { Contains (0 ∷ 1 ∷ 2 ∷ 3 ∷ 4 ∷ 5 ∷ 6 ∷ 7 ∷ 8 ∷ []) result }
 
     // At each status but 7 that is the answer's, and the answer is written whole.
     ensures whole { let failed = FailedLast S.fetched S.faults shelf.old shelf.new in
@@ -142,6 +142,15 @@ pub fn run<S: Shelf, O: Sink, E: Sink>(
         (action_names domain problem) text
         × (O.written out.new ≡ append_known (O.written out.old) text) }
 
+    // And no solution of its class is shorter.
+    ensures plan_shortest { (asked : PlanWords) → SaysPlan (map string_bytes words.now) asked
+        → result ≡ 0
+        → (domain : DomainTree) × (problem : ProblemTree) × (text : Bytes)
+        × HoldBoth (S.held shelf.old) asked.domain asked.problem domain problem
+        × IsShortestText asked.class (system domain problem) (fluent_names domain problem)
+        (action_names domain problem) text
+        × (O.written out.new ≡ append_known (O.written out.old) text) }
+
     // And that text is the one that is defined, byte for byte.
     ensures plan_printed { (asked : PlanWords) → SaysPlan (map string_bytes words.now) asked
         → result ≡ 0
@@ -158,13 +167,20 @@ pub fn run<S: Shelf, O: Sink, E: Sink>(
         × HasNoSolution asked.class (system domain problem)
         × (O.written out.new ≡ append_known (O.written out.old) no_plan_text) }
 
-    // `plan` of two files that spell a problem within the limits: there is a plan or there is none,
-    // if no fault comes.
+    // `plan`, status 5: the number of nodes may be too small for the problem that the two files
+    // spell, and it is what was written.
+    ensures full { (asked : PlanWords) → SaysPlan (map string_bytes words.now) asked → result ≡ 5
+        → MayRunOut (S.held shelf.old) asked
+        × (E.written err.new ≡ append_known (E.written err.old)
+        (text_of (answers.refused (answers.full asked.options.nodes)))) }
+
+    // `plan` of two files that spell a problem within the limits, with enough nodes: there is a
+    // plan or there is none, if no fault comes.
     ensures plan_complete { (asked : PlanWords) (domain : DomainTree) (problem : ProblemTree)
         → SaysPlan (map string_bytes words.now) asked
         → HoldBoth (S.held shelf.old) asked.domain asked.problem domain problem
         → IsSome problem.goal → first_passed domain problem ≡ None
-        → length (fluents domain problem) ≤ most_planned
+        → (IsTightLimit asked.options.nodes (system domain problem) → ⊥)
         → AreFilesTold (S.held shelf.old) (map string_bytes words.now)
         → NoFault (S.faults shelf.old) (S.faults shelf.new)
         → NoFault (O.faults out.old) (O.faults out.new)
@@ -239,11 +255,12 @@ pub fn run<S: Shelf, O: Sink, E: Sink>(
         ⊎ (result ≡ 8) }
 
     // Where the shelf tells of the files and has no fault, the words and the files alone decide the
-    // answer and so the status, but for want of memory.
+    // answer and so the status, but for want of memory, or of nodes where there may be too few.
     ensures due { (answer : Answer) → IsDue (S.held shelf.old) (map string_bytes words.now) answer
         → AreFilesTold (S.held shelf.old) (map string_bytes words.now)
         → NoFault (S.faults shelf.old) (S.faults shelf.new)
-        → (given : Answer) × ((given ≡ answer) ⊎ (given ≡ answers.refused answers.no_memory))
+        → (given : Answer)
+        × ((given ≡ answer) ⊎ MayStandIn (S.held shelf.old) (map string_bytes words.now) given)
         × IsDelivered given
         (seen (O.written out.old) (O.faults out.old)) (seen (O.written out.new) (O.faults out.new))
         (seen (E.written err.old) (E.faults err.old))
@@ -254,7 +271,9 @@ pub fn run<S: Shelf, O: Sink, E: Sink>(
         → NoFault (S.faults shelf.old) (S.faults shelf.new)
         → NoFault (O.faults out.old) (O.faults out.new)
         → NoFault (E.faults err.old) (E.faults err.new)
-        → (result ≡ status_of answer) ⊎ (result ≡ 8) }
+        → (result ≡ status_of answer) ⊎ (result ≡ 8)
+        ⊎ ((result ≡ 5) × (asked : PlanWords) × SaysPlan (map string_bytes words.now) asked
+        × MayRunOut (S.held shelf.old) asked) }
 
     // The files of the command are fetched in their order, each once, as far as they are needed;
     // none without a command.

@@ -1,19 +1,48 @@
 //! The command words.
 
-ghost use Rattle.mbp_top.specs.Values.{IsSaid, check_words_of, ground_words_of, plan_words_of};
+ghost use Rattle.mbp_top.specs.Values.{
+  IsSaid,
+  check_words_of,
+  ground_words_of,
+  plan_options_of,
+  plan_words_of,
+};
 ghost use Rattle.mbp_top.specs.Words.{
   CheckWords as AskedCheck,
   GroundWords as AskedGround,
+  IsNodeLimit,
   IsPlannedClass,
+  PlanOptions as AskedOptions,
   PlanWords as AskedPlan,
   SaysCheck,
   SaysGround,
+  SaysOptions,
   SaysPlan,
 };
 ghost use Rattle.plan_rules.specs.Texts.{class_word};
-ghost use Rattle.std.specs.Prelude.{◌≡◌, ◌∷◌, MatchOption, codes, map, string_bytes};
+ghost use Rattle.std.specs.Prelude.{
+  ◌≡◌,
+  [],
+  ◌∷◌,
+  ◌↔◌,
+  IsTrue,
+  MatchOption,
+  codes,
+  decimal,
+  map,
+  string_bytes,
+  ℕ,
+  ⊤,
+};
 
+use itoa::Buffer;
 use plan_rules::Class;
+
+/// The most nodes that may be asked for.
+const MOST_NODES: u32 = 16_777_216;
+
+/// How many nodes there may be where nothing is said of them.
+const DEFAULT_NODES: u32 = 1_048_576;
 
 /// What the words say to do.
 pub(crate) enum Command<'a> {
@@ -25,12 +54,20 @@ pub(crate) enum Command<'a> {
 }
 
 /// What `plan` is asked: a plan of this class, for the domain and the problem in the files of these
-/// names.
+/// names, with these options.
 #[derive(Clone, Copy)]
 pub(crate) struct PlanWords<'a> {
     pub(crate) class: Class,
     pub(crate) domain: &'a str,
     pub(crate) problem: &'a str,
+    pub(crate) options: PlanOptions,
+}
+
+/// The options of `plan`.
+#[derive(Clone, Copy)]
+pub(crate) struct PlanOptions {
+    /// How many nodes the table of diagrams may hold: 1 to `MOST_NODES`.
+    pub(crate) nodes: u32,
 }
 
 /// What `ground` is asked: a listing of the domain and the problem in the files of these names.
@@ -84,14 +121,78 @@ fn plan_words<'a>(words: &'a [String]) -> Option<PlanWords<'a>>
         MatchOption result ((asked : AskedPlan) → SaysPlan said asked → ⊥)
         (λ asked. SaysPlan said (plan_words_of asked)) }
 {
+    let [class, domain, problem, rest @ ..] = words else {
+        return None;
+    };
+    Some(PlanWords {
+        class: planned_class(class)?,
+        domain,
+        problem,
+        options: plan_options(rest)?,
+    })
+}
+
+/// The options of `plan` that these words say: `--nodes N`, or nothing.
+fn plan_options(words: &[String]) -> Option<PlanOptions>
+    ensures room { MatchOption result ⊤ (λ options. IsNodeLimit options.nodes) }
+    ensures said { let said = map string_bytes words.now in
+        MatchOption result ((options : AskedOptions) → IsNodeLimit options.nodes
+        → SaysOptions said options → ⊥)
+        (λ options. SaysOptions said (plan_options_of options)) }
+{
     match words {
-        [class, domain, problem] => Some(PlanWords {
-            class: planned_class(class)?,
-            domain,
-            problem,
+        [] => Some(PlanOptions {
+            nodes: DEFAULT_NODES,
         }),
+        [option, nodes] => nodes_option(option, nodes),
         _ => None,
     }
+}
+
+/// The options that the word of an option and the word after it say.
+fn nodes_option(option: &str, nodes: &str) -> Option<PlanOptions>
+    ensures room { MatchOption result ⊤ (λ options. IsNodeLimit options.nodes) }
+    ensures said { let said = option.now ∷ nodes.now ∷ [] in
+        MatchOption result ((options : AskedOptions) → IsNodeLimit options.nodes
+        → SaysOptions said options → ⊥)
+        (λ options. SaysOptions said (plan_options_of options)) }
+{
+    if option != "--nodes" {
+        return None;
+    }
+    Some(PlanOptions {
+        nodes: node_limit(nodes)?,
+    })
+}
+
+/// The number of nodes that the word writes, in decimal digits without sign and without a leading
+/// zero, if it is one that may be asked for.
+fn node_limit(word: &str) -> Option<u32>
+    ensures { MatchOption result ((nodes : ℕ) → IsNodeLimit nodes → word.now ≡ decimal nodes → ⊥)
+        (λ nodes. IsNodeLimit nodes × (word.now ≡ decimal nodes)) }
+{
+    let nodes = word.parse::<u32>().ok()?;
+    if !is_node_limit(nodes) {
+        return None;
+    }
+    if !is_decimal_of(word, nodes) {
+        return None;
+    }
+    Some(nodes)
+}
+
+/// Whether so many nodes may be asked for.
+fn is_node_limit(nodes: u32) -> bool
+    ensures { IsTrue result ↔ IsNodeLimit nodes }
+{
+    1 <= nodes && nodes <= MOST_NODES
+}
+
+/// Whether the word is the number in decimal digits, without sign and without a leading zero.
+fn is_decimal_of(word: &str, number: u32) -> bool
+    ensures { IsTrue result ↔ (word.now ≡ decimal number) }
+{
+    word == Buffer::new().format(number)
 }
 
 /// `ground`, and these words after it.
@@ -114,6 +215,9 @@ fn planned_class(word: &str) -> Option<Class>
 {
     if word == "weak" {
         return Some(Class::Weak);
+    }
+    if word == "strong" {
+        return Some(Class::Strong);
     }
     None
 }

@@ -1,8 +1,10 @@
 use Rattle.std.proofs.lemmas.Result.{err_from_is_err_and}
 use Rattle.plan_io.specs.Fetches.{FailedLast}
+use Rattle.mbp_top.specs.Answers.{refused}
 use Rattle.mbp_top.specs.PlanCommand.{IsPlanned}
 use Rattle.mbp_top.specs.Values.{plan_words_of, refusal_of}
-use Rattle.mbp_top.proofs.PddlDecides.{after_both, refused_both}
+use Rattle.mbp_top.proofs.PddlDecides.{refused_both}
+use Rattle.mbp_top.proofs.PlanAnswers.{after_plan, before_plan}
 use Rattle.mbp_top.proofs.plan_command.plan_files.Goals as goal
 
 pub returns-in_err-domain-clause-answer : goal.returns-in_err-domain-clause-answer
@@ -11,11 +13,12 @@ returns-in_err-domain-clause-answer g c =
     let held = g.S.Shelf.held c.args.shelf.now in
     let failed = FailedLast g.S.Shelf.fetched g.S.Shelf.faults c.args.shelf.now c.read_both.new.shelf in
     let asked = plan_words_of c.args.asked.now in
-    rw (p.1, p.2) (refused_both held failed asked.domain asked.problem (IsPlanned asked) (refusal_of c.in_err-domain.field-0.0) c.in_err-domain.ensures.refused)
+    rw (p.1, p.2) (before_plan held failed asked (refused (refusal_of c.in_err-domain.field-0.0))
+    (refused_both held failed asked.domain asked.problem (IsPlanned asked) (refusal_of c.in_err-domain.field-0.0) c.in_err-domain.ensures.refused))
 
 pub returns-clause-answer : goal.returns-clause-answer
 returns-clause-answer g c =
     let held = g.S.Shelf.held c.args.shelf.now in
     let failed = FailedLast g.S.Shelf.fetched g.S.Shelf.faults c.args.shelf.now c.read_both.new.shelf in
     let asked = plan_words_of c.args.asked.now in
-    after_both held failed asked.domain asked.problem (IsPlanned asked) _ _ _ c.in_ok-domain.ensures.holds c.plan_problem.ensures
+    after_plan held failed asked _ _ _ c.in_ok-domain.ensures.holds c.plan_problem.ensures

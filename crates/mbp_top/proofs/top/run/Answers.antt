@@ -2,7 +2,7 @@ use Rattle.std.proofs.Common.{map, string_bytes}
 use Rattle.plan_io.specs.Fetches.{FailedLast}
 use Rattle.mbp_top.specs.Delivery.{seen}
 use Rattle.mbp_top.proofs.PddlDecides.{OneReading}
-use Rattle.mbp_top.proofs.PlanWritten.{plan_written, no_plan_written, plan_status}
+use Rattle.mbp_top.proofs.PlanWritten.{full_written, plan_written, no_plan_written, plan_status}
 use Rattle.mbp_top.proofs.GroundWritten.{listing_written, listing_status}
 use Rattle.mbp_top.proofs.CheckWritten.{check_yes_written, check_no_written, check_status}
 use Rattle.mbp_top.proofs.Statuses.{
@@ -103,6 +103,23 @@ returns-clause-plan_solves g c asked says zero =
     let w = plan_written held failed words before after out out' err err' status given asked d says zero in
     (w.domain, w.problem, w.text, w.both, w.solves, w.written)
 
+pub returns-clause-plan_shortest : goal.returns-clause-plan_shortest
+returns-clause-plan_shortest g c asked says zero =
+    let held = g.S.Shelf.held c.args.shelf.now in
+    let failed = FailedLast g.S.Shelf.fetched g.S.Shelf.faults c.args.shelf.now c.answer-found.new.shelf in
+    let words = map string_bytes c.args.words.now in
+    let before = g.S.Shelf.faults c.args.shelf.now in
+    let after = g.S.Shelf.faults c.answer-found.new.shelf in
+    let out = seen (g.O.Sink.written c.args.out.now) (g.O.Sink.faults c.args.out.now) in
+    let out' = seen (g.O.Sink.written c.deliver.new.out) (g.O.Sink.faults c.deliver.new.out) in
+    let err = seen (g.E.Sink.written c.args.err.now) (g.E.Sink.faults c.args.err.now) in
+    let err' = seen (g.E.Sink.written c.deliver.new.err) (g.E.Sink.faults c.deliver.new.err) in
+    let status = c.deliver.result in
+    let given = c.deliver.ensures.0 in
+    let d = done held failed words before after out out' err err' status _ given c.answer-found.ensures.cause c.answer-found.ensures.quiet_at c.deliver.ensures.1 c.deliver.ensures.2 in
+    let w = plan_written held failed words before after out out' err err' status given asked d says zero in
+    (w.domain, w.problem, w.text, w.both, w.shortest, w.written)
+
 pub returns-clause-plan_printed : goal.returns-clause-plan_printed
 returns-clause-plan_printed g c asked says zero =
     let held = g.S.Shelf.held c.args.shelf.now in
@@ -137,8 +154,25 @@ returns-clause-no_plan g c asked says one =
     let w = no_plan_written held failed words before after out out' err err' status given asked d says one in
     (w.domain, w.problem, w.both, w.none, w.written)
 
+pub returns-clause-full : goal.returns-clause-full
+returns-clause-full g c asked says five =
+    let held = g.S.Shelf.held c.args.shelf.now in
+    let failed = FailedLast g.S.Shelf.fetched g.S.Shelf.faults c.args.shelf.now c.answer-found.new.shelf in
+    let words = map string_bytes c.args.words.now in
+    let before = g.S.Shelf.faults c.args.shelf.now in
+    let after = g.S.Shelf.faults c.answer-found.new.shelf in
+    let out = seen (g.O.Sink.written c.args.out.now) (g.O.Sink.faults c.args.out.now) in
+    let out' = seen (g.O.Sink.written c.deliver.new.out) (g.O.Sink.faults c.deliver.new.out) in
+    let err = seen (g.E.Sink.written c.args.err.now) (g.E.Sink.faults c.args.err.now) in
+    let err' = seen (g.E.Sink.written c.deliver.new.err) (g.E.Sink.faults c.deliver.new.err) in
+    let status = c.deliver.result in
+    let given = c.deliver.ensures.0 in
+    let d = done held failed words before after out out' err err' status _ given c.answer-found.ensures.cause c.answer-found.ensures.quiet_at c.deliver.ensures.1 c.deliver.ensures.2 in
+    let w = full_written held failed words before after out out' err err' status given asked d says five in
+    (w.may, w.written)
+
 pub returns-clause-plan_complete : goal.returns-clause-plan_complete
-returns-clause-plan_complete g c asked domain problem says both goal kept few told no_rise no_out no_err =
+returns-clause-plan_complete g c asked domain problem says both goal kept room told no_rise no_out no_err =
     let held = g.S.Shelf.held c.args.shelf.now in
     let failed = FailedLast g.S.Shelf.fetched g.S.Shelf.faults c.args.shelf.now c.answer-found.new.shelf in
     let words = map string_bytes c.args.words.now in
@@ -163,7 +197,7 @@ returns-clause-plan_complete g c asked domain problem says both goal kept few to
       not_both_plan = c.plan_or_fault.ensures.not_both;
       one_verdict = c.one_verdict.ensures;
     } in
-    plan_status one held failed words before after out out' err err' status given asked domain problem d says both goal kept few told
+    plan_status one held failed words before after out out' err err' status given asked domain problem d says both goal kept room told
     (λ file. no_failure g.S.Shelf.fetched g.S.Shelf.faults c.args.shelf.now c.answer-found.new.shelf file no_rise) no_out no_err
 
 pub returns-clause-listed : goal.returns-clause-listed

@@ -1,0 +1,66 @@
+-- A limit that is tight for the sets of a task, or for those of its planners, is tight for the nodes that are enough.
+use Rattle.std.proofs.Common.{◌≡◌, ◌≤◌, ◌+◌, ◌*◌, ◌^◌, ℕ, [], map, length, ap, subst, sym, ◌∙◌, arith, Some}
+use Rattle.std.specs.List.{range_with_len, slice_get}
+use Rattle.std.specs.Option.{option_map_or}
+use Rattle.std.proofs.Math.Nat.{mul-le-mul_right}
+use Rattle.pddl_system.proofs.Lists.{map-range}
+use Rattle.dd_sets.specs.Laws.{TightIsMonotone}
+use Rattle.dd_sets.specs.LiveSets.{LiveSets, live_count}
+use Rattle.dd_sets.specs.Rooms.{IsTightFor, Tight, nodes_of_slots}
+use Rattle.encode_task.specs.Bounds.{kept_slots, most_outcomes as most_of_task, working_slots}
+use Rattle.task_core.specs.Conditions.{greatest}
+use Rattle.task_core.specs.Tasks.{action_count, fluent_count, outcomes_at, system_of}
+use Rattle.task_core.specs.declared.actions.GroundAction.{GroundAction}
+use Rattle.task_core.specs.declared.actions.Outcome.{Outcome}
+use Rattle.task_core.specs.declared.tasks.Task.{Task}
+use Rattle.mbp_top.specs.Enough.{IsTightLimit, enough, most_outcomes}
+
+-- the most outcomes of one action, by the list of actions and by their numbers
+same_most : (t : Task) → most_of_task t ≡ most_outcomes (system_of t)
+same_most t =
+    let counts : map (λ a. length (outcomes_at t a)) (range_with_len 0 (length t.actions.items)) ≡ map (λ (action : GroundAction). length action.outcomes.items) t.actions.items =
+    map-range (λ a. length (outcomes_at t a)) (λ (action : GroundAction). length action.outcomes.items) t.actions.items 0
+    (λ k action is. ap length (ap (λ a. outcomes_at t a) (omega arith) ∙ ap (λ found. option_map_or (λ (action : GroundAction). action.outcomes.items) found []) is)) in
+    ap greatest (sym counts)
+
+-- so many slots have no more nodes than are enough, where there are no more slots
+few_slots : (slots most P Q : ℕ) → slots ≤ most → slots * P + Q ≤ 2 * Q + most * P
+few_slots slots most P Q few =
+    let e : slots * P ≤ most * P = mul-le-mul_right P few in
+    omega arith
+
+-- a bound on the slots by the number of actions and an action's slots
+slots_of_actions : (A M : ℕ) → A * (M + 1) + 220 ≤ A * (M + 6) + 256
+slots_of_actions A M =
+    let e : A * (M + 1) ≤ A * (M + 6) = grind arith in
+    omega arith
+
+slots_of_planner : (L A M : ℕ) → L ≤ A * (M + 1) + 5 → L + (A + 24) ≤ A * (M + 6) + 256
+slots_of_planner L A M few =
+    let e : A * (M + 1) + A ≤ A * (M + 6) = grind arith in
+    omega arith
+
+tight_for_slots : TightIsMonotone → (t : Task) (limit slots : ℕ)
+    → slots ≤ action_count t * (most_of_task t * (fluent_count t + 1) + 6) + 256
+    → Tight limit (fluent_count t) (nodes_of_slots slots (fluent_count t)) → IsTightLimit limit (system_of t)
+tight_for_slots monotone t limit slots few tight =
+    let F = fluent_count t in
+    let A = action_count t in
+    let bound : slots ≤ A * (most_outcomes (system_of t) * (F + 1) + 6) + 256 =
+    subst (λ m. slots ≤ A * (m * (F + 1) + 6) + 256) (same_most t) few in
+    monotone limit F (nodes_of_slots slots F) (enough (system_of t)) (few_slots slots (A * (most_outcomes (system_of t) * (F + 1) + 6) + 256) (2 ^ F) (4 ^ F) bound) tight
+
+-- while the sets of the task are made
+pub tight_for_sets : TightIsMonotone → (t : Task) (limit : ℕ)
+    → Tight limit (fluent_count t) (nodes_of_slots (working_slots t) (fluent_count t)) → IsTightLimit limit (system_of t)
+tight_for_sets monotone t limit tight =
+    tight_for_slots monotone t limit (working_slots t) (slots_of_actions (action_count t) (most_of_task t * (fluent_count t + 1))) tight
+
+-- while a plan is looked for
+pub tight_for_planner : TightIsMonotone → (t : Task) (sets : LiveSets) (limit : ℕ) → sets.vars ≡ fluent_count t → sets.limit ≡ limit
+    → live_count sets ≤ kept_slots t → IsTightFor (action_count t + 24) sets → IsTightLimit limit (system_of t)
+tight_for_planner monotone t sets limit of_vars of_limit few tight =
+    let slots = live_count sets + (action_count t + 24) in
+    tight_for_slots monotone t limit slots (slots_of_planner (live_count sets) (action_count t) (most_of_task t * (fluent_count t + 1)) few)
+    (subst (λ (l : ℕ). Tight l (fluent_count t) (nodes_of_slots slots (fluent_count t))) of_limit
+    (subst (λ (v : ℕ). Tight sets.limit v (nodes_of_slots slots v)) of_vars tight))

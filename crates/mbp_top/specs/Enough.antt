@@ -1,0 +1,23 @@
+-- How many nodes are enough for the sets of a planning problem, and when a limit may be too small.
+use Rattle.std.specs.Prelude.{ℕ, ◌+◌, ◌*◌, ◌^◌, map}
+use Rattle.std.specs.List.{range_with_len}
+use Rattle.dd_sets.specs.Rooms.{Tight}
+use Rattle.task_core.specs.Conditions.{greatest}
+use Rattle.task_core.specs.Systems.{System}
+
+-- the most outcomes of one action; 0 without actions
+abbrev pub most_outcomes : System → ℕ
+most_outcomes sys = greatest (map sys.outcomes (range_with_len 0 sys.actions))
+
+-- nodes that are enough for all sets that are live at a time and for one operation. Over F fluents
+-- a set has fewer than 2 ^ F nodes and an operation makes fewer than 4 ^ F; an action has sets of
+-- its own, and for each outcome one a fluent and one more (Bryant 1986: the size of a reduced
+-- diagram)
+abbrev pub enough : System → ℕ
+enough sys =
+    2 * 4 ^ sys.fluents
+    + (sys.actions * (most_outcomes sys * (sys.fluents + 1) + 6) + 256) * 2 ^ sys.fluents
+
+-- a table for so many nodes may be too small for a problem
+abbrev pub IsTightLimit : ℕ → System → Type 0
+IsTightLimit nodes sys = Tight nodes sys.fluents (enough sys)
