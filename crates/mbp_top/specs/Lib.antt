@@ -7,6 +7,7 @@ pub mod GroundCommand
 pub mod PlanCommand
 pub mod PlanFiles
 pub mod CheckCommand
+pub mod ReplayCommand
 pub mod Causes
 pub mod Told
 pub mod Delivery

@@ -4,6 +4,7 @@ use Rattle.plan_io.specs.Counts.{Rose}
 use Rattle.plan_io.specs.Held.{Held, Untold}
 use Rattle.mbp_top.specs.Answers.{Answer, refused, no_memory}
 use Rattle.mbp_top.specs.Causes.{HasCause}
+use Rattle.mbp_top.specs.ReplayCommand.{Tallies}
 use Rattle.mbp_top.specs.Words.{Bytes, Command, Says, files_of}
 
 -- of each file that the words name, the shelf tells its bytes, or that there is none
@@ -12,10 +13,10 @@ AreFilesTold held words =
     (command : Command) (file : Bytes) → Says words command → Contains (files_of command) file
     → held file ≢ Untold
 
--- the words and the files alone call for this answer: no fault of the shelf is a part of its cause,
--- and it isn't want of memory
-pub record IsDue (held : Bytes → Held) (words : List Bytes) (answer : Answer) : Type 0 where
-  pub cause : HasCause held (λ file. ⊥) words answer
+-- the words and the files alone call for this answer, and for `replay` what the monitors show of the
+-- steps: no fault of the shelf is a part of its cause, and it isn't want of memory
+pub record IsDue (held : Bytes → Held) (tallies : Tallies) (words : List Bytes) (answer : Answer) : Type 0 where
+  pub cause : HasCause held (λ file. ⊥) tallies words answer
   pub not_memory : answer ≢ refused no_memory
 
 -- no fault came: the count of faults didn't rise

@@ -1,27 +1,28 @@
 -- Private: the answers and commands that the code's own types stand for.
 use Rattle.std.specs.Prelude.{ℕ, List, Result, Ok, Err, string_bytes, codes}
-use Rattle.mbp_top.specs.Answers.{Answer, affirmed, denied, refused, Refusal, no_command, text_fault, over_limit, read_fault, no_memory, not_built}
+use Rattle.mbp_top.specs.Answers.{Answer, affirmed, denied, refused, Refusal, no_command, text_fault, over_limit, read_fault, no_memory, not_built, stray_outcome, unexecutable}
 use Rattle.pddl_system.specs.Sizes.{object_limit, size_limit, instance_limit, action_limit, outcome_limit, fluent_limit}
 use Rattle.plan_rules.specs.Rules.{plain_of}
 use Rattle.plan_rules.specs.declared.rules.PlanRead.{PlanRead}
 use Rattle.mbp_top.specs.Grounding.{limit_name}
 use Rattle.mbp_top.specs.PlanFiles.{PlacedPlan}
-use Rattle.mbp_top.specs.Words.{Bytes, PlanWords, GroundWords, CheckWords, plan, ground, check, Says, SayNothing}
+use Rattle.mbp_top.specs.Words.{Bytes, PlanWords, GroundWords, CheckWords, ReplayWords, plan, ground, check, replay, Says, SayNothing}
 use Rattle.sexpr_text.specs.declared.faults.ReadErr.{ReadErr}
 use Rattle.sexpr_text.specs.declared.faults.ReadErr.TheVariants.{Fault, Memory}
 use Rattle.mbp_top.specs.declared.answers.Limit.{Limit}
 use Rattle.mbp_top.specs.declared.answers.Limit.TheVariants.{File, Objects, Size, Instances, Actions, Outcomes, Fluents, Initial, Configurations}
 use Rattle.mbp_top.specs.declared.answers.Refusal.{Refusal as CodeRefusal}
-use Rattle.mbp_top.specs.declared.answers.Refusal.TheVariants.{NoCommand, TextFault, OverLimit, ReadFault, NoMemory, NotBuilt}
+use Rattle.mbp_top.specs.declared.answers.Refusal.TheVariants.{NoCommand, TextFault, OverLimit, ReadFault, NoMemory, NotBuilt, StrayOutcome, Unexecutable}
 use Rattle.mbp_top.specs.declared.answers.Shown.{Shown}
 use Rattle.mbp_top.specs.declared.answers.Shown.TheVariants.{Affirmed, Denied}
 use Rattle.mbp_top.specs.declared.answers.Text.{Text}
 use Rattle.mbp_top.specs.declared.answers.Text.TheVariants.{Fixed, Made}
 use Rattle.mbp_top.specs.declared.words.Command.{Command as CodeCommand}
-use Rattle.mbp_top.specs.declared.words.Command.TheVariants.{Plan, Ground, Check, Nothing}
+use Rattle.mbp_top.specs.declared.words.Command.TheVariants.{Plan, Ground, Check, Replay, Nothing}
 use Rattle.mbp_top.specs.declared.words.PlanWords.{PlanWords as CodePlanWords}
 use Rattle.mbp_top.specs.declared.words.GroundWords.{GroundWords as CodeGroundWords}
 use Rattle.mbp_top.specs.declared.words.CheckWords.{CheckWords as CodeCheckWords}
+use Rattle.mbp_top.specs.declared.words.ReplayWords.{ReplayWords as CodeReplayWords}
 
 abbrev pub bytes_of : Text → List ℕ
 bytes_of (Fixed text) = text.now
@@ -45,6 +46,8 @@ refusal_of (OverLimit limit) = over_limit (limit_of limit)
 refusal_of (ReadFault file) = read_fault (string_bytes file)
 refusal_of NoMemory = no_memory
 refusal_of (NotBuilt file) = not_built (string_bytes file)
+refusal_of (StrayOutcome step word outcomes) = stray_outcome step word outcomes
+refusal_of (Unexecutable step) = unexecutable step
 
 abbrev pub shown_of : Shown → Answer
 shown_of (Affirmed text) = affirmed (bytes_of text)
@@ -69,6 +72,14 @@ check_words_of words = record {
   plan = words.plan.now;
 }
 
+abbrev pub replay_words_of : CodeReplayWords → ReplayWords
+replay_words_of words = record {
+  domain = words.domain.now;
+  problem = words.problem.now;
+  plan = words.plan.now;
+  recorded = words.recorded.now;
+}
+
 abbrev pub placed_of : PlanRead → PlacedPlan
 placed_of read = record { plan = plain_of read.plan; place = read.place }
 
@@ -77,6 +88,7 @@ abbrev pub IsSaid : List Bytes → CodeCommand → Type 0
 IsSaid words (Plan asked) = Says words (plan (plan_words_of asked))
 IsSaid words (Ground asked) = Says words (ground (ground_words_of asked))
 IsSaid words (Check asked) = Says words (check (check_words_of asked))
+IsSaid words (Replay asked) = Says words (replay (replay_words_of asked))
 IsSaid words Nothing = SayNothing words
 
 -- the refusal of the file of this name for what was wrong in reading it
