@@ -1,5 +1,5 @@
-//! What a program writes that replays plans with a world and monitors of its own: a world that draws
-//! outcome numbers from a queue, and a monitor that counts the steps with one action.
+//! What a program writes that replays plans with a world and monitors of its own: a world that
+//! draws outcome numbers from a queue, and a monitor that counts the steps with one action.
 //!
 //! Its tests hand both to `mbp_top::run`.
 #![tactic(auto)]

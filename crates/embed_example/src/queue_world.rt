@@ -4,8 +4,8 @@ use run_replay::World;
 use std::alloc::{AllocError, Global};
 use std::collections::VecDeque;
 
-/// A world that takes outcome numbers from the front of a queue. A simulator would compute the queue
-/// from what it was given; here it is just that.
+/// A world that takes outcome numbers from the front of a queue. A simulator would compute the
+/// queue from what it was given; here it is just that.
 #[derive(Drop)]
 pub struct QueueWorld {
     /// The numbers that are left, the next one first.

@@ -1,6 +1,6 @@
-//! Replays with a world and monitors of a caller, over files and sinks in memory: that `replay` uses
-//! them, that no other command does, and that they are dropped whatever comes. What is expected was
-//! worked out by hand.
+//! Replays with a world and monitors of a caller, over files and sinks in memory: that `replay`
+//! uses them, that no other command does, and that they are dropped whatever comes. What is
+//! expected was worked out by hand.
 
 ghost use Rattle.std.specs.Prelude.{codes};
 

@@ -15,8 +15,8 @@ fn main(rt: HostRuntime) -> ExitCode {
     }
 }
 
-/// Does what the program's words say, and gives the exit status. A replay draws from the record, and
-/// counts steps and changes. Fails only where memory runs out, and then nothing is written.
+/// Does what the program's words say, and gives the exit status. A replay draws from the record,
+/// and counts steps and changes. Fails only where memory runs out, and then nothing is written.
 fn run_words(rt: &HostRuntime) -> io::Result<u8> {
     let alloc = rt.alloc();
     let words = command_words(rt)?;

@@ -13,9 +13,10 @@ AreFilesTold held words =
     (command : Command) (file : Bytes) → Says words command → Contains (files_of command) file
     → held file ≢ Untold
 
--- the words and the files alone call for this answer, and for `replay` what the monitors show of the
--- steps: no fault of the shelf is a part of its cause, and it isn't want of memory
-pub record IsDue (held : Bytes → Held) (tallies : Tallies) (words : List Bytes) (answer : Answer) : Type 0 where
+-- the words and the files alone call for this answer, and for `replay` what the monitors show of
+-- the steps: no fault of the shelf is a part of its cause, and it isn't want of memory
+pub record IsDue (held : Bytes → Held) (tallies : Tallies) (words : List Bytes)
+    (answer : Answer) : Type 0 where
   pub cause : HasCause held (λ file. ⊥) tallies words answer
   pub not_memory : answer ≢ refused no_memory
 

@@ -29,7 +29,12 @@ pub(crate) fn answer<S: Shelf>(
     ensures cause { let failed = FailedLast S.fetched S.faults shelf.old shelf.new in
         HasCause (S.held shelf.old) failed
         (λ steps. tallies_text
-        (λ monitor. record { counted = counted monitor; title = title monitor; weight = weight monitor })
+        (λ monitor. record {
+          counted = counted monitor;
+          title = title monitor;
+          weight = weight
+              monitor;
+        })
         steps monitors.old.items)
         (map string_bytes words.now) (answer_of result) }
     ensures fetches { (command : SaidCommand) → Says (map string_bytes words.now) command

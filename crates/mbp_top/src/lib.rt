@@ -2,9 +2,10 @@
 //!
 //! `specs/` says what the call answers: `Words` the commands, `Answers` each answer with its status
 //! and its text, `Reading` how a command reads its files, `PddlTexts` which domain and problem they
-//! spell, `Grounding` the limits, `PlanCommand`, `GroundCommand`, `CheckCommand` and `ReplayCommand`
-//! the answers of `plan`, `ground`, `check` and `replay`, `PlanFiles` how a plan is read, `Causes` the
-//! cause of each answer, `Told` what the words and the files alone decide, and `Delivery` what is written.
+//! spell, `Grounding` the limits, `PlanCommand`, `GroundCommand`, `CheckCommand` and
+//! `ReplayCommand` the answers of `plan`, `ground`, `check` and `replay`, `PlanFiles` how a plan is
+//! read, `Causes` the cause of each answer, `Told` what the words and the files alone decide, and
+//! `Delivery` what is written.
 #![tactic(auto)]
 
 mod answers;

@@ -63,8 +63,8 @@ use task_core::{InitErr, State, Task, init_states};
 /// How many initial states a record may choose from.
 const MOST_INITIAL: usize = 262_144;
 
-/// The run of the plan under the record, for the domain and the problem, all in files, with what the
-/// monitors show of it. The world gives the record's outcome numbers.
+/// The run of the plan under the record, for the domain and the problem, all in files, with what
+/// the monitors show of it. The world gives the record's outcome numbers.
 pub(crate) fn replay_files<S: Shelf>(
     alloc: Global,
     shelf: &mut S,
@@ -77,7 +77,12 @@ pub(crate) fn replay_files<S: Shelf>(
         (answer_of result ≡ refused no_memory)
         ⊎ IsReplayAnswer (S.held shelf.old) failed
         (λ steps. tallies_text
-        (λ monitor. record { counted = counted monitor; title = title monitor; weight = weight monitor })
+        (λ monitor. record {
+          counted = counted monitor;
+          title = title monitor;
+          weight = weight
+              monitor;
+        })
         steps monitors.old.items)
         (replay_words_of asked.now) (answer_of result) }
     ensures fetches { FetchesFirst S.fetched
@@ -110,7 +115,12 @@ fn replay_problem<S: Shelf>(
         (answer_of result ≡ refused no_memory)
         ⊎ IsReplay (S.held shelf.old) failed
         (λ steps. tallies_text
-        (λ monitor. record { counted = counted monitor; title = title monitor; weight = weight monitor })
+        (λ monitor. record {
+          counted = counted monitor;
+          title = title monitor;
+          weight = weight
+              monitor;
+        })
         steps monitors.old.items)
         (replay_words_of asked.now)
         (domain_value domain.now) (problem_value problem.now) (answer_of result) }
@@ -138,7 +148,12 @@ fn replay_task<S: Shelf>(
         (answer_of result ≡ refused no_memory)
         ⊎ ReplayThen (S.held shelf.old) failed
         (λ steps. tallies_text
-        (λ monitor. record { counted = counted monitor; title = title monitor; weight = weight monitor })
+        (λ monitor. record {
+          counted = counted monitor;
+          title = title monitor;
+          weight = weight
+              monitor;
+        })
         steps monitors.old.items)
         (replay_words_of asked.now) (fluent_names task.now) (action_names task.now)
         (HasTooManyInitial task.now most_followed) (system_of task.now) (answer_of result) }
@@ -176,7 +191,12 @@ fn replay_plan<S: Shelf>(
         (answer_of result ≡ refused no_memory)
         ⊎ RecordThen (S.held shelf.old) failed
         (λ steps. tallies_text
-        (λ monitor. record { counted = counted monitor; title = title monitor; weight = weight monitor })
+        (λ monitor. record {
+          counted = counted monitor;
+          title = title monitor;
+          weight = weight
+              monitor;
+        })
         steps monitors.old.items)
         name.now (action_names task.now) (HasTooManyInitial task.now most_followed)
         (system_of task.now) (plain_of plan.now) (answer_of result) }
@@ -207,7 +227,12 @@ fn replay_record(
         (record_value recorded)
         (λ first. IsReplayed
         (λ steps. tallies_text
-        (λ monitor. record { counted = counted monitor; title = title monitor; weight = weight monitor })
+        (λ monitor. record {
+          counted = counted monitor;
+          title = title monitor;
+          weight = weight
+              monitor;
+        })
         steps monitors.old.items)
         sys (action_names task.now)
         (trace_under sys (plain_of plan.now) first recorded.words.items)) (answer_of result) }
@@ -270,7 +295,12 @@ fn show_run(
     ensures { (answer_of result ≡ refused no_memory)
         ⊎ IsReplayed
         (λ steps. tallies_text
-        (λ monitor. record { counted = counted monitor; title = title monitor; weight = weight monitor })
+        (λ monitor. record {
+          counted = counted monitor;
+          title = title monitor;
+          weight = weight
+              monitor;
+        })
         steps monitors.old.items)
         (system_of task.now) (action_names task.now)
         (trace_under (system_of task.now) (plain_of plan.now)

@@ -133,7 +133,12 @@ pub fn run<S: Shelf, O: Sink, E: Sink>(
     // There is an answer that has its cause, and it is delivered.
     ensures answered { let failed = FailedLast S.fetched S.faults shelf.old shelf.new in
         let tallies : Tallies = λ steps. tallies_text
-        (λ monitor. record { counted = counted monitor; title = title monitor; weight = weight monitor })
+        (λ monitor. record {
+          counted = counted monitor;
+          title = title monitor;
+          weight = weight
+              monitor;
+        })
         steps monitors.items in
         (answer : Answer)
         × HasCause (S.held shelf.old) failed tallies (map string_bytes words.now) answer
@@ -146,7 +151,12 @@ pub fn run<S: Shelf, O: Sink, E: Sink>(
     // At each status but 7 that is the answer's, and the answer is written whole.
     ensures whole { let failed = FailedLast S.fetched S.faults shelf.old shelf.new in
         let tallies : Tallies = λ steps. tallies_text
-        (λ monitor. record { counted = counted monitor; title = title monitor; weight = weight monitor })
+        (λ monitor. record {
+          counted = counted monitor;
+          title = title monitor;
+          weight = weight
+              monitor;
+        })
         steps monitors.items in
         result ≢ 7
         → (answer : Answer)
@@ -160,7 +170,12 @@ pub fn run<S: Shelf, O: Sink, E: Sink>(
     // Status 7: a sink had a fault, and took only a part of the answer.
     ensures cut { let failed = FailedLast S.fetched S.faults shelf.old shelf.new in
         let tallies : Tallies = λ steps. tallies_text
-        (λ monitor. record { counted = counted monitor; title = title monitor; weight = weight monitor })
+        (λ monitor. record {
+          counted = counted monitor;
+          title = title monitor;
+          weight = weight
+              monitor;
+        })
         steps monitors.items in
         result ≡ 7
         → (answer : Answer)
@@ -231,9 +246,9 @@ pub fn run<S: Shelf, O: Sink, E: Sink>(
         → NoFault (E.faults err.old) (E.faults err.new)
         → (result ≡ 0) ⊎ (result ≡ 8) }
 
-    // `check`, status 0: the table that the third file spells solves the problem that the two others
-    // spell, and the text that was written says yes, for a strong plan with the length of its
-    // longest execution.
+    // `check`, status 0: the table that the third file spells solves the problem that the two
+    // others spell, and the text that was written says yes, for a strong plan with the length of
+    // its longest execution.
     ensures check_yes { (asked : CheckWords) → SaysCheck (map string_bytes words.now) asked
         → result ≡ 0
         → (domain : DomainTree) × (problem : ProblemTree) × (rules : List PlanRule)
@@ -292,7 +307,12 @@ pub fn run<S: Shelf, O: Sink, E: Sink>(
         × (O.written out.new ≡ append_known (O.written out.old)
         (replay_text
         (λ steps. tallies_text
-        (λ monitor. record { counted = counted monitor; title = title monitor; weight = weight monitor })
+        (λ monitor. record {
+          counted = counted monitor;
+          title = title monitor;
+          weight = weight
+              monitor;
+        })
         steps monitors.items)
         (action_names domain problem)
         (trace_under (system domain problem) plan first recorded.words) told)) }
@@ -319,7 +339,12 @@ pub fn run<S: Shelf, O: Sink, E: Sink>(
     // answer and so the status, but for want of memory; of `replay` also what the monitors make of
     // its steps.
     ensures due { let tallies : Tallies = λ steps. tallies_text
-        (λ monitor. record { counted = counted monitor; title = title monitor; weight = weight monitor })
+        (λ monitor. record {
+          counted = counted monitor;
+          title = title monitor;
+          weight = weight
+              monitor;
+        })
         steps monitors.items in
         (answer : Answer) → IsDue (S.held shelf.old) tallies (map string_bytes words.now) answer
         → AreFilesTold (S.held shelf.old) (map string_bytes words.now)
@@ -330,7 +355,12 @@ pub fn run<S: Shelf, O: Sink, E: Sink>(
         (seen (E.written err.old) (E.faults err.old))
         (seen (E.written err.new) (E.faults err.new)) result }
     ensures determined { let tallies : Tallies = λ steps. tallies_text
-        (λ monitor. record { counted = counted monitor; title = title monitor; weight = weight monitor })
+        (λ monitor. record {
+          counted = counted monitor;
+          title = title monitor;
+          weight = weight
+              monitor;
+        })
         steps monitors.items in
         (answer : Answer)
         → IsDue (S.held shelf.old) tallies (map string_bytes words.now) answer

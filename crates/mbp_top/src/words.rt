@@ -1,6 +1,7 @@
 //! The command words.
 
-ghost use Rattle.mbp_top.specs.Values.{IsSaid, check_words_of, ground_words_of, plan_words_of, replay_words_of};
+ghost use Rattle.mbp_top.specs.Values.{IsSaid, check_words_of, ground_words_of, plan_words_of};
+ghost use Rattle.mbp_top.specs.Values.{replay_words_of};
 ghost use Rattle.mbp_top.specs.Words.{
   CheckWords as AskedCheck,
   GroundWords as AskedGround,
