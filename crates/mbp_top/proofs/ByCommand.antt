@@ -7,13 +7,15 @@ use Rattle.plan_io.specs.Held.{Held}
 use Rattle.mbp_top.specs.Answers.{Answer, refused, full, no_command, no_memory}
 use Rattle.mbp_top.specs.Causes.{IsAnswerOf, HasCause}
 use Rattle.mbp_top.specs.PlanCommand.{IsPlanAnswer}
+use Rattle.mbp_top.specs.ReplayCommand.{Tallies}
 use Rattle.mbp_top.specs.Told.{AreFilesTold, IsDue, MayStandIn}
-use Rattle.mbp_top.specs.Words.{Bytes, Command, plan, ground, check, PlanOptions, PlanWords, GroundWords, CheckWords, IsNodeLimit, Says, SaysOptions, SaysPlan, SaysGround, SaysCheck}
+use Rattle.mbp_top.specs.Words.{Bytes, Command, plan, ground, check, replay, PlanOptions, PlanWords, GroundWords, CheckWords, ReplayWords, IsNodeLimit, Says, SaysOptions, SaysPlan, SaysGround, SaysCheck, SaysReplay}
 use Rattle.plan_rules.specs.Texts.{class_word}
 use Rattle.mbp_top.proofs.CheckDecides.{check_decides}
 use Rattle.mbp_top.proofs.GroundDecides.{ground_command_decides}
 use Rattle.mbp_top.proofs.PddlDecides.{OneReading}
 use Rattle.mbp_top.proofs.PlanDecides.{plan_decides}
+use Rattle.mbp_top.proofs.ReplayDecides.{replay_decides}
 
 -- the words of the classes differ
 same_class : (c d : Class) → class_word c ≡ class_word d → c ≡ d
@@ -79,6 +81,30 @@ not_plan_and_ground words v w says says' =
     let first : codes "plan" ≡ codes "ground" = ap (λ (ws : List Bytes). get_or ws 0 []) (sym says.written ∙ says') in
     omega (arith, ap (λ (w : Bytes). get_or w 0 0) first)
 
+same_replay : (words : List Bytes) (v w : ReplayWords) → SaysReplay words v → SaysReplay words w → v ≡ w
+same_replay words v w says says' =
+    let both = sym says ∙ says' in
+    let domains : v.domain ≡ w.domain = ap (λ (ws : List Bytes). get_or ws 1 []) both in
+    let problems : v.problem ≡ w.problem = ap (λ (ws : List Bytes). get_or ws 2 []) both in
+    let plans : v.plan ≡ w.plan = ap (λ (ws : List Bytes). get_or ws 3 []) both in
+    let records : v.recorded ≡ w.recorded = ap (λ (ws : List Bytes). get_or ws 4 []) both in
+    λ i. record { domain = domains i; problem = problems i; plan = plans i; recorded = records i }
+
+not_plan_and_replay : (words : List Bytes) (v : PlanWords) (w : ReplayWords) → SaysPlan words v → SaysReplay words w → ⊥
+not_plan_and_replay words v w says says' =
+    let first : codes "plan" ≡ codes "replay" = ap (λ (ws : List Bytes). get_or ws 0 []) (sym says.written ∙ says') in
+    omega (arith, ap (λ (w : Bytes). get_or w 0 0) first)
+
+not_ground_and_replay : (words : List Bytes) (v : GroundWords) (w : ReplayWords) → SaysGround words v → SaysReplay words w → ⊥
+not_ground_and_replay words v w says says' =
+    let first : codes "ground" ≡ codes "replay" = ap (λ (ws : List Bytes). get_or ws 0 []) (sym says ∙ says') in
+    omega (arith, ap (λ (w : Bytes). get_or w 0 0) first)
+
+not_check_and_replay : (words : List Bytes) (v : CheckWords) (w : ReplayWords) → SaysCheck words v → SaysReplay words w → ⊥
+not_check_and_replay words v w says says' =
+    let first : codes "check" ≡ codes "replay" = ap (λ (ws : List Bytes). get_or ws 0 []) (sym says ∙ says') in
+    omega (arith, ap (λ (w : Bytes). get_or w 0 0) first)
+
 -- the words say one command at most
 pub one_command : (words : List Bytes) (c d : Command) → Says words c → Says words d → c ≡ d
 one_command words (plan v) (plan w) says says' = ap plan (same_plan words v w says says')
@@ -90,6 +116,13 @@ one_command words (ground v) (check w) says says' = absurd (not_ground_and_check
 one_command words (check v) (plan w) says says' = absurd (not_plan_and_check words w v says' says)
 one_command words (check v) (ground w) says says' = absurd (not_ground_and_check words w v says' says)
 one_command words (check v) (check w) says says' = ap check (same_check words v w says says')
+one_command words (plan v) (replay w) says says' = absurd (not_plan_and_replay words v w says says')
+one_command words (ground v) (replay w) says says' = absurd (not_ground_and_replay words v w says says')
+one_command words (check v) (replay w) says says' = absurd (not_check_and_replay words v w says says')
+one_command words (replay v) (plan w) says says' = absurd (not_plan_and_replay words w v says' says)
+one_command words (replay v) (ground w) says says' = absurd (not_ground_and_replay words w v says' says)
+one_command words (replay v) (check w) says says' = absurd (not_check_and_replay words w v says' says)
+one_command words (replay v) (replay w) says says' = ap replay (same_replay words v w says says')
 
 -- the two files decide the answer of `plan`, unless the table of nodes is full
 one_plan_answer : OneReading → (held : Bytes → Held) (failed failed' : Bytes → Type 0) (words : List Bytes) (asked : PlanWords)
@@ -102,43 +135,46 @@ one_plan_answer once held failed failed' words asked says told quiet quiet' a b 
     inl (plan_decides once held failed failed' asked (told (plan asked) asked.domain says (0, omega arith, refl)) (told (plan asked) asked.problem says (1, omega arith, refl)) quiet quiet' a b read read')
 
 -- the words and the files decide the answer of a command, but for one that may stand in
-one_answer : OneReading → (held : Bytes → Held) (failed failed' : Bytes → Type 0) (words : List Bytes) (command : Command)
+one_answer : OneReading → (held : Bytes → Held) (failed failed' : Bytes → Type 0) (tallies : Tallies) (words : List Bytes) (command : Command)
     → Says words command → AreFilesTold held words → ((file : Bytes) → failed file → ⊥) → ((file : Bytes) → failed' file → ⊥)
-    → (a b : Answer) → ((nodes : ℕ) → b ≢ refused (full nodes)) → IsAnswerOf held failed command a → IsAnswerOf held failed' command b
+    → (a b : Answer) → ((nodes : ℕ) → b ≢ refused (full nodes)) → IsAnswerOf held failed tallies command a → IsAnswerOf held failed' tallies command b
     → (a ≡ b) ⊎ MayStandIn held words a
-one_answer once held failed failed' words (plan asked) says told quiet quiet' a b not_full is is' =
+one_answer once held failed failed' tallies words (plan asked) says told quiet quiet' a b not_full is is' =
     one_plan_answer once held failed failed' words asked says told quiet quiet' a b not_full is is'
-one_answer once held failed failed' words (ground asked) says told quiet quiet' a b not_full is is' =
+one_answer once held failed failed' tallies words (ground asked) says told quiet quiet' a b not_full is is' =
     inl (ground_command_decides once held failed failed' asked (told (ground asked) asked.domain says (0, omega arith, refl)) (told (ground asked) asked.problem says (1, omega arith, refl)) quiet quiet' a b is is')
-one_answer once held failed failed' words (check asked) says told quiet quiet' a b not_full is is' =
+one_answer once held failed failed' tallies words (check asked) says told quiet quiet' a b not_full is is' =
     inl (check_decides once held failed failed' asked (told (check asked) asked.domain says (0, omega arith, refl)) (told (check asked) asked.problem says (1, omega arith, refl))
     (told (check asked) asked.plan says (2, omega arith, refl)) quiet quiet' a b is is')
+one_answer once held failed failed' tallies words (replay asked) says told quiet quiet' a b not_full is is' =
+    inl (replay_decides once held failed failed' tallies asked (told (replay asked) asked.domain says (0, omega arith, refl)) (told (replay asked) asked.problem says (1, omega arith, refl))
+    (told (replay asked) asked.plan says (2, omega arith, refl)) (told (replay asked) asked.recorded says (3, omega arith, refl)) quiet quiet' a b is is')
 
 -- where the words say a command, an answer that has its cause is that command's, or want of memory
-pub of_command : (held : Bytes → Held) (failed : Bytes → Type 0) (words : List Bytes) (command : Command) (a : Answer)
-    → Says words command → HasCause held failed words a → (a ≡ refused no_memory) ⊎ IsAnswerOf held failed command a
-of_command held failed words command a says (inl (nothing, is)) = absurd (nothing command says)
-of_command held failed words command a says (inr (said, says', inl memory)) = inl memory
-of_command held failed words command a says (inr (said, says', inr is)) =
-    inr (subst (λ c. IsAnswerOf held failed c a) (one_command words said command says' says) is)
+pub of_command : (held : Bytes → Held) (failed : Bytes → Type 0) (tallies : Tallies) (words : List Bytes) (command : Command) (a : Answer)
+    → Says words command → HasCause held failed tallies words a → (a ≡ refused no_memory) ⊎ IsAnswerOf held failed tallies command a
+of_command held failed tallies words command a says (inl (nothing, is)) = absurd (nothing command says)
+of_command held failed tallies words command a says (inr (said, says', inl memory)) = inl memory
+of_command held failed tallies words command a says (inr (said, says', inr is)) =
+    inr (subst (λ c. IsAnswerOf held failed tallies c a) (one_command words said command says' says) is)
 
 -- an answer that has its cause is the one that is due, or one that may stand in
-pub due_answer : OneReading → (held : Bytes → Held) (failed : Bytes → Type 0) (words : List Bytes) (a b : Answer)
-    → HasCause held failed words a → IsDue held words b → AreFilesTold held words → ((file : Bytes) → failed file → ⊥)
+pub due_answer : OneReading → (held : Bytes → Held) (failed : Bytes → Type 0) (tallies : Tallies) (words : List Bytes) (a b : Answer)
+    → HasCause held failed tallies words a → IsDue held tallies words b → AreFilesTold held words → ((file : Bytes) → failed file → ⊥)
     → (a ≡ b) ⊎ MayStandIn held words a
-due_answer once held failed words a b (inl (nothing, is)) due told quiet = none due.cause where
-  none : HasCause held (λ file. ⊥) words b → (a ≡ b) ⊎ MayStandIn held words a
+due_answer once held failed tallies words a b (inl (nothing, is)) due told quiet = none due.cause where
+  none : HasCause held (λ file. ⊥) tallies words b → (a ≡ b) ⊎ MayStandIn held words a
   none (inl (nothing', is')) = inl (is ∙ sym is')
   none (inr (said, says, why)) = absurd (nothing said says)
-due_answer once held failed words a b (inr (said, says, inl memory)) due told quiet = inr (inl memory)
-due_answer once held failed words a b (inr (said, says, inr is)) due told quiet =
-    same (of_command held (λ file. ⊥) words said b says due.cause) where
-      same : (b ≡ refused no_memory) ⊎ IsAnswerOf held (λ file. ⊥) said b → (a ≡ b) ⊎ MayStandIn held words a
+due_answer once held failed tallies words a b (inr (said, says, inl memory)) due told quiet = inr (inl memory)
+due_answer once held failed tallies words a b (inr (said, says, inr is)) due told quiet =
+    same (of_command held (λ file. ⊥) tallies words said b says due.cause) where
+      same : (b ≡ refused no_memory) ⊎ IsAnswerOf held (λ file. ⊥) tallies said b → (a ≡ b) ⊎ MayStandIn held words a
       same (inl memory) = absurd (due.not_memory memory)
-      same (inr is') = one_answer once held failed (λ file. ⊥) words said says told quiet (λ file never. never) a b due.not_full is is'
+      same (inr is') = one_answer once held failed (λ file. ⊥) tallies words said says told quiet (λ file never. never) a b due.not_full is is'
 
 -- want of memory may come in place of an answer of a command
-pub memory_instead : (held : Bytes → Held) (failed : Bytes → Type 0) (words : List Bytes) (a : Answer)
-    → a ≢ refused no_command → HasCause held failed words a → HasCause held failed words (refused no_memory)
-memory_instead held failed words a said (inl (nothing, is)) = absurd (said is)
-memory_instead held failed words a said (inr (command, says, why)) = inr (command, says, inl refl)
+pub memory_instead : (held : Bytes → Held) (failed : Bytes → Type 0) (tallies : Tallies) (words : List Bytes) (a : Answer)
+    → a ≢ refused no_command → HasCause held failed tallies words a → HasCause held failed tallies words (refused no_memory)
+memory_instead held failed tallies words a said (inl (nothing, is)) = absurd (said is)
+memory_instead held failed tallies words a said (inr (command, says, why)) = inr (command, says, inl refl)

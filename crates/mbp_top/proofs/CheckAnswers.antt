@@ -13,7 +13,7 @@ use Rattle.plan_io.specs.Held.{Held}
 use Rattle.plan_rules.specs.Rules.{PlainPlan, PlanRule, table, automaton}
 use Rattle.sexpr_text.specs.declared.faults.FaultKind.TheVariants.{WrongGoalKind}
 use Rattle.sexpr_text.specs.declared.forms.Place.{Place}
-use Rattle.task_core.specs.Initial.{Entry, after_entries, entries_of}
+use Rattle.task_core.specs.Initial.{Entry, after_entries}
 use Rattle.task_core.specs.Names.{Name}
 use Rattle.task_core.specs.Systems.{System}
 use Rattle.task_core.specs.Tasks.{action_names as names_of_actions, fluent_names as names_of_fluents, states_after_entries, system_of}
@@ -24,7 +24,7 @@ use Rattle.mbp_top.specs.Answers.{Answer, Refusal, refused, no_memory, over_limi
 use Rattle.mbp_top.specs.CheckCommand.{CheckThen, ExploreThen, HasTooManyStates, IsChecked, IsJudged, most_followed}
 use Rattle.mbp_top.specs.Grounding.{GoalThen, GroundThen, limit_name}
 use Rattle.mbp_top.specs.PlanFiles.{IsFaultyPlan, PlacedPlan, SpellsPlaced, TableThen}
-use Rattle.mbp_top.specs.Reading.{Holds, IsRefusedFile, ReadThen}
+use Rattle.mbp_top.specs.Reading.{Holds, IsRefusedFile}
 use Rattle.mbp_top.specs.Words.{Bytes, CheckWords}
 use Rattle.mbp_top.proofs.Later.{read_over}
 use Rattle.mbp_top.proofs.Listings.{same_actions, same_count, same_entries, same_fluents}
@@ -70,14 +70,14 @@ same_states d p t k is =
     ∙ (ap (λ (v : Vector). after_entries n v (take k (map (entry_of (fluents d p)) p.entries))) (ap (λ (x : TaskTree). x.facts) is)
     ∙ ap (λ m. after_entries m (facts_of (setting d p) (fluents d p)) (take k (map (entry_of (fluents d p)) p.entries))) (same_count d p t is))
 
-too_many : (d : DomainTree) (p : ProblemTree) (t : Task) → task_value t ≡ task_of d p → HasTooManyInitial t most_followed → HasTooManyStates d p
+pub too_many : (d : DomainTree) (p : ProblemTree) (t : Task) → task_value t ≡ task_of d p → HasTooManyInitial t most_followed → HasTooManyStates d p
 too_many d p t is many = record {
   entries = many.entries;
   first = subst (λ n. many.entries ≤ n) (same_entries d p t is) many.first;
   more = subst (λ (vs : List Vector). most_followed < length vs) (same_states d p t many.entries is) many.more;
 }
 
-too_many_back : (d : DomainTree) (p : ProblemTree) (t : Task) → task_value t ≡ task_of d p → HasTooManyStates d p → HasTooManyInitial t most_followed
+pub too_many_back : (d : DomainTree) (p : ProblemTree) (t : Task) → task_value t ≡ task_of d p → HasTooManyStates d p → HasTooManyInitial t most_followed
 too_many_back d p t is many = record {
   entries = many.entries;
   first = subst (λ n. many.entries ≤ n) (sym (same_entries d p t is)) many.first;

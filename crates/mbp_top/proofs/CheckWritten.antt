@@ -1,5 +1,5 @@
 -- `check`: what was written at status 0 and 1, and which statuses come.
-use Rattle.std.proofs.Common.{◌≡◌, ◌≢◌, ℕ, List, ◌⊎◌, ◌↔◌, inl, inr, refl, sym, subst, arith, ◌∙◌, ap, true, None, Some, IsSome, Option}
+use Rattle.std.proofs.Common.{◌≡◌, ℕ, List, ◌⊎◌, ◌↔◌, inl, inr, refl, sym, arith, ◌∙◌, ap, true, None, Some, IsSome, Option}
 use Rattle.std.specs.Io.KnownBytes.{append_known}
 use Rattle.exec_graph.specs.Executions.{ReachesMoreThan}
 use Rattle.pddl_ast.specs.Trees.{DomainTree, ProblemTree}
@@ -9,21 +9,22 @@ use Rattle.plan_check.specs.Verdicts.{CanFollowRules, IsBound, IsFirstReason, Is
 use Rattle.plan_check.specs.declared.verdicts.Reason.{Reason}
 use Rattle.plan_check.specs.declared.verdicts.Verdict.{Verdict}
 use Rattle.plan_check.specs.declared.verdicts.Verdict.TheVariants.{Yes, No}
-use Rattle.plan_io.specs.Held.{Held, Untold}
+use Rattle.plan_io.specs.Held.{Held}
 use Rattle.plan_rules.specs.Denoted.{denoted}
 use Rattle.plan_rules.specs.Rules.{PlainPlan, PlanRule, table, automaton}
 use Rattle.sexpr_text.specs.declared.forms.Place.{Place}
 use Rattle.task_core.specs.Solutions.{IsSolution}
 use Rattle.task_core.specs.Systems.{System}
 use Rattle.task_core.specs.declared.classes.Class.{Class}
-use Rattle.mbp_top.specs.Answers.{Answer, refused, no_memory, over_limit, status_of, text_of, is_shown}
+use Rattle.mbp_top.specs.Answers.{Answer, refused, no_memory, status_of, text_of, is_shown}
 use Rattle.mbp_top.specs.CheckCommand.{CheckThen, ExploreThen, HasTooManyStates, HoldsTable, IsCheckAnswer, IsChecked, IsJudged, IsSolved, most_followed, verdict_answer}
 use Rattle.mbp_top.specs.Delivery.{Seen}
 use Rattle.mbp_top.specs.Grounding.{GroundThen}
 use Rattle.mbp_top.specs.PddlTexts.{HoldBoth}
 use Rattle.mbp_top.specs.PlanFiles.{IsFaultyPlan, PlacedPlan, SpellsPlaced, TableThen}
-use Rattle.mbp_top.specs.Reading.{Holds, ReadThen}
+use Rattle.mbp_top.specs.Reading.{Holds}
 use Rattle.mbp_top.specs.Told.{AreFilesTold, NoFault}
+use Rattle.mbp_top.specs.ReplayCommand.{Tallies}
 use Rattle.mbp_top.specs.Words.{Bytes, CheckWords, check, SaysCheck}
 use Rattle.mbp_top.proofs.ByCommand.{of_command}
 use Rattle.mbp_top.proofs.CheckDecides.{plan_grammar}
@@ -156,23 +157,23 @@ no_written held asked out out' a read (No reason) is one written = record {
   written = written;
 }
 
-pub check_yes_written : YesSolves → (held : Bytes → Held) (failed : Bytes → Type 0) (words : List Bytes) (before after : ℕ) (out out' err err' : Seen) (status : ℕ) (a : Answer)
-    (asked : CheckWords) → Done held failed words before after out out' err err' status a → SaysCheck words asked → status ≡ 0 → YesWritten held asked out out'
-check_yes_written solves held failed words before after out out' err err' status a asked d says zero =
+pub check_yes_written : YesSolves → (held : Bytes → Held) (failed : Bytes → Type 0) (tallies : Tallies) (words : List Bytes) (before after : ℕ) (out out' err err' : Seen) (status : ℕ) (a : Answer)
+    (asked : CheckWords) → Done held failed tallies words before after out out' err err' status a → SaysCheck words asked → status ≡ 0 → YesWritten held asked out out'
+check_yes_written solves held failed tallies words before after out out' err err' status a asked d says zero =
     let whole = whole_delivery a out out' err err' status d.delivered (λ seven. let e : 0 ≡ 7 = sym zero ∙ seven in omega arith) in
     let code : status_of a ≡ 0 = sym whole.0 ∙ zero in
     let shown = shown_at a (inl code) in
-    let read = shown_check held failed asked a shown (of_command held failed words (check asked) a says d.cause) in
+    let read = shown_check held failed asked a shown (of_command held failed tallies words (check asked) a says d.cause) in
     yes_written solves held asked out out' a read read.verdict read.of_rules (sym (ap status_of read.shown) ∙ code)
     (written_shown a (text_of (verdict_answer read.verdict)) out out' err err' whole.1 shown (ap text_of read.shown))
 
-pub check_no_written : (held : Bytes → Held) (failed : Bytes → Type 0) (words : List Bytes) (before after : ℕ) (out out' err err' : Seen) (status : ℕ) (a : Answer)
-    (asked : CheckWords) → Done held failed words before after out out' err err' status a → SaysCheck words asked → status ≡ 1 → NoWritten held asked out out'
-check_no_written held failed words before after out out' err err' status a asked d says one =
+pub check_no_written : (held : Bytes → Held) (failed : Bytes → Type 0) (tallies : Tallies) (words : List Bytes) (before after : ℕ) (out out' err err' : Seen) (status : ℕ) (a : Answer)
+    (asked : CheckWords) → Done held failed tallies words before after out out' err err' status a → SaysCheck words asked → status ≡ 1 → NoWritten held asked out out'
+check_no_written held failed tallies words before after out out' err err' status a asked d says one =
     let whole = whole_delivery a out out' err err' status d.delivered (λ seven. let e : 1 ≡ 7 = sym one ∙ seven in omega arith) in
     let code : status_of a ≡ 1 = sym whole.0 ∙ one in
     let shown = shown_at a (inr code) in
-    let read = shown_check held failed asked a shown (of_command held failed words (check asked) a says d.cause) in
+    let read = shown_check held failed asked a shown (of_command held failed tallies words (check asked) a says d.cause) in
     no_written held asked out out' a read read.verdict read.of_rules (sym (ap status_of read.shown) ∙ code)
     (written_shown a (text_of (verdict_answer read.verdict)) out out' err err' whole.1 shown (ap text_of read.shown))
 
@@ -190,16 +191,16 @@ small_judged TooMany sys plan class rules a few small (inl (many, is)) = absurd 
 small_judged TooMany sys plan class rules a few small (inr (inl (few', more, is))) = absurd (small more)
 small_judged TooMany sys plan class rules a few small (inr (inr (few', small', then))) = then
 
-pub check_status : OneReading → YesSolves → (held : Bytes → Held) (failed : Bytes → Type 0) (words : List Bytes) (before after : ℕ) (out out' err err' : Seen) (status : ℕ) (a : Answer)
-    (asked : CheckWords) (domain : DomainTree) (problem : ProblemTree) (rules : List PlanRule) → Done held failed words before after out out' err err' status a
+pub check_status : OneReading → YesSolves → (held : Bytes → Held) (failed : Bytes → Type 0) (tallies : Tallies) (words : List Bytes) (before after : ℕ) (out out' err err' : Seen) (status : ℕ) (a : Answer)
+    (asked : CheckWords) (domain : DomainTree) (problem : ProblemTree) (rules : List PlanRule) → Done held failed tallies words before after out out' err err' status a
     → SaysCheck words asked → HoldBoth held asked.domain asked.problem domain problem → IsSome problem.goal → first_passed domain problem ≡ None
     → (plan : HoldsTable held (fluent_names domain problem) (action_names domain problem) asked.plan rules)
     → (HasTooManyStates domain problem → ⊥) → (ReachesMoreThan (system domain problem) (table plan.class rules) most_followed → ⊥)
     → AreFilesTold held words → ((file : Bytes) → failed file → ⊥)
     → NoFault out.faults out'.faults → NoFault err.faults err'.faults
     → ((status ≡ 0) × IsSolved asked.class (system domain problem) rules) ⊎ ((status ≡ 1) × (IsSolved asked.class (system domain problem) rules → ⊥)) ⊎ (status ≡ 8)
-check_status one solves held failed words before after out out' err err' status a asked domain problem rules d says both goal kept plan few small told quiet no_out no_err =
-    go (of_command held failed words (check asked) a says d.cause) where
+check_status one solves held failed tallies words before after out out' err err' status a asked domain problem rules d says both goal kept plan few small told quiet no_out no_err =
+    go (of_command held failed tallies words (check asked) a says d.cause) where
       code : status ≡ status_of a
       code = undisturbed a out out' err err' status no_out no_err d.delivered
 

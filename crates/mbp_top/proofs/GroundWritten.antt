@@ -9,6 +9,7 @@ use Rattle.mbp_top.specs.Delivery.{Seen}
 use Rattle.mbp_top.specs.GroundCommand.{IsGroundAnswer, IsListed, listing_of}
 use Rattle.mbp_top.specs.PddlTexts.{HoldBoth}
 use Rattle.mbp_top.specs.Told.{AreFilesTold, NoFault}
+use Rattle.mbp_top.specs.ReplayCommand.{Tallies}
 use Rattle.mbp_top.specs.Words.{Bytes, GroundWords, ground, SaysGround}
 use Rattle.mbp_top.proofs.ByCommand.{of_command}
 use Rattle.mbp_top.proofs.PddlDecides.{OneReading, ReadFor, both_as, not_refused, shown_both, shown_grounded, within_limits}
@@ -27,13 +28,13 @@ pub record ListingWritten (held : Bytes → Held) (asked : GroundWords) (out out
   pub within : first_passed domain problem ≡ None
   pub written : out'.written ≡ append_known out.written (listing_of domain problem)
 
-pub listing_written : (held : Bytes → Held) (failed : Bytes → Type 0) (words : List Bytes) (before after : ℕ) (out out' err err' : Seen) (status : ℕ) (a : Answer) (asked : GroundWords)
-    → Done held failed words before after out out' err err' status a → SaysGround words asked → status ≡ 0 → ListingWritten held asked out out'
-listing_written held failed words before after out out' err err' status a asked d says zero =
+pub listing_written : (held : Bytes → Held) (failed : Bytes → Type 0) (tallies : Tallies) (words : List Bytes) (before after : ℕ) (out out' err err' : Seen) (status : ℕ) (a : Answer) (asked : GroundWords)
+    → Done held failed tallies words before after out out' err err' status a → SaysGround words asked → status ≡ 0 → ListingWritten held asked out out'
+listing_written held failed tallies words before after out out' err err' status a asked d says zero =
     let whole = whole_delivery a out out' err err' status d.delivered (λ seven. let e : 0 ≡ 7 = sym zero ∙ seven in omega arith) in
     let code : status_of a ≡ 0 = sym whole.0 ∙ zero in
     let shown = shown_at a (inl code) in
-    let trees = shown_listed held failed asked a shown (of_command held failed words (ground asked) a says d.cause) in
+    let trees = shown_listed held failed asked a shown (of_command held failed tallies words (ground asked) a says d.cause) in
     let listed = shown_grounded trees.domain trees.problem (λ b. b ≡ affirmed (listing_of trees.domain trees.problem)) a shown trees.result in
     record {
       domain = trees.domain;
@@ -44,13 +45,13 @@ listing_written held failed words before after out out' err err' status a asked 
     }
 
 -- the status where the files spell a domain and a problem of it within the limits
-pub listing_status : OneReading → (held : Bytes → Held) (failed : Bytes → Type 0) (words : List Bytes) (before after : ℕ) (out out' err err' : Seen) (status : ℕ) (a : Answer)
-    (asked : GroundWords) (domain : DomainTree) (problem : ProblemTree) → Done held failed words before after out out' err err' status a
+pub listing_status : OneReading → (held : Bytes → Held) (failed : Bytes → Type 0) (tallies : Tallies) (words : List Bytes) (before after : ℕ) (out out' err err' : Seen) (status : ℕ) (a : Answer)
+    (asked : GroundWords) (domain : DomainTree) (problem : ProblemTree) → Done held failed tallies words before after out out' err err' status a
     → SaysGround words asked → HoldBoth held asked.domain asked.problem domain problem → first_passed domain problem ≡ None
     → AreFilesTold held words → ((file : Bytes) → failed file → ⊥)
     → NoFault out.faults out'.faults → NoFault err.faults err'.faults → (status ≡ 0) ⊎ (status ≡ 8)
-listing_status one held failed words before after out out' err err' status a asked domain problem d says both kept told quiet no_out no_err =
-    go (of_command held failed words (ground asked) a says d.cause) where
+listing_status one held failed tallies words before after out out' err err' status a asked domain problem d says both kept told quiet no_out no_err =
+    go (of_command held failed tallies words (ground asked) a says d.cause) where
       code : status ≡ status_of a
       code = undisturbed a out out' err err' status no_out no_err d.delivered
 

@@ -88,3 +88,19 @@ failed_after_two {S} fetched faults a b before between after name (x, first, (y,
   fetch = failed.fetch;
   rose = failed.rose;
 }
+
+-- a fetch of one file, and of those after it
+pub one_then : {S : Type 0} (fetched : S → List ℕ → S → Type 0) (a : List ℕ) (rest : List (List ℕ)) (before between after : S)
+    → fetched before a between → FetchesFirst fetched rest between after → FetchesFirst fetched (a ∷ rest) before after
+one_then fetched a rest before between after fetch more = record { count = suc more.count; fetches = (between, fetch, more.fetches) }
+
+pub only_one : {S : Type 0} (fetched : S → List ℕ → S → Type 0) (a : List ℕ) (rest : List (List ℕ)) (before after : S)
+    → fetched before a after → FetchesFirst fetched (a ∷ rest) before after
+only_one fetched a rest before after fetch = record { count = 1; fetches = (after, fetch, refl) }
+
+-- a file that is refused at once
+pub file_refused : {X : Type 0} (held : Bytes → Held) (failed : Bytes → Type 0) (name : Bytes) (Spells : Bytes → X → Type 0) (Wrong : Bytes → Bytes → Refusal → Type 0)
+    (Then : X → Answer → Type 0) (r : Refusal) → (r ≡ no_memory) ⊎ IsRefusedFile held failed Wrong name r
+    → (refused r ≡ refused no_memory) ⊎ ReadThen held failed name Spells Wrong Then (refused r)
+file_refused held failed name Spells Wrong Then r (inl memory) = inl (ap refused memory)
+file_refused held failed name Spells Wrong Then r (inr why) = inr (inl (r, refl, why))

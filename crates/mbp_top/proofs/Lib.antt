@@ -7,6 +7,10 @@ pub mod CheckAnswers
 pub mod CheckWritten
 pub mod PlanWritten
 pub mod GroundWritten
+pub mod ReplayDecides
+pub mod ReplayAnswers
+pub mod ReplayRuns
+pub mod ReplayWritten
 pub mod ByCommand
 pub mod Statuses
 pub mod Listings

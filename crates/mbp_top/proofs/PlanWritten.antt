@@ -17,6 +17,7 @@ use Rattle.mbp_top.specs.PddlTexts.{HoldBoth, IsFaultyDomain, IsFaultyProblem, R
 use Rattle.mbp_top.specs.PlanCommand.{IsSolvingText, IsPrintedText, IsPlanFound, IsPlanMissing, IsPlanResult, IsPlanAnswer, IsPlanned, IsShortestText, MayRunOut, PlanThen, no_plan_text}
 use Rattle.mbp_top.specs.Reading.{IsRefusedFile}
 use Rattle.mbp_top.specs.Told.{AreFilesTold, NoFault}
+use Rattle.mbp_top.specs.ReplayCommand.{Tallies}
 use Rattle.mbp_top.specs.Words.{Bytes, PlanWords, plan, SaysPlan}
 use Rattle.mbp_top.proofs.ByCommand.{of_command}
 use Rattle.mbp_top.proofs.PddlDecides.{OneReading, ReadFor, both_as, not_refused, shown_both, shown_goal, shown_grounded, with_goal, within_limits}
@@ -63,13 +64,13 @@ pub record PlanWritten (held : Bytes → Held) (asked : PlanWords) (out out' : S
   pub printed : IsPrintedText asked.class (system domain problem) (fluent_names domain problem) (action_names domain problem) text
   pub written : out'.written ≡ append_known out.written text
 
-pub plan_written : (held : Bytes → Held) (failed : Bytes → Type 0) (words : List Bytes) (before after : ℕ) (out out' err err' : Seen) (status : ℕ) (a : Answer) (asked : PlanWords)
-    → Done held failed words before after out out' err err' status a → SaysPlan words asked → status ≡ 0 → PlanWritten held asked out out'
-plan_written held failed words before after out out' err err' status a asked d says zero =
+pub plan_written : (held : Bytes → Held) (failed : Bytes → Type 0) (tallies : Tallies) (words : List Bytes) (before after : ℕ) (out out' err err' : Seen) (status : ℕ) (a : Answer) (asked : PlanWords)
+    → Done held failed tallies words before after out out' err err' status a → SaysPlan words asked → status ≡ 0 → PlanWritten held asked out out'
+plan_written held failed tallies words before after out out' err err' status a asked d says zero =
     let whole = whole_delivery a out out' err err' status d.delivered (λ seven. let e : 0 ≡ 7 = sym zero ∙ seven in omega arith) in
     let code : status_of a ≡ 0 = sym whole.0 ∙ zero in
     let shown = shown_at a (inl code) in
-    let trees = shown_plan held failed asked a shown (of_command held failed words (plan asked) a says d.cause) in
+    let trees = shown_plan held failed asked a shown (of_command held failed tallies words (plan asked) a says d.cause) in
     let found = plan_found asked.class (system trees.domain trees.problem) (fluent_names trees.domain trees.problem) (action_names trees.domain trees.problem) a trees.result code in
     record {
       domain = trees.domain;
@@ -90,13 +91,13 @@ pub record NoPlanWritten (held : Bytes → Held) (asked : PlanWords) (out out' :
   pub none : HasNoSolution asked.class (system domain problem)
   pub written : out'.written ≡ append_known out.written no_plan_text
 
-pub no_plan_written : (held : Bytes → Held) (failed : Bytes → Type 0) (words : List Bytes) (before after : ℕ) (out out' err err' : Seen) (status : ℕ) (a : Answer) (asked : PlanWords)
-    → Done held failed words before after out out' err err' status a → SaysPlan words asked → status ≡ 1 → NoPlanWritten held asked out out'
-no_plan_written held failed words before after out out' err err' status a asked d says one =
+pub no_plan_written : (held : Bytes → Held) (failed : Bytes → Type 0) (tallies : Tallies) (words : List Bytes) (before after : ℕ) (out out' err err' : Seen) (status : ℕ) (a : Answer) (asked : PlanWords)
+    → Done held failed tallies words before after out out' err err' status a → SaysPlan words asked → status ≡ 1 → NoPlanWritten held asked out out'
+no_plan_written held failed tallies words before after out out' err err' status a asked d says one =
     let whole = whole_delivery a out out' err err' status d.delivered (λ seven. let e : 1 ≡ 7 = sym one ∙ seven in omega arith) in
     let code : status_of a ≡ 1 = sym whole.0 ∙ one in
     let shown = shown_at a (inr code) in
-    let trees = shown_plan held failed asked a shown (of_command held failed words (plan asked) a says d.cause) in
+    let trees = shown_plan held failed asked a shown (of_command held failed tallies words (plan asked) a says d.cause) in
     let missing = plan_missing asked.class (system trees.domain trees.problem) (fluent_names trees.domain trees.problem) (action_names trees.domain trees.problem) a trees.result code in
     record {
       domain = trees.domain;
@@ -135,10 +136,10 @@ pub record FullWritten (held : Bytes → Held) (asked : PlanWords) (err err' : S
   pub may : MayRunOut held asked
   pub written : err'.written ≡ append_known err.written (text_of (refused (full asked.options.nodes)))
 
-pub full_written : (held : Bytes → Held) (failed : Bytes → Type 0) (words : List Bytes) (before after : ℕ) (out out' err err' : Seen) (status : ℕ) (a : Answer) (asked : PlanWords)
-    → Done held failed words before after out out' err err' status a → SaysPlan words asked → status ≡ 5 → FullWritten held asked err err'
-full_written held failed words before after out out' err err' status a asked d says five =
-    go (of_command held failed words (plan asked) a says d.cause) where
+pub full_written : (held : Bytes → Held) (failed : Bytes → Type 0) (tallies : Tallies) (words : List Bytes) (before after : ℕ) (out out' err err' : Seen) (status : ℕ) (a : Answer) (asked : PlanWords)
+    → Done held failed tallies words before after out out' err err' status a → SaysPlan words asked → status ≡ 5 → FullWritten held asked err err'
+full_written held failed tallies words before after out out' err err' status a asked d says five =
+    go (of_command held failed tallies words (plan asked) a says d.cause) where
       whole : (status ≡ status_of a) × IsWhole a out out' err err'
       whole = whole_delivery a out out' err err' status d.delivered (λ seven. let e : 5 ≡ 7 = sym five ∙ seven in omega arith)
 
@@ -163,14 +164,14 @@ tight_of one held failed asked domain problem a told told' quiet both may =
     (inr (may.domain, may.both.holds_domain, inr (may.problem, may.both.holds_problem, may.few.tight)))
 
 -- the status where the files spell a domain and a problem of it within the limits
-pub plan_status : OneReading → (held : Bytes → Held) (failed : Bytes → Type 0) (words : List Bytes) (before after : ℕ) (out out' err err' : Seen) (status : ℕ) (a : Answer)
-    (asked : PlanWords) (domain : DomainTree) (problem : ProblemTree) → Done held failed words before after out out' err err' status a
+pub plan_status : OneReading → (held : Bytes → Held) (failed : Bytes → Type 0) (tallies : Tallies) (words : List Bytes) (before after : ℕ) (out out' err err' : Seen) (status : ℕ) (a : Answer)
+    (asked : PlanWords) (domain : DomainTree) (problem : ProblemTree) → Done held failed tallies words before after out out' err err' status a
     → SaysPlan words asked → HoldBoth held asked.domain asked.problem domain problem
     → IsSome problem.goal → first_passed domain problem ≡ None → (IsTightLimit asked.options.nodes (system domain problem) → ⊥)
     → AreFilesTold held words → ((file : Bytes) → failed file → ⊥)
     → NoFault out.faults out'.faults → NoFault err.faults err'.faults → (status ≡ 0) ⊎ (status ≡ 1) ⊎ (status ≡ 8)
-plan_status one held failed words before after out out' err err' status a asked domain problem d says both goal kept room told quiet no_out no_err =
-    go (of_command held failed words (plan asked) a says d.cause) where
+plan_status one held failed tallies words before after out out' err err' status a asked domain problem d says both goal kept room told quiet no_out no_err =
+    go (of_command held failed tallies words (plan asked) a says d.cause) where
       code : status ≡ status_of a
       code = undisturbed a out out' err err' status no_out no_err d.delivered
 

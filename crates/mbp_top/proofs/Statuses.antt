@@ -5,39 +5,40 @@ use Rattle.std.specs.Io.KnownBytes.{append_known}
 use Rattle.plan_io.specs.Counts.{Rose}
 use Rattle.plan_io.specs.Fetches.{FailedLast}
 use Rattle.plan_io.specs.Held.{Held}
-use Rattle.mbp_top.specs.Answers.{Answer, affirmed, denied, refused, Refusal, no_command, text_fault, over_limit, read_fault, no_memory, full, status_of, text_of, is_shown}
+use Rattle.mbp_top.specs.Answers.{Answer, affirmed, denied, refused, Refusal, no_command, text_fault, over_limit, read_fault, no_memory, full, stray_outcome, unexecutable, status_of, text_of, is_shown}
 use Rattle.mbp_top.specs.Causes.{HasCause, IsQuietAt, MayHaveFault}
 use Rattle.mbp_top.specs.Delivery.{Seen, IsWhole, IsCut, IsDelivered}
 use Rattle.mbp_top.specs.PlanCommand.{MayRunOut}
+use Rattle.mbp_top.specs.ReplayCommand.{Tallies}
 use Rattle.mbp_top.specs.Told.{AreFilesTold, IsDue, MayStandIn, NoFault}
 use Rattle.mbp_top.specs.Words.{Bytes, PlanWords, SaysPlan}
 use Rattle.mbp_top.proofs.ByCommand.{due_answer, memory_instead}
 use Rattle.mbp_top.proofs.PddlDecides.{OneReading}
 
 -- an answer that has its cause, and what became of it
-pub record Done (held : Bytes → Held) (failed : Bytes → Type 0) (words : List Bytes) (before after : ℕ) (out out' err err' : Seen) (status : ℕ) (answer : Answer) : Type 0 where
-  pub cause : HasCause held failed words answer
+pub record Done (held : Bytes → Held) (failed : Bytes → Type 0) (tallies : Tallies) (words : List Bytes) (before after : ℕ) (out out' err err' : Seen) (status : ℕ) (answer : Answer) : Type 0 where
+  pub cause : HasCause held failed tallies words answer
   pub quiet : IsQuietAt answer before after
   pub delivered : IsDelivered answer out out' err err' status
 
 -- the answer that is given, for one that was found
-pub done : (held : Bytes → Held) (failed : Bytes → Type 0) (words : List Bytes) (before after : ℕ) (out out' err err' : Seen) (status : ℕ) (found given : Answer)
-    → HasCause held failed words found → IsQuietAt found before after
+pub done : (held : Bytes → Held) (failed : Bytes → Type 0) (tallies : Tallies) (words : List Bytes) (before after : ℕ) (out out' err err' : Seen) (status : ℕ) (found given : Answer)
+    → HasCause held failed tallies words found → IsQuietAt found before after
     → (given ≡ found) ⊎ ((given ≡ refused no_memory) × (found ≢ refused no_command)) → IsDelivered given out out' err err' status
-    → Done held failed words before after out out' err err' status given
-done held failed words before after out out' err err' status found given cause quiet (inl is) delivered = record {
-  cause = subst (HasCause held failed words) (sym is) cause;
+    → Done held failed tallies words before after out out' err err' status given
+done held failed tallies words before after out out' err err' status found given cause quiet (inl is) delivered = record {
+  cause = subst (HasCause held failed tallies words) (sym is) cause;
   quiet = subst (λ a. IsQuietAt a before after) (sym is) quiet;
   delivered = delivered;
 }
-done held failed words before after out out' err err' status found given cause quiet (inr (is, said)) delivered = record {
-  cause = subst (HasCause held failed words) (sym is) (memory_instead held failed words found said cause);
+done held failed tallies words before after out out' err err' status found given cause quiet (inr (is, said)) delivered = record {
+  cause = subst (HasCause held failed tallies words) (sym is) (memory_instead held failed tallies words found said cause);
   quiet = subst (λ a. IsQuietAt a before after) (sym is) (inr tt);
   delivered = delivered;
 }
 
 abbrev statuses : List ℕ
-statuses = 0 ∷ 1 ∷ 2 ∷ 3 ∷ 4 ∷ 5 ∷ 6 ∷ 7 ∷ 8 ∷ []
+statuses = 0 ∷ 1 ∷ 2 ∷ 3 ∷ 4 ∷ 5 ∷ 6 ∷ 7 ∷ 8 ∷ 9 ∷ []
 
 of_answer : (answer : Answer) → Contains statuses (status_of answer)
 of_answer (affirmed text) = (0, omega arith, refl)
@@ -48,6 +49,8 @@ of_answer (refused (over_limit name)) = (4, omega arith, refl)
 of_answer (refused (read_fault file)) = (6, omega arith, refl)
 of_answer (refused no_memory) = (8, omega arith, refl)
 of_answer (refused (full nodes)) = (5, omega arith, refl)
+of_answer (refused (stray_outcome step word outcomes)) = (9, omega arith, refl)
+of_answer (refused (unexecutable step)) = (9, omega arith, refl)
 
 pub of_delivery : (answer : Answer) (out out' err err' : Seen) (status : ℕ) → IsDelivered answer out out' err err' status → Contains statuses status
 of_delivery answer out out' err err' status (inl (is, whole)) = subst (Contains statuses) (sym is) (of_answer answer)
@@ -63,6 +66,8 @@ not_seven (refused (over_limit name)) is = omega arith
 not_seven (refused (read_fault file)) is = omega arith
 not_seven (refused no_memory) is = omega arith
 not_seven (refused (full nodes)) is = omega arith
+not_seven (refused (stray_outcome step word outcomes)) is = omega arith
+not_seven (refused (unexecutable step)) is = omega arith
 
 pub whole_delivery : (answer : Answer) (out out' err err' : Seen) (status : ℕ) → IsDelivered answer out out' err err' status → status ≢ 7
     → (status ≡ status_of answer) × IsWhole answer out out' err err'
@@ -84,6 +89,8 @@ fault_status (refused (over_limit name)) may six eight = may
 fault_status (refused (read_fault file)) may six eight = six refl
 fault_status (refused no_memory) may six eight = eight refl
 fault_status (refused (full nodes)) may six eight = may
+fault_status (refused (stray_outcome step word outcomes)) may six eight = may
+fault_status (refused (unexecutable step)) may six eight = may
 
 pub quiet_shelf : (answer : Answer) (before after status : ℕ) → IsQuietAt answer before after → status ≡ status_of answer → status ≢ 6 → status ≢ 8 → after ≡ before
 quiet_shelf answer before after status (inl same) is six eight = same
@@ -116,11 +123,11 @@ same_code held words a b status (inr (inl is)) code = inr (inl (code ∙ ap stat
 same_code held words a b status (inr (inr (asked, says, may, is))) code = inr (inr (code ∙ ap status_of is, asked, says, may))
 
 -- the status is that of the answer that is due
-pub due_status : OneReading → (held : Bytes → Held) (failed : Bytes → Type 0) (words : List Bytes) (before after : ℕ) (out out' err err' : Seen) (status : ℕ) (a b : Answer)
-    → Done held failed words before after out out' err err' status a → IsDue held words b → AreFilesTold held words → ((file : Bytes) → failed file → ⊥)
+pub due_status : OneReading → (held : Bytes → Held) (failed : Bytes → Type 0) (tallies : Tallies) (words : List Bytes) (before after : ℕ) (out out' err err' : Seen) (status : ℕ) (a b : Answer)
+    → Done held failed tallies words before after out out' err err' status a → IsDue held tallies words b → AreFilesTold held words → ((file : Bytes) → failed file → ⊥)
     → NoFault out.faults out'.faults → NoFault err.faults err'.faults → (status ≡ status_of b) ⊎ (status ≡ 8) ⊎ IsFullStatus held words status
-due_status once held failed words before after out out' err err' status a b d due told quiet no_out no_err =
-    same_code held words a b status (due_answer once held failed words a b d.cause due told quiet) (undisturbed a out out' err err' status no_out no_err d.delivered)
+due_status once held failed tallies words before after out out' err err' status a b d due told quiet no_out no_err =
+    same_code held words a b status (due_answer once held failed tallies words a b d.cause due told quiet) (undisturbed a out out' err err' status no_out no_err d.delivered)
 
 -- what was written of an answer with status 0 or 1
 pub written_shown : (answer : Answer) (text : Bytes) (out out' err err' : Seen) → IsWhole answer out out' err err' → is_shown answer ≡ true → text_of answer ≡ text
@@ -138,3 +145,5 @@ shown_at (refused (over_limit name)) is = grind arith
 shown_at (refused (read_fault file)) is = grind arith
 shown_at (refused no_memory) is = grind arith
 shown_at (refused (full nodes)) is = grind arith
+shown_at (refused (stray_outcome step word outcomes)) is = grind arith
+shown_at (refused (unexecutable step)) is = grind arith

@@ -5,8 +5,9 @@ use Rattle.plan_io.specs.Held.{Held, Missing}
 use Rattle.plan_rules.specs.Texts.{line_feed}
 use Rattle.task_core.specs.declared.classes.Class.TheVariants.{Weak, Strong, Cyclic}
 use Rattle.mbp_top.specs.Answers.{full, no_command, over_limit, read_fault, refused, status_of, text_of}
+use Rattle.mbp_top.specs.ReplayCommand.{Tallies}
 use Rattle.mbp_top.specs.Told.{AreFilesTold, IsDue}
-use Rattle.mbp_top.specs.Words.{Bytes, Command, PlanOptions, PlanWords, plan, ground, check, Says, files_of}
+use Rattle.mbp_top.specs.Words.{Bytes, Command, PlanOptions, PlanWords, plan, ground, check, replay, Says, files_of}
 
 -- the words `plan weak coin-d coin-p`, the command that they say, and the two files that it names
 abbrev coin_words : List Bytes
@@ -54,9 +55,9 @@ empty_shelf_told : (words : List Bytes) → AreFilesTold (λ file. Missing) word
 empty_shelf_told words command file says named untold = cc
 
 -- where there is no file coin-d, the answer to these words is that it can't be read
-missing_domain : (held : Bytes → Held) → held (codes "coin-d") ≡ Missing
-    → IsDue held coin_words (refused (read_fault (codes "coin-d")))
-missing_domain held missing = record {
+missing_domain : (held : Bytes → Held) (tallies : Tallies) → held (codes "coin-d") ≡ Missing
+    → IsDue held tallies coin_words (refused (read_fault (codes "coin-d")))
+missing_domain held tallies missing = record {
   cause = inr (plan coin_plan, coin_said, inr (inr (inl (read_fault (codes "coin-d"), refl, inl (refl, inl missing)))));
   not_memory = λ same. cc;
   not_full = λ nodes same. cc;
@@ -67,10 +68,11 @@ plan_alone : (command : Command) → Says (codes "plan" ∷ []) command → ⊥
 plan_alone (plan asked) says = let written = says.written in cc
 plan_alone (ground asked) says = cc
 plan_alone (check asked) says = cc
+plan_alone (replay asked) says = cc
 
 -- so the answer to it is that, whatever the files
-no_command_due : (held : Bytes → Held) → IsDue held (codes "plan" ∷ []) (refused no_command)
-no_command_due held = record { cause = inl (plan_alone, refl); not_memory = λ same. cc; not_full = λ nodes same. cc }
+no_command_due : (held : Bytes → Held) (tallies : Tallies) → IsDue held tallies (codes "plan" ∷ []) (refused no_command)
+no_command_due held tallies = record { cause = inl (plan_alone, refl); not_memory = λ same. cc; not_full = λ nodes same. cc }
 
 -- statuses and lines
 long_status : status_of (refused (over_limit (codes "file"))) ≡ 4

@@ -19,6 +19,10 @@ pub data Refusal : Type 0 where
   no_memory : Refusal
   -- the table of diagram nodes is full: it may hold so many
   full : ℕ → Refusal
+  -- the record's number at this step is none of the action's so many outcomes
+  stray_outcome : (step word outcomes : ℕ) → Refusal
+  -- the plan's action at this step can't be executed
+  unexecutable : (step : ℕ) → Refusal
 
 -- what a command shows, that says yes or no; or a refusal
 pub data Answer : Type 0 where
@@ -33,6 +37,8 @@ status_of_refusal (over_limit name) = 4
 status_of_refusal (read_fault file) = 6
 status_of_refusal no_memory = 8
 status_of_refusal (full nodes) = 5
+status_of_refusal (stray_outcome step word outcomes) = 9
+status_of_refusal (unexecutable step) = 9
 
 -- the status where the text of an answer can't be written whole
 abbrev pub write_fault_status : ℕ
@@ -60,6 +66,11 @@ line_of (over_limit name) = codes "limit " ++ name
 line_of (read_fault file) = codes "read fault " ++ file
 line_of no_memory = codes "no memory"
 line_of (full nodes) = codes "full " ++ decimal nodes
+line_of (stray_outcome step word outcomes) =
+    codes "stray outcome step " ++ decimal step ++ codes " word " ++ decimal word
+    ++ codes " outcomes "
+    ++ decimal outcomes
+line_of (unexecutable step) = codes "unexecutable step " ++ decimal step
 
 -- what is written
 abbrev pub text_of : Answer → Bytes

@@ -1,25 +1,29 @@
 -- The cause of each answer: the words say no command; or they say one, and the answer is that
--- command's, or want of memory, which has no further cause. `held` and `failed` are as in Reading.
+-- command's, or want of memory, which has no further cause. `held` and `failed` are as in Reading,
+-- and `tallies` is as in ReplayCommand.
 use Rattle.std.specs.Prelude.{◌≡◌, ℕ, ◌⊎◌, ⊤, List}
 use Rattle.plan_io.specs.Held.{Held}
 use Rattle.mbp_top.specs.Answers.{Answer, affirmed, denied, refused, Refusal, no_command}
 use Rattle.mbp_top.specs.Answers.{text_fault, over_limit, read_fault, no_memory, full}
+use Rattle.mbp_top.specs.Answers.{stray_outcome, unexecutable}
 use Rattle.mbp_top.specs.CheckCommand.{IsCheckAnswer}
 use Rattle.mbp_top.specs.GroundCommand.{IsGroundAnswer}
 use Rattle.mbp_top.specs.PlanCommand.{IsPlanAnswer}
-use Rattle.mbp_top.specs.Words.{Bytes, Command, plan, ground, check, Says, SayNothing}
+use Rattle.mbp_top.specs.ReplayCommand.{IsReplayAnswer, Tallies}
+use Rattle.mbp_top.specs.Words.{Bytes, Command, plan, ground, check, replay, Says, SayNothing}
 
 -- the answer of a command
-abbrev pub IsAnswerOf : (Bytes → Held) → (Bytes → Type 0) → Command → Answer → Type 0
-IsAnswerOf held failed (plan asked) = IsPlanAnswer held failed asked
-IsAnswerOf held failed (ground asked) = IsGroundAnswer held failed asked
-IsAnswerOf held failed (check asked) = IsCheckAnswer held failed asked
+abbrev pub IsAnswerOf : (Bytes → Held) → (Bytes → Type 0) → Tallies → Command → Answer → Type 0
+IsAnswerOf held failed tallies (plan asked) = IsPlanAnswer held failed asked
+IsAnswerOf held failed tallies (ground asked) = IsGroundAnswer held failed asked
+IsAnswerOf held failed tallies (check asked) = IsCheckAnswer held failed asked
+IsAnswerOf held failed tallies (replay asked) = IsReplayAnswer held failed tallies asked
 
-abbrev pub HasCause : (Bytes → Held) → (Bytes → Type 0) → List Bytes → Answer → Type 0
-HasCause held failed words answer =
+abbrev pub HasCause : (Bytes → Held) → (Bytes → Type 0) → Tallies → List Bytes → Answer → Type 0
+HasCause held failed tallies words answer =
     (SayNothing words × (answer ≡ refused no_command))
     ⊎ ((command : Command) × Says words command
-    × ((answer ≡ refused no_memory) ⊎ IsAnswerOf held failed command answer))
+    × ((answer ≡ refused no_memory) ⊎ IsAnswerOf held failed tallies command answer))
 
 -- the answers at which the shelf's count of faults may have risen: that a file can't be read, and
 -- want of memory
@@ -30,6 +34,8 @@ IsFault (over_limit name) = ⊥
 IsFault (read_fault file) = ⊤
 IsFault no_memory = ⊤
 IsFault (full nodes) = ⊥
+IsFault (stray_outcome step word outcomes) = ⊥
+IsFault (unexecutable step) = ⊥
 
 abbrev pub MayHaveFault : Answer → Type 0
 MayHaveFault (affirmed text) = ⊥

@@ -8,6 +8,7 @@ pub mod Enough
 pub mod PlanCommand
 pub mod PlanFiles
 pub mod CheckCommand
+pub mod ReplayCommand
 pub mod Causes
 pub mod Told
 pub mod Delivery

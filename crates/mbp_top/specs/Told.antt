@@ -5,6 +5,7 @@ use Rattle.plan_io.specs.Held.{Held, Untold}
 use Rattle.mbp_top.specs.Answers.{Answer, refused, full, no_memory}
 use Rattle.mbp_top.specs.Causes.{HasCause}
 use Rattle.mbp_top.specs.PlanCommand.{MayRunOut}
+use Rattle.mbp_top.specs.ReplayCommand.{Tallies}
 use Rattle.mbp_top.specs.Words.{Bytes, Command, PlanWords, Says, SaysPlan, files_of}
 
 -- of each file that the words name, the shelf tells its bytes, or that there is none
@@ -13,10 +14,12 @@ AreFilesTold held words =
     (command : Command) (file : Bytes) → Says words command → Contains (files_of command) file
     → held file ≢ Untold
 
--- the words and the files alone call for this answer: no fault of the shelf is a part of its cause,
--- and it is neither want of memory nor that the table of nodes is full
-pub record IsDue (held : Bytes → Held) (words : List Bytes) (answer : Answer) : Type 0 where
-  pub cause : HasCause held (λ file. ⊥) words answer
+-- the words and the files alone call for this answer, and for `replay` what the monitors show of
+-- the steps: no fault of the shelf is a part of its cause, and it is neither want of memory nor that
+-- the table of nodes is full
+pub record IsDue (held : Bytes → Held) (tallies : Tallies) (words : List Bytes)
+    (answer : Answer) : Type 0 where
+  pub cause : HasCause held (λ file. ⊥) tallies words answer
   pub not_memory : answer ≢ refused no_memory
   pub not_full : (nodes : ℕ) → answer ≢ refused (full nodes)
 

@@ -2,6 +2,7 @@
 use Rattle.std.specs.Prelude.{ℕ, List, Result, Ok, Err, string_bytes, codes}
 use Rattle.mbp_top.specs.Answers.{Answer, affirmed, denied, refused, Refusal, no_command}
 use Rattle.mbp_top.specs.Answers.{text_fault, over_limit, read_fault, no_memory, full}
+use Rattle.mbp_top.specs.Answers.{stray_outcome, unexecutable}
 use Rattle.pddl_system.specs.Sizes.{object_limit, size_limit, instance_limit, action_limit}
 use Rattle.pddl_system.specs.Sizes.{outcome_limit, fluent_limit}
 use Rattle.plan_rules.specs.Rules.{plain_of}
@@ -9,7 +10,7 @@ use Rattle.plan_rules.specs.declared.rules.PlanRead.{PlanRead}
 use Rattle.mbp_top.specs.Grounding.{limit_name}
 use Rattle.mbp_top.specs.PlanFiles.{PlacedPlan}
 use Rattle.mbp_top.specs.Words.{Bytes, PlanOptions, PlanWords, GroundWords, CheckWords, plan}
-use Rattle.mbp_top.specs.Words.{ground, check, Says, SayNothing}
+use Rattle.mbp_top.specs.Words.{ReplayWords, ground, check, replay, Says, SayNothing}
 use Rattle.sexpr_text.specs.declared.faults.ReadErr.{ReadErr}
 use Rattle.sexpr_text.specs.declared.faults.ReadErr.TheVariants.{Fault, Memory}
 use Rattle.mbp_top.specs.declared.answers.Limit.{Limit}
@@ -19,16 +20,18 @@ use Rattle.mbp_top.specs.declared.answers.Limit.TheVariants.{Configurations}
 use Rattle.mbp_top.specs.declared.answers.Refusal.{Refusal as CodeRefusal}
 use Rattle.mbp_top.specs.declared.answers.Refusal.TheVariants.{NoCommand, TextFault, OverLimit}
 use Rattle.mbp_top.specs.declared.answers.Refusal.TheVariants.{ReadFault, NoMemory, Full}
+use Rattle.mbp_top.specs.declared.answers.Refusal.TheVariants.{StrayOutcome, Unexecutable}
 use Rattle.mbp_top.specs.declared.answers.Shown.{Shown}
 use Rattle.mbp_top.specs.declared.answers.Shown.TheVariants.{Affirmed, Denied}
 use Rattle.mbp_top.specs.declared.answers.Text.{Text}
 use Rattle.mbp_top.specs.declared.answers.Text.TheVariants.{Fixed, Made}
 use Rattle.mbp_top.specs.declared.words.Command.{Command as CodeCommand}
-use Rattle.mbp_top.specs.declared.words.Command.TheVariants.{Plan, Ground, Check, Nothing}
+use Rattle.mbp_top.specs.declared.words.Command.TheVariants.{Plan, Ground, Check, Replay, Nothing}
 use Rattle.mbp_top.specs.declared.words.PlanOptions.{PlanOptions as CodePlanOptions}
 use Rattle.mbp_top.specs.declared.words.PlanWords.{PlanWords as CodePlanWords}
 use Rattle.mbp_top.specs.declared.words.GroundWords.{GroundWords as CodeGroundWords}
 use Rattle.mbp_top.specs.declared.words.CheckWords.{CheckWords as CodeCheckWords}
+use Rattle.mbp_top.specs.declared.words.ReplayWords.{ReplayWords as CodeReplayWords}
 
 abbrev pub bytes_of : Text → List ℕ
 bytes_of (Fixed text) = text.now
@@ -52,6 +55,8 @@ refusal_of (OverLimit limit) = over_limit (limit_of limit)
 refusal_of (ReadFault file) = read_fault (string_bytes file)
 refusal_of NoMemory = no_memory
 refusal_of (Full nodes) = full nodes
+refusal_of (StrayOutcome step word outcomes) = stray_outcome step word outcomes
+refusal_of (Unexecutable step) = unexecutable step
 
 abbrev pub shown_of : Shown → Answer
 shown_of (Affirmed text) = affirmed (bytes_of text)
@@ -83,6 +88,14 @@ check_words_of words = record {
   plan = words.plan.now;
 }
 
+abbrev pub replay_words_of : CodeReplayWords → ReplayWords
+replay_words_of words = record {
+  domain = words.domain.now;
+  problem = words.problem.now;
+  plan = words.plan.now;
+  recorded = words.recorded.now;
+}
+
 abbrev pub placed_of : PlanRead → PlacedPlan
 placed_of read = record { plan = plain_of read.plan; place = read.place }
 
@@ -91,6 +104,7 @@ abbrev pub IsSaid : List Bytes → CodeCommand → Type 0
 IsSaid words (Plan asked) = Says words (plan (plan_words_of asked))
 IsSaid words (Ground asked) = Says words (ground (ground_words_of asked))
 IsSaid words (Check asked) = Says words (check (check_words_of asked))
+IsSaid words (Replay asked) = Says words (replay (replay_words_of asked))
 IsSaid words Nothing = SayNothing words
 
 -- the refusal of the file of this name for what was wrong in reading it

@@ -33,10 +33,19 @@ pub record CheckWords : Type 0 where
   pub problem : Bytes
   pub plan : Bytes
 
+-- what `replay` is asked: the run of the plan under the record, for the domain and the problem, in
+-- the files of these names
+pub record ReplayWords : Type 0 where
+  pub domain : Bytes
+  pub problem : Bytes
+  pub plan : Bytes
+  pub recorded : Bytes
+
 pub data Command : Type 0 where
   plan : PlanWords → Command
   ground : GroundWords → Command
   check : CheckWords → Command
+  replay : ReplayWords → Command
 
 -- the classes of which plans are looked for, so far
 abbrev pub IsPlannedClass : Class → Type 0
@@ -78,12 +87,18 @@ abbrev pub SaysCheck : List Bytes → CheckWords → Type 0
 SaysCheck words asked =
     words ≡ codes "check" ∷ class_word asked.class ∷ asked.domain ∷ asked.problem ∷ asked.plan ∷ []
 
+-- `replay DOMAIN PROBLEM PLAN RECORD`
+abbrev pub SaysReplay : List Bytes → ReplayWords → Type 0
+SaysReplay words asked =
+    words ≡ codes "replay" ∷ asked.domain ∷ asked.problem ∷ asked.plan ∷ asked.recorded ∷ []
+
 -- the words say the command. Fixed words are compared exactly, with case, and names may be any
 -- words
 abbrev pub Says : List Bytes → Command → Type 0
 Says words (plan asked) = SaysPlan words asked
 Says words (ground asked) = SaysGround words asked
 Says words (check asked) = SaysCheck words asked
+Says words (replay asked) = SaysReplay words asked
 
 -- the words say no command
 abbrev pub SayNothing : List Bytes → Type 0
@@ -94,3 +109,4 @@ abbrev pub files_of : Command → List Bytes
 files_of (plan asked) = asked.domain ∷ asked.problem ∷ []
 files_of (ground asked) = asked.domain ∷ asked.problem ∷ []
 files_of (check asked) = asked.domain ∷ asked.problem ∷ asked.plan ∷ []
+files_of (replay asked) = asked.domain ∷ asked.problem ∷ asked.plan ∷ asked.recorded ∷ []

@@ -7,12 +7,13 @@ ghost use Rattle.mbp_top.specs.Answers.{
   no_memory,
   status_of,
   status_of_refusal,
+  stray_outcome,
   text_of,
 };
 ghost use Rattle.mbp_top.specs.Values.{bytes_of, limit_of, refusal_of, shown_of};
 ghost use Rattle.plan_rules.specs.Texts.{line_feed};
 ghost use Rattle.std.specs.Option.{option_copied, option_map_or};
-ghost use Rattle.std.specs.Prelude.{◌≡◌, ◌++◌, [], IfOk, IsOk, OnOk, codes, decimal};
+ghost use Rattle.std.specs.Prelude.{◌≡◌, ◌++◌, [], IfOk, IsOk, OnOk, codes, decimal, string_bytes};
 
 use itoa::Buffer;
 use sexpr_text::{InputFault, Text as Word};
@@ -129,6 +130,10 @@ pub(crate) enum Refusal {
     NoMemory,
     /// The table of diagram nodes is full: it may hold so many.
     Full(u32),
+    /// The record's number at this step is none of the action's outcomes.
+    StrayOutcome { step: u64, word: u32, outcomes: u32 },
+    /// The plan's action at this step can't be executed.
+    Unexecutable { step: u64 },
 }
 
 impl From<AllocError> for Refusal {
@@ -153,6 +158,7 @@ impl Refusal {
             Refusal::ReadFault(_) => 6,
             Refusal::NoMemory => NO_MEMORY,
             Refusal::Full(_) => 5,
+            Refusal::StrayOutcome { .. } | Refusal::Unexecutable { .. } => 9,
         }
     }
 
@@ -176,8 +182,24 @@ impl Refusal {
             Refusal::Full(nodes) => {
                 Text::Made(format!(in alloc; "full {nodes}\n")?.into_bytes())
             }
+            Refusal::StrayOutcome {
+                step,
+                word,
+                outcomes,
+            } => Text::Made(stray_line(alloc, *step, *word, *outcomes)?.into_bytes()),
+            Refusal::Unexecutable { step } => {
+                Text::Made(format!(in alloc; "unexecutable step {step}\n")?.into_bytes())
+            }
         })
     }
+}
+
+/// The line about a record's number that is none of the action's outcomes, with its end.
+fn stray_line(alloc: Global, step: u64, word: u32, outcomes: u32) -> Result<String, AllocError>
+    ensures { IfOk result (λ line.
+        string_bytes line ≡ line_of (stray_outcome step word outcomes) ++ line_feed) }
+{
+    format!(in alloc; "stray outcome step {step} word {word} outcomes {outcomes}\n")
 }
 
 /// The line of a fault, with its end: the file, the line and the column of its place, its number,

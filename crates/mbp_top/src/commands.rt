@@ -4,24 +4,38 @@ ghost use Rattle.mbp_top.specs.Causes.{HasCause, IsQuietAt};
 ghost use Rattle.mbp_top.specs.Values.{answer_of};
 ghost use Rattle.mbp_top.specs.Words.{Command as SaidCommand, SayNothing, Says, files_of};
 ghost use Rattle.plan_io.specs.Fetches.{FailedLast, FetchesFirst};
-ghost use Rattle.std.specs.Prelude.{◌≡◌, ◌≤◌, List, map, string_bytes, ℕ};
+ghost use Rattle.run_replay.specs.TraceTexts.{tallies_text};
+ghost use Rattle.std.specs.Prelude.{◌≡◌, ◌≤◌, All, List, map, string_bytes, ℕ};
 
 use crate::answers::{Refusal, Shown};
 use crate::check_command::check_files;
 use crate::ground_command::ground_files;
 use crate::plan_command::plan_files;
+use crate::replay_command::replay_files;
 use crate::words::{Command, read_words};
 use plan_io::Shelf;
+use run_replay::{Monitor, World};
 use std::alloc::Global;
 
-/// Does what the words say, and gives the answer.
+/// Does what the words say, and gives the answer. `replay` alone uses the world and the monitors.
 pub(crate) fn answer<S: Shelf>(
     alloc: Global,
     words: &[String],
     shelf: &mut S,
+    world: &mut Box<dyn World>,
+    monitors: &mut Vec<Box<dyn Monitor>>,
 ) -> Result<Shown, Refusal>
+    requires untold { All (λ monitor. counted monitor ≡ 0) monitors.old.items }
     ensures cause { let failed = FailedLast S.fetched S.faults shelf.old shelf.new in
-        HasCause (S.held shelf.old) failed (map string_bytes words.now) (answer_of result) }
+        HasCause (S.held shelf.old) failed
+        (λ steps. tallies_text
+        (λ monitor. record {
+          counted = counted monitor;
+          title = title monitor;
+          weight = weight monitor;
+        })
+        steps monitors.old.items)
+        (map string_bytes words.now) (answer_of result) }
     ensures fetches { (command : SaidCommand) → Says (map string_bytes words.now) command
         → FetchesFirst S.fetched (files_of command) shelf.old shelf.new }
     ensures no_fetch { SayNothing (map string_bytes words.now) → shelf.new ≡ shelf.old }
@@ -33,6 +47,7 @@ pub(crate) fn answer<S: Shelf>(
         Command::Plan(asked) => plan_files(alloc, shelf, &asked),
         Command::Ground(asked) => ground_files(alloc, shelf, &asked),
         Command::Check(asked) => check_files(alloc, shelf, &asked),
+        Command::Replay(asked) => replay_files(alloc, shelf, &asked, world, monitors),
         Command::Nothing => Err(Refusal::NoCommand),
     }
 }

@@ -2,6 +2,7 @@
 
 use crate::run;
 use plan_io::{MemShelf, MemSink};
+use run_replay::{ChangeMonitor, Monitor, RecordWorld, StepMonitor, World};
 use sexpr_text::MAX_BYTES;
 use std::alloc::Global;
 use std::test::Fail;
@@ -64,6 +65,11 @@ const NINE: &str = "(define (domain nine)
 const LIT: &str = "(define (problem n) (:domain nine) (:init) (:goal (a)))\n";
 
 const NINE_PLAN: &str = "(plan table strong\n  (rule ((not (a))) (all))\n)\n";
+/// The coin stays down once, and then comes up.
+const RUN: &str = "step 1 (flip) outcome 1\nstep 2 (flip) outcome 0\nend terminal
+tally steps 2\ntally changes 1\n";
+
+const NO_STEP: &str = "end terminal\ntally steps 0\ntally changes 0\n";
 
 const LEFT_OUT: &str = "(define (domain d) (:requirements) (:functions (f)))\n";
 
@@ -92,6 +98,9 @@ fn shelf(alloc: Global) -> Result<MemShelf, Fail> {
     shelf.add("plan", PLAN.as_bytes())?;
     shelf.add("no-rules", b"(plan table weak)")?;
     shelf.add("one-context", b"(plan automaton 1)")?;
+    shelf.add("run", b"(record 0 1 0 1)")?;
+    shelf.add("stray", b"(record 0 1 2)")?;
+    shelf.add("far", b"(record 1)")?;
     shelf.add("all-lit", ALL_LIT.as_bytes())?;
     shelf.add("longest-d", &padded(alloc, COIN, MAX_BYTES)?)?;
     shelf.add("longest-up", &padded(alloc, UP, MAX_BYTES)?)?;
@@ -108,6 +117,22 @@ fn split(alloc: Global, line: &str) -> Result<Vec<String>, Fail> {
         }
     }
     Ok(words)
+}
+
+/// Does what the words say, with the program's own world and monitors.
+fn run_line(
+    alloc: Global,
+    line: &str,
+    shelf: &mut MemShelf,
+    out: &mut MemSink,
+    err: &mut MemSink,
+) -> Result<u8, Fail> {
+    let words = split(alloc, line)?;
+    let world: Box<dyn World> = Box::new(alloc, RecordWorld::new(alloc))?;
+    let mut monitors: Vec<Box<dyn Monitor>> = Vec::new(alloc);
+    monitors.push(Box::new(alloc, StepMonitor::new())?)?;
+    monitors.push(Box::new(alloc, ChangeMonitor::new())?)?;
+    Ok(run(alloc, &words, shelf, out, err, world, monitors))
 }
 
 #[test]
@@ -145,6 +170,27 @@ fn each_answer_goes_where_it_belongs(rt: HostRuntime) -> Result<(), Fail> {
         ("ground longest-d longest-up", 0, LISTING, ""),
         ("ground coin-d eight-d", 3, "", "eight-d:1:1: 5 NoDefine\n"),
         ("ground many-d many", 4, "", "limit instances\n"),
+        ("replay coin-d up plan run", 0, RUN, ""),
+        ("replay coin-d up one-context run", 0, NO_STEP, ""),
+        ("replay coin-d up plan", 2, "", NO_COMMAND),
+        (
+            "replay coin-d up plan far",
+            3,
+            "",
+            "far:1:9: 21 BadNumber\n",
+        ),
+        (
+            "replay coin-d up plan nowhere",
+            6,
+            "",
+            "read fault nowhere\n",
+        ),
+        (
+            "replay coin-d up plan stray",
+            9,
+            "",
+            "stray outcome step 2 word 2 outcomes 2\n",
+        ),
         (
             "ground left-out nowhere",
             3,
@@ -156,13 +202,7 @@ fn each_answer_goes_where_it_belongs(rt: HostRuntime) -> Result<(), Fail> {
         let mut shelf = shelf(rt.alloc())?;
         let mut out = MemSink::new(rt.alloc(), 8, 1000)?;
         let mut err = MemSink::new(rt.alloc(), 8, 1000)?;
-        let got = run(
-            rt.alloc(),
-            &split(rt.alloc(), line)?,
-            &mut shelf,
-            &mut out,
-            &mut err,
-        );
+        let got = run_line(rt.alloc(), line, &mut shelf, &mut out, &mut err)?;
         assert_eq!(rt; got, status, "{line}");
         assert!(rt; out.bytes() == text.as_bytes(), "{line}");
         assert!(rt; err.bytes() == errors.as_bytes(), "{line}");
@@ -178,6 +218,15 @@ fn faults_stop_the_work_and_the_text(rt: HostRuntime) -> Result<(), Fail> {
         ("plan weak coin-d up", 1, 0, 0, 6, "", "read fault coin-d\n"),
         ("plan weak coin-d up", 2, 0, 0, 6, "", "read fault up\n"),
         ("plan weak coin-d up", 3, 0, 0, 0, PLAN, ""),
+        (
+            "replay coin-d up plan run",
+            4,
+            0,
+            0,
+            6,
+            "",
+            "read fault run\n",
+        ),
         (
             "plan weak coin-d up",
             0,
@@ -200,13 +249,7 @@ fn faults_stop_the_work_and_the_text(rt: HostRuntime) -> Result<(), Fail> {
         shelf.fail_at(fetch)?;
         out.fail_at(out_put)?;
         err.fail_at(err_put)?;
-        let got = run(
-            rt.alloc(),
-            &split(rt.alloc(), line)?,
-            &mut shelf,
-            &mut out,
-            &mut err,
-        );
+        let got = run_line(rt.alloc(), line, &mut shelf, &mut out, &mut err)?;
         assert_eq!(rt; got, status, "{line}");
         assert!(rt; out.bytes() == text.as_bytes(), "{line}");
         assert!(rt; err.bytes() == errors.as_bytes(), "{line}");

@@ -21,6 +21,14 @@ ghost use Rattle.mbp_top.specs.PlanCommand.{
   no_plan_text,
 };
 ghost use Rattle.mbp_top.specs.PddlTexts.{HoldBoth};
+ghost use Rattle.mbp_top.specs.ReplayCommand.{
+  AreToldAs,
+  HoldRun,
+  Tallies,
+  ended_status,
+  replay_text,
+  trace_under,
+};
 ghost use Rattle.mbp_top.specs.Told.{AreFilesTold, IsDue, MayStandIn, NoFault};
 ghost use Rattle.mbp_top.specs.Words.{
   Bytes,
@@ -28,11 +36,13 @@ ghost use Rattle.mbp_top.specs.Words.{
   Command,
   GroundWords,
   PlanWords,
+  ReplayWords,
   SayNothing,
   Says,
   SaysCheck,
   SaysGround,
   SaysPlan,
+  SaysReplay,
   files_of,
 };
 ghost use Rattle.mbp_top.specs.Answers as answers;
@@ -43,8 +53,12 @@ ghost use Rattle.plan_check.specs.Verdicts.{IsBound, IsFirstReason};
 ghost use Rattle.plan_check.specs.declared.verdicts.Reason.{Reason};
 ghost use Rattle.plan_io.specs.Fetches.{FailedLast, FetchesFirst};
 ghost use Rattle.plan_rules.specs.Denoted.{denoted};
-ghost use Rattle.plan_rules.specs.Rules.{PlanRule, table};
+ghost use Rattle.plan_rules.specs.Rules.{PlainPlan, PlanRule, table};
+ghost use Rattle.run_replay.specs.Records.{RecordTree};
+ghost use Rattle.run_replay.specs.TraceTexts.{tallies_text};
+ghost use Rattle.run_replay.specs.declared.worlds.Step.{Step};
 ghost use Rattle.task_core.specs.Solutions.{HasNoSolution};
+ghost use Rattle.task_core.specs.Vectors.{Vector};
 ghost use Rattle.std.specs.Io.KnownBytes.{append_known};
 ghost use Rattle.std.specs.Prelude.{
   ◌≡◌,
@@ -53,6 +67,7 @@ ghost use Rattle.std.specs.Prelude.{
   ◌⊎◌,
   [],
   ◌∷◌,
+  All,
   Contains,
   IsSome,
   List,
@@ -70,28 +85,40 @@ use pddl_problem::one_answer;
 use plan_check::{Verdict, one_verdict, yes_is_solution};
 use plan_io::{Shelf, Sink};
 use plan_rules::plan_or_fault;
+use run_replay::{Monitor, World};
 use sexpr_text::one_spelling;
 use std::alloc::Global;
 
 /// Does what the command words say, and gives the exit status.
 ///
 /// The words after the program's name are one command, where DOMAIN and PROBLEM are names of files
-/// on the shelf: `plan weak DOMAIN PROBLEM`, `ground DOMAIN PROBLEM`, or `check CLASS DOMAIN
-/// PROBLEM PLAN`, CLASS being `weak`, `strong` or `cyclic` and PLAN the name of a plan's file. The
-/// text of a plan, `no plan`, the listing of the fluents and actions, or the verdict on the plan
-/// goes to `out`; every other answer is one line on `err`. The statuses:
+/// on the shelf: `plan CLASS DOMAIN PROBLEM`, CLASS being `weak` or `strong`, with or without the
+/// words `--nodes N` after it, N being the most nodes of a table of diagrams, 1 to 16,777,216 and
+/// 1,048,576 where nothing is said; `ground DOMAIN PROBLEM`; `check CLASS DOMAIN PROBLEM PLAN`,
+/// CLASS being `weak`, `strong` or `cyclic` and PLAN the name of a plan's file; or `replay DOMAIN
+/// PROBLEM PLAN RECORD`, RECORD being the name of a record's file. The text of a plan, `no plan`,
+/// the listing of the fluents and actions, the verdict on the plan, or its run with what the
+/// monitors show of it goes to `out`; every other answer is one line on `err`.
 ///
-/// - 0: a weak plan is on `out` (weak: from each initial state it may reach the goal), or the
-///   listing, or that the plan is one of the class;
-/// - 1: there is no weak plan, or the plan is none of the class;
+/// `replay` hands the record's outcome numbers to the world, runs the plan with what the world then
+/// chooses, and tells the monitors of each step. No monitor has counted anything yet. The other
+/// commands use neither. The world and the monitors are dropped on every exit. The statuses:
+///
+/// - 0: a plan of the class is on `out` (weak: from each initial state it may reach the goal; strong:
+///   it does, whatever the outcomes), or the listing, or that the plan is one of the class, or the
+///   run;
+/// - 1: there is no plan of the class, or the plan is none of it;
 /// - 2: the words are no command;
-/// - 3: a file spells no domain, no problem of it or no plan, with the place of its fault;
+/// - 3: a file spells no domain, no problem of it, no plan or no record, or the record's first
+///   number is that of no initial state, with the place of its fault;
 /// - 4: a limit is passed: a file is longer than 1,048,576 bytes, or there is too much to ground or
 ///   to follow;
+/// - 5: the table of diagram nodes is full before a plan is found, or that there is none;
 /// - 6: a file can't be read;
 /// - 7: the answer can't be written, and only a part of it is on `out` or `err`;
 /// - 8: there is not enough memory;
-/// - 10: the problem has more fluents than plans are looked for so far.
+/// - 9: a number of the record is none of the action's outcomes, or the plan's action can't be
+///   executed.
 ///
 /// The clauses speak of what the shelf tells of its files (`held`) and of their fetches
 /// (`fetched`), of what the sinks tell that was written to them (`written`), and of their counts of
@@ -102,20 +129,39 @@ pub fn run<S: Shelf, O: Sink, E: Sink>(
     shelf: &mut S,
     out: &mut O,
     err: &mut E,
+    world: Box<dyn World>,
+    monitors: Vec<Box<dyn Monitor>>,
 ) -> u8
+    requires untold { All (λ monitor. counted monitor ≡ 0) monitors.items }
     // There is an answer that has its cause, and it is delivered.
     ensures answered { let failed = FailedLast S.fetched S.faults shelf.old shelf.new in
-        (answer : Answer) × HasCause (S.held shelf.old) failed (map string_bytes words.now) answer
+        let tallies : Tallies = λ steps. tallies_text
+        (λ monitor. record {
+          counted = counted monitor;
+          title = title monitor;
+          weight = weight monitor;
+        })
+        steps monitors.items in
+        (answer : Answer)
+        × HasCause (S.held shelf.old) failed tallies (map string_bytes words.now) answer
         × IsDelivered answer
         (seen (O.written out.old) (O.faults out.old)) (seen (O.written out.new) (O.faults out.new))
         (seen (E.written err.old) (E.faults err.old))
         (seen (E.written err.new) (E.faults err.new)) result }
-    ensures statuses { Contains (0 ∷ 1 ∷ 2 ∷ 3 ∷ 4 ∷ 5 ∷ 6 ∷ 7 ∷ 8 ∷ []) result }
+    ensures statuses { Contains (0 ∷ 1 ∷ 2 ∷ 3 ∷ 4 ∷ 5 ∷ 6 ∷ 7 ∷ 8 ∷ 9 ∷ []) result }
 
     // At each status but 7 that is the answer's, and the answer is written whole.
     ensures whole { let failed = FailedLast S.fetched S.faults shelf.old shelf.new in
+        let tallies : Tallies = λ steps. tallies_text
+        (λ monitor. record {
+          counted = counted monitor;
+          title = title monitor;
+          weight = weight monitor;
+        })
+        steps monitors.items in
         result ≢ 7
-        → (answer : Answer) × HasCause (S.held shelf.old) failed (map string_bytes words.now) answer
+        → (answer : Answer)
+        × HasCause (S.held shelf.old) failed tallies (map string_bytes words.now) answer
         × (result ≡ status_of answer)
         × IsWhole answer
         (seen (O.written out.old) (O.faults out.old)) (seen (O.written out.new) (O.faults out.new))
@@ -124,8 +170,16 @@ pub fn run<S: Shelf, O: Sink, E: Sink>(
 
     // Status 7: a sink had a fault, and took only a part of the answer.
     ensures cut { let failed = FailedLast S.fetched S.faults shelf.old shelf.new in
+        let tallies : Tallies = λ steps. tallies_text
+        (λ monitor. record {
+          counted = counted monitor;
+          title = title monitor;
+          weight = weight monitor;
+        })
+        steps monitors.items in
         result ≡ 7
-        → (answer : Answer) × HasCause (S.held shelf.old) failed (map string_bytes words.now) answer
+        → (answer : Answer)
+        × HasCause (S.held shelf.old) failed tallies (map string_bytes words.now) answer
         × IsQuietAt answer (S.faults shelf.old) (S.faults shelf.new)
         × IsCut answer
         (seen (O.written out.old) (O.faults out.old)) (seen (O.written out.new) (O.faults out.new))
@@ -254,9 +308,59 @@ pub fn run<S: Shelf, O: Sink, E: Sink>(
         ⊎ ((result ≡ 1) × (IsSolved asked.class (system domain problem) rules → ⊥))
         ⊎ (result ≡ 8) }
 
+    // `replay`, status 0: the text that was written is that of the trace of the plan in the third
+    // file, from the initial state and under the outcome numbers of the record in the fourth, and
+    // then that of each monitor, with its title and the sum of its weights over the trace's steps.
+    ensures replayed { (asked : ReplayWords) → SaysReplay (map string_bytes words.now) asked
+        → result ≡ 0
+        → (domain : DomainTree) × (problem : ProblemTree) × (plan : PlainPlan)
+        × (recorded : RecordTree) × (first : Vector) × (told : List Step)
+        × HoldBoth (S.held shelf.old) asked.domain asked.problem domain problem
+        × (first_passed domain problem ≡ None)
+        × HoldRun (S.held shelf.old) asked domain problem plan recorded first
+        × AreToldAs (system domain problem)
+        (trace_under (system domain problem) plan first recorded.words).steps told
+        × (O.written out.new ≡ append_known (O.written out.old)
+        (replay_text
+        (λ steps. tallies_text
+        (λ monitor. record {
+          counted = counted monitor;
+          title = title monitor;
+          weight = weight monitor;
+        })
+        steps monitors.items)
+        (action_names domain problem)
+        (trace_under (system domain problem) plan first recorded.words) told)) }
+
+    // `replay` of files that spell a problem within the limits with few initial states, a plan, and
+    // a record that begins with the number of one: status 0 where the trace comes to an end, and 9
+    // where a number of the record is none of the action's outcomes or an action can't be executed,
+    // if no fault comes.
+    ensures replay_exact { (asked : ReplayWords) (domain : DomainTree) (problem : ProblemTree)
+        (plan : PlainPlan) (recorded : RecordTree) (first : Vector)
+        → SaysReplay (map string_bytes words.now) asked
+        → HoldBoth (S.held shelf.old) asked.domain asked.problem domain problem
+        → first_passed domain problem ≡ None → (HasTooManyStates domain problem → ⊥)
+        → HoldRun (S.held shelf.old) asked domain problem plan recorded first
+        → AreFilesTold (S.held shelf.old) (map string_bytes words.now)
+        → NoFault (S.faults shelf.old) (S.faults shelf.new)
+        → NoFault (O.faults out.old) (O.faults out.new)
+        → NoFault (E.faults err.old) (E.faults err.new)
+        → (result ≡ ended_status
+        (trace_under (system domain problem) plan first recorded.words).ending)
+        ⊎ (result ≡ 8) }
+
     // Where the shelf tells of the files and has no fault, the words and the files alone decide the
-    // answer and so the status, but for want of memory, or of nodes where there may be too few.
-    ensures due { (answer : Answer) → IsDue (S.held shelf.old) (map string_bytes words.now) answer
+    // answer and so the status, but for want of memory, or of nodes where there may be too few; of
+    // `replay` also what the monitors make of its steps.
+    ensures due { let tallies : Tallies = λ steps. tallies_text
+        (λ monitor. record {
+          counted = counted monitor;
+          title = title monitor;
+          weight = weight monitor;
+        })
+        steps monitors.items in
+        (answer : Answer) → IsDue (S.held shelf.old) tallies (map string_bytes words.now) answer
         → AreFilesTold (S.held shelf.old) (map string_bytes words.now)
         → NoFault (S.faults shelf.old) (S.faults shelf.new)
         → (given : Answer)
@@ -265,8 +369,15 @@ pub fn run<S: Shelf, O: Sink, E: Sink>(
         (seen (O.written out.old) (O.faults out.old)) (seen (O.written out.new) (O.faults out.new))
         (seen (E.written err.old) (E.faults err.old))
         (seen (E.written err.new) (E.faults err.new)) result }
-    ensures determined { (answer : Answer)
-        → IsDue (S.held shelf.old) (map string_bytes words.now) answer
+    ensures determined { let tallies : Tallies = λ steps. tallies_text
+        (λ monitor. record {
+          counted = counted monitor;
+          title = title monitor;
+          weight = weight monitor;
+        })
+        steps monitors.items in
+        (answer : Answer)
+        → IsDue (S.held shelf.old) tallies (map string_bytes words.now) answer
         → AreFilesTold (S.held shelf.old) (map string_bytes words.now)
         → NoFault (S.faults shelf.old) (S.faults shelf.new)
         → NoFault (O.faults out.old) (O.faults out.new)
@@ -300,6 +411,8 @@ pub fn run<S: Shelf, O: Sink, E: Sink>(
     plan_or_fault();
     one_verdict();
     yes_is_solution();
-    let found = answer(alloc, words, shelf);
+    let mut world = world;
+    let mut monitors = monitors;
+    let found = answer(alloc, words, shelf, &mut world, &mut monitors);
     deliver(alloc, &found, out, err)
 }

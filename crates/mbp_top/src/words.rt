@@ -6,6 +6,7 @@ ghost use Rattle.mbp_top.specs.Values.{
   ground_words_of,
   plan_options_of,
   plan_words_of,
+  replay_words_of,
 };
 ghost use Rattle.mbp_top.specs.Words.{
   CheckWords as AskedCheck,
@@ -14,10 +15,12 @@ ghost use Rattle.mbp_top.specs.Words.{
   IsPlannedClass,
   PlanOptions as AskedOptions,
   PlanWords as AskedPlan,
+  ReplayWords as AskedReplay,
   SaysCheck,
   SaysGround,
   SaysOptions,
   SaysPlan,
+  SaysReplay,
 };
 ghost use Rattle.plan_rules.specs.Texts.{class_word};
 ghost use Rattle.std.specs.Prelude.{
@@ -49,6 +52,7 @@ pub(crate) enum Command<'a> {
     Plan(PlanWords<'a>),
     Ground(GroundWords<'a>),
     Check(CheckWords<'a>),
+    Replay(ReplayWords<'a>),
     /// The words are none of the commands.
     Nothing,
 }
@@ -87,6 +91,16 @@ pub(crate) struct CheckWords<'a> {
     pub(crate) plan: &'a str,
 }
 
+/// What `replay` is asked: the run of the plan under the record, for the domain and the problem, in
+/// the files of these names.
+#[derive(Clone, Copy)]
+pub(crate) struct ReplayWords<'a> {
+    pub(crate) domain: &'a str,
+    pub(crate) problem: &'a str,
+    pub(crate) plan: &'a str,
+    pub(crate) recorded: &'a str,
+}
+
 /// The command that the words say.
 pub(crate) fn read_words<'a>(words: &'a [String]) -> Command<'a>
     ensures { IsSaid (map string_bytes words.now) result }
@@ -109,6 +123,12 @@ pub(crate) fn read_words<'a>(words: &'a [String]) -> Command<'a>
     if command.as_str() == "check" {
         return match check_words(rest) {
             Some(asked) => Command::Check(asked),
+            None => Command::Nothing,
+        };
+    }
+    if command.as_str() == "replay" {
+        return match replay_words(rest) {
+            Some(asked) => Command::Replay(asked),
             None => Command::Nothing,
         };
     }
@@ -234,6 +254,23 @@ fn check_words<'a>(words: &'a [String]) -> Option<CheckWords<'a>>
             domain,
             problem,
             plan,
+        }),
+        _ => None,
+    }
+}
+
+/// `replay`, and these words after it.
+fn replay_words<'a>(words: &'a [String]) -> Option<ReplayWords<'a>>
+    ensures { let said = codes "replay" ∷ map string_bytes words.now in
+        MatchOption result ((asked : AskedReplay) → SaysReplay said asked → ⊥)
+        (λ asked. SaysReplay said (replay_words_of asked)) }
+{
+    match words {
+        [domain, problem, plan, recorded] => Some(ReplayWords {
+            domain,
+            problem,
+            plan,
+            recorded,
         }),
         _ => None,
     }

@@ -1,7 +1,7 @@
 use Rattle.std.proofs.Common.{map, string_bytes, inr, subst}
 use Rattle.plan_io.specs.Fetches.{FetchesFirst}
-use Rattle.mbp_top.specs.Values.{check_words_of, ground_words_of, plan_words_of}
-use Rattle.mbp_top.specs.Words.{Command, plan, ground, check, files_of}
+use Rattle.mbp_top.specs.Values.{check_words_of, ground_words_of, plan_words_of, replay_words_of}
+use Rattle.mbp_top.specs.Words.{Command, plan, ground, check, replay, files_of}
 use Rattle.mbp_top.proofs.ByCommand.{one_command}
 use Rattle.mbp_top.proofs.commands.answer.Goals as goal
 
@@ -40,3 +40,15 @@ returns-in-Check-clause-fetches g c = λ command says.
 
 pub returns-in-Check-clause-no_fetch : goal.returns-in-Check-clause-no_fetch
 returns-in-Check-clause-no_fetch g c = λ nothing. absurd (nothing (check (check_words_of c.in-Check.asked)) c.in-Check.ensures)
+
+pub returns-in-Replay-clause-cause : goal.returns-in-Replay-clause-cause
+returns-in-Replay-clause-cause g c = inr (replay (replay_words_of c.in-Replay.asked), c.in-Replay.ensures, c.replay_files.ensures.answer)
+
+pub returns-in-Replay-clause-fetches : goal.returns-in-Replay-clause-fetches
+returns-in-Replay-clause-fetches g c = λ command says.
+    subst (λ (said : Command). FetchesFirst g.S.Shelf.fetched (files_of said) c.args.shelf.now c.replay_files.new.shelf)
+    (one_command (map string_bytes c.args.words.now) (replay (replay_words_of c.in-Replay.asked)) command c.in-Replay.ensures says)
+    c.replay_files.ensures.fetches
+
+pub returns-in-Replay-clause-no_fetch : goal.returns-in-Replay-clause-no_fetch
+returns-in-Replay-clause-no_fetch g c = λ nothing. absurd (nothing (replay (replay_words_of c.in-Replay.asked)) c.in-Replay.ensures)

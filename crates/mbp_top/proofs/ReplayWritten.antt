@@ -1,0 +1,174 @@
+-- `replay`: what was written at status 0, and which statuses come.
+use Rattle.std.proofs.Common.{◌≡◌, ℕ, List, ◌⊎◌, inl, inr, refl, sym, subst, arith, ◌∙◌, ap, true, None}
+use Rattle.std.specs.Io.KnownBytes.{append_known}
+use Rattle.pddl_ast.specs.Trees.{DomainTree, ProblemTree}
+use Rattle.pddl_system.specs.Sizes.{first_passed}
+use Rattle.pddl_system.specs.Systems.{action_names, fluent_names, system}
+use Rattle.plan_io.specs.Held.{Held}
+use Rattle.plan_rules.specs.Rules.{PlainPlan}
+use Rattle.run_replay.specs.Records.{RecordTree, SpellsRecord}
+use Rattle.run_replay.specs.Traces.{Ending, Terminal, Ended, Capped, Stray, Unexecutable}
+use Rattle.run_replay.specs.declared.worlds.Step.{Step}
+use Rattle.task_core.specs.Systems.{System}
+use Rattle.task_core.specs.Vectors.{Vector}
+use Rattle.mbp_top.specs.Answers.{Answer, refused, no_memory, status_of, text_of, is_shown}
+use Rattle.mbp_top.specs.CheckCommand.{HasTooManyStates}
+use Rattle.mbp_top.specs.Delivery.{Seen}
+use Rattle.mbp_top.specs.PddlTexts.{HoldBoth}
+use Rattle.mbp_top.specs.PlanFiles.{IsFaultyPlan, PlacedPlan, SpellsPlaced}
+use Rattle.mbp_top.specs.Reading.{Holds}
+use Rattle.mbp_top.specs.ReplayCommand.{AreToldAs, FirstThen, HoldRun, IsFaultyRecord, IsFirstState, IsReplay, IsReplayAnswer, IsReplayed, RecordThen, ReplayThen, Tallies, ended_answer, ended_status, replay_text, trace_under}
+use Rattle.mbp_top.specs.Told.{AreFilesTold, NoFault}
+use Rattle.mbp_top.specs.Words.{Bytes, ReplayWords, replay, SaysReplay}
+use Rattle.mbp_top.proofs.ByCommand.{of_command}
+use Rattle.mbp_top.proofs.CheckDecides.{plan_grammar}
+use Rattle.mbp_top.proofs.Deciding.{read_as}
+use Rattle.mbp_top.proofs.PddlDecides.{OneReading, both_as, not_refused, shown_both, shown_grounded, within_limits}
+use Rattle.mbp_top.proofs.ReplayDecides.{record_grammar}
+use Rattle.mbp_top.proofs.Statuses.{Done, shown_at, undisturbed, whole_delivery, written_shown}
+
+-- what is run of the files, and that the answer is for it
+record RunFor (held : Bytes → Held) (tallies : Tallies) (asked : ReplayWords) (d : DomainTree) (p : ProblemTree) (answer : Answer) : Type 0 where
+  plan : PlainPlan
+  recorded : RecordTree
+  first : Vector
+  files : HoldRun held asked d p plan recorded first
+  result : IsReplayed tallies (system d p) (action_names d p) (trace_under (system d p) plan first recorded.words) answer
+
+shown_first : (held : Bytes → Held) (tallies : Tallies) (asked : ReplayWords) (d : DomainTree) (p : ProblemTree) (placed : PlacedPlan) (recorded : RecordTree) (a : Answer) → is_shown a ≡ true
+    → Holds held (SpellsPlaced (fluent_names d p) (action_names d p)) asked.plan placed → Holds held SpellsRecord asked.recorded recorded
+    → FirstThen (HasTooManyStates d p) (system d p).initial asked.recorded recorded (λ first.
+    IsReplayed tallies (system d p) (action_names d p) (trace_under (system d p) placed.plan first recorded.words)) a
+    → RunFor held tallies asked d p a
+shown_first held tallies asked d p placed recorded a shown holds holds' (inl (many, is)) = absurd (not_refused _ a is shown)
+shown_first held tallies asked d p placed recorded a shown holds holds' (inr (inl (few, none, is))) = absurd (not_refused _ a is shown)
+shown_first held tallies asked d p placed recorded a shown holds holds' (inr (inr (few, first, there, then))) = record {
+  plan = placed.plan;
+  recorded = recorded;
+  first = first;
+  files = record { plan_file = record { place = placed.place; holds = holds }; record_file = holds'; first_state = there };
+  result = then;
+}
+
+shown_record : (held : Bytes → Held) (failed : Bytes → Type 0) (tallies : Tallies) (asked : ReplayWords) (d : DomainTree) (p : ProblemTree) (placed : PlacedPlan) (a : Answer) → is_shown a ≡ true
+    → Holds held (SpellsPlaced (fluent_names d p) (action_names d p)) asked.plan placed
+    → RecordThen held failed tallies asked.recorded (action_names d p) (HasTooManyStates d p) (system d p) placed.plan a
+    → RunFor held tallies asked d p a
+shown_record held failed tallies asked d p placed a shown holds (inl (r, is, why)) = absurd (not_refused r a is shown)
+shown_record held failed tallies asked d p placed a shown holds (inr (recorded, holds', then)) = shown_first held tallies asked d p placed recorded a shown holds holds' then
+
+shown_files : (held : Bytes → Held) (failed : Bytes → Type 0) (tallies : Tallies) (asked : ReplayWords) (d : DomainTree) (p : ProblemTree) (a : Answer) → is_shown a ≡ true
+    → ReplayThen held failed tallies asked (fluent_names d p) (action_names d p) (HasTooManyStates d p) (system d p) a
+    → RunFor held tallies asked d p a
+shown_files held failed tallies asked d p a shown (inl (r, is, why)) = absurd (not_refused r a is shown)
+shown_files held failed tallies asked d p a shown (inr (placed, holds, then)) = shown_record held failed tallies asked d p placed a shown holds then
+
+-- what is shown of a trace is its text, and the status is that of its end
+ended_text : (text : Bytes) (ending : Ending) → is_shown (ended_answer text ending) ≡ true → text_of (ended_answer text ending) ≡ text
+ended_text text Terminal shown = refl
+ended_text text Ended shown = refl
+ended_text text Capped shown = refl
+ended_text text (Stray step word outcomes) shown = cc
+ended_text text (Unexecutable step) shown = cc
+
+ended_code : (text : Bytes) (ending : Ending) → status_of (ended_answer text ending) ≡ ended_status ending
+ended_code text Terminal = refl
+ended_code text Ended = refl
+ended_code text Capped = refl
+ended_code text (Stray step word outcomes) = refl
+ended_code text (Unexecutable step) = refl
+
+-- what was written at status 0
+pub record RunWritten (held : Bytes → Held) (tallies : Tallies) (asked : ReplayWords) (out out' : Seen) : Type 0 where
+  pub domain : DomainTree
+  pub problem : ProblemTree
+  pub plan : PlainPlan
+  pub recorded : RecordTree
+  pub first : Vector
+  pub told : List Step
+  pub both : HoldBoth held asked.domain asked.problem domain problem
+  pub within : first_passed domain problem ≡ None
+  pub files : HoldRun held asked domain problem plan recorded first
+  pub steps : AreToldAs (system domain problem) (trace_under (system domain problem) plan first recorded.words).steps told
+  pub written : out'.written ≡ append_known out.written
+      (replay_text tallies (action_names domain problem) (trace_under (system domain problem) plan first recorded.words) told)
+
+shown_replay : (held : Bytes → Held) (failed : Bytes → Type 0) (tallies : Tallies) (asked : ReplayWords) (a : Answer) (out out' : Seen) → is_shown a ≡ true
+    → ((text : Bytes) → text_of a ≡ text → out'.written ≡ append_known out.written text)
+    → (a ≡ refused no_memory) ⊎ IsReplayAnswer held failed tallies asked a → RunWritten held tallies asked out out'
+shown_replay held failed tallies asked a out out' shown written (inl is) = absurd (not_refused no_memory a is shown)
+shown_replay held failed tallies asked a out out' shown written (inr is) =
+    let trees = shown_both held failed asked.domain asked.problem (IsReplay held failed tallies asked) a shown is in
+    let d = trees.domain in
+    let p = trees.problem in
+    let grounded = shown_grounded d p (ReplayThen held failed tallies asked (fluent_names d p) (action_names d p) (HasTooManyStates d p) (system d p)) a shown trees.result in
+    let run = shown_files held failed tallies asked d p a shown grounded.1 in
+    let trace = trace_under (system d p) run.plan run.first run.recorded.words in
+    let text = replay_text tallies (action_names d p) trace run.result.told in
+    record {
+      domain = d;
+      problem = p;
+      plan = run.plan;
+      recorded = run.recorded;
+      first = run.first;
+      told = run.result.told;
+      both = trees.both;
+      within = grounded.0;
+      files = run.files;
+      steps = run.result.steps;
+      written = written text (ap text_of run.result.shown ∙ ended_text text trace.ending (subst (λ b. is_shown b ≡ true) run.result.shown shown));
+    }
+
+pub run_written : (held : Bytes → Held) (failed : Bytes → Type 0) (tallies : Tallies) (words : List Bytes) (before after : ℕ) (out out' err err' : Seen) (status : ℕ) (a : Answer) (asked : ReplayWords)
+    → Done held failed tallies words before after out out' err err' status a → SaysReplay words asked → status ≡ 0 → RunWritten held tallies asked out out'
+run_written held failed tallies words before after out out' err err' status a asked d says zero =
+    let whole = whole_delivery a out out' err err' status d.delivered (λ seven. let e : 0 ≡ 7 = sym zero ∙ seven in omega arith) in
+    let code : status_of a ≡ 0 = sym whole.0 ∙ zero in
+    let shown = shown_at a (inl code) in
+    shown_replay held failed tallies asked a out out' shown (λ text is. written_shown a text out out' err err' whole.1 shown is)
+    (of_command held failed tallies words (replay asked) a says d.cause)
+
+-- the initial state that a record begins with is one
+first_as : (TooMany : Type 0) (states : List Vector) (name : Bytes) (recorded : RecordTree) (first : Vector) (Then : Vector → Answer → Type 0) (a : Answer)
+    → (TooMany → ⊥) → IsFirstState states recorded first → FirstThen TooMany states name recorded Then a → Then first a
+first_as TooMany states name recorded first Then a few there (inl (many, is)) = absurd (few many)
+first_as TooMany states name recorded first Then a few there (inr (inl (few', none, is))) = absurd (let lt = there.there in omega (arith, none, lt))
+first_as TooMany states name recorded first Then a few there (inr (inr (few', other, there', then))) =
+    subst (λ (v : Vector). Then v a) (sym there'.is ∙ there.is) then
+
+-- the status where the files spell what is run, within the limits: that of the end of its trace
+pub run_status : OneReading → (held : Bytes → Held) (failed : Bytes → Type 0) (tallies : Tallies) (words : List Bytes) (before after : ℕ) (out out' err err' : Seen) (status : ℕ) (a : Answer)
+    (asked : ReplayWords) (domain : DomainTree) (problem : ProblemTree) (plan : PlainPlan) (recorded : RecordTree) (first : Vector)
+    → Done held failed tallies words before after out out' err err' status a
+    → SaysReplay words asked → HoldBoth held asked.domain asked.problem domain problem → first_passed domain problem ≡ None → (HasTooManyStates domain problem → ⊥)
+    → HoldRun held asked domain problem plan recorded first → AreFilesTold held words → ((file : Bytes) → failed file → ⊥)
+    → NoFault out.faults out'.faults → NoFault err.faults err'.faults
+    → (status ≡ ended_status (trace_under (system domain problem) plan first recorded.words).ending) ⊎ (status ≡ 8)
+run_status one held failed tallies words before after out out' err err' status a asked domain problem plan recorded first d says both kept few files told quiet no_out no_err =
+    go (of_command held failed tallies words (replay asked) a says d.cause) where
+      sys : System
+      sys = system domain problem
+
+      code : status ≡ status_of a
+      code = undisturbed a out out' err err' status no_out no_err d.delivered
+
+      go : (a ≡ refused no_memory) ⊎ IsReplayAnswer held failed tallies asked a
+          → (status ≡ ended_status (trace_under (system domain problem) plan first recorded.words).ending) ⊎ (status ≡ 8)
+      go (inl is) = inr (code ∙ ap status_of is)
+      go (inr is) =
+          let names = fluent_names domain problem in
+          let actions = action_names domain problem in
+          let then = within_limits domain problem (ReplayThen held failed tallies asked names actions (HasTooManyStates domain problem) sys) a kept
+          (both_as one held failed asked.domain asked.problem (IsReplay held failed tallies asked) domain problem a
+          (told (replay asked) asked.domain says (0, omega arith, refl)) (told (replay asked) asked.problem says (1, omega arith, refl)) quiet both is) in
+          let placed : PlacedPlan = record { plan = plan; place = files.plan_file.place } in
+          let of_record = read_as held failed asked.plan (SpellsPlaced names actions) (IsFaultyPlan names actions)
+          (λ x. RecordThen held failed tallies asked.recorded actions (HasTooManyStates domain problem) sys x.plan) placed a
+          (told (replay asked) asked.plan says (2, omega arith, refl)) (quiet asked.plan) (plan_grammar one names actions) files.plan_file.holds then in
+          let of_first = read_as held failed asked.recorded SpellsRecord IsFaultyRecord
+          (λ r. FirstThen (HasTooManyStates domain problem) sys.initial asked.recorded r (λ s. IsReplayed tallies sys actions (trace_under sys plan s r.words))) recorded a
+          (told (replay asked) asked.recorded says (3, omega arith, refl)) (quiet asked.recorded) (record_grammar one) files.record_file of_record in
+          let run = first_as (HasTooManyStates domain problem) sys.initial asked.recorded recorded first (λ s. IsReplayed tallies sys actions (trace_under sys plan s recorded.words)) a
+          few files.first_state of_first in
+          let trace = trace_under sys plan first recorded.words in
+          inl (code ∙ (ap status_of run.shown ∙ ended_code (replay_text tallies actions trace run.told) trace.ending))

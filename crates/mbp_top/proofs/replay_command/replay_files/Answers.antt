@@ -1,0 +1,56 @@
+use Rattle.std.proofs.Common.{[], ◌∷◌}
+use Rattle.std.proofs.lemmas.Result.{err_from_is_err_and}
+use Rattle.plan_io.specs.Fetches.{FailedLast}
+use Rattle.run_replay.specs.TraceTexts.{tallies_text}
+use Rattle.mbp_top.specs.ReplayCommand.{IsReplay, Tallies}
+use Rattle.mbp_top.specs.Values.{replay_words_of, refusal_of}
+use Rattle.mbp_top.proofs.ReplayAnswers.{replay_later}
+use Rattle.mbp_top.proofs.Later.{failed_after_two, first_two, two_then}
+use Rattle.mbp_top.proofs.PddlDecides.{after_both, refused_both}
+use Rattle.mbp_top.proofs.replay_command.replay_files.Goals as goal
+
+pub returns-in_err-domain-clause-answer : goal.returns-in_err-domain-clause-answer
+returns-in_err-domain-clause-answer g c =
+    let p = err_from_is_err_and c.from_residual.result c.from_residual.ensures.1 in
+    let held = g.S.Shelf.held c.args.shelf.now in
+    let failed = FailedLast g.S.Shelf.fetched g.S.Shelf.faults c.args.shelf.now c.read_both.new.shelf in
+    let tallies : Tallies = λ steps. tallies_text
+    (λ monitor. record {
+      counted = (goal.Monitor-dyn g (monitor.vtable, monitor.value)).counted monitor.value;
+      title = (goal.Monitor-dyn g (monitor.vtable, monitor.value)).title monitor.value;
+      weight = (goal.Monitor-dyn g (monitor.vtable, monitor.value)).weight monitor.value;
+    })
+    steps c.args.monitors.now.items in
+    let asked = replay_words_of c.args.asked.now in
+    rw (p.1, p.2) (refused_both held failed asked.domain asked.problem (IsReplay held failed tallies asked) (refusal_of c.in_err-domain.field-0.0) c.in_err-domain.ensures.refused)
+
+pub returns-in_err-domain-clause-fetches : goal.returns-in_err-domain-clause-fetches
+returns-in_err-domain-clause-fetches g c =
+    let asked = replay_words_of c.args.asked.now in
+    first_two g.S.Shelf.fetched asked.domain asked.problem (asked.plan ∷ asked.recorded ∷ []) c.args.shelf.now c.read_both.new.shelf c.in_err-domain.ensures.fetches
+
+pub returns-clause-answer : goal.returns-clause-answer
+returns-clause-answer g c =
+    let held = g.S.Shelf.held c.args.shelf.now in
+    let held' = g.S.Shelf.held c.read_both.new.shelf in
+    let failed = FailedLast g.S.Shelf.fetched g.S.Shelf.faults c.args.shelf.now c.replay_problem.new.shelf in
+    let failed' = FailedLast g.S.Shelf.fetched g.S.Shelf.faults c.read_both.new.shelf c.replay_problem.new.shelf in
+    let tallies : Tallies = λ steps. tallies_text
+    (λ monitor. record {
+      counted = (goal.Monitor-dyn g (monitor.vtable, monitor.value)).counted monitor.value;
+      title = (goal.Monitor-dyn g (monitor.vtable, monitor.value)).title monitor.value;
+      weight = (goal.Monitor-dyn g (monitor.vtable, monitor.value)).weight monitor.value;
+    })
+    steps c.args.monitors.now.items in
+    let asked = replay_words_of c.args.asked.now in
+    after_both held failed asked.domain asked.problem (IsReplay held failed tallies asked) _ _ _ c.in_ok-domain.ensures.holds
+    (replay_later held held' failed failed' tallies asked _ _ _ c.in_ok-domain.ensures.kept
+    (λ file. failed_after_two g.S.Shelf.fetched g.S.Shelf.faults asked.domain asked.problem c.args.shelf.now c.read_both.new.shelf c.replay_problem.new.shelf file
+    c.in_ok-domain.ensures.fetched c.in_ok-domain.ensures.quiet)
+    c.replay_problem.ensures.answer)
+
+pub returns-clause-fetches : goal.returns-clause-fetches
+returns-clause-fetches g c =
+    let asked = replay_words_of c.args.asked.now in
+    two_then g.S.Shelf.fetched asked.domain asked.problem (asked.plan ∷ asked.recorded ∷ []) c.args.shelf.now c.read_both.new.shelf c.replay_problem.new.shelf
+    c.in_ok-domain.ensures.fetched c.replay_problem.ensures.fetches

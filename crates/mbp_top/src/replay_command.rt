@@ -1,0 +1,319 @@
+//! The command `replay`.
+
+ghost use Rattle.exec_graph.specs.Initials.{HasTooManyInitial};
+ghost use Rattle.mbp_top.specs.Answers.{no_memory, refused};
+ghost use Rattle.mbp_top.specs.Causes.{IsQuietAt};
+ghost use Rattle.mbp_top.specs.CheckCommand.{most_followed};
+ghost use Rattle.mbp_top.specs.ReplayCommand.{
+  FirstThen,
+  IsFirstState,
+  IsReplay,
+  IsReplayAnswer,
+  IsReplayed,
+  RecordThen,
+  ReplayThen,
+  trace_under,
+};
+ghost use Rattle.mbp_top.specs.Values.{answer_of, refusal_of, replay_words_of};
+ghost use Rattle.pddl_ast.specs.Fits.{FitsDomain, FitsProblem};
+ghost use Rattle.pddl_ast.specs.Values.{domain_value, problem_value};
+ghost use Rattle.pddl_system.specs.Names.{NamesAreWords};
+ghost use Rattle.plan_io.specs.Fetches.{FailedLast, FetchesFirst};
+ghost use Rattle.plan_rules.specs.Plans.{IsPlanOf};
+ghost use Rattle.plan_rules.specs.Rules.{plain_of};
+ghost use Rattle.run_replay.specs.Records.{record_value};
+ghost use Rattle.run_replay.specs.TraceTexts.{tallies_text};
+ghost use Rattle.std.specs.Prelude.{
+  ◌≡◌,
+  ◌≤◌,
+  ◌⊎◌,
+  [],
+  ◌∷◌,
+  All,
+  IfErr,
+  IfOk,
+  List,
+  OnOk,
+  ℕ,
+};
+ghost use Rattle.task_core.specs.States.{IsWithin, vector};
+ghost use Rattle.task_core.specs.Tasks.{
+  action_count,
+  action_names,
+  fluent_count,
+  fluent_names,
+  initial_states,
+  system_of,
+};
+
+use crate::answers::{Limit, Refusal, Shown, Text};
+use crate::grounding::grounded;
+use crate::pddl_texts::read_both;
+use crate::plan_files::read_plan_file;
+use crate::record_files::read_record_file;
+use crate::words::ReplayWords;
+use pddl_ast::{Domain, Problem};
+use plan_io::Shelf;
+use plan_rules::Plan;
+use run_replay::{Monitor, Recorded, RunErr, World, execute, write_trace};
+use sexpr_text::{FaultKind, InputFault};
+use std::alloc::{AllocError, Global};
+use task_core::{InitErr, State, Task, init_states};
+
+/// How many initial states a record may choose from.
+const MOST_INITIAL: usize = 262_144;
+
+/// The run of the plan under the record, for the domain and the problem, all in files, with what
+/// the monitors show of it. The world gives the record's outcome numbers.
+pub(crate) fn replay_files<S: Shelf>(
+    alloc: Global,
+    shelf: &mut S,
+    asked: &ReplayWords,
+    world: &mut Box<dyn World>,
+    monitors: &mut Vec<Box<dyn Monitor>>,
+) -> Result<Shown, Refusal>
+    requires untold { All (λ monitor. counted monitor ≡ 0) monitors.old.items }
+    ensures answer { let failed = FailedLast S.fetched S.faults shelf.old shelf.new in
+        (answer_of result ≡ refused no_memory)
+        ⊎ IsReplayAnswer (S.held shelf.old) failed
+        (λ steps. tallies_text
+        (λ monitor. record {
+          counted = counted monitor;
+          title = title monitor;
+          weight = weight monitor;
+        })
+        steps monitors.old.items)
+        (replay_words_of asked.now) (answer_of result) }
+    ensures fetches { FetchesFirst S.fetched
+        (asked.now.domain.now ∷ asked.now.problem.now ∷ asked.now.plan.now
+        ∷ asked.now.recorded.now ∷ [])
+        shelf.old shelf.new }
+    ensures quiet_at { IsQuietAt (answer_of result) (S.faults shelf.old) (S.faults shelf.new) }
+    ensures kept { (file : List ℕ) → S.held shelf.new file ≡ S.held shelf.old file }
+    ensures later { S.faults shelf.old ≤ S.faults shelf.new }
+{
+    let (domain, problem) = read_both(alloc, shelf, asked.domain, asked.problem)?;
+    replay_problem(alloc, shelf, asked, &domain, &problem, world, monitors)
+}
+
+/// The run for a domain and a problem.
+fn replay_problem<S: Shelf>(
+    alloc: Global,
+    shelf: &mut S,
+    asked: &ReplayWords,
+    domain: &Domain,
+    problem: &Problem,
+    world: &mut Box<dyn World>,
+    monitors: &mut Vec<Box<dyn Monitor>>,
+) -> Result<Shown, Refusal>
+    requires fits_domain { FitsDomain (domain_value domain.now) }
+    requires fits_problem { FitsProblem (domain_value domain.now) (problem_value problem.now) }
+    requires names { NamesAreWords (domain_value domain.now) (problem_value problem.now) }
+    requires untold { All (λ monitor. counted monitor ≡ 0) monitors.old.items }
+    ensures answer { let failed = FailedLast S.fetched S.faults shelf.old shelf.new in
+        (answer_of result ≡ refused no_memory)
+        ⊎ IsReplay (S.held shelf.old) failed
+        (λ steps. tallies_text
+        (λ monitor. record {
+          counted = counted monitor;
+          title = title monitor;
+          weight = weight monitor;
+        })
+        steps monitors.old.items)
+        (replay_words_of asked.now)
+        (domain_value domain.now) (problem_value problem.now) (answer_of result) }
+    ensures fetches { FetchesFirst S.fetched
+        (asked.now.plan.now ∷ asked.now.recorded.now ∷ []) shelf.old shelf.new }
+    ensures quiet_at { IsQuietAt (answer_of result) (S.faults shelf.old) (S.faults shelf.new) }
+    ensures kept { (file : List ℕ) → S.held shelf.new file ≡ S.held shelf.old file }
+    ensures later { S.faults shelf.old ≤ S.faults shelf.new }
+{
+    let task = grounded(alloc, domain, problem)?;
+    replay_task(alloc, shelf, asked, &task, world, monitors)
+}
+
+/// The run for a task.
+fn replay_task<S: Shelf>(
+    alloc: Global,
+    shelf: &mut S,
+    asked: &ReplayWords,
+    task: &Task,
+    world: &mut Box<dyn World>,
+    monitors: &mut Vec<Box<dyn Monitor>>,
+) -> Result<Shown, Refusal>
+    requires untold { All (λ monitor. counted monitor ≡ 0) monitors.old.items }
+    ensures answer { let failed = FailedLast S.fetched S.faults shelf.old shelf.new in
+        (answer_of result ≡ refused no_memory)
+        ⊎ ReplayThen (S.held shelf.old) failed
+        (λ steps. tallies_text
+        (λ monitor. record {
+          counted = counted monitor;
+          title = title monitor;
+          weight = weight monitor;
+        })
+        steps monitors.old.items)
+        (replay_words_of asked.now) (fluent_names task.now) (action_names task.now)
+        (HasTooManyInitial task.now most_followed) (system_of task.now) (answer_of result) }
+    ensures fetches { FetchesFirst S.fetched
+        (asked.now.plan.now ∷ asked.now.recorded.now ∷ []) shelf.old shelf.new }
+    ensures quiet_at { IsQuietAt (answer_of result) (S.faults shelf.old) (S.faults shelf.new) }
+    ensures kept { (file : List ℕ) → S.held shelf.new file ≡ S.held shelf.old file }
+    ensures later { S.faults shelf.old ≤ S.faults shelf.new }
+{
+    let read = read_plan_file(alloc, shelf, asked.plan, task)?;
+    replay_plan(
+        alloc,
+        shelf,
+        asked.recorded,
+        task,
+        &read.plan,
+        world,
+        monitors,
+    )
+}
+
+/// The run of a plan of the task, under the record in the file of this name.
+fn replay_plan<S: Shelf>(
+    alloc: Global,
+    shelf: &mut S,
+    name: &str,
+    task: &Task,
+    plan: &Plan,
+    world: &mut Box<dyn World>,
+    monitors: &mut Vec<Box<dyn Monitor>>,
+) -> Result<Shown, Refusal>
+    requires in_task { IsPlanOf (fluent_count task.now) (action_count task.now) plan.now }
+    requires untold { All (λ monitor. counted monitor ≡ 0) monitors.old.items }
+    ensures answer { let failed = FailedLast S.fetched S.faults shelf.old shelf.new in
+        (answer_of result ≡ refused no_memory)
+        ⊎ RecordThen (S.held shelf.old) failed
+        (λ steps. tallies_text
+        (λ monitor. record {
+          counted = counted monitor;
+          title = title monitor;
+          weight = weight monitor;
+        })
+        steps monitors.old.items)
+        name.now (action_names task.now) (HasTooManyInitial task.now most_followed)
+        (system_of task.now) (plain_of plan.now) (answer_of result) }
+    ensures fetches { FetchesFirst S.fetched (name.now ∷ []) shelf.old shelf.new }
+    ensures quiet_at { IsQuietAt (answer_of result) (S.faults shelf.old) (S.faults shelf.new) }
+    ensures kept { (file : List ℕ) → S.held shelf.new file ≡ S.held shelf.old file }
+    ensures later { S.faults shelf.old ≤ S.faults shelf.new }
+{
+    let recorded = read_record_file(alloc, shelf, name)?;
+    replay_record(alloc, name, task, plan, recorded, world, monitors)
+}
+
+/// The run of a plan of the task, under a record that was read out of the file of this name.
+fn replay_record(
+    alloc: Global,
+    name: &str,
+    task: &Task,
+    plan: &Plan,
+    recorded: Recorded,
+    world: &mut Box<dyn World>,
+    monitors: &mut Vec<Box<dyn Monitor>>,
+) -> Result<Shown, Refusal>
+    requires in_task { IsPlanOf (fluent_count task.now) (action_count task.now) plan.now }
+    requires untold { All (λ monitor. counted monitor ≡ 0) monitors.old.items }
+    ensures { let sys = system_of task.now in
+        (answer_of result ≡ refused no_memory)
+        ⊎ FirstThen (HasTooManyInitial task.now most_followed) sys.initial name.now
+        (record_value recorded)
+        (λ first. IsReplayed
+        (λ steps. tallies_text
+        (λ monitor. record {
+          counted = counted monitor;
+          title = title monitor;
+          weight = weight monitor;
+        })
+        steps monitors.old.items)
+        sys (action_names task.now)
+        (trace_under sys (plain_of plan.now) first recorded.words.items)) (answer_of result) }
+{
+    let first = first_state(alloc, name, task, &recorded)?;
+    load_world(alloc, world, recorded.words)?;
+    show_run(alloc, task, plan, first, world, monitors)
+}
+
+/// The initial state whose number begins a record that was read out of the file of this name.
+fn first_state(
+    alloc: Global,
+    name: &str,
+    task: &Task,
+    recorded: &Recorded,
+) -> Result<State, Refusal>
+    ensures first { IfOk result (λ state. IsFirstState (initial_states task.now)
+        (record_value recorded.now) (vector (fluent_count task.now) state)) }
+    ensures within { IfOk result (IsWithin (fluent_count task.now)) }
+    ensures few { OnOk result (HasTooManyInitial task.now most_followed → ⊥) }
+    ensures refused { IfErr result (λ refusal. (refused (refusal_of refusal) ≡ refused no_memory)
+        ⊎ FirstThen (HasTooManyInitial task.now most_followed) (initial_states task.now) name.now
+        (record_value recorded.now) (λ first answer. ⊥) (refused (refusal_of refusal))) }
+{
+    match init_states(alloc, task, MOST_INITIAL) {
+        Ok(states) => match states.get(recorded.first as usize) {
+            Some(state) => Ok(*state),
+            None => Err(Refusal::TextFault(
+                String::from_str(alloc, name)?,
+                InputFault {
+                    kind: FaultKind::BadNumber,
+                    place: recorded.first_place,
+                },
+            )),
+        },
+        Err(InitErr::TooMany) => Err(Refusal::OverLimit(Limit::Initial)),
+        Err(InitErr::Memory) => Err(Refusal::NoMemory),
+    }
+}
+
+/// Gives the world the outcome numbers to choose.
+fn load_world(alloc: Global, world: &mut Box<dyn World>, words: Vec<u32>) -> Result<(), AllocError>
+    ensures { OnOk result (left world.new ≡ words.items) }
+{
+    world.load(alloc, words)
+}
+
+/// The run of a plan of the task from a state, with the outcome numbers that the world has.
+fn show_run(
+    alloc: Global,
+    task: &Task,
+    plan: &Plan,
+    first: State,
+    world: &mut Box<dyn World>,
+    monitors: &mut Vec<Box<dyn Monitor>>,
+) -> Result<Shown, Refusal>
+    requires in_task { IsPlanOf (fluent_count task.now) (action_count task.now) plan.now }
+    requires within { IsWithin (fluent_count task.now) first }
+    requires untold { All (λ monitor. counted monitor ≡ 0) monitors.old.items }
+    ensures { (answer_of result ≡ refused no_memory)
+        ⊎ IsReplayed
+        (λ steps. tallies_text
+        (λ monitor. record {
+          counted = counted monitor;
+          title = title monitor;
+          weight = weight monitor;
+        })
+        steps monitors.old.items)
+        (system_of task.now) (action_names task.now)
+        (trace_under (system_of task.now) (plain_of plan.now)
+        (vector (fluent_count task.now) first) (left world.old)) (answer_of result) }
+{
+    match execute(alloc, task, plan, first, world, monitors) {
+        Ok(trace) => Ok(Shown::Affirmed(Text::Made(write_trace(alloc, task, &trace, monitors)?))),
+        Err(
+            RunErr::StrayOutcome {
+                step,
+                word,
+                outcomes,
+            },
+        ) => Err(Refusal::StrayOutcome {
+            step,
+            word,
+            outcomes,
+        }),
+        Err(RunErr::Unexecutable { step }) => Err(Refusal::Unexecutable { step }),
+        Err(RunErr::Memory) => Err(Refusal::NoMemory),
+    }
+}
