@@ -216,7 +216,7 @@ hold_set now (slot ∷ slots) place zero h new g within is holds = (
 hold_set now (slot ∷ slots) place (suc at) h new g within is holds = (
   holds.0 ∙ sym (with_other h (place + suc at) place g (λ e. absurd (omega arith))),
   let e : suc place + at ≡ place + suc at = omega arith in
-  subst (λ k. AllHold now (entries (set slots at new) (suc place) (with_set h k g))) e (hold_set now slots (suc place) at h new g (omega arith) is holds.1),
+      subst (λ k. AllHold now (entries (set slots at new) (suc place) (with_set h k g))) e (hold_set now slots (suc place) at h new g (omega arith) is holds.1),
 )
 
 times_set : (slots : List SetId) (place at : ℕ) (f g : ℕ → Function) (new d : SetId) (slot : ℕ) → at < length slots

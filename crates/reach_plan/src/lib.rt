@@ -14,6 +14,8 @@ mod preimages;
 mod search;
 mod set_planner;
 mod set_rules;
+#[cfg(test)]
+mod set_tests;
 mod slots;
 mod states;
 #[cfg(test)]

@@ -88,10 +88,10 @@ loop-next-preserved c =
     let enc = c.one_round-round.new.enc in
     let taken = c.one_round-round.new.taken.items in
     let on : (start : Start) (h : ℕ → Function) → At start c.args.enc.now (entries c.args.taken.now.items 0 h) → AreTakers c.args.class start.task 0 h → Going c.args.class start c.release.new.enc taken c.in-More.next = λ start h at takers.
-        let going = c.loop-next.invariant.held start h at takers in
-        going_on c.args.class start enc c.release.new.enc taken c.loop-next.last c.in-More.next going.f going.k
-        (subst (λ (round : Round). RoundLeft c.args.class start enc taken c.loop-next.last going.f going.k round) c.in-More.is (c.in_ok-round.ensures.left start going.f going.h going.k going.at going.round))
-        c.release.ensures.same_slots c.release.ensures.released in
+    let going = c.loop-next.invariant.held start h at takers in
+    going_on c.args.class start enc c.release.new.enc taken c.loop-next.last c.in-More.next going.f going.k
+    (subst (λ (round : Round). RoundLeft c.args.class start enc taken c.loop-next.last going.f going.k round) c.in-More.is (c.in_ok-round.ensures.left start going.f going.h going.k going.at going.round))
+    c.release.ensures.same_slots c.release.ensures.released in
     let w = c.requires.work in
     record {
       long = c.one_round-round.ensures.long ∙ c.loop-next.invariant.long;

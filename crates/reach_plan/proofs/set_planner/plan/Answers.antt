@@ -95,4 +95,3 @@ returns-in-Some-clause-executable c =
     let is = plan_of c.args.class c.args.task.now c.args.enc.now c.find_rules.new.enc c.requires.made c.in-Some.rules
     (subst (λ (found : Option (Vec Rule Global)). PlanLeft c.args.class (start_of c.args.task.now c.args.enc.now c.requires.made) c.find_rules.new.enc found) c.in-Some.is (c.in_ok-find_rules.ensures (start_of c.args.task.now c.args.enc.now c.requires.made) (at_start c.args.task.now c.args.enc.now c.requires.made))) in
     (solved_plan c.args.class c.requires.class c.args.task.now (map rule_of c.in-Some.rules.items) is).executable
-
