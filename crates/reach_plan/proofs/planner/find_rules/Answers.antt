@@ -11,7 +11,7 @@ use Rattle.reach_plan.specs.Working.{AreOwned, At, entries}
 use Rattle.reach_plan.proofs.PlanSteps.{at_none, begun_none, plan_still, same_between, slots_live}
 use Rattle.reach_plan.proofs.SetLayers.{none_take}
 use Rattle.reach_plan.proofs.WorkingSlots.{left_again}
-use Rattle.reach_plan.proofs.set_planner.find_rules.Goals as goal
+use Rattle.reach_plan.proofs.planner.find_rules.Goals as goal
 
 pub search_back-requires-clause-work : goal.search_back-requires-clause-work
 search_back-requires-clause-work c =

@@ -7,7 +7,7 @@ use Rattle.plan_rules.specs.Rules.{rule_of}
 use Rattle.plan_rules.specs.declared.rules.Rule.{Rule}
 use Rattle.reach_plan.specs.Searches.{PlanLeft}
 use Rattle.reach_plan.proofs.PlanSteps.{at_start, kept, no_plan_of, plan_at, plan_of, solved_plan, start_of, tight_start}
-use Rattle.reach_plan.proofs.set_planner.plan.Goals as goal
+use Rattle.reach_plan.proofs.planner.plan.Goals as goal
 
 pub find_rules-requires-clause-work : goal.find_rules-requires-clause-work
 find_rules-requires-clause-work c = record { start = start_of c.args.task.now c.args.enc.now c.requires.made; at = at_start c.args.task.now c.args.enc.now c.requires.made }

@@ -16,7 +16,7 @@ use Rattle.reach_plan.proofs.PlanSteps.{left_by, printed_by_slots, search_last, 
 use Rattle.reach_plan.proofs.SearchSteps.{at_made, same_actions, same_chain}
 use Rattle.reach_plan.proofs.SetLayers.{none_take}
 use Rattle.reach_plan.proofs.WorkingSlots.{left_again, live_at}
-use Rattle.reach_plan.proofs.set_planner.rules_by_sets.Goals as goal
+use Rattle.reach_plan.proofs.planner.rules_by_sets.Goals as goal
 
 pub loop-enc-init : goal.loop-enc-init
 loop-enc-init c = record {

@@ -2,7 +2,7 @@
 use Rattle.std.proofs.Common.{◌≡◌, ◌-◌, ◌≤◌, [], length}
 use Rattle.dd_sets.specs.LiveSets.{nothing}
 use Rattle.reach_plan.specs.Working.{At, Start, entries}
-use Rattle.reach_plan.proofs.set_planner.rules_by_sets.Given as goal
+use Rattle.reach_plan.proofs.planner.rules_by_sets.Given as goal
 
 abbrev pub invariant-loop-enc : goal.invariant-loop-enc
 invariant-loop-enc l = record {
