@@ -1,15 +1,11 @@
-pub mod ChoiceRules
 pub mod ClassLayers
 pub mod Cubes
-pub mod LastLayer
-pub mod LayerSteps
+pub mod Ranges
 pub mod Layers
 pub mod LayersChosen
 pub mod LayersStable
-pub mod ListedSets
 pub mod PlanSteps
 pub mod PrintedWithin
-pub mod StateLists
 pub mod SearchSteps
 pub mod SetLayers
 pub mod WorkingSlots

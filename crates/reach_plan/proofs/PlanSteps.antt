@@ -35,7 +35,7 @@ use Rattle.reach_plan.specs.SetRules.{rules_of_slot}
 use Rattle.reach_plan.specs.Searches.{FoundLast, HasPlan, IsNoPlan, IsPlan, PlanLeft, SearchLeft, StillTaken}
 use Rattle.reach_plan.specs.Working.{At, Left, Start, Working, entries}
 use Rattle.reach_plan.proofs.ClassLayers.{printed_executable}
-use Rattle.reach_plan.proofs.LayerSteps.{range-more}
+use Rattle.reach_plan.proofs.Ranges.{range-more}
 use Rattle.reach_plan.proofs.LeastBounds.{solves_by_class}
 use Rattle.reach_plan.proofs.PrintedWithin.{printed_within}
 use Rattle.reach_plan.proofs.SearchSteps.{at_made}

@@ -31,7 +31,7 @@ use Rattle.task_core.specs.Vectors.{all_vectors}
 use Rattle.task_core.proofs.TaskSystem.{is_system}
 use Rattle.reach_plan.proofs.LeastBounds.{none_once_stable}
 use Rattle.reach_plan.specs.Working.{At, Start, Working, entries, with_set}
-use Rattle.reach_plan.proofs.LayerSteps.{range-more}
+use Rattle.reach_plan.proofs.Ranges.{range-more}
 use Rattle.reach_plan.proofs.SetLayers.{covers_is, fewer_next, goal_set, missed, next_layer_set, next_takers}
 use Rattle.reach_plan.proofs.WorkingSlots.{behind_live, behind_set, length_behind, second_front, second_live, second_set, work_back, work_front, work_less, work_more, work_same}
 

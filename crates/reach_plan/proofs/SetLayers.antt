@@ -27,7 +27,7 @@ use Rattle.reach_plan.specs.LayerSets.{AreTakers, IsLayerSet, class_preimage, gr
 use Rattle.reach_plan.specs.Printed.{action_of_rank, chosen_action, is_action, takers}
 use Rattle.reach_plan.proofs.ClassLayers.{chosen_zero, layer-zero, layer-zero_goal, rank_within-None, step_choice}
 use Rattle.reach_plan.proofs.Cubes.{all_vectors-holds, all_vectors-length}
-use Rattle.reach_plan.proofs.LayerSteps.{find-first, range_split}
+use Rattle.reach_plan.proofs.Ranges.{find-first, range_split}
 use Rattle.reach_plan.proofs.Weak.{same_vector-itself, same_vector-true}
 use Rattle.reach_plan.proofs.WeakLists.{Contains-cons, Contains-head, Contains-range_with_len-below, find-None, find-Some, find-found, list_all-agree, list_all-at, list_all-from, list_any-agree, list_any-from, list_any-witness}
 use Rattle.reach_plan.proofs.WeakPrinted.{is_action-Some}

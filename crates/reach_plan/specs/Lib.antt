@@ -3,8 +3,6 @@ pub mod Classes
 pub mod Layers
 pub mod LayerSets
 pub mod Printed
-pub mod Listed
-pub mod LayerLists
 pub mod Found
 pub mod Searches
 pub mod SetRules

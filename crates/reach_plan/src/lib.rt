@@ -1,21 +1,23 @@
-//! Weak plans: plans that may reach the goal.
+//! Weak and strong plans: plans that may reach the goal, and plans that are sure to in a number of
+//! steps that is bounded.
 //!
-//! `plan_weak` searches back from the goal over all states of a small task. Which plan it gives is
-//! said in `specs/`: `Layers` (the states from which the goal may be reached in so many steps) and
-//! `Printed` (the rules, from the least-numbered action of each state); `Found`, `Listed` and
-//! `LayerLists` have the words of the contracts. The laws of weak planning that the planner rests
-//! on are the contracts of functions that do nothing.
+//! `plan_weak_sets` and `plan_strong_sets` go back from the goal over sets of states on diagrams,
+//! layer by layer (Cimatti, Pistore, Roveri and Traverso, "Weak, strong, and strong cyclic planning
+//! via symbolic model checking", Artificial Intelligence 147, 2003), in two passes: `search` has
+//! the layers alone at first, and then, where there is a plan, what each action takes; `set_rules`
+//! reads the rules off these sets, and `slots` changes sets in place.
+//!
+//! Which plan is found is said in `specs/`: `Layers` (the states from which the goal is reached in
+//! so many steps) and `Printed` (the rules, from the least-numbered action of each state); `Found`
+//! has words of the contracts. The laws of planning by layers that the planners rest on are the
+//! contracts of functions that do nothing.
 #![tactic(auto)]
 
-mod cube_rules;
 mod laws;
 mod planner;
-mod preimages;
 mod search;
-mod set_planner;
 mod set_rules;
 mod slots;
-mod states;
 #[cfg(test)]
 mod tests;
 
@@ -23,5 +25,4 @@ pub use laws::{
     layers_grow, layers_stand_still, no_plan_once_stable, no_plan_without_cover,
     printed_plan_is_shortest, printed_plan_solves, strong_plans_end,
 };
-pub use planner::{Found, plan_weak};
-pub use set_planner::{plan_strong_sets, plan_weak_sets};
+pub use planner::{Found, plan_strong_sets, plan_weak_sets};

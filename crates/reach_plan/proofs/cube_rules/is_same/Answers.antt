@@ -1,7 +1,0 @@
-use Rattle.std.specs.Cmp.{booleans_Decides}
-use Rattle.std.proofs.lemmas.Slice.Eq.{slice_eq-Decides}
-use Rattle.reach_plan.proofs.cube_rules.is_same.Goals as goal
-
-pub returns : goal.returns
-returns c =
-    slice_eq-Decides booleans_Decides c.args.set.now c.args.other.now c.eq.result c.eq.ensures
