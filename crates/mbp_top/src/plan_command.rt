@@ -42,7 +42,7 @@ use encode_task::{Enc, encode};
 use pddl_ast::{Domain, Problem};
 use plan_io::Shelf;
 use plan_rules::{Class, Plan, write_plan};
-use reach_plan::{Found, plan_strong_sets, plan_weak_sets, printed_plan_is_shortest};
+use reach_plan::{Found, plan_strong, plan_weak, printed_plan_is_shortest};
 use std::alloc::{AllocError, Global};
 use task_core::{Task, tasks_have_systems};
 
@@ -176,7 +176,7 @@ fn weak_plan(alloc: Global, task: &Task, enc: &mut Enc) -> Result<Found, SetErr>
     // These do nothing: that no solution is shorter rests on what they promise.
     tasks_have_systems(task);
     printed_plan_is_shortest();
-    plan_weak_sets(alloc, task, enc)
+    plan_weak(alloc, task, enc)
 }
 
 /// The strong plan for a task, which is a shortest one.
@@ -190,7 +190,7 @@ fn strong_plan(alloc: Global, task: &Task, enc: &mut Enc) -> Result<Found, SetEr
     // These do nothing: that no solution is shorter rests on what they promise.
     tasks_have_systems(task);
     printed_plan_is_shortest();
-    plan_strong_sets(alloc, task, enc)
+    plan_strong(alloc, task, enc)
 }
 
 /// The text of a plan.

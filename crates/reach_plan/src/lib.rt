@@ -1,7 +1,7 @@
 //! Weak and strong plans: plans that may reach the goal, and plans that are sure to in a number of
 //! steps that is bounded.
 //!
-//! `plan_weak_sets` and `plan_strong_sets` go back from the goal over sets of states on diagrams,
+//! `plan_weak` and `plan_strong` go back from the goal over sets of states on diagrams,
 //! layer by layer (Cimatti, Pistore, Roveri and Traverso, "Weak, strong, and strong cyclic planning
 //! via symbolic model checking", Artificial Intelligence 147, 2003), in two passes: `search` has
 //! the layers alone at first, and then, where there is a plan, what each action takes; `set_rules`
@@ -25,4 +25,4 @@ pub use laws::{
     layers_grow, layers_stand_still, no_plan_once_stable, no_plan_without_cover,
     printed_plan_is_shortest, printed_plan_solves, strong_plans_end,
 };
-pub use planner::{Found, plan_strong_sets, plan_weak_sets};
+pub use planner::{Found, plan_strong, plan_weak};

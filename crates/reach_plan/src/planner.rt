@@ -50,7 +50,7 @@ pub enum Found {
 /// a second pass, where there is a plan. On every exit the slots of entry are live, with their
 /// sets, and no others; at most as many slots more as there are actions and 24 are live in between.
 /// `Full` says that the table's limit is tight for so many, and `Memory` that memory ran out.
-pub fn plan_weak_sets(alloc: Global, task: &Task, enc: &mut Enc) -> Result<Found, SetErr>
+pub fn plan_weak(alloc: Global, task: &Task, enc: &mut Enc) -> Result<Found, SetErr>
     requires made { MadeOf task.now enc.old }
     requires goal { IsSome task.now.goal }
     ensures class { IfOk result (λ found. IfPlan found (λ plan. plan.class ≡ Weak)) }
@@ -88,7 +88,7 @@ pub fn plan_weak_sets(alloc: Global, task: &Task, enc: &mut Enc) -> Result<Found
 /// in a second pass, where there is a plan. On every exit the slots of entry are live, with their
 /// sets, and no others; at most as many slots more as there are actions and 24 are live in between.
 /// `Full` says that the table's limit is tight for so many, and `Memory` that memory ran out.
-pub fn plan_strong_sets(alloc: Global, task: &Task, enc: &mut Enc) -> Result<Found, SetErr>
+pub fn plan_strong(alloc: Global, task: &Task, enc: &mut Enc) -> Result<Found, SetErr>
     requires made { MadeOf task.now enc.old }
     requires goal { IsSome task.now.goal }
     ensures class { IfOk result (λ found. IfPlan found (λ plan. plan.class ≡ Strong)) }

@@ -3,7 +3,7 @@
 
 ghost use Rattle.std.specs.Prelude.{IfOk, IsSome};
 
-use crate::{Found, plan_strong_sets, plan_weak_sets};
+use crate::{Found, plan_strong, plan_weak};
 use dd_sets::SetErr;
 use encode_task::encode;
 use plan_rules::{Plan, write_plan};
@@ -123,9 +123,9 @@ fn text(alloc: Global, task: &Task, strong: bool, limit: u32) -> Result<String, 
     let mut text = String::new(alloc);
     let mut enc = encode(alloc, task, limit)?;
     let found = if strong {
-        plan_strong_sets(alloc, task, &mut enc)?
+        plan_strong(alloc, task, &mut enc)?
     } else {
-        plan_weak_sets(alloc, task, &mut enc)?
+        plan_weak(alloc, task, &mut enc)?
     };
     if let Found::Plan(plan) = found {
         for byte in write_plan(alloc, &Plan::Table(plan), task)? {
@@ -220,7 +220,7 @@ fn finds_no_room_in_small_tables(rt: HostRuntime) -> Result<(), Fail> {
     let mut found = 0;
     for limit in 1..40 {
         if let Ok(mut enc) = encode(alloc, &task, limit) {
-            match plan_strong_sets(alloc, &task, &mut enc) {
+            match plan_strong(alloc, &task, &mut enc) {
                 Ok(Found::Plan(_)) => found += 1,
                 Err(SetErr::Full) => refused += 1,
                 _ => {}

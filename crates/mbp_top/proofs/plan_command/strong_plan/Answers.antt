@@ -6,7 +6,7 @@ use Rattle.mbp_top.proofs.plan_command.strong_plan.Goals as goal
 pub returns-clause-found : goal.returns-clause-found
 returns-clause-found c =
     let sys = system_of c.args.task.now in
-    let e = c.plan_strong_sets.ensures in
-    found_plan Strong c.args.task.now c.plan_strong_sets.result
+    let e = c.plan_strong.ensures in
+    found_plan Strong c.args.task.now c.plan_strong.result
     (λ K rules last is. shortest_strong sys K rules (c.printed_plan_is_shortest.ensures.strong sys) c.tasks_have_systems.ensures is)
     e.class e.printed e.in_task e.table e.solves e.executable e.no_plan

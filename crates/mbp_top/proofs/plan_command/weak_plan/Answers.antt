@@ -6,7 +6,7 @@ use Rattle.mbp_top.proofs.plan_command.weak_plan.Goals as goal
 pub returns-clause-found : goal.returns-clause-found
 returns-clause-found c =
     let sys = system_of c.args.task.now in
-    let e = c.plan_weak_sets.ensures in
-    found_plan Weak c.args.task.now c.plan_weak_sets.result
+    let e = c.plan_weak.ensures in
+    found_plan Weak c.args.task.now c.plan_weak.result
     (λ K rules last is. shortest_weak sys K rules (c.printed_plan_is_shortest.ensures.weak sys) c.tasks_have_systems.ensures last is)
     e.class e.printed e.in_task e.table e.solves e.executable e.no_plan
