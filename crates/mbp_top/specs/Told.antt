@@ -15,8 +15,8 @@ AreFilesTold held words =
     → held file ≢ Untold
 
 -- the words and the files alone call for this answer, and for `replay` what the monitors show of
--- the steps: no fault of the shelf is a part of its cause, and it is neither want of memory nor that
--- the table of nodes is full
+-- the steps: no fault of the shelf is a part of its cause, and it is neither want of memory nor
+-- that the table of nodes is full
 pub record IsDue (held : Bytes → Held) (tallies : Tallies) (words : List Bytes)
     (answer : Answer) : Type 0 where
   pub cause : HasCause held (λ file. ⊥) tallies words answer

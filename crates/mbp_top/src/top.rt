@@ -104,7 +104,8 @@ use std::alloc::Global;
 /// chooses, and tells the monitors of each step. No monitor has counted anything yet. The other
 /// commands use neither. The world and the monitors are dropped on every exit. The statuses:
 ///
-/// - 0: a plan of the class is on `out` (weak: from each initial state it may reach the goal; strong:
+/// - 0: a plan of the class is on `out` (weak: from each initial state it may reach the goal;
+/// strong:
 ///   it does, whatever the outcomes), or the listing, or that the plan is one of the class, or the
 ///   run;
 /// - 1: there is no plan of the class, or the plan is none of it;
