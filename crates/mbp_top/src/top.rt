@@ -105,9 +105,8 @@ use std::alloc::Global;
 /// commands use neither. The world and the monitors are dropped on every exit. The statuses:
 ///
 /// - 0: a plan of the class is on `out` (weak: from each initial state it may reach the goal;
-/// strong:
-///   it does, whatever the outcomes), or the listing, or that the plan is one of the class, or the
-///   run;
+///   strong: it does, whatever the outcomes), or the listing, or that the plan is one of the class,
+///   or the run;
 /// - 1: there is no plan of the class, or the plan is none of it;
 /// - 2: the words are no command;
 /// - 3: a file spells no domain, no problem of it, no plan or no record, or the record's first
