@@ -1,5 +1,5 @@
 -- What a caller says of slots of its own: the live slots are those that were live before, with their sets, and the caller's.
-use Rattle.std.specs.Prelude.{◌≡◌, ℕ, ◌+◌, ◌==◌, Bool, true, false, ◌||◌, List, [], ◌∷◌, length, ⊤, Result, Ok, Err}
+use Rattle.std.specs.Prelude.{◌≡◌, ℕ, ◌+◌, ◌==◌, Bool, false, ◌||◌, List, [], ◌∷◌, length, ⊤, Result, Ok, Err}
 use Rattle.std.specs.List.{list_any}
 use Rattle.dd_nodes.specs.Subfunctions.{Function}
 use Rattle.dd_sets.specs.Calls.{KeepsSets}
