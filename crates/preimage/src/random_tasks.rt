@@ -20,7 +20,10 @@ impl Source {
         requires { 0 < end }
         ensures { result < end }
     {
-        self.seed = self.seed.wrapping_mul(1_664_525).wrapping_add(1_013_904_223);
+        self.seed = self
+            .seed
+            .wrapping_mul(1_664_525)
+            .wrapping_add(1_013_904_223);
         (self.seed >> 8) % end
     }
 
@@ -117,7 +120,7 @@ pub fn task(alloc: Global, seed: u32) -> Result<Option<Task>, AllocError> {
     };
     let mut fluents = Vec::new(alloc);
     for word in ["p", "q", "r", "s", "t"] {
-        if (fluents.len() as u32) < source.fluents {
+        if fluents.len() < source.fluents as usize {
             fluents.push(name(alloc, word)?)?;
         }
     }
@@ -129,7 +132,7 @@ pub fn task(alloc: Global, seed: u32) -> Result<Option<Task>, AllocError> {
     for _ in 0..source.below(3) {
         entries.push(entry(alloc, &mut source)?)?;
     }
-    let facts = state(source.below(32), fluents.len() as u32 % 8);
+    let facts = state(source.below(32), source.fluents % 8);
     let goal = if source.below(4) == 0 {
         None
     } else {
