@@ -5,9 +5,9 @@
 //! random clauses), `queens` (the placings of so many queens on a board of that size), `variables`
 //! (so many substitutions of two variables in one large set), `constants` (so many of four
 //! constants in small sets), `algebra` (so many rounds of meet, difference and join) and `tasks` (a
-//! task with 256 fluents and so many actions, made and put into sets) and `made` (the same task, not
-//! put into sets). A line for each pair has counts alone, so the same words always give the same
-//! output; `bench/run` at the top of the repository takes the time.
+//! task with 256 fluents and so many actions, made and put into sets) and `made` (the same task,
+//! not put into sets). A line for each pair has counts alone, so the same words always give the
+//! same output; `bench/run` at the top of the repository takes the time.
 #![tactic(auto)]
 
 mod chains;
