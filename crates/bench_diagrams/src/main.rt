@@ -4,9 +4,10 @@
 //! The problems are `nodes` (a table of so many nodes), `clauses` (the conjunction of so many
 //! random clauses), `queens` (the placings of so many queens on a board of that size), `variables`
 //! (so many substitutions of two variables in one large set), `constants` (so many of four
-//! constants in small sets) and `algebra` (so many rounds of meet, difference and join). A line for
-//! each pair has the counts of nodes alone, so the same words always give the same output;
-//! `bench/run` at the top of the repository takes the time.
+//! constants in small sets), `algebra` (so many rounds of meet, difference and join) and `tasks` (a
+//! task with 256 fluents and so many actions, made and put into sets) and `made` (the same task,
+//! not put into sets). A line for each pair has counts alone, so the same words always give the
+//! same output; `bench/run` at the top of the repository takes the time.
 #![tactic(auto)]
 
 mod chains;
@@ -15,11 +16,12 @@ mod extent;
 mod queens;
 mod random;
 mod sets;
+mod tasks;
 
 use crate::extent::Extent;
 use anyhow::{Result, bail};
 use std::alloc::Global;
-use std::{env, io};
+use std::{env, fmt, io};
 
 /// The most nodes in a table.
 const LIMIT: u32 = 16_777_216;
@@ -30,8 +32,8 @@ fn main(rt: HostRuntime) -> Result<()> {
         match pair {
             [problem, count] => {
                 let count = count.as_str().parse::<u32>()?;
-                let extent = solve(rt.alloc(), problem.as_str(), count)?;
-                println!(rt; "{} {count}: {extent}", problem.as_str())?;
+                let counts = solve(rt.alloc(), problem.as_str(), count)?;
+                println!(rt; "{} {count}: {counts}", problem.as_str())?;
             }
             _ => bail!("use: bench_diagrams [PROBLEM COUNT] .."),
         }
@@ -39,8 +41,21 @@ fn main(rt: HostRuntime) -> Result<()> {
     Ok(())
 }
 
+/// The counts of a problem.
+fn solve(alloc: Global, problem: &str, count: u32) -> Result<String> {
+    match problem {
+        "tasks" => shown(alloc, tasks::put_in_sets(alloc, count)?),
+        "made" => shown(alloc, tasks::make(alloc, count)?),
+        _ => shown(alloc, extent_of(alloc, problem, count)?),
+    }
+}
+
+fn shown<T: fmt::Display + Drop>(alloc: Global, counts: T) -> Result<String> {
+    Ok(format!(in alloc; "{counts}")?)
+}
+
 /// The extent of a problem's diagram.
-fn solve(alloc: Global, problem: &str, count: u32) -> Result<Extent> {
+fn extent_of(alloc: Global, problem: &str, count: u32) -> Result<Extent> {
     match problem {
         "nodes" => Ok(chains::make_nodes(alloc, count)?),
         "clauses" => Ok(clauses::conjunction(alloc, count)?),

@@ -1,13 +1,12 @@
 -- The cubes of a number are read off its diagram.
-use Rattle.std.proofs.Common.{◌≡◌, ◌⊎◌, ℕ, zero, suc, ◌+◌, ◌-◌, ◌<◌, ◌≤◌, Bool, true, false, not, cond, List, [], ◌∷◌, ◌++◌, length, map, Some, None, refl, sym, ap, subst, ◌∙◌, ⊎_elim, inl, inr, arith, append_assoc, append-nil, ◌==◌}
+use Rattle.std.proofs.Common.{◌≡◌, ◌⊎◌, ℕ, zero, suc, ◌+◌, ◌-◌, ◌<◌, ◌≤◌, Bool, true, false, not, cond, List, [], ◌∷◌, ◌++◌, length, map, Some, refl, sym, ap, subst, ◌∙◌, ⊎_elim, inl, inr, arith, append_assoc, append-nil, ◌==◌}
 use borrow.Author.Tests.{eq-eqb}
 use Rattle.std.specs.List.{list_any, list_all}
-use Rattle.std.proofs.lemmas.Bool.{cases_lt, cond-true, cond-false, false_from_ne_true, not_from_true, both_ways, and_from, or_from}
+use Rattle.std.proofs.lemmas.Bool.{cases_lt, cond-true, cond-false, false_from_ne_true, both_ways, and_from, or_from}
 use Rattle.std.proofs.lemmas.List.{map-append}
-use Rattle.std.proofs.lemmas.Option.{none-some}
 use Rattle.dd_nodes.specs.declared.node.Node.{Node}
 use Rattle.dd_nodes.specs.NodeList.{Values, IsNumber, IsReduced, StandsBelow, StandsFrom, function, node_at}
-use Rattle.dd_nodes.proofs.NodeLemmas.{function_false, function_true, function_blind, function_hi, function_lo, node_place, same_ref, node_at_constant}
+use Rattle.dd_nodes.proofs.NodeLemmas.{function_false, function_true, function_blind, function_hi, function_lo, node_place, same_ref}
 use Rattle.dd_nodes.proofs.Canonicity.{canonical}
 use Rattle.task_core.specs.Cubes.{Cube, SetOfVectors, literal, half, is_empty_set, is_whole_set, ignores_first, cubes_from}
 use Rattle.task_core.specs.Vectors.{Vector, value_of, all_vectors, same_value}

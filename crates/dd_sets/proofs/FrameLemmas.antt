@@ -1,14 +1,9 @@
 -- How a caller's own slots change by each call.
-use Rattle.std.proofs.Common.{◌≡◌, ◌≢◌, ℕ, ◌+◌, ◌==◌, Bool, true, false, ◌||◌, List, [], ◌∷◌, ◌++◌, length, refl, sym, ap, subst, ◌∙◌, ⊎_elim, arith, length-append, All, get_or, zero, suc}
+use Rattle.std.proofs.Common.{◌≡◌, ℕ, false, List, [], ◌∷◌, ◌++◌, refl, sym, ap, ◌∙◌, arith, All, get_or, zero, suc}
 use Rattle.dd_sets.specs.declared.slots.SetId.{SetId}
-use Rattle.std.specs.List.{list_any}
-use borrow.Author.Tests.{eqb-true, eq-eqb}
-use Rattle.std.proofs.lemmas.Bool.{cases_Bool, cases_eq, both_ways, or_parts, or_from, ne_eqb, false_from_ne_true}
-use Rattle.std.proofs.lemmas.List.Folds.{list_any-append}
-use Rattle.dd_nodes.specs.Subfunctions.{Function}
-use Rattle.dd_sets.specs.Calls.{KeepsSets, Adds, AddsNone, Releases}
-use Rattle.dd_sets.specs.Frames.{Slots, has_slot, AreNew, Owns}
-use Rattle.dd_sets.specs.LiveSets.{LiveSets, is_live, set_of, live_count, IsLive}
+use Rattle.std.proofs.lemmas.Bool.{both_ways, false_from_ne_true}
+use Rattle.dd_sets.specs.Calls.{KeepsSets, Releases}
+use Rattle.dd_sets.specs.LiveSets.{LiveSets, is_live, IsLive}
 
 pub kept_same : (sets : LiveSets) → KeepsSets sets sets
 kept_same sets = record { vars = refl; limit = refl; live = λ slot live. live; sets = λ slot live. refl }

@@ -1,14 +1,13 @@
 -- How a caller's own slots change by each call.
-use Rattle.std.proofs.Common.{◌≡◌, ◌≢◌, ℕ, ◌+◌, ◌==◌, Bool, true, false, ◌||◌, List, [], ◌∷◌, ◌++◌, length, Result, Ok, Err, IfOk, OnErr, refl, sym, ap, subst, ◌∙◌, ⊎_elim, arith, length-append}
-use Rattle.std.specs.List.{list_any}
-use borrow.Author.Tests.{eqb-true, eq-eqb}
-use Rattle.std.proofs.lemmas.Bool.{cases_Bool, cases_eq, both_ways, or_parts, or_from, or_left, or_right, ne_eqb, false_from_ne_true}
+use Rattle.std.proofs.Common.{◌≡◌, ◌≢◌, ℕ, ◌+◌, ◌==◌, true, false, ◌||◌, [], ◌∷◌, ◌++◌, length, refl, sym, ap, ◌∙◌, ⊎_elim, arith, length-append}
+use borrow.Author.Tests.{eq-eqb}
+use Rattle.std.proofs.lemmas.Bool.{cases_eq, both_ways, or_parts, or_from, or_left, or_right, ne_eqb}
 use Rattle.std.proofs.lemmas.List.Folds.{list_any-append}
 use Rattle.dd_nodes.specs.Subfunctions.{Function}
 use Rattle.dd_sets.specs.Calls.{KeepsSets, Adds, AddsNone, Releases}
 use Rattle.dd_sets.specs.Frames.{Slots, has_slot, AreNew, Owns}
-use Rattle.dd_sets.specs.LiveSets.{LiveSets, is_live, set_of, live_count, IsLive}
-use Rattle.dd_sets.proofs.FrameLemmas.{kept_same, kept_chain, kept_release, not_before}
+use Rattle.dd_sets.specs.LiveSets.{LiveSets, is_live, live_count, IsLive}
+use Rattle.dd_sets.proofs.FrameLemmas.{kept_same, kept_chain, kept_release}
 
 -- no slot of one's own
 pub own_none : (sets : LiveSets) → Owns sets sets []

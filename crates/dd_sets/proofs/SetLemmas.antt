@@ -1,14 +1,12 @@
 -- Sets and their numbers.
-use Rattle.std.proofs.Common.{◌≡◌, ◌≢◌, ◌↔◌, ◌⊎◌, ℕ, zero, suc, ◌+◌, ◌<◌, ◌==◌, Bool, true, false, not, ◌&&◌, cond, List, [], ◌∷◌, length, map, find, filter_map, Option, Some, None, is_some, option_map, unwrap_or, Result, Ok, Err, IfOk, IsOkAnd, IsErrOf, IsTrue, count_by, slice_index_or, All, refl, sym, ap, subst, ◌∙◌, ⊎_elim, arith}
+use Rattle.std.proofs.Common.{◌≡◌, ◌≢◌, ◌↔◌, ℕ, zero, suc, ◌+◌, ◌<◌, ◌==◌, Bool, true, false, not, ◌&&◌, cond, List, [], ◌∷◌, length, map, find, filter_map, Option, Some, None, is_some, option_map, unwrap_or, Result, Ok, Err, IfOk, IsOkAnd, IsErrOf, IsTrue, count_by, slice_index_or, All, refl, sym, ap, subst, ◌∙◌, ⊎_elim, arith}
 use Rattle.std.specs.Option.{option_map_or}
 use borrow.Author.Tests.{eqb-true, eq-eqb}
-use Rattle.std.proofs.lemmas.Bool.{cases_Bool, cases_eq}
+use Rattle.std.proofs.lemmas.Bool.{cases_eq}
 use Rattle.std.proofs.lemmas.List.Sums.{sum_by-cons}
-use Rattle.dd_nodes.specs.declared.node.Node.{Node}
 use Rattle.dd_nodes.specs.declared.node.Ref.{Ref}
 use Rattle.dd_nodes.specs.declared.node.DdErr.{DdErr}
-use Rattle.dd_nodes.specs.declared.node.DdErr.TheVariants as DdErr
-use Rattle.dd_nodes.specs.NodeList.{Values, IsNumber, function, IsReduced}
+use Rattle.dd_nodes.specs.NodeList.{Values, IsNumber, function}
 use Rattle.dd_nodes.specs.Subfunctions.{Function, DependsOnly}
 use Rattle.dd_nodes.specs.Table.{NodeTable}
 use Rattle.dd_nodes.proofs.NodeLemmas.{function_false}
@@ -24,7 +22,6 @@ use Rattle.dd_sets.specs.Rooms.{IsFull, Tight}
 use Rattle.dd_sets.specs.Stores.{view_of, ref_at, refs_of}
 use Rattle.dd_sets.specs.declared.slots.SetId.{SetId}
 use Rattle.dd_sets.specs.declared.errors.SetErr.{SetErr}
-use Rattle.dd_sets.specs.declared.errors.SetErr.TheVariants as SetErr
 use Rattle.dd_sets.proofs.RoomLemmas.{numbers_fit}
 use Rattle.dd_sets.proofs.SlotLemmas.{set_is, live_number, kept_by_answer, same_keeps, same_adds_none, same_sound}
 

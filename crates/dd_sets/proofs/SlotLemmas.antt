@@ -1,9 +1,8 @@
 -- From what an operation on numbers says, and what became of the slots, to what the call leaves in the slots.
-use Rattle.std.proofs.Common.{◌≡◌, ◌≢◌, ℕ, ◌+◌, ◌<◌, ◌≤◌, Bool, true, false, List, [], ◌∷◌, ◌++◌, length, Option, Some, None, is_some, Result, Ok, Err, IfOk, IfErr, OnErr, IsErrOf, unwrap_or, refl, sym, ap, subst, ◌∙◌, ⊎_elim, arith}
+use Rattle.std.proofs.Common.{◌≡◌, ◌≢◌, ℕ, ◌≤◌, true, false, List, length, Option, Some, None, is_some, Result, Ok, Err, IfOk, OnErr, IsErrOf, refl, sym, ap, subst, ◌∙◌, ⊎_elim, arith}
 use Rattle.std.specs.Option.{option_map_or}
 use Rattle.std.proofs.lemmas.Bool.{cases_eq}
 use Rattle.std.proofs.lemmas.Option.{same_Some}
-use Rattle.dd_nodes.specs.declared.node.Node.{Node}
 use Rattle.dd_nodes.specs.declared.node.Ref.{Ref}
 use Rattle.dd_nodes.specs.declared.node.DdErr.{DdErr}
 use Rattle.dd_nodes.specs.NodeList.{IsNumber, function}
@@ -12,12 +11,11 @@ use Rattle.dd_nodes.specs.Table.{NodeTable, IsNodeTable}
 use Rattle.dd_ops.specs.Calls.{Answers}
 use Rattle.dd_ops.specs.Growth.{Grows}
 use Rattle.dd_sets.specs.Calls.{KeepsSets, Adds, AddsNone}
-use Rattle.dd_sets.specs.LiveSets.{LiveSets, IsSets, IsLive, is_live, set_of, live_count, live_sets, nothing, number_at, table_of}
+use Rattle.dd_sets.specs.LiveSets.{LiveSets, IsSets, IsLive, is_live, set_of, live_count, nothing, number_at, table_of}
 use Rattle.dd_sets.specs.Rooms.{IsFull, Tight}
 use Rattle.dd_sets.specs.Stores.{IsStored, Stored, view_of}
 use Rattle.dd_sets.specs.declared.slots.SetId.{SetId}
 use Rattle.dd_sets.specs.declared.errors.SetErr.{SetErr}
-use Rattle.dd_sets.specs.declared.errors.SetErr.TheVariants as SetErr
 use Rattle.dd_sets.proofs.RoomLemmas.{numbers_fit}
 
 -- the numbers before have their functions after, and stand in a table

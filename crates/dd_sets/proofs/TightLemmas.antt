@@ -1,5 +1,5 @@
 -- Tight limits, by nodes and by slots.
-use Rattle.std.proofs.Common.{◌≡◌, ℕ, ◌+◌, ◌*◌, ◌^◌, ◌<◌, ◌≤◌, List, [], ◌∷◌, ◌++◌, length, refl, sym, ap, subst, ◌∙◌, arith, length-append}
+use Rattle.std.proofs.Common.{◌≡◌, ℕ, ◌+◌, ◌*◌, ◌^◌, ◌<◌, ◌≤◌, List, [], ◌∷◌, ◌++◌, length, sym, ap, subst, ◌∙◌, arith, length-append}
 use Rattle.std.proofs.Math.Nat.{pow-le-pow_left}
 use Rattle.dd_nodes.proofs.NodeLemmas.{function_false, function_true}
 use Rattle.dd_nodes.specs.Subfunctions.{Function, constants, functions, functions_below, nodes, nodes_beside}

@@ -1,9 +1,8 @@
 -- What callers see of the sets of a table: a finite map from live slots to sets. A set of lists of
 -- truth values is the test of its members, a function on lists of truth values (Bryant 1986: the
 -- characteristic function).
-use Rattle.std.specs.Prelude.{◌≡◌, ℕ, ◌<◌, Bool, true, false, List, map, Option, Some, None}
-use Rattle.std.specs.Prelude.{is_some, option_map, find, ◌==◌, filter_map, count_by, slice_index_or}
-use Rattle.std.specs.Prelude.{All}
+use Rattle.std.specs.Prelude.{◌≡◌, ℕ, Bool, true, false, List, map, Option, Some, None, is_some}
+use Rattle.std.specs.Prelude.{option_map, find, ◌==◌, filter_map, count_by, slice_index_or, All}
 use Rattle.std.specs.Option.{option_map_or}
 use Rattle.dd_nodes.specs.declared.node.Node.{Node}
 use Rattle.dd_nodes.specs.declared.node.Ref.{Ref}

@@ -1,7 +1,6 @@
 -- When a table may have no room for a call.
 use Rattle.std.specs.Prelude.{◌≡◌, ℕ, ◌+◌, ◌*◌, ◌^◌, ◌<◌, List, ◌++◌, length}
 use Rattle.dd_nodes.specs.Subfunctions.{Function, nodes}
-use Rattle.dd_ops.specs.Growth.{subst_pieces}
 use Rattle.dd_sets.specs.LiveSets.{LiveSets, live_count, live_sets}
 
 -- a limit on nodes is tight for sets over so many fluents that have so many nodes: it is less than

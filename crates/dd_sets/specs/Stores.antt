@@ -9,7 +9,6 @@ use Rattle.dd_nodes.specs.declared.node.Node.{Node}
 use Rattle.dd_nodes.specs.declared.node.DdErr.TheVariants.{Full}
 use Rattle.dd_nodes.specs.Table.{NodeTable}
 use Rattle.dd_sets.specs.declared.errors.SetErr.{SetErr}
-use Rattle.dd_sets.specs.declared.errors.SetErr.TheVariants as SetErr
 use Rattle.dd_sets.specs.LiveSets.{LiveSets, number_at}
 use Rattle.dd_sets.specs.declared.slots.SetId.{SetId}
 use Rattle.dd_nodes.specs.declared.node.Ref.{Ref}

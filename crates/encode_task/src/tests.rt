@@ -1,105 +1,36 @@
-//! The sets of small tasks, made from numbers, against the states one by one.
-
-ghost use Rattle.std.specs.Prelude.{◌<◌, ◌≤◌};
-ghost use Rattle.task_core.specs.States.{IsWithin};
+//! A worked example: a robot that moves from one place to another and may slip.
+ghost use Rattle.std.specs.Prelude.{◌≡◌, true};
+ghost use Rattle.dd_sets.specs.LiveSets.{IsLive};
+ghost use Rattle.task_core.specs.Conditions.{ids_below};
 ghost use Rattle.task_core.specs.Tasks.{fluent_count};
 ghost use Rattle.encode_task.specs.Made.{MadeOf};
 
 use crate::{Enc, encode};
-use dd_sets::SetErr;
+use dd_sets::{SetErr, SetId, Sets};
 use std::alloc::{AllocError, Global};
 use std::test::Fail;
 use task_core::{
     ActionId, Alternative, Change, Cond, FluentId, GroundAction, InitSpec, Lit, Outcome, State,
-    Task, cond_holds, init_states, is_exec, step,
+    Task,
 };
 
-/// How many fluents the tasks have.
-const FLUENTS: u32 = 3;
+/// The robot is at the first place; at the second.
+const HERE: FluentId = FluentId(0);
 
-/// A number below `end`, from the seed, which moves on.
-fn below(seed: &mut u32, end: u32) -> u32
-    requires { 0 < end }
-    ensures { result < end }
-{
-    *seed = seed.wrapping_mul(1_664_525).wrapping_add(1_013_904_223);
-    (*seed >> 8) % end
+const THERE: FluentId = FluentId(1);
+
+/// The one action.
+const GO: ActionId = ActionId(0);
+
+fn lit(fluent: FluentId, positive: bool) -> Lit {
+    Lit { fluent, positive }
 }
 
-fn fluent(seed: &mut u32) -> FluentId {
-    FluentId(below(seed, FLUENTS))
-}
-
-fn lit(seed: &mut u32) -> Lit {
-    Lit {
-        fluent: fluent(seed),
-        positive: below(seed, 2) == 0,
+fn change(fluent: FluentId, positive: bool) -> Change {
+    Change {
+        cond: Cond::Yes,
+        lit: lit(fluent, positive),
     }
-}
-
-/// A condition in which conditions stand at most `depth` deep in one another.
-#[cycle(cond)]
-fn cond(alloc: Global, seed: &mut u32, depth: u32) -> Result<Cond, AllocError> {
-    if depth == 0 {
-        return Ok(Cond::Is(fluent(seed)));
-    }
-    match below(seed, 6) {
-        0 => Ok(Cond::Yes),
-        1 => Ok(Cond::No),
-        2 => {
-            let part = cond(alloc, seed, depth - 1)?;
-            Ok(Cond::Not(Box::new(alloc, part)?))
-        }
-        3 => Ok(Cond::All(conds(alloc, seed, depth - 1)?)),
-        4 => Ok(Cond::Any(conds(alloc, seed, depth - 1)?)),
-        _ => Ok(Cond::Is(fluent(seed))),
-    }
-}
-
-#[cycle(cond)]
-fn conds(alloc: Global, seed: &mut u32, depth: u32) -> Result<Vec<Cond>, AllocError> {
-    let mut parts = Vec::new(alloc);
-    for _ in 0..below(seed, 4) {
-        parts.push(cond(alloc, seed, depth)?)?;
-    }
-    Ok(parts)
-}
-
-fn outcome(alloc: Global, seed: &mut u32) -> Result<Outcome, AllocError> {
-    let mut changes = Vec::new(alloc);
-    for _ in 0..below(seed, 4) {
-        let cond = cond(alloc, seed, 2)?;
-        changes.push(Change {
-            cond,
-            lit: lit(seed),
-        })?;
-    }
-    Ok(Outcome { changes })
-}
-
-fn action(alloc: Global, seed: &mut u32, word: &str) -> Result<GroundAction, AllocError> {
-    let exec = cond(alloc, seed, 2)?;
-    let mut outcomes = Vec::new(alloc);
-    for _ in 0..1 + below(seed, 3) {
-        outcomes.push(outcome(alloc, seed)?)?;
-    }
-    Ok(GroundAction {
-        name: name(alloc, word)?,
-        exec,
-        outcomes,
-    })
-}
-
-fn entry(alloc: Global, seed: &mut u32) -> Result<Vec<Alternative>, AllocError> {
-    let mut entry = Vec::new(alloc);
-    for _ in 0..1 + below(seed, 3) {
-        let mut lits = Vec::new(alloc);
-        for _ in 0..below(seed, 3) {
-            lits.push(lit(seed))?;
-        }
-        entry.push(Alternative { lits })?;
-    }
-    Ok(entry)
 }
 
 fn name(alloc: Global, word: &str) -> Result<Vec<String>, AllocError> {
@@ -108,103 +39,132 @@ fn name(alloc: Global, word: &str) -> Result<Vec<String>, AllocError> {
     Ok(words)
 }
 
-/// The task of a seed, of which some have no goal.
-fn task(alloc: Global, start: u32) -> Result<Option<Task>, AllocError> {
-    let mut seed = start;
+/// Where the robot is here, and not there.
+fn here_alone(alloc: Global) -> Result<Cond, AllocError> {
+    let mut parts = Vec::new(alloc);
+    parts.push(Cond::Is(HERE))?;
+    parts.push(Cond::Not(Box::new(alloc, Cond::Is(THERE))?))?;
+    Ok(Cond::All(parts))
+}
+
+/// The action: the robot moves, or stays.
+fn go(alloc: Global) -> Result<GroundAction, AllocError> {
+    let mut changes = Vec::new(alloc);
+    changes.push(change(HERE, false))?;
+    changes.push(change(THERE, true))?;
+    let mut outcomes = Vec::new(alloc);
+    outcomes.push(Outcome { changes })?;
+    outcomes.push(Outcome {
+        changes: Vec::new(alloc),
+    })?;
+    Ok(GroundAction {
+        name: name(alloc, "go")?,
+        exec: here_alone(alloc)?,
+        outcomes,
+    })
+}
+
+/// The task: at first the robot is here, and maybe there too; the goal is there.
+fn slip(alloc: Global) -> Result<Option<Task>, AllocError> {
     let mut fluents = Vec::new(alloc);
-    for word in ["p", "q", "r"] {
-        fluents.push(name(alloc, word)?)?;
-    }
-    let mut actions = Vec::new(alloc);
-    for word in ["a", "b"] {
-        actions.push(action(alloc, &mut seed, word)?)?;
-    }
+    fluents.push(name(alloc, "here")?)?;
+    fluents.push(name(alloc, "there")?)?;
+    let mut lits = Vec::new(alloc);
+    lits.push(lit(THERE, true))?;
+    let mut entry = Vec::new(alloc);
+    entry.push(Alternative {
+        lits: Vec::new(alloc),
+    })?;
+    entry.push(Alternative { lits })?;
     let mut entries = Vec::new(alloc);
-    for _ in 0..below(&mut seed, 3) {
-        entries.push(entry(alloc, &mut seed)?)?;
-    }
-    let facts = state(below(&mut seed, 8), FLUENTS);
-    let goal = if below(&mut seed, 4) == 0 {
-        None
-    } else {
-        Some(cond(alloc, &mut seed, 3)?)
+    entries.push(entry)?;
+    let init = InitSpec {
+        facts: State::none().with(HERE, true),
+        entries,
     };
-    let init = InitSpec { facts, entries };
-    Ok(Task::try_new(fluents, actions, init, goal))
+    let mut actions = Vec::new(alloc);
+    actions.push(go(alloc)?)?;
+    Ok(Task::try_new(fluents, actions, init, Some(Cond::Is(THERE))))
 }
 
-/// The state whose first fluents have the values of the last bits of a number.
-fn state(bits: u32, fluents: u32) -> State
-    requires { fluents ≤ 32 }
-    ensures { IsWithin fluents result }
+/// A slot's set: bit 0 for nowhere, 1 for here, 2 for there, 3 for both.
+fn table(sets: &Sets, a: SetId) -> u8
+    requires { IsLive sets.now a.0 }
 {
-    let mut state = State::none();
-    for f in 0..fluents {
-        state = state.with(FluentId(f), bits >> f & 1 == 1);
-    }
-    state
-}
-
-/// Whether the sets of the actions say what the states do.
-fn actions_agree(task: &Task, enc: &Enc, state: &State) -> bool
-    requires made { MadeOf task.now enc.now }
-    requires within { IsWithin (fluent_count task.now) state.now }
-{
-    for a in 0..task.actions.len() as u32 {
-        let a = ActionId(a);
-        if enc.sets().holds(enc.exec(a), state) != is_exec(task, state, a) {
-            return false;
-        }
-        for o in 0..enc.outcomes(a) {
-            let after = step(task, state, a, o);
-            for f in 0..enc.fluents() {
-                let next = enc.next(a, o, FluentId(f));
-                if enc.sets().holds(next, state) != after.get(FluentId(f)) {
-                    return false;
-                }
-            }
+    let mut table = 0;
+    for s in 0..4u32 {
+        let state = State::none().with(HERE, s & 1 == 1).with(THERE, s & 2 == 2);
+        if sets.holds(a, &state) {
+            table |= 1u8 << s;
         }
     }
-    true
+    table
 }
 
-/// Whether the sets of the initial states and of the goal say what the states do.
-fn ends_agree(task: &Task, enc: &Enc, initial: &[State], state: &State) -> bool
-    requires made { MadeOf task.now enc.now }
-    requires within { IsWithin (fluent_count task.now) state.now }
+/// The sets of the values after each outcome.
+fn next_tables(task: &Task, enc: &Enc) -> [u8; 4]
+    requires { MadeOf task.now enc.now }
 {
-    let is_initial = initial.iter().any(|other| other == state);
-    if enc.sets().holds(enc.initial(), state) != is_initial {
-        return false;
+    if task.actions.len() != 1 || enc.outcomes(GO) != 2 || enc.fluents() != 2 {
+        return [0; 4];
     }
-    match (enc.goal(), &task.goal) {
-        (Some(slot), Some(goal)) => enc.sets().holds(slot, state) == cond_holds(goal, state),
-        (None, None) => true,
-        _ => false,
-    }
+    let sets = enc.sets();
+    [
+        table(sets, enc.next(GO, 0, HERE)),
+        table(sets, enc.next(GO, 0, THERE)),
+        table(sets, enc.next(GO, 1, HERE)),
+        table(sets, enc.next(GO, 1, THERE)),
+    ]
 }
 
-/// Whether all sets of a seed's task say what the states do.
-fn sets_agree(alloc: Global, seed: u32) -> Result<bool, Fail> {
-    let task = task(alloc, seed)?.ok_or("no task")?;
-    let enc = encode(alloc, &task, 100_000)?;
-    let initial = init_states(alloc, &task, 8)?;
-    if task.fluents.len() > 32 {
-        return Ok(false);
+/// The initial states, the goal, and where the robot can go.
+fn kept_tables(task: &Task, enc: &Enc) -> [u8; 3]
+    requires { MadeOf task.now enc.now }
+{
+    let sets = enc.sets();
+    match enc.goal() {
+        Some(goal) if task.actions.len() == 1 => [
+            table(sets, enc.initial()),
+            table(sets, goal),
+            table(sets, enc.exec(GO)),
+        ],
+        _ => [0; 3],
     }
-    for bits in 0..8 {
-        let state = state(bits, task.fluents.len() as u32);
-        if !actions_agree(&task, &enc, &state) || !ends_agree(&task, &enc, &initial, &state) {
-            return Ok(false);
-        }
-    }
-    Ok(true)
 }
 
 #[test]
-fn sets_agree_with_the_states(rt: HostRuntime) -> Result<(), Fail> {
-    for seed in 0..60 {
-        assert!(rt; sets_agree(rt.alloc(), seed)?);
+fn answers_the_worked_example(rt: HostRuntime) -> Result<(), Fail> {
+    let task = slip(rt.alloc())?.ok_or("no task")?;
+    let enc = encode(rt.alloc(), &task, 100)?;
+    assert_eq!(rt; kept_tables(&task, &enc), [0b1010, 0b1100, 0b0010]);
+    assert_eq!(rt; next_tables(&task, &enc), [0b0000, 0b1111, 0b1010, 0b1100]);
+    Ok(())
+}
+
+/// The sets of a condition, and of what the first outcome leads into the goal.
+fn made_tables(task: &Task, enc: &mut Enc, cond: &Cond) -> Result<[u8; 2], Fail>
+    requires made { MadeOf task.now enc.old }
+    requires fluents { ids_below (fluent_count task.now) cond.now ≡ true }
+{
+    if task.actions.len() != 1 || enc.outcomes(GO) != 2 {
+        return Ok([0; 2]);
     }
+    let goal = enc.goal().ok_or("no goal")?;
+    let led = enc.led_into(GO, 0, goal)?;
+    let held = enc.set_of(cond)?;
+    Ok([table(enc.sets(), held), table(enc.sets(), led)])
+}
+
+#[test]
+fn answers_the_worked_calls(rt: HostRuntime) -> Result<(), Fail> {
+    let task = slip(rt.alloc())?.ok_or("no task")?;
+    let mut enc = encode(rt.alloc(), &task, 100)?;
+    let tables = match task.goal.as_ref() {
+        Some(goal) => made_tables(&task, &mut enc, goal)?,
+        None => [0; 2],
+    };
+    assert_eq!(rt; tables, [0b1100, 0b1111]);
+    let is_full = matches!(encode(rt.alloc(), &task, 1), Err(SetErr::Full));
+    assert!(rt; is_full);
     Ok(())
 }

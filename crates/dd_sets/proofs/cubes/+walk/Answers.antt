@@ -4,7 +4,6 @@ use Rattle.std.proofs.lemmas.List.{map-append}
 use Rattle.task_core.specs.declared.literals.Lit.{Lit}
 use Rattle.std.proofs.lemmas.Grind.{common_steps}
 use borrow.Author.Tests.{eqb-true}
-use Rattle.task_core.specs.Cubes.{literal}
 use Rattle.dd_sets.proofs.CubeLemmas.{zero_number, none_more, one_more, node_more}
 use Rattle.dd_sets.proofs.cubes.+walk.Goals as goal
 

@@ -1,5 +1,5 @@
 -- From the first fluent on, with no path before.
-use Rattle.std.proofs.Common.{◌≡◌, ◌++◌, [], ◌∷◌, List, map, ap, sym, subst, ◌∙◌, arith, Vec, Global}
+use Rattle.std.proofs.Common.{map, ap, ◌∙◌, Vec, Global}
 use Rattle.dd_nodes.specs.NodeList.{function}
 use Rattle.dd_nodes.specs.Table.{NodeTable}
 use Rattle.task_core.specs.Cubes.{cubes_from}

@@ -1,8 +1,7 @@
 -- What the operation answers, and what became of the slots, put together.
-use Rattle.std.proofs.Common.{refl, [], ◌∷◌}
+use Rattle.std.proofs.Common.{refl}
 use Rattle.dd_ops.specs.Operations.{or_of}
-use Rattle.dd_sets.specs.LiveSets.{set_of}
-use Rattle.dd_sets.proofs.SlotLemmas.{Operated, operated, number_set, full_room}
+use Rattle.dd_sets.proofs.SlotLemmas.{operated, number_set, full_room}
 use Rattle.dd_sets.proofs.sets.Sets.join.Goals as goal
 
 pub invariant_of-self : goal.invariant_of-self

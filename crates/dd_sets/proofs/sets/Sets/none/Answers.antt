@@ -1,8 +1,6 @@
 -- A constant's number is in every table.
-use Rattle.std.proofs.Common.{◌+◌, ◌<◌, length, arith}
-use Rattle.dd_nodes.specs.NodeList.{function}
+use Rattle.std.proofs.Common.{arith}
 use Rattle.dd_nodes.proofs.NodeLemmas.{function_false}
-use Rattle.dd_sets.specs.LiveSets.{nothing}
 use Rattle.dd_sets.proofs.SlotLemmas.{placed}
 use Rattle.dd_sets.proofs.sets.Sets.none.Goals as goal
 

@@ -1,4 +1,4 @@
-use Rattle.std.proofs.Common.{◌≡◌, map, take}
+use Rattle.std.proofs.Common.{◌≡◌, take}
 use Rattle.dd_sets.specs.Stores.{refs_of}
 use Rattle.dd_sets.proofs.sets.Sets.numbers.Given as goal
 

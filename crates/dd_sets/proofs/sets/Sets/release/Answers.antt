@@ -1,7 +1,7 @@
 -- The slot's value leaves the slab.
 use Rattle.std.proofs.Common.{◌≡◌, true, sym, subst}
 use Rattle.dd_sets.specs.LiveSets.{LiveSets, is_live}
-use Rattle.dd_sets.proofs.SetLemmas.{released, released_sound}
+use Rattle.dd_sets.proofs.SetLemmas.{released}
 use Rattle.dd_sets.proofs.sets.Sets.release.Goals as goal
 
 pub remove-requires : goal.remove-requires

@@ -1,8 +1,6 @@
 -- A constant's number is in every table.
-use Rattle.std.proofs.Common.{◌+◌, ◌<◌, length, arith}
-use Rattle.dd_nodes.specs.NodeList.{function}
+use Rattle.std.proofs.Common.{arith}
 use Rattle.dd_nodes.proofs.NodeLemmas.{function_true}
-use Rattle.dd_sets.specs.LiveSets.{everything}
 use Rattle.dd_sets.proofs.SlotLemmas.{placed}
 use Rattle.dd_sets.proofs.sets.Sets.whole.Goals as goal
 

@@ -1,6 +1,6 @@
 -- Parts are less deep than what they are parts of.
 use Rattle.std.proofs.Common.{◌+◌, ◌*◌}
-use Rattle.encode_task.proofs.tests.+cond.Given as goal
+use Rattle.preimage.proofs.random_tasks.+cond.Given as goal
 
 abbrev pub decreases-cond : goal.decreases-cond
 decreases-cond l = 2 * l.depth

@@ -4,7 +4,7 @@ use Rattle.task_core.specs.Actions.{goal_within}
 use Rattle.task_core.specs.Conditions.{ids_below}
 use Rattle.task_core.specs.Tasks.{fluent_count}
 use Rattle.task_core.proofs.Agreement.{ids_below_widen}
-use Rattle.encode_task.proofs.tests.ends_agree.Goals as goal
+use Rattle.preimage.proofs.tests.ends_agree.Goals as goal
 
 pub cond_holds-requires : goal.cond_holds-requires
 cond_holds-requires c =
