@@ -13,8 +13,8 @@ use plan_io::Shelf;
 use sexpr_text::MAX_BYTES;
 use std::alloc::Global;
 
-/// Reads the domain in a file, and adds its line. There is none where the text has a fault, or where
-/// there is not enough memory to read it.
+/// Reads the domain in a file, and adds its line. There is none where the text has a fault, or
+/// where there is not enough memory to read it.
 fn read_domain_file<S: Shelf>(
     alloc: Global,
     shelf: &mut S,

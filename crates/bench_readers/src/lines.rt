@@ -4,8 +4,8 @@ use sexpr_text::{InputFault, ReadErr, Text};
 use std::alloc::AllocError;
 use std::fmt::Write;
 
-/// Adds `FILE: ok`, or with a refusal `FILE:LINE:COLUMN: CODE NAME` and the word that the fault has, or
-/// `FILE: out of memory`; and a line feed.
+/// Adds `FILE: ok`, or with a refusal `FILE:LINE:COLUMN: CODE NAME` and the word that the fault
+/// has, or `FILE: out of memory`; and a line feed.
 pub fn push_line(
     lines: &mut String,
     file: &str,

@@ -1,9 +1,11 @@
-//! Reads a domain and problems of it by the readers of whole PDDL, and says of each file whether it is
-//! one: `bench_readers DOMAIN PROBLEM ..`, with the names of any number of problems.
+//! Reads a domain and problems of it by the readers of whole PDDL, and says of each file whether it
+//! is one: `bench_readers DOMAIN PROBLEM ..`, with the names of any number of problems.
 //!
-//! There is a line for each file: `FILE: ok`, or `FILE:LINE:COLUMN: CODE NAME` with its first fault, and
-//! after it the word where a part of the language is left out. Of a domain with a fault no problem is read.
-//! `checks/run` reads the examples by it, and `bench/readers` takes the time. It is no part of `mbp`.
+//! There is a line for each file: `FILE: ok`, or `FILE:LINE:COLUMN: CODE NAME` with its first
+//! fault, and after it the word where a part of the language is left out. Of a domain with a fault
+//! no problem is read.
+//! `checks/run` reads the examples by it, and `bench/readers` takes the time. It is no part of
+//! `mbp`.
 #![tactic(auto)]
 
 mod files;

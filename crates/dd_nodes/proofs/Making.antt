@@ -3,7 +3,7 @@ use Rattle.std.proofs.Common.{◌≡◌, ◌≢◌, ℕ, ◌+◌, ◌<◌, ◌�
 use Rattle.std.proofs.Common.{IfOk, OnErr, Result, Ok, Err}
 use Rattle.dd_nodes.specs.declared.node.Ref.{Ref}
 use Rattle.dd_nodes.specs.declared.node.DdErr.{DdErr}
-use Rattle.dd_nodes.specs.Table.{Table}
+use Rattle.dd_nodes.specs.Table.{NodeTable}
 use Rattle.std.proofs.lemmas.Option.{same_Some}
 use Rattle.dd_nodes.specs.declared.node.Node.{Node}
 use Rattle.dd_nodes.specs.NodeList.{Values, IsNumber, node_at, function, StandsBelow, StandsFrom, IsReduced, Lacks, Extends}
@@ -55,12 +55,12 @@ module _ (vars : ℕ) (before : List Node) (reduced : IsReduced vars before) (no
         (λ (new : Lacks before node × (n ≡ length before + 2) × (after ≡ before ++ node ∷ [])). subst (Makes vars before node n) (sym new.2) (makes_new new.0 new.1))
 
 -- what a result of `place` says of the table that is left
-pub record Outcome (table : Table) (node : Node) (r : Result Ref DdErr) (after : List Node) : Type 0 where
+pub record Outcome (table : NodeTable) (node : Node) (r : Result Ref DdErr) (after : List Node) : Type 0 where
   pub on_ok : IfOk r (λ f. Makes table.vars table.nodes node f.0 after)
   pub reduced : IsReduced table.vars after
   pub earlier : (n : ℕ) (values : Values) → IsNumber table.nodes n → function after n values ≡ function table.nodes n values
 
-module _ (table : Table) (reduced : IsReduced table.vars table.nodes) (node : Node) (in_range : node.var < table.vars) (differ : node.lo ≢ node.hi)
+module _ (table : NodeTable) (reduced : IsReduced table.vars table.nodes) (node : Node) (in_range : node.var < table.vars) (differ : node.lo ≢ node.hi)
     (lo : IsNumber table.nodes node.lo.0) (hi : IsNumber table.nodes node.hi.0)
     (lo_below : StandsBelow table.nodes node.var node.lo.0) (hi_below : StandsBelow table.nodes node.var node.hi.0) (after : List Node) where
   pub outcome : (r : Result Ref DdErr)
@@ -76,7 +76,7 @@ module _ (table : Table) (reduced : IsReduced table.vars table.nodes) (node : No
   }
 
 -- each fact of the number that comes
-module _ (table : Table) (node : Node) (r : Result Ref DdErr) (after : List Node) where
+module _ (table : NodeTable) (node : Node) (r : Result Ref DdErr) (after : List Node) where
   pub ok_value : Outcome table node r after
       → IfOk r (λ f. (values : Values) → function after f.0 values ≡ (if values node.var then function table.nodes node.hi.0 values else function table.nodes node.lo.0 values))
   ok_value o = by r o.on_ok

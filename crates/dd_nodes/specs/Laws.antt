@@ -6,22 +6,26 @@ use Rattle.dd_nodes.specs.NodeList.{IsNumber, IsReduced, function}
 use Rattle.dd_nodes.specs.Reached.{IsReached}
 use Rattle.dd_nodes.specs.Subfunctions.{Function, DependsOnly, IsSubfunction, nodes}
 
--- in a reduced list two numbers have the same function exactly where they are equal (Bryant 1986, Theorem 1)
+-- in a reduced list two numbers have the same function exactly where they are equal (Bryant 1986,
+-- Theorem 1)
 abbrev pub OneNumberPerFunction : Type 0
 OneNumberPerFunction =
-    (vars : ℕ) (list : List Node) → IsReduced vars list → (m n : ℕ) → IsNumber list m → IsNumber list n
+    (vars : ℕ) (list : List Node) → IsReduced vars list → (m n : ℕ) → IsNumber list m
+    → IsNumber list n
     → (function list m ≡ function list n) ↔ (m ≡ n)
 
 -- the function of a number of a reduced list depends on the first `vars` variables alone
 abbrev pub DependsOnVariables : Type 0
 DependsOnVariables =
-    (vars : ℕ) (list : List Node) → IsReduced vars list → (n : ℕ) → IsNumber list n → DependsOnly 0 vars (function list n)
+    (vars : ℕ) (list : List Node) → IsReduced vars list → (n : ℕ) → IsNumber list n
+    → DependsOnly 0 vars (function list n)
 
 -- the subfunctions of a number's function are the functions of the numbers that are reached from it
 abbrev pub SubfunctionsAreReached : Type 0
 SubfunctionsAreReached =
     (vars : ℕ) (list : List Node) → IsReduced vars list → (n : ℕ) → IsNumber list n → (g : Function)
-    → IsSubfunction vars (function list n) g ↔ ((m : ℕ) × IsReached list n m × (function list m ≡ g))
+    → IsSubfunction vars (function list n) g
+    ↔ ((m : ℕ) × IsReached list n m × (function list m ≡ g))
 
 -- a list of the nodes' numbers that are reached from some numbers, each once
 pub record AreReachedNodes (list : List Node) (from reached : List ℕ) : Type 0 where
@@ -31,5 +35,6 @@ pub record AreReachedNodes (list : List Node) (from reached : List ℕ) : Type 0
 -- `nodes` of the functions of some numbers is the number of nodes that are reached from them
 abbrev pub NodesAreReached : Type 0
 NodesAreReached =
-    (vars : ℕ) (list : List Node) → IsReduced vars list → (from reached : List ℕ) → All (IsNumber list) from
+    (vars : ℕ) (list : List Node) → IsReduced vars list → (from reached : List ℕ)
+    → All (IsNumber list) from
     → AreReachedNodes list from reached → nodes vars (map (function list) from) ≡ length reached

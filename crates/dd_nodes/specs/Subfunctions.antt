@@ -1,5 +1,8 @@
--- How many nodes the reduced diagrams of some functions have, counted by functions and not by nodes.
-use Rattle.std.specs.Prelude.{◌≡◌, ℕ, zero, suc, ◌+◌, ◌<◌, ◌≤◌, Bool, true, false, not, if◌then◌else◌, List, [], ◌∷◌, ◌++◌, length, map, flat_map, filter, slice_index_or}
+-- How many nodes the reduced diagrams of some functions have, counted by functions and not by
+-- nodes.
+use Rattle.std.specs.Prelude.{◌≡◌, ℕ, zero, suc, ◌+◌, ◌<◌, ◌≤◌, Bool, true, false, not}
+use Rattle.std.specs.Prelude.{if◌then◌else◌, List, [], ◌∷◌, ◌++◌, length, map, flat_map, filter}
+use Rattle.std.specs.Prelude.{slice_index_or}
 use Rattle.std.specs.List.{list_any, list_all}
 use mathlib.Core.Bool.{beq}
 use Rattle.dd_nodes.specs.declared.node.Node.{Node}
@@ -41,25 +44,31 @@ lists_up_to (suc n) = lists_up_to n ++ lists (suc n)
 abbrev pub subfunctions : ℕ → Function → List Function
 subfunctions vars f = map (λ first. fixed first f) (lists_up_to vars)
 
--- whether two functions agree at each list of truth values for the first `vars` variables, all later variables being false. Functions
--- of the first `vars` variables alone agree exactly where they are equal, as those of the numbers of a reduced list do
+-- whether two functions agree at each list of truth values for the first `vars` variables, all
+-- later variables being false. Functions of the first `vars` variables alone agree exactly where
+-- they are equal, as those of the numbers of a reduced list do
 abbrev pub agree : ℕ → Function → Function → Bool
-agree vars f g = list_all (λ first. beq (fixed first f (λ _. false)) (fixed first g (λ _. false))) (lists vars)
+agree vars f g =
+    list_all (λ first. beq (fixed first f (λ _. false)) (fixed first g (λ _. false))) (lists vars)
 
 -- how many different functions a list has
 unfoldable pub count_different : ℕ → List Function → ℕ
 count_different vars [] = 0
-count_different vars (f ∷ fs) = if list_any (agree vars f) fs then count_different vars fs else count_different vars fs + 1
+count_different vars (f ∷ fs) =
+    if list_any (agree vars f) fs then count_different vars fs else count_different vars fs + 1
 
 -- how many different subfunctions some functions have, those aside that agree with a known function
 unfoldable pub nodes_beside : ℕ → List Function → List Function → ℕ
-nodes_beside vars known fs = count_different vars (filter (λ g. not (list_any (agree vars g) known)) (flat_map (subfunctions vars) fs))
+nodes_beside vars known fs =
+    count_different vars
+    (filter (λ g. not (list_any (agree vars g) known)) (flat_map (subfunctions vars) fs))
 
 -- the two constant functions
 abbrev pub constants : List Function
 constants = (λ _. false) ∷ (λ _. true) ∷ []
 
--- how many nodes the reduced diagram of some functions has: the number of their different subfunctions, constants aside
+-- how many nodes the reduced diagram of some functions has: the number of their different
+-- subfunctions, constants aside
 abbrev pub nodes : ℕ → List Function → ℕ
 nodes vars fs = nodes_beside vars constants fs
 

@@ -1,7 +1,10 @@
 //! The node table.
-ghost use Rattle.std.specs.Prelude.{◌≡◌, ◌≢◌, ℕ, ◌≤◌, ◌<◌, ◌↔◌, ◌⊎◌, [], ◌∷◌, ◌++◌, ◌+◌, length, IsNone, IsSome, IfSome, IfNone, IfOk, IfErr, OnErr, IsErrOf, if◌then◌else◌};
-ghost use Rattle.dd_nodes.specs.NodeList.{Values, IsNumber, StandsBelow, StandsFrom, Lacks, Extends, Appends, node_at, function, values_of_bits};
-ghost use Rattle.dd_nodes.specs.Table.{IsTable};
+ghost use Rattle.std.specs.Prelude.{◌≡◌, ◌≢◌, ℕ, ◌≤◌, ◌<◌, ◌↔◌, ◌⊎◌, [], ◌∷◌, ◌++◌, ◌+◌, length};
+ghost use Rattle.std.specs.Prelude.{IsNone, IsSome, IfSome, IfNone, IfOk, IfErr, OnErr, IsErrOf};
+ghost use Rattle.std.specs.Prelude.{if◌then◌else◌};
+ghost use Rattle.dd_nodes.specs.NodeList.{Values, IsNumber, StandsBelow, StandsFrom, Lacks};
+ghost use Rattle.dd_nodes.specs.NodeList.{Extends, Appends, node_at, function, values_of_bits};
+ghost use Rattle.dd_nodes.specs.Table.{IsNodeTable};
 
 use crate::node::{DdErr, Node, Ref};
 use indexmap::IndexSet;
@@ -22,13 +25,14 @@ pub struct Dd {
 }
 
 impl Model for Dd {
-    ghost use Rattle.dd_nodes.specs.Table.{Table, IsTable};
+    ghost use Rattle.dd_nodes.specs.Table.{NodeTable, IsNodeTable};
 
-    ghost Value = { Table };
+    ghost Value = { NodeTable };
 
     ghost view = { λ dd. record { vars = dd.vars; limit = dd.limit; nodes = dd.nodes.keys } };
 
-    ghost invariant = { λ dd. IsTable (record { vars = dd.vars; limit = dd.limit; nodes = dd.nodes.keys }) };
+    ghost invariant = { λ dd. IsNodeTable
+        (record { vars = dd.vars; limit = dd.limit; nodes = dd.nodes.keys }) };
 }
 
 impl Dd {
@@ -40,7 +44,7 @@ impl Dd {
         ensures vars { IfOk result (λ dd. dd.vars ≡ vars) }
         ensures limit { IfOk result (λ dd. dd.limit ≡ limit) }
         ensures empty { IfOk result (λ dd. dd.nodes ≡ []) }
-        ensures table { IfOk result IsTable }
+        ensures table { IfOk result IsNodeTable }
     {
         Ok(Dd {
             vars,
@@ -52,7 +56,7 @@ impl Dd {
     /// The number of nodes; the constants are not counted.
     pub fn len(&self) -> u32
         ensures count { result ≡ length self.now.nodes }
-        ensures table { IsTable self.now }
+        ensures table { IsNodeTable self.now }
     {
         self.nodes.len() as u32
     }
@@ -60,7 +64,7 @@ impl Dd {
     /// The largest number of nodes.
     pub fn limit(&self) -> u32
         ensures limit { result ≡ self.now.limit }
-        ensures table { IsTable self.now }
+        ensures table { IsNodeTable self.now }
     {
         self.limit
     }
@@ -70,7 +74,7 @@ impl Dd {
         requires { IsNumber self.now.nodes f.0 }
         ensures node { result ≡ node_at self.now.nodes f.0 }
         ensures constant { IsNone result ↔ (f.0 < 2) }
-        ensures table { IsTable self.now }
+        ensures table { IsNodeTable self.now }
     {
         let nodes = &self.nodes;
         if f.0 < 2 {
@@ -124,7 +128,7 @@ impl Dd {
         ensures extends { Extends self.old.nodes self.new.nodes }
         ensures earlier { (n : ℕ) (values : Values) → IsNumber self.old.nodes n
             → function self.new.nodes n values ≡ function self.old.nodes n values }
-        ensures table { IsTable self.new }
+        ensures table { IsNodeTable self.new }
     {
         let limit = self.limit as usize;
         if lo == hi {

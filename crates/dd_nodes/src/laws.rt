@@ -1,6 +1,7 @@
 //! What is true of every reduced node list, for callers to cite. Each function does nothing, and
 //! its contract is the law.
-ghost use Rattle.dd_nodes.specs.Laws.{OneNumberPerFunction, DependsOnVariables, SubfunctionsAreReached, NodesAreReached};
+ghost use Rattle.dd_nodes.specs.Laws.{OneNumberPerFunction, DependsOnVariables};
+ghost use Rattle.dd_nodes.specs.Laws.{SubfunctionsAreReached, NodesAreReached};
 
 /// In a reduced list two numbers have the same function exactly where they are equal (Bryant 1986,
 /// Theorem 1).

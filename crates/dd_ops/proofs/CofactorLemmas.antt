@@ -4,7 +4,7 @@ use Rattle.std.proofs.lemmas.Bool.{cond-false, ne_eqb}
 use Rattle.dd_nodes.specs.declared.node.Node.{Node}
 use Rattle.dd_nodes.specs.declared.node.Ref.{Ref}
 use Rattle.dd_nodes.specs.NodeList.{Values, with_value, IsNumber, node_at, function, StandsBelow, StandsFrom, IsReduced, Extends}
-use Rattle.dd_nodes.specs.Table.{Table, IsTable}
+use Rattle.dd_nodes.specs.Table.{NodeTable, IsNodeTable}
 use Rattle.dd_nodes.proofs.NodeLemmas.{function_node, node_place}
 use Rattle.dd_nodes.proofs.Extending.{extends_number, extends_node, extends_function, extends_from, extends_below, extends_from_back}
 use Rattle.dd_ops.specs.Operations.{cofactor_of}
@@ -67,7 +67,7 @@ module _ (vars : ℕ) (nodes : List Node) (reduced : IsReduced vars nodes) (f : 
       other values = sym (cond-false (eqb node.var v) b (values node.var) (ne_eqb node.var v (λ e. omega arith)))
 
 -- a child has a greater level than its node, in any later list too
-module _ (t : Table) (table : IsTable t) (f : ℕ) (node : Node) (there : node_at t.nodes f ≡ Some node) (later : List Node) (extends : Extends t.nodes later) where
+module _ (t : NodeTable) (table : IsNodeTable t) (f : ℕ) (node : Node) (there : node_at t.nodes f ≡ Some node) (later : List Node) (extends : Extends t.nodes later) where
   child_smaller : (child : ℕ) → child < f → StandsBelow t.nodes node.var child → 256 - level_of later child < 256 - level_of t.nodes f
   child_smaller child lower deep =
       let place : f < length t.nodes + 2 = (node_place t.nodes f node there).1 in

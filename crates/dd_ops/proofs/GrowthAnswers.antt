@@ -5,7 +5,7 @@ use Rattle.std.proofs.lemmas.Option.{same_Some}
 use Rattle.dd_nodes.specs.declared.node.Node.{Node}
 use Rattle.dd_nodes.specs.NodeList.{Values, with_value, node_at, function, StandsFrom, IsReduced, Extends}
 use Rattle.dd_nodes.specs.Subfunctions.{Function, IsSubfunction}
-use Rattle.dd_nodes.specs.Table.{Table}
+use Rattle.dd_nodes.specs.Table.{NodeTable}
 use Rattle.dd_nodes.proofs.Extending.{extends_function}
 use Rattle.dd_ops.specs.declared.question.Question.{Question}
 use Rattle.dd_ops.specs.Operations.{ite_of, cofactor_of}
@@ -21,7 +21,7 @@ use Rattle.dd_ops.proofs.GrowthSteps.{lacks_for_part}
 pub growth_of : (vars : ℕ) (pieces : List Function) (before after : List Node) → IsReduced vars before → AddsParts vars pieces before after → length after ≤ length before + grow vars before pieces
 growth_of vars pieces before after reduced adds = grows_within vars pieces before after reduced adds
 
-pub full_of : (pieces : List Function) (before after : Table) → after.vars ≡ before.vars → IsReduced before.vars before.nodes → AddsParts before.vars pieces before.nodes after.nodes
+pub full_of : (pieces : List Function) (before after : NodeTable) → after.vars ≡ before.vars → IsReduced before.vars before.nodes → AddsParts before.vars pieces before.nodes after.nodes
     → IsFullFor pieces after → (length after.nodes ≡ after.limit) × (after.limit < length before.nodes + grow before.vars before.nodes pieces)
 full_of pieces before after vars reduced adds full =
     let below : length after.nodes < length before.nodes + grow before.vars before.nodes pieces =
@@ -30,7 +30,7 @@ full_of pieces before after vars reduced adds full =
     (limit, omega arith)
 
 -- where the table is full for parts of other pieces it is full for these
-pub full_for_part : (pieces : List Function) (part : Function) (table : Table) → IsPart table.vars pieces part → IsFullFor (part ∷ []) table → IsFullFor pieces table
+pub full_for_part : (pieces : List Function) (part : Function) (table : NodeTable) → IsPart table.vars pieces part → IsFullFor (part ∷ []) table → IsFullFor pieces table
 full_for_part pieces part table is_part full = record {
   at_limit = full.at_limit;
   lacks = lacks_for_part table.vars pieces part is_part table.nodes full.lacks;

@@ -6,7 +6,7 @@ use Rattle.dd_nodes.specs.declared.node.Ref.{Ref}
 use Rattle.dd_nodes.specs.declared.node.DdErr.{DdErr}
 use Rattle.dd_nodes.specs.NodeList.{Values, with_value, IsNumber, node_at, function, IsReduced, Appends, Lacks}
 use Rattle.dd_nodes.specs.Subfunctions.{Function}
-use Rattle.dd_nodes.specs.Table.{Table, IsTable}
+use Rattle.dd_nodes.specs.Table.{NodeTable, IsNodeTable}
 use Rattle.dd_nodes.proofs.NodeLemmas.{node_place, function_node}
 use Rattle.dd_nodes.proofs.Extending.{extends_function}
 use Rattle.dd_ops.specs.Operations.{cofactor_of}
@@ -20,7 +20,7 @@ use Rattle.dd_ops.proofs.GrowthParts.{part_only}
 use Rattle.dd_ops.proofs.GrowthTables.{AreParts, one_part, adds_first, adds_then, full_parts}
 
 -- the cofactor of a node of the table t0: that of the child lo leaves t1, and that of hi leaves t2
-module _ (t0 : Table) (table0 : IsTable t0) (f : ℕ) (node : Node) (there : node_at t0.nodes f ≡ Some node) (v : ℕ) (b : Bool) (before : node.var < v) where
+module _ (t0 : NodeTable) (table0 : IsNodeTable t0) (f : ℕ) (node : Node) (there : node_at t0.nodes f ≡ Some node) (v : ℕ) (b : Bool) (before : node.var < v) where
   wanted : Function
   wanted = cofactor_of (function t0.nodes f) v b
 
@@ -32,7 +32,7 @@ module _ (t0 : Table) (table0 : IsTable t0) (f : ℕ) (node : Node) (there : nod
   lo_parts = one_part t0.vars (wanted ∷ []) (cofactor_of (function t0.nodes node.lo.0) v b)
       (part_only t0.vars wanted (cofactor_of (function t0.nodes node.lo.0) v b) (cofactor_lo t0.vars t0.nodes table0.reduced v b f node there differ))
 
-  module _ (t1 : Table) (kept1 : Keeps t0 t1) where
+  module _ (t1 : NodeTable) (kept1 : Keeps t0 t1) where
     pub fixed_lo_adds : AddsParts t0.vars (cofactor_of (function t0.nodes node.lo.0) v b ∷ []) t0.nodes t1.nodes → AddsParts t0.vars (cofactor_of (function t0.nodes f) v b ∷ []) t0.nodes t1.nodes
     unfolding wanted
     fixed_lo_adds adds = adds_first (wanted ∷ []) (cofactor_of (function t0.nodes node.lo.0) v b ∷ []) t0 t1 lo_parts adds
@@ -51,7 +51,7 @@ module _ (t0 : Table) (table0 : IsTable t0) (f : ℕ) (node : Node) (there : nod
         (one_part t0.vars (wanted ∷ []) (cofactor_of (function t0.nodes node.hi.0) v b)
         (part_only t0.vars wanted (cofactor_of (function t0.nodes node.hi.0) v b) (cofactor_hi t0.vars t0.nodes table0.reduced v b f node there differ)))
 
-    module _ (adds1 : AddsParts t0.vars (cofactor_of (function t0.nodes node.lo.0) v b ∷ []) t0.nodes t1.nodes) (t2 : Table) (kept2 : Keeps t1 t2) where
+    module _ (adds1 : AddsParts t0.vars (cofactor_of (function t0.nodes node.lo.0) v b ∷ []) t0.nodes t1.nodes) (t2 : NodeTable) (kept2 : Keeps t1 t2) where
       pub fixed_hi_adds : AddsParts t1.vars (cofactor_of (function t1.nodes node.hi.0) v b ∷ []) t1.nodes t2.nodes → AddsParts t0.vars (cofactor_of (function t0.nodes f) v b ∷ []) t0.nodes t2.nodes
       unfolding wanted
       fixed_hi_adds adds = adds_then (wanted ∷ []) (cofactor_of (function t1.nodes node.hi.0) v b ∷ []) t0 t1 t2 (fixed_lo_adds adds1) kept1.vars hi_parts adds
@@ -67,19 +67,19 @@ module _ (t0 : Table) (table0 : IsTable t0) (f : ℕ) (node : Node) (there : nod
             let sum = fixed_hi_adds adds2 in
             ap (λ g. cofactor_of g v b) (extends_function t0.nodes t2.nodes sum.extends t0.vars table0.reduced f (node_place t0.nodes f node there).1)
 
-        pub fixed_rest_adds : (t3 : Table) → AddsParts t2.vars (cofactor_of (function t2.nodes f) v b ∷ []) t2.nodes t3.nodes → AddsParts t0.vars (cofactor_of (function t0.nodes f) v b ∷ []) t0.nodes t3.nodes
+        pub fixed_rest_adds : (t3 : NodeTable) → AddsParts t2.vars (cofactor_of (function t2.nodes f) v b ∷ []) t2.nodes t3.nodes → AddsParts t0.vars (cofactor_of (function t0.nodes f) v b ∷ []) t0.nodes t3.nodes
         fixed_rest_adds t3 adds = adds_then (cofactor_of (function t0.nodes f) v b ∷ []) (cofactor_of (function t0.nodes f) v b ∷ []) t0 t2 t3 (fixed_hi_adds adds2)
             (kept2.vars ∙ kept1.vars)
             (one_part t0.vars (cofactor_of (function t0.nodes f) v b ∷ []) (cofactor_of (function t0.nodes f) v b)
             (part_only t0.vars (cofactor_of (function t0.nodes f) v b) (cofactor_of (function t0.nodes f) v b) (sub_self t0.vars (cofactor_of (function t0.nodes f) v b))))
             (subst (λ g. AddsParts t2.vars (g ∷ []) t2.nodes t3.nodes) latest adds)
 
-        pub fixed_rest_full : (t3 : Table) → IsFullFor (cofactor_of (function t2.nodes f) v b ∷ []) t3 → IsFullFor (cofactor_of (function t0.nodes f) v b ∷ []) t3
+        pub fixed_rest_full : (t3 : NodeTable) → IsFullFor (cofactor_of (function t2.nodes f) v b ∷ []) t3 → IsFullFor (cofactor_of (function t0.nodes f) v b ∷ []) t3
         fixed_rest_full t3 full = subst (λ g. IsFullFor (g ∷ []) t3) latest full
 
 -- a node of the children's cofactors
-module _ (t : Table) (table : IsTable t) (f : ℕ) (node : Node) (there : node_at t.nodes f ≡ Some node) (v : ℕ) (b : Bool) (before : node.var < v) (lo hi : Ref)
-    (lo_is : IsCofactor t.nodes v b node.lo.0 lo.0) (hi_is : IsCofactor t.nodes v b node.hi.0 hi.0) (after : Table) where
+module _ (t : NodeTable) (table : IsNodeTable t) (f : ℕ) (node : Node) (there : node_at t.nodes f ≡ Some node) (v : ℕ) (b : Bool) (before : node.var < v) (lo hi : Ref)
+    (lo_is : IsCofactor t.nodes v b node.lo.0 lo.0) (hi_is : IsCofactor t.nodes v b node.hi.0 hi.0) (after : NodeTable) where
   joined_value : (values : Values) → (if values node.var then function t.nodes hi.0 values else function t.nodes lo.0 values) ≡ cofactor_of (function t.nodes f) v b values
   joined_value values =
       (λ j. cond (other j) (hi_is.value j values) (lo_is.value j values))
@@ -88,7 +88,7 @@ module _ (t : Table) (table : IsTable t) (f : ℕ) (node : Node) (there : node_a
       other : values node.var ≡ with_value values v b node.var
       other = sym (cond-false (eqb node.var v) b (values node.var) (ne_eqb node.var v (λ e. omega arith)))
 
-  pub fixed_join_adds : IsTable after → after.vars ≡ t.vars → (r : Result Ref DdErr)
+  pub fixed_join_adds : IsNodeTable after → after.vars ≡ t.vars → (r : Result Ref DdErr)
       → IfOk r (λ g. (after.nodes ≡ t.nodes) ⊎ Appends t.nodes (record { var = node.var; lo = lo; hi = hi }) g.0 after.nodes)
       → IfOk r (λ g. (values : Values) → function after.nodes g.0 values ≡ (if values node.var then function t.nodes hi.0 values else function t.nodes lo.0 values))
       → OnErr r (after ≡ t) → AddsParts t.vars (cofactor_of (function t.nodes f) v b ∷ []) t.nodes after.nodes
@@ -98,7 +98,7 @@ module _ (t : Table) (table : IsTable t) (f : ℕ) (node : Node) (there : node_a
   pub fixed_join_full : lo ≢ hi → Lacks t.nodes (record { var = node.var; lo = lo; hi = hi }) → length t.nodes ≡ t.limit → after ≡ t
       → IsFullFor (cofactor_of (function t.nodes f) v b ∷ []) after
   fixed_join_full apart lacks limit refused =
-      let reduced : IsReduced t.vars after.nodes = subst (λ (u : Table). IsReduced t.vars u.nodes) (sym refused) table.reduced in
+      let reduced : IsReduced t.vars after.nodes = subst (λ (u : NodeTable). IsReduced t.vars u.nodes) (sym refused) table.reduced in
       full_one t after table reduced (record { var = node.var; lo = lo; hi = hi }) (cofactor_of (function t.nodes f) v b) joined_value
       (table.reduced.in_range f node there) lo_is.number hi_is.number
       (lo_stays_below t.vars t.nodes table.reduced f node there v b before lo.0 hi.0 lo_is hi_is)

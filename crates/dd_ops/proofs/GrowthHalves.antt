@@ -4,7 +4,7 @@ use Rattle.dd_nodes.specs.declared.node.Node.{Node}
 use Rattle.dd_nodes.specs.declared.node.Ref.{Ref}
 use Rattle.dd_nodes.specs.NodeList.{Values, function, IsReduced, Appends, Lacks}
 use Rattle.dd_nodes.specs.Subfunctions.{Function}
-use Rattle.dd_nodes.specs.Table.{Table, IsTable}
+use Rattle.dd_nodes.specs.Table.{NodeTable, IsNodeTable}
 use Rattle.dd_ops.specs.declared.question.Question.{Question}
 use Rattle.dd_ops.specs.Answers.{top_of, IsAsked, IsHalf, AreHalfAnswers, Keeps, IsFullFor, asked_of}
 use Rattle.dd_ops.specs.Growth.{IsPart, AddsParts}
@@ -16,18 +16,18 @@ use Rattle.dd_ops.proofs.QuestionLemmas.{joined}
 use Rattle.dd_ops.proofs.HalvesLemmas.{var_below, var_from, var_from_later}
 
 -- a question of the table t0, halved at its top: the answer to the first half leaves t1, that to the second leaves t2
-module _ (t0 : Table) (table0 : IsTable t0) (q : Question) (asked : IsAsked t0.nodes q) (tests : 1 < q.f.0) (var : ℕ) (top : var ≡ top_of t0.nodes q) where
+module _ (t0 : NodeTable) (table0 : IsNodeTable t0) (q : Question) (asked : IsAsked t0.nodes q) (tests : 1 < q.f.0) (var : ℕ) (top : var ≡ top_of t0.nodes q) where
   own : List Function
   own = asked_of t0.nodes q ∷ []
 
   -- what is full for a part is full for the question
-  full_from : (part : Function) → IsPart t0.vars own part → (t : Table) → t.vars ≡ t0.vars → IsFullFor (part ∷ []) t → IsFullFor own t
+  full_from : (part : Function) → IsPart t0.vars own part → (t : NodeTable) → t.vars ≡ t0.vars → IsFullFor (part ∷ []) t → IsFullFor own t
   full_from part is_part t same full = record {
     at_limit = full.at_limit;
     lacks = lacks_for_part t.vars own part (subst (λ v. IsPart v own part) (sym same) is_part) t.nodes full.lacks;
   }
 
-  module _ (p0 : Question) (half0 : IsHalf t0.nodes var false q p0) (t1 : Table) (kept1 : Keeps t0 t1)
+  module _ (p0 : Question) (half0 : IsHalf t0.nodes var false q p0) (t1 : NodeTable) (kept1 : Keeps t0 t1)
       (adds1 : AddsParts t0.vars (asked_of t0.nodes p0 ∷ []) t0.nodes t1.nodes) where
     lo_part : IsPart t0.vars own (asked_of t0.nodes p0)
     unfolding own
@@ -45,7 +45,7 @@ module _ (t0 : Table) (table0 : IsTable t0) (q : Question) (asked : IsAsked t0.n
     later : asked_of t1.nodes q ≡ asked_of t0.nodes q
     later = asked_kept t0.vars t0.nodes t1.nodes table0.reduced kept1.nodes q asked
 
-    module _ (p1 : Question) (half1 : IsHalf t1.nodes var true q p1) (t2 : Table) (kept2 : Keeps t1 t2)
+    module _ (p1 : Question) (half1 : IsHalf t1.nodes var true q p1) (t2 : NodeTable) (kept2 : Keeps t1 t2)
         (adds2 : AddsParts t1.vars (asked_of t1.nodes p1 ∷ []) t1.nodes t2.nodes) where
       adds2_vars : AddsParts t0.vars (asked_of t1.nodes p1 ∷ []) t1.nodes t2.nodes
       adds2_vars = subst (λ v. AddsParts v (asked_of t1.nodes p1 ∷ []) t1.nodes t2.nodes) kept1.vars adds2
@@ -68,17 +68,17 @@ module _ (t0 : Table) (table0 : IsTable t0) (q : Question) (asked : IsAsked t0.n
       latest = asked_kept t0.vars t0.nodes t2.nodes table0.reduced adds_hi.extends q asked
 
       -- the question is answered from there, and that leaves t3
-      pub adds_rest : (t3 : Table) → AddsParts t2.vars (asked_of t2.nodes q ∷ []) t2.nodes t3.nodes → AddsParts t0.vars (asked_of t0.nodes q ∷ []) t0.nodes t3.nodes
+      pub adds_rest : (t3 : NodeTable) → AddsParts t2.vars (asked_of t2.nodes q ∷ []) t2.nodes t3.nodes → AddsParts t0.vars (asked_of t0.nodes q ∷ []) t0.nodes t3.nodes
       unfolding own
       adds_rest t3 adds3 = adds_chain t0.vars own t0.nodes t2.nodes t3.nodes adds_hi
           (subst (λ g. AddsParts t0.vars (g ∷ []) t2.nodes t3.nodes) latest
           (subst (λ v. AddsParts v (asked_of t2.nodes q ∷ []) t2.nodes t3.nodes) (kept2.vars ∙ kept1.vars) adds3))
 
-      pub full_rest : (t3 : Table) → IsFullFor (asked_of t2.nodes q ∷ []) t3 → IsFullFor (asked_of t0.nodes q ∷ []) t3
+      pub full_rest : (t3 : NodeTable) → IsFullFor (asked_of t2.nodes q ∷ []) t3 → IsFullFor (asked_of t0.nodes q ∷ []) t3
       full_rest t3 full = subst (λ g. IsFullFor (g ∷ []) t3) latest full
 
 -- a node of the answers to the halves
-module _ (t : Table) (table : IsTable t) (q : Question) (var : ℕ) (lo hi : Ref) (halves : AreHalfAnswers t q var lo.0 hi.0) where
+module _ (t : NodeTable) (table : IsNodeTable t) (q : Question) (var : ℕ) (lo hi : Ref) (halves : AreHalfAnswers t q var lo.0 hi.0) where
   made : Node
   made = record { var = var; lo = lo; hi = hi }
 

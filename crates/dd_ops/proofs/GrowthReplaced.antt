@@ -5,7 +5,7 @@ use Rattle.dd_nodes.specs.declared.node.Node.{Node}
 use Rattle.dd_nodes.specs.declared.node.Ref.{Ref}
 use Rattle.dd_nodes.specs.NodeList.{Values, IsNumber, node_at, function}
 use Rattle.dd_nodes.specs.Subfunctions.{Function}
-use Rattle.dd_nodes.specs.Table.{Table, IsTable}
+use Rattle.dd_nodes.specs.Table.{NodeTable, IsNodeTable}
 use Rattle.dd_nodes.proofs.NodeLemmas.{node_place, function_node}
 use Rattle.dd_nodes.proofs.Extending.{extends_function}
 use Rattle.dd_ops.specs.Operations.{variable, listed, replaced, subst_of}
@@ -20,12 +20,12 @@ unlisted_pieces map v none = ap (λ (o : Option Ref). if is_some o then [] else 
 
 module _ (map : List (ℕ × Ref)) where
   -- the pieces of the substitution in a number of a table
-  abbrev pub pieces_in : Table → ℕ → List Function
+  abbrev pub pieces_in : NodeTable → ℕ → List Function
   pieces_in t n = pieces_of_subst t.vars t.nodes map n
 
-  module _ (t0 : Table) (table0 : IsTable t0) (numbers : AreNumbers t0.nodes map) where
+  module _ (t0 : NodeTable) (table0 : IsNodeTable t0) (numbers : AreNumbers t0.nodes map) where
     -- a table that keeps the nodes has the same pieces
-    pub pieces_later : (t1 : Table) → Keeps t0 t1 → (n : ℕ) → IsNumber t0.nodes n → pieces_in t1 n ≡ pieces_in t0 n
+    pub pieces_later : (t1 : NodeTable) → Keeps t0 t1 → (n : ℕ) → IsNumber t0.nodes n → pieces_in t1 n ≡ pieces_in t0 n
     pieces_later t1 kept n number =
         ap (λ v. pieces_of_subst v t1.nodes map n) kept.vars
         ∙ pieces_kept t0.vars t0.nodes t1.nodes table0.reduced kept.nodes map numbers n number
@@ -38,7 +38,7 @@ module _ (map : List (ℕ × Ref)) where
           let lower : node.hi.0 < f = table0.reduced.hi_before f node there in
           omega arith
 
-      module _ (t1 : Table) (kept1 : Keeps t0 t1) where
+      module _ (t1 : NodeTable) (kept1 : Keeps t0 t1) where
         pub replaced_lo_adds : AddsParts t0.vars (pieces_of_subst t0.vars t0.nodes map node.lo.0) t0.nodes t1.nodes → AddsParts t0.vars (pieces_of_subst t0.vars t0.nodes map f) t0.nodes t1.nodes
         replaced_lo_adds adds = adds_first (pieces_in t0 f) (pieces_in t0 node.lo.0) t0 t1 (lo_parts t0.vars t0.nodes table0.reduced map f node there) adds
 
@@ -48,7 +48,7 @@ module _ (map : List (ℕ × Ref)) where
         hi_parts_later : AreParts t0.vars (pieces_in t0 f) (pieces_in t1 node.hi.0)
         hi_parts_later = subst (AreParts t0.vars (pieces_in t0 f)) (sym (pieces_later t1 kept1 node.hi.0 hi_number)) (hi_parts t0.vars t0.nodes table0.reduced map f node there)
 
-        module _ (adds1 : AddsParts t0.vars (pieces_of_subst t0.vars t0.nodes map node.lo.0) t0.nodes t1.nodes) (t2 : Table) (kept2 : Keeps t1 t2) where
+        module _ (adds1 : AddsParts t0.vars (pieces_of_subst t0.vars t0.nodes map node.lo.0) t0.nodes t1.nodes) (t2 : NodeTable) (kept2 : Keeps t1 t2) where
           pub replaced_hi_adds : AddsParts t1.vars (pieces_of_subst t1.vars t1.nodes map node.hi.0) t1.nodes t2.nodes → AddsParts t0.vars (pieces_of_subst t0.vars t0.nodes map f) t0.nodes t2.nodes
           replaced_hi_adds adds = adds_then (pieces_in t0 f) (pieces_in t1 node.hi.0) t0 t1 t2 (replaced_lo_adds adds1) kept1.vars hi_parts_later adds
 
@@ -63,10 +63,10 @@ module _ (map : List (ℕ × Ref)) where
             same_parts : AreParts t0.vars (pieces_in t0 f) (pieces_in t2 f)
             same_parts = subst (AreParts t0.vars (pieces_in t0 f)) (sym (pieces_later t2 kept f (node_place t0.nodes f node there).1)) (own_parts t0.vars (pieces_in t0 f))
 
-            pub replaced_rest_adds : (t3 : Table) → AddsParts t2.vars (pieces_of_subst t2.vars t2.nodes map f) t2.nodes t3.nodes → AddsParts t0.vars (pieces_of_subst t0.vars t0.nodes map f) t0.nodes t3.nodes
+            pub replaced_rest_adds : (t3 : NodeTable) → AddsParts t2.vars (pieces_of_subst t2.vars t2.nodes map f) t2.nodes t3.nodes → AddsParts t0.vars (pieces_of_subst t0.vars t0.nodes map f) t0.nodes t3.nodes
             replaced_rest_adds t3 adds = adds_then (pieces_in t0 f) (pieces_in t2 f) t0 t2 t3 (replaced_hi_adds adds2) (kept2.vars ∙ kept1.vars) same_parts adds
 
-            pub replaced_rest_full : (t3 : Table) → t3.vars ≡ t2.vars → IsFullFor (pieces_of_subst t2.vars t2.nodes map f) t3 → IsFullFor (pieces_of_subst t0.vars t0.nodes map f) t3
+            pub replaced_rest_full : (t3 : NodeTable) → t3.vars ≡ t2.vars → IsFullFor (pieces_of_subst t2.vars t2.nodes map f) t3 → IsFullFor (pieces_of_subst t0.vars t0.nodes map f) t3
             replaced_rest_full t3 same full = full_parts (pieces_in t0 f) (pieces_in t2 f) t0 t3 (same ∙ kept2.vars ∙ kept1.vars) same_parts full
 
       -- the function that replaces the node's variable is made first, and that leaves t1; then the question on it and the
@@ -78,7 +78,7 @@ module _ (map : List (ℕ × Ref)) where
           by true is_listed = All-nil (λ part. IsPart t0.vars (pieces_in t0 f) part)
           by false unlisted = one_part t0.vars (pieces_in t0 f) (variable node.var) (variable_part t0.vars t0.nodes table0.reduced map f node there unlisted)
 
-      module _ (t1 : Table) (kept1 : Keeps t0 t1) where
+      module _ (t1 : NodeTable) (kept1 : Keeps t0 t1) where
         pub variable_adds : AddsParts t0.vars (pieces_of_variable map node.var) t0.nodes t1.nodes → AddsParts t0.vars (pieces_of_subst t0.vars t0.nodes map f) t0.nodes t1.nodes
         variable_adds adds = adds_first (pieces_in t0 f) (pieces_of_variable map node.var) t0 t1 variable_parts adds
 
@@ -99,9 +99,9 @@ module _ (map : List (ℕ × Ref)) where
           answer_parts = subst (λ g. AreParts t0.vars (pieces_in t0 f) (g ∷ [])) (sym asks_result)
               (one_part t0.vars (pieces_in t0 f) (subst_of t0.nodes map (function t0.nodes f)) (result_part t0.vars t0.nodes table0.reduced map f))
 
-          pub replaced_answer_adds : AddsParts t0.vars (pieces_of_variable map node.var) t0.nodes t1.nodes → (t2 : Table)
+          pub replaced_answer_adds : AddsParts t0.vars (pieces_of_variable map node.var) t0.nodes t1.nodes → (t2 : NodeTable)
               → AddsParts t1.vars (asked_of t1.nodes (record { f = test; g = hi; h = lo }) ∷ []) t1.nodes t2.nodes → AddsParts t0.vars (pieces_of_subst t0.vars t0.nodes map f) t0.nodes t2.nodes
           replaced_answer_adds adds1 t2 adds2 = adds_then (pieces_in t0 f) (asked_of t1.nodes (record { f = test; g = hi; h = lo }) ∷ []) t0 t1 t2 (variable_adds adds1) kept1.vars answer_parts adds2
 
-          pub replaced_answer_full : (t2 : Table) → t2.vars ≡ t1.vars → IsFullFor (asked_of t1.nodes (record { f = test; g = hi; h = lo }) ∷ []) t2 → IsFullFor (pieces_of_subst t0.vars t0.nodes map f) t2
+          pub replaced_answer_full : (t2 : NodeTable) → t2.vars ≡ t1.vars → IsFullFor (asked_of t1.nodes (record { f = test; g = hi; h = lo }) ∷ []) t2 → IsFullFor (pieces_of_subst t0.vars t0.nodes map f) t2
           replaced_answer_full t2 same full = full_parts (pieces_in t0 f) (asked_of t1.nodes (record { f = test; g = hi; h = lo }) ∷ []) t0 t2 (same ∙ kept1.vars) answer_parts full

@@ -4,7 +4,7 @@ use Rattle.dd_nodes.specs.declared.node.Node.{Node}
 use Rattle.dd_nodes.specs.declared.node.Ref.{Ref}
 use Rattle.dd_nodes.specs.NodeList.{Values, IsNumber, function, StandsBelow, StandsFrom, IsReduced, Extends}
 use Rattle.dd_nodes.specs.Subfunctions.{Function}
-use Rattle.dd_nodes.specs.Table.{Table, IsTable}
+use Rattle.dd_nodes.specs.Table.{NodeTable, IsNodeTable}
 use Rattle.dd_nodes.proofs.Extending.{extends_number, extends_function, extends_below, extends_more}
 use Rattle.dd_ops.specs.declared.question.Question.{Question}
 use Rattle.dd_ops.specs.Operations.{ite_of, cofactor_of}
@@ -12,7 +12,7 @@ use Rattle.dd_ops.specs.Answers.{top_of, IsAsked, AsksFrom, IsAnswer, IsHalf, Ar
 use Rattle.dd_ops.proofs.QuestionLemmas.{joined, asks_from_top, top_greatest, half_from, top_in_range, asks_from_small, asked_extends, asks_from_extends, asks_from_back, asked_function, answer_extends, half_value, half_below}
 
 -- a table is kept by a call that changes nothing, and by two calls in turn
-pub keeps_more : (a b c : Table) → Keeps a b → Keeps b c → Keeps a c
+pub keeps_more : (a b c : NodeTable) → Keeps a b → Keeps b c → Keeps a c
 keeps_more a b c first second = record {
   vars = second.vars ∙ first.vars;
   limit = second.limit ∙ first.limit;
@@ -24,22 +24,22 @@ pub remembers_extends : (before after : List Node) → Extends before after → 
 remembers_extends before after extends vars reduced entries remembers i q r at = answer_extends before after extends vars reduced q r.0 (remembers i q r at)
 
 -- a question is halved at its top: the first half is answered over the table t0 and leaves t1, the second over t1 and leaves t2
-pub record AreHalves (t0 t1 t2 : Table) (q p0 p1 : Question) (var lo hi : ℕ) : Type 0 where
-  pub table0 : IsTable t0
+pub record AreHalves (t0 t1 t2 : NodeTable) (q p0 p1 : Question) (var lo hi : ℕ) : Type 0 where
+  pub table0 : IsNodeTable t0
   pub asked : IsAsked t0.nodes q
   pub tests : 1 < q.f.0
   pub top : var ≡ top_of t0.nodes q
   pub half0 : IsHalf t0.nodes var false q p0
   pub kept1 : Keeps t0 t1
-  pub table1 : IsTable t1
+  pub table1 : IsNodeTable t1
   pub answer0 : IsAnswer t1.nodes p0 lo
   pub half1 : IsHalf t1.nodes var true q p1
   pub kept2 : Keeps t1 t2
-  pub table2 : IsTable t2
+  pub table2 : IsNodeTable t2
   pub answer1 : IsAnswer t2.nodes p1 hi
 
 -- the top of a question that tests a node
-module _ (t : Table) (table : IsTable t) (q : Question) (asked : IsAsked t.nodes q) (tests : 1 < q.f.0) (var : ℕ) (top : var ≡ top_of t.nodes q) where
+module _ (t : NodeTable) (table : IsNodeTable t) (q : Question) (asked : IsAsked t.nodes q) (tests : 1 < q.f.0) (var : ℕ) (top : var ≡ top_of t.nodes q) where
   pub var_below : var < t.vars
   var_below = let below : top_of t.nodes q < t.vars = top_in_range t.nodes t.vars table.reduced q asked tests in omega arith
 
@@ -47,20 +47,20 @@ module _ (t : Table) (table : IsTable t) (q : Question) (asked : IsAsked t.nodes
   var_from = subst (λ v. AsksFrom t.nodes v q) (sym top) (asks_from_top t.nodes q)
 
   -- a half has a greater top, in any later table too
-  pub half_smaller : (later : Table) → IsTable later → later.vars ≡ t.vars → (b : Bool) (p : Question) → IsHalf later.nodes var b q p → 256 - top_of later.nodes p < 256 - top_of t.nodes q
+  pub half_smaller : (later : NodeTable) → IsNodeTable later → later.vars ≡ t.vars → (b : Bool) (p : Question) → IsHalf later.nodes var b q p → 256 - top_of later.nodes p < 256 - top_of t.nodes q
   half_smaller later is same b p half =
       let below : var < t.vars = var_below in
       let few : t.vars ≤ 256 = table.few_vars in
       let greater : var + 1 ≤ top_of later.nodes p = top_greatest later.nodes (var + 1) p (omega arith) (half_from later.nodes var b q p half) in
       omega arith
 
-  pub asked_later : (later : Table) → Keeps t later → IsAsked later.nodes q
+  pub asked_later : (later : NodeTable) → Keeps t later → IsAsked later.nodes q
   asked_later later kept = asked_extends t.nodes later.nodes kept.nodes q asked
 
-  pub var_from_later : (later : Table) → Keeps t later → AsksFrom later.nodes var q
+  pub var_from_later : (later : NodeTable) → Keeps t later → AsksFrom later.nodes var q
   var_from_later later kept = asks_from_extends t.nodes later.nodes kept.nodes var q asked var_from
 
-module _ (t0 t1 t2 : Table) (q p0 p1 : Question) (var lo hi : ℕ) (halves : AreHalves t0 t1 t2 q p0 p1 var lo hi) where
+module _ (t0 t1 t2 : NodeTable) (q p0 p1 : Question) (var lo hi : ℕ) (halves : AreHalves t0 t1 t2 q p0 p1 var lo hi) where
   pub halves_kept : Keeps t0 t2
   halves_kept = keeps_more t0 t1 t2 halves.kept1 halves.kept2
 
@@ -120,7 +120,7 @@ module _ (t0 t1 t2 : Table) (q p0 p1 : Question) (var lo hi : ℕ) (halves : Are
   }
 
 -- a node of the answers to the halves answers the question
-module _ (t : Table) (table : IsTable t) (q : Question) (asked : IsAsked t.nodes q) (var lo hi : ℕ) (halves : AreHalfAnswers t q var lo hi) where
+module _ (t : NodeTable) (table : IsNodeTable t) (q : Question) (asked : IsAsked t.nodes q) (var lo hi : ℕ) (halves : AreHalfAnswers t q var lo hi) where
   pub joined_answer : (after : List Node) (r : ℕ) → Extends t.nodes after
       → ((values : Values) → function after r values ≡ (if values var then function t.nodes hi values else function t.nodes lo values))
       → IsNumber after r → StandsFrom after var r → IsAnswer after q r

@@ -6,7 +6,7 @@ use Rattle.dd_nodes.specs.declared.node.Node.{Node}
 use Rattle.dd_nodes.specs.declared.node.Ref.{Ref}
 use Rattle.dd_nodes.specs.NodeList.{Values, IsNumber, node_at, function, StandsBelow, StandsFrom, IsReduced, Extends, Appends, Lacks}
 use Rattle.dd_nodes.specs.Subfunctions.{Function}
-use Rattle.dd_nodes.specs.Table.{Table, IsTable}
+use Rattle.dd_nodes.specs.Table.{NodeTable, IsNodeTable}
 use Rattle.dd_nodes.proofs.NodeLemmas.{function_node, function_false, function_true, node_place}
 use Rattle.dd_nodes.proofs.Extending.{extends_number}
 use Rattle.dd_nodes.proofs.Dependence.{depends_function}
@@ -28,7 +28,7 @@ indexed_extends before after extends vars reduced map by_var indexed = record {
       indexed.stay v above small values ∙ ap (λ (w : Values). w v) (sym (replaced_extends before after extends vars reduced map indexed.numbers values));
 }
 
-module _ (t : Table) (table : IsTable t) (map : List (ℕ × Ref)) where
+module _ (t : NodeTable) (table : IsNodeTable t) (map : List (ℕ × Ref)) where
   -- a number that stands from a variable on, from which on the variables stay, is its own answer
   pub stays_own : (end : ℕ) → StayFrom t.nodes map end → (f : ℕ) → IsNumber t.nodes f → StandsFrom t.nodes end f → IsReplaced t.nodes map f f
   stays_own end stay f number from =
@@ -78,7 +78,7 @@ module _ (t : Table) (table : IsTable t) (map : List (ℕ × Ref)) where
           subst (λ (c : Ref). AreParts t.vars (pieces_of_subst t.vars t.nodes map f) (pieces_of_subst t.vars t.nodes map c.0)) (sym is.1) (hi_parts t.vars t.nodes table.reduced map f node there))
           follows
 
-      module _ (after : Table) (kept : Keeps t after) where
+      module _ (after : NodeTable) (kept : Keeps t after) where
         pub followed_answer : (r : ℕ) → IsReplaced after.nodes map child.0 r → IsReplaced after.nodes map f r
         followed_answer r answer = record {
           asked = extends_number t.nodes after.nodes kept.nodes f place;
@@ -118,8 +118,8 @@ module _ (t : Table) (table : IsTable t) (map : List (ℕ × Ref)) where
       result_parts : AreParts t.vars (pieces_of_subst t.vars t.nodes map f) (subst_of t.nodes map (function t.nodes f) ∷ [])
       result_parts = one_part t.vars (pieces_of_subst t.vars t.nodes map f) (subst_of t.nodes map (function t.nodes f)) (result_part t.vars t.nodes table.reduced map f)
 
-      module _ (after : Table) where
-        pub joined_adds : IsTable after → after.vars ≡ t.vars → (r : Result Ref DdErr)
+      module _ (after : NodeTable) where
+        pub joined_adds : IsNodeTable after → after.vars ≡ t.vars → (r : Result Ref DdErr)
             → IfOk r (λ g. (after.nodes ≡ t.nodes) ⊎ Appends t.nodes (record { var = var; lo = lo; hi = hi }) g.0 after.nodes)
             → IfOk r (λ g. (values : Values) → function after.nodes g.0 values ≡ (if values var then function t.nodes hi.0 values else function t.nodes lo.0 values))
             → OnErr r (after ≡ t) → AddsParts t.vars (pieces_of_subst t.vars t.nodes map f) t.nodes after.nodes
@@ -131,7 +131,7 @@ module _ (t : Table) (table : IsTable t) (map : List (ℕ × Ref)) where
             → lo ≢ hi → Lacks t.nodes (record { var = var; lo = lo; hi = hi }) → length t.nodes ≡ t.limit → after ≡ t
             → IsFullFor (pieces_of_subst t.vars t.nodes map f) after
         joined_full in_range lo_below hi_below apart lacks limit refused =
-            let reduced : IsReduced t.vars after.nodes = subst (λ (u : Table). IsReduced t.vars u.nodes) (sym refused) table.reduced in
-            full_parts (pieces_of_subst t.vars t.nodes map f) (subst_of t.nodes map (function t.nodes f) ∷ []) t after (ap (λ (u : Table). u.vars) refused) result_parts
+            let reduced : IsReduced t.vars after.nodes = subst (λ (u : NodeTable). IsReduced t.vars u.nodes) (sym refused) table.reduced in
+            full_parts (pieces_of_subst t.vars t.nodes map f) (subst_of t.nodes map (function t.nodes f) ∷ []) t after (ap (λ (u : NodeTable). u.vars) refused) result_parts
             (full_one t after table reduced (record { var = var; lo = lo; hi = hi }) (subst_of t.nodes map (function t.nodes f)) made_value
             in_range lo_is.number hi_is.number lo_below hi_below apart lacks limit refused)

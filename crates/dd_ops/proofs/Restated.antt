@@ -7,7 +7,7 @@ use Rattle.dd_nodes.specs.NodeList.{IsNumber, node_at, function, StandsFrom, IsR
 use Rattle.dd_nodes.proofs.NodeLemmas.{cases_Option, node_at_constant, function_false, function_true}
 use Rattle.dd_nodes.proofs.Extending.{extends_number, extends_function, extends_from, extends_below, extends_from_back}
 use Rattle.dd_ops.specs.declared.question.Question.{Question}
-use Rattle.dd_nodes.specs.Table.{Table, IsTable}
+use Rattle.dd_nodes.specs.Table.{NodeTable, IsNodeTable}
 use Rattle.dd_ops.specs.Operations.{cofactor_of}
 use Rattle.dd_ops.proofs.QuestionLemmas.{asks_from_top, top_greatest}
 use Rattle.dd_ops.specs.Answers.{level_at, level_of, top_of, IsAnswer, IsAsked, IsBranch, IsHalf, IsRestated}
@@ -126,7 +126,7 @@ module _ (before after : List Node) (extends : Extends before after) (vars : ℕ
   }
 
 -- a question that is restated has no lesser top
-module _ (t : Table) (table : IsTable t) where
+module _ (t : NodeTable) (table : IsNodeTable t) where
   level_small : (n : ℕ) → level_of t.nodes n ≤ 256
   level_small n = ⊎_elim
       (λ (none : node_at t.nodes n ≡ None).

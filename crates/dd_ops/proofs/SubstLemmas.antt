@@ -11,7 +11,7 @@ use Rattle.std.proofs.Math.Seq.{drop-length}
 use Rattle.dd_nodes.specs.declared.node.Node.{Node}
 use Rattle.dd_nodes.specs.declared.node.Ref.{Ref}
 use Rattle.dd_nodes.specs.NodeList.{Values, IsNumber, node_at, function, IsReduced, Extends}
-use Rattle.dd_nodes.specs.Table.{Table, IsTable}
+use Rattle.dd_nodes.specs.Table.{NodeTable, IsNodeTable}
 use Rattle.dd_nodes.proofs.NodeLemmas.{cases_Option, function_node, function_without_node, node_place}
 use Rattle.dd_nodes.proofs.Extending.{extends_number, extends_node, extends_function, extends_more}
 use Rattle.dd_ops.specs.Operations.{subst_of, listed, replaced}
@@ -139,7 +139,7 @@ module _ (vars : ℕ) (nodes : List Node) (reduced : IsReduced vars nodes) (map 
   }
 
 -- the same where the table has grown twice since the children's numbers came: by the replacement, and by the answer
-module _ (t0 t1 t2 : Table) (table0 : IsTable t0) (table1 : IsTable t1) (table2 : IsTable t2) (first : Keeps t0 t1) (second : Keeps t1 t2)
+module _ (t0 t1 t2 : NodeTable) (table0 : IsNodeTable t0) (table1 : IsNodeTable t1) (table2 : IsNodeTable t2) (first : Keeps t0 t1) (second : Keeps t1 t2)
     (map : List (ℕ × Ref)) (numbers : AreNumbers t0.nodes map) (f : ℕ) (node : Node) (there : node_at t0.nodes f ≡ Some node)
     (lo hi : Ref) (lo_is : IsReplaced t0.nodes map node.lo.0 lo.0) (hi_is : IsReplaced t0.nodes map node.hi.0 hi.0)
     (test : Ref) (number : IsNumber t1.nodes test.0) (test_is : (values : Values) → function t1.nodes test.0 values ≡ replaced t0.nodes map values node.var) where
@@ -157,7 +157,7 @@ module _ (t0 t1 t2 : Table) (table0 : IsTable t0) (table1 : IsTable t1) (table2 
       r answer
 
 -- a memo's numbers stay right through the calls for a node
-module _ (t0 t1 t2 t3 : Table) (table0 : IsTable t0) (table1 : IsTable t1) (table2 : IsTable t2) (first : Keeps t0 t1) (second : Keeps t1 t2) (third : Keeps t2 t3)
+module _ (t0 t1 t2 t3 : NodeTable) (table0 : IsNodeTable t0) (table1 : IsNodeTable t1) (table2 : IsNodeTable t2) (first : Keeps t0 t1) (second : Keeps t1 t2) (third : Keeps t2 t3)
     (map : List (ℕ × Ref)) (numbers : AreNumbers t0.nodes map) where
   pub memo_later : (entries : List (Ref × Ref)) → RemembersReplaced t2.nodes map entries → RemembersReplaced t3.nodes map entries
   memo_later entries remembers =

@@ -6,7 +6,7 @@ use Rattle.dd_nodes.specs.declared.node.DdErr.{DdErr}
 use Rattle.dd_nodes.specs.NodeList.{Values, function, IsNumber, Extends}
 use Rattle.dd_ops.specs.Calls.{Answers}
 use Rattle.dd_ops.specs.Growth.{Grows}
-use Rattle.dd_nodes.specs.Table.{Table, IsTable}
+use Rattle.dd_nodes.specs.Table.{NodeTable, IsNodeTable}
 use Rattle.dd_nodes.proofs.Extending.{extends_function, extends_more}
 use Rattle.dd_ops.specs.declared.question.Question.{Question}
 use Rattle.dd_ops.specs.Answers.{AreNumbers, IsAsked, IsAnswer, IsCofactor, IsReplaced, Keeps}
@@ -72,24 +72,24 @@ ok_both (Ok x) p q follows = follows x p q
 ok_both (Err y) p q follows = tt
 
 -- a table that a value shows, and what a call leaves of it
-module _ (inside now after : Table) (is : inside ≡ now) (table : IsTable inside) (kept : Keeps inside after) where
+module _ (inside now after : NodeTable) (is : inside ≡ now) (table : IsNodeTable inside) (kept : Keeps inside after) where
   pub earlier_function : (n : ℕ) → IsNumber now.nodes n → function after.nodes n ≡ function now.nodes n
   earlier_function n number =
-      extends_function inside.nodes after.nodes kept.nodes inside.vars table.reduced n (subst (λ (t : Table). IsNumber t.nodes n) (sym is) number)
-      ∙ ap (λ (t : Table). function t.nodes n) is
+      extends_function inside.nodes after.nodes kept.nodes inside.vars table.reduced n (subst (λ (t : NodeTable). IsNumber t.nodes n) (sym is) number)
+      ∙ ap (λ (t : NodeTable). function t.nodes n) is
 
   pub longer : length now.nodes ≤ length after.nodes
   longer =
       let grown : length after.nodes ≡ length inside.nodes + length kept.nodes.more = ap length kept.nodes.appended ∙ length-append inside.nodes kept.nodes.more in
-      let same : length inside.nodes ≡ length now.nodes = ap (λ (t : Table). length t.nodes) is in
+      let same : length inside.nodes ≡ length now.nodes = ap (λ (t : NodeTable). length t.nodes) is in
       omega arith
 
   pub answer_function : (q : Question) → IsAsked now.nodes q → (r : ℕ) → IsAnswer after.nodes q r
       → function after.nodes r ≡ ite_of (function now.nodes q.f.0) (function now.nodes q.g.0) (function now.nodes q.h.0)
   answer_function q asked r answer =
       answer.value
-      ∙ asked_function inside.nodes after.nodes kept.nodes inside.vars table.reduced q (subst (λ (t : Table). IsAsked t.nodes q) (sym is) asked)
-      ∙ ap (λ (t : Table). ite_of (function t.nodes q.f.0) (function t.nodes q.g.0) (function t.nodes q.h.0)) is
+      ∙ asked_function inside.nodes after.nodes kept.nodes inside.vars table.reduced q (subst (λ (t : NodeTable). IsAsked t.nodes q) (sym is) asked)
+      ∙ ap (λ (t : NodeTable). ite_of (function t.nodes q.f.0) (function t.nodes q.g.0) (function t.nodes q.h.0)) is
 
   pub cofactor_function : (f v : ℕ) (b : Bool) → IsNumber now.nodes f → (r : ℕ) → IsCofactor after.nodes v b f r → function after.nodes r ≡ cofactor_of (function now.nodes f) v b
   cofactor_function f v b number r answer = answer.value ∙ ap (λ g. cofactor_of g v b) (earlier_function f number)
@@ -98,24 +98,24 @@ module _ (inside now after : Table) (is : inside ≡ now) (table : IsTable insid
       → function after.nodes r ≡ subst_of now.nodes map (function now.nodes f)
   subst_function map numbers f number r answer =
       answer.value
-      ∙ subst_extends inside.nodes after.nodes kept.nodes inside.vars table.reduced map (subst (λ (t : Table). AreNumbers t.nodes map) (sym is) numbers) f (subst (λ (t : Table). IsNumber t.nodes f) (sym is) number)
-      ∙ ap (λ (t : Table). subst_of t.nodes map (function t.nodes f)) is
+      ∙ subst_extends inside.nodes after.nodes kept.nodes inside.vars table.reduced map (subst (λ (t : NodeTable). AreNumbers t.nodes map) (sym is) numbers) f (subst (λ (t : NodeTable). IsNumber t.nodes f) (sym is) number)
+      ∙ ap (λ (t : NodeTable). subst_of t.nodes map (function t.nodes f)) is
 
   -- a call that keeps the nodes answers what its number denotes
-  pub answers : IsTable after → (wanted : Function) (r : Result Ref DdErr) → IfOk r (λ (k : Ref). function after.nodes k.0 ≡ wanted) → IfOk r (λ (k : Ref). IsNumber after.nodes k.0) → Answers wanted now after r
+  pub answers : IsNodeTable after → (wanted : Function) (r : Result Ref DdErr) → IfOk r (λ (k : Ref). function after.nodes k.0 ≡ wanted) → IfOk r (λ (k : Ref). IsNumber after.nodes k.0) → Answers wanted now after r
   answers later wanted r value number = record {
     value = value;
     in_table = number;
     table = later;
-    vars = kept.vars ∙ ap (λ (t : Table). t.vars) is;
-    limit = kept.limit ∙ ap (λ (t : Table). t.limit) is;
-    nodes = subst (λ (t : Table). Extends t.nodes after.nodes) is kept.nodes;
+    vars = kept.vars ∙ ap (λ (t : NodeTable). t.vars) is;
+    limit = kept.limit ∙ ap (λ (t : NodeTable). t.limit) is;
+    nodes = subst (λ (t : NodeTable). Extends t.nodes after.nodes) is kept.nodes;
     longer = longer;
     earlier = earlier_function;
   }
 
 -- the operations that are one if-then-else with constants
-module _ (before after : Table) (r : Result Ref DdErr) where
+module _ (before after : NodeTable) (r : Result Ref DdErr) where
   pub answers_not : (f : Function) → Answers (ite_of f (function before.nodes 0) (function before.nodes 1)) before after r → Answers (not_of f) before after r
   answers_not f answer = subst (λ (w : Function). Answers w before after r) (ite_not before.nodes f) answer
 
@@ -141,7 +141,7 @@ module _ (before after : Table) (r : Result Ref DdErr) where
   grows_minus f g growth = subst (λ (w : Function). Grows (w ∷ []) before after r) (ite_minus before.nodes f g) growth
 
 -- what an if-then-else answers after another call, it answers of the table before both
-module _ (t0 t1 t2 : Table) (other : Function) (r0 r : Result Ref DdErr) (first : Answers other t0 t1 r0) where
+module _ (t0 t1 t2 : NodeTable) (other : Function) (r0 r : Result Ref DdErr) (first : Answers other t0 t1 r0) where
   pub ite_later : (f g h : ℕ) → IsNumber t0.nodes f → IsNumber t0.nodes g → IsNumber t0.nodes h
       → Answers (ite_of (function t1.nodes f) (function t1.nodes g) (function t1.nodes h)) t1 t2 r → Answers (ite_of (function t0.nodes f) (function t0.nodes g) (function t0.nodes h)) t0 t2 r
   ite_later f g h is_f is_g is_h second =

@@ -1,11 +1,13 @@
 -- Private: what the steps within a call answer.
-use Rattle.std.specs.Prelude.{◌≡◌, ℕ, ◌<◌, ◌≤◌, min, Bool, true, false, List, [], ◌∷◌, length, Option, Some, ◌⊎◌, is_some, slice_get, if◌then◌else◌}
+use Rattle.std.specs.Prelude.{◌≡◌, ℕ, ◌<◌, ◌≤◌, min, Bool, true, false, List, [], ◌∷◌, length}
+use Rattle.std.specs.Prelude.{Option, Some, ◌⊎◌, is_some, slice_get, if◌then◌else◌}
 use Rattle.std.specs.Option.{option_map_or}
 use Rattle.dd_nodes.specs.declared.node.Node.{Node}
 use Rattle.dd_nodes.specs.declared.node.Ref.{Ref}
-use Rattle.dd_nodes.specs.NodeList.{Values, IsNumber, node_at, function, StandsBelow, StandsFrom, Extends}
+use Rattle.dd_nodes.specs.NodeList.{Values, IsNumber, node_at, function, StandsBelow, StandsFrom}
+use Rattle.dd_nodes.specs.NodeList.{Extends}
 use Rattle.dd_nodes.specs.Subfunctions.{Function}
-use Rattle.dd_nodes.specs.Table.{Table}
+use Rattle.dd_nodes.specs.Table.{NodeTable}
 use Rattle.dd_ops.specs.declared.question.Question.{Question}
 use Rattle.dd_ops.specs.declared.question.Settled.{Settled}
 use Rattle.dd_ops.specs.declared.question.Settled.TheVariants.{Known, Open}
@@ -13,7 +15,7 @@ use Rattle.dd_ops.specs.Growth.{LacksPart}
 use Rattle.dd_ops.specs.Operations.{variable, ite_of, cofactor_of, listed, replaced, subst_of}
 
 -- a step leaves the variables, the limit and each earlier node as they were
-pub record Keeps (before after : Table) : Type 0 where
+pub record Keeps (before after : NodeTable) : Type 0 where
   pub vars : after.vars ≡ before.vars
   pub limit : after.limit ≡ before.limit
   pub nodes : Extends before.nodes after.nodes
@@ -46,17 +48,20 @@ pub record AsksFrom (nodes : List Node) (v : ℕ) (q : Question) : Type 0 where
   pub g : StandsFrom nodes v q.g.0
   pub h : StandsFrom nodes v q.h.0
 
--- r answers the question: it is g where f is true and h where it is false, and stands as deep as they do
+-- r answers the question: it is g where f is true and h where it is false, and stands as deep as
+-- they do
 pub record IsAnswer (nodes : List Node) (q : Question) (r : ℕ) : Type 0 where
   pub asked : IsAsked nodes q
   pub number : IsNumber nodes r
-  pub value : function nodes r ≡ ite_of (function nodes q.f.0) (function nodes q.g.0) (function nodes q.h.0)
+  pub value : function nodes r
+      ≡ ite_of (function nodes q.f.0) (function nodes q.g.0) (function nodes q.h.0)
   pub from : (v : ℕ) → AsksFrom nodes v q → StandsFrom nodes v r
 
 -- p asks for the same function as q, and looks at no lesser variable
 pub record IsRestated (nodes : List Node) (q p : Question) : Type 0 where
   pub asked : IsAsked nodes p
-  pub value : ite_of (function nodes p.f.0) (function nodes p.g.0) (function nodes p.h.0) ≡ ite_of (function nodes q.f.0) (function nodes q.g.0) (function nodes q.h.0)
+  pub value : ite_of (function nodes p.f.0) (function nodes p.g.0) (function nodes p.h.0)
+      ≡ ite_of (function nodes q.f.0) (function nodes q.g.0) (function nodes q.h.0)
   pub from : (v : ℕ) → AsksFrom nodes v q → AsksFrom nodes v p
 
 -- a question is settled: its answer is known, or it is restated as one that tests a node
@@ -77,20 +82,26 @@ pub record IsHalf (nodes : List Node) (v : ℕ) (b : Bool) (q p : Question) : Ty
   pub g : IsBranch nodes v b q.g.0 p.g.0
   pub h : IsBranch nodes v b q.h.0 p.h.0
 
--- lo and hi answer the halves of a question at v, the least variable that it looks at, and stand below v
-pub record AreHalfAnswers (table : Table) (q : Question) (v lo hi : ℕ) : Type 0 where
+-- lo and hi answer the halves of a question at v, the least variable that it looks at, and stand
+-- below v
+pub record AreHalfAnswers (table : NodeTable) (q : Question) (v lo hi : ℕ) : Type 0 where
   pub in_range : v < table.vars
   pub least : (w : ℕ) → AsksFrom table.nodes w q → w ≤ v
   pub lo_number : IsNumber table.nodes lo
   pub hi_number : IsNumber table.nodes hi
   pub lo_below : StandsBelow table.nodes v lo
   pub hi_below : StandsBelow table.nodes v hi
-  pub lo_value : function table.nodes lo ≡ cofactor_of (ite_of (function table.nodes q.f.0) (function table.nodes q.g.0) (function table.nodes q.h.0)) v false
-  pub hi_value : function table.nodes hi ≡ cofactor_of (ite_of (function table.nodes q.f.0) (function table.nodes q.g.0) (function table.nodes q.h.0)) v true
+  pub lo_value : function table.nodes lo
+      ≡ cofactor_of (ite_of (function table.nodes q.f.0) (function table.nodes q.g.0)
+      (function table.nodes q.h.0)) v false
+  pub hi_value : function table.nodes hi
+      ≡ cofactor_of (ite_of (function table.nodes q.f.0) (function table.nodes q.g.0)
+      (function table.nodes q.h.0)) v true
 
 -- each entry of a memo is an answer
 abbrev pub Remembers : List Node → List (Question × Ref) → Type 0
-Remembers nodes entries = (i : ℕ) (q : Question) (r : Ref) → slice_get entries i ≡ Some (q, r) → IsAnswer nodes q r.0
+Remembers nodes entries =
+    (i : ℕ) (q : Question) (r : Ref) → slice_get entries i ≡ Some (q, r) → IsAnswer nodes q r.0
 
 -- r has the function of f with variable v fixed at b, and stands as deep as f does
 pub record IsCofactor (nodes : List Node) (v : ℕ) (b : Bool) (f r : ℕ) : Type 0 where
@@ -101,7 +112,8 @@ pub record IsCofactor (nodes : List Node) (v : ℕ) (b : Bool) (f r : ℕ) : Typ
 
 -- each entry of a memo is a cofactor
 abbrev pub RemembersCofactors : List Node → ℕ → Bool → List (Ref × Ref) → Type 0
-RemembersCofactors nodes v b entries = (f r : Ref) → HasEntry entries f r → IsCofactor nodes v b f.0 r.0
+RemembersCofactors nodes v b entries =
+    (f r : Ref) → HasEntry entries f r → IsCofactor nodes v b f.0 r.0
 
 -- each number that the list of replacements gives is in the table
 abbrev pub AreNumbers : List Node → List (ℕ × Ref) → Type 0
@@ -113,10 +125,13 @@ IsByVar map by_var = (v : ℕ) → v < length by_var → slice_get by_var v ≡ 
 
 -- from a variable on each keeps its value
 abbrev pub StayFrom : List Node → List (ℕ × Ref) → ℕ → Type 0
-StayFrom nodes map end = (v : ℕ) → end ≤ v → v < 256 → (values : Values) → values v ≡ replaced nodes map values v
+StayFrom nodes map end =
+    (v : ℕ) → end ≤ v → v < 256 → (values : Values) → values v ≡ replaced nodes map values v
 
--- a list of replacements by numbers of a node list, with its table by variable, beyond which the variables stay
-pub record IsIndexed (nodes : List Node) (map : List (ℕ × Ref)) (by_var : List (Option Ref)) : Type 0 where
+-- a list of replacements by numbers of a node list, with its table by variable, beyond which the
+-- variables stay
+pub record IsIndexed (nodes : List Node) (map : List (ℕ × Ref))
+    (by_var : List (Option Ref)) : Type 0 where
   pub numbers : AreNumbers nodes map
   pub found : IsByVar map by_var
   pub stay : StayFrom nodes map (length by_var)
@@ -124,7 +139,8 @@ pub record IsIndexed (nodes : List Node) (map : List (ℕ × Ref)) (by_var : Lis
 -- a node's child is followed alone where a constant replaces the node's variable
 abbrev pub Follows : Node → Option Ref → Ref → Type 0
 Follows node image child =
-    ((image ≡ Some (record { 0 = 0 })) × (child ≡ node.lo)) ⊎ ((image ≡ Some (record { 0 = 1 })) × (child ≡ node.hi))
+    ((image ≡ Some (record { 0 = 0 })) × (child ≡ node.lo))
+    ⊎ ((image ≡ Some (record { 0 = 1 })) × (child ≡ node.hi))
 
 -- r has the function of f with all listed variables replaced
 pub record IsReplaced (nodes : List Node) (map : List (ℕ × Ref)) (f r : ℕ) : Type 0 where
@@ -134,7 +150,8 @@ pub record IsReplaced (nodes : List Node) (map : List (ℕ × Ref)) (f r : ℕ) 
 
 -- each entry of a memo is such a number
 abbrev pub RemembersReplaced : List Node → List (ℕ × Ref) → List (Ref × Ref) → Type 0
-RemembersReplaced nodes map entries = (f r : Ref) → HasEntry entries f r → IsReplaced nodes map f.0 r.0
+RemembersReplaced nodes map entries =
+    (f r : Ref) → HasEntry entries f r → IsReplaced nodes map f.0 r.0
 
 -- the pieces of the function that replaces a variable: the variable itself, unless it is listed
 abbrev pub pieces_of_variable : List (ℕ × Ref) → ℕ → List Function
@@ -144,7 +161,8 @@ pieces_of_variable map v = if is_some (listed map v) then [] else variable v ∷
 abbrev pub asked_of : List Node → Question → Function
 asked_of nodes q = ite_of (function nodes q.f.0) (function nodes q.g.0) (function nodes q.h.0)
 
--- a call was refused for want of room: the table holds as many nodes as it may, and lacks a part of the pieces
-pub record IsFullFor (pieces : List Function) (table : Table) : Type 0 where
+-- a call was refused for want of room: the table holds as many nodes as it may, and lacks a part of
+-- the pieces
+pub record IsFullFor (pieces : List Function) (table : NodeTable) : Type 0 where
   pub at_limit : length table.nodes ≡ table.limit
   pub lacks : LacksPart table.vars pieces table.nodes

@@ -4,14 +4,16 @@ use Rattle.dd_nodes.specs.declared.node.DdErr.{DdErr}
 use Rattle.dd_nodes.specs.declared.node.Ref.{Ref}
 use Rattle.dd_nodes.specs.NodeList.{IsNumber, Extends, function}
 use Rattle.dd_nodes.specs.Subfunctions.{Function}
-use Rattle.dd_nodes.specs.Table.{Table, IsTable}
+use Rattle.dd_nodes.specs.Table.{NodeTable, IsNodeTable}
 
--- a call answers a number of the table that has the wanted function; whether it answers or refuses, it leaves a table, with the
--- variables, the limit and each earlier node as they were, and so each earlier number and its function
-pub record Answers (wanted : Function) (before after : Table) (result : Result Ref DdErr) : Type 0 where
+-- a call answers a number of the table that has the wanted function; whether it answers or refuses,
+-- it leaves a table, with the variables, the limit and each earlier node as they were, and so each
+-- earlier number and its function
+pub record Answers (wanted : Function) (before after : NodeTable)
+    (result : Result Ref DdErr) : Type 0 where
   pub value : IfOk result (λ r. function after.nodes r.0 ≡ wanted)
   pub in_table : IfOk result (λ r. IsNumber after.nodes r.0)
-  pub table : IsTable after
+  pub table : IsNodeTable after
   pub vars : after.vars ≡ before.vars
   pub limit : after.limit ≡ before.limit
   pub nodes : Extends before.nodes after.nodes

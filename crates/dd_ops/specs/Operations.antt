@@ -1,5 +1,6 @@
 -- The operations on functions of truth values.
-use Rattle.std.specs.Prelude.{ℕ, ◌==◌, Bool, not, ◌&&◌, ◌||◌, List, Option, if◌then◌else◌, option_map, find}
+use Rattle.std.specs.Prelude.{ℕ, ◌==◌, Bool, not, ◌&&◌, ◌||◌, List, Option, if◌then◌else◌}
+use Rattle.std.specs.Prelude.{option_map, find}
 use Rattle.std.specs.Option.{option_map_or}
 use Rattle.dd_nodes.specs.declared.node.Node.{Node}
 use Rattle.dd_nodes.specs.declared.node.Ref.{Ref}
@@ -31,13 +32,15 @@ ite_of f g h values = if f values then g values else h values
 abbrev pub cofactor_of : Function → ℕ → Bool → Function
 cofactor_of f v b values = f (with_value values v b)
 
--- the number that a list gives a variable, if it lists the variable; of two entries for a variable the first counts
+-- the number that a list gives a variable, if it lists the variable; of two entries for a variable
+-- the first counts
 abbrev pub listed : List (ℕ × Ref) → ℕ → Option Ref
 listed map v = option_map (λ entry. entry.1) (find (λ entry. entry.0 == v) map)
 
 -- the values in which each listed variable has the value of its function
 abbrev pub replaced : List Node → List (ℕ × Ref) → Values → Values
-replaced nodes map values v = option_map_or (λ g. function nodes g.0 values) (listed map v) (values v)
+replaced nodes map values v =
+    option_map_or (λ g. function nodes g.0 values) (listed map v) (values v)
 
 -- f with all listed variables replaced at once
 abbrev pub subst_of : List Node → List (ℕ × Ref) → Function → Function

@@ -1,7 +1,7 @@
 //! Functions with one variable fixed.
 ghost use Rattle.std.specs.Prelude.{◌≡◌, ◌<◌, [], ◌∷◌, IfOk, IsErrOf, Some};
 ghost use Rattle.dd_nodes.specs.NodeList.{IsNumber, StandsFrom, node_at, function};
-ghost use Rattle.dd_nodes.specs.Table.{IsTable};
+ghost use Rattle.dd_nodes.specs.Table.{IsNodeTable};
 ghost use Rattle.dd_ops.specs.Answers.{IsBranch, IsCofactor, RemembersCofactors, Keeps, IsFullFor};
 ghost use Rattle.dd_ops.specs.Growth.{AddsParts};
 ghost use Rattle.dd_ops.specs.Operations.{cofactor_of};
@@ -21,12 +21,12 @@ pub fn fix(
     v: u32,
     value: bool,
 ) -> Result<Ref, DdErr>
-    requires table { IsTable dd.old }
+    requires table { IsNodeTable dd.old }
     requires number { IsNumber dd.old.nodes f.0 }
     requires memo { RemembersCofactors dd.old.nodes v value memo.old.entries }
     ensures answer { IfOk result (λ r. IsCofactor dd.new.nodes v value f.0 r.0) }
     ensures kept { Keeps dd.old dd.new }
-    ensures table { IsTable dd.new }
+    ensures table { IsNodeTable dd.new }
     ensures memo { RemembersCofactors dd.new.nodes v value memo.new.entries }
     ensures adds { AddsParts dd.old.vars (cofactor_of (function dd.old.nodes f.0) v value ∷ [])
         dd.old.nodes dd.new.nodes }
@@ -66,7 +66,7 @@ fn join_fixed(
     lo: Ref,
     hi: Ref,
 ) -> Result<Ref, DdErr>
-    requires table { IsTable dd.old }
+    requires table { IsNodeTable dd.old }
     requires node { node_at dd.old.nodes f.0 ≡ Some node }
     requires before { node.var < v }
     requires lo { IsCofactor dd.old.nodes v value node.lo.0 lo.0 }
@@ -74,7 +74,7 @@ fn join_fixed(
     requires memo { RemembersCofactors dd.old.nodes v value memo.old.entries }
     ensures answer { IfOk result (λ r. IsCofactor dd.new.nodes v value f.0 r.0) }
     ensures kept { Keeps dd.old dd.new }
-    ensures table { IsTable dd.new }
+    ensures table { IsNodeTable dd.new }
     ensures memo { RemembersCofactors dd.new.nodes v value memo.new.entries }
     ensures adds { AddsParts dd.old.vars (cofactor_of (function dd.old.nodes f.0) v value ∷ [])
         dd.old.nodes dd.new.nodes }

@@ -5,7 +5,9 @@
 //! different subfunctions that no number of the table has. Equal functions have equal numbers in a
 //! reduced list (R. E. Bryant, "Graph-Based Algorithms for Boolean Function Manipulation", IEEE
 //! Transactions on Computers, 1986), so no call that makes only such nodes makes more.
-ghost use Rattle.dd_ops.specs.GrowthLaws.{GrowsWithin, FullOnlyBeyond, RefusedNodeIsMissing, PieceGrowsBelow, PiecesGrowTogether, SubstitutionGrowsWithin, VariablesAreReached};
+ghost use Rattle.dd_ops.specs.GrowthLaws.{GrowsWithin, FullOnlyBeyond, RefusedNodeIsMissing};
+ghost use Rattle.dd_ops.specs.GrowthLaws.{PieceGrowsBelow, PiecesGrowTogether};
+ghost use Rattle.dd_ops.specs.GrowthLaws.{SubstitutionGrowsWithin, VariablesAreReached};
 
 /// A list that adds nodes of the pieces alone adds at most `grow` of them.
 pub fn grows_within()

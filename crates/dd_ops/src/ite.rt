@@ -1,7 +1,8 @@
 //! If-then-else, on which the other operations stand.
 ghost use Rattle.std.specs.Prelude.{◌≡◌, ◌<◌, [], ◌∷◌, IfOk, IsErrOf};
-ghost use Rattle.dd_nodes.specs.Table.{IsTable};
-ghost use Rattle.dd_ops.specs.Answers.{IsAsked, IsAnswer, AreHalfAnswers, Remembers, Keeps, IsFullFor, asked_of};
+ghost use Rattle.dd_nodes.specs.Table.{IsNodeTable};
+ghost use Rattle.dd_ops.specs.Answers.{IsAsked, IsAnswer, AreHalfAnswers, Remembers, Keeps};
+ghost use Rattle.dd_ops.specs.Answers.{IsFullFor, asked_of};
 ghost use Rattle.dd_ops.specs.Growth.{AddsParts};
 
 use crate::memo::{recall, remember};
@@ -15,12 +16,12 @@ use indexmap::IndexMap;
 /// deep.
 #[cycle(asking)]
 pub fn answer(dd: &mut Dd, memo: &mut IndexMap<Question, Ref>, q: Question) -> Result<Ref, DdErr>
-    requires table { IsTable dd.old }
+    requires table { IsNodeTable dd.old }
     requires asked { IsAsked dd.old.nodes q }
     requires memo { Remembers dd.old.nodes memo.old.entries }
     ensures answer { IfOk result (λ r. IsAnswer dd.new.nodes q r.0) }
     ensures kept { Keeps dd.old dd.new }
-    ensures table { IsTable dd.new }
+    ensures table { IsNodeTable dd.new }
     ensures memo { Remembers dd.new.nodes memo.new.entries }
     ensures adds { AddsParts dd.old.vars (asked_of dd.old.nodes q ∷ []) dd.old.nodes dd.new.nodes }
     ensures full { IsErrOf result DdErr.Full → IsFullFor (asked_of dd.old.nodes q ∷ []) dd.new }
@@ -34,13 +35,13 @@ pub fn answer(dd: &mut Dd, memo: &mut IndexMap<Question, Ref>, q: Question) -> R
 /// The answer to a question that tests a node, by the answers to its halves.
 #[cycle(asking)]
 fn answer_open(dd: &mut Dd, memo: &mut IndexMap<Question, Ref>, q: Question) -> Result<Ref, DdErr>
-    requires table { IsTable dd.old }
+    requires table { IsNodeTable dd.old }
     requires asked { IsAsked dd.old.nodes q }
     requires tests { 1 < q.f.0 }
     requires memo { Remembers dd.old.nodes memo.old.entries }
     ensures answer { IfOk result (λ r. IsAnswer dd.new.nodes q r.0) }
     ensures kept { Keeps dd.old dd.new }
-    ensures table { IsTable dd.new }
+    ensures table { IsNodeTable dd.new }
     ensures memo { Remembers dd.new.nodes memo.new.entries }
     ensures adds { AddsParts dd.old.vars (asked_of dd.old.nodes q ∷ []) dd.old.nodes dd.new.nodes }
     ensures full { IsErrOf result DdErr.Full → IsFullFor (asked_of dd.old.nodes q ∷ []) dd.new }
@@ -63,13 +64,13 @@ fn join(
     lo: Ref,
     hi: Ref,
 ) -> Result<Ref, DdErr>
-    requires table { IsTable dd.old }
+    requires table { IsNodeTable dd.old }
     requires asked { IsAsked dd.old.nodes q }
     requires halves { AreHalfAnswers dd.old q var lo.0 hi.0 }
     requires memo { Remembers dd.old.nodes memo.old.entries }
     ensures answer { IfOk result (λ r. IsAnswer dd.new.nodes q r.0) }
     ensures kept { Keeps dd.old dd.new }
-    ensures table { IsTable dd.new }
+    ensures table { IsNodeTable dd.new }
     ensures memo { Remembers dd.new.nodes memo.new.entries }
     ensures adds { AddsParts dd.old.vars (asked_of dd.old.nodes q ∷ []) dd.old.nodes dd.new.nodes }
     ensures full { IsErrOf result DdErr.Full → IsFullFor (asked_of dd.old.nodes q ∷ []) dd.new }

@@ -1,5 +1,6 @@
 //! What a call remembers.
-ghost use Rattle.std.specs.Prelude.{◌≡◌, ℕ, ◌<◌, List, IfSome, OnOk, OnErr, IfErr, ◌⊎◌, [], slice_get};
+ghost use Rattle.std.specs.Prelude.{◌≡◌, ℕ, ◌<◌, List, IfSome, OnOk, OnErr, IfErr, ◌⊎◌, []};
+ghost use Rattle.std.specs.Prelude.{slice_get};
 ghost use Rattle.dd_nodes.specs.declared.node.Node.{Node};
 ghost use Rattle.dd_nodes.specs.declared.node.Ref.{Ref};
 ghost use Rattle.dd_ops.specs.Answers.{IsAnswer, Remembers, HasEntry};

@@ -1,10 +1,11 @@
 //! The operations on a table of their own.
 ghost use Rattle.std.specs.Prelude.{◌≡◌, ◌<◌, ◌≤◌, [], ◌∷◌, All, IfOk};
 ghost use Rattle.dd_nodes.specs.NodeList.{IsNumber, function};
-ghost use Rattle.dd_nodes.specs.Table.{Table, IsTable};
+ghost use Rattle.dd_nodes.specs.Table.{NodeTable, IsNodeTable};
 ghost use Rattle.dd_ops.specs.Calls.{Answers};
 ghost use Rattle.dd_ops.specs.Growth.{Grows, pieces_of_subst};
-ghost use Rattle.dd_ops.specs.Operations.{variable, not_of, and_of, or_of, minus_of, ite_of, cofactor_of, subst_of};
+ghost use Rattle.dd_ops.specs.Operations.{variable, not_of, and_of, or_of, minus_of, ite_of};
+ghost use Rattle.dd_ops.specs.Operations.{cofactor_of, subst_of};
 
 use crate::cofactor::fix;
 use crate::ite::answer;
@@ -28,13 +29,13 @@ pub struct Ops {
 }
 
 impl Model for Ops {
-    ghost use Rattle.dd_nodes.specs.Table.{Table, IsTable};
+    ghost use Rattle.dd_nodes.specs.Table.{NodeTable, IsNodeTable};
 
-    ghost Value = { Table };
+    ghost Value = { NodeTable };
 
     ghost view = { λ ops. ops.dd };
 
-    ghost invariant = { λ ops. IsTable ops.dd };
+    ghost invariant = { λ ops. IsNodeTable ops.dd };
 }
 
 impl Ops {
@@ -46,7 +47,7 @@ impl Ops {
         ensures vars { IfOk result (λ ops. ops.vars ≡ vars) }
         ensures limit { IfOk result (λ ops. ops.limit ≡ limit) }
         ensures empty { IfOk result (λ ops. ops.nodes ≡ []) }
-        ensures table { IfOk result IsTable }
+        ensures table { IfOk result IsNodeTable }
     {
         Ok(Ops {
             dd: Dd::new(alloc, vars, limit)?,
@@ -57,7 +58,7 @@ impl Ops {
     /// The table.
     pub fn table(&self) -> &Dd
         ensures value { result.now ≡ self.now }
-        ensures table { IsTable self.now }
+        ensures table { IsNodeTable self.now }
     {
         &self.dd
     }

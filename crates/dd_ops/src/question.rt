@@ -2,7 +2,8 @@
 ghost use Rattle.std.specs.Prelude.{◌≡◌, ℕ, ◌<◌, true, false, List, IfSome, IfNone, ◌⊎◌};
 ghost use Rattle.dd_nodes.specs.declared.node.Node.{Node};
 ghost use Rattle.dd_nodes.specs.NodeList.{IsNumber, IsReduced, StandsFrom, node_at};
-ghost use Rattle.dd_ops.specs.Answers.{level_at, level_of, top_of, IsAsked, IsAnswer, IsBranch, IsHalf, IsRestated, IsSettled};
+ghost use Rattle.dd_ops.specs.Answers.{level_at, level_of, top_of, IsAsked, IsAnswer, IsBranch};
+ghost use Rattle.dd_ops.specs.Answers.{IsHalf, IsRestated, IsSettled};
 
 use dd_nodes::{Dd, Node, Ref};
 

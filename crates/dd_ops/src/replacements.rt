@@ -1,5 +1,6 @@
 //! The replacements of a substitution, by variable.
-ghost use Rattle.std.specs.Prelude.{◌≡◌, ◌≢◌, ℕ, ◌<◌, ◌≤◌, All, IfOk, IfSome, Some, length, slice_get};
+ghost use Rattle.std.specs.Prelude.{◌≡◌, ◌≢◌, ℕ, ◌<◌, ◌≤◌, All, IfOk, IfSome, Some, length};
+ghost use Rattle.std.specs.Prelude.{slice_get};
 ghost use Rattle.dd_nodes.specs.NodeList.{Values, IsNumber, function};
 ghost use Rattle.dd_ops.specs.Answers.{IsByVar, StayFrom};
 ghost use Rattle.dd_ops.specs.Operations.{listed};

@@ -1,8 +1,10 @@
 //! Functions with several variables replaced at once.
-ghost use Rattle.std.specs.Prelude.{◌≡◌, ◌<◌, All, IfOk, IfSome, IfNone, IsErrOf, IsTrue, Some, Option};
+ghost use Rattle.std.specs.Prelude.{◌≡◌, ◌<◌, All, IfOk, IfSome, IfNone, IsErrOf, IsTrue, Some};
+ghost use Rattle.std.specs.Prelude.{Option};
 ghost use Rattle.dd_nodes.specs.NodeList.{Values, IsNumber, node_at, function, StandsBelow};
-ghost use Rattle.dd_nodes.specs.Table.{IsTable};
-ghost use Rattle.dd_ops.specs.Answers.{Follows, IsIndexed, IsReplaced, Remembers, RemembersReplaced, IsFullFor, pieces_of_variable, Keeps};
+ghost use Rattle.dd_nodes.specs.Table.{IsNodeTable};
+ghost use Rattle.dd_ops.specs.Answers.{Follows, IsIndexed, IsReplaced, Remembers};
+ghost use Rattle.dd_ops.specs.Answers.{RemembersReplaced, IsFullFor, pieces_of_variable, Keeps};
 ghost use Rattle.dd_ops.specs.Growth.{AddsParts, pieces_of_subst};
 ghost use Rattle.dd_ops.specs.Operations.{listed, replaced};
 
@@ -16,12 +18,12 @@ use std::alloc::Global;
 
 /// The number of `f` with each variable of `map` replaced by its function.
 pub fn substitute(alloc: Global, dd: &mut Dd, f: Ref, map: &[(u32, Ref)]) -> Result<Ref, DdErr>
-    requires table { IsTable dd.old }
+    requires table { IsNodeTable dd.old }
     requires number { IsNumber dd.old.nodes f.0 }
     requires map { All (λ entry. IsNumber dd.old.nodes entry.1.0) map.now }
     ensures answer { IfOk result (λ r. IsReplaced dd.new.nodes map.now f.0 r.0) }
     ensures kept { Keeps dd.old dd.new }
-    ensures table { IsTable dd.new }
+    ensures table { IsNodeTable dd.new }
     ensures adds { AddsParts dd.old.vars (pieces_of_subst dd.old.vars dd.old.nodes map.now f.0)
         dd.old.nodes dd.new.nodes }
     ensures full { IsErrOf result DdErr.Full → IsFullFor
@@ -49,14 +51,14 @@ fn replace(
     f: Ref,
     images: &Replacements,
 ) -> Result<Ref, DdErr>
-    requires table { IsTable dd.old }
+    requires table { IsNodeTable dd.old }
     requires number { IsNumber dd.old.nodes f.0 }
     requires images { IsIndexed dd.old.nodes images.now.map.now images.now.by_var.items }
     requires questions { Remembers dd.old.nodes questions.old.entries }
     requires memo { RemembersReplaced dd.old.nodes images.now.map.now memo.old.entries }
     ensures answer { IfOk result (λ r. IsReplaced dd.new.nodes images.now.map.now f.0 r.0) }
     ensures kept { Keeps dd.old dd.new }
-    ensures table { IsTable dd.new }
+    ensures table { IsNodeTable dd.new }
     ensures questions { Remembers dd.new.nodes questions.new.entries }
     ensures memo { RemembersReplaced dd.new.nodes images.now.map.now memo.new.entries }
     ensures adds { AddsParts dd.old.vars (pieces_of_subst dd.old.vars dd.old.nodes
@@ -116,7 +118,7 @@ fn choose(
     lo: Ref,
     hi: Ref,
 ) -> Result<Ref, DdErr>
-    requires table { IsTable dd.old }
+    requires table { IsNodeTable dd.old }
     requires node { node_at dd.old.nodes f.0 ≡ Some node }
     requires images { IsIndexed dd.old.nodes images.now.map.now images.now.by_var.items }
     requires lo { IsReplaced dd.old.nodes images.now.map.now node.lo.0 lo.0 }
@@ -124,7 +126,7 @@ fn choose(
     requires questions { Remembers dd.old.nodes questions.old.entries }
     ensures answer { IfOk result (λ r. IsReplaced dd.new.nodes images.now.map.now f.0 r.0) }
     ensures kept { Keeps dd.old dd.new }
-    ensures table { IsTable dd.new }
+    ensures table { IsNodeTable dd.new }
     ensures questions { Remembers dd.new.nodes questions.new.entries }
     ensures adds { AddsParts dd.old.vars (pieces_of_subst dd.old.vars dd.old.nodes
         images.now.map.now f.0) dd.old.nodes dd.new.nodes }
@@ -180,7 +182,7 @@ fn join_replaced(
     lo: Ref,
     hi: Ref,
 ) -> Result<Ref, DdErr>
-    requires table { IsTable dd.old }
+    requires table { IsNodeTable dd.old }
     requires node { node_at dd.old.nodes f.0 ≡ Some node }
     requires images { IsIndexed dd.old.nodes images.now.map.now images.now.by_var.items }
     requires lo { IsReplaced dd.old.nodes images.now.map.now node.lo.0 lo.0 }
@@ -192,7 +194,7 @@ fn join_replaced(
     requires hi_below { StandsBelow dd.old.nodes var hi.0 }
     ensures answer { IfOk result (λ r. IsReplaced dd.new.nodes images.now.map.now f.0 r.0) }
     ensures kept { Keeps dd.old dd.new }
-    ensures table { IsTable dd.new }
+    ensures table { IsNodeTable dd.new }
     ensures adds { AddsParts dd.old.vars (pieces_of_subst dd.old.vars dd.old.nodes
         images.now.map.now f.0) dd.old.nodes dd.new.nodes }
     ensures full { IsErrOf result DdErr.Full → IsFullFor
@@ -211,7 +213,7 @@ fn ask_image(
     lo: Ref,
     hi: Ref,
 ) -> Result<Ref, DdErr>
-    requires table { IsTable dd.old }
+    requires table { IsNodeTable dd.old }
     requires node { node_at dd.old.nodes f.0 ≡ Some node }
     requires images { IsIndexed dd.old.nodes images.now.map.now images.now.by_var.items }
     requires lo { IsReplaced dd.old.nodes images.now.map.now node.lo.0 lo.0 }
@@ -219,7 +221,7 @@ fn ask_image(
     requires questions { Remembers dd.old.nodes questions.old.entries }
     ensures answer { IfOk result (λ r. IsReplaced dd.new.nodes images.now.map.now f.0 r.0) }
     ensures kept { Keeps dd.old dd.new }
-    ensures table { IsTable dd.new }
+    ensures table { IsNodeTable dd.new }
     ensures questions { Remembers dd.new.nodes questions.new.entries }
     ensures adds { AddsParts dd.old.vars (pieces_of_subst dd.old.vars dd.old.nodes
         images.now.map.now f.0) dd.old.nodes dd.new.nodes }
@@ -240,14 +242,14 @@ fn ask_image(
 
 /// The number of what a variable is replaced by: its function in `images`, or itself.
 fn image(dd: &mut Dd, images: &Replacements, var: u32) -> Result<Ref, DdErr>
-    requires table { IsTable dd.old }
+    requires table { IsNodeTable dd.old }
     requires in_range { var < dd.old.vars }
     requires images { IsIndexed dd.old.nodes images.now.map.now images.now.by_var.items }
     ensures value { IfOk result (λ r. (values : Values)
         → function dd.new.nodes r.0 values ≡ replaced dd.old.nodes images.now.map.now values var) }
     ensures number { IfOk result (λ r. IsNumber dd.new.nodes r.0) }
     ensures kept { Keeps dd.old dd.new }
-    ensures table { IsTable dd.new }
+    ensures table { IsNodeTable dd.new }
     ensures adds { AddsParts dd.old.vars (pieces_of_variable images.now.map.now var) dd.old.nodes
         dd.new.nodes }
     ensures full { IsErrOf result DdErr.Full → IsFullFor (pieces_of_variable images.now.map.now var)

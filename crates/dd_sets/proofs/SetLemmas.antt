@@ -10,7 +10,7 @@ use Rattle.dd_nodes.specs.declared.node.DdErr.{DdErr}
 use Rattle.dd_nodes.specs.declared.node.DdErr.TheVariants as DdErr
 use Rattle.dd_nodes.specs.NodeList.{Values, IsNumber, function, IsReduced}
 use Rattle.dd_nodes.specs.Subfunctions.{Function, DependsOnly}
-use Rattle.dd_nodes.specs.Table.{Table}
+use Rattle.dd_nodes.specs.Table.{NodeTable}
 use Rattle.dd_nodes.proofs.NodeLemmas.{function_false}
 use Rattle.dd_nodes.proofs.Canonicity.{canonical}
 use Rattle.dd_nodes.proofs.Dependence.{depends_number}
@@ -109,14 +109,14 @@ module _ (sets : LiveSets) where
       go (Some number) = depends_number sets.vars sets.nodes sound.table.reduced number.0
 
 -- the numbers of listed sets are ready for a substitution, which is that by the sets
-pub refs_ready : {table : Table} {live : List (Option Ref)} {before : LiveSets} → view_of table live ≡ before → IsSets (view_of table live)
+pub refs_ready : {table : NodeTable} {live : List (Option Ref)} {before : LiveSets} → view_of table live ≡ before → IsSets (view_of table live)
     → (entries : List (FluentId × SetId)) → AllLive before entries → (refs : List (ℕ × Ref)) → refs ≡ refs_of before entries → All (λ (entry : ℕ × Ref). IsNumber table.nodes entry.1.0) refs
 refs_ready {table = table} {before = before} opens sound entries all refs same =
     subst (λ (rs : List (ℕ × Ref)). All (λ (entry : ℕ × Ref). IsNumber table.nodes entry.1.0) rs) (sym same)
     (subst (λ (s : LiveSets). All (λ (entry : ℕ × Ref). IsNumber s.nodes entry.1.0) (refs_of before entries)) (sym opens)
     (refs_in_table before (subst IsSets opens sound) entries all))
 
-pub subst_made : {table : Table} {live : List (Option Ref)} {before : LiveSets} → view_of table live ≡ before → (entries : List (FluentId × SetId)) (refs : List (ℕ × Ref)) → refs ≡ refs_of before entries
+pub subst_made : {table : NodeTable} {live : List (Option Ref)} {before : LiveSets} → view_of table live ≡ before → (entries : List (FluentId × SetId)) (refs : List (ℕ × Ref)) → refs ≡ refs_of before entries
     → (f set : Function) → f ≡ set → subst_of table.nodes refs f ≡ subst_set before entries set
 subst_made {before = before} opens entries refs listed f set same = (λ i. subst_of (opens i).nodes (listed i) (same i)) ∙ subst_same before entries set
 
@@ -141,7 +141,7 @@ inside_from true true step = refl
 inside_from true false step = absurd (let e : ◌≡◌ {A = Bool} false true = step refl in cc)
 inside_from false b step = refl
 
-pub inside_answer : {t0 t : Table} {made : Function} {answer : Result Ref DdErr} → Answers made t0 t answer → (result : Result Bool SetErr)
+pub inside_answer : {t0 t : NodeTable} {made : Function} {answer : Result Ref DdErr} → Answers made t0 t answer → (result : Result Bool SetErr)
     → IfOk result (λ empty. IsOkAnd answer (λ number. empty ≡ (number.0 == 0))) → (f g : Function) → made ≡ minus_of f g
     → IfOk result (λ is_inside. IsTrue is_inside ↔ ((values : Values) → f values ≡ true → g values ≡ true))
 inside_answer {answer = Ok number} answers (Err e) empty f g same = tt
@@ -157,22 +157,22 @@ inside_answer {t = t} {answer = Ok number} answers (Ok b) empty f g same =
     )
 
 -- an operation that leaves the slots as they are
-pub inside_kept : {t0 t : Table} {live : List (Option Ref)} {made : Function} {answer : Result Ref DdErr} → Answers made t0 t answer → {before : LiveSets}
+pub inside_kept : {t0 t : NodeTable} {live : List (Option Ref)} {made : Function} {answer : Result Ref DdErr} → Answers made t0 t answer → {before : LiveSets}
     → view_of t0 live ≡ before → IsSets (view_of t0 live) → KeepsSets before (view_of t live)
 inside_kept {t0} {t} {live} {made} {answer} answers opens sound =
     subst (λ s. KeepsSets s (view_of t live)) opens (same_keeps (view_of t0 live) (view_of t live) sound (kept_by_answer (view_of t0 live) (view_of t live) made answer answers) refl)
 
-pub inside_same : {t0 t : Table} {live : List (Option Ref)} {made : Function} {answer : Result Ref DdErr} → Answers made t0 t answer → {before : LiveSets}
+pub inside_same : {t0 t : NodeTable} {live : List (Option Ref)} {made : Function} {answer : Result Ref DdErr} → Answers made t0 t answer → {before : LiveSets}
     → view_of t0 live ≡ before → IsSets (view_of t0 live) → AddsNone before (view_of t live)
 inside_same {t0} {t} {live} {made} {answer} answers opens sound =
     subst (λ s. AddsNone s (view_of t live)) opens (same_adds_none (view_of t0 live) (view_of t live) sound (kept_by_answer (view_of t0 live) (view_of t live) made answer answers) refl)
 
-pub inside_sound : {t0 t : Table} {live : List (Option Ref)} {made : Function} {answer : Result Ref DdErr} → Answers made t0 t answer
+pub inside_sound : {t0 t : NodeTable} {live : List (Option Ref)} {made : Function} {answer : Result Ref DdErr} → Answers made t0 t answer
     → IsSets (view_of t0 live) → IsSets (view_of t live)
 inside_sound {t0} {t} {live} {made} {answer} answers sound =
     same_sound (view_of t0 live) (view_of t live) sound (kept_by_answer (view_of t0 live) (view_of t live) made answer answers) refl
 
-pub inside_full : {t0 t : Table} {live : List (Option Ref)} {made : Function} {made_pieces : List Function} {answer : Result Ref DdErr} → Answers made t0 t answer → Grows made_pieces t0 t answer
+pub inside_full : {t0 t : NodeTable} {live : List (Option Ref)} {made : Function} {made_pieces : List Function} {answer : Result Ref DdErr} → Answers made t0 t answer → Grows made_pieces t0 t answer
     → (before : LiveSets) (pieces : List Function) → IsErrOf answer DdErr.Full → IsFull before (view_of t live) pieces
 unfolding Tight
 inside_full {t = t} answers grows before pieces is =
@@ -181,7 +181,7 @@ inside_full {t = t} answers grows before pieces is =
     record { at_limit = full; tight = omega (arith, fits) }
 
 -- a slot that was live and is empty now, every other being as it was
-pub released : {t : Table} {l0 l : List (Option Ref)} {before : LiveSets} → view_of t l0 ≡ before → (slot : ℕ) → slice_index_or l slot None ≡ None
+pub released : {t : NodeTable} {l0 l : List (Option Ref)} {before : LiveSets} → view_of t l0 ≡ before → (slot : ℕ) → slice_index_or l slot None ≡ None
     → ((other : ℕ) → other ≢ slot → slice_index_or l other None ≡ slice_index_or l0 other None) → count_by is_some l + 1 ≡ count_by is_some l0
     → Releases before (view_of t l) slot
 unfolding is_live set_of live_count
@@ -194,7 +194,7 @@ released {t} {l0} {l} opens slot ended others count = subst (λ s. Releases s (v
   count = count;
 })
 
-pub released_sound : {t : Table} {l0 l : List (Option Ref)} → IsSets (view_of t l0) → (slot : ℕ) → slice_index_or l slot None ≡ None
+pub released_sound : {t : NodeTable} {l0 l : List (Option Ref)} → IsSets (view_of t l0) → (slot : ℕ) → slice_index_or l slot None ≡ None
     → ((other : ℕ) → other ≢ slot → slice_index_or l other None ≡ slice_index_or l0 other None) → IsSets (view_of t l)
 released_sound {t} {l0} {l} sound slot ended others = record {
   table = sound.table;

@@ -8,7 +8,7 @@ use Rattle.dd_nodes.specs.declared.node.Ref.{Ref}
 use Rattle.dd_nodes.specs.declared.node.DdErr.{DdErr}
 use Rattle.dd_nodes.specs.NodeList.{IsNumber, function}
 use Rattle.dd_nodes.specs.Subfunctions.{Function}
-use Rattle.dd_nodes.specs.Table.{Table, IsTable}
+use Rattle.dd_nodes.specs.Table.{NodeTable, IsNodeTable}
 use Rattle.dd_ops.specs.Calls.{Answers}
 use Rattle.dd_ops.specs.Growth.{Grows}
 use Rattle.dd_sets.specs.Calls.{KeepsSets, Adds, AddsNone}
@@ -24,7 +24,7 @@ use Rattle.dd_sets.proofs.RoomLemmas.{numbers_fit}
 pub record KeepsNumbers (before after : LiveSets) : Type 0 where
   pub vars : after.vars ≡ before.vars
   pub limit : after.limit ≡ before.limit
-  pub table : IsTable (table_of after)
+  pub table : IsNodeTable (table_of after)
   pub longer : length before.nodes ≤ length after.nodes
   pub earlier : (n : ℕ) → IsNumber before.nodes n → function after.nodes n ≡ function before.nodes n
 
@@ -43,7 +43,7 @@ pub kept_nodes : (before after : LiveSets) → IsSets before → table_of after 
 kept_nodes before after sound same = record {
   vars = ap (λ t. t.vars) same;
   limit = ap (λ t. t.limit) same;
-  table = subst IsTable (sym same) sound.table;
+  table = subst IsNodeTable (sym same) sound.table;
   longer = let e : length after.nodes ≡ length before.nodes = ap (λ t. length t.nodes) same in omega arith;
   earlier = λ n _. ap (λ t. function t.nodes n) same;
 }
@@ -171,12 +171,12 @@ operated_from before after sound keeps set answer value in_table (Err e) stores 
 }
 
 -- the function of a slot's number is its set
-pub number_set : {table : Table} {live : List (Option Ref)} {before : LiveSets} → view_of table live ≡ before → (slot : ℕ) (number : Ref) → number_at before slot ≡ Some number
+pub number_set : {table : NodeTable} {live : List (Option Ref)} {before : LiveSets} → view_of table live ≡ before → (slot : ℕ) (number : Ref) → number_at before slot ≡ Some number
     → function table.nodes number.0 ≡ set_of before slot
 number_set opens slot number is = ap (λ s. function s.nodes number.0) opens ∙ sym (set_is _ slot number is)
 
 -- an operation's answer and its slot
-pub operated : {t0 t : Table} {l0 l : List (Option Ref)} {made : Function} {answer : Result Ref DdErr} {result : Result SetId SetErr}
+pub operated : {t0 t : NodeTable} {l0 l : List (Option Ref)} {made : Function} {answer : Result Ref DdErr} {result : Result SetId SetErr}
     → Answers made t0 t answer → Stored l0 l answer result → {before : LiveSets} → view_of t0 l0 ≡ before → IsSets (view_of t0 l0) → {set : Function} → made ≡ set
     → Operated before (view_of t l) set result
 operated {t0} {t} {l0} {l} {made} {answer} {result} answers stores opens sound {set} same =
@@ -185,7 +185,7 @@ operated {t0} {t} {l0} {l} {made} {answer} {result} answers stores opens sound {
     (subst (λ f. IfOk answer (λ (r : Ref). function t.nodes r.0 ≡ f)) same answers.value) answers.in_table result stores)
 
 -- a known number and its slot
-pub placed : {t : Table} {l0 l : List (Option Ref)} {number : Ref} {result : Result SetId SetErr} → Stored l0 l (Ok number) result
+pub placed : {t : NodeTable} {l0 l : List (Option Ref)} {number : Ref} {result : Result SetId SetErr} → Stored l0 l (Ok number) result
     → {before : LiveSets} → view_of t l0 ≡ before → IsSets (view_of t l0) → {set : Function} → function t.nodes number.0 ≡ set → IsNumber t.nodes number.0
     → Operated before (view_of t l) set result
 placed {t} {l0} {l} {number} {result} stores opens sound {set} value in_table =
@@ -193,7 +193,7 @@ placed {t} {l0} {l} {number} {result} stores opens sound {set} value in_table =
     (operated_from (view_of t l0) (view_of t l) sound (kept_nodes (view_of t l0) (view_of t l) sound refl) set (Ok number) value in_table result stores)
 
 -- where a call is refused for want of room, the table holds as many nodes as it may, and so its limit is tight
-pub full_room : {t0 t : Table} {l0 l : List (Option Ref)} {made : Function} {made_pieces : List Function} {answer : Result Ref DdErr} {result : Result SetId SetErr}
+pub full_room : {t0 t : NodeTable} {l0 l : List (Option Ref)} {made : Function} {made_pieces : List Function} {answer : Result Ref DdErr} {result : Result SetId SetErr}
     → Answers made t0 t answer → Grows made_pieces t0 t answer → Stored l0 l answer result → (before : LiveSets) (pieces : List Function) → IsErrOf result SetErr.Full
     → IsFull before (view_of t l) pieces
 unfolding Tight
@@ -202,5 +202,5 @@ full_room {t} answers grows stores before pieces is =
     let fits = numbers_fit t.vars t.nodes answers.table.reduced in
     record { at_limit = full; tight = omega (arith, fits) }
 
-pub number_in_table : {table : Table} {live : List (Option Ref)} {before : LiveSets} → view_of table live ≡ before → {n : ℕ} → IsNumber before.nodes n → IsNumber table.nodes n
+pub number_in_table : {table : NodeTable} {live : List (Option Ref)} {before : LiveSets} → view_of table live ≡ before → {n : ℕ} → IsNumber before.nodes n → IsNumber table.nodes n
 number_in_table opens {n} number = subst (λ (s : LiveSets). IsNumber s.nodes n) (sym opens) number

@@ -3,7 +3,8 @@ use Rattle.std.specs.Prelude.{◌≡◌, ◌≢◌, ℕ, ◌+◌, Bool, true, fa
 use Rattle.dd_nodes.specs.Subfunctions.{Function}
 use Rattle.dd_sets.specs.LiveSets.{LiveSets, IsLive, is_live, set_of, live_count}
 
--- the fluents and the limit are the same, and each slot that was live is live and holds the set that it held
+-- the fluents and the limit are the same, and each slot that was live is live and holds the set
+-- that it held
 pub record KeepsSets (before after : LiveSets) : Type 0 where
   pub vars : after.vars ≡ before.vars
   pub limit : after.limit ≡ before.limit

@@ -1,5 +1,7 @@
--- What a caller says of slots of its own: the live slots are those that were live before, with their sets, and the caller's.
-use Rattle.std.specs.Prelude.{◌≡◌, ℕ, ◌+◌, ◌==◌, Bool, true, false, ◌||◌, List, [], ◌∷◌, length, ⊤, Result, Ok, Err}
+-- What a caller says of slots of its own: the live slots are those that were live before, with
+-- their sets, and the caller's.
+use Rattle.std.specs.Prelude.{◌≡◌, ℕ, ◌+◌, ◌==◌, Bool, true, false, ◌||◌, List, [], ◌∷◌, length, ⊤}
+use Rattle.std.specs.Prelude.{Result, Ok, Err}
 use Rattle.std.specs.List.{list_any}
 use Rattle.dd_nodes.specs.Subfunctions.{Function}
 use Rattle.dd_sets.specs.Calls.{KeepsSets}
@@ -18,7 +20,8 @@ has_slot own slot = list_any (λ entry. entry.0 == slot) own
 abbrev pub AreNew : LiveSets → LiveSets → Slots → Type 0
 AreNew before after [] = ⊤
 AreNew before after (entry ∷ own) =
-    (is_live before entry.0 ≡ false) × (has_slot own entry.0 ≡ false) × (set_of after entry.0 ≡ entry.1) × AreNew before after own
+    (is_live before entry.0 ≡ false) × (has_slot own entry.0 ≡ false)
+    × (set_of after entry.0 ≡ entry.1) × AreNew before after own
 
 -- the live slots are those of before, with their sets, and the slots of the list
 pub record Owns (before after : LiveSets) (own : Slots) : Type 0 where
@@ -27,8 +30,8 @@ pub record Owns (before after : LiveSets) (own : Slots) : Type 0 where
   pub live : (slot : ℕ) → is_live after slot ≡ (has_slot own slot || is_live before slot)
   pub count : live_count after ≡ live_count before + length own
 
--- what a call leaves that takes the place of a caller's slots: an answer is its only slot, and holds the set; after a refusal
--- it has none
+-- what a call leaves that takes the place of a caller's slots: an answer is its only slot, and
+-- holds the set; after a refusal it has none
 abbrev pub OwnsAnswer : LiveSets → LiveSets → Function → Result SetId SetErr → Type 0
 OwnsAnswer before after set (Ok slot) = Owns before after ((slot.0, set) ∷ [])
 OwnsAnswer before after set (Err e) = Owns before after []

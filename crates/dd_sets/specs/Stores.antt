@@ -1,12 +1,13 @@
 -- Private: numbers behind slots.
-use Rattle.std.specs.Prelude.{◌≡◌, ◌≢◌, ℕ, ◌+◌, List, Option, Some, None, Result, Ok, IfOk, OnErr, IsErrOf, is_some, count_by, slice_index_or, map, unwrap_or, ◌-◌}
+use Rattle.std.specs.Prelude.{◌≡◌, ◌≢◌, ℕ, ◌+◌, List, Option, Some, None, Result, Ok, IfOk, OnErr}
+use Rattle.std.specs.Prelude.{IsErrOf, is_some, count_by, slice_index_or, map, unwrap_or, ◌-◌}
 use Rattle.dd_nodes.specs.NodeList.{function}
 use Rattle.task_core.specs.Cubes.{SetOfVectors}
 use Rattle.task_core.specs.Vectors.{value_of}
 use Rattle.task_core.specs.declared.literals.FluentId.{FluentId}
 use Rattle.dd_nodes.specs.declared.node.Node.{Node}
 use Rattle.dd_nodes.specs.declared.node.DdErr.TheVariants.{Full}
-use Rattle.dd_nodes.specs.Table.{Table}
+use Rattle.dd_nodes.specs.Table.{NodeTable}
 use Rattle.dd_sets.specs.declared.errors.SetErr.{SetErr}
 use Rattle.dd_sets.specs.declared.errors.SetErr.TheVariants as SetErr
 use Rattle.dd_sets.specs.LiveSets.{LiveSets, number_at}
@@ -15,23 +16,27 @@ use Rattle.dd_nodes.specs.declared.node.Ref.{Ref}
 use Rattle.dd_nodes.specs.declared.node.DdErr.{DdErr}
 
 -- an operation's number stands in a slot that was free, and every other slot is as it was
-pub record IsStored (before after : List (Option Ref)) (answer : Result Ref DdErr) (slot : ℕ) : Type 0 where
+pub record IsStored (before after : List (Option Ref)) (answer : Result Ref DdErr)
+    (slot : ℕ) : Type 0 where
   pub number : Ref
   pub answered : answer ≡ Ok number
   pub free : slice_index_or before slot None ≡ None
   pub changed : slice_index_or after slot None ≡ Some number
-  pub others : (other : ℕ) → other ≢ slot → slice_index_or after other None ≡ slice_index_or before other None
+  pub others : (other : ℕ) → other ≢ slot → slice_index_or after other None
+      ≡ slice_index_or before other None
   pub count : count_by is_some after ≡ count_by is_some before + 1
 
 -- what a new slot for an operation's answer leaves in the list of slots
-pub record Stored (before after : List (Option Ref)) (answer : Result Ref DdErr) (result : Result SetId SetErr) : Type 0 where
+pub record Stored (before after : List (Option Ref)) (answer : Result Ref DdErr)
+    (result : Result SetId SetErr) : Type 0 where
   pub stored : IfOk result (λ slot. IsStored before after answer slot.0)
   pub refused : OnErr result (after ≡ before)
   pub full : IsErrOf result SetErr.Full → IsErrOf answer Full
 
 -- the sets of a table with these numbers in its slots
-abbrev pub view_of : Table → List (Option Ref) → LiveSets
-view_of table live = record { vars = table.vars; limit = table.limit; nodes = table.nodes; live = live }
+abbrev pub view_of : NodeTable → List (Option Ref) → LiveSets
+view_of table live =
+    record { vars = table.vars; limit = table.limit; nodes = table.nodes; live = live }
 
 -- the number that a slot holds, and that of the empty set where it holds none
 abbrev pub ref_at : LiveSets → ℕ → Ref

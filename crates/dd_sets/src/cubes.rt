@@ -1,7 +1,7 @@
 //! The cubes of a diagram, read off its paths.
 ghost use Rattle.std.specs.Prelude.{◌≡◌, ℕ, ◌+◌, ◌++◌, map, OnOk};
 ghost use Rattle.dd_nodes.specs.NodeList.{IsNumber, StandsFrom};
-ghost use Rattle.dd_nodes.specs.Table.{IsTable};
+ghost use Rattle.dd_nodes.specs.Table.{IsNodeTable};
 ghost use Rattle.task_core.specs.Cubes.{cubes_from, literal as literal_of};
 ghost use Rattle.dd_sets.specs.Stores.{set_from};
 
@@ -23,12 +23,14 @@ pub fn walk(
     path: &mut Cube,
     cubes: &mut Vec<Cube>,
 ) -> Result<(), AllocError>
-    requires table { IsTable dd.now }
+    requires table { IsNodeTable dd.now }
     requires number { IsNumber dd.now.nodes number.0 }
     ensures path { OnOk result (path.new.items ≡ path.old.items) }
-    ensures cubes { OnOk result ((first rest : ℕ) → first + rest ≡ dd.now.vars → StandsFrom dd.now.nodes first number.0
+    ensures cubes { OnOk result
+        ((first rest : ℕ) → first + rest ≡ dd.now.vars → StandsFrom dd.now.nodes first number.0
         → map (λ cube. cube.items) cubes.new.items ≡ map (λ cube. cube.items) cubes.old.items
-        ++ map (λ cube. path.old.items ++ cube) (cubes_from first rest (set_from dd.now.nodes first number.0))) }
+        ++ map (λ cube. path.old.items ++ cube)
+        (cubes_from first rest (set_from dd.now.nodes first number.0))) }
 {
     match dd.node(number) {
         Some(node) => {

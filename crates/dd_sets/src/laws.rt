@@ -1,6 +1,7 @@
 //! What is true of all sets, for callers to cite. Each function does nothing, and its contract is
 //! the law.
-ghost use Rattle.dd_sets.specs.Laws.{TightIsMonotone, SetsDependOnFluents, OneSetPerSlot, FullIsTight};
+ghost use Rattle.dd_sets.specs.Laws.{TightIsMonotone, SetsDependOnFluents, OneSetPerSlot};
+ghost use Rattle.dd_sets.specs.Laws.{FullIsTight};
 
 /// A limit that is tight for so many nodes is tight for more.
 pub fn tight_is_monotone()

@@ -1,6 +1,8 @@
 -- Private: the rules of a plan that count in a configuration, and what each of them leads to, as
 -- lists.
-use Rattle.std.specs.Prelude.{ℕ, ◌<◌, Bool, false, true, not, ◌||◌, ◌&&◌, ◌==◌, List, [], ◌∷◌, ◌++◌, map, All, ⊤, Option, Some, None, is_some, option_to_list, find, if◌then◌else◌}
+use Rattle.std.specs.Prelude.{ℕ, ◌<◌, Bool, false, true, not, ◌||◌, ◌&&◌, ◌==◌, List, [], ◌∷◌, ◌++◌}
+use Rattle.std.specs.Prelude.{map, All, ⊤, Option, Some, None, is_some, option_to_list, find}
+use Rattle.std.specs.Prelude.{if◌then◌else◌}
 use Rattle.std.specs.List.{fold, list_any}
 use Rattle.std.specs.Option.{option_map}
 use Rattle.task_core.specs.Vectors.{Vector, same_vector}
@@ -9,7 +11,8 @@ use Rattle.task_core.specs.ContextPlans.{Configuration, first_context}
 use Rattle.task_core.specs.Cubes.{matches}
 use Rattle.plan_rules.specs.Denoted.{can_execute, next_context, rule_at}
 use Rattle.plan_rules.specs.Plans.{IsCubeOf}
-use Rattle.plan_rules.specs.Rules.{PlanRule, PlanCase, PlanNext, ContextRule, PlainPlan, always, by_cases, case_of, table, automaton}
+use Rattle.plan_rules.specs.Rules.{PlanRule, PlanCase, PlanNext, ContextRule, PlainPlan, always}
+use Rattle.plan_rules.specs.Rules.{by_cases, case_of, table, automaton}
 use Rattle.exec_graph.specs.declared.matching.Onward.{Onward}
 use Rattle.exec_graph.specs.declared.matching.Onward.TheVariants.{Always, ByCases}
 use Rattle.exec_graph.specs.declared.rules.Advice.{Advice}

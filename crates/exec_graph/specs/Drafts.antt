@@ -1,6 +1,7 @@
 -- Private: a graph that is being made. The configurations that were found are numbered in the order
 -- in which they were found. The first of them were visited: their followers were found too.
-use Rattle.std.specs.Prelude.{◌≡◌, ◌≢◌, ◌↔◌, ◌≤◌, ◌<◌, ◌||◌, ℕ, Bool, IsTrue, List, [], ◌∷◌, ◌++◌, length, map, slice_get, Some}
+use Rattle.std.specs.Prelude.{◌≡◌, ◌≢◌, ◌↔◌, ◌≤◌, ◌<◌, ◌||◌, ℕ, Bool, IsTrue, List, [], ◌∷◌, ◌++◌}
+use Rattle.std.specs.Prelude.{length, map, slice_get, Some}
 use Rattle.std.specs.List.{All, AllPairs, Contains, fold}
 use Rattle.task_core.specs.Vectors.{Vector}
 use Rattle.task_core.specs.States.{vector}

@@ -8,7 +8,8 @@ use Rattle.task_core.specs.Vectors.{Vector}
 use Rattle.task_core.specs.Systems.{System, Exec, HasOutcome}
 use Rattle.task_core.specs.Tables.{Leads}
 use Rattle.task_core.specs.Solutions.{IsReached}
-use Rattle.task_core.specs.ContextPlans.{Configuration, ContextPlan, Follows, IsReachable, first_context}
+use Rattle.task_core.specs.ContextPlans.{Configuration, ContextPlan, Follows, IsReachable}
+use Rattle.task_core.specs.ContextPlans.{first_context}
 use Rattle.task_core.specs.Cubes.{matches}
 use Rattle.plan_rules.specs.Denoted.{denoted, denoted_contexts}
 use Rattle.plan_rules.specs.Rules.{PlanRule, PlainPlan, table, automaton}

@@ -1,6 +1,7 @@
 //! Bindings of variables by their numbers.
 
-ghost use Rattle.std.specs.Prelude.{◌≡◌, ◌<◌, [], ◌++◌, ◌+◌, ◌*◌, ◌≤◌, ◌↔◌, slice_index_or, IfOk, IsErr, OnOk};
+ghost use Rattle.std.specs.Prelude.{◌≡◌, ◌<◌, [], ◌++◌, ◌+◌, ◌*◌, ◌≤◌, ◌↔◌, slice_index_or, IfOk};
+ghost use Rattle.std.specs.Prelude.{IsErr, OnOk};
 ghost use Rattle.ground_instances.specs.Counts.{shown};
 ghost use Rattle.ground_instances.specs.Tables.{setting_in};
 ghost use Rattle.pddl_system.specs.Objects.{bindings};

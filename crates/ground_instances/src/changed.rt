@@ -5,7 +5,8 @@ ghost use Rattle.std.specs.List.{list_any};
 ghost use Rattle.ground_instances.specs.Atoms.{atom_tree};
 ghost use Rattle.ground_instances.specs.Tables.{names_predicate};
 ghost use Rattle.pddl_ast.specs.Trees.{AtomTree};
-ghost use Rattle.pddl_ast.specs.Values.{atom_value, domain_value, effect_value, literal_value, problem_value};
+ghost use Rattle.pddl_ast.specs.Values.{atom_value, domain_value, effect_value, literal_value};
+ghost use Rattle.pddl_ast.specs.Values.{problem_value};
 ghost use Rattle.pddl_system.specs.GroundAtoms.{is_among};
 ghost use Rattle.pddl_system.specs.Settings.{changes, entry_names, is_rigid_in};
 

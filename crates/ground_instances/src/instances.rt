@@ -1,7 +1,9 @@
 //! The numbered list of kept instances.
 
-ghost use Rattle.std.specs.Prelude.{◌≡◌, ◌+◌, ◌≤◌, true, [], ◌∷◌, ◌++◌, Some, map, length, nat_le, is_some, IfOk, IfSome};
-ghost use Rattle.ground_instances.specs.Kept.{instance_of, kept_by, all_of, kept_among, kept_objects, numbered, with_number};
+ghost use Rattle.std.specs.Prelude.{◌≡◌, ◌+◌, ◌≤◌, true, [], ◌∷◌, ◌++◌, Some, map, length, nat_le};
+ghost use Rattle.std.specs.Prelude.{is_some, IfOk, IfSome};
+ghost use Rattle.ground_instances.specs.Kept.{instance_of, kept_by, all_of, kept_among};
+ghost use Rattle.ground_instances.specs.Kept.{kept_objects, numbered, with_number};
 ghost use Rattle.ground_instances.specs.Tables.{setting_in};
 ghost use Rattle.pddl_ast.specs.Values.{domain_value, schema_value};
 ghost use Rattle.pddl_system.specs.Sizes.{most_actions};

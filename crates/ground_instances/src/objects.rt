@@ -1,6 +1,7 @@
 //! The objects of each type.
 
-ghost use Rattle.std.specs.Prelude.{◌≡◌, ℕ, ◌+◌, ◌<◌, ◌≤◌, List, [], ◌∷◌, ◌++◌, ◌⊎◌, All, if◌then◌else◌, length, map, true, IfOk, OnOk};
+ghost use Rattle.std.specs.Prelude.{◌≡◌, ℕ, ◌+◌, ◌<◌, ◌≤◌, List, [], ◌∷◌, ◌++◌, ◌⊎◌, All};
+ghost use Rattle.std.specs.Prelude.{if◌then◌else◌, length, map, true, IfOk, OnOk};
 ghost use Rattle.ground_instances.specs.Entering.{AreBelow, entered, list_of};
 ghost use Rattle.pddl_ast.specs.Fits.{FitsDomain, FitsProblem};
 ghost use Rattle.pddl_ast.specs.Values.{domain_value, problem_value};

@@ -4,9 +4,12 @@ ghost use Rattle.std.specs.Prelude.{◌≡◌, nat_le};
 ghost use Rattle.std.specs.Option.{option_map};
 ghost use Rattle.ground_instances.specs.Counts.{shown};
 ghost use Rattle.ground_instances.specs.Tables.{setting_in};
-ghost use Rattle.pddl_ast.specs.Values.{domain_value, problem_value, formula_value, effect_value, schema_value};
+ghost use Rattle.pddl_ast.specs.Values.{domain_value, problem_value, formula_value, effect_value};
+ghost use Rattle.pddl_ast.specs.Values.{schema_value};
 ghost use Rattle.pddl_system.specs.Settings.{setting};
-ghost use Rattle.pddl_system.specs.Sizes.{keeps, object_limit, size_limit, instance_limit, formula_size, effect_size, schema_size, goal_size, most_size};
+ghost use Rattle.pddl_system.specs.Sizes.{keeps, object_limit, size_limit, instance_limit};
+ghost use Rattle.pddl_system.specs.Sizes.{formula_size, effect_size, schema_size, goal_size};
+ghost use Rattle.pddl_system.specs.Sizes.{most_size};
 
 use crate::bindings::{product, total};
 use crate::setting::Setting;

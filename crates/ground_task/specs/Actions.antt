@@ -8,7 +8,8 @@ use Rattle.pddl_system.specs.Systems.{instance_name}
 use Rattle.pddl_system.specs.Tasks.{ActionTree, condition_of, outcome_of}
 
 -- the action of an instance
-abbrev pub action_in : Setting → List AtomTree → DomainTree → ProblemTree → InstanceTree → ActionTree
+abbrev pub action_in : Setting → List AtomTree → DomainTree → ProblemTree → InstanceTree
+    → ActionTree
 action_in at fluents d p i = record {
   name = instance_name d p i;
   exec = condition_of at fluents i.schema.precondition i.objects;

@@ -35,12 +35,14 @@ change_under at fluents conds change = change_made fluents
     (conds ++ map (λ (c : Condition). condition_of at fluents c.formula c.scope) change.conditions)
     change.atom change.positive
 
--- the changes of an outcome under these conditions, without those that are known not to come about: none
--- where the conditions can't all hold
-abbrev pub outcome_under : Setting → List AtomTree → List CondTree → Bool → OutcomeTree → List (CondTree × Lit)
+-- the changes of an outcome under these conditions, without those that are known not to come about:
+-- none where the conditions can't all hold
+abbrev pub outcome_under : Setting → List AtomTree → List CondTree → Bool → OutcomeTree
+    → List (CondTree × Lit)
 outcome_under at fluents conds may outcome =
     if may then map (change_under at fluents conds) (possible_changes at outcome) else []
 
 -- some outcomes under the conditions of guards
-abbrev pub outcomes_under : Setting → List AtomTree → Guards → List OutcomeTree → List (List (CondTree × Lit))
+abbrev pub outcomes_under : Setting → List AtomTree → Guards → List OutcomeTree
+    → List (List (CondTree × Lit))
 outcomes_under at fluents g = map (outcome_under at fluents (guard_conditions g) g.may_hold)

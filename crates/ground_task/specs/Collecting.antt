@@ -1,5 +1,6 @@
 -- Private: how the atoms that are named are collected, each once, as long as they are few.
-use Rattle.std.specs.Prelude.{ℕ, ◌||◌, List, [], ◌∷◌, ◌++◌, fold, length, map, nat_lt, if◌then◌else◌, Vec}
+use Rattle.std.specs.Prelude.{ℕ, ◌||◌, List, [], ◌∷◌, ◌++◌, fold, length, map, nat_lt}
+use Rattle.std.specs.Prelude.{if◌then◌else◌, Vec}
 use Rattle.std.specs.declared.alloc.Global.{Global}
 use Rattle.pddl_ast.specs.Trees.{AtomTree, LiteralTree}
 use Rattle.pddl_ast.specs.Values.{literal_value}
@@ -21,5 +22,6 @@ literals_value = map literal_value
 abbrev pub entry_value : List (Vec InitialLiteral Global) → List (List LiteralTree)
 entry_value = map (λ (alternative : Vec InitialLiteral Global). literals_value alternative.items)
 
-abbrev pub entries_value : List (Vec (Vec InitialLiteral Global) Global) → List (List (List LiteralTree))
+abbrev pub entries_value : List (Vec (Vec InitialLiteral Global) Global)
+    → List (List (List LiteralTree))
 entries_value = map (λ (entry : Vec (Vec InitialLiteral Global) Global). entry_value entry.items)

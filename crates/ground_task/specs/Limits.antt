@@ -1,9 +1,12 @@
 -- Which limit a refusal of `ground` names.
 use Rattle.std.specs.Prelude.{◌≡◌, true, Option, Some, None}
 use Rattle.ground_task.specs.declared.grounding.GroundErr.{GroundErr}
-use Rattle.ground_task.specs.declared.grounding.GroundErr.TheVariants.{Objects, Size, Instances, Actions, Outcomes, Fluents, Memory}
+use Rattle.ground_task.specs.declared.grounding.GroundErr.TheVariants.{Objects, Size, Instances}
+use Rattle.ground_task.specs.declared.grounding.GroundErr.TheVariants.{Actions, Outcomes, Fluents}
+use Rattle.ground_task.specs.declared.grounding.GroundErr.TheVariants.{Memory}
 use Rattle.pddl_ast.specs.Trees.{DomainTree, ProblemTree}
-use Rattle.pddl_system.specs.Sizes.{Limit, object_limit, size_limit, instance_limit, action_limit, outcome_limit, fluent_limit, keeps}
+use Rattle.pddl_system.specs.Sizes.{Limit, object_limit, size_limit, instance_limit, action_limit}
+use Rattle.pddl_system.specs.Sizes.{outcome_limit, fluent_limit, keeps}
 
 abbrev pub limit_of : GroundErr → Option Limit
 limit_of Objects = Some object_limit

@@ -14,7 +14,8 @@ use pddl_ast::{Formula, ObjectId, TypeId};
 use std::alloc::{AllocError, Global};
 use task_core::{Cond, FluentId};
 
-/// The most bindings of the variables of a quantifier. A formula within the limit of size has fewer.
+/// The most bindings of the variables of a quantifier. A formula within the limit of size has
+/// fewer.
 const MOST_BINDINGS: usize = 1_000_000;
 
 /// The condition that holds always, or never.

@@ -54,7 +54,8 @@ fn one_change(
     positive: bool,
 ) -> Result<Vec<Outcome>, AllocError>
     ensures { IfOk result (λ outcomes. (at : PlainSetting) → map outcome_value outcomes.items
-        ≡ outcomes_under at fluents.now guards.now (plain.one_change (atom_tree atom.now) positive)) }
+        ≡ outcomes_under at fluents.now guards.now
+        (plain.one_change (atom_tree atom.now) positive)) }
 {
     if !guards.may_hold {
         return Ok(no_change(alloc)?);

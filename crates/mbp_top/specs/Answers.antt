@@ -2,7 +2,7 @@
 use Rattle.std.specs.Prelude.{ℕ, Bool, true, false, [], ◌++◌, codes, decimal}
 use Rattle.std.specs.Option.{option_map_or}
 use Rattle.plan_rules.specs.Texts.{line_feed}
-use Rattle.sexpr_text.specs.Kinds.{code_of, name_of, word_of}
+use Rattle.sexpr_text.specs.Kinds.{code_of, kind_name, word_of}
 use Rattle.sexpr_text.specs.declared.faults.InputFault.{InputFault}
 use Rattle.mbp_top.specs.Words.{Bytes}
 
@@ -44,11 +44,12 @@ status_of (affirmed text) = 0
 status_of (denied text) = 1
 status_of (refused refusal) = status_of_refusal refusal
 
--- the line of a fault, as slip-d:1:20: 13 LeftOut :functions; the word stands where the kind has one
+-- the line of a fault, as slip-d:1:20: 13 LeftOut :functions; the word stands where the kind has
+-- one
 abbrev pub fault_line : Bytes → InputFault → Bytes
 fault_line file fault =
     file ++ codes ":" ++ decimal fault.place.line ++ codes ":" ++ decimal fault.place.column
-    ++ codes ": " ++ decimal (code_of fault.kind) ++ codes " " ++ name_of fault.kind
+    ++ codes ": " ++ decimal (code_of fault.kind) ++ codes " " ++ kind_name fault.kind
     ++ option_map_or (λ word. codes " " ++ word) (word_of fault.kind) []
 
 -- the one line of a refusal, without its end

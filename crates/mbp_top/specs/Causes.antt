@@ -2,7 +2,8 @@
 -- command's, or want of memory, which has no further cause. `held` and `failed` are as in Reading.
 use Rattle.std.specs.Prelude.{◌≡◌, ℕ, ◌⊎◌, ⊤, List}
 use Rattle.plan_io.specs.Held.{Held}
-use Rattle.mbp_top.specs.Answers.{Answer, affirmed, denied, refused, Refusal, no_command, text_fault, over_limit, read_fault, no_memory, not_built}
+use Rattle.mbp_top.specs.Answers.{Answer, affirmed, denied, refused, Refusal, no_command}
+use Rattle.mbp_top.specs.Answers.{text_fault, over_limit, read_fault, no_memory, not_built}
 use Rattle.mbp_top.specs.CheckCommand.{IsCheckAnswer}
 use Rattle.mbp_top.specs.GroundCommand.{IsGroundAnswer}
 use Rattle.mbp_top.specs.PlanCommand.{IsPlanAnswer}

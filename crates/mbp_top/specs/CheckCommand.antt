@@ -1,5 +1,6 @@
 -- The command `check`: the verdict on a plan that is handed in.
-use Rattle.std.specs.Prelude.{◌≡◌, ℕ, ◌<◌, ◌≤◌, ◌⊎◌, List, ◌++◌, codes, decimal, length, map, take, Some, None}
+use Rattle.std.specs.Prelude.{◌≡◌, ℕ, ◌<◌, ◌≤◌, ◌⊎◌, List, ◌++◌, codes, decimal, length, map, take}
+use Rattle.std.specs.Prelude.{Some, None}
 use Rattle.exec_graph.specs.Executions.{ReachesMoreThan}
 use Rattle.pddl_ast.specs.Trees.{DomainTree, ProblemTree}
 use Rattle.pddl_system.specs.Fluents.{fluents}
@@ -7,7 +8,8 @@ use Rattle.pddl_system.specs.Settings.{setting}
 use Rattle.pddl_system.specs.Systems.{action_names, entry_of, facts_of, fluent_names, system}
 use Rattle.plan_check.specs.Verdicts.{CanFollowRules, IsVerdict}
 use Rattle.plan_check.specs.declared.verdicts.Reason.{Reason}
-use Rattle.plan_check.specs.declared.verdicts.Reason.TheVariants.{Unexecutable, Stuck, Terminal, Cycle, Unreachable, Formula}
+use Rattle.plan_check.specs.declared.verdicts.Reason.TheVariants.{Unexecutable, Stuck, Terminal}
+use Rattle.plan_check.specs.declared.verdicts.Reason.TheVariants.{Cycle, Unreachable, Formula}
 use Rattle.plan_check.specs.declared.verdicts.Verdict.{Verdict}
 use Rattle.plan_check.specs.declared.verdicts.Verdict.TheVariants.{Yes, No}
 use Rattle.plan_io.specs.Held.{Held}
@@ -31,8 +33,8 @@ use Rattle.mbp_top.specs.Words.{Bytes, CheckWords}
 abbrev pub most_followed : ℕ
 most_followed = 262144
 
--- there are more than so many different states after some of the first uncertain entries, none and all of
--- them included
+-- there are more than so many different states after some of the first uncertain entries, none and
+-- all of them included
 pub record HasTooManyStates (domain : DomainTree) (problem : ProblemTree) : Type 0 where
   pub entries : ℕ
   pub first : entries ≤ length problem.entries
@@ -40,8 +42,8 @@ pub record HasTooManyStates (domain : DomainTree) (problem : ProblemTree) : Type
       (facts_of (setting domain problem) (fluents domain problem))
       (take entries (map (entry_of (fluents domain problem)) problem.entries)))
 
--- there are too many initial states (`TooMany`); or not, but the plan may reach too many configurations; or
--- neither, and then comes what Then says
+-- there are too many initial states (`TooMany`); or not, but the plan may reach too many
+-- configurations; or neither, and then comes what Then says
 abbrev pub ExploreThen : Type 0 → System → PlainPlan → (Answer → Type 0) → Answer → Type 0
 ExploreThen TooMany sys plan Then answer =
     (TooMany × (answer ≡ refused (over_limit (codes "initial"))))
@@ -58,8 +60,8 @@ reason_word Cycle = codes "cycle"
 reason_word Unreachable = codes "unreachable"
 reason_word Formula = codes "formula"
 
--- what is shown of a verdict: yes, with the bound where it has one, as `yes bound 2`; or no, with the
--- reason, as `no cycle`
+-- what is shown of a verdict: yes, with the bound where it has one, as `yes bound 2`; or no, with
+-- the reason, as `no cycle`
 abbrev pub verdict_answer : Verdict → Answer
 verdict_answer (Yes None) = affirmed (codes "yes" ++ line_feed)
 verdict_answer (Yes (Some bound)) = affirmed (codes "yes bound " ++ decimal bound ++ line_feed)
@@ -70,8 +72,8 @@ abbrev pub IsJudged : Class → System → List PlanRule → Answer → Type 0
 IsJudged class sys rules answer =
     (verdict : Verdict) × IsVerdict sys rules class verdict × (answer ≡ verdict_answer verdict)
 
--- what follows once both are read and within the limits: the plan is read, it is a table, it is followed,
--- and judged
+-- what follows once both are read and within the limits: the plan is read, it is a table, it is
+-- followed, and judged
 abbrev pub CheckThen : (Bytes → Held) → (Bytes → Type 0) → CheckWords → DomainTree → ProblemTree
     → Answer → Type 0
 CheckThen held failed asked domain problem =
@@ -102,8 +104,9 @@ pub record HoldsTable (held : Bytes → Held) (fluents actions : List Name) (nam
   pub holds : Holds held (SpellsPlaced fluents actions) name
       (record { plan = table class rules; place = place })
 
--- the plan in the files of these words solves the problem in them: each rule that matches a state which it may
--- reach can be followed there, and the table that its rules denote is a solution of the class
+-- the plan in the files of these words solves the problem in them: each rule that matches a state
+-- which it may reach can be followed there, and the table that its rules denote is a solution of
+-- the class
 pub record IsSolved (class : Class) (sys : System) (rules : List PlanRule) : Type 0 where
   pub executable : CanFollowRules sys rules
   pub solves : IsSolution class sys (denoted sys rules)

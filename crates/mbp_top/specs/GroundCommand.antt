@@ -29,7 +29,8 @@ fluent_line name = atom_text name ++ line_feed
 abbrev pub action_line : Listed → Bytes
 action_line action = count_line (atom_text action.0) action.1
 
--- the listing: the fluents, the actions with their outcomes, and how many uncertain entries there are
+-- the listing: the fluents, the actions with their outcomes, and how many uncertain entries there
+-- are
 abbrev pub listing : List Name → List Listed → ℕ → Bytes
 listing fluents actions uncertain =
     count_line (codes "fluents") (length fluents) ++ flat_map fluent_line fluents

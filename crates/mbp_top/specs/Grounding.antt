@@ -1,8 +1,9 @@
--- What follows once a domain and a problem are read: whether the goal is of the kind that is wanted, and
--- whether all that is counted is within its limits.
+-- What follows once a domain and a problem are read: whether the goal is of the kind that is
+-- wanted, and whether all that is counted is within its limits.
 use Rattle.std.specs.Prelude.{◌≡◌, ◌⊎◌, Some, None, IsSome, codes}
 use Rattle.pddl_ast.specs.Trees.{DomainTree, ProblemTree}
-use Rattle.pddl_system.specs.Sizes.{Limit, object_limit, size_limit, instance_limit, action_limit, outcome_limit, fluent_limit, first_passed}
+use Rattle.pddl_system.specs.Sizes.{Limit, object_limit, size_limit, instance_limit, action_limit}
+use Rattle.pddl_system.specs.Sizes.{outcome_limit, fluent_limit, first_passed}
 use Rattle.sexpr_text.specs.declared.faults.FaultKind.TheVariants.{WrongGoalKind}
 use Rattle.mbp_top.specs.Answers.{Answer, refused, over_limit, text_fault}
 use Rattle.mbp_top.specs.Words.{Bytes}
@@ -16,16 +17,16 @@ limit_name action_limit = codes "actions"
 limit_name outcome_limit = codes "outcomes"
 limit_name fluent_limit = codes "fluents"
 
--- a limit is passed, and the first that is, in the order in which they are tried, is the answer; or all are
--- kept, and then comes what Then says
+-- a limit is passed, and the first that is, in the order in which they are tried, is the answer; or
+-- all are kept, and then comes what Then says
 abbrev pub GroundThen : DomainTree → ProblemTree → (Answer → Type 0) → Answer → Type 0
 GroundThen domain problem Then answer =
     ((limit : Limit) × (first_passed domain problem ≡ Some limit)
     × (answer ≡ refused (over_limit (limit_name limit))))
     ⊎ ((first_passed domain problem ≡ None) × Then answer)
 
--- the problem in the file of this name has no goal by reachability, which is a fault at its definition;
--- or it has one, and then comes what Then says
+-- the problem in the file of this name has no goal by reachability, which is a fault at its
+-- definition; or it has one, and then comes what Then says
 abbrev pub GoalThen : Bytes → ProblemTree → (Answer → Type 0) → Answer → Type 0
 GoalThen name problem Then answer =
     ((problem.goal ≡ None)

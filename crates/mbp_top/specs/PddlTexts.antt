@@ -1,5 +1,5 @@
--- How the files of a domain and a problem are read: which bytes spell which tree, and with which fault
--- other bytes are refused.
+-- How the files of a domain and a problem are read: which bytes spell which tree, and with which
+-- fault other bytes are refused.
 use Rattle.std.specs.Prelude.{◌≡◌}
 use Rattle.pddl_ast.specs.Trees.{DomainTree, ProblemTree}
 use Rattle.pddl_domain.specs.Domains.{SpellsDomain, HasDomainFault}

@@ -65,8 +65,8 @@ IsPlanResult class sys fluents actions answer =
 abbrev pub most_planned : ℕ
 most_planned = 8
 
--- the problem in the file of this name has more fluents than may be so far, which is refused; or the
--- answer is for its system
+-- the problem in the file of this name has more fluents than may be so far, which is refused; or
+-- the answer is for its system
 abbrev pub PlanThen : PlanWords → DomainTree → ProblemTree → Answer → Type 0
 PlanThen asked domain problem answer =
     ((most_planned < length (fluents domain problem))
@@ -75,8 +75,8 @@ PlanThen asked domain problem answer =
     × IsPlanResult asked.class (system domain problem) (fluent_names domain problem)
     (action_names domain problem) answer)
 
--- what follows once both are read: the goal is of the kind that is wanted, the limits are kept, and a plan
--- is looked for
+-- what follows once both are read: the goal is of the kind that is wanted, the limits are kept, and
+-- a plan is looked for
 abbrev pub IsPlanned : PlanWords → DomainTree → ProblemTree → Answer → Type 0
 IsPlanned asked domain problem =
     GoalThen asked.problem problem (GroundThen domain problem (PlanThen asked domain problem))

@@ -1,4 +1,5 @@
--- How the file of a plan is read, over the names of the fluents and actions of a domain and a problem.
+-- How the file of a plan is read, over the names of the fluents and actions of a domain and a
+-- problem.
 use Rattle.std.specs.Prelude.{◌≡◌, List}
 use Rattle.plan_rules.specs.Readings.{SpellsPlanAt, HasPlanFault}
 use Rattle.plan_rules.specs.Rules.{PlainPlan, PlanRule, table, automaton}
@@ -25,8 +26,8 @@ IsFaultyPlan fluents actions name bytes refusal =
     (fault : InputFault) × HasPlanFault fluents actions bytes fault
     × (refusal ≡ text_fault name fault)
 
--- the plan in the file of this name is a table, and then comes what Then says of its rules; or it is an
--- automaton, which is a fault at its place
+-- the plan in the file of this name is a table, and then comes what Then says of its rules; or it
+-- is an automaton, which is a fault at its place
 abbrev pub TableThen : Bytes → Place → PlainPlan → (List PlanRule → Answer → Type 0) → Answer
     → Type 0
 TableThen name place (table class rules) Then answer = Then rules answer

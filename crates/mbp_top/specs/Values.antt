@@ -1,18 +1,24 @@
 -- Private: the answers and commands that the code's own types stand for.
 use Rattle.std.specs.Prelude.{ℕ, List, Result, Ok, Err, string_bytes, codes}
-use Rattle.mbp_top.specs.Answers.{Answer, affirmed, denied, refused, Refusal, no_command, text_fault, over_limit, read_fault, no_memory, not_built}
-use Rattle.pddl_system.specs.Sizes.{object_limit, size_limit, instance_limit, action_limit, outcome_limit, fluent_limit}
+use Rattle.mbp_top.specs.Answers.{Answer, affirmed, denied, refused, Refusal, no_command}
+use Rattle.mbp_top.specs.Answers.{text_fault, over_limit, read_fault, no_memory, not_built}
+use Rattle.pddl_system.specs.Sizes.{object_limit, size_limit, instance_limit, action_limit}
+use Rattle.pddl_system.specs.Sizes.{outcome_limit, fluent_limit}
 use Rattle.plan_rules.specs.Rules.{plain_of}
 use Rattle.plan_rules.specs.declared.rules.PlanRead.{PlanRead}
 use Rattle.mbp_top.specs.Grounding.{limit_name}
 use Rattle.mbp_top.specs.PlanFiles.{PlacedPlan}
-use Rattle.mbp_top.specs.Words.{Bytes, PlanWords, GroundWords, CheckWords, plan, ground, check, Says, SayNothing}
+use Rattle.mbp_top.specs.Words.{Bytes, PlanWords, GroundWords, CheckWords, plan, ground, check}
+use Rattle.mbp_top.specs.Words.{Says, SayNothing}
 use Rattle.sexpr_text.specs.declared.faults.ReadErr.{ReadErr}
 use Rattle.sexpr_text.specs.declared.faults.ReadErr.TheVariants.{Fault, Memory}
 use Rattle.mbp_top.specs.declared.answers.Limit.{Limit}
-use Rattle.mbp_top.specs.declared.answers.Limit.TheVariants.{File, Objects, Size, Instances, Actions, Outcomes, Fluents, Initial, Configurations}
+use Rattle.mbp_top.specs.declared.answers.Limit.TheVariants.{File, Objects, Size, Instances}
+use Rattle.mbp_top.specs.declared.answers.Limit.TheVariants.{Actions, Outcomes, Fluents, Initial}
+use Rattle.mbp_top.specs.declared.answers.Limit.TheVariants.{Configurations}
 use Rattle.mbp_top.specs.declared.answers.Refusal.{Refusal as CodeRefusal}
-use Rattle.mbp_top.specs.declared.answers.Refusal.TheVariants.{NoCommand, TextFault, OverLimit, ReadFault, NoMemory, NotBuilt}
+use Rattle.mbp_top.specs.declared.answers.Refusal.TheVariants.{NoCommand, TextFault, OverLimit}
+use Rattle.mbp_top.specs.declared.answers.Refusal.TheVariants.{ReadFault, NoMemory, NotBuilt}
 use Rattle.mbp_top.specs.declared.answers.Shown.{Shown}
 use Rattle.mbp_top.specs.declared.answers.Shown.TheVariants.{Affirmed, Denied}
 use Rattle.mbp_top.specs.declared.answers.Text.{Text}

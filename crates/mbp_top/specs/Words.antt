@@ -20,8 +20,8 @@ pub record GroundWords : Type 0 where
   pub domain : Bytes
   pub problem : Bytes
 
--- what `check` is asked: whether the plan is one of this class, for the domain and the problem, in the files
--- of these names
+-- what `check` is asked: whether the plan is one of this class, for the domain and the problem, in
+-- the files of these names
 pub record CheckWords : Type 0 where
   pub class : Class
   pub domain : Bytes

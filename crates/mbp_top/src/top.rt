@@ -76,10 +76,10 @@ use std::alloc::Global;
 /// Does what the command words say, and gives the exit status.
 ///
 /// The words after the program's name are one command, where DOMAIN and PROBLEM are names of files
-/// on the shelf: `plan weak DOMAIN PROBLEM`, `ground DOMAIN PROBLEM`, or `check CLASS DOMAIN PROBLEM
-/// PLAN`, CLASS being `weak`, `strong` or `cyclic` and PLAN the name of a plan's file. The text of a
-/// plan, `no plan`, the listing of the fluents and actions, or the verdict on the plan goes to
-/// `out`; every other answer is one line on `err`. The statuses:
+/// on the shelf: `plan weak DOMAIN PROBLEM`, `ground DOMAIN PROBLEM`, or `check CLASS DOMAIN
+/// PROBLEM PLAN`, CLASS being `weak`, `strong` or `cyclic` and PLAN the name of a plan's file. The
+/// text of a plan, `no plan`, the listing of the fluents and actions, or the verdict on the plan
+/// goes to `out`; every other answer is one line on `err`. The statuses:
 ///
 /// - 0: a weak plan is on `out` (weak: from each initial state it may reach the goal), or the
 ///   listing, or that the plan is one of the class;
@@ -192,9 +192,9 @@ pub fn run<S: Shelf, O: Sink, E: Sink>(
         → NoFault (E.faults err.old) (E.faults err.new)
         → (result ≡ 0) ⊎ (result ≡ 8) }
 
-    // `check`, status 0: the table that the third file spells solves the problem that the two others
-    // spell, and the text that was written says yes, for a strong plan with the length of its
-    // longest execution.
+    // `check`, status 0: the table that the third file spells solves the problem that the two
+    // others spell, and the text that was written says yes, for a strong plan with the length of
+    // its longest execution.
     ensures check_yes { (asked : CheckWords) → SaysCheck (map string_bytes words.now) asked
         → result ≡ 0
         → (domain : DomainTree) × (problem : ProblemTree) × (rules : List PlanRule)

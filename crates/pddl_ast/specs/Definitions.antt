@@ -14,4 +14,8 @@ title_of (word span kind (word s name rest)) = Some name
 
 -- where a text has no such list, that is its fault, at its very beginning
 abbrev pub no_define : Flaw
-no_define = record { offset = 0; fault = record { kind = NoDefine; place = record { line = 1; column = 1 } } }
+no_define =
+    record {
+      offset = 0;
+      fault = record { kind = NoDefine; place = record { line = 1; column = 1 } };
+    }

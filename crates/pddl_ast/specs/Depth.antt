@@ -1,6 +1,9 @@
 -- How deep a tree is: how many of its constructors stand over one another at most.
 use Rattle.std.specs.Prelude.{ℕ, ◌+◌, max}
-use Rattle.pddl_ast.specs.Trees.{FormulaTree, FormulaTrees, atom, equal, all, any, negation, implication, exists, forall, no_formula, formula_then, EffectTree, EffectTrees, add, delete, both, one_of, only_when, each, no_effect, effect_then}
+use Rattle.pddl_ast.specs.Trees.{FormulaTree, FormulaTrees, atom, equal, all, any, negation}
+use Rattle.pddl_ast.specs.Trees.{implication, exists, forall, no_formula, formula_then, EffectTree}
+use Rattle.pddl_ast.specs.Trees.{EffectTrees, add, delete, both, one_of, only_when, each, no_effect}
+use Rattle.pddl_ast.specs.Trees.{effect_then}
 
 abbrev mutual
   pub formula_depth : FormulaTree → ℕ

@@ -1,7 +1,8 @@
--- What holds of every domain and every problem that is read: numbers are in range, each atom has as many
--- terms as its predicate takes, variables are in scope, every choice has an alternative, names differ, and
--- no tree is more than 200 deep.
-use Rattle.std.specs.Prelude.{ℕ, zero, suc, ◌≡◌, ◌<◌, ◌≤◌, ◌+◌, ◌++◌, true, false, List, [], ◌∷◌, All, Some, length, map, slice_get, slice_index, IfSome}
+-- What holds of every domain and every problem that is read: numbers are in range, each atom has as
+-- many terms as its predicate takes, variables are in scope, every choice has an alternative, names
+-- differ, and no tree is more than 200 deep.
+use Rattle.std.specs.Prelude.{ℕ, zero, suc, ◌≡◌, ◌<◌, ◌≤◌, ◌+◌, ◌++◌, true, false, List, [], ◌∷◌}
+use Rattle.std.specs.Prelude.{All, Some, length, map, slice_get, slice_index, IfSome}
 use Rattle.std.specs.List.{list_any}
 use Rattle.std.specs.Str.{bytes_eq}
 use Rattle.pddl_ast.specs.declared.trees.Term.{Term}
@@ -11,7 +12,11 @@ use Rattle.pddl_ast.specs.declared.trees.Predicate.{Predicate}
 use Rattle.pddl_ast.specs.Words.{is_dash, is_reserved}
 use Rattle.sexpr_text.specs.Parts.{is_name}
 use Rattle.pddl_ast.specs.Known.{Known}
-use Rattle.pddl_ast.specs.Trees.{FormulaTree, FormulaTrees, atom, equal, all, any, negation, implication, exists, forall, no_formula, formula_then, EffectTree, EffectTrees, add, delete, both, one_of, only_when, each, no_effect, effect_then, SchemaTree, DomainTree, AtomTree, LiteralTree, ProblemTree}
+use Rattle.pddl_ast.specs.Trees.{FormulaTree, FormulaTrees, atom, equal, all, any, negation}
+use Rattle.pddl_ast.specs.Trees.{implication, exists, forall, no_formula, formula_then, EffectTree}
+use Rattle.pddl_ast.specs.Trees.{EffectTrees, add, delete, both, one_of, only_when, each, no_effect}
+use Rattle.pddl_ast.specs.Trees.{effect_then, SchemaTree, DomainTree, AtomTree, LiteralTree}
+use Rattle.pddl_ast.specs.Trees.{ProblemTree}
 use Rattle.pddl_ast.specs.Depth.{formula_depth, effect_depth}
 
 -- how deep a tree may be
@@ -31,7 +36,8 @@ FitsTerm objects variables (Object n) = n < objects
 -- a predicate that is known, with as many terms as it takes
 abbrev pub FitsAtom : Known → ℕ → ℕ → List Term → Type 0
 FitsAtom known variables predicate terms =
-    (slice_get known.arities predicate ≡ Some (length terms)) × All (FitsTerm (length known.objects) variables) terms
+    (slice_get known.arities predicate ≡ Some (length terms))
+    × All (FitsTerm (length known.objects) variables) terms
 
 abbrev pub AreTypes : Known → List ℕ → Type 0
 AreTypes known types = All (λ t. t < length known.types) types
@@ -41,17 +47,22 @@ abbrev mutual
   pub FitsFormula : Known → FormulaTree → ℕ → Type 0
   FitsFormula known (atom predicate terms) variables = FitsAtom known variables predicate terms
   FitsFormula known (equal left right) variables =
-      FitsTerm (length known.objects) variables left × FitsTerm (length known.objects) variables right
+      FitsTerm (length known.objects) variables left
+      × FitsTerm (length known.objects) variables right
   FitsFormula known (all parts) variables = FitsFormulas known parts variables
   FitsFormula known (any parts) variables = FitsFormulas known parts variables
   FitsFormula known (negation part) variables = FitsFormula known part variables
-  FitsFormula known (implication left right) variables = FitsFormula known left variables × FitsFormula known right variables
-  FitsFormula known (exists types part) variables = AreTypes known types × FitsFormula known part (variables + length types)
-  FitsFormula known (forall types part) variables = AreTypes known types × FitsFormula known part (variables + length types)
+  FitsFormula known (implication left right) variables =
+      FitsFormula known left variables × FitsFormula known right variables
+  FitsFormula known (exists types part) variables =
+      AreTypes known types × FitsFormula known part (variables + length types)
+  FitsFormula known (forall types part) variables =
+      AreTypes known types × FitsFormula known part (variables + length types)
 
   pub FitsFormulas : Known → FormulaTrees → ℕ → Type 0
   FitsFormulas known no_formula variables = Unit {0}
-  FitsFormulas known (formula_then f fs) variables = FitsFormula known f variables × FitsFormulas known fs variables
+  FitsFormulas known (formula_then f fs) variables =
+      FitsFormula known f variables × FitsFormulas known fs variables
 
 abbrev pub HasEffect : EffectTrees → Type 0
 HasEffect no_effect = ⊥
@@ -64,12 +75,15 @@ abbrev mutual
   FitsEffect known (delete predicate terms) variables = FitsAtom known variables predicate terms
   FitsEffect known (both parts) variables = FitsEffects known parts variables
   FitsEffect known (one_of parts) variables = HasEffect parts × FitsEffects known parts variables
-  FitsEffect known (only_when condition part) variables = FitsFormula known condition variables × FitsEffect known part variables
-  FitsEffect known (each types part) variables = AreTypes known types × FitsEffect known part (variables + length types)
+  FitsEffect known (only_when condition part) variables =
+      FitsFormula known condition variables × FitsEffect known part variables
+  FitsEffect known (each types part) variables =
+      AreTypes known types × FitsEffect known part (variables + length types)
 
   pub FitsEffects : Known → EffectTrees → ℕ → Type 0
   FitsEffects known no_effect variables = Unit {0}
-  FitsEffects known (effect_then e es) variables = FitsEffect known e variables × FitsEffects known es variables
+  FitsEffects known (effect_then e es) variables =
+      FitsEffect known e variables × FitsEffects known es variables
 
 -- no name comes twice
 abbrev pub AreDistinct : List (List ℕ) → Type 0
@@ -111,8 +125,8 @@ pub record FitsSchema (known : Known) (s : SchemaTree) : Type 0 where
   pub precondition_depth : formula_depth s.precondition ≤ deepest
   pub effect_depth : effect_depth s.effect ≤ deepest
 
--- a domain as its reader gives it. The chain of parents of every type comes to `object`, which is type 0
--- and its own parent. A type's name may be any word but `-`
+-- a domain as its reader gives it. The chain of parents of every type comes to `object`, which is
+-- type 0 and its own parent. A type's name may be any word but `-`
 pub record FitsDomain (d : DomainTree) : Type 0 where
   pub name : is_name d.name ≡ true
   pub type_words : All (λ w. is_dash w ≡ false) d.type_names
@@ -123,7 +137,8 @@ pub record FitsDomain (d : DomainTree) : Type 0 where
   pub rooted : (t : ℕ) → t < length d.type_names → ancestor d.parents (length d.type_names) t ≡ 0
   pub constants : AreObjects (known_in d) d.constants
   pub constants_differ : AreDistinct (names_of_objects d.constants)
-  pub predicate_names : All (λ (p : Predicate). (is_name p.name ≡ true) × (is_reserved p.name ≡ false)) d.predicates
+  pub predicate_names : All
+      (λ (p : Predicate). (is_name p.name ≡ true) × (is_reserved p.name ≡ false)) d.predicates
   pub predicates_differ : AreDistinct (known_in d).predicates
   pub actions : All (FitsSchema (known_in d)) d.actions
   pub actions_differ : AreDistinct (map (λ (s : SchemaTree). s.name) d.actions)
@@ -131,7 +146,8 @@ pub record FitsDomain (d : DomainTree) : Type 0 where
 -- an atom over constants and objects
 abbrev pub FitsGroundAtom : Known → AtomTree → Type 0
 FitsGroundAtom known a =
-    (slice_get known.arities a.predicate ≡ Some (length a.objects)) × All (λ n. n < length known.objects) a.objects
+    (slice_get known.arities a.predicate ≡ Some (length a.objects))
+    × All (λ n. n < length known.objects) a.objects
 
 abbrev pub FitsLiterals : Known → List LiteralTree → Type 0
 FitsLiterals known = All (λ (l : LiteralTree). FitsGroundAtom known l.atom)

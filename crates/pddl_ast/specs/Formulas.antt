@@ -1,14 +1,16 @@
 -- Formulas: what is wrong in one, and the tree that it is.
 --
--- A formula is a list. `()` is true; `and`, `or`, `not`, `imply`, `exists`, `forall` and `=` have their
--- usual meaning; `when`, `oneof` and `unknown` begin no formula; every other word at the head is a
--- predicate. Inside a list of a wrong shape nothing else is looked for.
+-- A formula is a list. `()` is true; `and`, `or`, `not`, `imply`, `exists`, `forall` and `=` have
+-- their usual meaning; `when`, `oneof` and `unknown` begin no formula; every other word at the head
+-- is a predicate. Inside a list of a wrong shape nothing else is looked for.
 use Rattle.std.specs.Prelude.{ℕ, ◌==◌, if◌then◌else◌, List, [], ◌∷◌, ◌++◌}
 use Rattle.sexpr_text.specs.declared.forms.Span.{Span}
 use Rattle.sexpr_text.specs.declared.faults.FaultKind.TheVariants.{BadForm}
 use Rattle.sexpr_text.specs.Forest.{Forest, nothing, word, group}
 use Rattle.sexpr_text.specs.Flaws.{Flaw, flaw_at}
-use Rattle.pddl_ast.specs.declared.keywords.Keyword.TheVariants.{And, Or, Not, Imply, Exists, Forall, Equals, When, Oneof, Unknown, Other}
+use Rattle.pddl_ast.specs.declared.keywords.Keyword.TheVariants.{And, Or, Not, Imply, Exists}
+use Rattle.pddl_ast.specs.declared.keywords.Keyword.TheVariants.{Forall, Equals, When, Oneof}
+use Rattle.pddl_ast.specs.declared.keywords.Keyword.TheVariants.{Unknown, Other}
 use Rattle.pddl_ast.specs.declared.trees.Term.{Term}
 use Rattle.pddl_ast.specs.declared.trees.Term.TheVariants.{Object}
 use Rattle.pddl_ast.specs.declared.typed_lists.Declares.TheVariants.{Variables}
@@ -16,7 +18,8 @@ use Rattle.pddl_ast.specs.Words.{keyword_of}
 use Rattle.pddl_ast.specs.Known.{Known}
 use Rattle.pddl_ast.specs.Atoms.{count, terms_flaws, terms_of, atom_flaws, predicate_number}
 use Rattle.pddl_ast.specs.TypedLists.{typed_list_flaws, typed_groups, names_of, types_of}
-use Rattle.pddl_ast.specs.Trees.{FormulaTree, atom, equal, all, any, negation, implication, exists, forall, formula_row}
+use Rattle.pddl_ast.specs.Trees.{FormulaTree, atom, equal, all, any, negation, implication, exists}
+use Rattle.pddl_ast.specs.Trees.{forall, formula_row}
 
 -- the formula that is true of everything, `()`
 abbrev pub truth : FormulaTree
@@ -42,8 +45,10 @@ abbrev mutual
   -- everything that is wrong in a row of formulas
   pub formulas_flaws : Known → Forest → List (List ℕ) → List Flaw
   formulas_flaws known nothing scope = []
-  formulas_flaws known (word span w rest) scope = flaw_at span BadForm ∷ formulas_flaws known rest scope
-  formulas_flaws known (group span parts rest) scope = formula_flaws known parts span scope ++ formulas_flaws known rest scope
+  formulas_flaws known (word span w rest) scope =
+      flaw_at span BadForm ∷ formulas_flaws known rest scope
+  formulas_flaws known (group span parts rest) scope =
+      formula_flaws known parts span scope ++ formulas_flaws known rest scope
 
   -- everything that is wrong in the formula that the list with these parts and this span is
   pub formula_flaws : Known → Forest → Span → List (List ℕ) → List Flaw
@@ -63,13 +68,15 @@ abbrev mutual
     | Other ↦ atom_flaws known scope span head w parts
   ]
 
-  -- the same for a quantifier with these parts after its head: a list of variables and a formula. Where
-  -- there is no list of variables the formula is not looked into
+  -- the same for a quantifier with these parts after its head: a list of variables and a formula.
+  -- Where there is no list of variables the formula is not looked into
   pub quantifier_flaws : Known → Forest → Span → List (List ℕ) → List Flaw
   quantifier_flaws known nothing span scope = bad_list span
-  quantifier_flaws known (word inner w rest) span scope = if count rest == 1 then bad_list inner else bad_list span
+  quantifier_flaws known (word inner w rest) span scope =
+      if count rest == 1 then bad_list inner else bad_list span
   quantifier_flaws known (group inner variables rest) span scope =
-      if count rest == 1 then variables_flaws known variables ++ formulas_flaws known rest (inner_scope scope variables)
+      if count rest == 1 then variables_flaws known variables
+      ++ formulas_flaws known rest (inner_scope scope variables)
       else bad_list span
 
 -- the first of a row of formulas
@@ -96,7 +103,8 @@ abbrev mutual
   pub formulas_of : Known → Forest → List (List ℕ) → List FormulaTree
   formulas_of known nothing scope = []
   formulas_of known (word span w rest) scope = formulas_of known rest scope
-  formulas_of known (group span parts rest) scope = formula_of known parts scope ∷ formulas_of known rest scope
+  formulas_of known (group span parts rest) scope =
+      formula_of known parts scope ∷ formulas_of known rest scope
 
   -- the tree of the formula that the list with these parts is
   pub formula_of : Known → Forest → List (List ℕ) → FormulaTree
@@ -117,8 +125,10 @@ abbrev mutual
   ]
 
   -- the tree of a quantifier with these parts after its head
-  pub quantified_of : Known → Forest → List (List ℕ) → (List ℕ → FormulaTree → FormulaTree) → FormulaTree
+  pub quantified_of : Known → Forest → List (List ℕ) → (List ℕ → FormulaTree → FormulaTree)
+      → FormulaTree
   quantified_of known nothing scope quantifier = truth
   quantified_of known (word inner w rest) scope quantifier = truth
   quantified_of known (group inner variables rest) scope quantifier =
-      quantifier (variable_types known variables) (first_formula (formulas_of known rest (inner_scope scope variables)))
+      quantifier (variable_types known variables)
+      (first_formula (formulas_of known rest (inner_scope scope variables)))

@@ -2,7 +2,8 @@
 use Rattle.std.specs.Prelude.{ℕ, Bool, true, false, not, ◌==◌, List, ◌++◌, map, length}
 use Rattle.sexpr_text.specs.Forest.{Forest}
 use Rattle.sexpr_text.specs.Flaws.{Flaw}
-use Rattle.pddl_ast.specs.TypedLists.{Group, names_flaws, type_flaws, groups_after, typed_after, names_of}
+use Rattle.pddl_ast.specs.TypedLists.{Group, names_flaws, type_flaws, groups_after, typed_after}
+use Rattle.pddl_ast.specs.TypedLists.{names_of}
 use Rattle.pddl_ast.specs.Environment.{group_value}
 use Rattle.pddl_ast.specs.declared.typed_lists.Declares.{Declares}
 use Rattle.pddl_ast.specs.declared.typed_lists.Pending.{Pending}
@@ -13,7 +14,8 @@ flaws_where declares types true rest seen named = type_flaws declares types rest
 flaws_where declares types false rest seen named = names_flaws declares types rest seen named
 
 abbrev pub flaws_of : Declares → List (List ℕ) → List (List ℕ) → Pending → Forest → List Flaw
-flaws_of declares types seen p rest = flaws_where declares types p.typed rest seen (not (length p.names.items == 0))
+flaws_of declares types seen p rest =
+    flaws_where declares types p.typed rest seen (not (length p.names.items == 0))
 
 -- the groups that the rest gives
 abbrev pub groups_where : Bool → Forest → List (List ℕ) → List Group

@@ -1,5 +1,7 @@
--- Private: how the variables in scope are held, so that what a name means is found without a walk through them:
--- beside the variables, for each name that has been in scope, the number of the variable that it means now.
+-- Private: how the variables in scope are held, so that what a name means is found without a walk
+-- through them:
+-- beside the variables, for each name that has been in scope, the number of the variable that it
+-- means now.
 use Rattle.std.specs.Prelude.{◌≡◌, ℕ, ◌≤◌, List, [], ◌∷◌, Option, None, map, length, reverse}
 use Rattle.std.specs.Option.{unwrap_or}
 use Rattle.std.specs.Str.{bytes_eq}
@@ -28,7 +30,8 @@ names_in variables = map (λ v. v.name) variables
 -- each variable knows what its name means outside it. Here the innermost is first
 abbrev pub KnowHidden : List Variable → Type 0
 KnowHidden [] = Unit {0}
-KnowHidden (inner ∷ outer) = (inner.hidden ≡ number_from_inside (names_in outer) inner.name) × KnowHidden outer
+KnowHidden (inner ∷ outer) =
+    (inner.hidden ≡ number_from_inside (names_in outer) inner.name) × KnowHidden outer
 
 -- the table says of each name what it means, and can say so again when variables leave
 pub record Tells (variables : List Variable) (table : Table) : Type 0 where

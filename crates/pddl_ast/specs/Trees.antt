@@ -1,6 +1,6 @@
--- Domains and problems as plain trees: what the types of `trees` stand for, with lists in the place of
--- vectors, whose capacity no text spells. `Term`, `Named` and `Predicate` hold no vector, so they stand
--- for themselves.
+-- Domains and problems as plain trees: what the types of `trees` stand for, with lists in the place
+-- of vectors, whose capacity no text spells. `Term`, `Named` and `Predicate` hold no vector, so
+-- they stand for themselves.
 use Rattle.std.specs.Prelude.{ℕ, Bool, List, [], ◌∷◌, Option}
 use Rattle.sexpr_text.specs.declared.forms.Place.{Place}
 use Rattle.pddl_ast.specs.declared.trees.Term.{Term}

@@ -1,19 +1,23 @@
--- Typed lists of names or of variables. A typed list is a row of groups; a group is one or more names
--- followed by `-` and a type word. The last group may lack both, and then its type is `object`.
-use Rattle.std.specs.Prelude.{ℕ, Bool, true, false, ◌&&◌, not, if◌then◌else◌, List, [], ◌∷◌, ◌++◌, map, codes}
+-- Typed lists of names or of variables. A typed list is a row of groups; a group is one or more
+-- names followed by `-` and a type word. The last group may lack both, and then its type is
+-- `object`.
+use Rattle.std.specs.Prelude.{ℕ, Bool, true, false, ◌&&◌, not, if◌then◌else◌, List, [], ◌∷◌, ◌++◌}
+use Rattle.std.specs.Prelude.{map, codes}
 use Rattle.std.specs.List.{list_any}
 use Rattle.std.specs.Option.{unwrap_or}
 use Rattle.std.specs.Str.{bytes_eq}
 use Rattle.sexpr_text.specs.declared.forms.Span.{Span}
 use Rattle.sexpr_text.specs.declared.faults.FaultKind.{FaultKind}
-use Rattle.sexpr_text.specs.declared.faults.FaultKind.TheVariants.{BadForm, UnknownName, DoubleName, LeftOut}
+use Rattle.sexpr_text.specs.declared.faults.FaultKind.TheVariants.{BadForm, UnknownName, DoubleName}
+use Rattle.sexpr_text.specs.declared.faults.FaultKind.TheVariants.{LeftOut}
 use Rattle.sexpr_text.specs.Forest.{Forest, nothing, word, group}
 use Rattle.sexpr_text.specs.Flaws.{Flaw, flaw_at}
 use Rattle.pddl_ast.specs.Words.{is_variable, is_dash}
 use Rattle.sexpr_text.specs.Parts.{is_name}
 use Rattle.pddl_ast.specs.Known.{number_in}
 use Rattle.pddl_ast.specs.declared.typed_lists.Declares.{Declares}
-use Rattle.pddl_ast.specs.declared.typed_lists.Declares.TheVariants.{Types, Objects, Variables, PredicateVariables}
+use Rattle.pddl_ast.specs.declared.typed_lists.Declares.TheVariants.{Types, Objects, Variables}
+use Rattle.pddl_ast.specs.declared.typed_lists.Declares.TheVariants.{PredicateVariables}
 
 -- the names of a group in order, and its type word
 pub record Group : Type 0 where
@@ -45,12 +49,14 @@ is_type PredicateVariables types w = list_any (bytes_eq w) types
 abbrev pub name_flaws : Declares → Span → List ℕ → List (List ℕ) → List Flaw
 name_flaws declares span w seen =
     if not (is_wanted declares w) then flaw_at span BadForm ∷ []
-    else if not (may_repeat declares w) && list_any (bytes_eq w) seen then flaw_at span DoubleName ∷ []
+    else if not (may_repeat declares w) && list_any (bytes_eq w) seen then flaw_at span DoubleName
+    ∷ []
     else []
 
 -- what is wrong with a word in a type's place
 abbrev pub word_flaws : Declares → List (List ℕ) → Span → List ℕ → List Flaw
-word_flaws declares types span w = if is_type declares types w then [] else flaw_at span UnknownName ∷ []
+word_flaws declares types span w =
+    if is_type declares types w then [] else flaw_at span UnknownName ∷ []
 
 -- the names that came so far, after this one
 abbrev pub seen_after : Declares → List ℕ → List (List ℕ) → List (List ℕ)
@@ -72,24 +78,28 @@ begins_type nothing = false
 begins_type (word span w rest) = not (is_dash w)
 begins_type (group span parts rest) = true
 
--- what is wrong with a `-`, where the group has a name before it or not: it has none, or no type follows
+-- what is wrong with a `-`, where the group has a name before it or not: it has none, or no type
+-- follows
 abbrev pub dash_flaws : Span → Bool → Forest → List Flaw
 dash_flaws span named rest = if named && begins_type rest then [] else flaw_at span BadForm ∷ []
 
 abbrev mutual
-  -- everything that is wrong in a typed list, where these names came before it, and where its first group
-  -- has a name already or not
+  -- everything that is wrong in a typed list, where these names came before it, and where its first
+  -- group has a name already or not
   pub names_flaws : Declares → List (List ℕ) → Forest → List (List ℕ) → Bool → List Flaw
   names_flaws declares types nothing seen named = []
-  names_flaws declares types (group span parts rest) seen named = flaw_at span BadForm ∷ names_flaws declares types rest seen named
+  names_flaws declares types (group span parts rest) seen named =
+      flaw_at span BadForm ∷ names_flaws declares types rest seen named
   names_flaws declares types (word span w rest) seen named =
       if is_dash w then dash_flaws span named rest ++ type_flaws declares types rest seen
-      else name_flaws declares span w seen ++ names_flaws declares types rest (seen_after declares w seen) true
+      else name_flaws declares span w seen
+      ++ names_flaws declares types rest (seen_after declares w seen) true
 
   -- the same for what follows a `-`
   pub type_flaws : Declares → List (List ℕ) → Forest → List (List ℕ) → List Flaw
   type_flaws declares types nothing seen = []
-  type_flaws declares types (group span parts rest) seen = flaw_at span (either_fault parts) ∷ names_flaws declares types rest seen false
+  type_flaws declares types (group span parts rest) seen =
+      flaw_at span (either_fault parts) ∷ names_flaws declares types rest seen false
   type_flaws declares types (word span w rest) seen =
       if is_dash w then dash_flaws span false rest ++ type_flaws declares types rest seen
       else word_flaws declares types span w ++ names_flaws declares types rest seen false
@@ -107,12 +117,14 @@ abbrev mutual
   pub groups_after : Forest → List (List ℕ) → List Group
   groups_after nothing names = last_group names
   groups_after (group span parts rest) names = groups_after rest names
-  groups_after (word span w rest) names = if is_dash w then typed_after rest names else groups_after rest (names ++ w ∷ [])
+  groups_after (word span w rest) names =
+      if is_dash w then typed_after rest names else groups_after rest (names ++ w ∷ [])
 
   pub typed_after : Forest → List (List ℕ) → List Group
   typed_after nothing names = []
   typed_after (group span parts rest) names = groups_after rest []
-  typed_after (word span w rest) names = record { names = names; type_word = w } ∷ groups_after rest []
+  typed_after (word span w rest) names =
+      record { names = names; type_word = w } ∷ groups_after rest []
 
 -- the groups of a typed list
 abbrev pub typed_groups : Forest → List Group

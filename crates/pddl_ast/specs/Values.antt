@@ -1,12 +1,17 @@
 -- The plain trees that the types of `trees` stand for.
 use Rattle.std.specs.Prelude.{map}
 use Rattle.std.specs.Option.{option_map}
-use Rattle.pddl_ast.specs.Trees.{FormulaTree, atom, equal, all, any, negation, implication, exists, forall, formula_row, EffectTree, add, delete, both, one_of, only_when, each, effect_row, SchemaTree, DomainTree, AtomTree, LiteralTree, ProblemTree}
+use Rattle.pddl_ast.specs.Trees.{FormulaTree, atom, equal, all, any, negation, implication, exists}
+use Rattle.pddl_ast.specs.Trees.{forall, formula_row, EffectTree, add, delete, both, one_of}
+use Rattle.pddl_ast.specs.Trees.{only_when, each, effect_row, SchemaTree, DomainTree, AtomTree}
+use Rattle.pddl_ast.specs.Trees.{LiteralTree, ProblemTree}
 use Rattle.pddl_ast.specs.declared.trees.Formula.{Formula}
-use Rattle.pddl_ast.specs.declared.trees.Formula.TheOpen.{Formula-F, Atom, Equal, All, Any, Not, Imply, Exists, Forall}
+use Rattle.pddl_ast.specs.declared.trees.Formula.TheOpen.{Formula-F, Atom, Equal, All, Any, Not}
+use Rattle.pddl_ast.specs.declared.trees.Formula.TheOpen.{Imply, Exists, Forall}
 use Rattle.pddl_ast.specs.declared.trees.Formula.TheFolds.{fold-Formula}
 use Rattle.pddl_ast.specs.declared.trees.Effect.{Effect}
-use Rattle.pddl_ast.specs.declared.trees.Effect.TheOpen.{Effect-F, Add, Delete, Both, OneOf, When, Each}
+use Rattle.pddl_ast.specs.declared.trees.Effect.TheOpen.{Effect-F, Add, Delete, Both, OneOf, When}
+use Rattle.pddl_ast.specs.declared.trees.Effect.TheOpen.{Each}
 use Rattle.pddl_ast.specs.declared.trees.Effect.TheFolds.{fold-Effect}
 use Rattle.pddl_ast.specs.declared.trees.Schema.{Schema}
 use Rattle.pddl_ast.specs.declared.trees.Domain.{Domain}
@@ -41,10 +46,26 @@ abbrev pub effect_value : Effect → EffectTree
 effect_value = fold-Effect EffectTree effect_step
 
 abbrev pub schema_value : Schema → SchemaTree
-schema_value s = record { name = s.name; parameters = s.parameters.items; precondition = formula_value s.precondition; effect = effect_value s.effect }
+schema_value s =
+    record {
+      name = s.name;
+      parameters = s.parameters.items;
+      precondition = formula_value
+          s.precondition;
+      effect = effect_value s.effect;
+    }
 
 abbrev pub domain_value : Domain → DomainTree
-domain_value d = record { name = d.name; type_names = d.type_names.items; parents = d.parents.items; constants = d.constants.items; predicates = d.predicates.items; actions = map schema_value d.actions.items }
+domain_value d =
+    record {
+      name = d.name;
+      type_names = d.type_names.items;
+      parents = d.parents.items;
+      constants = d.constants.items;
+      predicates = d.predicates.items;
+      actions = map schema_value
+          d.actions.items;
+    }
 
 abbrev pub atom_value : GroundAtom → AtomTree
 atom_value a = record { predicate = a.predicate; objects = a.objects.items }
@@ -57,7 +78,9 @@ problem_value p = record {
   name = p.name;
   objects = p.objects.items;
   facts = map atom_value p.facts.items;
-  entries = map (λ entry. map (λ alternative. map literal_value alternative.items) entry.items) p.entries.items;
+  entries =
+      map (λ entry. map (λ alternative. map literal_value alternative.items) entry.items)
+      p.entries.items;
   goal = option_map formula_value p.goal;
   place = p.place;
 }

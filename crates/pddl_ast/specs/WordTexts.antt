@@ -3,8 +3,8 @@ use Rattle.std.specs.Prelude.{◌≡◌, ℕ, ◌<◌, true, List, All, length}
 use Rattle.sexpr_text.specs.Forest.{Forest, nothing, word, group}
 use Rattle.sexpr_text.specs.Formed.{is_lower_word_byte}
 
--- a word as texts spell it: of one byte at least, each of 33 to 126, and none of them `(`, `)`, `;` or a
--- letter `A` to `Z`
+-- a word as texts spell it: of one byte at least, each of 33 to 126, and none of them `(`, `)`, `;`
+-- or a letter `A` to `Z`
 pub record IsWordText (text : List ℕ) : Type 0 where
   pub some : 0 < length text
   pub bytes : All (λ c. is_lower_word_byte c ≡ true) text

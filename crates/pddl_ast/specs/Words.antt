@@ -1,8 +1,11 @@
 -- What words mean where they stand. A word is the list of its bytes, in lower case.
-use Rattle.std.specs.Prelude.{ℕ, Bool, true, false, ◌||◌, not, ◌==◌, if◌then◌else◌, List, codes, slice_index}
+use Rattle.std.specs.Prelude.{ℕ, Bool, true, false, ◌||◌, not, ◌==◌, if◌then◌else◌, List, codes}
+use Rattle.std.specs.Prelude.{slice_index}
 use Rattle.std.specs.Str.{bytes_eq}
 use Rattle.pddl_ast.specs.declared.keywords.Keyword.{Keyword}
-use Rattle.pddl_ast.specs.declared.keywords.Keyword.TheVariants.{And, Or, Not, Imply, Exists, Forall, Equals, When, Oneof, Unknown, Other}
+use Rattle.pddl_ast.specs.declared.keywords.Keyword.TheVariants.{And, Or, Not, Imply, Exists}
+use Rattle.pddl_ast.specs.declared.keywords.Keyword.TheVariants.{Forall, Equals, When, Oneof}
+use Rattle.pddl_ast.specs.declared.keywords.Keyword.TheVariants.{Unknown, Other}
 
 -- what a word means as the first item of a list
 unfoldable pub keyword_of : List ℕ → Keyword
@@ -39,7 +42,10 @@ is_variable w = slice_index w 0 == 63
 -- the heads of conditions and effects that are left out: of numbers, preferences and probabilities
 unfoldable pub is_left_out : List ℕ → Bool
 is_left_out w =
-    bytes_eq w (codes "<") || bytes_eq w (codes ">") || bytes_eq w (codes "<=") || bytes_eq w (codes ">=")
-    || bytes_eq w (codes "preference") || bytes_eq w (codes "increase") || bytes_eq w (codes "decrease")
-    || bytes_eq w (codes "assign") || bytes_eq w (codes "scale-up") || bytes_eq w (codes "scale-down")
+    bytes_eq w (codes "<") || bytes_eq w (codes ">") || bytes_eq w (codes "<=")
+    || bytes_eq w (codes ">=")
+    || bytes_eq w (codes "preference") || bytes_eq w (codes "increase")
+    || bytes_eq w (codes "decrease")
+    || bytes_eq w (codes "assign") || bytes_eq w (codes "scale-up")
+    || bytes_eq w (codes "scale-down")
     || bytes_eq w (codes "probabilistic")

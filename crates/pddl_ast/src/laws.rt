@@ -75,8 +75,8 @@ pub fn typed_lists_fit()
         → All (λ name. is_wanted declares name ≡ true) (names_of (typed_groups list)) }
 {}
 
-/// The names that are declared after a typed list: its constants, objects and variables are added to
-/// those before it, and a predicate's variables aren't.
+/// The names that are declared after a typed list: its constants, objects and variables are added
+/// to those before it, and a predicate's variables aren't.
 pub fn names_are_added()
     ensures objects { (names before : List (List ℕ))
         → all_seen Objects names before ≡ before ++ names }

@@ -4,9 +4,9 @@
 //! `trees` has the types; `specs/Trees.antt` the plain trees that they stand for, and
 //! `specs/Fits.antt` what holds of every domain and problem that is read. `specs/TypedLists.antt`,
 //! `specs/Atoms.antt`, `specs/Formulas.antt` and `specs/Effects.antt` say what is wrong in a row of
-//! forms, as the list of all its flaws in the order of the text, and which tree it is. A reader gives
-//! exactly that tree where the list is empty, and else the list's first flaw; it may fail for want
-//! of memory. `laws` says that the flaws stand in order and that what has none fits.
+//! forms, as the list of all its flaws in the order of the text, and which tree it is. A reader
+//! gives exactly that tree where the list is empty, and else the list's first flaw; it may fail for
+//! want of memory. `laws` says that the flaws stand in order and that what has none fits.
 #![tactic(auto)]
 
 mod atoms;

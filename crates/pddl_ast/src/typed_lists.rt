@@ -210,7 +210,8 @@ impl Pending {
         ensures names { OnOk result (state.names_so_far self.new ≡ state.names_so_far self.old) }
         ensures fault { IfErr result (λ e.
             IfFault e (λ fault. (rest : Forest) (seen : List (List ℕ)) →
-            first_listed (state.flaws_of declares types.now seen self.old (word_then span word.now rest))
+            first_listed (state.flaws_of declares types.now seen self.old
+            (word_then span word.now rest))
             ≡ Some fault)) }
     {
         let type_word = read_type(alloc, declares, types, span, word)?;
@@ -272,7 +273,8 @@ impl Pending {
             ≡ state.names_so_far self.old ++ word.now ∷ []) }
         ensures seen { OnOk result (seen.new ≡ lists.seen_after declares word.now seen.old) }
         ensures fault { IfErr result (λ e. IfFault e (λ fault. (rest : Forest) →
-            first_listed (state.flaws_of declares types.now seen.old self.old (word_then span word.now rest))
+            first_listed (state.flaws_of declares types.now seen.old self.old
+            (word_then span word.now rest))
             ≡ Some fault)) }
     {
         self.names

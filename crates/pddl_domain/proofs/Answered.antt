@@ -16,7 +16,7 @@ use Rattle.pddl_ast.specs.Trees.{DomainTree}
 use Rattle.pddl_ast.specs.Values.{domain_value}
 use Rattle.pddl_domain.specs.Domains.{domain_passes, domain_tree, SpellsDomain, HasDomainFault}
 use Rattle.pddl_domain.specs.Reading.{domain_flaws, tree_of}
-use Rattle.pddl_domain.specs.Sections.{name_of, sections_of}
+use Rattle.pddl_domain.specs.Sections.{defined_name, sections_of}
 use Rattle.pddl_domain.proofs.PassLemmas.{fault_in_turn, domain_in_turn, tree_is}
 use Rattle.pddl_domain.proofs.Risen.{Risen}
 use Rattle.pddl_domain.proofs.Orders.{Laws, domain-ordered}
@@ -43,7 +43,7 @@ met laws forms size rising =
     ∙ ap first_listed (sym (domain_in_turn forms))
 
 pub read_spelled : Laws → (b : List ℕ) (forms : Forest) (size : ℕ) → SpellsTrees b forms → IsRising 0 size forms → (r : Result Domain ReadErr)
-    → OnOk r (domain_flaws forms ≡ []) → IfOk r (λ d. domain_value d ≡ tree_of (name_of forms) (sections_of forms))
+    → OnOk r (domain_flaws forms ≡ []) → IfOk r (λ d. domain_value d ≡ tree_of (defined_name forms) (sections_of forms))
     → IfOk r (λ d. SpellsDomain b (domain_value d))
 read_spelled laws b forms size spelled rising (Ok d) sound read =
     (forms, spelled, met laws forms size rising ∙ ap first_listed sound, sym (read ∙ tree_is forms))

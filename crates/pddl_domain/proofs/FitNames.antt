@@ -17,7 +17,7 @@ use Rattle.pddl_ast.specs.Fits.{AreDistinct}
 use Rattle.pddl_ast.specs.TypedLists.{Group, names_of, type_number, typed_groups}
 use Rattle.pddl_ast.proofs.Fitting.{no_first, no_second, where_true, where_false}
 use Rattle.pddl_ast.specs.Definitions.{title_of}
-use Rattle.pddl_domain.specs.Sections.{name_and_sections, definition, name_of}
+use Rattle.pddl_domain.specs.Sections.{name_and_sections, definition, defined_name}
 use Rattle.pddl_domain.specs.Constants as specs
 use Rattle.pddl_domain.proofs.TypeLemmas.{type_number_below}
 use Rattle.pddl_domain.proofs.FitTypes.{distinct-push}
@@ -84,7 +84,7 @@ named None h = no_bytes
     no_bytes = refl
 named (Some d) h = h
 
-pub name-fits : (forms : Forest) → is_name (name_of forms) ≡ true
+pub name-fits : (forms : Forest) → is_name (defined_name forms) ≡ true
 name-fits forms =
     named (definition forms)
     (found-fits (codes "domain") (first_group_with (is_definition (codes "domain")) forms) (first-passes (is_definition (codes "domain")) forms))

@@ -19,7 +19,7 @@ use Rattle.pddl_ast.specs.Fits.{AreDistinct, FitsDomain, FitsSchema, IsKnown, kn
 use Rattle.pddl_ast.specs.Values.{domain_value}
 use Rattle.pddl_ast.specs.TypedLists.{names_of, typed_groups, typed_list_flaws, all_seen, is_wanted}
 use Rattle.pddl_ast.proofs.Fitting.{no_first, no_second}
-use Rattle.pddl_domain.specs.Sections.{name_of, sections_of, definition_flaws, sections_flaws, none_came}
+use Rattle.pddl_domain.specs.Sections.{defined_name, sections_of, definition_flaws, sections_flaws, none_came}
 use Rattle.pddl_domain.specs.Types.{type_names, type_parents, types_flaws, loop_flaws}
 use Rattle.pddl_domain.specs.Constants.{constants_flaws, constants_of, predicates_flaws, predicates_of}
 use Rattle.pddl_domain.specs.Actions.{actions_passes, schemas_of}
@@ -128,7 +128,7 @@ fits lists trees forms nest none =
     }
 
 pub read_fits : ListLaws → TreeLaws → (forms : Forest) → nesting_of forms ≤ 200 → (r : Result Domain ReadErr)
-    → OnOk r (domain_flaws forms ≡ []) → IfOk r (λ d. domain_value d ≡ tree_of (name_of forms) (sections_of forms))
+    → OnOk r (domain_flaws forms ≡ []) → IfOk r (λ d. domain_value d ≡ tree_of (defined_name forms) (sections_of forms))
     → IfOk r (λ d. FitsDomain (domain_value d))
 read_fits lists trees forms nest (Ok d) sound read = subst FitsDomain (sym (read ∙ tree_is forms)) (fits lists trees forms nest sound)
 read_fits lists trees forms nest (Err e) sound read = tt

@@ -9,7 +9,7 @@ use Rattle.pddl_domain.specs.Actions.{action_in, actions_passes, schemas_of, sec
 use Rattle.pddl_domain.specs.ActionParts.{in_turn, section_flaws, section_names, section_actions, actions_flaws, all_actions}
 use Rattle.pddl_domain.specs.Domains.{domain_passes, domain_tree, section_passes as all_section_passes, types_section, constants_section, predicates_section, types_in, known_of}
 use Rattle.pddl_domain.specs.Reading.{typed_flaws, declared_flaws, vocabulary_flaws, contents_flaws, all_section_flaws, domain_flaws, tree_of}
-use Rattle.pddl_domain.specs.Sections.{definition_flaws, name_of, sections_of, sections_flaws, none_came}
+use Rattle.pddl_domain.specs.Sections.{definition_flaws, defined_name, sections_of, sections_flaws, none_came}
 use Rattle.pddl_domain.specs.Types.{types_flaws, loop_flaws}
 use Rattle.pddl_domain.specs.Constants.{constants_flaws, predicates_flaws}
 
@@ -69,6 +69,6 @@ domain_in_turn forms =
     ++ (constants_flaws (types_in sections) (constants_section sections) ++ (predicates_flaws (types_in sections) [] (predicates_section sections) ++ fs))))))
     (actions_in_turn (known_of sections) sections [])
 
-pub tree_is : (forms : Forest) → tree_of (name_of forms) (sections_of forms) ≡ domain_tree forms
+pub tree_is : (forms : Forest) → tree_of (defined_name forms) (sections_of forms) ≡ domain_tree forms
 unfolding tree_of
 tree_is forms = ap (λ actions. record (domain_tree forms) { actions = actions }) (actions_read (known_of (sections_of forms)) (sections_of forms))

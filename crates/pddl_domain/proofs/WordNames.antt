@@ -24,7 +24,7 @@ use Rattle.pddl_domain.specs.Constants as specs
 use Rattle.pddl_domain.specs.Domains.{constants_section, domain_tree, known_of, predicates_section, types_in}
 use Rattle.pddl_domain.specs.Reading.{domain_flaws, tree_of}
 use Rattle.pddl_ast.specs.Definitions.{title_of}
-use Rattle.pddl_domain.specs.Sections.{definition, name_and_sections, name_of, section_kind, section_named, sections_of}
+use Rattle.pddl_domain.specs.Sections.{definition, name_and_sections, defined_name, section_kind, section_named, sections_of}
 use Rattle.pddl_domain.specs.WordNames.{HasWordNames}
 use Rattle.pddl_domain.proofs.FitNames.{names-named_of}
 use Rattle.pddl_domain.proofs.Fitted.{flawless}
@@ -145,7 +145,7 @@ words forms h none =
     }
 
 pub read_words : (forms : Forest) (size : ℕ) → IsRising 0 size forms → (r : Result Domain ReadErr)
-    → OnOk r (domain_flaws forms ≡ []) → IfOk r (λ d. domain_value d ≡ tree_of (name_of forms) (sections_of forms))
+    → OnOk r (domain_flaws forms ≡ []) → IfOk r (λ d. domain_value d ≡ tree_of (defined_name forms) (sections_of forms))
     → IfOk r (λ d. HasWordNames (domain_value d))
 read_words forms size rising (Ok d) sound read = subst HasWordNames (sym (read ∙ tree_is forms)) (words forms (rising_words 0 size forms rising) sound)
 read_words forms size rising (Err e) sound read = tt

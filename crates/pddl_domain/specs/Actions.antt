@@ -1,6 +1,7 @@
--- The eighth pass over a domain's text: its actions, one after another. Each action has four parts, and each
--- part of each action is a pass of its own.
-use Rattle.std.specs.Prelude.{ℕ, ◌==◌, Bool, true, false, not, if◌then◌else◌, List, [], ◌∷◌, ◌++◌, Option, Some, None, codes, slice_index}
+-- The eighth pass over a domain's text: its actions, one after another. Each action has four parts,
+-- and each part of each action is a pass of its own.
+use Rattle.std.specs.Prelude.{ℕ, ◌==◌, Bool, true, false, not, if◌then◌else◌, List, [], ◌∷◌, ◌++◌}
+use Rattle.std.specs.Prelude.{Option, Some, None, codes, slice_index}
 use Rattle.std.specs.List.{list_any}
 use Rattle.std.specs.Str.{bytes_eq}
 use Rattle.sexpr_text.specs.declared.forms.Span.{Span}
@@ -10,11 +11,13 @@ use Rattle.sexpr_text.specs.Forest.{Forest, nothing, word, group}
 use Rattle.sexpr_text.specs.Flaws.{Flaw, flaw_at}
 use Rattle.sexpr_text.specs.Parts.{is_name, after_first, is_nothing}
 use Rattle.pddl_ast.specs.Known.{Known}
-use Rattle.pddl_ast.specs.Formulas.{variables_flaws, variable_types, inner_scope, formulas_flaws, formulas_of, first_formula}
+use Rattle.pddl_ast.specs.Formulas.{variables_flaws, variable_types, inner_scope, formulas_flaws}
+use Rattle.pddl_ast.specs.Formulas.{formulas_of, first_formula}
 use Rattle.pddl_ast.specs.Effects.{effects_flaws, effects_of, first_effect}
 use Rattle.pddl_ast.specs.Trees.{SchemaTree}
 use Rattle.pddl_domain.specs.declared.actions.Key.{Key}
-use Rattle.pddl_domain.specs.declared.actions.Key.TheVariants.{Parameters, Precondition, Effect, Other}
+use Rattle.pddl_domain.specs.declared.actions.Key.TheVariants.{Parameters, Precondition, Effect}
+use Rattle.pddl_domain.specs.declared.actions.Key.TheVariants.{Other}
 use Rattle.pddl_domain.specs.declared.sections.Section.{Section}
 use Rattle.pddl_domain.specs.declared.sections.Section.TheVariants.{Action}
 use Rattle.pddl_domain.specs.Sections.{section_kind}
@@ -28,8 +31,8 @@ key_of w =
     else if bytes_eq w (codes ":effect") then Effect
     else Other
 
--- the forms that follow the keys of an action: each a row of that form alone, or of none where the key isn't
--- there
+-- the forms that follow the keys of an action: each a row of that form alone, or of none where the
+-- key isn't there
 pub record Parts : Type 0 where
   pub parameters : Forest
   pub precondition : Forest
@@ -66,24 +69,28 @@ abbrev pub last_key_flaws : Span → List ℕ → Key → List Flaw
 last_key_flaws span w Other = flaw_at span (no_key_fault w) ∷ []
 last_key_flaws span w key = flaw_at span BadForm ∷ []
 
--- everything that is wrong in a row of keys, each with a form after it, where these parts came before. After
--- a list in a key's place the next form stands in a key's place
+-- everything that is wrong in a row of keys, each with a form after it, where these parts came
+-- before. After a list in a key's place the next form stands in a key's place
 abbrev pub keys_flaws : Parts → Forest → List Flaw
 keys_flaws parts nothing = []
 keys_flaws parts (group span p rest) = flaw_at span BadForm ∷ keys_flaws parts rest
 keys_flaws parts (word span w nothing) = last_key_flaws span w (key_of w)
 keys_flaws parts (word span w (word s t rest)) =
-    key_flaws parts span w (key_of w) ++ keys_flaws (with_part parts (key_of w) (word s t nothing)) rest
+    key_flaws parts span w (key_of w)
+    ++ keys_flaws (with_part parts (key_of w) (word s t nothing)) rest
 keys_flaws parts (word span w (group s p rest)) =
-    key_flaws parts span w (key_of w) ++ keys_flaws (with_part parts (key_of w) (group s p nothing)) rest
+    key_flaws parts span w (key_of w)
+    ++ keys_flaws (with_part parts (key_of w) (group s p nothing)) rest
 
 -- the parts after those of a row of keys
 abbrev pub parts_after : Parts → Forest → Parts
 parts_after parts nothing = parts
 parts_after parts (group span p rest) = parts_after parts rest
 parts_after parts (word span w nothing) = parts
-parts_after parts (word span w (word s t rest)) = parts_after (with_part parts (key_of w) (word s t nothing)) rest
-parts_after parts (word span w (group s p rest)) = parts_after (with_part parts (key_of w) (group s p nothing)) rest
+parts_after parts (word span w (word s t rest)) =
+    parts_after (with_part parts (key_of w) (word s t nothing)) rest
+parts_after parts (word span w (group s p rest)) =
+    parts_after (with_part parts (key_of w) (group s p nothing)) rest
 
 -- the parts of an action, by what follows the word `:action`: a name, and then the keys
 abbrev pub parts_of : Forest → Parts
@@ -96,8 +103,8 @@ action_name_flaws before span w =
     else if list_any (bytes_eq w) before then flaw_at span DoubleName ∷ []
     else []
 
--- what is wrong with the shape of an action, the list with this span. Without any second item it is the list
--- that is wrong
+-- what is wrong with the shape of an action, the list with this span. Without any second item it is
+-- the list that is wrong
 abbrev pub shape_flaws : List (List ℕ) → Span → Forest → List Flaw
 shape_flaws before span nothing = flaw_at span BadForm ∷ []
 shape_flaws before span (group s p rest) = flaw_at s BadForm ∷ keys_flaws no_parts rest
@@ -120,7 +127,8 @@ parameter_types known nothing = []
 parameter_types known (word span w rest) = []
 parameter_types known (group span list rest) = variable_types known list
 
--- what is wrong with an action, pass by pass: its shape, its parameters, its precondition, its effect
+-- what is wrong with an action, pass by pass: its shape, its parameters, its precondition, its
+-- effect
 abbrev pub condition_passes : Known → Parts → List (List Flaw)
 condition_passes known parts =
     formulas_flaws known parts.precondition (parameter_scope parts.parameters)
@@ -131,22 +139,24 @@ abbrev pub body_passes : Known → Parts → List (List Flaw)
 body_passes known parts = parameters_flaws known parts.parameters ∷ condition_passes known parts
 
 abbrev pub action_passes : Known → List (List ℕ) → Span → Forest → List (List Flaw)
-action_passes known before span action = shape_flaws before span action ∷ body_passes known (parts_of action)
+action_passes known before span action =
+    shape_flaws before span action ∷ body_passes known (parts_of action)
 
 abbrev pub first_text : Forest → List ℕ
 first_text nothing = []
 first_text (word span w rest) = w
 first_text (group span p rest) = []
 
--- the action that this is. Without a precondition it can always be executed; without an effect it changes
--- nothing
+-- the action that this is. Without a precondition it can always be executed; without an effect it
+-- changes nothing
 abbrev pub schema_of : Known → Forest → SchemaTree
 schema_of known action =
     let parts = parts_of action in
     record {
       name = first_text action;
       parameters = parameter_types known parts.parameters;
-      precondition = first_formula (formulas_of known parts.precondition (parameter_scope parts.parameters));
+      precondition = first_formula
+          (formulas_of known parts.precondition (parameter_scope parts.parameters));
       effect = first_effect (effects_of known parts.effect (parameter_scope parts.parameters));
     }
 
@@ -160,8 +170,8 @@ action_in nothing = None
 action_in (group s p rest) = None
 action_in (word s w rest) = if is_action (section_kind w) then Some rest else None
 
--- the passes over a section with this span, where it is an action; the names of the actions after it; and the
--- action that it is
+-- the passes over a section with this span, where it is an action; the names of the actions after
+-- it; and the action that it is
 abbrev pub section_passes : Known → List (List ℕ) → Span → Option Forest → List (List Flaw)
 section_passes known before span None = []
 section_passes known before span (Some action) = action_passes known before span action
@@ -179,10 +189,12 @@ abbrev pub actions_passes : Known → List (List ℕ) → Forest → List (List 
 actions_passes known before nothing = []
 actions_passes known before (word span w rest) = actions_passes known before rest
 actions_passes known before (group span parts rest) =
-    section_passes known before span (action_in parts) ++ actions_passes known (names_after before (action_in parts)) rest
+    section_passes known before span (action_in parts)
+    ++ actions_passes known (names_after before (action_in parts)) rest
 
 -- all actions among the sections
 abbrev pub schemas_of : Known → Forest → List SchemaTree
 schemas_of known nothing = []
 schemas_of known (word span w rest) = schemas_of known rest
-schemas_of known (group span parts rest) = section_schemas known (action_in parts) ++ schemas_of known rest
+schemas_of known (group span parts rest) =
+    section_schemas known (action_in parts) ++ schemas_of known rest

@@ -7,10 +7,11 @@ abbrev pub ancestor : List ℕ → ℕ → ℕ → ℕ
 ancestor parents zero t = t
 ancestor parents (suc n) t = slice_index parents (ancestor parents n t)
 
--- whether a type's chain of parents comes back to it. Where it does, it does so within as many steps as
--- there are types
+-- whether a type's chain of parents comes back to it. Where it does, it does so within as many
+-- steps as there are types
 abbrev pub is_own_ancestor : List ℕ → ℕ → Bool
-is_own_ancestor parents t = list_any (λ n. ancestor parents (suc n) t == t) (range_with_len 0 (length parents))
+is_own_ancestor parents t =
+    list_any (λ n. ancestor parents (suc n) t == t) (range_with_len 0 (length parents))
 
 -- Private: the ancestor of each type so many steps up
 abbrev pub ancestors : List ℕ → ℕ → List ℕ

@@ -1,9 +1,11 @@
 -- The sixth and the seventh pass over a domain's text: its constants, and its predicates.
-use Rattle.std.specs.Prelude.{ℕ, ◌+◌, Bool, true, false, not, if◌then◌else◌, List, [], ◌∷◌, ◌++◌, length, map}
+use Rattle.std.specs.Prelude.{ℕ, ◌+◌, Bool, true, false, not, if◌then◌else◌, List, [], ◌∷◌, ◌++◌}
+use Rattle.std.specs.Prelude.{length, map}
 use Rattle.std.specs.List.{list_any}
 use Rattle.std.specs.Str.{bytes_eq}
 use Rattle.sexpr_text.specs.declared.forms.Span.{Span}
-use Rattle.sexpr_text.specs.declared.faults.FaultKind.TheVariants.{BadForm, DoubleName, ReservedName}
+use Rattle.sexpr_text.specs.declared.faults.FaultKind.TheVariants.{BadForm, DoubleName}
+use Rattle.sexpr_text.specs.declared.faults.FaultKind.TheVariants.{ReservedName}
 use Rattle.sexpr_text.specs.Forest.{Forest, nothing, word, group}
 use Rattle.sexpr_text.specs.Flaws.{Flaw, flaw_at}
 use Rattle.sexpr_text.specs.Parts.{is_name, flaws_of_groups}
@@ -41,8 +43,8 @@ predicate_name_flaws before span name =
 abbrev pub variables_flaws : List (List ℕ) → Forest → List Flaw
 variables_flaws types list = typed_list_flaws PredicateVariables types [] list
 
--- what is wrong with a predicate, the list with this span and these parts: a name, and a typed list of
--- variables, in which one may come twice
+-- what is wrong with a predicate, the list with this span and these parts: a name, and a typed list
+-- of variables, in which one may come twice
 abbrev pub predicate_flaws : List (List ℕ) → List (List ℕ) → Span → Forest → List Flaw
 predicate_flaws types before span nothing = flaw_at span BadForm ∷ []
 predicate_flaws types before span (group s parts rest) = flaw_at span BadForm ∷ []
@@ -56,18 +58,22 @@ with_first_word before nothing = before
 with_first_word before (group s parts rest) = before
 with_first_word before (word s name rest) = before ++ name ∷ []
 
--- what is wrong in the `:predicates` section, where these names came before: each form is a predicate
+-- what is wrong in the `:predicates` section, where these names came before: each form is a
+-- predicate
 abbrev pub predicates_flaws : List (List ℕ) → List (List ℕ) → Forest → List Flaw
 predicates_flaws types before nothing = []
-predicates_flaws types before (word span w rest) = flaw_at span BadForm ∷ predicates_flaws types before rest
+predicates_flaws types before (word span w rest) =
+    flaw_at span BadForm ∷ predicates_flaws types before rest
 predicates_flaws types before (group span parts rest) =
-    predicate_flaws types before span parts ++ predicates_flaws types (with_first_word before parts) rest
+    predicate_flaws types before span parts
+    ++ predicates_flaws types (with_first_word before parts) rest
 
 -- the predicate that a list with these parts declares: its arity is the number of its variables
 abbrev pub predicate_of : Forest → List Predicate
 predicate_of nothing = []
 predicate_of (group s parts rest) = []
-predicate_of (word s name variables) = record { name = name; arity = length (names_of (typed_groups variables)) } ∷ []
+predicate_of (word s name variables) =
+    record { name = name; arity = length (names_of (typed_groups variables)) } ∷ []
 
 -- the predicates
 abbrev pub predicates_of : Forest → List Predicate

@@ -1,7 +1,7 @@
 -- A domain's text: its passes after the lexis, and the tree that it spells.
 --
--- Each pass lists everything that is wrong in the text by its rules. The fault of the text is the first flaw
--- of the first pass that has one; a text without flaws spells its tree.
+-- Each pass lists everything that is wrong in the text by its rules. The fault of the text is the
+-- first flaw of the first pass that has one; a text without flaws spells its tree.
 use Rattle.std.specs.Prelude.{ℕ, List, [], ◌∷◌, ◌++◌, map, codes}
 use Rattle.sexpr_text.specs.declared.faults.InputFault.{InputFault}
 use Rattle.sexpr_text.specs.Forest.{Forest}
@@ -11,9 +11,11 @@ use Rattle.pddl_ast.specs.declared.trees.Predicate.{Predicate}
 use Rattle.pddl_ast.specs.Known.{Known}
 use Rattle.pddl_ast.specs.Trees.{DomainTree}
 use Rattle.pddl_ast.specs.TypedLists.{typed_groups, names_of}
-use Rattle.pddl_domain.specs.Sections.{definition_flaws, name_of, sections_of, sections_flaws, none_came, section_named}
+use Rattle.pddl_domain.specs.Sections.{definition_flaws, defined_name, sections_of, sections_flaws}
+use Rattle.pddl_domain.specs.Sections.{none_came, section_named}
 use Rattle.pddl_domain.specs.Types.{types_flaws, loop_flaws, type_names, type_parents}
-use Rattle.pddl_domain.specs.Constants.{constants_flaws, constants_of, predicates_flaws, predicates_of}
+use Rattle.pddl_domain.specs.Constants.{constants_flaws, constants_of, predicates_flaws}
+use Rattle.pddl_domain.specs.Constants.{predicates_of}
 use Rattle.pddl_domain.specs.Actions.{actions_passes, schemas_of}
 
 -- what follows the first words of the sections
@@ -58,7 +60,7 @@ abbrev pub domain_tree : Forest → DomainTree
 domain_tree forms =
     let sections = sections_of forms in
     record {
-      name = name_of forms;
+      name = defined_name forms;
       type_names = types_in sections;
       parents = type_parents (typed_groups (types_section sections));
       constants = constants_of (types_in sections) (constants_section sections);

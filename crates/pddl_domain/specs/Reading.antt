@@ -1,15 +1,18 @@
--- Private: the flaws of a domain's passes in the order in which the reader meets them, part by part, and what
--- it reads.
+-- Private: the flaws of a domain's passes in the order in which the reader meets them, part by
+-- part, and what it reads.
 use Rattle.std.specs.Prelude.{ℕ, List, [], ◌∷◌, ◌++◌}
 use Rattle.sexpr_text.specs.Forest.{Forest}
 use Rattle.sexpr_text.specs.Flaws.{Flaw}
 use Rattle.pddl_ast.specs.Trees.{DomainTree}
 use Rattle.pddl_ast.specs.TypedLists.{typed_groups}
-use Rattle.pddl_domain.specs.Sections.{definition_flaws, name_of, sections_of, sections_flaws, none_came}
+use Rattle.pddl_domain.specs.Sections.{definition_flaws, defined_name, sections_of, sections_flaws}
+use Rattle.pddl_domain.specs.Sections.{none_came}
 use Rattle.pddl_domain.specs.Types.{types_flaws, loop_flaws, type_parents}
-use Rattle.pddl_domain.specs.Constants.{constants_flaws, constants_of, predicates_flaws, predicates_of}
+use Rattle.pddl_domain.specs.Constants.{constants_flaws, constants_of, predicates_flaws}
+use Rattle.pddl_domain.specs.Constants.{predicates_of}
 use Rattle.pddl_domain.specs.ActionParts.{actions_flaws, all_actions}
-use Rattle.pddl_domain.specs.Domains.{types_section, constants_section, predicates_section, types_in, known_of}
+use Rattle.pddl_domain.specs.Domains.{types_section, constants_section, predicates_section}
+use Rattle.pddl_domain.specs.Domains.{types_in, known_of}
 
 -- types, and loops of types
 unfoldable pub typed_flaws : Forest → List Flaw
@@ -18,11 +21,13 @@ typed_flaws list = types_flaws list ++ loop_flaws list
 -- constants, and predicates
 unfoldable pub declared_flaws : List (List ℕ) → Forest → List Flaw
 declared_flaws types sections =
-    constants_flaws types (constants_section sections) ++ predicates_flaws types [] (predicates_section sections)
+    constants_flaws types (constants_section sections)
+    ++ predicates_flaws types [] (predicates_section sections)
 
 -- all but the actions
 unfoldable pub vocabulary_flaws : Forest → List Flaw
-vocabulary_flaws sections = typed_flaws (types_section sections) ++ declared_flaws (types_in sections) sections
+vocabulary_flaws sections =
+    typed_flaws (types_section sections) ++ declared_flaws (types_in sections) sections
 
 -- what stands in the sections
 unfoldable pub contents_flaws : Forest → List Flaw

@@ -1,5 +1,7 @@
--- The second and the third pass over a domain's text: the list that defines the domain, and its sections.
-use Rattle.std.specs.Prelude.{ℕ, Bool, true, false, List, [], ◌∷◌, ◌++◌, Option, Some, None, if◌then◌else◌, codes}
+-- The second and the third pass over a domain's text: the list that defines the domain, and its
+-- sections.
+use Rattle.std.specs.Prelude.{ℕ, Bool, true, false, List, [], ◌∷◌, ◌++◌, Option, Some, None}
+use Rattle.std.specs.Prelude.{if◌then◌else◌, codes}
 use Rattle.std.specs.Option.{option_map, option_map_or, option_and_then}
 use Rattle.std.specs.Str.{bytes_eq}
 use Rattle.sexpr_text.specs.declared.forms.Span.{Span}
@@ -10,7 +12,8 @@ use Rattle.sexpr_text.specs.Parts.{after_first, begins_with, first_group_with, i
 use Rattle.pddl_ast.specs.Definitions.{title_of, no_define}
 use Rattle.pddl_domain.specs.declared.sections.Seen.{Seen}
 use Rattle.pddl_domain.specs.declared.sections.Section.{Section}
-use Rattle.pddl_domain.specs.declared.sections.Section.TheVariants.{Requirements, Types, Constants, Predicates, Action, Other}
+use Rattle.pddl_domain.specs.declared.sections.Section.TheVariants.{Requirements, Types, Constants}
+use Rattle.pddl_domain.specs.declared.sections.Section.TheVariants.{Predicates, Action, Other}
 
 -- of `define (domain NAME) SECTION ..`: the name, and the sections
 abbrev pub name_and_sections : Forest → Option (List ℕ × Forest)
@@ -18,19 +21,22 @@ name_and_sections nothing = None
 name_and_sections (group span parts rest) = None
 name_and_sections (word span define nothing) = None
 name_and_sections (word span define (word s w rest)) = None
-name_and_sections (word span define (group s title sections)) = option_map (λ name. (name, sections)) (title_of title)
+name_and_sections (word span define (group s title sections)) =
+    option_map (λ name. (name, sections)) (title_of title)
 
--- the name and the sections of the first list `define (domain NAME) ..` of the text. All other forms are
--- passed over
+-- the name and the sections of the first list `define (domain NAME) ..` of the text. All other
+-- forms are passed over
 abbrev pub definition : Forest → Option (List ℕ × Forest)
-definition forms = option_and_then (λ d. name_and_sections d.1) (first_group_with (is_definition (codes "domain")) forms)
+definition forms =
+    option_and_then (λ d. name_and_sections d.1)
+    (first_group_with (is_definition (codes "domain")) forms)
 
 -- where there is none, that is the text's fault
 abbrev pub definition_flaws : Forest → List Flaw
 definition_flaws forms = option_map_or (λ d. []) (definition forms) (no_define ∷ [])
 
-abbrev pub name_of : Forest → List ℕ
-name_of forms = option_map_or (λ d. d.0) (definition forms) []
+abbrev pub defined_name : Forest → List ℕ
+defined_name forms = option_map_or (λ d. d.0) (definition forms) []
 
 abbrev pub sections_of : Forest → Forest
 sections_of forms = option_map_or (λ d. d.1) (definition forms) nothing
@@ -59,21 +65,23 @@ seen_after seen Constants = record seen { constants = true }
 seen_after seen Predicates = record seen { predicates = true }
 seen_after seen _ = seen
 
--- what is wrong with a section of this kind that begins with this word: no section begins with a word of
--- another kind, and `:types`, `:constants` and `:predicates` may come once each
+-- what is wrong with a section of this kind that begins with this word: no section begins with a
+-- word of another kind, and `:types`, `:constants` and `:predicates` may come once each
 abbrev pub kind_flaws : Seen → Span → List ℕ → Section → List Flaw
 kind_flaws seen span w Other = flaw_at span (LeftOut w) ∷ []
 kind_flaws seen span w kind = if came seen kind then flaw_at span BadForm ∷ [] else []
 
--- everything that is wrong with the sections as such, where these came before: each form is to be a list
--- that begins with the word of its kind
+-- everything that is wrong with the sections as such, where these came before: each form is to be a
+-- list that begins with the word of its kind
 abbrev pub sections_flaws : Seen → Forest → List Flaw
 sections_flaws seen nothing = []
 sections_flaws seen (word span text rest) = flaw_at span BadForm ∷ sections_flaws seen rest
 sections_flaws seen (group span nothing rest) = flaw_at span BadForm ∷ sections_flaws seen rest
-sections_flaws seen (group span (group s p r) rest) = flaw_at span BadForm ∷ sections_flaws seen rest
+sections_flaws seen (group span (group s p r) rest) =
+    flaw_at span BadForm ∷ sections_flaws seen rest
 sections_flaws seen (group span (word s w r) rest) =
-    kind_flaws seen span w (section_kind w) ++ sections_flaws (seen_after seen (section_kind w)) rest
+    kind_flaws seen span w (section_kind w)
+    ++ sections_flaws (seen_after seen (section_kind w)) rest
 
 -- before the first section none came
 abbrev pub none_came : Seen
@@ -81,4 +89,5 @@ none_came = record { types = false; constants = false; predicates = false }
 
 -- what stands in the first section that begins with the word, after that word
 abbrev pub section_named : List ℕ → Forest → Forest
-section_named w sections = option_map_or (λ s. after_first s.1) (first_group_with (begins_with w) sections) nothing
+section_named w sections =
+    option_map_or (λ s. after_first s.1) (first_group_with (begins_with w) sections) nothing

@@ -62,7 +62,8 @@ fn is_given(parts: &ActionParts<'_>, key: Key) -> bool
 
 /// The parts with the form that follows a key.
 fn with_part<'a>(parts: ActionParts<'a>, key: Key, form: View<'a>) -> ActionParts<'a>
-    ensures { parts_value result ≡ specs.with_part (parts_value parts.entry) key (view_then form.entry nothing) }
+    ensures { parts_value result
+        ≡ specs.with_part (parts_value parts.entry) key (view_then form.entry nothing) }
 {
     let mut parts = parts;
     match key {
@@ -97,7 +98,9 @@ fn check_key(
     key: Key,
 ) -> Result<(), ReadErr>
     ensures sound { OnOk result (specs.key_flaws (parts_value parts.now) span word.now key ≡ []) }
-    ensures fault { IfErr result (λ e. IfFault e (λ f. first_listed (specs.key_flaws (parts_value parts.now) span word.now key) ≡ Some f)) }
+    ensures fault { IfErr result
+        (λ e. IfFault e (λ f. first_listed
+        (specs.key_flaws (parts_value parts.now) span word.now key) ≡ Some f)) }
 {
     if let Key::Other = key {
         return Err(no_key_fault(alloc, span, word));
@@ -120,7 +123,8 @@ fn last_key_fault(alloc: Global, span: Span, word: &Text, key: Key) -> ReadErr
 
 /// The first form of a row, with what follows it.
 fn split_view(row: &[Form]) -> Option<(View<'_>, &[Form])>
-    ensures { MatchOption result (forest_of row.now ≡ nothing) (λ p. forest_of row.now ≡ view_then p.0 (forest_of p.1.now)) }
+    ensures { MatchOption result (forest_of row.now ≡ nothing)
+        (λ p. forest_of row.now ≡ view_then p.0 (forest_of p.1.now)) }
 {
     match head_of(row) {
         Head::Nothing => None,
@@ -132,8 +136,11 @@ fn split_view(row: &[Form]) -> Option<(View<'_>, &[Form])>
 /// The forms that follow the keys of a row.
 pub fn read_parts(alloc: Global, row: &[Form]) -> Result<ActionParts<'_>, ReadErr>
     ensures sound { OnOk result (specs.keys_flaws specs.no_parts (forest_of row.now) ≡ []) }
-    ensures read { IfOk result (λ parts. parts_value parts ≡ specs.parts_after specs.no_parts (forest_of row.now)) }
-    ensures fault { IfErr result (λ e. IfFault e (λ f. first_listed (specs.keys_flaws specs.no_parts (forest_of row.now)) ≡ Some f)) }
+    ensures read { IfOk result
+        (λ parts. parts_value parts ≡ specs.parts_after specs.no_parts (forest_of row.now)) }
+    ensures fault { IfErr result
+        (λ e. IfFault e (λ f. first_listed (specs.keys_flaws specs.no_parts (forest_of row.now))
+        ≡ Some f)) }
 {
     let mut parts = ActionParts {
         parameters: None,

@@ -15,7 +15,8 @@ use std::alloc::{AllocError, Global};
 
 /// Adds the names of a group, which have this type.
 fn push_named(constants: &mut Vec<Named>, names: Vec<Text>, type_id: u32) -> Result<(), AllocError>
-    ensures { OnOk result (constants.new.items ≡ constants.old.items ++ map (specs.named type_id) names.items) }
+    ensures { OnOk result
+        (constants.new.items ≡ constants.old.items ++ map (specs.named type_id) names.items) }
 {
     for name in names {
         constants.push(Named { name, type_id })?;
@@ -29,7 +30,8 @@ fn named_of(
     types: &NameTable,
     groups: Vec<TypedGroup>,
 ) -> Result<Vec<Named>, AllocError>
-    ensures { IfOk result (λ constants. constants.items ≡ specs.named_of types.now (map group_value groups.items)) }
+    ensures { IfOk result
+        (λ constants. constants.items ≡ specs.named_of types.now (map group_value groups.items)) }
 {
     let mut constants = Vec::new(alloc);
     for group in groups {
@@ -39,7 +41,8 @@ fn named_of(
     Ok(constants)
 }
 
-/// The constants of a `:constants` section with these forms after its word, and their names by number.
+/// The constants of a `:constants` section with these forms after its word, and their names by
+/// number.
 #[tactic(auto, using(crate::proofs::ListLemmas::all_objects))]
 pub fn read_constants(
     alloc: Global,
@@ -47,9 +50,12 @@ pub fn read_constants(
     list: &[Form],
 ) -> Result<(Vec<Named>, NameTable), ReadErr>
     ensures sound { OnOk result (specs.constants_flaws types.now (forest_of list.now) ≡ []) }
-    ensures read { IfOk result (λ p. p.0.items ≡ specs.constants_of types.now (forest_of list.now)) }
+    ensures read { IfOk result
+        (λ p. p.0.items ≡ specs.constants_of types.now (forest_of list.now)) }
     ensures names { IfOk result (λ p. p.1 ≡ names_of (typed_groups (forest_of list.now))) }
-    ensures fault { IfErr result (λ e. IfFault e (λ f. first_listed (specs.constants_flaws types.now (forest_of list.now)) ≡ Some f)) }
+    ensures fault { IfErr result
+        (λ e. IfFault e (λ f. first_listed (specs.constants_flaws types.now (forest_of list.now))
+        ≡ Some f)) }
 {
     let mut names = NameTable::new(alloc);
     let groups = read_typed_list(alloc, Declares::Objects, types, &mut names, list)?;

@@ -42,10 +42,13 @@ pub struct Vocabulary {
 #[tactic(auto, unfolding(crate::specs::Reading::typed_flaws))]
 fn read_typed(alloc: Global, list: &[Form]) -> Result<Types, ReadErr>
     ensures sound { OnOk result (reading.typed_flaws (forest_of list.now) ≡ []) }
-    ensures names { IfOk result (λ types. types.names ≡ types_of.type_names (typed_groups (forest_of list.now))) }
+    ensures names { IfOk result
+        (λ types. types.names ≡ types_of.type_names (typed_groups (forest_of list.now))) }
     ensures texts { IfOk result (λ types. types.texts.items ≡ types.names) }
-    ensures parents { IfOk result (λ types. types.parents.items ≡ types_of.type_parents (typed_groups (forest_of list.now))) }
-    ensures fault { IfErr result (λ e. IfFault e (λ f. first_listed (reading.typed_flaws (forest_of list.now)) ≡ Some f)) }
+    ensures parents { IfOk result
+        (λ types. types.parents.items ≡ types_of.type_parents (typed_groups (forest_of list.now))) }
+    ensures fault { IfErr result
+        (λ e. IfFault e (λ f. first_listed (reading.typed_flaws (forest_of list.now)) ≡ Some f)) }
 {
     let types = read_types(alloc, list)?;
     check_loops(alloc, list, &types)?;
@@ -60,12 +63,19 @@ fn read_declared(
     sections: &[Form],
 ) -> Result<(Vec<Named>, NameTable, Predicates), ReadErr>
     ensures sound { OnOk result (reading.declared_flaws types.now (forest_of sections.now) ≡ []) }
-    ensures constants { IfOk result (λ p. p.0.items ≡ constant.constants_of types.now (domain.constants_section (forest_of sections.now))) }
-    ensures objects { IfOk result (λ p. p.1 ≡ names_of (typed_groups (domain.constants_section (forest_of sections.now)))) }
-    ensures predicates { IfOk result (λ p. p.2.list.items ≡ constant.predicates_of (domain.predicates_section (forest_of sections.now))) }
+    ensures constants { IfOk result
+        (λ p. p.0.items ≡ constant.constants_of types.now
+        (domain.constants_section (forest_of sections.now))) }
+    ensures objects { IfOk result
+        (λ p. p.1 ≡ names_of (typed_groups (domain.constants_section (forest_of sections.now)))) }
+    ensures predicates { IfOk result
+        (λ p. p.2.list.items
+        ≡ constant.predicates_of (domain.predicates_section (forest_of sections.now))) }
     ensures names { IfOk result (λ p. p.2.names ≡ map (λ q. q.name) p.2.list.items) }
     ensures arities { IfOk result (λ p. p.2.arities.items ≡ map (λ q. q.arity) p.2.list.items) }
-    ensures fault { IfErr result (λ e. IfFault e (λ f. first_listed (reading.declared_flaws types.now (forest_of sections.now)) ≡ Some f)) }
+    ensures fault { IfErr result
+        (λ e. IfFault e (λ f. first_listed
+        (reading.declared_flaws types.now (forest_of sections.now)) ≡ Some f)) }
 {
     let (constants, objects) = read_constants(
         alloc,
@@ -80,12 +90,23 @@ fn read_declared(
 #[tactic(auto, unfolding(crate::specs::Reading::vocabulary_flaws))]
 fn read_vocabulary(alloc: Global, sections: &[Form]) -> Result<Vocabulary, ReadErr>
     ensures sound { OnOk result (reading.vocabulary_flaws (forest_of sections.now) ≡ []) }
-    ensures known { IfOk result (λ v. known_value v.known ≡ domain.known_of (forest_of sections.now)) }
-    ensures type_names { IfOk result (λ v. v.type_names.items ≡ domain.types_in (forest_of sections.now)) }
-    ensures parents { IfOk result (λ v. v.parents.items ≡ types_of.type_parents (typed_groups (domain.types_section (forest_of sections.now)))) }
-    ensures constants { IfOk result (λ v. v.constants.items ≡ constant.constants_of (domain.types_in (forest_of sections.now)) (domain.constants_section (forest_of sections.now))) }
-    ensures predicates { IfOk result (λ v. v.predicates.items ≡ constant.predicates_of (domain.predicates_section (forest_of sections.now))) }
-    ensures fault { IfErr result (λ e. IfFault e (λ f. first_listed (reading.vocabulary_flaws (forest_of sections.now)) ≡ Some f)) }
+    ensures known { IfOk result
+        (λ v. known_value v.known ≡ domain.known_of (forest_of sections.now)) }
+    ensures type_names { IfOk result
+        (λ v. v.type_names.items ≡ domain.types_in (forest_of sections.now)) }
+    ensures parents { IfOk result
+        (λ v. v.parents.items
+        ≡ types_of.type_parents (typed_groups (domain.types_section (forest_of sections.now)))) }
+    ensures constants { IfOk result
+        (λ v. v.constants.items
+        ≡ constant.constants_of (domain.types_in (forest_of sections.now))
+        (domain.constants_section (forest_of sections.now))) }
+    ensures predicates { IfOk result
+        (λ v. v.predicates.items
+        ≡ constant.predicates_of (domain.predicates_section (forest_of sections.now))) }
+    ensures fault { IfErr result
+        (λ e. IfFault e (λ f. first_listed (reading.vocabulary_flaws (forest_of sections.now))
+        ≡ Some f)) }
 {
     let types = read_typed(alloc, section_named(sections, b":types"))?;
     let (constants, objects, predicates) = read_declared(alloc, &types.names, sections)?;
@@ -107,8 +128,11 @@ fn read_vocabulary(alloc: Global, sections: &[Form]) -> Result<Vocabulary, ReadE
 #[tactic(auto, unfolding(crate::specs::Reading::contents_flaws, crate::specs::Reading::tree_of))]
 fn read_contents(alloc: Global, name: &Text, sections: &[Form]) -> Result<Domain, ReadErr>
     ensures sound { OnOk result (reading.contents_flaws (forest_of sections.now) ≡ []) }
-    ensures read { IfOk result (λ d. domain_value d ≡ reading.tree_of name.now (forest_of sections.now)) }
-    ensures fault { IfErr result (λ e. IfFault e (λ f. first_listed (reading.contents_flaws (forest_of sections.now)) ≡ Some f)) }
+    ensures read { IfOk result
+        (λ d. domain_value d ≡ reading.tree_of name.now (forest_of sections.now)) }
+    ensures fault { IfErr result
+        (λ e. IfFault e (λ f. first_listed (reading.contents_flaws (forest_of sections.now))
+        ≡ Some f)) }
 {
     let vocabulary = read_vocabulary(alloc, sections)?;
     let actions = read_actions(alloc, &vocabulary.known, sections)?;
@@ -126,8 +150,11 @@ fn read_contents(alloc: Global, name: &Text, sections: &[Form]) -> Result<Domain
 #[tactic(auto, unfolding(crate::specs::Reading::all_section_flaws))]
 fn read_sections(alloc: Global, name: &Text, sections: &[Form]) -> Result<Domain, ReadErr>
     ensures sound { OnOk result (reading.all_section_flaws (forest_of sections.now) ≡ []) }
-    ensures read { IfOk result (λ d. domain_value d ≡ reading.tree_of name.now (forest_of sections.now)) }
-    ensures fault { IfErr result (λ e. IfFault e (λ f. first_listed (reading.all_section_flaws (forest_of sections.now)) ≡ Some f)) }
+    ensures read { IfOk result
+        (λ d. domain_value d ≡ reading.tree_of name.now (forest_of sections.now)) }
+    ensures fault { IfErr result
+        (λ e. IfFault e (λ f. first_listed (reading.all_section_flaws (forest_of sections.now))
+        ≡ Some f)) }
 {
     check_sections(alloc, sections)?;
     read_contents(alloc, name, sections)
@@ -137,8 +164,12 @@ fn read_sections(alloc: Global, name: &Text, sections: &[Form]) -> Result<Domain
 #[tactic(auto, unfolding(crate::specs::Reading::domain_flaws))]
 fn read_defined(alloc: Global, forms: &[Form]) -> Result<Domain, ReadErr>
     ensures sound { OnOk result (reading.domain_flaws (forest_of forms.now) ≡ []) }
-    ensures read { IfOk result (λ d. domain_value d ≡ reading.tree_of (section.name_of (forest_of forms.now)) (section.sections_of (forest_of forms.now))) }
-    ensures fault { IfErr result (λ e. IfFault e (λ f. first_listed (reading.domain_flaws (forest_of forms.now)) ≡ Some f)) }
+    ensures read { IfOk result
+        (λ d. domain_value d
+        ≡ reading.tree_of (section.defined_name (forest_of forms.now))
+        (section.sections_of (forest_of forms.now))) }
+    ensures fault { IfErr result
+        (λ e. IfFault e (λ f. first_listed (reading.domain_flaws (forest_of forms.now)) ≡ Some f)) }
 {
     let (name, sections) = read_definition(forms)?;
     read_sections(alloc, name, sections)
@@ -146,12 +177,13 @@ fn read_defined(alloc: Global, forms: &[Form]) -> Result<Domain, ReadErr>
 
 /// The domain that the bytes spell, or their fault, or want of memory.
 ///
-/// The bytes either spell exactly one domain or have exactly one fault (`domain_or_fault`): the first flaw of
-/// the first pass that has one. The passes are, in this order: the lexis; the list that defines the domain;
-/// its sections; the types; loops of types; the constants; the predicates; and of each action its shape, its
-/// parameters, its precondition and its effect. Names are looked up by hash, and types' ancestors are found
-/// once, so that for `n` bytes this takes about `n log n` steps. A domain that is read fits: names of each kind
-/// differ and are words, numbers are in range, types form a tree, and no tree is more than 200 deep.
+/// The bytes either spell exactly one domain or have exactly one fault (`domain_or_fault`): the
+/// first flaw of the first pass that has one. The passes are, in this order: the lexis; the list
+/// that defines the domain; its sections; the types; loops of types; the constants; the predicates;
+/// and of each action its shape, its parameters, its precondition and its effect. Names are looked
+/// up by hash, and types' ancestors are found once, so that for `n` bytes this takes about `n log
+/// n` steps. A domain that is read fits: names of each kind differ and are words, numbers are in
+/// range, types form a tree, and no tree is more than 200 deep.
 pub fn read_domain(alloc: Global, bytes: &[u8]) -> Result<Domain, ReadErr>
     requires { length bytes.now ≤ MAX_BYTES }
     ensures domain { IfOk result (λ d. SpellsDomain bytes.now (domain_value d)) }

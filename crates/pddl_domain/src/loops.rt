@@ -17,7 +17,8 @@ fn twice(alloc: Global, far: &[u32]) -> Result<Vec<u32>, AllocError>
 /// The ancestor of each type, as many steps up as there are types or more.
 fn far_ancestors(alloc: Global, parents: &[u32]) -> Result<Vec<u32>, AllocError>
     requires { All (λ t. t < length parents.now) parents.now }
-    ensures { IfOk result (λ v. (n : ℕ) × (length parents.now ≤ n) × (v.items ≡ ancestors parents.now n)) }
+    ensures { IfOk result
+        (λ v. (n : ℕ) × (length parents.now ≤ n) × (v.items ≡ ancestors parents.now n)) }
 {
     let mut far = Vec::from_slice(alloc, parents)?;
     let mut steps = 1;
@@ -40,11 +41,12 @@ fn which_stand(alloc: Global, list: &[u32]) -> Result<Vec<bool>, AllocError>
     Ok(stands)
 }
 
-/// For each type whether its chain of parents comes back to it. Takes `n log n` steps for `n` types: where
-/// a chain has gone on for as many steps as there are types, it is in its loop.
+/// For each type whether its chain of parents comes back to it. Takes `n log n` steps for `n`
+/// types: where a chain has gone on for as many steps as there are types, it is in its loop.
 pub fn types_on_loops(alloc: Global, parents: &[u32]) -> Result<Vec<bool>, AllocError>
     requires { All (λ t. t < length parents.now) parents.now }
-    ensures { IfOk result (λ v. v.items ≡ map (is_own_ancestor parents.now) (range_with_len 0 (length parents.now))) }
+    ensures { IfOk result
+        (λ v. v.items ≡ map (is_own_ancestor parents.now) (range_with_len 0 (length parents.now))) }
 {
     which_stand(alloc, &far_ancestors(alloc, parents)?)
 }

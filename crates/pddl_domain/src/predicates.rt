@@ -1,6 +1,7 @@
 //! The predicates of a domain.
 
-ghost use Rattle.std.specs.Prelude.{◌≡◌, ◌≤◌, ◌+◌, ◌^◌, ◌<◌, ◌∷◌, ◌++◌, [], not, IfOk, IfErr, OnOk, Some, map, length};
+ghost use Rattle.std.specs.Prelude.{◌≡◌, ◌≤◌, ◌+◌, ◌^◌, ◌<◌, ◌∷◌, ◌++◌, [], not, IfOk, IfErr, OnOk};
+ghost use Rattle.std.specs.Prelude.{Some, map, length};
 ghost use Rattle.sexpr_text.specs.Forest.{forest_of};
 ghost use Rattle.sexpr_text.specs.Flaws.{first_listed};
 ghost use Rattle.sexpr_text.specs.Passes.{IfFault};
@@ -22,8 +23,8 @@ pub struct Predicates {
     pub arities: Vec<u32>,
 }
 
-/// How many names the groups have. One more than a number of 32 bits can say is refused as want of memory
-/// is; the longest text has fewer.
+/// How many names the groups have. One more than a number of 32 bits can say is refused as want of
+/// memory is; the longest text has fewer.
 fn count_names(groups: &[TypedGroup]) -> Result<u32, ReadErr>
     ensures counted { IfOk result (λ n. n ≡ length (names_of (map group_value groups.now))) }
     ensures memory { IfErr result (λ e. e ≡ ReadErr.Memory) }
@@ -42,7 +43,9 @@ fn count_names(groups: &[TypedGroup]) -> Result<u32, ReadErr>
 fn add_name(alloc: Global, names: &mut NameTable, span: Span, name: &Text) -> Result<(), ReadErr>
     ensures sound { OnOk result (specs.predicate_name_flaws names.old span name.now ≡ []) }
     ensures names { OnOk result (names.new ≡ names.old ++ name.now ∷ []) }
-    ensures fault { IfErr result (λ e. IfFault e (λ f. first_listed (specs.predicate_name_flaws names.old span name.now) ≡ Some f)) }
+    ensures fault { IfErr result
+        (λ e. IfFault e (λ f. first_listed (specs.predicate_name_flaws names.old span name.now)
+        ≡ Some f)) }
 {
     if names.contains(name) {
         return Err(fault_at(span, FaultKind::DoubleName));
@@ -57,8 +60,11 @@ fn add_name(alloc: Global, names: &mut NameTable, span: Span, name: &Text) -> Re
 /// The number of variables of a predicate.
 fn read_arity(alloc: Global, types: &NameTable, variables: &[Form]) -> Result<u32, ReadErr>
     ensures sound { OnOk result (specs.variables_flaws types.now (forest_of variables.now) ≡ []) }
-    ensures read { IfOk result (λ n. n ≡ length (names_of (typed_groups (forest_of variables.now)))) }
-    ensures fault { IfErr result (λ e. IfFault e (λ f. first_listed (specs.variables_flaws types.now (forest_of variables.now)) ≡ Some f)) }
+    ensures read { IfOk result
+        (λ n. n ≡ length (names_of (typed_groups (forest_of variables.now)))) }
+    ensures fault { IfErr result
+        (λ e. IfFault e (λ f. first_listed
+        (specs.variables_flaws types.now (forest_of variables.now)) ≡ Some f)) }
 {
     let mut seen = NameTable::new(alloc);
     let groups = read_typed_list(
@@ -79,11 +85,16 @@ fn read_predicate(
     span: Span,
     parts: &[Form],
 ) -> Result<Predicate, ReadErr>
-    ensures sound { OnOk result (specs.predicate_flaws types.now names.old span (forest_of parts.now) ≡ []) }
-    ensures read { IfOk result (λ predicate. specs.predicate_of (forest_of parts.now) ≡ predicate ∷ []) }
-    ensures first_word { OnOk result (names.new ≡ specs.with_first_word names.old (forest_of parts.now)) }
+    ensures sound { OnOk result
+        (specs.predicate_flaws types.now names.old span (forest_of parts.now) ≡ []) }
+    ensures read { IfOk result
+        (λ predicate. specs.predicate_of (forest_of parts.now) ≡ predicate ∷ []) }
+    ensures first_word { OnOk result
+        (names.new ≡ specs.with_first_word names.old (forest_of parts.now)) }
     ensures name { IfOk result (λ predicate. names.new ≡ names.old ++ predicate.name ∷ []) }
-    ensures fault { IfErr result (λ e. IfFault e (λ f. first_listed (specs.predicate_flaws types.now names.old span (forest_of parts.now)) ≡ Some f)) }
+    ensures fault { IfErr result
+        (λ e. IfFault e (λ f. first_listed
+        (specs.predicate_flaws types.now names.old span (forest_of parts.now)) ≡ Some f)) }
 {
     match head_of(parts) {
         Head::Word(word, name, variables) => {
@@ -111,7 +122,9 @@ pub fn read_predicates(
     ensures read { IfOk result (λ p. p.list.items ≡ specs.predicates_of (forest_of list.now)) }
     ensures names { IfOk result (λ p. p.names ≡ map (λ q. q.name) p.list.items) }
     ensures arities { IfOk result (λ p. p.arities.items ≡ map (λ q. q.arity) p.list.items) }
-    ensures fault { IfErr result (λ e. IfFault e (λ f. first_listed (specs.predicates_flaws types.now [] (forest_of list.now)) ≡ Some f)) }
+    ensures fault { IfErr result
+        (λ e. IfFault e (λ f. first_listed
+        (specs.predicates_flaws types.now [] (forest_of list.now)) ≡ Some f)) }
 {
     let mut predicates = Vec::new(alloc);
     let mut names = NameTable::new(alloc);

@@ -9,7 +9,9 @@ ghost use Rattle.pddl_ast.specs.Environment.{known_value};
 ghost use Rattle.pddl_ast.specs.Formulas.{formulas_flaws, formulas_of, first_formula};
 ghost use Rattle.pddl_ast.specs.Effects.{effects_flaws, effects_of, first_effect};
 ghost use Rattle.pddl_ast.specs.Values.{formula_value, effect_value, schema_value};
-ghost use Rattle.pddl_domain.specs.ActionParts.{actions_flaws, all_actions, in_turn, parts_value, row_of, section_actions, section_flaws, section_names};
+ghost use Rattle.pddl_domain.specs.ActionParts.{actions_flaws, all_actions, in_turn, parts_value};
+ghost use Rattle.pddl_domain.specs.ActionParts.{row_of, section_actions, section_flaws};
+ghost use Rattle.pddl_domain.specs.ActionParts.{section_names};
 ghost use Rattle.pddl_domain.specs.Actions as specs;
 ghost use Rattle.pddl_domain.specs.Constants.{with_first_word};
 
@@ -26,7 +28,9 @@ use std::alloc::Global;
 fn add_name(alloc: Global, names: &mut NameTable, span: Span, name: &Text) -> Result<(), ReadErr>
     ensures sound { OnOk result (specs.action_name_flaws names.old span name.now ≡ []) }
     ensures names { OnOk result (names.new ≡ names.old ++ name.now ∷ []) }
-    ensures fault { IfErr result (λ e. IfFault e (λ f. first_listed (specs.action_name_flaws names.old span name.now) ≡ Some f)) }
+    ensures fault { IfErr result
+        (λ e. IfFault e (λ f. first_listed (specs.action_name_flaws names.old span name.now)
+        ≡ Some f)) }
 {
     if !is_name(name) {
         return Err(fault_at(span, FaultKind::BadForm));
@@ -38,8 +42,8 @@ fn add_name(alloc: Global, names: &mut NameTable, span: Span, name: &Text) -> Re
     Ok(())
 }
 
-/// The shape of an action, the list with this span and these forms after the word `:action`: its name, and
-/// the forms after its keys.
+/// The shape of an action, the list with this span and these forms after the word `:action`: its
+/// name, and the forms after its keys.
 fn read_shape<'a>(
     alloc: Global,
     names: &mut NameTable,
@@ -50,7 +54,9 @@ fn read_shape<'a>(
     ensures names { OnOk result (names.new ≡ with_first_word names.old (forest_of action.now)) }
     ensures name { IfOk result (λ p. p.0.now ≡ specs.first_text (forest_of action.now)) }
     ensures parts { IfOk result (λ p. parts_value p.1 ≡ specs.parts_of (forest_of action.now)) }
-    ensures fault { IfErr result (λ e. IfFault e (λ f. first_listed (specs.shape_flaws names.old span (forest_of action.now)) ≡ Some f)) }
+    ensures fault { IfErr result
+        (λ e. IfFault e (λ f. first_listed (specs.shape_flaws names.old span (forest_of action.now))
+        ≡ Some f)) }
 {
     match head_of(action) {
         Head::Nothing => Err(fault_at(span, FaultKind::BadForm)),
@@ -70,10 +76,14 @@ fn read_parameters(
     form: Option<View<'_>>,
 ) -> Result<Vec<u32>, ReadErr>
     requires { scope.old ≡ [] }
-    ensures sound { OnOk result (specs.parameters_flaws (known_value known.now) (row_of form.entry) ≡ []) }
-    ensures types { IfOk result (λ types. types.items ≡ specs.parameter_types (known_value known.now) (row_of form.entry)) }
+    ensures sound { OnOk result
+        (specs.parameters_flaws (known_value known.now) (row_of form.entry) ≡ []) }
+    ensures types { IfOk result
+        (λ types. types.items ≡ specs.parameter_types (known_value known.now) (row_of form.entry)) }
     ensures scope { OnOk result (scope.new ≡ specs.parameter_scope (row_of form.entry)) }
-    ensures fault { IfErr result (λ e. IfFault e (λ f. first_listed (specs.parameters_flaws (known_value known.now) (row_of form.entry)) ≡ Some f)) }
+    ensures fault { IfErr result
+        (λ e. IfFault e (λ f. first_listed
+        (specs.parameters_flaws (known_value known.now) (row_of form.entry)) ≡ Some f)) }
 {
     match form {
         None => Ok(Vec::new(alloc)),
@@ -90,9 +100,14 @@ fn read_precondition(
     form: Option<View<'_>>,
 ) -> Result<Formula, ReadErr>
     ensures scope { OnOk result (scope.new ≡ scope.old) }
-    ensures sound { OnOk result (formulas_flaws (known_value known.now) (row_of form.entry) scope.old ≡ []) }
-    ensures read { IfOk result (λ f. formula_value f ≡ first_formula (formulas_of (known_value known.now) (row_of form.entry) scope.old)) }
-    ensures fault { IfErr result (λ e. IfFault e (λ f. first_listed (formulas_flaws (known_value known.now) (row_of form.entry) scope.old) ≡ Some f)) }
+    ensures sound { OnOk result
+        (formulas_flaws (known_value known.now) (row_of form.entry) scope.old ≡ []) }
+    ensures read { IfOk result
+        (λ f. formula_value f
+        ≡ first_formula (formulas_of (known_value known.now) (row_of form.entry) scope.old)) }
+    ensures fault { IfErr result
+        (λ e. IfFault e (λ f. first_listed
+        (formulas_flaws (known_value known.now) (row_of form.entry) scope.old) ≡ Some f)) }
 {
     match form {
         None => Ok(truth(alloc)),
@@ -109,9 +124,14 @@ fn read_whole_effect(
     form: Option<View<'_>>,
 ) -> Result<Effect, ReadErr>
     ensures scope { OnOk result (scope.new ≡ scope.old) }
-    ensures sound { OnOk result (effects_flaws (known_value known.now) (row_of form.entry) scope.old ≡ []) }
-    ensures read { IfOk result (λ e. effect_value e ≡ first_effect (effects_of (known_value known.now) (row_of form.entry) scope.old)) }
-    ensures fault { IfErr result (λ e. IfFault e (λ f. first_listed (effects_flaws (known_value known.now) (row_of form.entry) scope.old) ≡ Some f)) }
+    ensures sound { OnOk result
+        (effects_flaws (known_value known.now) (row_of form.entry) scope.old ≡ []) }
+    ensures read { IfOk result
+        (λ e. effect_value e
+        ≡ first_effect (effects_of (known_value known.now) (row_of form.entry) scope.old)) }
+    ensures fault { IfErr result
+        (λ e. IfFault e (λ f. first_listed
+        (effects_flaws (known_value known.now) (row_of form.entry) scope.old) ≡ Some f)) }
 {
     match form {
         None => Ok(no_change(alloc)),
@@ -128,10 +148,20 @@ fn read_conditions(
     parts: &ActionParts<'_>,
 ) -> Result<(Formula, Effect), ReadErr>
     requires { scope.old ≡ specs.parameter_scope (parts_value parts.now).parameters }
-    ensures sound { OnOk result (in_turn (specs.condition_passes (known_value known.now) (parts_value parts.now)) ≡ []) }
-    ensures precondition { IfOk result (λ p. formula_value p.0 ≡ first_formula (formulas_of (known_value known.now) (parts_value parts.now).precondition scope.old)) }
-    ensures effect { IfOk result (λ p. effect_value p.1 ≡ first_effect (effects_of (known_value known.now) (parts_value parts.now).effect scope.old)) }
-    ensures fault { IfErr result (λ e. IfFault e (λ f. first_listed (in_turn (specs.condition_passes (known_value known.now) (parts_value parts.now))) ≡ Some f)) }
+    ensures sound { OnOk result
+        (in_turn (specs.condition_passes (known_value known.now) (parts_value parts.now)) ≡ []) }
+    ensures precondition { IfOk result
+        (λ p. formula_value p.0
+        ≡ first_formula (formulas_of (known_value known.now) (parts_value parts.now).precondition
+        scope.old)) }
+    ensures effect { IfOk result
+        (λ p. effect_value p.1
+        ≡ first_effect (effects_of (known_value known.now) (parts_value parts.now).effect
+        scope.old)) }
+    ensures fault { IfErr result
+        (λ e. IfFault e (λ f. first_listed
+        (in_turn (specs.condition_passes (known_value known.now) (parts_value parts.now)))
+        ≡ Some f)) }
 {
     let precondition = read_precondition(alloc, known, scope, parts.precondition)?;
     let effect = read_whole_effect(alloc, known, scope, parts.effect)?;
@@ -144,11 +174,22 @@ fn read_body(
     known: &Known,
     parts: &ActionParts<'_>,
 ) -> Result<(Vec<u32>, Formula, Effect), ReadErr>
-    ensures sound { OnOk result (in_turn (specs.body_passes (known_value known.now) (parts_value parts.now)) ≡ []) }
-    ensures parameters { IfOk result (λ p. p.0.items ≡ specs.parameter_types (known_value known.now) (parts_value parts.now).parameters) }
-    ensures precondition { IfOk result (λ p. formula_value p.1 ≡ first_formula (formulas_of (known_value known.now) (parts_value parts.now).precondition (specs.parameter_scope (parts_value parts.now).parameters))) }
-    ensures effect { IfOk result (λ p. effect_value p.2 ≡ first_effect (effects_of (known_value known.now) (parts_value parts.now).effect (specs.parameter_scope (parts_value parts.now).parameters))) }
-    ensures fault { IfErr result (λ e. IfFault e (λ f. first_listed (in_turn (specs.body_passes (known_value known.now) (parts_value parts.now))) ≡ Some f)) }
+    ensures sound { OnOk result
+        (in_turn (specs.body_passes (known_value known.now) (parts_value parts.now)) ≡ []) }
+    ensures parameters { IfOk result
+        (λ p. p.0.items ≡ specs.parameter_types (known_value known.now)
+        (parts_value parts.now).parameters) }
+    ensures precondition { IfOk result
+        (λ p. formula_value p.1
+        ≡ first_formula (formulas_of (known_value known.now) (parts_value parts.now).precondition
+        (specs.parameter_scope (parts_value parts.now).parameters))) }
+    ensures effect { IfOk result
+        (λ p. effect_value p.2
+        ≡ first_effect (effects_of (known_value known.now) (parts_value parts.now).effect
+        (specs.parameter_scope (parts_value parts.now).parameters))) }
+    ensures fault { IfErr result
+        (λ e. IfFault e (λ f. first_listed
+        (in_turn (specs.body_passes (known_value known.now) (parts_value parts.now))) ≡ Some f)) }
 {
     let mut scope = Scope::new(alloc);
     let parameters = read_parameters(alloc, known, &mut scope, parts.parameters)?;
@@ -164,10 +205,17 @@ fn read_action(
     span: Span,
     action: &[Form],
 ) -> Result<Schema, ReadErr>
-    ensures sound { OnOk result (in_turn (specs.action_passes (known_value known.now) names.old span (forest_of action.now)) ≡ []) }
+    ensures sound { OnOk result
+        (in_turn (specs.action_passes (known_value known.now) names.old span (forest_of action.now))
+        ≡ []) }
     ensures names { OnOk result (names.new ≡ with_first_word names.old (forest_of action.now)) }
-    ensures read { IfOk result (λ schema. schema_value schema ≡ specs.schema_of (known_value known.now) (forest_of action.now)) }
-    ensures fault { IfErr result (λ e. IfFault e (λ f. first_listed (in_turn (specs.action_passes (known_value known.now) names.old span (forest_of action.now))) ≡ Some f)) }
+    ensures read { IfOk result
+        (λ schema. schema_value schema
+        ≡ specs.schema_of (known_value known.now) (forest_of action.now)) }
+    ensures fault { IfErr result
+        (λ e. IfFault e (λ f. first_listed
+        (in_turn (specs.action_passes (known_value known.now) names.old span
+        (forest_of action.now))) ≡ Some f)) }
 {
     let (name, parts) = read_shape(alloc, names, span, action)?;
     let (parameters, precondition, effect) = read_body(alloc, known, &parts)?;
@@ -181,7 +229,8 @@ fn read_action(
 
 /// The forms after the word `:action`, where a section with these parts begins with it.
 fn action_in(parts: &[Form]) -> Option<&[Form]>
-    ensures { option_map (λ rest. forest_of rest.now) result ≡ specs.action_in (forest_of parts.now) }
+    ensures { option_map (λ rest. forest_of rest.now) result
+        ≡ specs.action_in (forest_of parts.now) }
 {
     match head_of(parts) {
         Head::Word(_, word, rest) => match section_kind(word) {
@@ -202,10 +251,16 @@ fn read_section(
     span: Span,
     parts: &[Form],
 ) -> Result<(), ReadErr>
-    ensures sound { OnOk result (section_flaws (known_value known.now) names.old span (forest_of parts.now) ≡ []) }
+    ensures sound { OnOk result
+        (section_flaws (known_value known.now) names.old span (forest_of parts.now) ≡ []) }
     ensures names { OnOk result (names.new ≡ section_names names.old (forest_of parts.now)) }
-    ensures read { OnOk result (map schema_value actions.new.items ≡ map schema_value actions.old.items ++ section_actions (known_value known.now) (forest_of parts.now)) }
-    ensures fault { IfErr result (λ e. IfFault e (λ f. first_listed (section_flaws (known_value known.now) names.old span (forest_of parts.now)) ≡ Some f)) }
+    ensures read { OnOk result
+        (map schema_value actions.new.items
+        ≡ map schema_value actions.old.items
+        ++ section_actions (known_value known.now) (forest_of parts.now)) }
+    ensures fault { IfErr result
+        (λ e. IfFault e (λ f. first_listed
+        (section_flaws (known_value known.now) names.old span (forest_of parts.now)) ≡ Some f)) }
 {
     let Some(action) = action_in(parts) else {
         return Ok(());
@@ -217,9 +272,14 @@ fn read_section(
 
 /// All actions among the sections.
 pub fn read_actions(alloc: Global, known: &Known, sections: &[Form]) -> Result<Vec<Schema>, ReadErr>
-    ensures sound { OnOk result (actions_flaws (known_value known.now) [] (forest_of sections.now) ≡ []) }
-    ensures read { IfOk result (λ actions. map schema_value actions.items ≡ all_actions (known_value known.now) (forest_of sections.now)) }
-    ensures fault { IfErr result (λ e. IfFault e (λ f. first_listed (actions_flaws (known_value known.now) [] (forest_of sections.now)) ≡ Some f)) }
+    ensures sound { OnOk result
+        (actions_flaws (known_value known.now) [] (forest_of sections.now) ≡ []) }
+    ensures read { IfOk result
+        (λ actions. map schema_value actions.items
+        ≡ all_actions (known_value known.now) (forest_of sections.now)) }
+    ensures fault { IfErr result
+        (λ e. IfFault e (λ f. first_listed
+        (actions_flaws (known_value known.now) [] (forest_of sections.now)) ≡ Some f)) }
 {
     let mut actions = Vec::new(alloc);
     let mut names = NameTable::new(alloc);

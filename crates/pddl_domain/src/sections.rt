@@ -89,7 +89,8 @@ impl Seen {
 
 /// Of `define (domain NAME) SECTION ..` the name and the sections.
 fn name_and_sections(parts: &[Form]) -> Option<(&Text, &[Form])>
-    ensures { option_map (λ p. (p.0.now, forest_of p.1.now)) result ≡ specs.name_and_sections (forest_of parts.now) }
+    ensures { option_map (λ p. (p.0.now, forest_of p.1.now)) result
+        ≡ specs.name_and_sections (forest_of parts.now) }
 {
     let Head::Word(_, _, rest) = head_of(parts) else {
         return None;
@@ -102,7 +103,8 @@ fn name_and_sections(parts: &[Form]) -> Option<(&Text, &[Form])>
 
 /// The name and the sections of the first list that defines a domain.
 fn find_definition(forms: &[Form]) -> Option<(&Text, &[Form])>
-    ensures { option_map (λ p. (p.0.now, forest_of p.1.now)) result ≡ specs.definition (forest_of forms.now) }
+    ensures { option_map (λ p. (p.0.now, forest_of p.1.now)) result
+        ≡ specs.definition (forest_of forms.now) }
 {
     let (_, parts) = first_definition(forms, b"domain")?;
     name_and_sections(parts)
@@ -111,9 +113,12 @@ fn find_definition(forms: &[Form]) -> Option<(&Text, &[Form])>
 /// The name and the sections of the domain that the forms of a text define.
 pub fn read_definition(forms: &[Form]) -> Result<(&Text, &[Form]), ReadErr>
     ensures found { IfOk result (λ p. specs.definition_flaws (forest_of forms.now) ≡ []) }
-    ensures name { IfOk result (λ p. p.0.now ≡ specs.name_of (forest_of forms.now)) }
-    ensures sections { IfOk result (λ p. forest_of p.1.now ≡ specs.sections_of (forest_of forms.now)) }
-    ensures fault { IfErr result (λ e. IfFault e (λ f. first_listed (specs.definition_flaws (forest_of forms.now)) ≡ Some f)) }
+    ensures name { IfOk result (λ p. p.0.now ≡ specs.defined_name (forest_of forms.now)) }
+    ensures sections { IfOk result
+        (λ p. forest_of p.1.now ≡ specs.sections_of (forest_of forms.now)) }
+    ensures fault { IfErr result
+        (λ e. IfFault e (λ f. first_listed (specs.definition_flaws (forest_of forms.now))
+        ≡ Some f)) }
 {
     match find_definition(forms) {
         Some(found) => Ok(found),
@@ -144,7 +149,9 @@ fn check_kind(
     section: Section,
 ) -> Result<(), ReadErr>
     ensures sound { IfOk result (λ _. specs.kind_flaws seen span word.now section ≡ []) }
-    ensures fault { IfErr result (λ e. IfFault e (λ f. first_listed (specs.kind_flaws seen span word.now section) ≡ Some f)) }
+    ensures fault { IfErr result
+        (λ e. IfFault e (λ f. first_listed (specs.kind_flaws seen span word.now section)
+        ≡ Some f)) }
 {
     if let Section::Other = section {
         let left_out = FaultKind::LeftOut(Text::new(alloc, word.as_bytes())?);
@@ -156,11 +163,14 @@ fn check_kind(
     Ok(())
 }
 
-/// Finds the first flaw of the sections as such: a form that is no section, one that is left out, or one
-/// that comes twice.
+/// Finds the first flaw of the sections as such: a form that is no section, one that is left out,
+/// or one that comes twice.
 pub fn check_sections(alloc: Global, sections: &[Form]) -> Result<(), ReadErr>
-    ensures sound { IfOk result (λ _. specs.sections_flaws specs.none_came (forest_of sections.now) ≡ []) }
-    ensures fault { IfErr result (λ e. IfFault e (λ f. first_listed (specs.sections_flaws specs.none_came (forest_of sections.now)) ≡ Some f)) }
+    ensures sound { IfOk result
+        (λ _. specs.sections_flaws specs.none_came (forest_of sections.now) ≡ []) }
+    ensures fault { IfErr result
+        (λ e. IfFault e (λ f. first_listed
+        (specs.sections_flaws specs.none_came (forest_of sections.now)) ≡ Some f)) }
 {
     let mut seen = Seen {
         types: false,

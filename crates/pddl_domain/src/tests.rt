@@ -1,5 +1,6 @@
-//! What the reader answers to texts with known answers, which are written by hand from the rules. A `^` in a
-//! text of the table stands before the form at which the fault is; it is taken out before the text is read.
+//! What the reader answers to texts with known answers, which are written by hand from the rules. A
+//! `^` in a text of the table stands before the form at which the fault is; it is taken out before
+//! the text is read.
 
 use crate::{domain_or_fault, read_domain};
 use sexpr_text::{MAX_BYTES, ReadErr, Text};

@@ -1,7 +1,8 @@
-//! Texts that spell a domain, each with its tree, which is written by hand from the rules: odd forms among
-//! them. A tree is shown in one line: the domain's name; each type with the number of its parent; each
-//! constant with the number of its type; each predicate with the number of its terms; and each action with
-//! the types of its parameters, its precondition and its effect. `?1` is a variable, `#1` a constant.
+//! Texts that spell a domain, each with its tree, which is written by hand from the rules: odd
+//! forms among them. A tree is shown in one line: the domain's name; each type with the number of
+//! its parent; each constant with the number of its type; each predicate with the number of its
+//! terms; and each action with the types of its parameters, its precondition and its effect. `?1`
+//! is a variable, `#1` a constant.
 
 use crate::read_domain;
 use crate::tests::{push_refusal, push_text};

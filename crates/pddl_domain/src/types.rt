@@ -1,6 +1,7 @@
 //! The types of a domain.
 
-ghost use Rattle.std.specs.Prelude.{◌≡◌, ◌<◌, ◌^◌, ◌++◌, [], ◌∷◌, not, ◌&&◌, ◌≤◌, slice_index_or, false, IfOk, IfErr, OnOk, Some, codes, map, length};
+ghost use Rattle.std.specs.Prelude.{◌≡◌, ◌<◌, ◌^◌, ◌++◌, [], ◌∷◌, not, ◌&&◌, ◌≤◌, slice_index_or};
+ghost use Rattle.std.specs.Prelude.{false, IfOk, IfErr, OnOk, Some, codes, map, length};
 ghost use Rattle.std.specs.List.{fold, filter, list_all, range_with_len};
 ghost use Rattle.sexpr_text.specs.Forest.{forest_of};
 ghost use Rattle.sexpr_text.specs.Flaws.{first_listed};
@@ -64,7 +65,9 @@ fn add_words(alloc: Global, names: &mut TypeNames, words: &[Text]) -> Result<(),
 /// Adds the names of the groups.
 fn add_names(alloc: Global, names: &mut TypeNames, groups: &[TypedGroup]) -> Result<(), AllocError>
     requires { names.old.texts.items ≡ names.old.table }
-    ensures table { OnOk result (names.new.table ≡ fold specs.with_name names.old.table (names_of (map group_value groups.now))) }
+    ensures table { OnOk result
+        (names.new.table ≡ fold specs.with_name names.old.table
+        (names_of (map group_value groups.now))) }
     ensures texts { OnOk result (names.new.texts.items ≡ names.new.table) }
 {
     for group in groups {
@@ -87,7 +90,9 @@ fn add_parents(
     groups: &[TypedGroup],
 ) -> Result<(), AllocError>
     requires { names.old.texts.items ≡ names.old.table }
-    ensures table { OnOk result (names.new.table ≡ fold specs.with_name names.old.table (specs.parent_words (map group_value groups.now))) }
+    ensures table { OnOk result
+        (names.new.table ≡ fold specs.with_name names.old.table
+        (specs.parent_words (map group_value groups.now))) }
     ensures texts { OnOk result (names.new.texts.items ≡ names.new.table) }
 {
     for group in groups {
@@ -113,7 +118,8 @@ fn only_object(alloc: Global) -> Result<TypeNames, AllocError>
 
 /// The names of the types by their numbers.
 fn name_types(alloc: Global, groups: &[TypedGroup]) -> Result<TypeNames, AllocError>
-    ensures table { IfOk result (λ names. names.table ≡ specs.type_names (map group_value groups.now)) }
+    ensures table { IfOk result
+        (λ names. names.table ≡ specs.type_names (map group_value groups.now)) }
     ensures texts { IfOk result (λ names. names.texts.items ≡ names.table) }
 {
     let mut names = only_object(alloc)?;
@@ -124,7 +130,9 @@ fn name_types(alloc: Global, groups: &[TypedGroup]) -> Result<TypeNames, AllocEr
 
 /// Adds the number once for each of the names but `object`.
 fn push_for_each(parents: &mut Vec<u32>, names: &[Text], number: u32) -> Result<(), AllocError>
-    ensures { OnOk result (parents.new.items ≡ parents.old.items ++ map (λ name. number) (filter (λ name. not (specs.is_object name)) names.now)) }
+    ensures { OnOk result
+        (parents.new.items ≡ parents.old.items
+        ++ map (λ name. number) (filter (λ name. not (specs.is_object name)) names.now)) }
 {
     for name in names {
         if !is_object(name) {
@@ -147,7 +155,9 @@ fn push_parents(
     names: &NameTable,
     groups: &[TypedGroup],
 ) -> Result<(), AllocError>
-    ensures { OnOk result (parents.new.items ≡ parents.old.items ++ specs.left_parents names.now (map group_value groups.now)) }
+    ensures { OnOk result
+        (parents.new.items ≡ parents.old.items
+        ++ specs.left_parents names.now (map group_value groups.now)) }
 {
     for group in groups {
         let number = type_number(names, &group.type_word);
@@ -173,7 +183,8 @@ fn find_parents(
     groups: &[TypedGroup],
 ) -> Result<Vec<u32>, AllocError>
     requires { names.now ≡ specs.type_names (map group_value groups.now) }
-    ensures { IfOk result (λ parents. parents.items ≡ specs.type_parents (map group_value groups.now)) }
+    ensures { IfOk result
+        (λ parents. parents.items ≡ specs.type_parents (map group_value groups.now)) }
 {
     let mut parents = Vec::new(alloc);
     parents.push(0)?;
@@ -185,10 +196,13 @@ fn find_parents(
 /// The types of a `:types` section with these forms after its word.
 pub fn read_types(alloc: Global, list: &[Form]) -> Result<Types, ReadErr>
     ensures sound { OnOk result (specs.types_flaws (forest_of list.now) ≡ []) }
-    ensures names { IfOk result (λ types. types.names ≡ specs.type_names (typed_groups (forest_of list.now))) }
+    ensures names { IfOk result
+        (λ types. types.names ≡ specs.type_names (typed_groups (forest_of list.now))) }
     ensures texts { IfOk result (λ types. types.texts.items ≡ types.names) }
-    ensures parents { IfOk result (λ types. types.parents.items ≡ specs.type_parents (typed_groups (forest_of list.now))) }
-    ensures fault { IfErr result (λ e. IfFault e (λ f. first_listed (specs.types_flaws (forest_of list.now)) ≡ Some f)) }
+    ensures parents { IfOk result
+        (λ types. types.parents.items ≡ specs.type_parents (typed_groups (forest_of list.now))) }
+    ensures fault { IfErr result
+        (λ e. IfFault e (λ f. first_listed (specs.types_flaws (forest_of list.now)) ≡ Some f)) }
 {
     let none = NameTable::new(alloc);
     let mut seen = NameTable::new(alloc);
@@ -206,7 +220,9 @@ pub fn read_types(alloc: Global, list: &[Form]) -> Result<Types, ReadErr>
 fn is_looping(types: &Types, on_loops: &[bool], name: &Text) -> bool
     requires some { 0 < length types.now.names }
     requires listed { length types.now.names ≤ length types.now.parents.items }
-    requires loops { on_loops.now ≡ map (is_own_ancestor types.now.parents.items) (range_with_len 0 (length types.now.parents.items)) }
+    requires loops { on_loops.now
+        ≡ map (is_own_ancestor types.now.parents.items)
+        (range_with_len 0 (length types.now.parents.items)) }
     ensures { result ≡ specs.is_looping types.now.names types.now.parents.items name.now }
 {
     !is_object(name) && on_loops[type_number(&types.names, name) as usize]
@@ -222,9 +238,16 @@ fn check_word(
 ) -> Result<(), ReadErr>
     requires some { 0 < length types.now.names }
     requires listed { length types.now.names ≤ length types.now.parents.items }
-    requires loops { on_loops.now ≡ map (is_own_ancestor types.now.parents.items) (range_with_len 0 (length types.now.parents.items)) }
-    ensures sound { OnOk result (specs.word_loop_flaws types.now.names types.now.parents.items after_dash span word.now ≡ []) }
-    ensures fault { IfErr result (λ e. IfFault e (λ f. first_listed (specs.word_loop_flaws types.now.names types.now.parents.items after_dash span word.now) ≡ Some f)) }
+    requires loops { on_loops.now
+        ≡ map (is_own_ancestor types.now.parents.items)
+        (range_with_len 0 (length types.now.parents.items)) }
+    ensures sound { OnOk result
+        (specs.word_loop_flaws types.now.names types.now.parents.items after_dash span word.now
+        ≡ []) }
+    ensures fault { IfErr result
+        (λ e. IfFault e (λ f. first_listed
+        (specs.word_loop_flaws types.now.names types.now.parents.items after_dash span word.now)
+        ≡ Some f)) }
 {
     if !after_dash && !is_dash(word) && is_looping(types, on_loops, word) {
         return Err(fault_at(span, FaultKind::TypeLoop));
@@ -232,13 +255,15 @@ fn check_word(
     Ok(())
 }
 
-/// Finds the first name on the left that is its own ancestor. `list` is what follows the word `:types`, and
-/// has no other flaw; the types are those that it was read as.
+/// Finds the first name on the left that is its own ancestor. `list` is what follows the word
+/// `:types`, and has no other flaw; the types are those that it was read as.
 pub fn check_loops(alloc: Global, list: &[Form], types: &Types) -> Result<(), ReadErr>
     requires names { types.now.names ≡ specs.type_names (typed_groups (forest_of list.now)) }
-    requires parents { types.now.parents.items ≡ specs.type_parents (typed_groups (forest_of list.now)) }
+    requires parents { types.now.parents.items
+        ≡ specs.type_parents (typed_groups (forest_of list.now)) }
     ensures sound { OnOk result (specs.loop_flaws (forest_of list.now) ≡ []) }
-    ensures fault { IfErr result (λ e. IfFault e (λ f. first_listed (specs.loop_flaws (forest_of list.now)) ≡ Some f)) }
+    ensures fault { IfErr result
+        (λ e. IfFault e (λ f. first_listed (specs.loop_flaws (forest_of list.now)) ≡ Some f)) }
 {
     let on_loops = types_on_loops(alloc, &types.parents)?;
     let mut after_dash = false;

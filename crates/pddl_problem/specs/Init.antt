@@ -1,5 +1,6 @@
 -- The initial situation of a problem: facts, and uncertain entries.
-use Rattle.std.specs.Prelude.{ℕ, true, false, if◌then◌else◌, List, [], ◌∷◌, ◌++◌, Option, Some, None, codes}
+use Rattle.std.specs.Prelude.{ℕ, true, false, if◌then◌else◌, List, [], ◌∷◌, ◌++◌, Option, Some}
+use Rattle.std.specs.Prelude.{None, codes}
 use Rattle.std.specs.Option.{option_map_or, is_some}
 use Rattle.std.specs.Str.{bytes_eq}
 use Rattle.sexpr_text.specs.declared.forms.Span.{Span}
@@ -8,13 +9,16 @@ use Rattle.sexpr_text.specs.Forest.{Forest, nothing, word, group}
 use Rattle.sexpr_text.specs.Parts.{is_nothing, flaws_of_groups, each_group}
 use Rattle.sexpr_text.specs.Flaws.{Flaw, flaw_at}
 use Rattle.pddl_ast.specs.declared.keywords.Keyword.{Keyword}
-use Rattle.pddl_ast.specs.declared.keywords.Keyword.TheVariants.{And, Or, Not, Imply, Exists, Forall, Equals, When, Oneof, Unknown, Other}
+use Rattle.pddl_ast.specs.declared.keywords.Keyword.TheVariants.{And, Or, Not, Imply, Exists}
+use Rattle.pddl_ast.specs.declared.keywords.Keyword.TheVariants.{Forall, Equals, When, Oneof}
+use Rattle.pddl_ast.specs.declared.keywords.Keyword.TheVariants.{Unknown, Other}
 use Rattle.pddl_ast.specs.Words.{keyword_of, is_reserved}
 use Rattle.pddl_ast.specs.Known.{Known}
 use Rattle.pddl_ast.specs.Atoms.{ground_atom_flaws, ground_atom}
 use Rattle.pddl_ast.specs.Trees.{AtomTree, LiteralTree}
 
--- a list that may be an atom: its span, the span of the word at its head, that word, and what follows it
+-- a list that may be an atom: its span, the span of the word at its head, that word, and what
+-- follows it
 pub record AtomForm : Type 0 where
   pub span : Span
   pub head_span : Span
@@ -25,7 +29,9 @@ pub record AtomForm : Type 0 where
 abbrev pub atom_form : Span → Forest → Option AtomForm
 atom_form span nothing = None
 atom_form span (group s parts rest) = None
-atom_form span (word s w rest) = if is_reserved w then None else Some (record { span = span; head_span = s; head = w; terms = rest })
+atom_form span (word s w rest) =
+    if is_reserved w then None else Some
+    (record { span = span; head_span = s; head = w; terms = rest })
 
 -- such a list, where it is all that stands under a `not` or an `unknown`
 abbrev pub atom_under : Forest → Option AtomForm
@@ -49,12 +55,14 @@ left_out span w = flaw_at span (LeftOut w) ∷ []
 abbrev pub under_flaws : Known → Span → Forest → List Flaw
 under_flaws known span rest = option_map_or (form_flaws known) (atom_under rest) (bad_form span)
 
--- what is wrong with a list as a part of an alternative, by what the word at its head (at span s) means. A
--- part is an atom, or `(not ATOM)`. At one list the flaw with the lower code is listed alone
+-- what is wrong with a list as a part of an alternative, by what the word at its head (at span s)
+-- means. A part is an atom, or `(not ATOM)`. At one list the flaw with the lower code is listed
+-- alone
 abbrev pub part_flaws_by : Known → Span → Span → List ℕ → Forest → Keyword → List Flaw
 part_flaws_by known span s w rest And = bad_form span
 part_flaws_by known span s w rest Not = under_flaws known span rest
-part_flaws_by known span s w rest Unknown = if is_some (atom_under rest) then left_out span w else bad_form span
+part_flaws_by known span s w rest Unknown =
+    if is_some (atom_under rest) then left_out span w else bad_form span
 part_flaws_by known span s w rest Other = ground_atom_flaws known span s w rest
 part_flaws_by known span s w rest Or = left_out span w
 part_flaws_by known span s w rest Imply = left_out span w
@@ -77,13 +85,15 @@ alternative_flaws_by known span s w rest keyword = part_flaws_by known span s w 
 abbrev pub alternative_flaws : Known → Span → Forest → List Flaw
 alternative_flaws known span nothing = []
 alternative_flaws known span (group s parts rest) = bad_form span
-alternative_flaws known span (word s w rest) = alternative_flaws_by known span s w rest (keyword_of w)
+alternative_flaws known span (word s w rest) =
+    alternative_flaws_by known span s w rest (keyword_of w)
 
--- what is wrong with a list as an entry other than `(and ENTRY ..)`: it is `(oneof ALTERNATIVE ..)` with at
--- least one, `(unknown ATOM)`, or what a part may be
+-- what is wrong with a list as an entry other than `(and ENTRY ..)`: it is `(oneof ALTERNATIVE ..)`
+-- with at least one, `(unknown ATOM)`, or what a part may be
 abbrev pub entry_flaws_by : Known → Span → Span → List ℕ → Forest → Keyword → List Flaw
 entry_flaws_by known span s w rest Oneof =
-    if is_nothing rest then flaw_at span EmptyOneof ∷ [] else flaws_of_groups (alternative_flaws known) rest
+    if is_nothing rest then flaw_at span EmptyOneof
+    ∷ [] else flaws_of_groups (alternative_flaws known) rest
 entry_flaws_by known span s w rest Unknown = under_flaws known span rest
 entry_flaws_by known span s w rest keyword = part_flaws_by known span s w rest keyword
 
@@ -92,15 +102,18 @@ entry_flaws known span nothing = bad_form span
 entry_flaws known span (group s parts rest) = bad_form span
 entry_flaws known span (word s w rest) = entry_flaws_by known span s w rest (keyword_of w)
 
--- what words and lists give as entries, one after the other, where `(and ENTRY ..)` stands for its entries
+-- what words and lists give as entries, one after the other, where `(and ENTRY ..)` stands for its
+-- entries
 abbrev pub each_entry : {X : Type 0} → (Span → List X) → (Span → Forest → List X) → Forest → List X
 each_entry of_word of_list nothing = []
 each_entry of_word of_list (word span w rest) = of_word span ++ each_entry of_word of_list rest
-each_entry of_word of_list (group span nothing rest) = of_list span nothing ++ each_entry of_word of_list rest
+each_entry of_word of_list (group span nothing rest) =
+    of_list span nothing ++ each_entry of_word of_list rest
 each_entry of_word of_list (group span (group s ps qs) rest) =
     of_list span (group s ps qs) ++ each_entry of_word of_list rest
 each_entry of_word of_list (group span (word s w inner) rest) =
-    (if bytes_eq w (codes "and") then each_entry of_word of_list inner else of_list span (word s w inner))
+    (if bytes_eq w (codes "and") then each_entry of_word of_list inner else of_list span
+    (word s w inner))
     ++ each_entry of_word of_list rest
 
 -- what is wrong with the items of `:init`
@@ -115,7 +128,8 @@ negative a = record { atom = a; positive = false }
 
 -- the atom under a `not` or an `unknown`
 abbrev pub under_atom : Known → Forest → AtomTree
-under_atom known rest = option_map_or (form_atom known) (atom_under rest) (record { predicate = 0; objects = [] })
+under_atom known rest =
+    option_map_or (form_atom known) (atom_under rest) (record { predicate = 0; objects = [] })
 
 -- the literal of a part
 abbrev pub part_literal_by : Known → List ℕ → Forest → Keyword → LiteralTree

@@ -4,7 +4,8 @@ use Rattle.std.specs.Option.{option_map, option_map_or, option_and_then}
 use Rattle.std.specs.Str.{bytes_eq}
 use Rattle.sexpr_text.specs.declared.forms.Span.{Span}
 use Rattle.sexpr_text.specs.declared.faults.InputFault.{InputFault}
-use Rattle.sexpr_text.specs.declared.faults.FaultKind.TheVariants.{BadForm, OtherDomain, GoalMissing}
+use Rattle.sexpr_text.specs.declared.faults.FaultKind.TheVariants.{BadForm, OtherDomain}
+use Rattle.sexpr_text.specs.declared.faults.FaultKind.TheVariants.{GoalMissing}
 use Rattle.sexpr_text.specs.Forest.{Forest, nothing, word, group}
 use Rattle.sexpr_text.specs.Parts.{first_group_with, is_definition}
 use Rattle.sexpr_text.specs.Flaws.{Flaw, flaw_at}
@@ -38,13 +39,15 @@ defined span (word s text (group s' parts rest)) =
 -- the first list that is `define (problem NAME) ..`
 abbrev pub definition_in : Forest → Option Definition
 definition_in forest =
-    option_and_then (λ g. defined g.0 g.1) (first_group_with (is_definition (codes "problem")) forest)
+    option_and_then (λ g. defined g.0 g.1)
+    (first_group_with (is_definition (codes "problem")) forest)
 
 -- the pass over the domain's name: another name than the domain's is OtherDomain at it
 abbrev pub domain_flaws : List ℕ → Forest → List Flaw
 domain_flaws domain nothing = []
 domain_flaws domain (group s parts rest) = []
-domain_flaws domain (word s name rest) = if bytes_eq name domain then [] else flaw_at s OtherDomain ∷ []
+domain_flaws domain (word s name rest) =
+    if bytes_eq name domain then [] else flaw_at s OtherDomain ∷ []
 
 -- what is known in the problem: the names of the domain, and the objects after the constants
 abbrev pub with_objects : Known → Forest → Known
@@ -97,7 +100,9 @@ definition_passes domain before d =
 
 -- the passes over the forms of a text, each with everything that is wrong by its rules
 abbrev pub problem_passes : DomainTree → Forest → List (List Flaw)
-problem_passes domain forest = option_map_or (λ d. [] ∷ definition_passes domain.name (known_in domain) d) (definition_in forest) ((no_define ∷ []) ∷ [])
+problem_passes domain forest =
+    option_map_or (λ d. [] ∷ definition_passes domain.name (known_in domain) d)
+    (definition_in forest) ((no_define ∷ []) ∷ [])
 
 -- the problem that a definition reads as, where these names of the domain are known
 abbrev pub problem_of : Known → Definition → ProblemTree
@@ -118,7 +123,8 @@ problem_in domain forest = option_map (problem_of (known_in domain)) (definition
 
 -- the bytes spell this problem of the domain
 abbrev pub SpellsProblem : List ℕ → DomainTree → ProblemTree → Type 0
-SpellsProblem bytes domain problem = SpellsBy (problem_passes domain) (problem_in domain) bytes (Some problem)
+SpellsProblem bytes domain problem =
+    SpellsBy (problem_passes domain) (problem_in domain) bytes (Some problem)
 
 -- the bytes have this fault as a problem of the domain
 abbrev pub HasProblemFault : List ℕ → DomainTree → InputFault → Type 0

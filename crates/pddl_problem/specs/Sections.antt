@@ -1,5 +1,6 @@
 -- The sections of a problem: what stands in its `define` list after the problem's name.
-use Rattle.std.specs.Prelude.{ℕ, Bool, true, false, ◌||◌, ◌&&◌, not, if◌then◌else◌, List, [], ◌∷◌, ◌++◌, Option, codes}
+use Rattle.std.specs.Prelude.{ℕ, Bool, true, false, ◌||◌, ◌&&◌, not, if◌then◌else◌, List, [], ◌∷◌}
+use Rattle.std.specs.Prelude.{◌++◌, Option, codes}
 use Rattle.std.specs.Option.{option_and_then, unwrap_or}
 use Rattle.std.specs.Str.{bytes_eq}
 use Rattle.sexpr_text.specs.declared.forms.Span.{Span}
@@ -9,13 +10,15 @@ use Rattle.sexpr_text.specs.Forest.{Forest, nothing, word, group}
 use Rattle.sexpr_text.specs.Parts.{is_nothing, is_name, begins_with, after_word, first_group_with}
 use Rattle.sexpr_text.specs.Flaws.{Flaw, flaw_at}
 use Rattle.pddl_problem.specs.declared.sections.Heading.{Heading}
-use Rattle.pddl_problem.specs.declared.sections.Heading.TheVariants.{Domain, Objects, Init, Goal, PassedOver, Other}
+use Rattle.pddl_problem.specs.declared.sections.Heading.TheVariants.{Domain, Objects, Init, Goal}
+use Rattle.pddl_problem.specs.declared.sections.Heading.TheVariants.{PassedOver, Other}
 use Rattle.pddl_problem.specs.declared.sections.Seen.{Seen}
 
 -- the sections that are passed over
 abbrev pub is_passed_over : List ℕ → Bool
 is_passed_over w =
-    bytes_eq w (codes ":requirements") || bytes_eq w (codes ":metric") || bytes_eq w (codes ":goal-reward")
+    bytes_eq w (codes ":requirements") || bytes_eq w (codes ":metric")
+    || bytes_eq w (codes ":goal-reward")
 
 -- what the word at a section's head says that the section is
 abbrev pub heading_of : List ℕ → Heading
@@ -43,12 +46,13 @@ is_one_name (group span parts rest) = false
 abbrev pub flaw_if : Bool → Span → FaultKind → List Flaw
 flaw_if test span kind = if test then flaw_at span kind ∷ [] else []
 
--- what is wrong with a section, given which sections have come before it: a section that may come once
--- is BadForm where it comes again, but a goal is GoalTwice; a `:domain` has exactly one item, a name, and
--- a `:goal` exactly one item, or they are BadForm; every other section is left out. At one section the
--- flaw with the lower code is listed alone
+-- what is wrong with a section, given which sections have come before it: a section that may come
+-- once is BadForm where it comes again, but a goal is GoalTwice; a `:domain` has exactly one item,
+-- a name, and a `:goal` exactly one item, or they are BadForm; every other section is left out. At
+-- one section the flaw with the lower code is listed alone
 abbrev pub section_flaws : Seen → Span → Heading → List ℕ → Forest → List Flaw
-section_flaws seen span Domain head rest = flaw_if (seen.domain || not (is_one_name rest)) span BadForm
+section_flaws seen span Domain head rest =
+    flaw_if (seen.domain || not (is_one_name rest)) span BadForm
 section_flaws seen span Objects head rest = flaw_if seen.objects span BadForm
 section_flaws seen span Init head rest = flaw_if seen.init span BadForm
 section_flaws seen span Goal head rest =
@@ -84,11 +88,13 @@ saw_list seen (word s head rest) = saw seen (heading_of head)
 abbrev pub sections_flaws : Seen → Forest → List Flaw
 sections_flaws seen nothing = []
 sections_flaws seen (word span text rest) = flaw_at span BadForm ∷ sections_flaws seen rest
-sections_flaws seen (group span parts rest) = list_flaws seen span parts ++ sections_flaws (saw_list seen parts) rest
+sections_flaws seen (group span parts rest) =
+    list_flaws seen span parts ++ sections_flaws (saw_list seen parts) rest
 
 -- the items of the first section with this word at its head
 abbrev pub section : List ℕ → Forest → Option Forest
-section head items = option_and_then (λ s. after_word head s.1) (first_group_with (begins_with head) items)
+section head items =
+    option_and_then (λ s. after_word head s.1) (first_group_with (begins_with head) items)
 
 -- the items of that section, none where there is no such section
 abbrev pub items_of : List ℕ → Forest → Forest

@@ -13,7 +13,14 @@ use Rattle.pddl_problem.specs.Init.{AtomForm}
 use Rattle.pddl_problem.specs.Problems.{Definition as ProblemDefinition}
 
 abbrev pub form_value : AtomParts → AtomForm
-form_value a = record { span = a.span; head_span = a.head_span; head = a.head.now; terms = forest_of a.terms.now }
+form_value a =
+    record {
+      span = a.span;
+      head_span = a.head_span;
+      head = a.head.now;
+      terms = forest_of
+          a.terms.now;
+    }
 
 abbrev pub alternative_value : Vec InitialLiteral Global → List LiteralTree
 alternative_value alternative = map literal_value alternative.items

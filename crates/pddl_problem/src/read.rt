@@ -45,8 +45,8 @@ fn read_in_forms(alloc: Global, forms: &[Form], domain: &Domain) -> Result<Probl
 /// The problem that a text spells relative to a domain, or its first fault, or want of memory.
 ///
 /// The text has at most `MAX_BYTES` bytes. It either spells exactly one problem of the domain or
-/// has exactly one fault (`one_answer`). A problem that is read fits the domain, and the names of its
-/// objects are words. Names are looked
+/// has exactly one fault (`one_answer`). A problem that is read fits the domain, and the names of
+/// its objects are words. Names are looked
 /// up by hash, so that the time this takes grows with the length of the text and the size of the
 /// domain.
 pub fn read_problem(alloc: Global, bytes: &[u8], domain: &Domain) -> Result<Problem, ReadErr>

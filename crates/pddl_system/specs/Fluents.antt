@@ -1,7 +1,9 @@
 -- The fluents: the atoms whose value may differ between states.
 use Rattle.std.specs.Prelude.{ℕ, Bool, ◌||◌, List, [], ◌∷◌, ◌++◌, map, length, if◌then◌else◌}
 use Rattle.std.specs.List.{filter, flat_map, list_any}
-use Rattle.pddl_ast.specs.Trees.{EffectTree, EffectTrees, add, delete, both, one_of, only_when, each, no_effect, effect_then, AtomTree, LiteralTree, DomainTree, ProblemTree}
+use Rattle.pddl_ast.specs.Trees.{EffectTree, EffectTrees, add, delete, both, one_of, only_when}
+use Rattle.pddl_ast.specs.Trees.{each, no_effect, effect_then, AtomTree, LiteralTree, DomainTree}
+use Rattle.pddl_ast.specs.Trees.{ProblemTree}
 use Rattle.pddl_system.specs.GroundAtoms.{all_atoms, atom_of, is_among}
 use Rattle.pddl_system.specs.Instances.{Instance, kept_instances}
 use Rattle.pddl_system.specs.Objects.{all_objects, bindings}
@@ -49,8 +51,8 @@ is_fluent d p a =
 abbrev pub fluents : DomainTree → ProblemTree → List AtomTree
 fluents d p = filter (is_fluent d p) (all_atoms d.predicates (length (all_objects d p)))
 
--- the atoms that make a fluent, as the effects of kept instances and then the uncertain entries name
--- them, some more than once
+-- the atoms that make a fluent, as the effects of kept instances and then the uncertain entries
+-- name them, some more than once
 abbrev pub named_atoms : DomainTree → ProblemTree → List AtomTree
 named_atoms d p =
     flat_map (λ (i : Instance). named_by_effect (setting d p) i.schema.effect i.objects)

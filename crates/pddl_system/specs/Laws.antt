@@ -1,9 +1,11 @@
 -- What is true of every domain and problem: the statements of the laws.
-use Rattle.std.specs.Prelude.{◌≡◌, ◌≢◌, ℕ, ◌<◌, ◌≤◌, ◌↔◌, List, length, Bool, true, false, Option, None, Some, String, Vec, slice_get}
+use Rattle.std.specs.Prelude.{◌≡◌, ◌≢◌, ℕ, ◌<◌, ◌≤◌, ◌↔◌, List, length, Bool, true, false, Option}
+use Rattle.std.specs.Prelude.{None, Some, String, Vec, slice_get}
 use Rattle.std.specs.declared.alloc.Global.{Global}
 use Rattle.pddl_ast.specs.Fits.{FitsDomain, FitsEffect, FitsProblem}
 use Rattle.pddl_ast.specs.Known.{Known}
-use Rattle.pddl_ast.specs.Trees.{AtomTree, FormulaTree, LiteralTree, EffectTree, SchemaTree, DomainTree, ProblemTree}
+use Rattle.pddl_ast.specs.Trees.{AtomTree, FormulaTree, LiteralTree, EffectTree, SchemaTree}
+use Rattle.pddl_ast.specs.Trees.{DomainTree, ProblemTree}
 use Rattle.pddl_ast.specs.declared.trees.Named.{Named}
 use Rattle.pddl_ast.specs.declared.trees.Predicate.{Predicate}
 use Rattle.std.specs.List.{All, AllPairs, Contains}

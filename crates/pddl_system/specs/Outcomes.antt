@@ -2,7 +2,8 @@
 -- of an action), each a list of changes: an atom that is added or deleted, under conditions.
 use Rattle.std.specs.Prelude.{ℕ, Bool, true, false, List, [], ◌∷◌, ◌++◌, map}
 use Rattle.std.specs.List.{filter, flat_map}
-use Rattle.pddl_ast.specs.Trees.{FormulaTree, EffectTree, EffectTrees, add, delete, both, one_of, only_when, each, no_effect, effect_then, AtomTree}
+use Rattle.pddl_ast.specs.Trees.{FormulaTree, EffectTree, EffectTrees, add, delete, both, one_of}
+use Rattle.pddl_ast.specs.Trees.{only_when, each, no_effect, effect_then, AtomTree}
 use Rattle.pddl_system.specs.GroundAtoms.{atom_of}
 use Rattle.pddl_system.specs.Instances.{Instance}
 use Rattle.pddl_system.specs.Objects.{bindings}

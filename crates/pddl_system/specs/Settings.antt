@@ -2,7 +2,9 @@
 -- predicates never change, and which atoms are initially true for certain.
 use Rattle.std.specs.Prelude.{ℕ, ◌==◌, Bool, false, ◌||◌, not, List}
 use Rattle.std.specs.List.{list_any}
-use Rattle.pddl_ast.specs.Trees.{EffectTree, EffectTrees, add, delete, both, one_of, only_when, each, no_effect, effect_then, AtomTree, LiteralTree, SchemaTree, DomainTree, ProblemTree}
+use Rattle.pddl_ast.specs.Trees.{EffectTree, EffectTrees, add, delete, both, one_of, only_when}
+use Rattle.pddl_ast.specs.Trees.{each, no_effect, effect_then, AtomTree, LiteralTree, SchemaTree}
+use Rattle.pddl_ast.specs.Trees.{DomainTree, ProblemTree}
 use Rattle.pddl_system.specs.GroundAtoms.{is_among}
 use Rattle.pddl_system.specs.Objects.{all_objects, objects_of_type}
 

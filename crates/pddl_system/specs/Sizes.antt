@@ -1,9 +1,13 @@
 -- How much grounding has to do, as numbers that are counted before anything is built, and their
 -- limits.
-use Rattle.std.specs.Prelude.{ℕ, ◌+◌, ◌*◌, ◌^◌, Bool, ◌&&◌, not, nat_le, List, [], ◌∷◌, map, length, Option}
+use Rattle.std.specs.Prelude.{ℕ, ◌+◌, ◌*◌, ◌^◌, Bool, ◌&&◌, not, nat_le, List, [], ◌∷◌, map, length}
+use Rattle.std.specs.Prelude.{Option}
 use Rattle.std.specs.List.{find, list_all, sum}
 use Rattle.std.specs.Option.{option_map_or}
-use Rattle.pddl_ast.specs.Trees.{FormulaTree, FormulaTrees, atom, equal, all, any, negation, implication, exists, forall, no_formula, formula_then, EffectTree, EffectTrees, add, delete, both, one_of, only_when, each, no_effect, effect_then, SchemaTree, DomainTree, ProblemTree}
+use Rattle.pddl_ast.specs.Trees.{FormulaTree, FormulaTrees, atom, equal, all, any, negation}
+use Rattle.pddl_ast.specs.Trees.{implication, exists, forall, no_formula, formula_then, EffectTree}
+use Rattle.pddl_ast.specs.Trees.{EffectTrees, add, delete, both, one_of, only_when, each, no_effect}
+use Rattle.pddl_ast.specs.Trees.{effect_then, SchemaTree, DomainTree, ProblemTree}
 use Rattle.pddl_system.specs.Fluents.{fluents}
 use Rattle.pddl_system.specs.Instances.{kept_instances}
 use Rattle.pddl_system.specs.Objects.{all_objects}

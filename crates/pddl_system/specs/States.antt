@@ -1,6 +1,7 @@
 -- States of a domain and a problem: a truth value for each fluent. Every other atom keeps its
 -- initial value in every state.
-use Rattle.std.specs.Prelude.{ℕ, Bool, true, false, ◌&&◌, if◌then◌else◌, List, map, Option, Some, None}
+use Rattle.std.specs.Prelude.{ℕ, Bool, true, false, ◌&&◌, if◌then◌else◌, List, map, Option, Some}
+use Rattle.std.specs.Prelude.{None}
 use Rattle.std.specs.List.{list_all, list_any, position}
 use Rattle.task_core.specs.Vectors.{Vector, same_value, value_of}
 use Rattle.pddl_ast.specs.Trees.{AtomTree, FormulaTree}

@@ -7,12 +7,15 @@ use Rattle.task_core.specs.Initial.{Entry}
 use Rattle.task_core.specs.Names.{Name}
 use Rattle.task_core.specs.Vectors.{Vector}
 use Rattle.task_core.specs.declared.literals.Lit.{Lit}
-use Rattle.pddl_ast.specs.Trees.{FormulaTree, FormulaTrees, atom, equal, all, any, negation, implication, exists, forall, no_formula, formula_then, AtomTree, DomainTree, ProblemTree}
+use Rattle.pddl_ast.specs.Trees.{FormulaTree, FormulaTrees, atom, equal, all, any, negation}
+use Rattle.pddl_ast.specs.Trees.{implication, exists, forall, no_formula, formula_then, AtomTree}
+use Rattle.pddl_ast.specs.Trees.{DomainTree, ProblemTree}
 use Rattle.pddl_system.specs.Fluents.{fluents}
 use Rattle.pddl_system.specs.GroundAtoms.{atom_of, same_atom}
 use Rattle.pddl_system.specs.Instances.{Instance, kept_instances}
 use Rattle.pddl_system.specs.Objects.{bindings, object_of}
-use Rattle.pddl_system.specs.Outcomes.{ChangeTree, Condition, OutcomeTree, outcomes_of, possible_changes}
+use Rattle.pddl_system.specs.Outcomes.{ChangeTree, Condition, OutcomeTree, outcomes_of}
+use Rattle.pddl_system.specs.Outcomes.{possible_changes}
 use Rattle.pddl_system.specs.Settings.{Setting, setting}
 use Rattle.pddl_system.specs.States.{number_of}
 use Rattle.pddl_system.specs.Systems.{entry_of, facts_of, fluent_names, instance_name}

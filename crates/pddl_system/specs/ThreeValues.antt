@@ -1,9 +1,11 @@
 -- The value of a formula as far as the setting alone decides it: true, false, or unknown, which is
 -- `None` (the strong three-valued logic of Kleene 1952). An atom of a rigid predicate has its
 -- initial value, and `=` its truth; every other atom is unknown.
-use Rattle.std.specs.Prelude.{ℕ, ◌==◌, Bool, true, false, not, List, [], ◌∷◌, ◌++◌, map, Option, Some, None, if◌then◌else◌}
+use Rattle.std.specs.Prelude.{ℕ, ◌==◌, Bool, true, false, not, List, [], ◌∷◌, ◌++◌, map, Option}
+use Rattle.std.specs.Prelude.{Some, None, if◌then◌else◌}
 use Rattle.std.specs.Option.{option_map}
-use Rattle.pddl_ast.specs.Trees.{FormulaTree, FormulaTrees, atom, equal, all, any, negation, implication, exists, forall, no_formula, formula_then}
+use Rattle.pddl_ast.specs.Trees.{FormulaTree, FormulaTrees, atom, equal, all, any, negation}
+use Rattle.pddl_ast.specs.Trees.{implication, exists, forall, no_formula, formula_then}
 use Rattle.pddl_system.specs.GroundAtoms.{atom_of}
 use Rattle.pddl_system.specs.Objects.{bindings, object_of}
 use Rattle.pddl_system.specs.Settings.{Setting}

@@ -15,7 +15,8 @@ use Rattle.task_core.specs.declared.actions.GroundAction.{GroundAction}
 use Rattle.task_core.specs.declared.actions.InitSpec.{InitSpec}
 use Rattle.task_core.specs.declared.tasks.Task.{Task}
 use Rattle.pddl_ast.specs.Trees.{DomainTree, ProblemTree}
-use Rattle.pddl_system.specs.Tasks.{CondTree, yes_always, no_never, is_fluent_true, not_so, all_of, any_of, condition_row, ActionTree, TaskTree, task_of}
+use Rattle.pddl_system.specs.Tasks.{CondTree, yes_always, no_never, is_fluent_true, not_so, all_of}
+use Rattle.pddl_system.specs.Tasks.{any_of, condition_row, ActionTree, TaskTree, task_of}
 
 -- one layer of a condition, with the trees of its parts in their place
 abbrev pub condition_step : Cond-F CondTree → CondTree

@@ -119,8 +119,8 @@ pub record HasExecution (sys : System) (table : Table) (steps : ℕ) : Type 0 wh
   pub path : IsPath sys table start rest
   pub long : length rest ≡ steps
 
--- the largest number of steps of a path that begins in an initial state; 0 where there is no initial
--- state
+-- the largest number of steps of a path that begins in an initial state; 0 where there is no
+-- initial state
 pub record IsLongest (sys : System) (table : Table) (steps : ℕ) : Type 0 where
   pub most : (n : ℕ) → HasExecution sys table n → n ≤ steps
   pub attained : HasExecution sys table steps

@@ -1,5 +1,6 @@
 -- What a shelf in memory has: its meaning, as clauses see it.
-use Rattle.std.specs.Prelude.{◌≡◌, ℕ, List, Option, None, Some, Contains, String, Vec, string_bytes, map, refl}
+use Rattle.std.specs.Prelude.{◌≡◌, ℕ, List, Option, None, Some, Contains, String, Vec, string_bytes}
+use Rattle.std.specs.Prelude.{map, refl}
 use Rattle.std.specs.Cmp.Lexicographic.{slice_cmp}
 use Rattle.std.specs.Ordering.{nat_cmp}
 use Rattle.std.specs.FinMap as finite

@@ -73,7 +73,10 @@ impl MemShelf {
     /// Holds `bytes` under `name`, in place of the file that was there.
     pub fn add(&mut self, name: &str, bytes: &[u8]) -> Result<(), AllocError>
         ensures ok { OnOk result
-            (self.new ≡ record self.old { files = finite.insert self.old.files name.now bytes.now }) }
+            (self.new ≡ record self.old {
+              files = finite.insert self.old.files name.now
+                  bytes.now;
+            }) }
         ensures err { OnErr result (self.new ≡ self.old) }
     {
         let alloc = *self.schedule.failing.allocator();

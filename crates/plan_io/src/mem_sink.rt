@@ -65,7 +65,14 @@ impl MemSink {
     pub fn new(alloc: Global, most: usize, room: usize) -> Result<MemSink, AllocError>
         requires { 1 ≤ most }
         ensures { IfOk result (λ sink. sink
-            ≡ record { bytes = []; most = most; room = room; calls = 0; failing = []; faults = 0 }) }
+            ≡ record {
+              bytes = [];
+              most = most;
+              room = room;
+              calls = 0;
+              failing = [];
+              faults = 0;
+            }) }
     {
         Ok(MemSink {
             written: Vec::with_capacity(alloc, room)?,

@@ -1,4 +1,5 @@
--- Private: that a plan's parts name only fluents and actions that are there, which is what a text needs.
+-- Private: that a plan's parts name only fluents and actions that are there, which is what a text
+-- needs.
 use Rattle.std.specs.Prelude.{ℕ, ◌<◌, All, ⊤}
 use Rattle.plan_rules.specs.Plans.{IsCubeOf}
 use Rattle.plan_rules.specs.Rules.{PlanCase, PlanNext, always, by_cases, ContextRule}

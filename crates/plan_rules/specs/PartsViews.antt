@@ -6,7 +6,13 @@ use Rattle.plan_rules.specs.Readings.{TableRuleParts, ContextRuleParts}
 
 -- Private: the parts of a table's rule
 abbrev pub table_rule_view : declared.TableRuleParts.TableRuleParts → TableRuleParts
-table_rule_view p = record { cube = forest_of p.cube.now; action_span = p.action_span; action = forest_of p.action.now }
+table_rule_view p =
+    record {
+      cube = forest_of p.cube.now;
+      action_span = p.action_span;
+      action = forest_of
+          p.action.now;
+    }
 
 -- Private: the parts of an automaton's rule
 abbrev pub context_rule_view : declared.ContextRuleParts.ContextRuleParts → ContextRuleParts

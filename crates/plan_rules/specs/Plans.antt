@@ -2,7 +2,8 @@
 use Rattle.std.specs.Prelude.{ℕ, ◌<◌, ◌≤◌, List, All}
 use Rattle.task_core.specs.Cubes.{Cube}
 use Rattle.task_core.specs.Names.{Name}
-use Rattle.plan_rules.specs.Rules.{PlanRule, PlanCase, PlanNext, always, by_cases, ContextRule, PlainPlan, table, automaton, plain_of}
+use Rattle.plan_rules.specs.Rules.{PlanRule, PlanCase, PlanNext, always, by_cases, ContextRule}
+use Rattle.plan_rules.specs.Rules.{PlainPlan, table, automaton, plain_of}
 use Rattle.plan_rules.specs.Texts.{text_of}
 use Rattle.plan_rules.specs.declared.rules.Plan.{Plan}
 
@@ -44,7 +45,8 @@ pub record IsAutomatonOf (fluents actions contexts : ℕ) (rules : List ContextR
 
 abbrev pub IsPlainPlanOf : ℕ → ℕ → PlainPlan → Type 0
 IsPlainPlanOf fluents actions (table class rules) = All (IsRuleOf fluents actions) rules
-IsPlainPlanOf fluents actions (automaton contexts rules) = IsAutomatonOf fluents actions contexts rules
+IsPlainPlanOf fluents actions (automaton contexts rules) =
+    IsAutomatonOf fluents actions contexts rules
 
 abbrev pub IsPlanOf : ℕ → ℕ → Plan → Type 0
 IsPlanOf fluents actions plan = IsPlainPlanOf fluents actions (plain_of plan)

@@ -27,14 +27,16 @@ pub data PlanNext : Type 0 where
   always : ℕ → PlanNext
   by_cases : List PlanCase → PlanNext
 
--- in this context, in each state that the cube matches, take the action and go on in the next context
+-- in this context, in each state that the cube matches, take the action and go on in the next
+-- context
 pub record ContextRule : Type 0 where
   pub context : ℕ
   pub cube : Cube
   pub action : ℕ
   pub next : PlanNext
 
--- a plan: a table of a class with its rules, or an automaton with its number of contexts and its rules
+-- a plan: a table of a class with its rules, or an automaton with its number of contexts and its
+-- rules
 pub data PlainPlan : Type 0 where
   table : Class → List PlanRule → PlainPlan
   automaton : ℕ → List ContextRule → PlainPlan
@@ -54,7 +56,8 @@ next_of (One context) = always context
 next_of (Cases cases) = by_cases (map case_of cases.items)
 
 abbrev pub context_rule_of : AutoRule → ContextRule
-context_rule_of r = record { context = r.context; cube = r.cube.items; action = r.action.0; next = next_of r.next }
+context_rule_of r =
+    record { context = r.context; cube = r.cube.items; action = r.action.0; next = next_of r.next }
 
 abbrev pub context_rules_of : AutoPlan → List ContextRule
 context_rules_of p = map context_rule_of p.rules.items

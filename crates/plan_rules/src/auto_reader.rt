@@ -57,7 +57,8 @@ impl GroupReader for CaseReader<'_> {
 
     ghost tree = { λ self parts. case_tree (names_in self.fluents.now) self.contexts parts };
 
-    ghost flaws = { λ self span parts. case_flaws (names_in self.fluents.now) self.contexts span parts };
+    ghost flaws = { λ self span parts. case_flaws (names_in self.fluents.now) self.contexts span
+        parts };
 
     fn read(&self, alloc: Global, span: Span, parts: &[Form]) -> Result<Case, ReadErr> {
         match case_parts(parts) {
@@ -72,7 +73,8 @@ impl GroupReader for CaseReader<'_> {
 
 // The parts of `(LITERAL ..) CONTEXT`.
 fn case_parts(parts: &[Form]) -> Option<(&[Form], View<'_>)>
-    ensures { option_map (λ p. (forest_of p.0.now, item_of p.1)) result ≡ case_parts (forest_of parts.now) }
+    ensures { option_map (λ p. (forest_of p.0.now, item_of p.1)) result
+        ≡ case_parts (forest_of parts.now) }
 {
     let (_, cube, rest) = split_group(parts)?;
     let (context, rest) = first_item(rest)?;
@@ -90,11 +92,13 @@ fn read_next(
     contexts: u32,
     form: View<'_>,
 ) -> Result<Next, ReadErr>
-    ensures sound { IfOk result (λ next. next_flaws (names_in fluents.now) contexts (item_of form.entry) ≡ []) }
+    ensures sound { IfOk result
+        (λ next. next_flaws (names_in fluents.now) contexts (item_of form.entry) ≡ []) }
     ensures read { IfOk result (λ next.
         next_of next ≡ next_tree (names_in fluents.now) contexts (item_of form.entry)) }
     ensures fault { IfErr result (λ e. IfFault e (λ fault.
-        first_listed (next_flaws (names_in fluents.now) contexts (item_of form.entry)) ≡ Some fault)) }
+        first_listed (next_flaws (names_in fluents.now) contexts (item_of form.entry))
+        ≡ Some fault)) }
 {
     match form {
         View::Word(_, _) => Ok(Next::One(read_number(contexts, form)?)),
@@ -112,9 +116,11 @@ fn read_cases(
     ensures sound { IfOk result (λ cases.
         flaws_of_groups (case_flaws (names_in fluents.now) contexts) (forest_of row.now) ≡ []) }
     ensures read { IfOk result (λ cases.
-        map case_of cases.items ≡ each_group (case_tree (names_in fluents.now) contexts) (forest_of row.now)) }
+        map case_of cases.items
+        ≡ each_group (case_tree (names_in fluents.now) contexts) (forest_of row.now)) }
     ensures fault { IfErr result (λ e. IfFault e (λ fault.
-        first_listed (flaws_of_groups (case_flaws (names_in fluents.now) contexts) (forest_of row.now)) ≡ Some fault)) }
+        first_listed (flaws_of_groups (case_flaws (names_in fluents.now) contexts)
+        (forest_of row.now)) ≡ Some fault)) }
 {
     read_groups(alloc, &CaseReader { fluents, contexts }, row)
 }
@@ -139,10 +145,12 @@ impl GroupReader for ContextRuleReader<'_> {
     ghost plain = { context_rule_of };
 
     ghost tree = { λ self parts.
-        context_rule_tree (names_in self.fluents.now) (names_in self.actions.now) self.contexts parts };
+        context_rule_tree (names_in self.fluents.now) (names_in self.actions.now) self.contexts
+        parts };
 
     ghost flaws = { λ self span parts.
-        context_rule_flaws (names_in self.fluents.now) (names_in self.actions.now) self.contexts span parts };
+        context_rule_flaws (names_in self.fluents.now) (names_in self.actions.now) self.contexts
+        span parts };
 
     fn read(&self, alloc: Global, span: Span, parts: &[Form]) -> Result<AutoRule, ReadErr> {
         match rule_parts(parts) {
@@ -187,11 +195,14 @@ pub(crate) fn read_automaton(
     row: &[Form],
 ) -> Result<Plan, ReadErr>
     ensures sound { IfOk result (λ plan.
-        automaton_flaws (names_in fluents.now) (names_in actions.now) span (forest_of row.now) ≡ []) }
+        automaton_flaws (names_in fluents.now) (names_in actions.now) span (forest_of row.now)
+        ≡ []) }
     ensures read { IfOk result (λ plan.
-        plain_of plan ≡ automaton_tree (names_in fluents.now) (names_in actions.now) (forest_of row.now)) }
+        plain_of plan ≡ automaton_tree (names_in fluents.now) (names_in actions.now)
+        (forest_of row.now)) }
     ensures fault { IfErr result (λ e. IfFault e (λ fault.
-        first_listed (automaton_flaws (names_in fluents.now) (names_in actions.now) span (forest_of row.now)) ≡ Some fault)) }
+        first_listed (automaton_flaws (names_in fluents.now) (names_in actions.now) span
+        (forest_of row.now)) ≡ Some fault)) }
 {
     match first_item(row) {
         Some((form, rest)) => read_contexts(alloc, fluents, actions, form, rest),
@@ -208,11 +219,14 @@ fn read_contexts(
     rest: &[Form],
 ) -> Result<Plan, ReadErr>
     ensures sound { IfOk result (λ plan.
-        contexts_flaws (names_in fluents.now) (names_in actions.now) (item_of form.entry) (forest_of rest.now) ≡ []) }
+        contexts_flaws (names_in fluents.now) (names_in actions.now) (item_of form.entry)
+        (forest_of rest.now) ≡ []) }
     ensures read { IfOk result (λ plan.
-        plain_of plan ≡ contexts_tree (names_in fluents.now) (names_in actions.now) (number_tree MAX_CONTEXTS (item_of form.entry)) (forest_of rest.now)) }
+        plain_of plan ≡ contexts_tree (names_in fluents.now) (names_in actions.now)
+        (number_tree MAX_CONTEXTS (item_of form.entry)) (forest_of rest.now)) }
     ensures fault { IfErr result (λ e. IfFault e (λ fault.
-        first_listed (contexts_flaws (names_in fluents.now) (names_in actions.now) (item_of form.entry) (forest_of rest.now)) ≡ Some fault)) }
+        first_listed (contexts_flaws (names_in fluents.now) (names_in actions.now)
+        (item_of form.entry) (forest_of rest.now)) ≡ Some fault)) }
 {
     match form {
         View::Group(span, _) => Err(fault_at(span, FaultKind::BadForm)),

@@ -37,7 +37,8 @@ pub(crate) fn span_of(form: View<'_>) -> Span
 
 /// The first form of a row, and what follows it.
 pub(crate) fn first_item(row: &[Form]) -> Option<(View<'_>, &[Form])>
-    ensures { option_map (λ p. (item_of p.0, forest_of p.1.now)) result ≡ first_item (forest_of row.now) }
+    ensures { option_map (λ p. (item_of p.0, forest_of p.1.now)) result
+        ≡ first_item (forest_of row.now) }
 {
     match head_of(row) {
         Head::Nothing => None,
@@ -48,7 +49,8 @@ pub(crate) fn first_item(row: &[Form]) -> Option<(View<'_>, &[Form])>
 
 /// The span and the parts of a row's first form, where it is a group, and what follows it.
 pub(crate) fn split_group(row: &[Form]) -> Option<(Span, &[Form], &[Form])>
-    ensures { option_map (λ p. (p.0, forest_of p.1.now, forest_of p.2.now)) result ≡ split_group (forest_of row.now) }
+    ensures { option_map (λ p. (p.0, forest_of p.1.now, forest_of p.2.now)) result
+        ≡ split_group (forest_of row.now) }
 {
     match head_of(row) {
         Head::Group(span, parts, rest) => Some((span, parts, rest)),

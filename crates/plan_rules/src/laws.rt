@@ -1,5 +1,5 @@
-//! What holds of every plan's text. Each law is a function that does nothing, so that callers' proofs can
-//! cite it.
+//! What holds of every plan's text. Each law is a function that does nothing, so that callers'
+//! proofs can cite it.
 
 ghost use Rattle.std.specs.Prelude.{◌≡◌, ◌⊎◌, ℕ, List, length};
 ghost use Rattle.sexpr_text.specs.declared.faults.InputFault.{InputFault};
@@ -9,8 +9,8 @@ ghost use Rattle.plan_rules.specs.Readings.{AreSpellable, HasPlanFault, SpellsPl
 ghost use Rattle.plan_rules.specs.Rules.{PlainPlan};
 ghost use Rattle.plan_rules.specs.Texts.{text_of};
 
-/// The text that is printed of a plan spells that plan, where the names of fluents and actions can be
-/// spelled and the plan's numbers are theirs.
+/// The text that is printed of a plan spells that plan, where the names of fluents and actions can
+/// be spelled and the plan's numbers are theirs.
 pub fn printed_spells()
     ensures { (fluents actions : List Name) (plan : PlainPlan) → AreSpellable fluents actions
         → IsPlainPlanOf (length fluents) (length actions) plan

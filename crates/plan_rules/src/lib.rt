@@ -1,13 +1,14 @@
 //! Plans as rules, and their text.
 //!
-//! A table plan is a list of rules, each a cube and an action; it denotes the state-action table of all
-//! pairs of a state that some rule matches and that rule's action, where the action can be executed
-//! (Cimatti, Pistore, Roveri and Traverso 2003). An automaton is a list of rules with contexts; it denotes
-//! a context plan, in which the first rule that matches counts (Pistore and Traverso 2001).
+//! A table plan is a list of rules, each a cube and an action; it denotes the state-action table of
+//! all pairs of a state that some rule matches and that rule's action, where the action can be
+//! executed (Cimatti, Pistore, Roveri and Traverso 2003). An automaton is a list of rules with
+//! contexts; it denotes a context plan, in which the first rule that matches counts (Pistore and
+//! Traverso 2001).
 //!
-//! `specs/Denoted.antt` says what a plan denotes, `specs/Texts.antt` which bytes are printed of it, and
-//! `specs/Readings.antt` which bytes spell it and what is wrong in the others: a grammar over the forms of
-//! a text, so that white space, comments and the case of letters are free.
+//! `specs/Denoted.antt` says what a plan denotes, `specs/Texts.antt` which bytes are printed of it,
+//! and `specs/Readings.antt` which bytes spell it and what is wrong in the others: a grammar over
+//! the forms of a text, so that white space, comments and the case of letters are free.
 #![tactic(auto)]
 
 mod auto_reader;

@@ -70,10 +70,13 @@ fn read_atom(
     span: Span,
     row: &[Form],
 ) -> Result<FluentId, ReadErr>
-    ensures sound { IfOk result (λ fluent. atom_flaws (names_in fluents.now) outer span (forest_of row.now) ≡ []) }
-    ensures read { IfOk result (λ fluent. fluent.0 ≡ named (names_in fluents.now) (forest_of row.now)) }
+    ensures sound { IfOk result
+        (λ fluent. atom_flaws (names_in fluents.now) outer span (forest_of row.now) ≡ []) }
+    ensures read { IfOk result
+        (λ fluent. fluent.0 ≡ named (names_in fluents.now) (forest_of row.now)) }
     ensures fault { IfErr result (λ e. IfFault e (λ fault.
-        first_listed (atom_flaws (names_in fluents.now) outer span (forest_of row.now)) ≡ Some fault)) }
+        first_listed (atom_flaws (names_in fluents.now) outer span (forest_of row.now))
+        ≡ Some fault)) }
 {
     if !are_words(row) {
         return Err(fault_at(outer, FaultKind::BadForm));
@@ -93,8 +96,10 @@ pub(crate) fn read_cube(
     fluents: &NameTable,
     row: &[Form],
 ) -> Result<Vec<Lit>, ReadErr>
-    ensures sound { IfOk result (λ cube. cube_flaws (names_in fluents.now) (forest_of row.now) ≡ []) }
-    ensures read { IfOk result (λ cube. cube.items ≡ cube_tree (names_in fluents.now) (forest_of row.now)) }
+    ensures sound { IfOk result
+        (λ cube. cube_flaws (names_in fluents.now) (forest_of row.now) ≡ []) }
+    ensures read { IfOk result
+        (λ cube. cube.items ≡ cube_tree (names_in fluents.now) (forest_of row.now)) }
     ensures fault { IfErr result (λ e. IfFault e (λ fault.
         first_listed (cube_flaws (names_in fluents.now) (forest_of row.now)) ≡ Some fault)) }
 {
@@ -108,8 +113,10 @@ pub(crate) fn read_action(
     span: Span,
     row: &[Form],
 ) -> Result<ActionId, ReadErr>
-    ensures sound { IfOk result (λ action. action_flaws (names_in actions.now) span (forest_of row.now) ≡ []) }
-    ensures read { IfOk result (λ action. action.0 ≡ named (names_in actions.now) (forest_of row.now)) }
+    ensures sound { IfOk result
+        (λ action. action_flaws (names_in actions.now) span (forest_of row.now) ≡ []) }
+    ensures read { IfOk result
+        (λ action. action.0 ≡ named (names_in actions.now) (forest_of row.now)) }
     ensures fault { IfErr result (λ e. IfFault e (λ fault.
         first_listed (action_flaws (names_in actions.now) span (forest_of row.now)) ≡ Some fault)) }
 {

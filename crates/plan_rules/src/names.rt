@@ -1,6 +1,7 @@
 //! The numbers of fluents and actions, found by their names.
 
-ghost use Rattle.std.specs.Prelude.{◌≡◌, ◌<◌, ◌+◌, ◌^◌, length, ◌++◌, ◌∷◌, [], List, map, IfOk, OnOk, true, false};
+ghost use Rattle.std.specs.Prelude.{◌≡◌, ◌<◌, ◌+◌, ◌^◌, length, ◌++◌, ◌∷◌, [], List, map, IfOk};
+ghost use Rattle.std.specs.Prelude.{OnOk, true, false};
 ghost use Rattle.std.specs.List.{list_any, AllPairs};
 ghost use Rattle.std.specs.Str.{bytes_eq};
 ghost use Rattle.std.specs.Cmp.Lexicographic.{pointwise};
@@ -15,7 +16,8 @@ use indexmap::IndexSet;
 use sexpr_text::{Form, View};
 use std::alloc::{AllocError, Global};
 
-/// Names that are all different, each found by its words in about the same time, however many there are.
+/// Names that are all different, each found by its words in about the same time, however many there
+/// are.
 #[derive(Drop)]
 pub(crate) struct NameTable {
     names: IndexSet<Vec<Vec<u8>>>,
@@ -37,17 +39,20 @@ impl NameTable {
     /// Adds a name that is not in the table.
     pub(crate) fn add(&mut self, alloc: Global, name: &[String]) -> Result<(), AllocError>
         requires room { length (names_in self.old) + 1 < 2 ^ 32 }
-        requires new { list_any (pointwise bytes_eq (map string_bytes name.now)) (names_in self.old) ≡ false }
-        ensures { OnOk result (names_in self.new ≡ names_in self.old ++ map string_bytes name.now ∷ []) }
+        requires new { list_any (pointwise bytes_eq (map string_bytes name.now)) (names_in self.old)
+            ≡ false }
+        ensures { OnOk result
+            (names_in self.new ≡ names_in self.old ++ map string_bytes name.now ∷ []) }
     {
         self.names.insert_full(key_for(alloc, name)?)?;
         Ok(())
     }
 
-    /// The number of the name with the words of this row, counted from 0 in the order in which names
-    /// were added.
+    /// The number of the name with the words of this row, counted from 0 in the order in which
+    /// names were added.
     pub(crate) fn number(&self, alloc: Global, row: &[Form]) -> Result<Option<u32>, AllocError>
-        ensures { IfOk result (λ number. number ≡ number_of (names_in self.now) (texts_of (forest_of row.now))) }
+        ensures { IfOk result
+            (λ number. number ≡ number_of (names_in self.now) (texts_of (forest_of row.now))) }
     {
         let words = words_of(alloc, row)?;
         Ok(self.place(&words))

@@ -36,13 +36,15 @@ use task_core::Task;
 
 /// The plan that the text spells, with the place of its list, or the text's first fault, or want of
 /// memory. A text is a plan's where its first top-level list that begins with the word `plan` is as
-/// `specs/Readings.antt` says; other top-level forms are passed over. Every text either spells exactly one
-/// plan or has exactly one fault (`one_plan`, `one_plan_fault`, `plan_or_fault`). `task` gives the fluents
-/// and actions. The time that this takes grows with the length of the text and of the task's names.
+/// `specs/Readings.antt` says; other top-level forms are passed over. Every text either spells
+/// exactly one plan or has exactly one fault (`one_plan`, `one_plan_fault`, `plan_or_fault`).
+/// `task` gives the fluents and actions. The time that this takes grows with the length of the text
+/// and of the task's names.
 pub fn read_plan(alloc: Global, bytes: &[u8], task: &Task) -> Result<PlanRead, ReadErr>
     requires { length bytes.now ≤ MAX_BYTES }
     ensures read { IfOk result (λ read.
-        SpellsPlanAt (fluent_names task.now) (action_names task.now) bytes.now (plain_of read.plan) read.place) }
+        SpellsPlanAt (fluent_names task.now) (action_names task.now) bytes.now (plain_of read.plan)
+        read.place) }
     ensures in_task { IfOk result (λ read.
         IsPlanOf (fluent_count task.now) (action_count task.now) read.plan) }
     ensures fault { IfErr result (λ e. IfFault e (λ fault.
@@ -89,7 +91,8 @@ fn read_text(
         plan_read (names_in fluents.now) (names_in actions.now) (forest_of forms.now)
         ≡ Some (plain_of read.plan, read.place)) }
     ensures fault { IfErr result (λ e. IfFault e (λ fault.
-        first_listed (text_flaws (names_in fluents.now) (names_in actions.now) (forest_of forms.now)) ≡ Some fault)) }
+        first_listed (text_flaws (names_in fluents.now) (names_in actions.now)
+        (forest_of forms.now)) ≡ Some fault)) }
 {
     match first_group(forms, b"plan") {
         Some((span, parts)) => Ok(PlanRead {
@@ -148,9 +151,11 @@ fn read_list(
     ensures sound { IfOk result (λ plan.
         plan_flaws (names_in fluents.now) (names_in actions.now) span (forest_of row.now) ≡ []) }
     ensures read { IfOk result (λ plan.
-        plain_of plan ≡ plan_tree (names_in fluents.now) (names_in actions.now) (forest_of row.now)) }
+        plain_of plan ≡ plan_tree (names_in fluents.now) (names_in actions.now)
+        (forest_of row.now)) }
     ensures fault { IfErr result (λ e. IfFault e (λ fault.
-        first_listed (plan_flaws (names_in fluents.now) (names_in actions.now) span (forest_of row.now)) ≡ Some fault)) }
+        first_listed (plan_flaws (names_in fluents.now) (names_in actions.now) span
+        (forest_of row.now)) ≡ Some fault)) }
 {
     let Some((form, rest)) = first_item(row) else {
         return Err(fault_at(span, FaultKind::BadForm));

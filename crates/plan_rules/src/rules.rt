@@ -34,7 +34,8 @@ pub enum Next {
     Cases(Vec<Case>),
 }
 
-/// In this context, in each state that the cube matches, take the action, and go on in the next context.
+/// In this context, in each state that the cube matches, take the action, and go on in the next
+/// context.
 /// Of several rules that match, the first counts.
 #[derive(Debug, Drop)]
 pub struct AutoRule {
@@ -44,8 +45,8 @@ pub struct AutoRule {
     pub next: Next,
 }
 
-/// A plan with memory: contexts, numbered from 1 up to `contexts`, of which it begins in the first, and
-/// its rules in order.
+/// A plan with memory: contexts, numbered from 1 up to `contexts`, of which it begins in the first,
+/// and its rules in order.
 #[derive(Debug, Drop)]
 pub struct AutoPlan {
     pub contexts: u32,

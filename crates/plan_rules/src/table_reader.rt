@@ -39,7 +39,8 @@ impl GroupReader for TableRuleReader<'_> {
 
     ghost plain = { rule_of };
 
-    ghost tree = { λ self parts. table_rule_tree (names_in self.fluents.now) (names_in self.actions.now) parts };
+    ghost tree = { λ self parts. table_rule_tree (names_in self.fluents.now)
+        (names_in self.actions.now) parts };
 
     ghost flaws = { λ self span parts.
         table_rule_flaws (names_in self.fluents.now) (names_in self.actions.now) span parts };
@@ -101,9 +102,11 @@ pub(crate) fn read_table(
     ensures sound { IfOk result (λ plan.
         table_flaws (names_in fluents.now) (names_in actions.now) span (forest_of row.now) ≡ []) }
     ensures read { IfOk result (λ plan.
-        plain_of plan ≡ table_tree (names_in fluents.now) (names_in actions.now) (forest_of row.now)) }
+        plain_of plan ≡ table_tree (names_in fluents.now) (names_in actions.now)
+        (forest_of row.now)) }
     ensures fault { IfErr result (λ e. IfFault e (λ fault.
-        first_listed (table_flaws (names_in fluents.now) (names_in actions.now) span (forest_of row.now)) ≡ Some fault)) }
+        first_listed (table_flaws (names_in fluents.now) (names_in actions.now) span
+        (forest_of row.now)) ≡ Some fault)) }
 {
     let Some((form, rest)) = first_item(row) else {
         return Err(fault_at(span, FaultKind::BadForm));

@@ -1,5 +1,5 @@
-//! Texts of plans, read and written back, and the faults of others. What is expected was worked out by
-//! hand.
+//! Texts of plans, read and written back, and the faults of others. What is expected was worked out
+//! by hand.
 
 use crate::{PlanRead, read_plan, write_plan};
 use sexpr_text::{MAX_BYTES, ReadErr};

@@ -73,7 +73,8 @@ fn push_gap(out: &mut String, place: usize) -> Result<(), AllocError>
 
 // The words of a name with one space between them.
 fn push_words(out: &mut String, words: &[String]) -> Result<(), AllocError>
-    ensures { OnOk result (string_bytes out.new ≡ string_bytes out.old ++ spaced (map string_bytes words.now)) }
+    ensures { OnOk result
+        (string_bytes out.new ≡ string_bytes out.old ++ spaced (map string_bytes words.now)) }
 {
     for (i, word) in words.iter().enumerate() {
         push_gap(out, i)?;
@@ -84,7 +85,8 @@ fn push_words(out: &mut String, words: &[String]) -> Result<(), AllocError>
 
 /// Appends a name in parentheses, with one space between its words: as `(at a)`.
 pub fn push_name(out: &mut String, words: &[String]) -> Result<(), AllocError>
-    ensures { OnOk result (string_bytes out.new ≡ string_bytes out.old ++ atom_text (map string_bytes words.now)) }
+    ensures { OnOk result
+        (string_bytes out.new ≡ string_bytes out.old ++ atom_text (map string_bytes words.now)) }
 {
     out.push('(')?;
     push_words(out, words)?;
@@ -95,7 +97,9 @@ pub fn push_name(out: &mut String, words: &[String]) -> Result<(), AllocError>
 // A literal, as `(at a)` or `(not (at a))`.
 fn push_literal(out: &mut String, fluents: &[Vec<String>], lit: &Lit) -> Result<(), AllocError>
     requires { lit.now.fluent.0 < length fluents.now }
-    ensures { OnOk result (string_bytes out.new ≡ string_bytes out.old ++ literal_text (map name_bytes fluents.now) lit.now) }
+    ensures { OnOk result
+        (string_bytes out.new
+        ≡ string_bytes out.old ++ literal_text (map name_bytes fluents.now) lit.now) }
 {
     let name = &fluents[lit.fluent.0 as usize];
     if lit.positive {
@@ -111,7 +115,9 @@ fn push_literal(out: &mut String, fluents: &[Vec<String>], lit: &Lit) -> Result<
 // The literals of a cube in parentheses, with a space between them.
 fn push_cube(out: &mut String, fluents: &[Vec<String>], cube: &[Lit]) -> Result<(), AllocError>
     requires { All (λ lit. lit.fluent.0 < length fluents.now) cube.now }
-    ensures { OnOk result (string_bytes out.new ≡ string_bytes out.old ++ cube_text (map name_bytes fluents.now) cube.now) }
+    ensures { OnOk result
+        (string_bytes out.new
+        ≡ string_bytes out.old ++ cube_text (map name_bytes fluents.now) cube.now) }
 {
     out.push('(')?;
     push_literals(out, fluents, cube)?;
@@ -121,7 +127,10 @@ fn push_cube(out: &mut String, fluents: &[Vec<String>], cube: &[Lit]) -> Result<
 
 fn push_literals(out: &mut String, fluents: &[Vec<String>], cube: &[Lit]) -> Result<(), AllocError>
     requires { All (λ lit. lit.fluent.0 < length fluents.now) cube.now }
-    ensures { OnOk result (string_bytes out.new ≡ string_bytes out.old ++ spaced (map (literal_text (map name_bytes fluents.now)) cube.now)) }
+    ensures { OnOk result
+        (string_bytes out.new
+        ≡ string_bytes out.old
+        ++ spaced (map (literal_text (map name_bytes fluents.now)) cube.now)) }
 {
     for (i, lit) in cube.iter().enumerate() {
         push_gap(out, i)?;
@@ -159,7 +168,8 @@ fn push_rules(
 ) -> Result<(), AllocError>
     requires { All (IsRuleOf (length fluents.now) (length actions.now)) (map rule_of rules.now) }
     ensures { OnOk result (string_bytes out.new ≡ string_bytes out.old
-        ++ flat_map (rule_text (map name_bytes fluents.now) (map name_of actions.now)) (map rule_of rules.now)) }
+        ++ flat_map (rule_text (map name_bytes fluents.now) (map name_of actions.now))
+        (map rule_of rules.now)) }
 {
     for rule in rules {
         push_rule(out, fluents, actions, rule)?;
@@ -194,7 +204,8 @@ fn push_case(out: &mut String, fluents: &[Vec<String>], case: &Case) -> Result<(
 fn push_cases(out: &mut String, fluents: &[Vec<String>], cases: &[Case]) -> Result<(), AllocError>
     requires { NamesNext (length fluents.now) (by_cases (map case_of cases.now)) }
     ensures { OnOk result (string_bytes out.new
-        ≡ string_bytes out.old ++ spaced (map (case_text (map name_bytes fluents.now)) (map case_of cases.now))) }
+        ≡ string_bytes out.old
+        ++ spaced (map (case_text (map name_bytes fluents.now)) (map case_of cases.now))) }
 {
     for (i, case) in cases.iter().enumerate() {
         push_gap(out, i)?;
@@ -229,7 +240,8 @@ fn push_context_rule(
 ) -> Result<(), AllocError>
     requires { NamesRule (length fluents.now) (length actions.now) (context_rule_of rule.now) }
     ensures { OnOk result (string_bytes out.new ≡ string_bytes out.old
-        ++ context_rule_text (map name_bytes fluents.now) (map name_of actions.now) (context_rule_of rule.now)) }
+        ++ context_rule_text (map name_bytes fluents.now) (map name_of actions.now)
+        (context_rule_of rule.now)) }
 {
     out.push_str("  (rule ")?;
     push_number(out, rule.context)?;
@@ -250,9 +262,11 @@ fn push_context_rules(
     actions: &[GroundAction],
     rules: &[AutoRule],
 ) -> Result<(), AllocError>
-    requires { All (NamesRule (length fluents.now) (length actions.now)) (map context_rule_of rules.now) }
+    requires { All (NamesRule (length fluents.now) (length actions.now))
+        (map context_rule_of rules.now) }
     ensures { OnOk result (string_bytes out.new ≡ string_bytes out.old
-        ++ flat_map (context_rule_text (map name_bytes fluents.now) (map name_of actions.now)) (map context_rule_of rules.now)) }
+        ++ flat_map (context_rule_text (map name_bytes fluents.now) (map name_of actions.now))
+        (map context_rule_of rules.now)) }
 {
     for rule in rules {
         push_context_rule(out, fluents, actions, rule)?;
@@ -264,7 +278,8 @@ fn push_context_rules(
 fn write_table(alloc: Global, plan: &TablePlan, task: &Task) -> Result<Vec<u8>, AllocError>
     requires { All (IsRuleOf (fluent_count task.now) (action_count task.now)) (rules_of plan.now) }
     ensures { IfOk result (λ text.
-        text.items ≡ table_text (fluent_names task.now) (action_names task.now) plan.now.class (rules_of plan.now)) }
+        text.items ≡ table_text (fluent_names task.now) (action_names task.now) plan.now.class
+        (rules_of plan.now)) }
 {
     let mut out = String::new(alloc);
     out.push_str("(plan table ")?;
@@ -277,9 +292,11 @@ fn write_table(alloc: Global, plan: &TablePlan, task: &Task) -> Result<Vec<u8>, 
 
 // The text of an automaton.
 fn write_automaton(alloc: Global, plan: &AutoPlan, task: &Task) -> Result<Vec<u8>, AllocError>
-    requires { All (NamesRule (fluent_count task.now) (action_count task.now)) (context_rules_of plan.now) }
+    requires { All (NamesRule (fluent_count task.now) (action_count task.now))
+        (context_rules_of plan.now) }
     ensures { IfOk result (λ text.
-        text.items ≡ automaton_text (fluent_names task.now) (action_names task.now) plan.now.contexts (context_rules_of plan.now)) }
+        text.items ≡ automaton_text (fluent_names task.now) (action_names task.now)
+        plan.now.contexts (context_rules_of plan.now)) }
 {
     let mut out = String::new(alloc);
     out.push_str("(plan automaton ")?;
@@ -290,13 +307,14 @@ fn write_automaton(alloc: Global, plan: &AutoPlan, task: &Task) -> Result<Vec<u8
     Ok(out.into_bytes())
 }
 
-/// The text of a plan, in lines that each end with a line feed: its kind with its class or its number of
-/// contexts, a line a rule in the plan's order, and a closing parenthesis. `task` gives the fluents' and
-/// the actions' names. The text spells this plan, and no other (`one_plan`); `read_plan` reads it back
-/// where it has at most `MAX_BYTES` bytes. Fails only where memory runs out.
+/// The text of a plan, in lines that each end with a line feed: its kind with its class or its
+/// number of contexts, a line a rule in the plan's order, and a closing parenthesis. `task` gives
+/// the fluents' and the actions' names. The text spells this plan, and no other (`one_plan`);
+/// `read_plan` reads it back where it has at most `MAX_BYTES` bytes. Fails only where memory runs
+/// out.
 ///
-/// The fluents and actions of the plan are the task's, and its contexts are numbered from 1 up to their
-/// number, which is at most `MAX_CONTEXTS`.
+/// The fluents and actions of the plan are the task's, and its contexts are numbered from 1 up to
+/// their number, which is at most `MAX_CONTEXTS`.
 pub fn write_plan(alloc: Global, plan: &Plan, task: &Task) -> Result<Vec<u8>, AllocError>
     requires in_task { IsPlanOf (fluent_count task.now) (action_count task.now) plan.now }
     ensures text { IfOk result (λ text.

@@ -11,7 +11,8 @@ use Rattle.preimage.specs.Preimages.{weak_preimage, strong_preimage}
 abbrev pub WeakLeadsToSome : Type 0
 WeakLeadsToSome =
     (task : Task) (a : ℕ) (set : Function) (v : Vector) → DependsOnly 0 (fluent_count task) set
-    → weak_preimage task a set (value_of v) ≡ list_any (λ t. set (value_of t)) (next_states task v a)
+    → weak_preimage task a set (value_of v)
+    ≡ list_any (λ t. set (value_of t)) (next_states task v a)
 
 -- and in the strong one where the action can be executed and leads to states of the set alone
 abbrev pub StrongLeadsToAll : Type 0

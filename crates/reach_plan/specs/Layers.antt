@@ -1,6 +1,7 @@
 -- The layers of states from which the goal is reached, by the class of plans (Cimatti, Pistore,
 -- Roveri, Traverso 2003: the preimages of the goal, step by step).
-use Rattle.std.specs.Prelude.{◌≡◌, ℕ, zero, suc, ◌+◌, ◌<◌, Bool, true, false, ◌&&◌, ◌||◌, List, Option}
+use Rattle.std.specs.Prelude.{◌≡◌, ℕ, zero, suc, ◌+◌, ◌<◌, Bool, true, false, ◌&&◌, ◌||◌, List}
+use Rattle.std.specs.Prelude.{Option}
 use Rattle.std.specs.List.{list_any, list_all, find, range_with_len}
 use Rattle.task_core.specs.Vectors.{Vector, same_vector}
 use Rattle.task_core.specs.Systems.{System, goal_states}

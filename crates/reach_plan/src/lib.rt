@@ -3,13 +3,13 @@
 //!
 //! `plan_weak_sets` and `plan_strong_sets` go back from the goal over sets of states on diagrams,
 //! layer by layer (Cimatti, Pistore, Roveri and Traverso, "Weak, strong, and strong cyclic planning
-//! via symbolic model checking", Artificial Intelligence 147, 2003), in two passes: `search` has the
-//! layers alone at first, and then, where there is a plan, what each action takes; `set_rules`
+//! via symbolic model checking", Artificial Intelligence 147, 2003), in two passes: `search` has
+//! the layers alone at first, and then, where there is a plan, what each action takes; `set_rules`
 //! reads the rules off these sets, and `slots` changes sets in place.
 //!
-//! Which plan is found is said in `specs/`: `Layers` (the states from which the goal is reached in so
-//! many steps) and `Printed` (the rules, from the least-numbered action of each state); `Found` has
-//! words of the contracts. The laws of planning by layers that the planners rest on are the
+//! Which plan is found is said in `specs/`: `Layers` (the states from which the goal is reached in
+//! so many steps) and `Printed` (the rules, from the least-numbered action of each state); `Found`
+//! has words of the contracts. The laws of planning by layers that the planners rest on are the
 //! contracts of functions that do nothing.
 #![tactic(auto)]
 

@@ -1,6 +1,7 @@
 //! The weak and the strong planner, on sets of states.
 
-ghost use Rattle.std.specs.Prelude.{◌≡◌, ℕ, ◌+◌, ◌<◌, ◌^◌, [], All, IfErr, IfOk, IsErrOf, IsSome, length, map};
+ghost use Rattle.std.specs.Prelude.{◌≡◌, ℕ, ◌+◌, ◌<◌, ◌^◌, [], All, IfErr, IfOk, IsErrOf, IsSome};
+ghost use Rattle.std.specs.Prelude.{length, map};
 ghost use Rattle.std.specs.List.{flat_map, range_with_len};
 ghost use Rattle.dd_sets.specs.Frames.{Owns};
 ghost use Rattle.dd_sets.specs.LiveSets.{IsLive};
@@ -45,10 +46,10 @@ pub enum Found {
 /// It goes back from the goal layer by layer, each with the states from which some action has some
 /// outcome in the layer before, until a layer holds every initial state (Cimatti, Pistore, Roveri
 /// and Traverso 2003). Each state of a layer takes the least-numbered action that may lead into the
-/// layer before it; a state in which the goal holds takes none. What each action takes is found in a
-/// second pass, where there is a plan. On every exit the slots of entry are live, with their sets,
-/// and no others; at most as many slots more as there are actions and 24 are live in between. `Full`
-/// says that the table's limit is tight for so many, and `Memory` that memory ran out.
+/// layer before it; a state in which the goal holds takes none. What each action takes is found in
+/// a second pass, where there is a plan. On every exit the slots of entry are live, with their
+/// sets, and no others; at most as many slots more as there are actions and 24 are live in between.
+/// `Full` says that the table's limit is tight for so many, and `Memory` that memory ran out.
 pub fn plan_weak_sets(alloc: Global, task: &Task, enc: &mut Enc) -> Result<Found, SetErr>
     requires made { MadeOf task.now enc.old }
     requires goal { IsSome task.now.goal }
@@ -77,16 +78,16 @@ pub fn plan_weak_sets(alloc: Global, task: &Task, enc: &mut Enc) -> Result<Found
     plan(alloc, task, enc, Class::Weak)
 }
 
-/// A strong plan for a task, or that there is none: no state-action table, not even one with several
-/// actions for a state, is a strong solution.
+/// A strong plan for a task, or that there is none: no state-action table, not even one with
+/// several actions for a state, is a strong solution.
 ///
 /// It goes back from the goal layer by layer, each with the states from which some action has every
 /// outcome in the layer before, until a layer holds every initial state (Cimatti, Pistore, Roveri
-/// and Traverso 2003). Each state of a layer takes the least-numbered action that must lead into the
-/// layer before it; a state in which the goal holds takes none. What each action takes is found in a
-/// second pass, where there is a plan. On every exit the slots of entry are live, with their sets,
-/// and no others; at most as many slots more as there are actions and 24 are live in between. `Full`
-/// says that the table's limit is tight for so many, and `Memory` that memory ran out.
+/// and Traverso 2003). Each state of a layer takes the least-numbered action that must lead into
+/// the layer before it; a state in which the goal holds takes none. What each action takes is found
+/// in a second pass, where there is a plan. On every exit the slots of entry are live, with their
+/// sets, and no others; at most as many slots more as there are actions and 24 are live in between.
+/// `Full` says that the table's limit is tight for so many, and `Memory` that memory ran out.
 pub fn plan_strong_sets(alloc: Global, task: &Task, enc: &mut Enc) -> Result<Found, SetErr>
     requires made { MadeOf task.now enc.old }
     requires goal { IsSome task.now.goal }
@@ -188,8 +189,10 @@ fn rules_by_sets(
     requires actions { actions ≡ length enc.old.actions }
     requires none { taken.old.items ≡ [] }
     requires work { IsReady enc.old }
-    ensures { (start : Start) (K : ℕ) → At start enc.old [] → IsLastLayer class (system_of start.task) K
-        → Left (HasPlan class start enc.new taken.new.items) (StillTaken start enc.new taken.new.items)
+    ensures { (start : Start) (K : ℕ) → At start enc.old []
+        → IsLastLayer class (system_of start.task) K
+        → Left (HasPlan class start enc.new taken.new.items)
+        (StillTaken start enc.new taken.new.items)
         (IsTightFor start.room start.enc.sets) result }
 {
     made_is_kept();

@@ -1,6 +1,7 @@
 //! The search back from the goal, layer by layer.
 
-ghost use Rattle.std.specs.Prelude.{◌≡◌, ℕ, ◌+◌, ◌<◌, ◌≤◌, ◌↔◌, ◌++◌, [], ◌∷◌, IfErr, IfOk, IsErrOf, IsSome, IsTrue, OnErr, OnOk, length, true};
+ghost use Rattle.std.specs.Prelude.{◌≡◌, ℕ, ◌+◌, ◌<◌, ◌≤◌, ◌↔◌, ◌++◌, [], ◌∷◌, IfErr, IfOk};
+ghost use Rattle.std.specs.Prelude.{IsErrOf, IsSome, IsTrue, OnErr, OnOk, length, true};
 ghost use Rattle.dd_nodes.specs.NodeList.{Values};
 ghost use Rattle.dd_nodes.specs.Subfunctions.{Function};
 ghost use Rattle.dd_sets.specs.Calls.{Adds, AddsNone, KeepsSets, Releases};
@@ -11,8 +12,10 @@ ghost use Rattle.preimage.specs.Preimages.{OfSomeTask};
 ghost use Rattle.task_core.specs.declared.tasks.Task.{Task};
 ghost use Rattle.reach_plan.specs.Classes.{IsFoundByLayers};
 ghost use Rattle.reach_plan.specs.LayerSets.{AreTakers, IsRound, class_preimage, grown, taken_by};
-ghost use Rattle.reach_plan.specs.Searches.{IsBegun, IsGrowing, IsSearching, RoundLeft, SearchLeft, StillOne, StillTaken, StillTwo, with_one, with_two};
-ghost use Rattle.reach_plan.specs.Working.{AddedSome, AreOwned, At, Left, Start, Working, entries, with_set};
+ghost use Rattle.reach_plan.specs.Searches.{IsBegun, IsGrowing, IsSearching, RoundLeft, SearchLeft};
+ghost use Rattle.reach_plan.specs.Searches.{StillOne, StillTaken, StillTwo, with_one, with_two};
+ghost use Rattle.reach_plan.specs.Working.{AddedSome, AreOwned, At, Left, Start, Working, entries};
+ghost use Rattle.reach_plan.specs.Working.{with_set};
 ghost use Rattle.dd_ops.specs.Operations.{minus_of, or_of};
 ghost use Rattle.dd_sets.specs.Frames.{Slots};
 
@@ -57,7 +60,8 @@ fn holds_initial(enc: &mut Enc, x: SetId) -> Result<bool, SetErr>
     requires initial { IsLive enc.old.sets enc.old.initial.0 }
     requires live { IsLive enc.old.sets x.0 }
     ensures answer { IfOk result (λ inside. IsTrue inside ↔ ((values : Values)
-        → set_of enc.old.sets enc.old.initial.0 values ≡ true → set_of enc.old.sets x.0 values ≡ true)) }
+        → set_of enc.old.sets enc.old.initial.0 values ≡ true → set_of enc.old.sets x.0 values
+        ≡ true)) }
     ensures kept { KeepsSets enc.old.sets enc.new.sets }
     ensures none { AddsNone enc.old.sets enc.new.sets }
     ensures full { IsErrOf result SetErr.Full → IsTightFor 0 enc.old.sets }
@@ -237,7 +241,8 @@ pub(crate) fn search_back(
     requires few { length taken.old.items ≤ actions }
     requires work { IsBegun class enc.old taken.old.items }
     ensures long { length taken.new.items ≡ length taken.old.items }
-    ensures left { (start : Start) (h : ℕ → Function) → At start enc.old (entries taken.old.items 0 h)
+    ensures left { (start : Start) (h : ℕ → Function)
+        → At start enc.old (entries taken.old.items 0 h)
         → AreTakers class start.task 0 h
         → Left (SearchLeft class start enc.new taken.new.items)
         (StillTaken start enc.new taken.new.items) (IsTightFor start.room start.enc.sets) result }

@@ -28,7 +28,8 @@ pub(crate) fn join_to(sets: &mut Sets, set: &mut SetId, more: SetId) -> Result<(
     Ok(())
 }
 
-/// Joins what is in `hits` and not in `layer` to the set at a place, in place, if there is one there.
+/// Joins what is in `hits` and not in `layer` to the set at a place, in place, if there is one
+/// there.
 /// A refusal leaves it as it is.
 pub(crate) fn take_new(
     sets: &mut Sets,
@@ -76,7 +77,8 @@ fn add_both(
     requires { AreOwned sets.old taken.old.items (hits ∷ layer.old ∷ []) }
     ensures long { length taken.new.items ≡ length taken.old.items }
     ensures left { (before : LiveSets) (own : Slots) (f g : Function) (h : ℕ → Function) (room : ℕ)
-        → Working before sets.old (entries taken.old.items 0 h ++ (hits.0, f) ∷ (layer.old.0, g) ∷ own)
+        → Working before sets.old
+        (entries taken.old.items 0 h ++ (hits.0, f) ∷ (layer.old.0, g) ∷ own)
         → length taken.old.items + length own + 3 ≤ room
         → Left (λ done. Working before sets.new
         (entries taken.new.items 0 (with_set h place (or_of (h place) (minus_of f g)))
@@ -101,7 +103,8 @@ pub(crate) fn add_hits(
     ensures long { length taken.new.items ≡ length taken.old.items }
     ensures sound { IsSets sets.new }
     ensures left { (before : LiveSets) (own : Slots) (f g : Function) (h : ℕ → Function) (room : ℕ)
-        → Working before sets.old (entries taken.old.items 0 h ++ (hits.0, f) ∷ (layer.old.0, g) ∷ own)
+        → Working before sets.old
+        (entries taken.old.items 0 h ++ (hits.0, f) ∷ (layer.old.0, g) ∷ own)
         → length taken.old.items + length own + 3 ≤ room
         → Left (λ done. Working before sets.new
         (entries taken.new.items 0 (with_set h place (or_of (h place) (minus_of f g)))

@@ -1,6 +1,6 @@
--- Records of runs: `(record NUMBER NUMBER ..)`, the number of the initial state, counted from 0, and then the
--- outcome numbers. The first list of a text that begins with the word `record` is the record; everything
--- else is passed over.
+-- Records of runs: `(record NUMBER NUMBER ..)`, the number of the initial state, counted from 0,
+-- and then the outcome numbers. The first list of a text that begins with the word `record` is the
+-- record; everything else is passed over.
 use Rattle.std.specs.Prelude.{ℕ, if◌then◌else◌, List, [], ◌∷◌, ◌++◌, Option, Some, None, codes}
 use Rattle.std.specs.Option.{unwrap_or, option_map_or}
 use Rattle.sexpr_text.specs.declared.forms.Span.{Span}
@@ -17,7 +17,8 @@ use Rattle.run_replay.specs.declared.records.Recorded.{Recorded}
 -- everything that is wrong in a row of numerals: a list is BadForm at it, another word BadNumber
 abbrev pub numbers_flaws : Forest → List Flaw
 numbers_flaws nothing = []
-numbers_flaws (word span text rest) = (if is_numeral text then [] else flaw_at span BadNumber ∷ []) ++ numbers_flaws rest
+numbers_flaws (word span text rest) =
+    (if is_numeral text then [] else flaw_at span BadNumber ∷ []) ++ numbers_flaws rest
 numbers_flaws (group span parts rest) = flaw_at span BadForm ∷ numbers_flaws rest
 
 -- the numbers of a row of numerals
@@ -59,11 +60,20 @@ pub record RecordTree : Type 0 where
 
 abbrev pub recorded_row : Forest → RecordTree
 recorded_row nothing = record { first = 0; first_place = start; words = [] }
-recorded_row (word span text rest) = record { first = unwrap_or (numeral text) 0; first_place = span.place; words = numbers_of rest }
-recorded_row (group span parts rest) = record { first = 0; first_place = span.place; words = numbers_of rest }
+recorded_row (word span text rest) = record {
+  first = unwrap_or (numeral text) 0;
+  first_place = span.place;
+  words = numbers_of rest;
+}
+recorded_row (group span parts rest) = record {
+  first = 0;
+  first_place = span.place;
+  words = numbers_of rest;
+}
 
 abbrev pub recorded_in : Forest → RecordTree
-recorded_in trees = option_map_or (λ (found : Span × Forest). recorded_row (after_first found.1)) (is_record trees) (recorded_row nothing)
+recorded_in trees = option_map_or (λ (found : Span × Forest). recorded_row (after_first found.1))
+    (is_record trees) (recorded_row nothing)
 
 -- the bytes spell this record
 abbrev pub SpellsRecord : List ℕ → RecordTree → Type 0

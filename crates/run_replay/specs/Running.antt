@@ -19,19 +19,24 @@ next_turn_of sys plan n steps state context words =
 
 -- Private: the trace that goes on after these steps
 abbrev pub after_steps : List TraceStep → Trace → Trace
-after_steps steps trace = record { steps = steps ++ trace.steps; ending = trace.ending; left = trace.left }
+after_steps steps trace =
+    record { steps = steps ++ trace.steps; ending = trace.ending; left = trace.left }
 
 -- Private: the trace of what is left of a run
 abbrev pub rest_of : System → ContextPlan → ℕ → List Step → State → Option ℕ → List ℕ → Trace
 rest_of sys plan n steps state context words =
-    trace_from sys plan (most_steps - length steps) (length steps + 1) (vector n state) context words
+    trace_from sys plan (most_steps - length steps) (length steps + 1) (vector n state) context
+    words
 
 -- Private: a run that began in the state `first` with these words and these monitors has come so
 -- far
-pub record HasRun {X : Type 0} (seen : X → Seen) (sys : System) (plan : ContextPlan) (n m : ℕ) (first : Vector)
-    (words : List ℕ) (monitors : List X) (steps : List Step) (state : State) (context : Option ℕ) (left : List ℕ)
+pub record HasRun {X : Type 0} (seen : X → Seen) (sys : System) (plan : ContextPlan) (n m : ℕ)
+    (first : Vector)
+    (words : List ℕ) (monitors : List X) (steps : List Step) (state : State) (context : Option ℕ)
+    (left : List ℕ)
     (now : List X) : Type 0 where
-  pub goes : trace_of sys plan first words ≡ after_steps (steps_value n steps) (rest_of sys plan n steps state context left)
+  pub goes : trace_of sys plan first words
+      ≡ after_steps (steps_value n steps) (rest_of sys plan n steps state context left)
   pub few : length steps ≤ most_steps
   pub taken : words ≡ outcome_numbers (steps_value n steps) ++ left
   pub told : AreTold seen steps monitors now

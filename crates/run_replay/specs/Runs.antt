@@ -8,11 +8,15 @@ use Rattle.plan_rules.specs.Rules.{plain_of}
 use Rattle.plan_rules.specs.declared.rules.Plan.{Plan}
 use Rattle.run_replay.specs.declared.worlds.Step.{Step}
 use Rattle.run_replay.specs.declared.traces.End.{End}
-use Rattle.run_replay.specs.declared.traces.End.TheVariants.{Terminal as EndTerminal, Ended as EndEnded, Capped as EndCapped}
+use Rattle.run_replay.specs.declared.traces.End.TheVariants.{Terminal as EndTerminal}
+use Rattle.run_replay.specs.declared.traces.End.TheVariants.{Ended as EndEnded, Capped as EndCapped}
 use Rattle.run_replay.specs.declared.traces.RunErr.{RunErr}
-use Rattle.run_replay.specs.declared.traces.RunErr.TheVariants.{StrayOutcome, Unexecutable as UnexecutableErr, Memory}
+use Rattle.run_replay.specs.declared.traces.RunErr.TheVariants.{StrayOutcome}
+use Rattle.run_replay.specs.declared.traces.RunErr.TheVariants.{Unexecutable as UnexecutableErr}
+use Rattle.run_replay.specs.declared.traces.RunErr.TheVariants.{Memory}
 use Rattle.run_replay.specs.declared.traces.Trace.{Trace as CodeTrace}
-use Rattle.run_replay.specs.Traces.{TraceStep, Ending, Terminal, Ended, Capped, Stray, Unexecutable, Trace, run_plan, trace_of}
+use Rattle.run_replay.specs.Traces.{TraceStep, Ending, Terminal, Ended, Capped, Stray, Unexecutable}
+use Rattle.run_replay.specs.Traces.{Trace, run_plan, trace_of}
 
 -- a step over the first n fluents
 abbrev pub step_value : ℕ → Step → TraceStep
@@ -42,11 +46,13 @@ ending_of EndCapped = Capped
 
 -- what the code's trace stands for, where the world has these outcome numbers left
 abbrev pub trace_value : ℕ → CodeTrace → List ℕ → Trace
-trace_value n trace left = record { steps = steps_value n trace.steps.items; ending = ending_of trace.end; left = left }
+trace_value n trace left =
+    record { steps = steps_value n trace.steps.items; ending = ending_of trace.end; left = left }
 
 -- the trace of a plan in a task, from this state and with these outcome numbers
 abbrev pub trace_in : Task → Plan → State → List ℕ → Trace
-trace_in task plan first words = trace_of (system_of task) (run_plan (plain_of plan)) (vector (fluent_count task) first) words
+trace_in task plan first words =
+    trace_of (system_of task) (run_plan (plain_of plan)) (vector (fluent_count task) first) words
 
 -- the outcome numbers of steps
 abbrev pub outcome_numbers : List TraceStep → List ℕ
@@ -54,7 +60,8 @@ outcome_numbers = map (λ (s : TraceStep). s.outcome)
 
 -- these steps are the first of a trace under these outcome numbers, of which they took their own
 -- and left the others
-pub record IsFrontOf (trace : Trace) (words : List ℕ) (steps : List TraceStep) (left : List ℕ) : Type 0 where
+pub record IsFrontOf (trace : Trace) (words : List ℕ) (steps : List TraceStep)
+    (left : List ℕ) : Type 0 where
   pub later : List TraceStep
   pub front : trace.steps ≡ steps ++ later
   pub taken : words ≡ outcome_numbers steps ++ left

@@ -10,7 +10,8 @@ use Rattle.run_replay.specs.Traces.{TraceStep, Ending, Terminal, Ended, Capped, 
 -- as: step 3 (go a b) outcome 0
 abbrev pub step_line : List Name → TraceStep → List ℕ
 step_line actions step =
-    codes "step " ++ decimal step.number ++ codes " " ++ atom_text (name_at actions step.action) ++ codes " outcome "
+    codes "step " ++ decimal step.number ++ codes " " ++ atom_text (name_at actions step.action)
+    ++ codes " outcome "
     ++ decimal step.outcome ++ line_feed
 
 -- the word for an end; a run that is refused has no text
@@ -36,4 +37,5 @@ trace_text actions steps ending = flat_map (step_line actions) steps ++ end_line
 -- the lines of monitors that had counted nothing, after these steps: the title of each, and the sum
 -- of its weights
 abbrev pub tallies_text : {X : Type 0} → (X → Seen) → List Step → List X → List ℕ
-tallies_text seen steps = flat_map (λ monitor. tally_line (seen monitor).title (sum (map (seen monitor).weight steps)))
+tallies_text seen steps =
+    flat_map (λ monitor. tally_line (seen monitor).title (sum (map (seen monitor).weight steps)))

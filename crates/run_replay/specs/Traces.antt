@@ -1,15 +1,16 @@
--- The trace of a plan: the steps that it takes from a state, where a list of outcome numbers says which
--- outcome comes at each step, and how it ends. It is a definition by recursion on the turns, in the
--- terms of a system and of a plan with contexts, and knows of no worlds and no monitors.
-use Rattle.std.specs.Prelude.{ℕ, zero, suc, ◌+◌, Bool, true, false, nat_lt, if◌then◌else◌, List, [], ◌∷◌, Option, Some, None, slice_index_or, map}
+-- The trace of a plan: the steps that it takes from a state, where a list of outcome numbers says
+-- which outcome comes at each step, and how it ends. It is a definition by recursion on the turns,
+-- in the terms of a system and of a plan with contexts, and knows of no worlds and no monitors.
+use Rattle.std.specs.Prelude.{ℕ, zero, suc, ◌+◌, Bool, true, false, nat_lt, if◌then◌else◌, List, []}
+use Rattle.std.specs.Prelude.{◌∷◌, Option, Some, None, slice_index_or, map}
 use Rattle.task_core.specs.Vectors.{Vector}
 use Rattle.task_core.specs.Systems.{System}
 use Rattle.task_core.specs.ContextPlans.{ContextPlan, first_context}
 use Rattle.plan_rules.specs.Denoted.{can_execute, denoted_contexts}
 use Rattle.plan_rules.specs.Rules.{PlanRule, ContextRule, PlainPlan, always, table, automaton}
 
--- a step: its number, counted from 1, the action, the number of its outcome, counted from 0, and the states
--- before and after
+-- a step: its number, counted from 1, the action, the number of its outcome, counted from 0, and
+-- the states before and after
 pub record TraceStep : Type 0 where
   pub number : ℕ
   pub action : ℕ
@@ -17,8 +18,8 @@ pub record TraceStep : Type 0 where
   pub before : Vector
   pub after : Vector
 
--- how a trace ends: no rule matches; the outcome numbers are used up; the greatest number of steps was made;
--- an outcome number is none of the action's; or an action can't be executed
+-- how a trace ends: no rule matches; the outcome numbers are used up; the greatest number of steps
+-- was made; an outcome number is none of the action's; or an action can't be executed
 pub data Ending : Type 0 where
   Terminal : Ending
   Ended : Ending
@@ -26,7 +27,8 @@ pub data Ending : Type 0 where
   Stray : (step word outcomes : ℕ) → Ending
   Unexecutable : (step : ℕ) → Ending
 
--- one turn: it ends the trace, or makes a step and goes on in a context; with the outcome numbers that are left
+-- one turn: it ends the trace, or makes a step and goes on in a context; with the outcome numbers
+-- that are left
 pub data Turn : Type 0 where
   Ends : Ending → List ℕ → Turn
   Goes : TraceStep → Option ℕ → List ℕ → Turn
@@ -37,7 +39,8 @@ choosing sys plan number s c action [] = Ends Ended []
 choosing sys plan number s c action (word ∷ words) =
     if nat_lt word (sys.outcomes action)
     then (let t = slice_index_or (sys.next s action) word [] in
-    Goes (record { number = number; action = action; outcome = word; before = s; after = t }) (plan.ctxt s c t) words)
+    Goes (record { number = number; action = action; outcome = word; before = s; after = t })
+    (plan.ctxt s c t) words)
     else Ends (Stray number word (sys.outcomes action)) words
 
 -- the turn in which the plan has this action, or none; `full` says that no further step may be made
@@ -61,7 +64,8 @@ pub record Trace : Type 0 where
 
 -- a step before a trace
 abbrev pub after_step : TraceStep → Trace → Trace
-after_step step trace = record { steps = step ∷ trace.steps; ending = trace.ending; left = trace.left }
+after_step step trace =
+    record { steps = step ∷ trace.steps; ending = trace.ending; left = trace.left }
 
 -- the trace from a state and a context, of at most so many steps, the next of which has this number
 unfoldable pub trace_from : System → ContextPlan → ℕ → ℕ → Vector → Option ℕ → List ℕ → Trace
@@ -69,10 +73,12 @@ trace_from sys plan zero number s context words = elim (turn sys plan true numbe
   | Ends ending left ↦ record { steps = []; ending = ending; left = left }
   | Goes step next left ↦ record { steps = []; ending = Capped; left = left }
 ]
-trace_from sys plan (suc most) number s context words = elim (turn sys plan false number s context words) [
-  | Ends ending left ↦ record { steps = []; ending = ending; left = left }
-  | Goes step next left ↦ after_step step (trace_from sys plan most (number + 1) step.after next left)
-]
+trace_from sys plan (suc most) number s context words =
+    elim (turn sys plan false number s context words) [
+      | Ends ending left ↦ record { steps = []; ending = ending; left = left }
+      | Goes step next left ↦ after_step step
+          (trace_from sys plan most (number + 1) step.after next left)
+    ]
 
 -- how many steps a trace has at most
 abbrev pub most_steps : ℕ
@@ -84,7 +90,14 @@ trace_of sys plan first words = trace_from sys plan most_steps 1 first (Some fir
 
 -- a rule of a table, which stays in one context
 abbrev pub in_one_context : PlanRule → ContextRule
-in_one_context rule = record { context = first_context; cube = rule.cube; action = rule.action; next = always first_context }
+in_one_context rule =
+    record {
+      context = first_context;
+      cube = rule.cube;
+      action = rule.action;
+      next = always
+          first_context;
+    }
 
 -- the rules of a plan as they are run: in each context the first that matches the state counts
 abbrev pub run_rules : PlainPlan → List ContextRule

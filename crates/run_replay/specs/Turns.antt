@@ -1,11 +1,16 @@
 -- Private: one turn, as the code holds it.
-use Rattle.std.specs.Prelude.{◌≡◌, ℕ, Bool, nat_lt, if◌then◌else◌, List, [], ◌∷◌, Option, Some, None, slice_index_or, ⊤}
+use Rattle.std.specs.Prelude.{◌≡◌, ℕ, Bool, nat_lt, if◌then◌else◌, List, [], ◌∷◌, Option, Some}
+use Rattle.std.specs.Prelude.{None, slice_index_or, ⊤}
 use Rattle.run_replay.specs.declared.turns.Turn.{Turn as CodeTurn}
-use Rattle.run_replay.specs.declared.turns.Turn.TheVariants.{Ends as CodeEnds, Refuses, Goes as CodeGoes}
+use Rattle.run_replay.specs.declared.turns.Turn.TheVariants.{Ends as CodeEnds, Refuses}
+use Rattle.run_replay.specs.declared.turns.Turn.TheVariants.{Goes as CodeGoes}
 use Rattle.run_replay.specs.declared.traces.RunErr.{RunErr}
-use Rattle.run_replay.specs.declared.traces.RunErr.TheVariants.{StrayOutcome, Unexecutable as UnexecutableErr, Memory}
+use Rattle.run_replay.specs.declared.traces.RunErr.TheVariants.{StrayOutcome}
+use Rattle.run_replay.specs.declared.traces.RunErr.TheVariants.{Unexecutable as UnexecutableErr}
+use Rattle.run_replay.specs.declared.traces.RunErr.TheVariants.{Memory}
 use Rattle.run_replay.specs.Runs.{IsStepOf, step_value, ending_of}
-use Rattle.run_replay.specs.Traces.{Ending, Turn, Ends, Goes, Terminal, Ended, Capped, Stray, Unexecutable}
+use Rattle.run_replay.specs.Traces.{Ending, Turn, Ends, Goes, Terminal, Ended, Capped, Stray}
+use Rattle.run_replay.specs.Traces.{Unexecutable}
 use Rattle.task_core.specs.Vectors.{Vector}
 use Rattle.task_core.specs.Systems.{System}
 use Rattle.plan_rules.specs.Denoted.{can_execute, next_context}
@@ -20,7 +25,8 @@ IsRefusal Memory ending = ⊥
 -- Private: the code's turn is this turn, after which these outcome numbers are left
 abbrev pub IsTurn : ℕ → CodeTurn → List ℕ → Turn → Type 0
 IsTurn n (CodeEnds end) left turn = turn ≡ Ends (ending_of end) left
-IsTurn n (Refuses refusal) left turn = (ending : Ending) × (turn ≡ Ends ending left) × IsRefusal refusal ending
+IsTurn n (Refuses refusal) left turn =
+    (ending : Ending) × (turn ≡ Ends ending left) × IsRefusal refusal ending
 IsTurn n (CodeGoes step context) left turn = turn ≡ Goes (step_value n step) context left
 
 -- Private: the step, where one is made, is one of a task with n fluents and m actions
@@ -35,7 +41,8 @@ taking sys number s a [] = Ends Ended []
 taking sys number s a (word ∷ words) =
     if nat_lt word (sys.outcomes a.action)
     then (let t = slice_index_or (sys.next s a.action) word [] in
-    Goes (record { number = number; action = a.action; outcome = word; before = s; after = t }) (next_context a.next t) words)
+    Goes (record { number = number; action = a.action; outcome = word; before = s; after = t })
+    (next_context a.next t) words)
     else Ends (Stray number word (sys.outcomes a.action)) words
 
 -- Private: the turn in which this is what counts, or nothing

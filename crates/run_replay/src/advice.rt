@@ -4,8 +4,10 @@ ghost use Rattle.std.specs.Option.{option_map};
 ghost use Rattle.std.specs.Prelude.{◌≡◌, ◌<◌, All, IfSome, map};
 ghost use Rattle.plan_rules.specs.Denoted.{next_context, rule_at};
 ghost use Rattle.plan_rules.specs.Plans.{IsCubeOf, IsPlanOf};
-ghost use Rattle.plan_rules.specs.Rules.{by_cases, case_of, context_rule_of, next_of, plain_of, rule_of};
-ghost use Rattle.run_replay.specs.Advices.{AreCasesOf, IsAdviceOf, advice_value, advised_by, onward_value};
+ghost use Rattle.plan_rules.specs.Rules.{by_cases, case_of, context_rule_of, next_of, plain_of};
+ghost use Rattle.plan_rules.specs.Rules.{rule_of};
+ghost use Rattle.run_replay.specs.Advices.{AreCasesOf, IsAdviceOf, advice_value, advised_by};
+ghost use Rattle.run_replay.specs.Advices.{onward_value};
 ghost use Rattle.run_replay.specs.Traces.{in_one_context, run_rules};
 ghost use Rattle.task_core.specs.Cubes.{matches};
 ghost use Rattle.task_core.specs.States.{vector};
@@ -34,8 +36,8 @@ pub(crate) enum Onward<'a> {
     ByCases(&'a [Case]),
 }
 
-/// The rule of a plan that counts in a state and a context: the first that matches. A table is run in
-/// the first context.
+/// The rule of a plan that counts in a state and a context: the first that matches. A table is run
+/// in the first context.
 pub(crate) fn rule_in<'a>(
     task: &Task,
     plan: &'a Plan,
@@ -44,7 +46,8 @@ pub(crate) fn rule_in<'a>(
 ) -> Option<Advice<'a>>
     requires { IsPlanOf (fluent_count task.now) (action_count task.now) plan.now }
     ensures counts { option_map advice_value result ≡ option_map advised_by
-        (rule_at (run_rules (plain_of plan.now)) (vector (fluent_count task.now) state.now) context) }
+        (rule_at (run_rules (plain_of plan.now)) (vector (fluent_count task.now) state.now)
+        context) }
     ensures in_task { IfSome result (IsAdviceOf (fluent_count task.now) (action_count task.now)) }
 {
     match plan {
@@ -58,7 +61,8 @@ fn first_rule<'a>(task: &Task, rules: &'a [Rule], state: &State, context: u32) -
     requires cubes { All (λ rule. IsCubeOf (fluent_count task.now) rule.cube.items) rules.now }
     requires actions { All (λ rule. rule.action.0 < action_count task.now) rules.now }
     ensures counts { option_map advice_value result ≡ option_map advised_by
-        (rule_at (map in_one_context (map rule_of rules.now)) (vector (fluent_count task.now) state.now) context) }
+        (rule_at (map in_one_context (map rule_of rules.now))
+        (vector (fluent_count task.now) state.now) context) }
     ensures in_task { IfSome result (IsAdviceOf (fluent_count task.now) (action_count task.now)) }
 {
     for rule in rules {
@@ -81,9 +85,11 @@ fn first_context_rule<'a>(
 ) -> Option<Advice<'a>>
     requires cubes { All (λ rule. IsCubeOf (fluent_count task.now) rule.cube.items) rules.now }
     requires actions { All (λ rule. rule.action.0 < action_count task.now) rules.now }
-    requires nexts { All (λ rule. AreCasesOf (fluent_count task.now) (next_of rule.next)) rules.now }
+    requires nexts { All (λ rule. AreCasesOf (fluent_count task.now) (next_of rule.next))
+        rules.now }
     ensures counts { option_map advice_value result ≡ option_map advised_by
-        (rule_at (map context_rule_of rules.now) (vector (fluent_count task.now) state.now) context) }
+        (rule_at (map context_rule_of rules.now) (vector (fluent_count task.now) state.now)
+        context) }
     ensures in_task { IfSome result (IsAdviceOf (fluent_count task.now) (action_count task.now)) }
 {
     for rule in rules {
@@ -110,7 +116,8 @@ fn onward_of(next: &Next) -> Onward<'_>
 /// The context in which to go on in a new state, where there is one.
 pub(crate) fn context_in(task: &Task, onward: &Onward<'_>, state: &State) -> Option<u32>
     requires { AreCasesOf (fluent_count task.now) (onward_value onward.now) }
-    ensures { result ≡ next_context (onward_value onward.now) (vector (fluent_count task.now) state.now) }
+    ensures { result ≡ next_context (onward_value onward.now)
+        (vector (fluent_count task.now) state.now) }
 {
     match onward {
         Onward::Always(context) => Some(*context),
@@ -121,7 +128,8 @@ pub(crate) fn context_in(task: &Task, onward: &Onward<'_>, state: &State) -> Opt
 /// The context of the first case that matches a state.
 fn first_case(task: &Task, cases: &[Case], state: &State) -> Option<u32>
     requires { All (λ case. IsCubeOf (fluent_count task.now) case.cube.items) cases.now }
-    ensures { result ≡ next_context (by_cases (map case_of cases.now)) (vector (fluent_count task.now) state.now) }
+    ensures { result ≡ next_context (by_cases (map case_of cases.now))
+        (vector (fluent_count task.now) state.now) }
 {
     for case in cases {
         if has_all(task, &case.cube, state) {

@@ -3,8 +3,8 @@
 //! `World` and `Monitor` are what a caller hands in; `RecordWorld`, `StepMonitor` and
 //! `ChangeMonitor` are the program's own. `read_words` reads a record of a run. `specs/Traces.antt`
 //! says what the trace of a plan is, by recursion on its turns; `execute` runs a plan and gives
-//! exactly its trace, or the refusal that the trace ends with, and `write_trace` gives the text of a
-//! run. One turn is made in `turns`, and the monitors are told of its step in `watch`.
+//! exactly its trace, or the refusal that the trace ends with, and `write_trace` gives the text of
+//! a run. One turn is made in `turns`, and the monitors are told of its step in `watch`.
 #![tactic(auto)]
 
 mod advice;

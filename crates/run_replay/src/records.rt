@@ -34,8 +34,8 @@ pub struct Recorded {
     pub words: Vec<u32>,
 }
 
-/// The record that the bytes spell, `(record NUMBER NUMBER ..)`, or their first fault with its place,
-/// or want of memory. There are at most 1,048,576 bytes.
+/// The record that the bytes spell, `(record NUMBER NUMBER ..)`, or their first fault with its
+/// place, or want of memory. There are at most 1,048,576 bytes.
 pub fn read_words(alloc: Global, bytes: &[u8]) -> Result<Recorded, ReadErr>
     requires few_bytes { length bytes.now ≤ MAX_BYTES }
     ensures read { IfOk result (λ recorded. SpellsRecord bytes.now (record_value recorded)) }
@@ -50,7 +50,8 @@ pub fn read_words(alloc: Global, bytes: &[u8]) -> Result<Recorded, ReadErr>
 /// What the first record of a row says.
 fn read_found(alloc: Global, row: &[Form]) -> Result<Recorded, ReadErr>
     ensures sound { IfOk result (λ _. flaws_of_found (is_record (forest_of row.now)) ≡ []) }
-    ensures read { IfOk result (λ recorded. record_value recorded ≡ recorded_in (forest_of row.now)) }
+    ensures read { IfOk result
+        (λ recorded. record_value recorded ≡ recorded_in (forest_of row.now)) }
     ensures fault { IfErr result (λ e. IfFault e (λ fault.
         first_listed (flaws_of_found (is_record (forest_of row.now))) ≡ Some fault)) }
 {

@@ -60,8 +60,8 @@ struct Run {
 /// the steps that were made and of nothing else, and the list has the same monitors in the same
 /// order, each with its title and its weights.
 ///
-/// The plan's numbers are those of the task's fluents and actions, the state has no true fluent past
-/// the task's, and no monitor has counted anything yet.
+/// The plan's numbers are those of the task's fluents and actions, the state has no true fluent
+/// past the task's, and no monitor has counted anything yet.
 pub fn execute(
     alloc: Global,
     task: &Task,
@@ -79,14 +79,24 @@ pub fn execute(
     ensures in_task { IfOk result (λ trace.
         All (IsStepOf (fluent_count task.now) (action_count task.now)) trace.steps.items) }
     ensures told { IfOk result (λ trace. AreTold
-        (λ monitor. record { counted = counted monitor; title = title monitor; weight = weight monitor })
+        (λ monitor. record {
+          counted = counted monitor;
+          title = title monitor;
+          weight = weight
+              monitor;
+        })
         trace.steps.items monitors.old.items monitors.new.items) }
     ensures refused { IfErr result (λ refusal. (steps : List Step) ×
         IsRefused (fluent_count task.now) refusal
         (trace_in task.now plan.now first (left world.old)) (left world.old) steps (left world.new)
         × All (IsStepOf (fluent_count task.now) (action_count task.now)) steps
         × AreTold
-        (λ monitor. record { counted = counted monitor; title = title monitor; weight = weight monitor })
+        (λ monitor. record {
+          counted = counted monitor;
+          title = title monitor;
+          weight = weight
+              monitor;
+        })
         steps monitors.old.items monitors.new.items) }
 {
     let mut run = Run {
@@ -140,7 +150,12 @@ impl Run {
     ) -> Result<(), AllocFailed<Step>>
         requires small { All (λ monitor. counted monitor ≤ 2 ^ 127) monitors.old.items }
         ensures told { AreTold
-            (λ monitor. record { counted = counted monitor; title = title monitor; weight = weight monitor })
+            (λ monitor. record {
+              counted = counted monitor;
+              title = title monitor;
+              weight = weight
+                  monitor;
+            })
             (step ∷ []) monitors.old.items monitors.new.items }
         ensures steps { OnOk result (self.new.steps.items ≡ self.old.steps.items ++ step ∷ []) }
         ensures state { OnOk result (self.new.state ≡ step.after) }

@@ -43,9 +43,11 @@ pub fn write_trace(
     trace: &Trace,
     monitors: &[Box<dyn Monitor>],
 ) -> Result<Vec<u8>, AllocError>
-    requires in_task { All (IsStepOf (fluent_count task.now) (action_count task.now)) trace.now.steps.items }
+    requires in_task { All (IsStepOf (fluent_count task.now) (action_count task.now))
+        trace.now.steps.items }
     ensures { IfOk result (λ text. text.items
-        ≡ trace_text (action_names task.now) (steps_value (fluent_count task.now) trace.now.steps.items)
+        ≡ trace_text (action_names task.now)
+        (steps_value (fluent_count task.now) trace.now.steps.items)
         (ending_of trace.now.end)
         ++ flat_map (λ monitor. tally_line (title monitor) (counted monitor)) monitors.now) }
 {
@@ -72,7 +74,8 @@ fn push_steps(out: &mut Vec<u8>, task: &Task, steps: &[Step]) -> Result<(), Allo
 fn push_step(out: &mut Vec<u8>, actions: &[GroundAction], step: &Step) -> Result<(), AllocError>
     requires { step.now.action.0 < length actions.now }
     ensures { OnOk result ((n : ℕ) →
-        out.new.items ≡ out.old.items ++ step_line (map name_of actions.now) (step_value n step.now)) }
+        out.new.items ≡ out.old.items
+        ++ step_line (map name_of actions.now) (step_value n step.now)) }
 {
     out.extend_from_slice(b"step ")?;
     push_number(out, step.number)?;
@@ -162,7 +165,8 @@ fn push_number<I: Integer>(out: &mut Vec<u8>, number: I) -> Result<(), AllocErro
 
 /// A name in parentheses.
 fn push_atom(out: &mut Vec<u8>, words: &[String]) -> Result<(), AllocError>
-    ensures { OnOk result (out.new.items ≡ out.old.items ++ atom_text (map string_bytes words.now)) }
+    ensures { OnOk result
+        (out.new.items ≡ out.old.items ++ atom_text (map string_bytes words.now)) }
 {
     out.extend_from_slice(b"(")?;
     push_words(out, words)?;

@@ -27,8 +27,8 @@ pub(crate) enum Turn {
     Goes(Step, Option<u32>),
 }
 
-/// The turn of a run in a state and a context, in which the step of this number would be made unless
-/// the run is full.
+/// The turn of a run in a state and a context, in which the step of this number would be made
+/// unless the run is full.
 pub(crate) fn take_turn(
     task: &Task,
     plan: &Plan,
@@ -86,7 +86,8 @@ fn follow(
 fn make_step(task: &Task, number: u64, state: &State, rule: &Advice<'_>, word: u32) -> Turn
     requires in_task { IsAdviceOf (fluent_count task.now) (action_count task.now) rule.now }
     requires within { IsWithin (fluent_count task.now) state.now }
-    requires executable { Exec (system_of task.now) (vector (fluent_count task.now) state.now) rule.now.action.0 }
+    requires executable { Exec (system_of task.now) (vector (fluent_count task.now) state.now)
+        rule.now.action.0 }
     ensures turn { (words : List ℕ) → IsTurn (fluent_count task.now) result words
         (taking (system_of task.now) number (vector (fluent_count task.now) state.now)
         (advice_value rule.now) (word ∷ words)) }
@@ -114,8 +115,10 @@ fn make_step(task: &Task, number: u64, state: &State, rule: &Advice<'_>, word: u
 /// Whether an action can be executed in a state.
 fn is_executable(task: &Task, state: &State, action: ActionId) -> bool
     requires { action.0 < action_count task.now }
-    ensures value { result ≡ can_execute (system_of task.now) (vector (fluent_count task.now) state.now) action.0 }
-    ensures executable { IsTrue result ↔ Exec (system_of task.now) (vector (fluent_count task.now) state.now) action.0 }
+    ensures value { result
+        ≡ can_execute (system_of task.now) (vector (fluent_count task.now) state.now) action.0 }
+    ensures executable { IsTrue result
+        ↔ Exec (system_of task.now) (vector (fluent_count task.now) state.now) action.0 }
 {
     is_exec(task, state, action)
 }

@@ -10,8 +10,18 @@ use crate::worlds::Step;
 fn tell_one(monitor: &mut Box<dyn Monitor>, step: &Step)
     requires small { counted monitor.old ≤ 2 ^ 127 }
     ensures { IsTold (step.now ∷ [])
-        (record { counted = counted monitor.old; title = title monitor.old; weight = weight monitor.old })
-        (record { counted = counted monitor.new; title = title monitor.new; weight = weight monitor.new }) }
+        (record {
+          counted = counted monitor.old;
+          title = title monitor.old;
+          weight = weight
+              monitor.old;
+        })
+        (record {
+          counted = counted monitor.new;
+          title = title monitor.new;
+          weight = weight
+              monitor.new;
+        }) }
 {
     monitor.seen(step);
 }
@@ -20,7 +30,12 @@ fn tell_one(monitor: &mut Box<dyn Monitor>, step: &Step)
 pub(crate) fn tell(monitors: &mut Vec<Box<dyn Monitor>>, step: &Step)
     requires small { All (λ monitor. counted monitor ≤ 2 ^ 127) monitors.old.items }
     ensures { AreTold
-        (λ monitor. record { counted = counted monitor; title = title monitor; weight = weight monitor })
+        (λ monitor. record {
+          counted = counted monitor;
+          title = title monitor;
+          weight = weight
+              monitor;
+        })
         (step.now ∷ []) monitors.old.items monitors.new.items }
 {
     for monitor in monitors.iter_mut() {

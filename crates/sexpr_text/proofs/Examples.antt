@@ -5,7 +5,7 @@ use Rattle.sexpr_text.specs.declared.forms.Span.{Span}
 use Rattle.sexpr_text.specs.declared.faults.FaultKind.TheVariants.{BadByte, LeftOut}
 use Rattle.sexpr_text.specs.Lexis.{is_space, is_word_byte, line_before, place_at, is_in_comment, opens_at, closes_at, is_in_word, is_blank, count_below, depth_at}
 use Rattle.sexpr_text.specs.Forest.{nothing, word, group, join}
-use Rattle.sexpr_text.specs.Kinds.{code_of, name_of, word_of}
+use Rattle.sexpr_text.specs.Kinds.{code_of, kind_name, word_of}
 use Rattle.sexpr_text.specs.Formed.{nesting_of, is_lower_word_byte}
 
 abbrev text : List ℕ
@@ -58,5 +58,5 @@ lower_are : (is_lower_word_byte 97 ≡ true) × (is_lower_word_byte 65 ≡ false
 lower_are = (refl, refl, refl)
 
 -- kinds
-kinds_are : (code_of BadByte ≡ 1) × (name_of BadByte ≡ codes "BadByte") × (word_of BadByte ≡ None) × (word_of (LeftOut (97 ∷ [])) ≡ Some (97 ∷ []))
+kinds_are : (code_of BadByte ≡ 1) × (kind_name BadByte ≡ codes "BadByte") × (word_of BadByte ≡ None) × (word_of (LeftOut (97 ∷ [])) ≡ Some (97 ∷ []))
 kinds_are = (refl, refl, refl, refl)

@@ -13,7 +13,7 @@ use Rattle.sexpr_text.specs.declared.forms.Form.{Form}
 use Rattle.sexpr_text.specs.declared.faults.FaultKind.TheVariants.{TooDeep}
 use Rattle.sexpr_text.specs.Lexis.{is_word_byte, is_in_comment, is_in_word, depth_at}
 use Rattle.sexpr_text.specs.Forest.{Forest, nothing, word, group, forest_of}
-use Rattle.sexpr_text.specs.Spelling.{IsGap, IsWord, IsBetween, Spells}
+use Rattle.sexpr_text.specs.Spelling.{IsGap, IsWordAt, IsBetween, Spells}
 use Rattle.sexpr_text.specs.Faults.{HasNoFaultAt, most_open}
 use Rattle.sexpr_text.specs.Formed.{nesting_of, is_lower_word_byte, IsRising, IsFormed}
 use Rattle.sexpr_text.proofs.Depths.{blank-no_open, blank-no_close, word-no_open, word-no_close, is_in_word-free, is_in_word-comment, depth_at-upto}
@@ -29,7 +29,7 @@ gap_level : (b : List ℕ) (lo hi : ℕ) → IsGap b lo hi → depth_at b hi ≡
 gap_level b lo hi g =
     depth_at-upto b lo hi g.ordered (λ i l u. (blank-no_open b i (g.blank i l u), blank-no_close b i (g.blank i l u)))
 
-word_level : (b : List ℕ) (s : Span) (text : List ℕ) → IsWord b s text → depth_at b s.end ≡ depth_at b s.start
+word_level : (b : List ℕ) (s : Span) (text : List ℕ) → IsWordAt b s text → depth_at b s.end ≡ depth_at b s.start
 word_level b s text g =
     depth_at-upto b s.start s.end (omega (arith, g.nonempty))
     (λ i l u. (word-no_open b i (g.within i l u), word-no_close b i (g.within i l u)))
@@ -77,7 +77,7 @@ lowered c h = by_place (le_or_lt 65 c) (le_or_lt c 90)
     by_place (inl v) (inl w) =
         subst (λ x. is_lower_word_byte x ≡ true) (sym ((lowercase_is c).0 (v, w))) (letter (c + 32) (omega arith) (omega arith))
 
-text_length : (b : List ℕ) (s : Span) (text : List ℕ) → s.end ≤ length b → IsWord b s text → length text + s.start ≡ s.end
+text_length : (b : List ℕ) (s : Span) (text : List ℕ) → s.end ≤ length b → IsWordAt b s text → length text + s.start ≡ s.end
 text_length b s text inside g =
     let plain : length (str_to_ascii_lowercase (slice_range b s.start s.end)) ≡ length (slice_range b s.start s.end) =
     length-map (slice_range b s.start s.end) to_ascii_lowercase in
@@ -85,7 +85,7 @@ text_length b s text inside g =
     length-take (s.end - s.start) (drop s.start b) ∙ ap (min (s.end - s.start)) (length-drop s.start b) in
     omega (arith, ap length g.spelled, plain, part, g.nonempty)
 
-text_bytes : (b : List ℕ) (s : Span) (text : List ℕ) → s.end ≤ length b → IsWord b s text → All (λ c. is_lower_word_byte c ≡ true) text
+text_bytes : (b : List ℕ) (s : Span) (text : List ℕ) → s.end ≤ length b → IsWordAt b s text → All (λ c. is_lower_word_byte c ≡ true) text
 text_bytes b s text inside g =
     subst (All (λ c. is_lower_word_byte c ≡ true)) (sym g.spelled)
     (All-map (λ c. is_lower_word_byte c ≡ true) to_ascii_lowercase (slice_range b s.start s.end) (λ k d u.

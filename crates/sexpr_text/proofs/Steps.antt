@@ -8,7 +8,7 @@ use Rattle.sexpr_text.specs.declared.faults.FaultKind.{FaultKind}
 use Rattle.sexpr_text.specs.declared.faults.FaultKind.TheVariants.{BadByte, StrayClose, TooDeep}
 use Rattle.sexpr_text.specs.Lexis.{is_line_feed, is_semicolon, is_space, is_word_byte, place_at, is_in_word, is_blank, opens_at, closes_at, depth_at}
 use Rattle.sexpr_text.specs.Forest.{Forest, nothing, word, group, join}
-use Rattle.sexpr_text.specs.Spelling.{IsGap, IsWord, IsBetween}
+use Rattle.sexpr_text.specs.Spelling.{IsGap, IsWordAt, IsBetween}
 use Rattle.sexpr_text.specs.Faults.{IsFaultAt, IsBadByte, IsStrayClose, IsTooDeep, most_open}
 use Rattle.sexpr_text.specs.Pending.{Pending}
 use Rattle.sexpr_text.proofs.Lines.{is_comment_open-start}
@@ -126,7 +126,7 @@ read-word b k e ps t span text inside h le within all stops is_span is_text r =
     omega (arith, same) in
     let lt : k < e = past (le_or_lt e k) in
     let ends : is_in_word b e ≡ false = is_in_word-other b e stops in
-    let here : IsWord b (record { start = k; end = e; place = place_at b k }) text = record {
+    let here : IsWordAt b (record { start = k; end = e; place = place_at b k }) text = record {
       nonempty = lt;
       within = in_word;
       begins = r.apart (in_word k (omega arith) lt);

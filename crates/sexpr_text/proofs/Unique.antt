@@ -6,7 +6,7 @@ use Rattle.sexpr_text.specs.declared.forms.Place.{Place}
 use Rattle.sexpr_text.specs.declared.forms.Span.{Span}
 use Rattle.sexpr_text.specs.Lexis.{place_at, is_in_word, is_blank, opens_at, depth_at}
 use Rattle.sexpr_text.specs.Forest.{Forest, nothing, word, group}
-use Rattle.sexpr_text.specs.Spelling.{IsGap, IsWord, IsGroup, IsBetween}
+use Rattle.sexpr_text.specs.Spelling.{IsGap, IsWordAt, IsGroup, IsBetween}
 use Rattle.sexpr_text.proofs.Depths.{blank-no_word, blank-no_open, word-no_open}
 use Rattle.sexpr_text.proofs.Between.{IsBetween-le}
 
@@ -43,11 +43,11 @@ starts_same b lo lo' x y e g h bx by = elim (trichotomy x y) [
 ]
 
 -- no run of a word stops inside another that begins with it
-word_stops : (b : List ℕ) (s t : Span) (u v : List ℕ) → IsWord b s u → IsWord b t v → s.start ≡ t.start → s.end < t.end → ⊥
+word_stops : (b : List ℕ) (s t : Span) (u v : List ℕ) → IsWordAt b s u → IsWordAt b t v → s.start ≡ t.start → s.end < t.end → ⊥
 word_stops b s t u v g h e lt =
     both (is_in_word b s.end) (h.within s.end (omega (arith, g.nonempty)) lt) g.ends
 
-word_ends_same : (b : List ℕ) (s t : Span) (u v : List ℕ) → IsWord b s u → IsWord b t v → s.start ≡ t.start → s.end ≡ t.end
+word_ends_same : (b : List ℕ) (s t : Span) (u v : List ℕ) → IsWordAt b s u → IsWordAt b t v → s.start ≡ t.start → s.end ≡ t.end
 word_ends_same b s t u v g h e = elim (trichotomy s.end t.end) [
   | inl lt ↦ absurd (word_stops b s t u v g h e lt)
   | inr (inl same) ↦ same
@@ -74,7 +74,7 @@ same_span s t e f g =
     let by_place : Place → Span = λ x. record { start = t.start; end = t.end; place = x } in
     ap by_start e ∙ (ap by_end f ∙ ap by_place g)
 
-same_text : (b : List ℕ) (s t : Span) (u v : List ℕ) → IsWord b s u → IsWord b t v → s.start ≡ t.start → s.end ≡ t.end → u ≡ v
+same_text : (b : List ℕ) (s t : Span) (u v : List ℕ) → IsWordAt b s u → IsWordAt b t v → s.start ≡ t.start → s.end ≡ t.end → u ≡ v
 same_text b s t u v g h e f =
     g.spelled
     ∙ (ap (λ x. str_to_ascii_lowercase (slice_range b x s.end)) e
@@ -91,7 +91,7 @@ nothing_there : (b : List ℕ) (lo lo' hi hi' : ℕ) (span : Span) → lo ≡ lo
 nothing_there b lo lo' hi hi' span e f g h no_blank lt =
     no_later b lo span.start hi (omega (arith, h.ordered)) g no_blank (omega arith)
 
-word_starts : (b : List ℕ) (s : Span) (u : List ℕ) → IsWord b s u → is_in_word b s.start ≡ true
+word_starts : (b : List ℕ) (s : Span) (u : List ℕ) → IsWordAt b s u → is_in_word b s.start ≡ true
 word_starts b s u g = g.within s.start (omega arith) g.nonempty
 
 pub IsBetween-unique : (b : List ℕ) (lo lo' hi hi' : ℕ) (s t : Forest) → lo ≡ lo' → hi ≡ hi' → IsBetween b lo hi s → IsBetween b lo' hi' t → s ≡ t

@@ -1,7 +1,8 @@
 -- The classes of bytes, outside comments.
 use Rattle.std.specs.Prelude.{◌≡◌, ℕ, ◌==◌, true, false}
 use Rattle.sexpr_text.specs.declared.bytes.Class.{Class}
-use Rattle.sexpr_text.specs.declared.bytes.Class.TheVariants.{LineFeed, Space, Semicolon, Open, Close, OfWord, Bad}
+use Rattle.sexpr_text.specs.declared.bytes.Class.TheVariants.{LineFeed, Space, Semicolon, Open}
+use Rattle.sexpr_text.specs.declared.bytes.Class.TheVariants.{Close, OfWord, Bad}
 use Rattle.sexpr_text.specs.Lexis.{is_line_feed, is_semicolon, is_space, is_word_byte}
 
 -- a bad byte, as no test holds of it

@@ -1,7 +1,8 @@
 -- Which lexical fault a text has.
 use Rattle.std.specs.Prelude.{◌≡◌, ℕ, ◌<◌, ◌≤◌, ◌⊎◌, true, false, List, length}
 use Rattle.sexpr_text.specs.declared.faults.FaultKind.{FaultKind}
-use Rattle.sexpr_text.specs.declared.faults.FaultKind.TheVariants.{BadByte, StrayClose, OpenAtEnd, TooDeep}
+use Rattle.sexpr_text.specs.declared.faults.FaultKind.TheVariants.{BadByte, StrayClose, OpenAtEnd}
+use Rattle.sexpr_text.specs.declared.faults.FaultKind.TheVariants.{TooDeep}
 use Rattle.sexpr_text.specs.declared.faults.InputFault.{InputFault}
 use Rattle.sexpr_text.specs.Lexis.{place_at, opens_at, closes_at, is_in_word, is_blank, depth_at}
 
@@ -64,4 +65,5 @@ abbrev pub HasFault : List ℕ → InputFault → Type 0
 HasFault b fault =
     (k : ℕ)
     × (fault.place ≡ place_at b k)
-    × (IsFirstFault b k fault.kind ⊎ (HasNoFaultAt b × (fault.kind ≡ OpenAtEnd) × IsFirstNeverClosed b k))
+    × (IsFirstFault b k fault.kind
+    ⊎ (HasNoFaultAt b × (fault.kind ≡ OpenAtEnd) × IsFirstNeverClosed b k))

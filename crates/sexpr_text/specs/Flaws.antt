@@ -1,7 +1,8 @@
--- What is wrong in a text, pass by pass. A reader goes over a text in passes; each pass has a list of
--- everything that is wrong in the text by its rules, wherever it stands. The fault of the text is then
--- the first flaw of the first pass that has one.
-use Rattle.std.specs.Prelude.{◌≡◌, ℕ, suc, ◌==◌, ◌≤◌, nat_lt, nat_le, true, Bool, ◌&&◌, ◌||◌, if◌then◌else◌, List, [], ◌∷◌, Option, Some, None, Contains}
+-- What is wrong in a text, pass by pass. A reader goes over a text in passes; each pass has a list
+-- of everything that is wrong in the text by its rules, wherever it stands. The fault of the text
+-- is then the first flaw of the first pass that has one.
+use Rattle.std.specs.Prelude.{◌≡◌, ℕ, suc, ◌==◌, ◌≤◌, nat_lt, nat_le, true, Bool, ◌&&◌, ◌||◌}
+use Rattle.std.specs.Prelude.{if◌then◌else◌, List, [], ◌∷◌, Option, Some, None, Contains}
 use Rattle.std.specs.Option.{option_map}
 use Rattle.sexpr_text.specs.declared.forms.Span.{Span}
 use Rattle.sexpr_text.specs.declared.faults.FaultKind.{FaultKind}
@@ -15,9 +16,11 @@ pub record Flaw : Type 0 where
 
 -- a flaw of this kind at a form, which begins where its span begins
 abbrev pub flaw_at : Span → FaultKind → Flaw
-flaw_at span kind = record { offset = span.start; fault = record { kind = kind; place = span.place } }
+flaw_at span kind =
+    record { offset = span.start; fault = record { kind = kind; place = span.place } }
 
--- whether a flaw comes no later than another: at a lesser offset, or at the same one with no greater code
+-- whether a flaw comes no later than another: at a lesser offset, or at the same one with no
+-- greater code
 abbrev pub comes_first : Flaw → Flaw → Bool
 comes_first f g =
     nat_lt f.offset g.offset
@@ -44,8 +47,8 @@ pub record IsFirstOf (flaws : List Flaw) (f : Flaw) : Type 0 where
   pub listed : Contains flaws f
   pub least : (g : Flaw) → Contains flaws g → comes_first f g ≡ true
 
--- Private: the fault of the flaw that a list begins with. A pass lists its flaws in the order of the
--- text, so that this is the first of them all (`listed_in_order`)
+-- Private: the fault of the flaw that a list begins with. A pass lists its flaws in the order of
+-- the text, so that this is the first of them all (`listed_in_order`)
 abbrev pub first_listed : List Flaw → Option InputFault
 first_listed [] = None
 first_listed (f ∷ fs) = Some f.fault

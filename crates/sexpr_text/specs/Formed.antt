@@ -1,5 +1,6 @@
 -- What holds of all forms that were read, whatever the text.
-use Rattle.std.specs.Prelude.{◌≡◌, ℕ, ◌+◌, ◌-◌, ◌<◌, ◌≤◌, max, Bool, true, ◌&&◌, not, List, All, nat_le, length}
+use Rattle.std.specs.Prelude.{◌≡◌, ℕ, ◌+◌, ◌-◌, ◌<◌, ◌≤◌, max, Bool, true, ◌&&◌, not, List, All}
+use Rattle.std.specs.Prelude.{nat_le, length}
 use Rattle.sexpr_text.specs.declared.forms.Form.{Form}
 use Rattle.sexpr_text.specs.Lexis.{is_word_byte}
 use Rattle.sexpr_text.specs.Forest.{Forest, nothing, word, group, forest_of}
@@ -20,10 +21,12 @@ is_lower_word_byte c = is_word_byte c && not (nat_le 65 c && nat_le c 90)
 abbrev pub IsRising : ℕ → ℕ → Forest → Type 0
 IsRising lo hi nothing = lo ≤ hi
 IsRising lo hi (word span text rest) =
-    (lo ≤ span.start) × (span.start < span.end) × (length text + span.start ≡ span.end) × All (λ c. is_lower_word_byte c ≡ true) text
+    (lo ≤ span.start) × (span.start < span.end) × (length text + span.start ≡ span.end)
+    × All (λ c. is_lower_word_byte c ≡ true) text
     × IsRising span.end hi rest
 IsRising lo hi (group span parts rest) =
-    (lo ≤ span.start) × (span.start + 2 ≤ span.end) × IsRising (span.start + 1) (span.end - 1) parts × IsRising span.end hi rest
+    (lo ≤ span.start) × (span.start + 2 ≤ span.end) × IsRising (span.start + 1) (span.end - 1) parts
+    × IsRising span.end hi rest
 
 -- forms as read from a text of this many bytes: at most 200 groups in one another, spans nested and
 -- rising, words as above

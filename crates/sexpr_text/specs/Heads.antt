@@ -1,6 +1,7 @@
 -- The views of forms through references, as forests.
 use Rattle.sexpr_text.specs.declared.parts.Head.{Head}
-use Rattle.sexpr_text.specs.declared.parts.Head.TheVariants.{Nothing, Word as head_word, Group as head_group}
+use Rattle.sexpr_text.specs.declared.parts.Head.TheVariants.{Nothing, Word as head_word}
+use Rattle.sexpr_text.specs.declared.parts.Head.TheVariants.{Group as head_group}
 use Rattle.sexpr_text.specs.declared.parts.View.{View}
 use Rattle.sexpr_text.specs.declared.parts.View.TheVariants.{Word, Group}
 use Rattle.sexpr_text.specs.Forest.{Forest, nothing, word, group, forest_of}

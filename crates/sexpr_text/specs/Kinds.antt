@@ -1,7 +1,16 @@
 -- The number, the name and the word of each kind of fault.
 use Rattle.std.specs.Prelude.{ℕ, List, Option, Some, None, codes}
 use Rattle.sexpr_text.specs.declared.faults.FaultKind.{FaultKind}
-use Rattle.sexpr_text.specs.declared.faults.FaultKind.TheVariants.{BadByte, StrayClose, OpenAtEnd, TooDeep, NoDefine, BadForm, UnknownName, DoubleName, WrongArity, TypeLoop, ReservedName, EmptyOneof, LeftOut, OtherDomain, GoalMissing, GoalTwice, WrongGoalKind, NotChain, QuantifiedGoal, UnknownAction, BadNumber, WrongPlanKind}
+use Rattle.sexpr_text.specs.declared.faults.FaultKind.TheVariants.{BadByte, StrayClose, OpenAtEnd}
+use Rattle.sexpr_text.specs.declared.faults.FaultKind.TheVariants.{TooDeep, NoDefine, BadForm}
+use Rattle.sexpr_text.specs.declared.faults.FaultKind.TheVariants.{UnknownName, DoubleName}
+use Rattle.sexpr_text.specs.declared.faults.FaultKind.TheVariants.{WrongArity, TypeLoop}
+use Rattle.sexpr_text.specs.declared.faults.FaultKind.TheVariants.{ReservedName, EmptyOneof}
+use Rattle.sexpr_text.specs.declared.faults.FaultKind.TheVariants.{LeftOut, OtherDomain}
+use Rattle.sexpr_text.specs.declared.faults.FaultKind.TheVariants.{GoalMissing, GoalTwice}
+use Rattle.sexpr_text.specs.declared.faults.FaultKind.TheVariants.{WrongGoalKind, NotChain}
+use Rattle.sexpr_text.specs.declared.faults.FaultKind.TheVariants.{QuantifiedGoal, UnknownAction}
+use Rattle.sexpr_text.specs.declared.faults.FaultKind.TheVariants.{BadNumber, WrongPlanKind}
 
 -- the number and the name of each kind
 abbrev pub entry_of : FaultKind → ℕ × List ℕ
@@ -31,8 +40,8 @@ entry_of WrongPlanKind = (22, codes "WrongPlanKind")
 abbrev pub code_of : FaultKind → ℕ
 code_of kind = (entry_of kind).0
 
-abbrev pub name_of : FaultKind → List ℕ
-name_of kind = (entry_of kind).1
+abbrev pub kind_name : FaultKind → List ℕ
+kind_name kind = (entry_of kind).1
 
 -- the word that is left out
 abbrev pub word_of : FaultKind → Option (List ℕ)

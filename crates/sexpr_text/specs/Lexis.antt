@@ -1,5 +1,6 @@
 -- What stands at an offset of a text. A text is a list of bytes, and an offset counts them from 0.
-use Rattle.std.specs.Prelude.{ℕ, zero, suc, ◌+◌, ◌-◌, ◌==◌, nat_le, Bool, ◌&&◌, ◌||◌, not, if◌then◌else◌, List, length, take, count_by, slice_index}
+use Rattle.std.specs.Prelude.{ℕ, zero, suc, ◌+◌, ◌-◌, ◌==◌, nat_le, Bool, ◌&&◌, ◌||◌, not}
+use Rattle.std.specs.Prelude.{if◌then◌else◌, List, length, take, count_by, slice_index}
 use Rattle.std.specs.List.{after_last, list_any}
 use Rattle.sexpr_text.specs.declared.forms.Place.{Place}
 
@@ -26,10 +27,11 @@ line_before b k = after_last is_line_feed (take k b)
 -- the line is 1 plus the number of line feeds before the offset; the column is 1 plus the number of
 -- bytes since the last of them, or since the start
 unfoldable pub place_at : List ℕ → ℕ → Place
-place_at b k = record { line = 1 + count_by is_line_feed (take k b); column = 1 + length (line_before b k) }
+place_at b k =
+    record { line = 1 + count_by is_line_feed (take k b); column = 1 + length (line_before b k) }
 
--- whether the byte at offset k is in a comment: its line has a `;` at or before it. A line feed ends
--- its line, so it is in none
+-- whether the byte at offset k is in a comment: its line has a `;` at or before it. A line feed
+-- ends its line, so it is in none
 unfoldable pub is_in_comment : List ℕ → ℕ → Bool
 is_in_comment b k = list_any is_semicolon (line_before b (suc k))
 

@@ -1,5 +1,6 @@
 -- Forms with their places, one after the other: what readers ask of a row of forms.
-use Rattle.std.specs.Prelude.{ℕ, ◌==◌, Bool, true, false, ◌&&◌, not, if◌then◌else◌, List, [], ◌∷◌, ◌++◌, Option, Some, None, codes, slice_index}
+use Rattle.std.specs.Prelude.{ℕ, ◌==◌, Bool, true, false, ◌&&◌, not, if◌then◌else◌, List, [], ◌∷◌}
+use Rattle.std.specs.Prelude.{◌++◌, Option, Some, None, codes, slice_index}
 use Rattle.std.specs.Option.{option_and_then}
 use Rattle.std.specs.Str.{bytes_eq}
 use Rattle.sexpr_text.specs.declared.forms.Span.{Span}
@@ -41,7 +42,8 @@ after_first (group span parts rest) = rest
 abbrev pub after_word : List ℕ → Forest → Option Forest
 after_word w row = if begins_with w row then Some (after_first row) else None
 
--- `WORD (PARTS ..)`, as `not (at a)`: the span and the parts of the group that is all that follows the word
+-- `WORD (PARTS ..)`, as `not (at a)`: the span and the parts of the group that is all that follows
+-- the word
 abbrev pub group_after : List ℕ → Forest → Option (Span × Forest)
 group_after w row = option_and_then only_group (after_word w row)
 
@@ -49,11 +51,14 @@ group_after w row = option_and_then only_group (after_word w row)
 abbrev pub first_group_with : (Forest → Bool) → Forest → Option (Span × Forest)
 first_group_with test nothing = None
 first_group_with test (word span text rest) = first_group_with test rest
-first_group_with test (group span parts rest) = if test parts then Some (span, parts) else first_group_with test rest
+first_group_with test (group span parts rest) =
+    if test parts then Some (span, parts) else first_group_with test rest
 
 -- a name is a word that is not `-` and does not begin with `?` or `:`
 abbrev pub is_name : List ℕ → Bool
-is_name text = not (bytes_eq text (codes "-")) && not (slice_index text 0 == 63) && not (slice_index text 0 == 58)
+is_name text =
+    not (bytes_eq text (codes "-")) && not (slice_index text 0 == 63)
+    && not (slice_index text 0 == 58)
 
 -- `KIND NAME`, as `domain slip`
 abbrev pub is_titled : List ℕ → Forest → Bool
@@ -61,7 +66,8 @@ is_titled kind nothing = false
 is_titled kind (group span parts rest) = false
 is_titled kind (word span text nothing) = false
 is_titled kind (word span text (group s parts rest)) = false
-is_titled kind (word span text (word s title rest)) = bytes_eq text kind && is_name title && is_nothing rest
+is_titled kind (word span text (word s title rest)) =
+    bytes_eq text kind && is_name title && is_nothing rest
 
 -- `define (KIND NAME) ..`
 abbrev pub is_definition : List ℕ → Forest → Bool
@@ -69,10 +75,11 @@ is_definition kind nothing = false
 is_definition kind (group span parts rest) = false
 is_definition kind (word span text nothing) = false
 is_definition kind (word span text (word s title rest)) = false
-is_definition kind (word span text (group s parts rest)) = bytes_eq text (codes "define") && is_titled kind parts
+is_definition kind (word span text (group s parts rest)) =
+    bytes_eq text (codes "define") && is_titled kind parts
 
--- the flaws of a row in which each form is to be a group: each word is BadForm at it, and each group has
--- the flaws that the function lists of its span and its parts
+-- the flaws of a row in which each form is to be a group: each word is BadForm at it, and each
+-- group has the flaws that the function lists of its span and its parts
 abbrev pub flaws_of_groups : (Span → Forest → List Flaw) → Forest → List Flaw
 flaws_of_groups flaws nothing = []
 flaws_of_groups flaws (word span text rest) = flaw_at span BadForm ∷ flaws_of_groups flaws rest

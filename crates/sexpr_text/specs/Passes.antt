@@ -1,5 +1,5 @@
--- A text that is read in passes: what it spells, and which fault it has. The lexis is the first pass; the
--- others look at the forms, and each lists everything that is wrong in them by its rules.
+-- A text that is read in passes: what it spells, and which fault it has. The lexis is the first
+-- pass; the others look at the forms, and each lists everything that is wrong in them by its rules.
 use Rattle.std.specs.Prelude.{◌≡◌, ◌⊎◌, ℕ, List, Some, None, ⊤}
 use Rattle.sexpr_text.specs.declared.faults.InputFault.{InputFault}
 use Rattle.sexpr_text.specs.declared.faults.ReadErr.{ReadErr}
@@ -10,11 +10,14 @@ use Rattle.sexpr_text.specs.Faults.{HasFault}
 use Rattle.sexpr_text.specs.Flaws.{Flaw, fault_of_passes}
 
 -- the bytes spell forms in which no pass lists a flaw, and which read as this
-abbrev pub SpellsBy : {X : Type 0} → (Forest → List (List Flaw)) → (Forest → X) → List ℕ → X → Type 0
+abbrev pub SpellsBy : {X : Type 0} → (Forest → List (List Flaw)) → (Forest → X) → List ℕ → X
+    → Type 0
 SpellsBy passes tree bytes x =
-    (trees : Forest) × SpellsTrees bytes trees × (fault_of_passes (passes trees) ≡ None) × (tree trees ≡ x)
+    (trees : Forest) × SpellsTrees bytes trees × (fault_of_passes (passes trees) ≡ None)
+    × (tree trees ≡ x)
 
--- the fault of the bytes is their lexical fault, or that of the passes over the forms that they spell
+-- the fault of the bytes is their lexical fault, or that of the passes over the forms that they
+-- spell
 abbrev pub HasFaultBy : (Forest → List (List Flaw)) → List ℕ → InputFault → Type 0
 HasFaultBy passes bytes fault =
     HasFault bytes fault

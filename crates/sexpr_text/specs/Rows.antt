@@ -1,10 +1,11 @@
 -- Forms without their places: what a grammar over the forms of a text speaks of.
 use Rattle.std.specs.Prelude.{◌≡◌, ◌⊎◌, ℕ, List, [], ◌∷◌, ⊤}
 use Rattle.sexpr_text.specs.declared.forms.Form.{Form}
-use Rattle.sexpr_text.specs.Forest.{Forest, nothing, word as placed_word, group as placed_group, form_then, forest_of}
+use Rattle.sexpr_text.specs.Forest.{Forest, nothing, word as placed_word, group as placed_group}
+use Rattle.sexpr_text.specs.Forest.{form_then, forest_of}
 
--- forms in a row: none; or a word and the row that follows it; or the row between two parentheses and
--- the row that follows them
+-- forms in a row: none; or a word and the row that follows it; or the row between two parentheses
+-- and the row that follows them
 pub data Row : Type 0 where
   nil : Row
   word : List ℕ → Row → Row
@@ -28,7 +29,8 @@ abbrev pub words : List (List ℕ) → Row
 words [] = nil
 words (w ∷ ws) = word w (words ws)
 
--- a row of groups, one for each item and in their order, where R says what a group's parts say of its item
+-- a row of groups, one for each item and in their order, where R says what a group's parts say of
+-- its item
 abbrev pub EachGroup : {X : Type 0} → (Row → X → Type 0) → Row → List X → Type 0
 EachGroup R nil [] = ⊤
 EachGroup R nil (x ∷ xs) = ⊥

@@ -1,5 +1,6 @@
 -- Which forms a text spells, looked at by offsets.
-use Rattle.std.specs.Prelude.{◌≡◌, ℕ, suc, ◌+◌, ◌-◌, ◌<◌, ◌≤◌, true, false, List, length, slice_range}
+use Rattle.std.specs.Prelude.{◌≡◌, ℕ, suc, ◌+◌, ◌-◌, ◌<◌, ◌≤◌, true, false, List, length}
+use Rattle.std.specs.Prelude.{slice_range}
 use Rattle.std.specs.Str.{str_to_ascii_lowercase}
 use Rattle.sexpr_text.specs.declared.forms.Span.{Span}
 use Rattle.sexpr_text.specs.declared.forms.Form.{Form}
@@ -13,7 +14,7 @@ pub record IsGap (b : List ℕ) (lo hi : ℕ) : Type 0 where
   pub blank : (k : ℕ) → lo ≤ k → k < hi → is_blank b k ≡ true
 
 -- the span is a longest run of bytes of words, and the text is that run in lower case
-pub record IsWord (b : List ℕ) (span : Span) (text : List ℕ) : Type 0 where
+pub record IsWordAt (b : List ℕ) (span : Span) (text : List ℕ) : Type 0 where
   pub nonempty : span.start < span.end
   pub within : (k : ℕ) → span.start ≤ k → k < span.end → is_in_word b k ≡ true
   pub begins : (k : ℕ) → suc k ≡ span.start → is_in_word b k ≡ false
@@ -34,9 +35,11 @@ pub record IsGroup (b : List ℕ) (span : Span) : Type 0 where
 -- space and comments aside; the parts of a group are what stands between its parentheses
 abbrev pub IsBetween : List ℕ → ℕ → ℕ → Forest → Type 0
 IsBetween b lo hi nothing = IsGap b lo hi
-IsBetween b lo hi (word span text rest) = IsGap b lo span.start × IsWord b span text × IsBetween b span.end hi rest
+IsBetween b lo hi (word span text rest) =
+    IsGap b lo span.start × IsWordAt b span text × IsBetween b span.end hi rest
 IsBetween b lo hi (group span parts rest) =
-    IsGap b lo span.start × IsGroup b span × IsBetween b (span.start + 1) (span.end - 1) parts × IsBetween b span.end hi rest
+    IsGap b lo span.start × IsGroup b span × IsBetween b (span.start + 1) (span.end - 1) parts
+    × IsBetween b span.end hi rest
 
 -- the text has no lexical fault, and these are its trees
 pub record SpellsTrees (b : List ℕ) (trees : Forest) : Type 0 where

@@ -2,7 +2,7 @@
 
 ghost use Rattle.std.specs.Prelude.{◌≡◌};
 ghost use Rattle.std.specs.Option.{option_copied};
-ghost use Rattle.sexpr_text.specs.Kinds.{code_of, entry_of, name_of, word_of};
+ghost use Rattle.sexpr_text.specs.Kinds.{code_of, entry_of, kind_name, word_of};
 ghost use Rattle.sexpr_text.specs.declared.faults.ReadErr.TheVariants.{Memory};
 
 use crate::forms::Place;
@@ -98,7 +98,7 @@ impl FaultKind {
 
     /// The name of the kind, as it is written above.
     pub fn name(&self) -> &'static str
-        ensures { result.now ≡ name_of self.now }
+        ensures { result.now ≡ kind_name self.now }
     {
         self.entry().1
     }

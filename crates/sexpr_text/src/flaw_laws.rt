@@ -1,5 +1,5 @@
-//! What holds of the flaws of passes, whatever the passes. Each law is a function that does nothing, so
-//! that callers' proofs can cite it.
+//! What holds of the flaws of passes, whatever the passes. Each law is a function that does
+//! nothing, so that callers' proofs can cite it.
 
 ghost use Rattle.std.specs.Prelude.{
   ◌≡◌,
@@ -30,14 +30,15 @@ ghost use Rattle.sexpr_text.specs.Ordered.{AreGroupFlaws, IsFlawless};
 ghost use Rattle.sexpr_text.specs.Parts.{flaws_of_groups};
 ghost use Rattle.sexpr_text.specs.Passes.{HasFaultBy};
 
-/// The first of a list of flaws is one of them that no other comes before; only the empty list has none.
+/// The first of a list of flaws is one of them that no other comes before; only the empty list has
+/// none.
 pub fn first_is_least()
     ensures least { (flaws : List Flaw) (f : Flaw) → first_of flaws ≡ Some f → IsFirstOf flaws f }
     ensures none { (flaws : List Flaw) → first_of flaws ≡ None → flaws ≡ [] }
 {}
 
-/// Flaws in order: the first is the one that the list begins with. A list may begin at a lesser offset
-/// and end at a greater one, and two lists in order are one.
+/// Flaws in order: the first is the one that the list begins with. A list may begin at a lesser
+/// offset and end at a greater one, and two lists in order are one.
 pub fn listed_in_order()
     ensures first { (lo hi : ℕ) (flaws : List Flaw) → IsInOrder lo hi flaws
         → option_map (λ (f : Flaw). f.fault) (first_of flaws) ≡ first_listed flaws }
@@ -51,12 +52,13 @@ pub fn listed_in_order()
 
 /// Flaws of groups that are in order within each group are in order in a row of groups.
 pub fn groups_in_order()
-    ensures { (flaws : Span → Forest → List Flaw) → AreGroupFlaws flaws → (lo hi : ℕ) (row : Forest) → IsRising lo hi row
+    ensures { (flaws : Span → Forest → List Flaw) → AreGroupFlaws flaws → (lo hi : ℕ) (row : Forest)
+        → IsRising lo hi row
         → IsInOrder lo hi (flaws_of_groups flaws row) }
 {}
 
-/// The fault of passes: that of the passes that follow a pass without flaws, and of a pass whose flaws
-/// are in order the one that they begin with.
+/// The fault of passes: that of the passes that follow a pass without flaws, and of a pass whose
+/// flaws are in order the one that they begin with.
 pub fn passes_in_order()
     ensures none { fault_of_passes [] ≡ None }
     ensures later { (passes : List (List Flaw))
@@ -66,7 +68,8 @@ pub fn passes_in_order()
         → fault_of_passes (flaws ∷ passes) ≡ Some fault }
 {}
 
-/// Every text spells forms in which no pass lists a flaw, or has a fault; never both, and never two.
+/// Every text spells forms in which no pass lists a flaw, or has a fault; never both, and never
+/// two.
 pub fn flawless_or_faulty()
     ensures answered { (passes : Forest → List (List Flaw)) (b : List ℕ)
         → ((trees : Forest) × IsFlawless passes b trees)

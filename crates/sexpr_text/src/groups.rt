@@ -22,8 +22,9 @@ pub fn fault_at(span: Span, kind: FaultKind) -> ReadErr
     })
 }
 
-/// A reader of one group. `Tree` is the plain tree of an item; `tree` says what a group's parts stand
-/// for, and `flaws` what is wrong in a group with this span and these parts, in the order of the text.
+/// A reader of one group. `Tree` is the plain tree of an item; `tree` says what a group's parts
+/// stand for, and `flaws` what is wrong in a group with this span and these parts, in the order of
+/// the text.
 pub trait GroupReader {
     type Item: Drop;
 
@@ -43,14 +44,15 @@ pub trait GroupReader {
             first_listed (flaws self.now span (forest_of parts.now)) ≡ Some fault)) };
 }
 
-/// The items that the groups of a row stand for, in order, or the first flaw: a word in the row, or one
-/// of a group.
+/// The items that the groups of a row stand for, in order, or the first flaw: a word in the row, or
+/// one of a group.
 pub fn read_groups<R: GroupReader>(
     alloc: Global,
     reader: &R,
     row: &[Form],
 ) -> Result<Vec<R::Item>, ReadErr>
-    ensures sound { IfOk result (λ items. flaws_of_groups (R.flaws reader.now) (forest_of row.now) ≡ []) }
+    ensures sound { IfOk result
+        (λ items. flaws_of_groups (R.flaws reader.now) (forest_of row.now) ≡ []) }
     ensures read { IfOk result (λ items.
         map R.plain items.items ≡ each_group (R.tree reader.now) (forest_of row.now)) }
     ensures fault { IfErr result (λ e. IfFault e (λ fault.

@@ -1,5 +1,6 @@
 //! What holds of every text, whatever its length: it spells exactly one list of forms, or it has
-//! exactly one fault. Each law is a function that does nothing, so that callers' proofs can cite it.
+//! exactly one fault. Each law is a function that does nothing, so that callers' proofs can cite
+//! it.
 
 ghost use Rattle.std.specs.Prelude.{◌≡◌, ℕ, List, ◌⊎◌};
 ghost use Rattle.sexpr_text.specs.declared.faults.InputFault.{InputFault};
@@ -11,7 +12,8 @@ ghost use Rattle.sexpr_text.specs.Faults.{HasFault};
 /// No text spells two lists of forms: they stand for the same trees.
 pub fn one_spelling()
     ensures trees { (b : List ℕ) (s t : Forest) → SpellsTrees b s → SpellsTrees b t → s ≡ t }
-    ensures forms { (b : List ℕ) (fs gs : List Form) → Spells b fs → Spells b gs → forest_of fs ≡ forest_of gs }
+    ensures forms { (b : List ℕ) (fs gs : List Form) → Spells b fs → Spells b gs → forest_of fs
+        ≡ forest_of gs }
 {}
 
 /// No text has two faults.

@@ -46,7 +46,8 @@ impl Nest {
     // The place of the outermost open parenthesis, if there is one.
     pub fn first_open(&self) -> Option<Place>
         ensures { MatchOption result (pending_in self.now ≡ [])
-            (λ place. (first : Pending) × (others : List Pending) × (pending_in self.now ≡ first ∷ others) × (place ≡ first.place)) }
+            (λ place. (first : Pending) × (others : List Pending)
+            × (pending_in self.now ≡ first ∷ others) × (place ≡ first.place)) }
     {
         match self.pending.first() {
             Some(open) => Some(open.place),
@@ -57,7 +58,8 @@ impl Nest {
     // Adds a word after the other forms.
     pub fn add_word(&mut self, span: Span, text: Text) -> Result<(), AllocError>
         ensures pending { OnOk result (pending_in self.new ≡ pending_in self.old) }
-        ensures trees { OnOk result (trees_in self.new ≡ join (trees_in self.old) (word span text nothing)) }
+        ensures trees { OnOk result
+            (trees_in self.new ≡ join (trees_in self.old) (word span text nothing)) }
     {
         self.parts.push(Form::Word(span, text))?;
         Ok(())
@@ -65,7 +67,11 @@ impl Nest {
 
     // Opens a group at this offset.
     pub fn open(&mut self, alloc: Global, start: u32, place: Place) -> Result<(), AllocError>
-        ensures pending { let opened : Pending = record { start = start; place = place; before = trees_in self.old } in
+        ensures pending { let opened : Pending = record {
+          start = start;
+          place = place;
+          before = trees_in self.old;
+        } in
             OnOk result (pending_in self.new ≡ pending_in self.old ++ opened ∷ []) }
         ensures trees { OnOk result (trees_in self.new ≡ nothing) }
     {
@@ -83,7 +89,10 @@ impl Nest {
         requires { 0 < length (pending_in self.old) }
         ensures { OnOk result ((opened : Pending)
             × (pending_in self.old ≡ pending_in self.new ++ opened ∷ [])
-            × (trees_in self.new ≡ join opened.before (group (record { start = opened.start; end = end; place = opened.place }) (trees_in self.old) nothing))) }
+            × (trees_in self.new
+            ≡ join opened.before
+            (group (record { start = opened.start; end = end; place = opened.place })
+            (trees_in self.old) nothing))) }
     {
         let opened = self.pending.pop().unwrap();
         let parts = mem::replace(&mut self.parts, opened.before);

@@ -11,8 +11,8 @@ use crate::texts::Text;
 /// The length of the longest numeral.
 const MAX_DIGITS: usize = 9;
 
-/// The number that a word of one to nine decimal digits writes; every other word writes none. It may
-/// begin with zeros.
+/// The number that a word of one to nine decimal digits writes; every other word writes none. It
+/// may begin with zeros.
 pub fn numeral(text: &Text) -> Option<u32>
     ensures { result ≡ numerals.numeral text.now }
 {

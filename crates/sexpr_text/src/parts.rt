@@ -1,6 +1,6 @@
-//! What readers of domains, problems, plans and records ask of a row of forms: the first form and what
-//! follows it, a word or a group alone, what follows a word, and the first group of a kind. Each
-//! answers by looking at the row's first few forms alone, but for `first_group` and
+//! What readers of domains, problems, plans and records ask of a row of forms: the first form and
+//! what follows it, a word or a group alone, what follows a word, and the first group of a kind.
+//! Each answers by looking at the row's first few forms alone, but for `first_group` and
 //! `first_definition`, which look at each form of the row until they find one.
 
 ghost use Rattle.std.specs.Prelude.{◌≡◌, ◌↔◌, ℕ, Bool, true, IsTrue};
@@ -77,7 +77,8 @@ pub fn only_word(row: &[Form]) -> Option<(Span, &Text)>
 
 /// The span and the parts of the group that is the whole row.
 pub fn only_group(row: &[Form]) -> Option<(Span, &[Form])>
-    ensures { option_map (λ p. (p.0, forest_of p.1.now)) result ≡ parts.only_group (forest_of row.now) }
+    ensures { option_map (λ p. (p.0, forest_of p.1.now)) result
+        ≡ parts.only_group (forest_of row.now) }
 {
     match head_of(row) {
         Head::Group(span, parts, rest) => {
@@ -103,7 +104,8 @@ pub fn begins_with(row: &[Form], word: &[u8]) -> bool
 
 /// What follows the word, where the row begins with it.
 pub fn after_word<'a>(row: &'a [Form], word: &[u8]) -> Option<&'a [Form]>
-    ensures { option_map (λ rest. forest_of rest.now) result ≡ parts.after_word word.now (forest_of row.now) }
+    ensures { option_map (λ rest. forest_of rest.now) result
+        ≡ parts.after_word word.now (forest_of row.now) }
 {
     match head_of(row) {
         Head::Word(_, text, rest) if text.is(word) => Some(rest),
@@ -111,9 +113,11 @@ pub fn after_word<'a>(row: &'a [Form], word: &[u8]) -> Option<&'a [Form]>
     }
 }
 
-/// The span and the parts of the group that is all that follows the word, where the row begins with it.
+/// The span and the parts of the group that is all that follows the word, where the row begins with
+/// it.
 pub fn group_after<'a>(row: &'a [Form], word: &[u8]) -> Option<(Span, &'a [Form])>
-    ensures { option_map (λ p. (p.0, forest_of p.1.now)) result ≡ parts.group_after word.now (forest_of row.now) }
+    ensures { option_map (λ p. (p.0, forest_of p.1.now)) result
+        ≡ parts.group_after word.now (forest_of row.now) }
 {
     only_group(after_word(row, word)?)
 }

@@ -10,7 +10,8 @@ pub fn word_end(bytes: &[u8], start: usize) -> usize
     requires { start ≤ length bytes.now }
     ensures after { start ≤ result }
     ensures within { result ≤ length bytes.now }
-    ensures word { (k : ℕ) → start ≤ k → k < result → is_word_byte (slice_index bytes.now k) ≡ true }
+    ensures word { (k : ℕ) → start ≤ k → k < result → is_word_byte (slice_index bytes.now k)
+        ≡ true }
     ensures stops { is_word_byte (slice_index bytes.now result) ≡ false }
 {
     let mut end = start;
@@ -25,7 +26,8 @@ pub fn comment_end(bytes: &[u8], start: usize) -> usize
     requires { start ≤ length bytes.now }
     ensures after { start ≤ result }
     ensures within { result ≤ length bytes.now }
-    ensures comment { (k : ℕ) → start ≤ k → k < result → is_line_feed (slice_index bytes.now k) ≡ false }
+    ensures comment { (k : ℕ) → start ≤ k → k < result → is_line_feed (slice_index bytes.now k)
+        ≡ false }
     ensures stops { result < length bytes.now → is_line_feed (slice_index bytes.now result) ≡ true }
 {
     let mut end = start;

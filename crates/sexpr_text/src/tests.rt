@@ -1,5 +1,5 @@
-//! What the reader answers to texts with known answers. The expected answers are written by hand from
-//! the rules of the lexis.
+//! What the reader answers to texts with known answers. The expected answers are written by hand
+//! from the rules of the lexis.
 
 use crate::{
     FaultKind, Form, MAX_BYTES, MAX_DEPTH, ReadErr, Text, first_definition, first_group, numeral,

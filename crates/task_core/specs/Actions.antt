@@ -1,6 +1,7 @@
 -- What an outcome does to the values of the fluents, and when the parts of a task name its fluents
 -- alone.
-use Rattle.std.specs.Prelude.{ℕ, ◌^◌, Bool, true, false, ◌&&◌, if◌then◌else◌, ◌==◌, nat_lt, map, length, Option, Some, None}
+use Rattle.std.specs.Prelude.{ℕ, ◌^◌, Bool, true, false, ◌&&◌, if◌then◌else◌, ◌==◌, nat_lt, map}
+use Rattle.std.specs.Prelude.{length, Option, Some, None}
 use Rattle.std.specs.List.{list_all, list_any, range_with_len}
 use Rattle.task_core.specs.Vectors.{Vector, value_of, same_value}
 use Rattle.task_core.specs.Conditions.{holds, ids_below, is_shallow}

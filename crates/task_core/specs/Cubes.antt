@@ -1,5 +1,6 @@
 -- Cubes: conjunctions of literals, and the list of cubes that stands for a set of states.
-use Rattle.std.specs.Prelude.{ℕ, zero, suc, ◌+◌, Bool, true, false, not, List, [], ◌∷◌, ◌++◌, map, if◌then◌else◌}
+use Rattle.std.specs.Prelude.{ℕ, zero, suc, ◌+◌, Bool, true, false, not, List, [], ◌∷◌, ◌++◌, map}
+use Rattle.std.specs.Prelude.{if◌then◌else◌}
 use Rattle.std.specs.List.{list_any, list_all}
 use Rattle.task_core.specs.Vectors.{Vector, value_of, all_vectors, same_value}
 use Rattle.task_core.specs.declared.literals.Lit.{Lit}

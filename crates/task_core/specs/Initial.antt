@@ -1,6 +1,7 @@
 -- The initial states of a task: facts that are known, and uncertain entries that act on them in
 -- order.
-use Rattle.std.specs.Prelude.{ℕ, ◌==◌, Bool, true, false, ◌&&◌, if◌then◌else◌, List, [], ◌∷◌, ◌++◌, map, length, nat_lt}
+use Rattle.std.specs.Prelude.{ℕ, ◌==◌, Bool, true, false, ◌&&◌, if◌then◌else◌, List, [], ◌∷◌, ◌++◌}
+use Rattle.std.specs.Prelude.{map, length, nat_lt}
 use Rattle.std.specs.List.{flat_map, fold, list_all, list_any, range_with_len}
 use Rattle.task_core.specs.Vectors.{Vector, value_of, same_value, same_vector}
 use Rattle.task_core.specs.States.{vector}

@@ -1,5 +1,6 @@
 -- The names of fluents and actions: lists of words, as the texts of plans spell them.
-use Rattle.std.specs.Prelude.{◌≡◌, ◌≢◌, ℕ, ◌==◌, Bool, true, ◌&&◌, not, List, [], codes, map, nat_le, slice_index_or, Vec, String, string_bytes}
+use Rattle.std.specs.Prelude.{◌≡◌, ◌≢◌, ℕ, ◌==◌, Bool, true, ◌&&◌, not, List, [], codes, map}
+use Rattle.std.specs.Prelude.{nat_le, slice_index_or, Vec, String, string_bytes}
 use Rattle.std.specs.List.{All, AllPairs}
 use Rattle.std.specs.declared.alloc.Global.{Global}
 use Rattle.task_core.specs.declared.actions.GroundAction.{GroundAction}

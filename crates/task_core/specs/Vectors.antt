@@ -1,5 +1,6 @@
 -- A state of a system with n fluents, as the list of its n truth values, the first fluent's first.
-use Rattle.std.specs.Prelude.{ℕ, zero, suc, Bool, true, false, not, ◌&&◌, List, [], ◌∷◌, ◌++◌, map, slice_index_or}
+use Rattle.std.specs.Prelude.{ℕ, zero, suc, Bool, true, false, not, ◌&&◌, List, [], ◌∷◌, ◌++◌, map}
+use Rattle.std.specs.Prelude.{slice_index_or}
 
 abbrev pub Vector : Type 0
 Vector = List Bool

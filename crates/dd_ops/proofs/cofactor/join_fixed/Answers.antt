@@ -1,6 +1,6 @@
 -- The node that `mk` answers is the cofactor, and the memo's numbers stay cofactors.
 use Rattle.std.proofs.Common.{sym, subst}
-use Rattle.dd_nodes.specs.Table.{Table}
+use Rattle.dd_nodes.specs.Table.{NodeTable}
 use Rattle.dd_ops.specs.Answers.{RemembersCofactors}
 use Rattle.dd_ops.proofs.CofactorLemmas.{lo_stays_below, hi_stays_below, cofactor_joined, cofactors_extend, cofactors_remembered}
 use Rattle.dd_nodes.specs.declared.node.DdErr.TheVariants.{Full}
@@ -15,7 +15,7 @@ pub mk-requires-clause-hi_below : goal.mk-requires-clause-hi_below
 mk-requires-clause-hi_below c = hi_stays_below c.args.dd.now.vars c.args.dd.now.nodes c.requires.table.reduced c.args.f.0 c.args.node c.requires.node c.args.v c.args.value c.requires.before c.args.lo.0 c.args.hi.0 c.requires.lo c.requires.hi
 
 pub returns-in_err-r-clause-memo : goal.returns-in_err-r-clause-memo
-returns-in_err-r-clause-memo c = subst (λ (t : Table). RemembersCofactors t.nodes c.args.v c.args.value c.args.memo.now.entries) (sym c.in_err-r.ensures.refused) c.requires.memo
+returns-in_err-r-clause-memo c = subst (λ (t : NodeTable). RemembersCofactors t.nodes c.args.v c.args.value c.args.memo.now.entries) (sym c.in_err-r.ensures.refused) c.requires.memo
 
 pub returns-in_err-remember_number-clause-memo : goal.returns-in_err-remember_number-clause-memo
 returns-in_err-remember_number-clause-memo c =

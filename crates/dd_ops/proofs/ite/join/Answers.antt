@@ -1,6 +1,6 @@
 -- The node that `mk` answers answers the question, and the memo's answers stay answers.
 use Rattle.std.proofs.Common.{◌∷◌, [], sym, subst}
-use Rattle.dd_nodes.specs.Table.{Table}
+use Rattle.dd_nodes.specs.Table.{NodeTable}
 use Rattle.dd_ops.specs.Answers.{Remembers, IsFullFor, asked_of}
 use Rattle.dd_ops.proofs.HalvesLemmas.{joined_answer, remembers_extends}
 use Rattle.dd_nodes.specs.NodeList.{IsReduced}
@@ -10,7 +10,7 @@ use Rattle.dd_ops.proofs.ErrorLemmas.{passed_on}
 use Rattle.dd_ops.proofs.ite.join.Goals as goal
 
 pub returns-in_err-r-clause-memo : goal.returns-in_err-r-clause-memo
-returns-in_err-r-clause-memo c = subst (λ (t : Table). Remembers t.nodes c.args.memo.now.entries) (sym c.in_err-r.ensures.refused) c.requires.memo
+returns-in_err-r-clause-memo c = subst (λ (t : NodeTable). Remembers t.nodes c.args.memo.now.entries) (sym c.in_err-r.ensures.refused) c.requires.memo
 
 pub returns-in_err-remember-clause-memo : goal.returns-in_err-remember-clause-memo
 returns-in_err-remember-clause-memo c =
@@ -33,7 +33,7 @@ returns-clause-memo c =
 pub returns-in_err-r-clause-full : goal.returns-in_err-r-clause-full
 returns-in_err-r-clause-full c is =
     let facts = c.in_err-r.ensures.full.0 (passed_on c.from_residual.result c.in_err-r.field-0.0 Full c.from_residual.ensures.1 is) in
-    subst (λ (t : Table). IsFullFor (asked_of c.args.dd.now.nodes c.args.q ∷ []) t) (sym c.in_err-r.ensures.refused)
+    subst (λ (t : NodeTable). IsFullFor (asked_of c.args.dd.now.nodes c.args.q ∷ []) t) (sym c.in_err-r.ensures.refused)
     (full_join c.args.dd.now c.requires.table c.args.q c.args.var c.args.lo c.args.hi c.requires.halves facts.0 facts.1 facts.2)
 
 pub returns-in_err-remember-clause-adds : goal.returns-in_err-remember-clause-adds

@@ -4,7 +4,7 @@ use Rattle.std.proofs.lemmas.Bool.{eqb-false}
 use Rattle.dd_nodes.specs.declared.node.Node.{Node}
 use Rattle.dd_nodes.specs.declared.node.Ref.{Ref}
 use Rattle.dd_nodes.specs.NodeList.{node_at, Lacks, IsReduced}
-use Rattle.dd_nodes.specs.Table.{Table}
+use Rattle.dd_nodes.specs.Table.{NodeTable}
 use Rattle.dd_nodes.proofs.Making.{Outcome, outcome, ok_value, ok_number, ok_from}
 use Rattle.dd_nodes.proofs.dd.Dd.mk.Goals as goal
 use Rattle.dd_nodes.proofs.dd.Dd.mk.Goals.{After-place}
@@ -13,14 +13,14 @@ facts : (c : After-place) → Outcome c.args.self.now (record { var = c.args.var
 facts c =
     let node : Node = record { var = c.args.var; lo = c.args.lo; hi = c.args.hi } in
     let after = c.place.new.nodes.keys in
-    let before : Table = c.args.self.now in
-    let inside : Table = record { vars = c.self.inside.vars; limit = c.self.inside.limit; nodes = c.self.inside.nodes.keys } in
+    let before : NodeTable = c.args.self.now in
+    let inside : NodeTable = record { vars = c.self.inside.vars; limit = c.self.inside.limit; nodes = c.self.inside.nodes.keys } in
     let is : inside ≡ before = c.self.view_is in
-    outcome before (subst (λ (t : Table). IsReduced t.vars t.nodes) is c.self.invariant.reduced) node c.requires.var_in_range
+    outcome before (subst (λ (t : NodeTable). IsReduced t.vars t.nodes) is c.self.invariant.reduced) node c.requires.var_in_range
     (λ e. eqb-false c.args.lo.0 c.args.hi.0 (sym c.eq.ensures ∙ c.if-eq.false) (ap (λ (r : Ref). r.0) e))
     c.requires.lo_in_table c.requires.hi_in_table c.requires.lo_below c.requires.hi_below after c.place.result
-    (subst (λ (t : Table). IfOk c.place.result (λ f. ((node_at t.nodes f.0 ≡ Some node) × (after ≡ t.nodes)) ⊎ (Lacks t.nodes node × (f.0 ≡ length t.nodes + 2) × (after ≡ t.nodes ++ node ∷ [])))) is c.place.ensures.placed)
-    (subst (λ (t : Table). OnErr c.place.result (after ≡ t.nodes)) is c.place.ensures.refused)
+    (subst (λ (t : NodeTable). IfOk c.place.result (λ f. ((node_at t.nodes f.0 ≡ Some node) × (after ≡ t.nodes)) ⊎ (Lacks t.nodes node × (f.0 ≡ length t.nodes + 2) × (after ≡ t.nodes ++ node ∷ [])))) is c.place.ensures.placed)
+    (subst (λ (t : NodeTable). OnErr c.place.result (after ≡ t.nodes)) is c.place.ensures.refused)
 
 pub invariant_of-self : goal.invariant_of-self
 invariant_of-self c = record {

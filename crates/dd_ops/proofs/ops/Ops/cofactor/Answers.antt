@@ -2,7 +2,7 @@
 use Rattle.std.proofs.Common.{ℕ, Bool, List, [], ◌∷◌}
 use Rattle.dd_nodes.specs.NodeList.{function}
 use Rattle.dd_nodes.specs.Subfunctions.{Function}
-use Rattle.dd_nodes.specs.Table.{Table}
+use Rattle.dd_nodes.specs.Table.{NodeTable}
 use Rattle.dd_ops.specs.Operations.{cofactor_of}
 use Rattle.dd_ops.proofs.GrowthOps.{grows}
 use Rattle.dd_ops.proofs.ValueLemmas.{answers, ok_then, cofactor_function}
@@ -16,7 +16,7 @@ returns-clause-answers c =
     (ok_then c.fix.result c.fix.ensures.answer (λ r answer. answer.number))
 
 -- the one piece of the call, over any table
-fixed_pieces : ℕ → ℕ → Bool → Table → List Function
+fixed_pieces : ℕ → ℕ → Bool → NodeTable → List Function
 fixed_pieces f v b t = cofactor_of (function t.nodes f) v b ∷ []
 
 pub returns-clause-grows : goal.returns-clause-grows

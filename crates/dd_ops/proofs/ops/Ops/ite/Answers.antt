@@ -1,7 +1,7 @@
 -- The answer to the question, in the table as it was.
 use Rattle.std.proofs.Common.{List, [], ◌∷◌}
 use Rattle.dd_nodes.specs.Subfunctions.{Function}
-use Rattle.dd_nodes.specs.Table.{Table}
+use Rattle.dd_nodes.specs.Table.{NodeTable}
 use Rattle.dd_ops.specs.Answers.{asked_of}
 use Rattle.dd_ops.specs.declared.question.Question.{Question}
 use Rattle.dd_ops.proofs.GrowthOps.{grows}
@@ -18,7 +18,7 @@ returns-clause-answers c =
     (ok_then c.answer.result c.answer.ensures.answer (λ r answer. answer.number))
 
 -- the one piece of the call, over any table
-asked_pieces : Question → Table → List Function
+asked_pieces : Question → NodeTable → List Function
 asked_pieces q t = asked_of t.nodes q ∷ []
 
 pub returns-clause-grows : goal.returns-clause-grows

@@ -3,7 +3,7 @@ use Rattle.std.proofs.Common.{All, ℕ, List, sym, subst}
 use Rattle.dd_nodes.specs.declared.node.Ref.{Ref}
 use Rattle.dd_nodes.specs.NodeList.{IsNumber, function}
 use Rattle.dd_nodes.specs.Subfunctions.{Function}
-use Rattle.dd_nodes.specs.Table.{Table}
+use Rattle.dd_nodes.specs.Table.{NodeTable}
 use Rattle.dd_ops.specs.Growth.{pieces_of_subst}
 use Rattle.dd_ops.specs.Operations.{subst_of}
 use Rattle.dd_ops.proofs.GrowthOps.{grows}
@@ -20,7 +20,7 @@ returns-clause-answers c =
     (ok_then c.substitute.result c.substitute.ensures.answer (λ r answer. answer.number))
 
 -- the pieces of the call, over any table
-subst_pieces_of : List (ℕ × Ref) → ℕ → Table → List Function
+subst_pieces_of : List (ℕ × Ref) → ℕ → NodeTable → List Function
 subst_pieces_of map f t = pieces_of_subst t.vars t.nodes map f
 
 pub returns-clause-grows : goal.returns-clause-grows
@@ -29,4 +29,4 @@ returns-clause-grows c =
     grows (subst_pieces_of c.args.map.now c.args.f.0) c.self.inside.dd c.args.self.now c.substitute.new.dd c.self.view_is c.self.invariant c.substitute.ensures.adds c.substitute.result c.substitute.ensures.kept c.substitute.ensures.full
 
 pub substitute-requires-clause-map : goal.substitute-requires-clause-map
-substitute-requires-clause-map c = subst (λ (t : Table). All (λ (entry : ℕ × Ref). IsNumber t.nodes entry.1.0) c.args.map.now) (sym c.self.view_is) c.requires.map_in_table
+substitute-requires-clause-map c = subst (λ (t : NodeTable). All (λ (entry : ℕ × Ref). IsNumber t.nodes entry.1.0) c.args.map.now) (sym c.self.view_is) c.requires.map_in_table

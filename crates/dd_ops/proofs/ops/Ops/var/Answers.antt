@@ -1,7 +1,7 @@
 -- A node with the constants as children is its variable.
 use Rattle.std.proofs.Common.{◌<◌, ◌∙◌, subst, sym, [], ◌∷◌}
 use Rattle.dd_nodes.specs.NodeList.{Values}
-use Rattle.dd_nodes.specs.Table.{Table}
+use Rattle.dd_nodes.specs.Table.{NodeTable}
 use Rattle.dd_nodes.specs.declared.node.DdErr.TheVariants.{Full}
 use Rattle.dd_ops.specs.Answers.{Keeps}
 use Rattle.dd_ops.specs.Growth.{AddsParts}
@@ -27,5 +27,5 @@ pub returns-clause-grows : goal.returns-clause-grows
 returns-clause-grows c =
     grows (λ _. variable c.args.v ∷ []) c.self.inside.dd c.args.self.now c.mk.new.self c.self.view_is c.self.invariant (adds c) c.mk.result (kept c)
     (λ is. let facts = c.mk.ensures.full.0 is in
-    full_variable c.self.inside.dd c.mk.new.self c.self.invariant c.args.v (subst (λ (t : Table). c.args.v < t.vars) (sym c.self.view_is) c.requires)
+    full_variable c.self.inside.dd c.mk.new.self c.self.invariant c.args.v (subst (λ (t : NodeTable). c.args.v < t.vars) (sym c.self.view_is) c.requires)
     facts.1 facts.2 facts.0 (refused_same c.mk.result Full is c.mk.ensures.refused))
