@@ -1,5 +1,5 @@
 -- One step of the search: what it leaves in the slots of the task and its own.
-use Rattle.std.proofs.Common.{IsTrue, ◌↔◌, Option, Some, None, append-nil, ◌≡◌, ◌≢◌, ℕ, suc, ◌+◌, ◌<◌, ◌≤◌, ◌==◌, Bool, true, false, ◌||◌, List, [], ◌∷◌, ◌++◌, length, nat_lt, refl, sym, ap, subst, ◌∙◌, ⊎_elim, arith}
+use Rattle.std.proofs.Common.{cond, IsTrue, ◌↔◌, Option, Some, None, append-nil, ◌≡◌, ◌≢◌, ℕ, suc, ◌+◌, ◌<◌, ◌≤◌, ◌==◌, Bool, true, false, ◌||◌, List, [], ◌∷◌, ◌++◌, length, nat_lt, refl, sym, ap, subst, ◌∙◌, ⊎_elim, arith}
 use Rattle.std.specs.List.{list_any, range_with_len}
 use Rattle.std.proofs.Math.Path.{fun_ext}
 use Rattle.std.proofs.lemmas.Bool.{cases_eq, cases_lt, cond-false, cond-true, eq-eqb, lt-ltb, ltb-true, ne_eqb, false_from_ne_true}
@@ -30,7 +30,7 @@ use Rattle.reach_plan.specs.Classes.{IsFoundByLayers}
 use Rattle.task_core.specs.Vectors.{all_vectors}
 use Rattle.task_core.proofs.TaskSystem.{is_system}
 use Rattle.reach_plan.proofs.LeastBounds.{none_once_stable}
-use Rattle.reach_plan.specs.Working.{At, Start, Working, entries, with_set}
+use Rattle.reach_plan.specs.Working.{AreOwned, At, Start, Working, entries, with_set}
 use Rattle.reach_plan.proofs.Ranges.{range-more}
 use Rattle.reach_plan.proofs.SetLayers.{covers_is, fewer_next, goal_set, missed, next_layer_set, next_takers}
 use Rattle.reach_plan.proofs.WorkingSlots.{behind_live, behind_set, length_behind, second_front, second_live, second_set, work_back, work_front, work_less, work_more, work_same}
@@ -116,6 +116,16 @@ with_hits start now next taken h layer g last f class a hits at kept adds =
     let is : set_of now.sets last.0 ≡ f = second_set start.enc.sets now.sets xs (layer.0, g) last.0 f [] at.working in
     work_back start.enc.sets next.sets xs hits (class_preimage class start.task a f) ((layer.0, g) ∷ (last.0, f) ∷ [])
     (work_more start.enc.sets now.sets next.sets (with_two taken h layer g last f) hits (class_preimage class start.task a f) at.working kept (subst (λ (set : Function). Adds now.sets next.sets hits (class_preimage class start.task a set)) is adds))
+
+pub hits_owned : (start : Start) (now next : Encoded) (taken : List SetId) (h : ℕ → Function) (layer : SetId) (g : Function) (last : SetId) (f : Function) (class : Class) (a : ℕ) (hits : SetId) → At start now (with_two taken h layer g last f)
+    → KeepsSets now.sets next.sets → Adds now.sets next.sets hits.0 (class_preimage class start.task a (set_of now.sets last.0)) → AreOwned next.sets taken (hits ∷ layer ∷ [])
+hits_owned start now next taken h layer g last f class a hits at kept adds = record {
+  before = start.enc.sets;
+  sets = h;
+  other_sets = λ i. cond (i == 0) (class_preimage class start.task a f) g;
+  own = (last.0, f) ∷ [];
+  working = with_hits start now next taken h layer g last f class a hits.0 at kept adds;
+}
 
 pub length_two : (taken : List SetId) (h : ℕ → Function) (layer : SetId) (g : Function) (last : SetId) (f : Function) → length (with_two taken h layer g last f) ≡ length taken + 2
 length_two taken h layer g last f = let e : length (entries taken 0 h ++ (layer.0, g) ∷ ((last.0, f) ∷ [])) ≡ length taken + 1 + 1 = length_behind taken h (layer.0, g) ((last.0, f) ∷ []) in omega arith

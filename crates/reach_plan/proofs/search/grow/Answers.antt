@@ -5,7 +5,7 @@ use Rattle.dd_sets.specs.Rooms.{IsTightFor}
 use Rattle.reach_plan.specs.LayerSets.{class_preimage, grown, taken_by}
 use Rattle.reach_plan.specs.Searches.{StillTwo, with_two}
 use Rattle.reach_plan.specs.Working.{At, entries}
-use Rattle.reach_plan.proofs.SearchSteps.{at_first, at_made, at_next, length_two, one_more, room_for, same_actions, same_chain, with_hits}
+use Rattle.reach_plan.proofs.SearchSteps.{at_first, at_made, at_next, hits_owned, length_two, one_more, room_for, same_actions, same_chain, with_hits}
 use Rattle.reach_plan.proofs.WorkingSlots.{left_again, left_err, second_live, work_same, work_tight}
 use Rattle.reach_plan.proofs.search.grow.Goals as goal
 
@@ -51,16 +51,8 @@ pub add-requires : goal.add-requires
 add-requires c =
     let w = c.requires.work in
     let at = c.loop-a.invariant.held w.start w.f w.h w.at in
-    let g = grown c.args.class w.start.task w.f c.loop-a.a in
     let made = at_made c.made_is_kept.ensures.made w.start c.loop-a.enc _ at in
-    record {
-      before = w.start.enc.sets;
-      sets = taken_by c.args.class w.start.task w.f w.h c.loop-a.a;
-      other_sets = λ i. cond (i == 0) (class_preimage c.args.class w.start.task c.loop-a.a w.f) g;
-      own = (c.args.last.0, w.f) ∷ [];
-      working = with_hits w.start c.loop-a.enc c.hits_of.new.enc c.loop-a.taken.items (taken_by c.args.class w.start.task w.f w.h c.loop-a.a) c.loop-a.next g c.args.last w.f c.args.class c.loop-a.a c.in_ok-hits.hits.0 at c.hits_of.ensures.kept
-          (c.in_ok-hits.ensures.added w.start.task made);
-    }
+    hits_owned w.start c.loop-a.enc c.hits_of.new.enc c.loop-a.taken.items _ c.loop-a.next _ c.args.last w.f c.args.class _ c.in_ok-hits.hits at c.hits_of.ensures.kept (c.in_ok-hits.ensures.added w.start.task made)
 
 pub returns-in_err-add-clause-left : goal.returns-in_err-add-clause-left
 returns-in_err-add-clause-left c start f h begun =
