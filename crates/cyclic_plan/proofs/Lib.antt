@@ -1,0 +1,5 @@
+pub mod Restricted
+pub mod RoundSteps
+pub mod Survives
+pub mod CyclicPrinted
+mod CyclicExamples

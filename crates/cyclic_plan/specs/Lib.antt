@@ -1,0 +1,4 @@
+pub mod Pairs
+pub mod Largest
+pub mod Rounds
+pub mod Printed
