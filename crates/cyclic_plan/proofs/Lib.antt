@@ -2,4 +2,5 @@ pub mod Restricted
 pub mod RoundSteps
 pub mod Survives
 pub mod CyclicPrinted
+pub mod BoardSlots
 mod CyclicExamples

@@ -2,3 +2,4 @@ pub mod Pairs
 pub mod Largest
 pub mod Rounds
 pub mod Printed
+pub mod Board

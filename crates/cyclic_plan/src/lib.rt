@@ -7,6 +7,7 @@
 //! progress). The laws are the contracts of functions that do nothing.
 #![tactic(auto)]
 
+mod board;
 mod laws;
 
 pub use laws::{
