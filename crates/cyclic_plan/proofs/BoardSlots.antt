@@ -141,3 +141,24 @@ placed start enc mid now old new place set answer (Err e) here first second owns
   record { same = same_chain start.enc enc now here.same (same_chain enc mid now first second); working = frame start.enc.sets enc.sets set here.working owns; long = long ∙ here.long },
   λ is. tight_at start enc old here (tight (full (ap Err is))),
 )
+
+-- what is left of an answer, and of what is made of it
+pub went : {T : Type 0} (start : Start) (now : Encoded) (slots : List SetId) (P : Type 0) (result : Result T SetErr) (x : T) → result ≡ Ok x → Left start now slots P result → P
+went start now slots P result x is left = subst (Left start now slots P) is left
+
+pub left_with : {T : Type 0} (start : Start) (now : Encoded) (slots : List SetId) (P Q : Type 0) (result : Result T SetErr) → (P → Q) → Left start now slots P result → Left start now slots Q result
+left_with start now slots P Q (Ok x) f left = f left
+left_with start now slots P Q (Err e) f left = left
+
+pub action_within : (start : Start) (enc : Encoded) (slots : List SetId) (a : ℕ) → At start enc slots → a < length enc.actions → a < action_count start.task
+action_within start enc slots a here within =
+    let e : length enc.actions ≡ action_count start.task = (made_at start enc slots here).actions in omega arith
+
+-- a refusal that is passed on
+pub passed : {S T : Type 0} (start : Start) (now : Encoded) (slots : List SetId) (P Q : Type 0) (inner : Result S SetErr) (outer : Result T SetErr) (e : SetErr) → inner ≡ Err e → (x : SetErr) × (outer ≡ Err x) × (x ≡ e) → Left start now slots P inner → Left start now slots Q outer
+passed start now slots P Q inner outer e was p left =
+    subst (Left start now slots Q) (sym p.1) (let kept = subst (Left start now slots P) was left in (kept.0, λ full. kept.1 (sym p.2 ∙ full)))
+
+pub same_actions : (start : Start) (enc now : Encoded) (old new : List SetId) → At start enc old → At start now new → length now.actions ≡ length enc.actions
+same_actions start enc now old new first second =
+    ap (λ (e : Encoded). length e.actions) second.same ∙ sym (ap (λ (e : Encoded). length e.actions) first.same)

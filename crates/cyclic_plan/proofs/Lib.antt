@@ -3,4 +3,5 @@ pub mod RoundSteps
 pub mod Survives
 pub mod CyclicPrinted
 pub mod BoardSlots
+pub mod StageSteps
 mod CyclicExamples

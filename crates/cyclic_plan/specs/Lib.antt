@@ -3,3 +3,4 @@ pub mod Largest
 pub mod Rounds
 pub mod Printed
 pub mod Board
+pub mod Stages

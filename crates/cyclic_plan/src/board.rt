@@ -183,12 +183,7 @@ fn all_lists(enc: &mut Enc) -> Result<SetId, SetErr>
 }
 
 /// What an operation makes of two sets, in a new slot.
-fn put_together(
-    enc: &mut Enc,
-    operation: Operation,
-    a: SetId,
-    b: SetId,
-) -> Result<SetId, SetErr>
+fn put_together(enc: &mut Enc, operation: Operation, a: SetId, b: SetId) -> Result<SetId, SetErr>
     requires a_live { IsLive enc.old.sets a.0 }
     requires b_live { IsLive enc.old.sets b.0 }
     ensures answer { OwnsAnswer enc.old.sets enc.new.sets

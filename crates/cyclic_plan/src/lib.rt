@@ -9,6 +9,7 @@
 
 mod board;
 mod laws;
+mod rounds;
 
 pub use laws::{
     last_round_is_largest, no_plan_without_cover, printed_plan_solves, rounds_shrink,

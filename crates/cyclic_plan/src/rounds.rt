@@ -1,0 +1,113 @@
+//! The rounds of the search for the largest set of pairs, on sets of states.
+
+ghost use Rattle.std.specs.Prelude.{◌≡◌, ℕ, ◌+◌, ◌<◌, ◌&&◌, ◌||◌, not, length, false};
+ghost use Rattle.dd_sets.specs.LiveSets.{IsLive, set_of};
+ghost use Rattle.task_core.specs.Cubes.{SetOfVectors};
+ghost use Rattle.task_core.specs.Tasks.{system_of, action_count};
+ghost use Rattle.reach_plan.specs.Layers.{may_lead};
+ghost use Rattle.cyclic_plan.specs.Board.{At, IsWorking, Left, Start};
+ghost use Rattle.cyclic_plan.specs.Rounds.{IsLastRound, connected, kept, round as round_of};
+ghost use Rattle.cyclic_plan.specs.Stages.{HasHits, HasNear, HasNext, HasPairs, HasRound, Takings, kept_system, next_by, none_taken, taken_also, taken_by, takers_within};
+
+use crate::board::{Board, Operation, Outcomes};
+use dd_sets::SetErr;
+use encode_task::Enc;
+use task_core::ActionId;
+
+/// The goal states.
+pub(crate) const GOAL: usize = 0;
+/// The states that are left.
+pub(crate) const LEFT: usize = 1;
+/// Those of them that are outside the goal.
+const OUTSIDE: usize = 2;
+/// The states near the goal.
+pub(crate) const NEAR: usize = 3;
+/// The states near the goal, with one step more.
+const NEXT: usize = 4;
+/// The states of kept pairs from which an action leads into the near states.
+const HITS: usize = 5;
+/// Those of them that are new.
+const NEW: usize = 6;
+
+/// The place of the states of an action's kept pairs.
+fn pairs_of(a: ActionId) -> usize
+    ensures { result ≡ 7 + a.0 }
+{
+    7 + a.0 as usize
+}
+
+/// The place of the states that take an action, of so many.
+pub(crate) fn takers_of(actions: u32, a: ActionId) -> usize
+    ensures { result ≡ 7 + actions + a.0 }
+{
+    7 + actions as usize + a.0 as usize
+}
+
+/// Keeps the pairs of an action that don't lead out of the states that are left.
+fn keep(enc: &mut Enc, board: &mut Board, a: ActionId) -> Result<(), SetErr>
+    requires ready { (start : Start) × (left : SetOfVectors) × (taken : Takings)
+        × HasPairs start enc.old board.old.slots.items left taken a.0 }
+    requires action { a.0 < length enc.old.actions }
+    ensures { (start : Start) (left : SetOfVectors) (taken : Takings)
+        → HasPairs start enc.old board.old.slots.items left taken a.0
+        → Left start enc.new board.new.slots.items
+        (HasPairs start enc.new board.new.slots.items left taken (a.0 + 1)) result }
+{
+    let pairs = pairs_of(a);
+    board.lead(enc, pairs, Outcomes::Every, a, LEFT)?;
+    board.combine(enc, pairs, Operation::Meet, pairs, OUTSIDE)
+}
+
+/// Finds where an action leads into the near states by its kept pairs.
+fn hit(enc: &mut Enc, board: &mut Board, a: ActionId) -> Result<(), SetErr>
+    requires ready { (start : Start) × (left : SetOfVectors) × (taken : Takings)
+        × (near : SetOfVectors) × (next : SetOfVectors)
+        × HasNext start enc.old board.old.slots.items left taken near next }
+    requires action { a.0 < length enc.old.actions }
+    ensures { (start : Start) (left : SetOfVectors) (taken : Takings)
+        (near : SetOfVectors) (next : SetOfVectors)
+        → HasNext start enc.old board.old.slots.items left taken near next
+        → Left start enc.new board.new.slots.items
+        (HasHits start enc.new board.new.slots.items left taken near next
+        (λ v. may_lead (kept_system start left) near v a.0)) result }
+{
+    board.lead(enc, HITS, Outcomes::Some, a, NEAR)?;
+    board.combine(enc, HITS, Operation::Meet, HITS, pairs_of(a))
+}
+
+/// Keeps the pairs that don't lead out of the states that are left.
+fn keep_pairs(enc: &mut Enc, board: &mut Board, actions: u32) -> Result<(), SetErr>
+    requires ready { (start : Start) × (left : SetOfVectors) × (taken : Takings)
+        × HasRound start enc.old board.old.slots.items left taken }
+    requires actions { actions ≡ length enc.old.actions }
+    ensures { (start : Start) (left : SetOfVectors) (taken : Takings)
+        → HasRound start enc.old board.old.slots.items left taken
+        → Left start enc.new board.new.slots.items
+        (HasPairs start enc.new board.new.slots.items left taken (action_count start.task))
+        result }
+{
+    board.combine(enc, OUTSIDE, Operation::Minus, LEFT, GOAL)?;
+    for a in 0..actions {
+        keep(enc, board, ActionId(a))?;
+    }
+    Ok(())
+}
+
+/// Has an action taken in the states from which it leads into the near ones, where they are new.
+fn take(enc: &mut Enc, board: &mut Board, actions: u32, a: ActionId) -> Result<(), SetErr>
+    requires ready { (start : Start) × (left : SetOfVectors) × (taken : Takings)
+        × (near : SetOfVectors) × (next : SetOfVectors) × (hits : SetOfVectors)
+        × HasHits start enc.old board.old.slots.items left taken near next hits }
+    requires actions { actions ≡ length enc.old.actions }
+    requires action { a.0 < length enc.old.actions }
+    ensures { (start : Start) (left : SetOfVectors) (taken : Takings)
+        (near : SetOfVectors) (next : SetOfVectors) (hits : SetOfVectors)
+        → HasHits start enc.old board.old.slots.items left taken near next hits
+        → Left start enc.new board.new.slots.items
+        (HasHits start enc.new board.new.slots.items left (taken_also taken a.0
+        (λ v. hits v && not (next v))) near next hits) result }
+{
+    let takers = takers_of(actions, a);
+    board.combine(enc, NEW, Operation::Minus, HITS, NEXT)?;
+    board.combine(enc, takers, Operation::Join, takers, NEW)
+}
