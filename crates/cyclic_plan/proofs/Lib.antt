@@ -4,4 +4,5 @@ pub mod Survives
 pub mod CyclicPrinted
 pub mod BoardSlots
 pub mod StageSteps
+pub mod Growth
 mod CyclicExamples

@@ -10,7 +10,7 @@ use Rattle.task_core.proofs.Vectors.{length-all_vectors}
 use Rattle.reach_plan.specs.Layers.{may_lead, must_lead}
 use Rattle.reach_plan.proofs.Cubes.{all_vectors-agree}
 use Rattle.reach_plan.proofs.Weak.{HasOutcome-Exec, same_vector-itself, same_vector-true}
-use Rattle.reach_plan.proofs.WeakLists.{list_all-at, list_all-from, list_any-from, list_any-witness}
+use Rattle.reach_plan.proofs.WeakLists.{Contains-cons, Contains-head, list_all-at, list_all-from, list_any-from, list_any-witness}
 use Rattle.cyclic_plan.specs.Pairs.{is_goal}
 use Rattle.cyclic_plan.specs.Rounds.{IsLastRound, connected, kept, round}
 use Rattle.cyclic_plan.proofs.Restricted.{more_pairs}
@@ -99,7 +99,7 @@ later_rounds sys r ok still (suc m) l v is =
     (cases_lt r (suc m))
 
 -- how many of some states a set holds
-held : SetOfVectors → List Vector → ℕ
+pub held : SetOfVectors → List Vector → ℕ
 held f [] = 0
 held f (x ∷ xs) = cond (f x) (suc (held f xs)) (held f xs)
 
@@ -112,11 +112,11 @@ held_few f (x ∷ xs) = go (f x) (held_few f xs)
     go true le = omega arith
     go false le = omega arith
 
-module _ (f g : SetOfVectors) (shrinks : (v : Vector) → g v ≡ true → f v ≡ true) where
-  holds_no_more : (xs : List Vector) → held g xs ≤ held f xs
+module _ (f g : SetOfVectors) where
+  holds_no_more : (xs : List Vector) → ((v : Vector) → Contains xs v → g v ≡ true → f v ≡ true) → held g xs ≤ held f xs
   unfolding held
-  holds_no_more [] = omega arith
-  holds_no_more (x ∷ xs) = go (f x) (g x) (shrinks x) (holds_no_more xs)
+  holds_no_more [] shrinks = omega arith
+  holds_no_more (x ∷ xs) shrinks = go (f x) (g x) (shrinks x (Contains-head x xs)) (holds_no_more xs (λ v c. shrinks v (Contains-cons x xs v c)))
     where
       go : (b c : Bool) → (c ≡ true → b ≡ true) → held g xs ≤ held f xs → cond c (suc (held g xs)) (held g xs) ≤ cond b (suc (held f xs)) (held f xs)
       go true true down le = omega arith
@@ -124,16 +124,17 @@ module _ (f g : SetOfVectors) (shrinks : (v : Vector) → g v ≡ true → f v �
       go false true down le = absurd (false≢true (down refl))
       go false false down le = le
 
-  holds_fewer : (xs : List Vector) → (map g xs ≡ map f xs → ⊥) → held g xs < held f xs
+  pub holds_fewer : (xs : List Vector) → ((v : Vector) → Contains xs v → g v ≡ true → f v ≡ true) → (map g xs ≡ map f xs → ⊥) → held g xs < held f xs
   unfolding held
-  holds_fewer [] differ = absurd (differ refl)
-  holds_fewer (x ∷ xs) differ = go (f x) (g x) refl refl (holds_fewer xs)
+  holds_fewer [] shrinks differ = absurd (differ refl)
+  holds_fewer (x ∷ xs) shrinks differ =
+      go (f x) (g x) refl refl (holds_no_more xs (λ v c. shrinks v (Contains-cons x xs v c))) (holds_fewer xs (λ v c. shrinks v (Contains-cons x xs v c)))
     where
-      go : (b c : Bool) → f x ≡ b → g x ≡ c → ((map g xs ≡ map f xs → ⊥) → held g xs < held f xs) → cond c (suc (held g xs)) (held g xs) < cond b (suc (held f xs)) (held f xs)
-      go true true e h less = let lt = less (λ same. differ (ap (λ y. y ∷ map g xs) (h ∙ sym e) ∙ ap (λ ys. f x ∷ ys) same)) in omega arith
-      go true false e h less = let le = holds_no_more xs in omega arith
-      go false true e h less = absurd (false≢true (sym e ∙ shrinks x h))
-      go false false e h less = less (λ same. differ (ap (λ y. y ∷ map g xs) (h ∙ sym e) ∙ ap (λ ys. f x ∷ ys) same))
+      go : (b c : Bool) → f x ≡ b → g x ≡ c → held g xs ≤ held f xs → ((map g xs ≡ map f xs → ⊥) → held g xs < held f xs) → cond c (suc (held g xs)) (held g xs) < cond b (suc (held f xs)) (held f xs)
+      go true true e h le less = let lt = less (λ same. differ (ap (λ y. y ∷ map g xs) (h ∙ sym e) ∙ ap (λ ys. f x ∷ ys) same)) in omega arith
+      go true false e h le less = omega arith
+      go false true e h le less = absurd (false≢true (sym e ∙ shrinks x (Contains-head x xs) h))
+      go false false e h le less = less (λ same. differ (ap (λ y. y ∷ map g xs) (h ∙ sym e) ∙ ap (λ ys. f x ∷ ys) same))
 
 -- some round up to the number of states is as the next one
 module _ (sys : System) where
@@ -148,7 +149,7 @@ module _ (sys : System) where
   fewer_at : (r : ℕ) → same_vector (left (suc r)) (left r) ≡ false → held (round sys (suc r)) (all_vectors sys.fluents) < held (round sys r) (all_vectors sys.fluents)
   unfolding left
   fewer_at r e =
-      holds_fewer (round sys r) (round sys (suc r)) (round_shrinks sys r) (all_vectors sys.fluents)
+      holds_fewer (round sys r) (round sys (suc r)) (all_vectors sys.fluents) (λ v c h. round_shrinks sys r v h)
       (λ same. false≢true (sym e ∙ (ap (λ ys. same_vector (left (suc r)) ys) (sym same) ∙ same_vector-itself (left (suc r)))))
 
   stands : (fuel r : ℕ) → held (round sys r) (all_vectors sys.fluents) ≤ fuel → (j : ℕ) × (j ≤ r + fuel) × IsLastRound sys j

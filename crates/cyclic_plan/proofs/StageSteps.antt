@@ -229,3 +229,30 @@ module _ (start : Start) (enc mid now : Encoded) (old half new : List SetId) (a 
     };
     holds_hits = low 5 _ (omega arith) (still start enc mid old half 6 _ first 5 hits (omega arith) (λ e. absurd (omega arith)) h.holds_hits);
   }
+
+-- the next states with those that an action leads to the near ones
+pub next_joined : (start : Start) (enc now : Encoded) (old new : List SetId) (left : SetOfVectors) (taken : Takings) (near next hits : SetOfVectors) → HasHits start enc old left taken near next hits
+    → Moved start enc.sets old now new 4 (or_of (set_at enc.sets old 4) (set_at enc.sets old 5)) → HasNext start now new left taken near (λ v. next v || hits v)
+next_joined start enc now old new left taken near next hits h m = record {
+  by_near = near_still start enc now old new 4 _ m left taken near h.by_next.by_near (λ e. absurd (omega arith)) (λ e. absurd (omega arith)) (λ e. absurd (omega arith)) (omega arith);
+  holds_next = here start enc now old new 4 _ m _
+      (λ v is.
+      ap (λ x. x || set_at enc.sets old 5 (value_of v)) (h.by_next.holds_next v is)
+      ∙ ap (λ x. next v || x) (h.holds_hits v is));
+}
+
+-- the near states in the place of the next ones, and the other way round
+pub next_copied : (start : Start) (enc now : Encoded) (old new : List SetId) (left : SetOfVectors) (taken : Takings) (near : SetOfVectors) → HasNear start enc old left taken near
+    → Moved start enc.sets old now new 4 (set_at enc.sets old 3) → HasNext start now new left taken near near
+next_copied start enc now old new left taken near h m = record {
+  by_near = near_still start enc now old new 4 _ m left taken near h (λ e. absurd (omega arith)) (λ e. absurd (omega arith)) (λ e. absurd (omega arith)) (omega arith);
+  holds_next = here start enc now old new 4 _ m near h.holds_near;
+}
+
+pub near_copied : (start : Start) (enc now : Encoded) (old new : List SetId) (left : SetOfVectors) (taken : Takings) (near close : SetOfVectors) (g : Function) → HasNear start enc old left taken near
+    → Moved start enc.sets old now new 3 g → Agrees start g close → HasNear start now new left taken close
+near_copied start enc now old new left taken near close g h m same = record {
+  round = round_still start enc now old new 3 g m left taken h.round (λ e. absurd (omega arith)) (λ e. absurd (omega arith)) (omega arith);
+  holds_pairs = λ k l. still start enc now old new 3 g m (7 + k) _ (omega arith) (λ e. absurd (omega arith)) (h.holds_pairs k l);
+  holds_near = here start enc now old new 3 g m close same;
+}

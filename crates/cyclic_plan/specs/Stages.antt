@@ -79,6 +79,9 @@ pub record HasHits (start : Start) (now : Encoded) (slots : List SetId) (left : 
 abbrev pub taken_also : Takings → ℕ → SetOfVectors → Takings
 taken_also taken a set b v = if b == a then taken b v || set v else taken b v
 
+abbrev pub taken_if : Bool → Takings → ℕ → SetOfVectors → Takings
+taken_if taking taken a set b v = if taking then taken_also taken a set b v else taken b v
+
 -- the near states with those that the first n actions lead into them
 abbrev pub next_by : System → SetOfVectors → ℕ → SetOfVectors
 next_by sys near n v = near v || list_any (may_lead sys near v) (range_with_len 0 n)

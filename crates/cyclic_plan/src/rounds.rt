@@ -1,13 +1,13 @@
 //! The rounds of the search for the largest set of pairs, on sets of states.
 
-ghost use Rattle.std.specs.Prelude.{◌≡◌, ℕ, ◌+◌, ◌<◌, ◌&&◌, ◌||◌, not, length, false};
+ghost use Rattle.std.specs.Prelude.{◌≡◌, ℕ, ◌+◌, ◌<◌, ◌^◌, ◌&&◌, ◌||◌, not, length, false};
 ghost use Rattle.dd_sets.specs.LiveSets.{IsLive, set_of};
 ghost use Rattle.task_core.specs.Cubes.{SetOfVectors};
-ghost use Rattle.task_core.specs.Tasks.{system_of, action_count};
+ghost use Rattle.task_core.specs.Tasks.{system_of, action_count, fluent_count};
 ghost use Rattle.reach_plan.specs.Layers.{may_lead};
 ghost use Rattle.cyclic_plan.specs.Board.{At, IsWorking, Left, Start};
 ghost use Rattle.cyclic_plan.specs.Rounds.{IsLastRound, connected, kept, round as round_of};
-ghost use Rattle.cyclic_plan.specs.Stages.{HasHits, HasNear, HasNext, HasPairs, HasRound, Takings, kept_system, next_by, none_taken, taken_also, taken_by, takers_within};
+ghost use Rattle.cyclic_plan.specs.Stages.{HasHits, HasNear, HasNext, HasPairs, HasRound, Takings, kept_system, next_by, none_taken, taken_also, taken_by, taken_if, takers_within};
 
 use crate::board::{Board, Operation, Outcomes};
 use dd_sets::SetErr;
@@ -110,4 +110,100 @@ fn take(enc: &mut Enc, board: &mut Board, actions: u32, a: ActionId) -> Result<(
     let takers = takers_of(actions, a);
     board.combine(enc, NEW, Operation::Minus, HITS, NEXT)?;
     board.combine(enc, takers, Operation::Join, takers, NEW)
+}
+
+/// The same, where actions are to be taken.
+fn take_where(
+    enc: &mut Enc,
+    board: &mut Board,
+    actions: u32,
+    a: ActionId,
+    taking: bool,
+) -> Result<(), SetErr>
+    requires ready { (start : Start) × (left : SetOfVectors) × (taken : Takings)
+        × (near : SetOfVectors) × (next : SetOfVectors) × (hits : SetOfVectors)
+        × HasHits start enc.old board.old.slots.items left taken near next hits }
+    requires actions { actions ≡ length enc.old.actions }
+    requires action { a.0 < length enc.old.actions }
+    ensures { (start : Start) (left : SetOfVectors) (taken : Takings)
+        (near : SetOfVectors) (next : SetOfVectors) (hits : SetOfVectors)
+        → HasHits start enc.old board.old.slots.items left taken near next hits
+        → Left start enc.new board.new.slots.items
+        (HasHits start enc.new board.new.slots.items left (taken_if taking taken a.0
+        (λ v. hits v && not (next v))) near next hits) result }
+{
+    if taking {
+        take(enc, board, actions, a)
+    } else {
+        Ok(())
+    }
+}
+
+/// Adds the states from which an action leads into the near ones.
+fn advance(
+    enc: &mut Enc,
+    board: &mut Board,
+    actions: u32,
+    a: ActionId,
+    taking: bool,
+) -> Result<(), SetErr>
+    requires ready { (start : Start) × (left : SetOfVectors) × (taken : Takings)
+        × (near : SetOfVectors) × (next : SetOfVectors)
+        × HasNext start enc.old board.old.slots.items left taken near next }
+    requires actions { actions ≡ length enc.old.actions }
+    requires action { a.0 < length enc.old.actions }
+    ensures { (start : Start) (left : SetOfVectors) (taken : Takings)
+        (near : SetOfVectors) (next : SetOfVectors)
+        → HasNext start enc.old board.old.slots.items left taken near next
+        → Left start enc.new board.new.slots.items
+        (HasNext start enc.new board.new.slots.items left (taken_if taking taken a.0
+        (λ v. may_lead (kept_system start left) near v a.0 && not (next v))) near
+        (λ v. next v || may_lead (kept_system start left) near v a.0)) result }
+{
+    hit(enc, board, a)?;
+    take_where(enc, board, actions, a, taking)?;
+    board.combine(enc, NEXT, Operation::Join, NEXT, HITS)
+}
+
+/// Adds the states that are one step farther from the goal.
+fn grow(enc: &mut Enc, board: &mut Board, actions: u32, taking: bool) -> Result<(), SetErr>
+    requires ready { (start : Start) × (left : SetOfVectors) × (taken : Takings)
+        × (near : SetOfVectors) × HasNear start enc.old board.old.slots.items left taken near }
+    requires actions { actions ≡ length enc.old.actions }
+    ensures { (start : Start) (left : SetOfVectors) (taken : Takings) (near : SetOfVectors)
+        → HasNear start enc.old board.old.slots.items left taken near
+        → Left start enc.new board.new.slots.items
+        (HasNext start enc.new board.new.slots.items left
+        (taken_by taking (kept_system start left) near taken (action_count start.task)) near
+        (next_by (kept_system start left) near (action_count start.task))) result }
+{
+    let near = board.at(NEAR);
+    board.copy(enc, NEXT, near)?;
+    for a in 0..actions {
+        advance(enc, board, actions, ActionId(a), taking)?;
+    }
+    Ok(())
+}
+
+/// Finds the states from which the goal is reached by kept pairs, step by step.
+fn spread(enc: &mut Enc, board: &mut Board, actions: u32, taking: bool) -> Result<(), SetErr>
+    requires ready { (start : Start) × (left : SetOfVectors) × (near : SetOfVectors)
+        × HasNear start enc.old board.old.slots.items left none_taken near }
+    requires actions { actions ≡ length enc.old.actions }
+    ensures { (start : Start) (left : SetOfVectors) (near : SetOfVectors)
+        → HasNear start enc.old board.old.slots.items left none_taken near
+        → Left start enc.new board.new.slots.items
+        (HasNear start enc.new board.new.slots.items left
+        (takers_within taking (kept_system start left) (2 ^ fluent_count start.task))
+        (connected (system_of start.task) (kept (system_of start.task) left))) result }
+{
+    let goal = board.at(GOAL);
+    board.copy(enc, NEAR, goal)?;
+    grow(enc, board, actions, taking)?;
+    while !enc.sets().same(board.at(NEXT), board.at(NEAR)) {
+        let next = board.at(NEXT);
+        board.copy(enc, NEAR, next)?;
+        grow(enc, board, actions, taking)?;
+    }
+    Ok(())
 }
