@@ -12,7 +12,7 @@ use Rattle.encode_task.specs.Slots.{Encoded}
 use Rattle.encode_task.proofs.TightLemmas.{tight_before}
 use Rattle.encode_task.specs.Made.{MadeOf}
 use Rattle.preimage.proofs.FrameSteps.{made_now}
-use Rattle.task_core.specs.Tasks.{action_count}
+use Rattle.task_core.specs.Tasks.{action_count, fluent_count}
 use Rattle.dd_sets.specs.declared.errors.SetErr.{SetErr}
 use Rattle.dd_sets.specs.declared.slots.SetId.{SetId}
 use Rattle.dd_sets.proofs.FrameLemmas.{kept_chain, kept_release, kept_same, not_before}
@@ -162,3 +162,6 @@ passed start now slots P Q inner outer e was p left =
 pub same_actions : (start : Start) (enc now : Encoded) (old new : List SetId) → At start enc old → At start now new → length now.actions ≡ length enc.actions
 same_actions start enc now old new first second =
     ap (λ (e : Encoded). length e.actions) second.same ∙ sym (ap (λ (e : Encoded). length e.actions) first.same)
+
+pub same_fluents : (start : Start) (enc : Encoded) (slots : List SetId) → At start enc slots → enc.fluents ≡ fluent_count start.task
+same_fluents start enc slots here = (made_at start enc slots here).fluents

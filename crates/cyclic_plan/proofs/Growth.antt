@@ -3,7 +3,7 @@ use Rattle.std.proofs.Common.{◌≡◌, ◌≢◌, ℕ, zero, suc, ◌+◌, ◌
 use Rattle.std.specs.Option.{option_and_then, option_or}
 use Rattle.std.specs.List.{Contains, find, list_any, range_with_len}
 use Rattle.std.proofs.Math.Path.{fun_ext}
-use Rattle.std.proofs.lemmas.Bool.{cases_eq, cases_lt, cond-false, cond-true, eq-eqb, false_from_ne_true, false≢true, lt-ltb, ltb-true, ne_eqb, true≢false}
+use Rattle.std.proofs.lemmas.Bool.{cases_eq, cases_lt, cond-false, cond-true, eq-eqb, false_from_ne_true, false≢true, lt-ltb, ltb-true, ne_eqb, or_left, true≢false}
 use Rattle.std.proofs.lemmas.List.{append-nil, append_assoc}
 use Rattle.std.proofs.lemmas.Option.{same_Some}
 use Rattle.std.proofs.lemmas.List.Folds.{list_any-append, find-append}
@@ -25,6 +25,11 @@ use Rattle.reach_plan.proofs.LayerSteps.{find-first, range-more}
 use Rattle.reach_plan.proofs.LeastBounds.{stands_still}
 use Rattle.reach_plan.proofs.WeakLists.{find-None, find-Some, find-found, list_any-from, range_with_len-last, Contains-range_with_len, Contains-range_with_len-below}
 use Rattle.reach_plan.proofs.WeakPrinted.{is_action-Some, is_action-from}
+use Rattle.task_core.proofs.TaskSystem.{is_system}
+use Rattle.reach_plan.proofs.Cubes.{all_vectors-agree, all_vectors-length}
+use Rattle.cyclic_plan.proofs.Restricted.{restricted_system}
+use Rattle.cyclic_plan.proofs.RoundSteps.{held, holds_fewer}
+use Rattle.cyclic_plan.proofs.StageSteps.{depends}
 use Rattle.cyclic_plan.specs.Board.{At, Start, set_at}
 use Rattle.cyclic_plan.specs.Rounds.{connected, kept, progress}
 use Rattle.cyclic_plan.specs.Stages.{Agrees, HasHits, HasNear, HasNext, HasRound, Takings, kept_system, next_by, none_taken, taken_also, taken_by, taken_if, takers_within}
@@ -206,3 +211,62 @@ same_functions n f g only_f only_g same = fun_ext (λ values.
     let v : Vector = map values (range_with_len 0 n) in
     let within : (u : ℕ) → 0 ≤ u → u < n → values u ≡ value_of v u = λ u low l. sym (get_or-map-range_with_len values 0 n u u false l (omega arith)) in
     only_f values (value_of v) within ∙ same v (length-map-range_with_len values 0 n) ∙ sym (only_g values (value_of v) within))
+
+-- none is taken within 0 steps; and one step more
+pub takers_none : (taking : Bool) (sys : System) (a : ℕ) (v : Vector) → false ≡ takers_within taking sys 0 a v
+takers_none false sys a v = refl
+takers_none true sys a v = sym (ap (is_action a) (chosen_zero Weak sys v))
+
+pub grown : (start : Start) (now : Encoded) (slots : List SetId) (left : SetOfVectors) (taking : Bool) (k : ℕ)
+    → HasNext start now slots left (taken_by taking (kept_system start left) (layer Weak (kept_system start left) k) (takers_within taking (kept_system start left) k) (action_count start.task)) (layer Weak (kept_system start left) k) (next_by (kept_system start left) (layer Weak (kept_system start left) k) (action_count start.task))
+    → HasNext start now slots left (takers_within taking (kept_system start left) (suc k)) (layer Weak (kept_system start left) k) (layer Weak (kept_system start left) (suc k))
+grown start now slots left taking k h =
+    next_as start now slots left _ _ (layer Weak (kept_system start left) k) _ _ h (λ a v l is. takers_step taking (kept_system start left) k a v l) (λ v is. refl)
+
+-- where the near states are as the next ones, they are all that are connected, and the actions are taken as at last
+pub spread_done : (start : Start) (now : Encoded) (slots : List SetId) (left : SetOfVectors) (taking : Bool) (k : ℕ)
+    → HasNext start now slots left (takers_within taking (kept_system start left) (suc k)) (layer Weak (kept_system start left) k) (layer Weak (kept_system start left) (suc k))
+    → set_at now.sets slots 4 ≡ set_at now.sets slots 3
+    → HasNear start now slots left (takers_within taking (kept_system start left) (2 ^ fluent_count start.task)) (connected (system_of start.task) (kept (system_of start.task) left))
+spread_done start now slots left taking k h same =
+    let sys = system_of start.task in
+    let sub = kept_system start left in
+    let ok = restricted_system sys (kept sys left) (is_system start.task) in
+    let stable : IsStable Weak sub k = λ v is. sym (h.holds_next v is) ∙ ap (λ (f : Function). f (value_of v)) same ∙ h.by_near.holds_near v is in
+    near_as start now slots left _ _ _ _ h.by_near
+    (λ a v l is. ap (λ o. taking && is_action a o) (chosen_same sub (suc k) (2 ^ fluent_count start.task) v (stable v is ∙ layer_last sub ok k stable v is)))
+    (λ v is. layer_last sub ok k stable v is)
+
+-- and where they are not, fewer states are not near
+pub spread_less : (start : Start) (enc now : Encoded) (old new : List SetId) (left : SetOfVectors) (taking : Bool) (k : ℕ) (n : ℕ)
+    → HasNext start enc old left (takers_within taking (kept_system start left) (suc k)) (layer Weak (kept_system start left) k) (layer Weak (kept_system start left) (suc k))
+    → (set_at enc.sets old 4 ≡ set_at enc.sets old 3 → ⊥) → n ≡ fluent_count start.task → (taken : Takings) (next : SetOfVectors)
+    → HasNext start now new left taken (layer Weak (kept_system start left) (suc k)) next
+    → held (λ v. not (set_at now.sets new 3 (value_of v))) (all_vectors n) < held (λ v. not (set_at enc.sets old 3 (value_of v))) (all_vectors n)
+spread_less start enc now old new left taking k n h differ is_n taken next after =
+    holds_fewer (λ v. not (set_at enc.sets old 3 (value_of v))) (λ v. not (set_at now.sets new 3 (value_of v))) (all_vectors n)
+    (λ v c out. fewer v (state v c) out)
+    (λ same. differ (same_functions (fluent_count start.task) (set_at enc.sets old 4) (set_at enc.sets old 3)
+    (depends start enc old h.by_near.round.at h.by_near.round.sound 4) (depends start enc old h.by_near.round.at h.by_near.round.sound 3)
+    (λ v is.
+    h.holds_next v is ∙ sym (after.by_near.holds_near v is)
+    ∙ not_same (set_at now.sets new 3 (value_of v)) (set_at enc.sets old 3 (value_of v))
+    (all_vectors-agree (λ u. not (set_at now.sets new 3 (value_of u))) (λ u. not (set_at enc.sets old 3 (value_of u))) n same v (is ∙ sym is_n)))))
+  where
+    state : (v : Vector) → Contains (all_vectors n) v → length v ≡ fluent_count start.task
+    state v c = all_vectors-length n v c ∙ is_n
+
+    not_same : (a b : Bool) → not a ≡ not b → a ≡ b
+    not_same true true e = refl
+    not_same true false e = absurd (false≢true e)
+    not_same false true e = absurd (true≢false e)
+    not_same false false e = refl
+
+    up : (a b : Bool) → (a ≡ true → b ≡ true) → not b ≡ true → not a ≡ true
+    up true b more out = absurd (false≢true (sym (ap not (more refl)) ∙ out))
+    up false b more out = refl
+
+    fewer : (v : Vector) → length v ≡ fluent_count start.task → not (set_at now.sets new 3 (value_of v)) ≡ true → not (set_at enc.sets old 3 (value_of v)) ≡ true
+    fewer v is out =
+        up (set_at enc.sets old 3 (value_of v)) (set_at now.sets new 3 (value_of v))
+        (λ near. after.by_near.holds_near v is ∙ or_left (layer Weak (kept_system start left) k v) _ (sym (h.by_near.holds_near v is) ∙ near)) out

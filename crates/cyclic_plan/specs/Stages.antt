@@ -2,7 +2,7 @@
 -- states that are left at 1, those of them outside the goal at 2, the states near the goal at 3 and
 -- the next ones at 4, where an action leads into them at 5 and what is new of that at 6. From 7 on
 -- there are, for each action, the states of the pairs that are kept, and then those that take it.
-use Rattle.std.specs.Prelude.{◌≡◌, ℕ, ◌+◌, ◌<◌, ◌==◌, ◌^◌, Bool, false, not, ◌&&◌, ◌||◌, List, if◌then◌else◌, nat_lt}
+use Rattle.std.specs.Prelude.{◌≡◌, ℕ, suc, ◌+◌, ◌<◌, ◌==◌, ◌^◌, Bool, false, not, ◌&&◌, ◌||◌, List, if◌then◌else◌, nat_lt}
 use Rattle.std.specs.List.{list_any, range_with_len}
 use Rattle.dd_nodes.specs.Subfunctions.{Function}
 use Rattle.dd_sets.specs.LiveSets.{IsSets}
@@ -13,7 +13,7 @@ use Rattle.task_core.specs.Systems.{IsState, System}
 use Rattle.task_core.specs.Tasks.{action_count, system_of}
 use Rattle.task_core.specs.Vectors.{Vector, value_of}
 use Rattle.task_core.specs.declared.classes.Class.TheVariants.{Weak}
-use Rattle.reach_plan.specs.Layers.{may_lead}
+use Rattle.reach_plan.specs.Layers.{layer, may_lead}
 use Rattle.reach_plan.specs.Printed.{takers}
 use Rattle.cyclic_plan.specs.Board.{At, Start, set_at}
 use Rattle.cyclic_plan.specs.Pairs.{Pairs, is_goal, restricted}
@@ -96,3 +96,9 @@ taken_by taking sys near taken n a v =
 -- the states within k steps of the goal that take an action
 abbrev pub takers_within : Bool → System → ℕ → Takings
 takers_within taking sys k a v = taking && takers Weak sys k a v
+
+-- k steps from the goal were made, and one more
+abbrev pub HasStep : Start → Encoded → List SetId → SetOfVectors → Bool → ℕ → Type 0
+HasStep start now slots left taking k = let sys = kept_system start left in
+    HasNext start now slots left (takers_within taking sys (suc k)) (layer Weak sys k)
+    (layer Weak sys (suc k))

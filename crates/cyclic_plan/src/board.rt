@@ -1,7 +1,7 @@
 //! The slots of a search, each at a place. Each step puts a new set at one place; the slots are
 //! ended all at once, when the search is done.
 
-ghost use Rattle.std.specs.Prelude.{◌≡◌, ◌≢◌, ℕ, ◌<◌, length, OnOk, IsErrOf};
+ghost use Rattle.std.specs.Prelude.{◌≡◌, ◌≢◌, ℕ, ◌<◌, ◌↔◌, IsTrue, length, OnOk, IsErrOf};
 ghost use Rattle.dd_nodes.specs.Subfunctions.{Function};
 ghost use Rattle.dd_sets.specs.Calls.{Releases};
 ghost use Rattle.dd_sets.specs.Frames.{OwnsAnswer};
@@ -91,6 +91,38 @@ impl Board {
     {
         let answer = copied(enc, set);
         self.put(enc, place, answer)
+    }
+
+    /// Puts at a place a copy of the set at another one.
+    pub(crate) fn copy_of(
+        &mut self,
+        enc: &mut Enc,
+        place: usize,
+        from: usize,
+    ) -> Result<(), SetErr>
+        requires working { IsWorking enc.old self.old.slots.items }
+        requires place { place < length self.old.slots.items }
+        requires from { from < length self.old.slots.items }
+        ensures { (start : Start) → At start enc.old self.old.slots.items
+            → Left start enc.new self.new.slots.items
+            (Moved start enc.old.sets self.old.slots.items enc.new self.new.slots.items place
+            (set_at enc.old.sets self.old.slots.items from)) result }
+    {
+        let set = self.at(from);
+        self.copy(enc, place, set)
+    }
+
+    /// Whether the sets at two places are the same.
+    pub(crate) fn is_same(&self, enc: &Enc, a: usize, b: usize) -> bool
+        requires working { IsWorking enc.now self.now.slots.items }
+        requires a { a < length self.now.slots.items }
+        requires b { b < length self.now.slots.items }
+        ensures { IsTrue result ↔ (set_at enc.now.sets self.now.slots.items a
+            ≡ set_at enc.now.sets self.now.slots.items b) }
+    {
+        let a = self.at(a);
+        let b = self.at(b);
+        enc.sets().same(a, b)
     }
 
     /// Puts the set of all lists of truth values at a place.

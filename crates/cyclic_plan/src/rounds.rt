@@ -1,13 +1,13 @@
 //! The rounds of the search for the largest set of pairs, on sets of states.
 
-ghost use Rattle.std.specs.Prelude.{◌≡◌, ℕ, ◌+◌, ◌<◌, ◌^◌, ◌&&◌, ◌||◌, not, length, false};
+ghost use Rattle.std.specs.Prelude.{◌≡◌, ℕ, suc, ◌+◌, ◌<◌, ◌^◌, ◌&&◌, ◌||◌, not, length, false};
 ghost use Rattle.dd_sets.specs.LiveSets.{IsLive, set_of};
 ghost use Rattle.task_core.specs.Cubes.{SetOfVectors};
 ghost use Rattle.task_core.specs.Tasks.{system_of, action_count, fluent_count};
 ghost use Rattle.reach_plan.specs.Layers.{may_lead};
 ghost use Rattle.cyclic_plan.specs.Board.{At, IsWorking, Left, Start};
 ghost use Rattle.cyclic_plan.specs.Rounds.{IsLastRound, connected, kept, round as round_of};
-ghost use Rattle.cyclic_plan.specs.Stages.{HasHits, HasNear, HasNext, HasPairs, HasRound, Takings, kept_system, next_by, none_taken, taken_also, taken_by, taken_if, takers_within};
+ghost use Rattle.cyclic_plan.specs.Stages.{HasHits, HasNear, HasNext, HasPairs, HasRound, HasStep, Takings, kept_system, next_by, none_taken, taken_also, taken_by, taken_if, takers_within};
 
 use crate::board::{Board, Operation, Outcomes};
 use dd_sets::SetErr;
@@ -177,16 +177,58 @@ fn grow(enc: &mut Enc, board: &mut Board, actions: u32, taking: bool) -> Result<
         (taken_by taking (kept_system start left) near taken (action_count start.task)) near
         (next_by (kept_system start left) near (action_count start.task))) result }
 {
-    let near = board.at(NEAR);
-    board.copy(enc, NEXT, near)?;
+    board.copy_of(enc, NEXT, NEAR)?;
     for a in 0..actions {
         advance(enc, board, actions, ActionId(a), taking)?;
     }
     Ok(())
 }
 
+/// The goal states, and the states that are one step from them.
+fn first_step(
+    enc: &mut Enc,
+    board: &mut Board,
+    actions: u32,
+    taking: bool,
+) -> Result<(), SetErr>
+    requires ready { (start : Start) × (left : SetOfVectors) × (near : SetOfVectors)
+        × HasNear start enc.old board.old.slots.items left none_taken near }
+    requires actions { actions ≡ length enc.old.actions }
+    ensures { (start : Start) (left : SetOfVectors) (near : SetOfVectors)
+        → HasNear start enc.old board.old.slots.items left none_taken near
+        → Left start enc.new board.new.slots.items
+        (HasStep start enc.new board.new.slots.items left taking 0) result }
+{
+    board.copy_of(enc, NEAR, GOAL)?;
+    grow(enc, board, actions, taking)
+}
+
+/// One step more.
+fn next_step(
+    enc: &mut Enc,
+    board: &mut Board,
+    actions: u32,
+    taking: bool,
+) -> Result<(), SetErr>
+    requires ready { (start : Start) × (left : SetOfVectors) × (k : ℕ)
+        × HasStep start enc.old board.old.slots.items left taking k }
+    requires actions { actions ≡ length enc.old.actions }
+    ensures { (start : Start) (left : SetOfVectors) (k : ℕ)
+        → HasStep start enc.old board.old.slots.items left taking k
+        → Left start enc.new board.new.slots.items
+        (HasStep start enc.new board.new.slots.items left taking (suc k)) result }
+{
+    board.copy_of(enc, NEAR, NEXT)?;
+    grow(enc, board, actions, taking)
+}
+
 /// Finds the states from which the goal is reached by kept pairs, step by step.
-fn spread(enc: &mut Enc, board: &mut Board, actions: u32, taking: bool) -> Result<(), SetErr>
+pub(crate) fn spread(
+    enc: &mut Enc,
+    board: &mut Board,
+    actions: u32,
+    taking: bool,
+) -> Result<(), SetErr>
     requires ready { (start : Start) × (left : SetOfVectors) × (near : SetOfVectors)
         × HasNear start enc.old board.old.slots.items left none_taken near }
     requires actions { actions ≡ length enc.old.actions }
@@ -197,13 +239,9 @@ fn spread(enc: &mut Enc, board: &mut Board, actions: u32, taking: bool) -> Resul
         (takers_within taking (kept_system start left) (2 ^ fluent_count start.task))
         (connected (system_of start.task) (kept (system_of start.task) left))) result }
 {
-    let goal = board.at(GOAL);
-    board.copy(enc, NEAR, goal)?;
-    grow(enc, board, actions, taking)?;
-    while !enc.sets().same(board.at(NEXT), board.at(NEAR)) {
-        let next = board.at(NEXT);
-        board.copy(enc, NEAR, next)?;
-        grow(enc, board, actions, taking)?;
+    first_step(enc, board, actions, taking)?;
+    while !board.is_same(enc, NEXT, NEAR) {
+        next_step(enc, board, actions, taking)?;
     }
     Ok(())
 }

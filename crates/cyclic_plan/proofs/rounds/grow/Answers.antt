@@ -14,12 +14,11 @@ use Rattle.cyclic_plan.proofs.rounds.grow.Goals as goal
 
 pub loop-a-init : goal.loop-a-init
 loop-a-init c start left taken near ready =
-    let now = c.copy.new.enc in
-    let slots = c.copy.new.self.slots.items in
-    let m = went start now slots _ c.copy.result _ c.in_ok-copy.was (c.copy.ensures start ready.round.at) in
-    let moved = subst (λ s. Moved start c.args.enc.now.sets c.args.board.now.slots.items now slots 4 (set_of c.args.enc.now.sets s)) c.at-near.ensures m in
+    let now = c.copy_of.new.enc in
+    let slots = c.copy_of.new.self.slots.items in
+    let m = went start now slots _ c.copy_of.result _ c.in_ok-copy_of.was (c.copy_of.ensures start ready.round.at) in
     next_as start now slots left taken _ near near _
-    (next_copied start c.args.enc.now now c.args.board.now.slots.items slots left taken near ready moved)
+    (next_copied start c.args.enc.now now c.args.board.now.slots.items slots left taken near ready m)
     (λ a v l is. taken_none c.args.taking (kept_system start left) near taken a v) (λ v is. next_none (kept_system start left) near v)
 
 pub advance-requires-clause-ready : goal.advance-requires-clause-ready
