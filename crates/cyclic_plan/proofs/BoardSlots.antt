@@ -1,9 +1,9 @@
 -- How the slots of a search change by each call.
-use Rattle.std.proofs.Common.{◌≡◌, ◌≢◌, ℕ, zero, suc, ◌+◌, ◌*◌, ◌<◌, ◌≤◌, ◌==◌, ◌||◌, Bool, true, false, List, [], ◌∷◌, ◌++◌, length, slice_index_or, slice_set, IsErrOf, Result, Ok, Err, IfOk, OnErr, OnOk, refl, sym, ap, subst, ◌∙◌, ⊎_elim, arith, length-append}
+use Rattle.std.proofs.Common.{◌≡◌, ◌≢◌, ℕ, zero, suc, ◌+◌, ◌*◌, ◌<◌, false, List, [], ◌∷◌, length, slice_set, IsErrOf, Result, Ok, Err, OnOk, refl, sym, ap, subst, ◌∙◌, ⊎_elim, arith}
 use Rattle.std.proofs.lemmas.Bool.{both_ways, cases_eq}
 use Rattle.std.proofs.lemmas.List.{get_or-set_same, get_or-set_other}
 use Rattle.dd_nodes.specs.Subfunctions.{Function}
-use Rattle.dd_sets.specs.Calls.{KeepsSets, Adds, AddsNone, Releases}
+use Rattle.dd_sets.specs.Calls.{Adds, Releases}
 use Rattle.dd_sets.specs.Frames.{Owns, OwnsAnswer}
 use Rattle.dd_sets.specs.LiveSets.{LiveSets, IsLive, IsSets, is_live, live_count, set_of}
 use Rattle.dd_sets.specs.Rooms.{IsTightFor}
@@ -15,8 +15,8 @@ use Rattle.preimage.proofs.FrameSteps.{made_now}
 use Rattle.task_core.specs.Tasks.{action_count, fluent_count}
 use Rattle.dd_sets.specs.declared.errors.SetErr.{SetErr}
 use Rattle.dd_sets.specs.declared.slots.SetId.{SetId}
-use Rattle.dd_sets.proofs.FrameLemmas.{kept_chain, kept_release, kept_same, not_before}
-use Rattle.dd_sets.proofs.OwnLemmas.{own_one, own_nothing}
+use Rattle.dd_sets.proofs.FrameLemmas.{kept_chain, kept_release, not_before}
+use Rattle.dd_sets.proofs.OwnLemmas.{own_one}
 use Rattle.cyclic_plan.specs.Board.{At, IsTightAt, Left, Moved, Start, Working, set_at, slot_at}
 
 length_set : (slots : List SetId) (at : ℕ) (new : SetId) → length (slice_set slots at new) ≡ length slots

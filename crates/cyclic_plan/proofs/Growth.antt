@@ -1,5 +1,5 @@
 -- One step more from the goal: what is near, and what is taken.
-use Rattle.std.proofs.Common.{◌≡◌, ◌≢◌, ℕ, zero, suc, ◌+◌, ◌-◌, ◌<◌, ◌≤◌, ◌^◌, ◌==◌, Bool, true, false, cond, not, ◌&&◌, ◌||◌, List, [], ◌∷◌, ◌++◌, map, length, Option, None, Some, refl, sym, ap, subst, ◌∙◌, ⊎_elim, arith, nat_lt}
+use Rattle.std.proofs.Common.{◌≡◌, ◌≢◌, ℕ, zero, suc, ◌+◌, ◌-◌, ◌<◌, ◌≤◌, ◌^◌, ◌==◌, Bool, true, false, cond, not, ◌&&◌, ◌||◌, List, [], ◌∷◌, ◌++◌, map, length, None, Some, refl, sym, ap, subst, ◌∙◌, ⊎_elim, arith, nat_lt}
 use Rattle.std.specs.Option.{option_and_then, option_or}
 use Rattle.std.specs.List.{Contains, find, list_any, range_with_len}
 use Rattle.std.proofs.Math.Path.{fun_ext}
@@ -8,7 +8,6 @@ use Rattle.std.proofs.lemmas.List.{append-nil, append_assoc}
 use Rattle.std.proofs.lemmas.Option.{same_Some}
 use Rattle.std.proofs.lemmas.List.Folds.{list_any-append, find-append}
 use Rattle.std.proofs.lemmas.List.FromFn.{get_or-map-range_with_len, length-map-range_with_len}
-use Rattle.dd_nodes.specs.NodeList.{Values}
 use Rattle.dd_nodes.specs.Subfunctions.{DependsOnly, Function}
 use Rattle.dd_sets.specs.declared.slots.SetId.{SetId}
 use Rattle.encode_task.specs.Slots.{Encoded}
@@ -23,16 +22,16 @@ use Rattle.reach_plan.specs.Printed.{action_of_rank, chosen_action, is_action, t
 use Rattle.reach_plan.proofs.ClassLayers.{chosen_kept, chosen_zero, layer-stable, rank_within-None, step_choice}
 use Rattle.reach_plan.proofs.LayerSteps.{find-first, range-more}
 use Rattle.reach_plan.proofs.LeastBounds.{stands_still}
-use Rattle.reach_plan.proofs.WeakLists.{find-None, find-Some, find-found, list_any-from, range_with_len-last, Contains-range_with_len, Contains-range_with_len-below}
+use Rattle.reach_plan.proofs.WeakLists.{find-None, find-Some, find-found, Contains-range_with_len-below}
 use Rattle.reach_plan.proofs.WeakPrinted.{is_action-Some, is_action-from}
 use Rattle.task_core.proofs.TaskSystem.{is_system}
 use Rattle.reach_plan.proofs.Cubes.{all_vectors-agree, all_vectors-length}
 use Rattle.cyclic_plan.proofs.Restricted.{restricted_system}
 use Rattle.cyclic_plan.proofs.RoundSteps.{held, holds_fewer}
 use Rattle.cyclic_plan.proofs.StageSteps.{depends}
-use Rattle.cyclic_plan.specs.Board.{At, Start, set_at}
-use Rattle.cyclic_plan.specs.Rounds.{connected, kept, progress}
-use Rattle.cyclic_plan.specs.Stages.{Agrees, HasHits, HasNear, HasNext, HasRound, Takings, kept_system, next_by, none_taken, taken_also, taken_by, taken_if, takers_within}
+use Rattle.cyclic_plan.specs.Board.{Start, set_at}
+use Rattle.cyclic_plan.specs.Rounds.{connected, kept}
+use Rattle.cyclic_plan.specs.Stages.{HasNear, HasNext, HasRound, Takings, kept_system, next_by, taken_also, taken_by, taken_if, takers_within}
 
 -- the same states by another name
 pub round_as : (start : Start) (now : Encoded) (slots : List SetId) (left : SetOfVectors) (taken other : Takings) → HasRound start now slots left taken

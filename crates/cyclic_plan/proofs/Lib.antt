@@ -5,4 +5,5 @@ pub mod CyclicPrinted
 pub mod BoardSlots
 pub mod StageSteps
 pub mod Growth
+pub mod RoundsMade
 mod CyclicExamples

@@ -1,20 +1,19 @@
 -- What the slots of a search hold after each step.
-use Rattle.std.proofs.Common.{◌≡◌, ◌≢◌, ℕ, zero, suc, ◌+◌, ◌<◌, ◌≤◌, ◌==◌, Bool, true, false, cond, not, ◌&&◌, ◌||◌, List, [], ◌∷◌, map, length, refl, sym, ap, subst, ◌∙◌, ⊎_elim, arith}
-use Rattle.std.specs.List.{Contains, list_all, list_any, range_with_len}
-use Rattle.std.proofs.lemmas.Bool.{cases_eq, cond-false, cond-true, eq-eqb, false≢true, ne_eqb, true≢false}
+use Rattle.std.proofs.Common.{◌≡◌, ◌≢◌, ℕ, ◌+◌, ◌<◌, ◌≤◌, ◌==◌, Bool, true, false, cond, not, ◌&&◌, ◌||◌, List, [], ◌∷◌, length, refl, sym, ap, subst, ◌∙◌, ⊎_elim, arith}
+use Rattle.std.specs.List.{list_all, list_any}
+use Rattle.std.proofs.lemmas.Bool.{cases_eq, cond-false, cond-true, eq-eqb, false≢true, ne_eqb}
 use Rattle.dd_nodes.specs.Subfunctions.{DependsOnly, Function}
 use Rattle.dd_ops.specs.Operations.{and_of, minus_of, or_of}
-use Rattle.dd_sets.specs.LiveSets.{IsSets, LiveSets}
+use Rattle.dd_sets.specs.LiveSets.{IsSets}
 use Rattle.dd_sets.specs.declared.slots.SetId.{SetId}
 use Rattle.dd_sets.proofs.SetLemmas.{set_depends}
 use Rattle.encode_task.specs.Slots.{Encoded}
 use Rattle.preimage.specs.Preimages.{strong_preimage, weak_preimage}
 use Rattle.preimage.proofs.OutcomeLemmas.{strong_leads, weak_leads}
 use Rattle.task_core.specs.Cubes.{SetOfVectors}
-use Rattle.task_core.specs.Systems.{HasOutcome, IsState, System}
+use Rattle.task_core.specs.Systems.{System}
 use Rattle.task_core.specs.Tasks.{action_count, fluent_count, is_executable, next_states, states_after, system_of}
 use Rattle.task_core.specs.Vectors.{Vector, value_of}
-use Rattle.task_core.specs.declared.tasks.Task.{Task}
 use Rattle.task_core.proofs.TaskSystem.{executable_exec, is_system}
 use Rattle.reach_plan.specs.Layers.{may_lead, must_lead}
 use Rattle.reach_plan.proofs.WeakLists.{Contains-head, list_all-agree, list_any-agree, list_any-from, list_all-at}
@@ -22,7 +21,7 @@ use Rattle.cyclic_plan.specs.Board.{At, Moved, Start, led, set_at}
 use Rattle.cyclic_plan.specs.declared.board.Outcomes.TheVariants as Outcomes
 use Rattle.cyclic_plan.specs.Pairs.{Pairs, is_goal, restricted}
 use Rattle.cyclic_plan.specs.Rounds.{kept}
-use Rattle.cyclic_plan.specs.Stages.{Agrees, HasHits, HasNear, HasNext, HasPairs, HasRound, Takings, kept_system, next_by, taken_also, taken_by}
+use Rattle.cyclic_plan.specs.Stages.{Agrees, HasHits, HasNear, HasNext, HasPairs, HasRound, Takings, kept_system, taken_also}
 
 -- a place that isn't written keeps its set
 module _ (start : Start) (enc now : Encoded) (old new : List SetId) (place : ℕ) (g : Function) (m : Moved start enc.sets old now new place g) where

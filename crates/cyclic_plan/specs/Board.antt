@@ -16,7 +16,6 @@ use Rattle.task_core.specs.declared.tasks.Task.{Task}
 use Rattle.cyclic_plan.specs.declared.board.Operation.{Operation}
 use Rattle.cyclic_plan.specs.declared.board.Operation.TheVariants.{Join, Meet, Minus}
 use Rattle.cyclic_plan.specs.declared.board.Outcomes.{Outcomes}
-use Rattle.cyclic_plan.specs.declared.board.Outcomes.TheVariants as Outcomes
 
 -- the slot at a place, and its set
 abbrev pub slot_at : List SetId → ℕ → ℕ

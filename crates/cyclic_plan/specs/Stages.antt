@@ -2,7 +2,7 @@
 -- states that are left at 1, those of them outside the goal at 2, the states near the goal at 3 and
 -- the next ones at 4, where an action leads into them at 5 and what is new of that at 6. From 7 on
 -- there are, for each action, the states of the pairs that are kept, and then those that take it.
-use Rattle.std.specs.Prelude.{◌≡◌, ℕ, suc, ◌+◌, ◌<◌, ◌==◌, ◌^◌, Bool, false, not, ◌&&◌, ◌||◌, List, if◌then◌else◌, nat_lt}
+use Rattle.std.specs.Prelude.{◌≡◌, ℕ, suc, ◌+◌, ◌<◌, ◌==◌, Bool, false, not, ◌&&◌, ◌||◌, List, if◌then◌else◌, nat_lt}
 use Rattle.std.specs.List.{list_any, range_with_len}
 use Rattle.dd_nodes.specs.Subfunctions.{Function}
 use Rattle.dd_sets.specs.LiveSets.{IsSets}
@@ -16,8 +16,8 @@ use Rattle.task_core.specs.declared.classes.Class.TheVariants.{Weak}
 use Rattle.reach_plan.specs.Layers.{layer, may_lead}
 use Rattle.reach_plan.specs.Printed.{takers}
 use Rattle.cyclic_plan.specs.Board.{At, Start, set_at}
-use Rattle.cyclic_plan.specs.Pairs.{Pairs, is_goal, restricted}
-use Rattle.cyclic_plan.specs.Rounds.{kept}
+use Rattle.cyclic_plan.specs.Pairs.{is_goal, restricted}
+use Rattle.cyclic_plan.specs.Rounds.{IsLastRound, kept, round}
 
 -- a set on diagrams has the states of a set
 abbrev pub Agrees : Start → Function → SetOfVectors → Type 0
@@ -102,3 +102,13 @@ abbrev pub HasStep : Start → Encoded → List SetId → SetOfVectors → Bool 
 HasStep start now slots left taking k = let sys = kept_system start left in
     HasNext start now slots left (takers_within taking sys (suc k)) (layer Weak sys k)
     (layer Weak sys (suc k))
+
+-- after a round, the states that it left stand at 3, and those of the round before at 1
+abbrev pub HasRounds : Start → Encoded → List SetId → ℕ → Type 0
+HasRounds start now slots r = let sys = system_of start.task in
+    HasNear start now slots (round sys r) none_taken (round sys (suc r))
+
+-- and the last round was made
+abbrev pub HasLastRound : Start → Encoded → List SetId → Type 0
+HasLastRound start now slots =
+    (r : ℕ) × IsLastRound (system_of start.task) r × HasRounds start now slots r

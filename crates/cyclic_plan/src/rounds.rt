@@ -7,7 +7,7 @@ ghost use Rattle.task_core.specs.Tasks.{system_of, action_count, fluent_count};
 ghost use Rattle.reach_plan.specs.Layers.{may_lead};
 ghost use Rattle.cyclic_plan.specs.Board.{At, IsWorking, Left, Start};
 ghost use Rattle.cyclic_plan.specs.Rounds.{IsLastRound, connected, kept, round as round_of};
-ghost use Rattle.cyclic_plan.specs.Stages.{HasHits, HasNear, HasNext, HasPairs, HasRound, HasStep, Takings, kept_system, next_by, none_taken, taken_also, taken_by, taken_if, takers_within};
+ghost use Rattle.cyclic_plan.specs.Stages.{HasHits, HasLastRound, HasNear, HasNext, HasPairs, HasRound, HasStep, Takings, kept_system, next_by, none_taken, taken_also, taken_by, taken_if, takers_within};
 
 use crate::board::{Board, Operation, Outcomes};
 use dd_sets::SetErr;
@@ -242,6 +242,58 @@ pub(crate) fn spread(
     first_step(enc, board, actions, taking)?;
     while !board.is_same(enc, NEXT, NEAR) {
         next_step(enc, board, actions, taking)?;
+    }
+    Ok(())
+}
+
+/// One round: the pairs that don't lead out of the states that are left, and the states from which
+/// these pairs reach the goal.
+fn round(enc: &mut Enc, board: &mut Board, actions: u32) -> Result<(), SetErr>
+    requires ready { (start : Start) × (left : SetOfVectors)
+        × HasRound start enc.old board.old.slots.items left none_taken }
+    requires actions { actions ≡ length enc.old.actions }
+    ensures { (start : Start) (left : SetOfVectors)
+        → HasRound start enc.old board.old.slots.items left none_taken
+        → Left start enc.new board.new.slots.items
+        (HasNear start enc.new board.new.slots.items left none_taken
+        (connected (system_of start.task) (kept (system_of start.task) left))) result }
+{
+    keep_pairs(enc, board, actions)?;
+    spread(enc, board, actions, false)
+}
+
+/// The next round, with the states that the last one left.
+fn next_round(enc: &mut Enc, board: &mut Board, actions: u32) -> Result<(), SetErr>
+    requires ready { (start : Start) × (left : SetOfVectors) × (near : SetOfVectors)
+        × HasNear start enc.old board.old.slots.items left none_taken near }
+    requires actions { actions ≡ length enc.old.actions }
+    ensures { (start : Start) (left : SetOfVectors) (near : SetOfVectors)
+        → HasNear start enc.old board.old.slots.items left none_taken near
+        → Left start enc.new board.new.slots.items
+        (HasNear start enc.new board.new.slots.items near none_taken
+        (connected (system_of start.task) (kept (system_of start.task) near))) result }
+{
+    board.copy_of(enc, LEFT, NEAR)?;
+    round(enc, board, actions)
+}
+
+/// Makes rounds until one leaves the same states as the one before.
+pub(crate) fn last_round(
+    enc: &mut Enc,
+    board: &mut Board,
+    actions: u32,
+) -> Result<(), SetErr>
+    requires ready { (start : Start) × HasRound start enc.old board.old.slots.items
+        (round_of (system_of start.task) 0) none_taken }
+    requires actions { actions ≡ length enc.old.actions }
+    ensures { (start : Start) → HasRound start enc.old board.old.slots.items
+        (round_of (system_of start.task) 0) none_taken
+        → Left start enc.new board.new.slots.items
+        (HasLastRound start enc.new board.new.slots.items) result }
+{
+    round(enc, board, actions)?;
+    while !board.is_same(enc, NEAR, LEFT) {
+        next_round(enc, board, actions)?;
     }
     Ok(())
 }

@@ -1,10 +1,8 @@
-use Rattle.std.proofs.Common.{ℕ, ◌<◌, ◌≡◌, ◌+◌, ◌∙◌, arith, length}
-use Rattle.std.specs.Prelude.{◌&&◌, not}
+use Rattle.std.proofs.Common.{◌≡◌, ◌+◌, arith, length}
 use Rattle.std.proofs.lemmas.Result.{err_from_is_err_and}
 use Rattle.task_core.specs.Tasks.{action_count}
 use Rattle.reach_plan.specs.Layers.{may_lead}
-use Rattle.cyclic_plan.specs.Board.{At}
-use Rattle.cyclic_plan.specs.Stages.{HasHits, kept_system, taken_if}
+use Rattle.cyclic_plan.specs.Stages.{kept_system}
 use Rattle.cyclic_plan.proofs.BoardSlots.{left_with, passed, same_actions, went}
 use Rattle.cyclic_plan.proofs.StageSteps.{next_joined}
 use Rattle.cyclic_plan.proofs.rounds.advance.Goals as goal

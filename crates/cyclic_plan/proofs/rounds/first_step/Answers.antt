@@ -1,11 +1,10 @@
-use Rattle.std.proofs.Common.{ℕ, ◌<◌, ◌≡◌, ◌+◌, ◌∙◌, arith, length, refl}
-use Rattle.task_core.specs.Tasks.{action_count, system_of}
+use Rattle.std.proofs.Common.{◌≡◌, arith, length, refl}
+use Rattle.task_core.specs.Tasks.{system_of}
 use Rattle.task_core.specs.declared.classes.Class.TheVariants.{Weak}
 use Rattle.reach_plan.specs.Layers.{layer}
-use Rattle.cyclic_plan.specs.Board.{At, set_at}
 use Rattle.cyclic_plan.specs.Pairs.{is_goal}
 use Rattle.cyclic_plan.specs.Stages.{HasNear, kept_system, none_taken, takers_within}
-use Rattle.cyclic_plan.proofs.BoardSlots.{left_with, passed, same_actions, went}
+use Rattle.cyclic_plan.proofs.BoardSlots.{left_with, same_actions, went}
 use Rattle.cyclic_plan.proofs.Growth.{grown, near_as, takers_none}
 use Rattle.cyclic_plan.proofs.StageSteps.{near_copied}
 use Rattle.cyclic_plan.proofs.rounds.first_step.Goals as goal

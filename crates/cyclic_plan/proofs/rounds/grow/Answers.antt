@@ -1,13 +1,8 @@
-use Rattle.std.proofs.Common.{Bool, ℕ, ◌<◌, ◌≡◌, ◌≤◌, ◌+◌, ◌∙◌, arith, length, sym, subst, ap}
-use Rattle.std.specs.Prelude.{◌&&◌, not}
+use Rattle.std.proofs.Common.{◌≡◌, arith, length, ap}
 use Rattle.std.proofs.lemmas.Result.{err_from_is_err_and}
-use Rattle.dd_nodes.specs.Subfunctions.{Function}
-use Rattle.dd_sets.specs.LiveSets.{set_of}
 use Rattle.task_core.specs.Tasks.{action_count}
-use Rattle.reach_plan.specs.Layers.{may_lead}
-use Rattle.cyclic_plan.specs.Board.{At, Moved, set_at}
-use Rattle.cyclic_plan.specs.Stages.{HasHits, kept_system, next_by, taken_by, taken_if}
-use Rattle.cyclic_plan.proofs.BoardSlots.{left_with, made_at, passed, same_actions, went}
+use Rattle.cyclic_plan.specs.Stages.{kept_system, next_by, taken_by}
+use Rattle.cyclic_plan.proofs.BoardSlots.{made_at, passed, same_actions, went}
 use Rattle.cyclic_plan.proofs.Growth.{next_as, next_more, next_none, taken_all, taken_more, taken_none}
 use Rattle.cyclic_plan.proofs.StageSteps.{next_copied}
 use Rattle.cyclic_plan.proofs.rounds.grow.Goals as goal

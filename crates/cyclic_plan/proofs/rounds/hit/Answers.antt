@@ -1,4 +1,4 @@
-use Rattle.std.proofs.Common.{ℕ, ◌+◌, subst}
+use Rattle.std.proofs.Common.{ℕ, subst}
 use Rattle.dd_ops.specs.Operations.{and_of}
 use Rattle.cyclic_plan.specs.Board.{Moved, set_at}
 use Rattle.cyclic_plan.proofs.BoardSlots.{action_within, left_with, went}

@@ -1,4 +1,4 @@
-use Rattle.std.proofs.Common.{ℕ, ◌+◌, subst}
+use Rattle.std.proofs.Common.{ℕ, subst}
 use Rattle.dd_ops.specs.Operations.{and_of}
 use Rattle.cyclic_plan.specs.Board.{Moved, led as leads, set_at}
 use Rattle.cyclic_plan.specs.declared.board.Outcomes.TheVariants as Outcomes

@@ -1,7 +1,7 @@
-use Rattle.std.proofs.Common.{ℕ, ◌<◌, ◌≡◌, ◌≤◌, ◌∙◌, arith, length}
+use Rattle.std.proofs.Common.{◌≡◌, arith, length}
 use Rattle.std.proofs.lemmas.Result.{err_from_is_err_and}
 use Rattle.task_core.specs.Tasks.{action_count}
-use Rattle.cyclic_plan.proofs.BoardSlots.{left_with, made_at, passed, same_actions, went}
+use Rattle.cyclic_plan.proofs.BoardSlots.{made_at, passed, same_actions}
 use Rattle.cyclic_plan.proofs.StageSteps.{pairs_all}
 use Rattle.cyclic_plan.proofs.rounds.keep_pairs.Goals as goal
 

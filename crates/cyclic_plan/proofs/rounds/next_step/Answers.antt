@@ -1,10 +1,9 @@
-use Rattle.std.proofs.Common.{ℕ, suc, ◌<◌, ◌≡◌, ◌+◌, ◌∙◌, arith, length}
+use Rattle.std.proofs.Common.{suc, ◌≡◌, ◌+◌, arith, length}
 use Rattle.task_core.specs.Tasks.{action_count}
 use Rattle.task_core.specs.declared.classes.Class.TheVariants.{Weak}
 use Rattle.reach_plan.specs.Layers.{layer}
-use Rattle.cyclic_plan.specs.Board.{At, set_at}
 use Rattle.cyclic_plan.specs.Stages.{HasNear, kept_system, takers_within}
-use Rattle.cyclic_plan.proofs.BoardSlots.{left_with, passed, same_actions, went}
+use Rattle.cyclic_plan.proofs.BoardSlots.{left_with, same_actions, went}
 use Rattle.cyclic_plan.proofs.Growth.{grown}
 use Rattle.cyclic_plan.proofs.StageSteps.{near_copied}
 use Rattle.cyclic_plan.proofs.rounds.next_step.Goals as goal

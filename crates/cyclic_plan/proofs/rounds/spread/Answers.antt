@@ -1,9 +1,7 @@
-use Rattle.std.proofs.Common.{ℕ, suc, ◌<◌, ◌≡◌, ◌+◌, ◌∙◌, ap, arith, length}
-use Rattle.std.proofs.lemmas.Bool.{false≢true}
+use Rattle.std.proofs.Common.{suc, ◌≡◌, ◌+◌, arith, length}
 use Rattle.std.proofs.lemmas.Result.{err_from_is_err_and}
-use Rattle.encode_task.specs.Slots.{Encoded}
-use Rattle.task_core.specs.Tasks.{action_count, fluent_count}
-use Rattle.cyclic_plan.proofs.BoardSlots.{left_with, passed, same_actions, same_fluents, went}
+use Rattle.task_core.specs.Tasks.{action_count}
+use Rattle.cyclic_plan.proofs.BoardSlots.{passed, same_actions, same_fluents, went}
 use Rattle.cyclic_plan.proofs.Growth.{spread_done, spread_less}
 use Rattle.cyclic_plan.proofs.rounds.spread.Goals as goal
 

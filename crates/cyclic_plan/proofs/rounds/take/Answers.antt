@@ -1,8 +1,8 @@
-use Rattle.std.proofs.Common.{ℕ, ◌+◌, ◌≡◌, ◌∙◌, ap, arith, length, subst}
+use Rattle.std.proofs.Common.{ℕ, ◌+◌, ◌≡◌, arith, length, subst}
 use Rattle.dd_ops.specs.Operations.{or_of}
 use Rattle.task_core.specs.Tasks.{action_count}
 use Rattle.cyclic_plan.specs.Board.{Moved, set_at}
-use Rattle.cyclic_plan.proofs.BoardSlots.{action_within, left_with, made_at, same_actions, went}
+use Rattle.cyclic_plan.proofs.BoardSlots.{action_within, left_with, made_at, went}
 use Rattle.cyclic_plan.proofs.StageSteps.{takes}
 use Rattle.cyclic_plan.proofs.rounds.take.Goals as goal
 

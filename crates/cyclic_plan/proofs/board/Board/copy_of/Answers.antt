@@ -1,6 +1,6 @@
 use Rattle.std.proofs.Common.{ℕ, subst}
 use Rattle.dd_sets.specs.LiveSets.{IsLive, set_of}
-use Rattle.cyclic_plan.specs.Board.{Left, Moved, slot_at}
+use Rattle.cyclic_plan.specs.Board.{Left, Moved}
 use Rattle.cyclic_plan.proofs.board.Board.copy_of.Goals as goal
 use Rattle.std.proofs.Common.{sym}
 

@@ -1,1 +1,0 @@
-use Rattle.cyclic_plan.proofs.board.Board.is_same.Goals as goal

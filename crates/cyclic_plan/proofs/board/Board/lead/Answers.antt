@@ -1,7 +1,7 @@
-use Rattle.std.proofs.Common.{subst, ap, ◌∙◌, ◌≡◌}
+use Rattle.std.proofs.Common.{subst, ap, ◌≡◌}
 use Rattle.dd_nodes.specs.Subfunctions.{Function}
 use Rattle.dd_sets.specs.Frames.{OwnsAnswer}
-use Rattle.dd_sets.specs.LiveSets.{IsLive, set_of}
+use Rattle.dd_sets.specs.LiveSets.{set_of}
 use Rattle.encode_task.proofs.OwnedLemmas.{answer_kept}
 use Rattle.cyclic_plan.specs.Board.{led, set_at}
 use Rattle.cyclic_plan.proofs.BoardSlots.{made_at, placed}

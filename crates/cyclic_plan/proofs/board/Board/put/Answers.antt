@@ -1,4 +1,4 @@
-use Rattle.std.proofs.Common.{◌≡◌, subst}
+use Rattle.std.proofs.Common.{subst}
 use Rattle.dd_sets.specs.Frames.{OwnsAnswer}
 use Rattle.dd_sets.specs.Calls.{Releases}
 use Rattle.cyclic_plan.proofs.BoardSlots.{set_here, set_other, working_put}
