@@ -1,11 +1,12 @@
 -- How the slots of a search change by each call.
-use Rattle.std.proofs.Common.{◌≡◌, ◌≢◌, ℕ, zero, suc, ◌+◌, ◌*◌, ◌<◌, false, List, [], ◌∷◌, length, slice_set, IsErrOf, Result, Ok, Err, OnOk, refl, sym, ap, subst, ◌∙◌, ⊎_elim, arith}
-use Rattle.std.proofs.lemmas.Bool.{both_ways, cases_eq}
-use Rattle.std.proofs.lemmas.List.{get_or-set_same, get_or-set_other}
+use Rattle.std.proofs.Common.{◌≡◌, ◌≢◌, ℕ, zero, suc, ◌+◌, ◌*◌, ◌<◌, false, List, [], ◌∷◌, ◌++◌, length, slice_set, IsErrOf, Result, Ok, Err, OnOk, refl, sym, ap, subst, ◌∙◌, ⊎_elim, inl, inr, ◌⊎◌, arith, length-append}
+use Rattle.std.proofs.lemmas.Bool.{both_ways, cases_eq, cases_lt}
+use Rattle.std.proofs.Math.Seq.{get_or-append_seam}
+use Rattle.std.proofs.lemmas.List.{get_or_append_left, get_or-set_same, get_or-set_other}
 use Rattle.dd_nodes.specs.Subfunctions.{Function}
 use Rattle.dd_sets.specs.Calls.{Adds, Releases}
 use Rattle.dd_sets.specs.Frames.{Owns, OwnsAnswer}
-use Rattle.dd_sets.specs.LiveSets.{LiveSets, IsLive, IsSets, is_live, live_count, set_of}
+use Rattle.dd_sets.specs.LiveSets.{LiveSets, IsLive, IsSets, is_live, live_count, nothing, set_of}
 use Rattle.dd_sets.specs.Rooms.{IsTightFor}
 use Rattle.dd_sets.specs.declared.errors.SetErr.TheVariants.{Full}
 use Rattle.encode_task.specs.Slots.{Encoded}
@@ -15,9 +16,9 @@ use Rattle.preimage.proofs.FrameSteps.{made_now}
 use Rattle.task_core.specs.Tasks.{action_count, fluent_count}
 use Rattle.dd_sets.specs.declared.errors.SetErr.{SetErr}
 use Rattle.dd_sets.specs.declared.slots.SetId.{SetId}
-use Rattle.dd_sets.proofs.FrameLemmas.{kept_chain, kept_release, not_before}
+use Rattle.dd_sets.proofs.FrameLemmas.{kept_chain, kept_release, kept_same, not_before}
 use Rattle.dd_sets.proofs.OwnLemmas.{own_one}
-use Rattle.cyclic_plan.specs.Board.{At, IsTightAt, Left, Moved, Start, Working, set_at, slot_at}
+use Rattle.cyclic_plan.specs.Board.{AllNothing, At, IsTightAt, Left, Moved, Start, Working, set_at, slot_at}
 
 length_set : (slots : List SetId) (at : ℕ) (new : SetId) → length (slice_set slots at new) ≡ length slots
 length_set [] at new = refl
@@ -165,3 +166,139 @@ same_actions start enc now old new first second =
 
 pub same_fluents : (start : Start) (enc : Encoded) (slots : List SetId) → At start enc slots → enc.fluents ≡ fluent_count start.task
 same_fluents start enc slots here = (made_at start enc slots here).fluents
+
+-- one slot more at the end, and one less
+at_end : (slots : List SetId) (new : SetId) → slot_at (slots ++ new ∷ []) (length slots) ≡ new.0
+at_end slots new = ap (λ (s : SetId). s.0) (get_or-append_seam slots new [] (record { 0 = 0 }))
+
+at_front : (slots : List SetId) (new : SetId) (i : ℕ) → i < length slots → slot_at (slots ++ new ∷ []) i ≡ slot_at slots i
+at_front slots new i l = ap (λ (s : SetId). s.0) (get_or_append_left slots (new ∷ []) (record { 0 = 0 }) i l)
+
+one_longer : (slots : List SetId) (new : SetId) → length (slots ++ new ∷ []) ≡ length slots + 1
+one_longer slots new = length-append slots (new ∷ [])
+
+front_or_end : (slots : List SetId) (new : SetId) (i : ℕ) → i < length (slots ++ new ∷ []) → (i < length slots) ⊎ (i ≡ length slots)
+front_or_end slots new i l = let e : length (slots ++ new ∷ []) ≡ length slots + 1 = one_longer slots new in ⊎_elim (λ a. inl a) (λ b. inr (omega arith)) (cases_lt i (length slots))
+
+module _ (before mid now : LiveSets) (slots : List SetId) (new : SetId) (set : Function) (work : Working before mid slots) (answer : Owns mid now ((new.0, set) ∷ [])) where
+  adds_one : Adds mid now new.0 set
+  adds_one = own_one mid now new.0 set answer
+
+  none_is : (i : ℕ) → i < length slots → slot_at slots i ≢ new.0
+  none_is i l e = both_ways (is_live mid new.0) adds_one.free (ap (is_live mid) (sym e) ∙ work.live i l)
+
+  each_now : (i : ℕ) → i < length (slots ++ new ∷ []) → IsLive now (slot_at (slots ++ new ∷ []) i) × (is_live before (slot_at (slots ++ new ∷ []) i) ≡ false)
+  each_now i l =
+      ⊎_elim
+      (λ (front : i < length slots). (
+      ap (is_live now) (at_front slots new i front) ∙ answer.kept.live (slot_at slots i) (work.live i front),
+      ap (is_live before) (at_front slots new i front) ∙ work.free i front))
+      (λ (last : i ≡ length slots).
+      let e : slot_at (slots ++ new ∷ []) i ≡ new.0 = ap (slot_at (slots ++ new ∷ [])) last ∙ at_end slots new in
+      (ap (is_live now) e ∙ adds_one.live, ap (is_live before) e ∙ not_before before mid work.kept new.0 adds_one.free))
+      (front_or_end slots new i l)
+
+  all_differ : (i j : ℕ) → i < length (slots ++ new ∷ []) → j < length (slots ++ new ∷ []) → i ≢ j → slot_at (slots ++ new ∷ []) i ≢ slot_at (slots ++ new ∷ []) j
+  all_differ i j l m differ e =
+      ⊎_elim
+      (λ (first : i < length slots).
+      ⊎_elim (λ (second : j < length slots). work.apart i j first second differ (sym (at_front slots new i first) ∙ e ∙ at_front slots new j second))
+      (λ (last : j ≡ length slots). none_is i first (sym (at_front slots new i first) ∙ e ∙ ap (slot_at (slots ++ new ∷ [])) last ∙ at_end slots new))
+      (front_or_end slots new j m))
+      (λ (last : i ≡ length slots).
+      ⊎_elim (λ (second : j < length slots). none_is j second (sym (at_front slots new j second) ∙ sym e ∙ ap (slot_at (slots ++ new ∷ [])) last ∙ at_end slots new))
+      (λ (other : j ≡ length slots). differ (last ∙ sym other))
+      (front_or_end slots new j m))
+      (front_or_end slots new i l)
+
+  pub working_pushed : Working before now (slots ++ new ∷ [])
+  working_pushed =
+      let long : length (slots ++ new ∷ []) ≡ length slots + 1 = one_longer slots new in
+      let a : live_count now ≡ live_count mid + 1 = adds_one.count in
+      let b : live_count mid ≡ live_count before + length slots = work.count in
+      record {
+        kept = kept_chain before mid now work.kept answer.kept;
+        live = λ i l. (each_now i l).0;
+        free = λ i l. (each_now i l).1;
+        apart = all_differ;
+        others = λ slot none.
+            adds_one.others slot (λ e. none (length slots) (omega arith) (at_end slots new ∙ sym e))
+            ∙ work.others slot (λ i l e. none i (omega arith) (at_front slots new i l ∙ e));
+        count = omega arith;
+      }
+
+  pub nothing_pushed : set ≡ nothing → AllNothing mid slots → AllNothing now (slots ++ new ∷ [])
+  nothing_pushed is empty i l =
+      ⊎_elim
+      (λ (front : i < length slots). ap (set_of now) (at_front slots new i front) ∙ answer.kept.sets (slot_at slots i) (work.live i front) ∙ empty i front)
+      (λ (last : i ≡ length slots). ap (λ k. set_of now (slot_at (slots ++ new ∷ []) k)) last ∙ ap (set_of now) (at_end slots new) ∙ adds_one.holds ∙ is)
+      (front_or_end slots new i l)
+
+  -- where it is ended at once
+  pub working_undone : (after : LiveSets) → Releases now after new.0 → Working before after slots
+  working_undone after ends = record {
+    kept = kept_release before now after new.0 (kept_chain before mid now work.kept answer.kept) ends (not_before before mid work.kept new.0 adds_one.free);
+    live = λ i l. ends.live (slot_at slots i) (none_is i l) ∙ answer.kept.live (slot_at slots i) (work.live i l);
+    free = work.free;
+    apart = work.apart;
+    others = λ slot none.
+        ⊎_elim
+        (λ (same : slot ≡ new.0). ap (is_live after) same ∙ ends.ended ∙ sym (ap (is_live before) same ∙ not_before before mid work.kept new.0 adds_one.free))
+        (λ (differs : slot ≢ new.0). ends.live slot differs ∙ adds_one.others slot differs ∙ work.others slot none)
+        (cases_eq slot new.0);
+    count = let a : live_count now ≡ live_count mid + 1 = adds_one.count in let b : live_count mid ≡ live_count before + length slots = work.count in let d : live_count after + 1 ≡ live_count now = ends.count in omega arith;
+  }
+
+pub working_popped : (before now after : LiveSets) (slots : List SetId) (last : SetId) → Working before now (slots ++ last ∷ []) → Releases now after last.0 → Working before after slots
+working_popped before now after slots last work ends =
+    let long : length (slots ++ last ∷ []) ≡ length slots + 1 = one_longer slots last in
+    let a : live_count after + 1 ≡ live_count now = ends.count in
+    let b : live_count now ≡ live_count before + length (slots ++ last ∷ []) = work.count in
+    record {
+      kept = kept_release before now after last.0 work.kept ends free_last;
+      live = λ i l. ends.live (slot_at slots i) (differs i l) ∙ ap (is_live now) (sym (at_front slots last i l)) ∙ work.live i (omega arith);
+      free = λ i l. ap (is_live before) (sym (at_front slots last i l)) ∙ work.free i (omega arith);
+      apart = λ i j l m differ e. work.apart i j (omega arith) (omega arith) differ (at_front slots last i l ∙ e ∙ sym (at_front slots last j m));
+      others = λ slot none.
+          ⊎_elim
+          (λ (same : slot ≡ last.0). ap (is_live after) same ∙ ends.ended ∙ sym (ap (is_live before) same ∙ free_last))
+          (λ (other : slot ≢ last.0).
+          ends.live slot other
+          ∙ work.others slot (λ i l e. ⊎_elim (λ (front : i < length slots). none i front (sym (at_front slots last i front) ∙ e)) (λ (is : i ≡ length slots). other (sym e ∙ ap (slot_at (slots ++ last ∷ [])) is ∙ at_end slots last)) (front_or_end slots last i l)))
+          (cases_eq slot last.0);
+      count = omega arith;
+    }
+  where
+    long_now : length (slots ++ last ∷ []) ≡ length slots + 1
+    long_now = one_longer slots last
+
+    free_last : is_live before last.0 ≡ false
+    free_last = let long = long_now in ap (is_live before) (sym (at_end slots last)) ∙ work.free (length slots) (omega arith)
+
+    differs : (i : ℕ) → i < length slots → slot_at slots i ≢ last.0
+    differs i l e =
+        let long = long_now in
+        let other : i ≢ length slots = λ h. absurd (omega arith) in
+        work.apart i (length slots) (omega arith) (omega arith) other (at_front slots last i l ∙ e ∙ sym (at_end slots last))
+
+-- no slot
+pub working_none : (sets : LiveSets) → Working sets sets []
+working_none sets = record {
+  kept = kept_same sets;
+  live = λ i l. absurd (omega arith);
+  free = λ i l. absurd (omega arith);
+  apart = λ i j l m. absurd (omega arith);
+  others = λ slot none. refl;
+  count = omega arith;
+}
+
+pub working_owns : (before now : LiveSets) → Working before now [] → Owns before now []
+working_owns before now work = record {
+  kept = work.kept;
+  new = tt;
+  live = λ slot. work.others slot (λ i l. absurd (omega arith));
+  count = work.count;
+}
+
+pub on_ok : {T E : Type 0} (result : Result T E) (P : Type 0) (x : T) → result ≡ Ok x → OnOk result P → P
+on_ok result P x is h = subst (λ (r : Result _ _). OnOk r P) is h

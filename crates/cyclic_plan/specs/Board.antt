@@ -3,7 +3,7 @@ use Rattle.std.specs.Prelude.{◌≡◌, ◌≢◌, ℕ, ◌+◌, ◌*◌, ◌<�
 use Rattle.dd_nodes.specs.Subfunctions.{Function}
 use Rattle.dd_ops.specs.Operations.{and_of, minus_of, or_of}
 use Rattle.dd_sets.specs.Calls.{KeepsSets}
-use Rattle.dd_sets.specs.LiveSets.{LiveSets, IsLive, IsSets, is_live, live_count, set_of}
+use Rattle.dd_sets.specs.LiveSets.{LiveSets, IsLive, IsSets, is_live, live_count, nothing, set_of}
 use Rattle.dd_sets.specs.Rooms.{IsTightFor}
 use Rattle.dd_sets.specs.declared.errors.SetErr.{SetErr}
 use Rattle.dd_sets.specs.declared.errors.SetErr.TheVariants.{Full}
@@ -82,3 +82,12 @@ combined Minus = minus_of
 abbrev pub led : Outcomes → Task → ℕ → Function → Function
 led Outcomes.Some = weak_preimage
 led Outcomes.Every = strong_preimage
+
+-- each place holds the empty set
+abbrev pub AllNothing : LiveSets → List SetId → Type 0
+AllNothing sets slots = (k : ℕ) → k < length slots → set_at sets slots k ≡ nothing
+
+-- there is a slot at each place, and no set yet
+pub record HasNothing (start : Start) (now : Encoded) (slots : List SetId) : Type 0 where
+  pub at : At start now slots
+  pub holds_nothing : AllNothing now.sets slots

@@ -1,20 +1,21 @@
 //! The slots of a search, each at a place. Each step puts a new set at one place; the slots are
 //! ended all at once, when the search is done.
 
-ghost use Rattle.std.specs.Prelude.{◌≡◌, ◌≢◌, ℕ, ◌<◌, ◌↔◌, IsTrue, length, OnOk, IsErrOf};
+ghost use Rattle.std.specs.Prelude.{◌≡◌, ◌≢◌, ℕ, ◌+◌, ◌<◌, ◌↔◌, [], IsTrue, length, IfErr, IfOk, OnErr, OnOk, IsErrOf};
 ghost use Rattle.dd_nodes.specs.Subfunctions.{Function};
 ghost use Rattle.dd_sets.specs.Calls.{Releases};
-ghost use Rattle.dd_sets.specs.Frames.{OwnsAnswer};
-ghost use Rattle.dd_sets.specs.LiveSets.{LiveSets, IsLive, IsSets, everything, set_of};
+ghost use Rattle.dd_sets.specs.Frames.{Owns, OwnsAnswer};
+ghost use Rattle.dd_sets.specs.LiveSets.{LiveSets, IsLive, IsSets, everything, nothing, set_of};
 ghost use Rattle.dd_sets.specs.Rooms.{IsTightFor};
 ghost use Rattle.encode_task.specs.Made.{MadeOf};
 ghost use Rattle.preimage.specs.Preimages.{OfSomeTask};
 ghost use Rattle.task_core.specs.declared.tasks.Task.{Task};
-ghost use Rattle.cyclic_plan.specs.Board.{At, IsWorking, Left, Moved, Start, Working, combined, led, set_at, slot_at};
+ghost use Rattle.cyclic_plan.specs.Board.{AllNothing, At, HasNothing, IsWorking, Left, Moved, Start, Working, combined, led, set_at, slot_at};
 
 use dd_sets::{SetErr, SetId, Sets, full_is_tight};
 use encode_task::Enc;
 use preimage::{strong_pre, weak_pre};
+use std::alloc::Global;
 use task_core::ActionId;
 
 /// How two sets are put together.
@@ -39,6 +40,83 @@ pub(crate) struct Board {
 }
 
 impl Board {
+    /// A slot for each place of a task with so many actions. Each holds the empty set.
+    pub(crate) fn new(alloc: Global, enc: &mut Enc, actions: u32) -> Result<Board, SetErr>
+        requires made { OfSomeTask enc.old }
+        requires actions { actions ≡ length enc.old.actions }
+        ensures opened { (task : Task) (made : MadeOf task enc.old)
+            → IfOk result (λ board. HasNothing
+            (record { task = task; enc = enc.old; made = made }) enc.new board.slots.items) }
+        ensures refused { OnErr result (Owns enc.old.sets enc.new.sets []) }
+        ensures same_slots { enc.new ≡ record enc.old { sets = enc.new.sets } }
+        ensures never_full { IfErr result (λ e. e ≡ SetErr.Memory) }
+    {
+        let mut board = Board {
+            slots: Vec::new(alloc),
+        };
+        match board.fill(enc, 7 + actions as usize + actions as usize) {
+            Ok(()) => Ok(board),
+            Err(refusal) => {
+                board.close(enc);
+                Err(refusal)
+            }
+        }
+    }
+
+    /// So many slots more, each with the empty set.
+    fn fill(&mut self, enc: &mut Enc, count: usize) -> Result<(), SetErr>
+        requires { (before : LiveSets) × Working before enc.old.sets self.old.slots.items }
+        ensures frame { (before : LiveSets) → Working before enc.old.sets self.old.slots.items
+            → Working before enc.new.sets self.new.slots.items }
+        ensures filled { (before : LiveSets) → Working before enc.old.sets self.old.slots.items
+            → AllNothing enc.old.sets self.old.slots.items
+            → OnOk result (AllNothing enc.new.sets self.new.slots.items) }
+        ensures long { OnOk result (length self.new.slots.items
+            ≡ length self.old.slots.items + count) }
+        ensures same_slots { enc.new ≡ record enc.old { sets = enc.new.sets } }
+        ensures never_full { IfErr result (λ e. e ≡ SetErr.Memory) }
+    {
+        for _ in 0..count {
+            self.add(enc)?;
+        }
+        Ok(())
+    }
+
+    /// One slot more, with the empty set.
+    fn add(&mut self, enc: &mut Enc) -> Result<(), SetErr>
+        requires { (before : LiveSets) × Working before enc.old.sets self.old.slots.items }
+        ensures frame { (before : LiveSets) → Working before enc.old.sets self.old.slots.items
+            → Working before enc.new.sets self.new.slots.items }
+        ensures filled { (before : LiveSets) → Working before enc.old.sets self.old.slots.items
+            → AllNothing enc.old.sets self.old.slots.items
+            → OnOk result (AllNothing enc.new.sets self.new.slots.items) }
+        ensures long { OnOk result (length self.new.slots.items
+            ≡ length self.old.slots.items + 1) }
+        ensures same_slots { enc.new ≡ record enc.old { sets = enc.new.sets } }
+        ensures never_full { IfErr result (λ e. e ≡ SetErr.Memory) }
+    {
+        let none = no_lists(enc)?;
+        match self.slots.push(none) {
+            Ok(()) => Ok(()),
+            Err(_) => {
+                end(enc, none);
+                Err(SetErr::Memory)
+            }
+        }
+    }
+
+    /// Ends all slots.
+    pub(crate) fn close(&mut self, enc: &mut Enc)
+        requires { (before : LiveSets) × Working before enc.old.sets self.old.slots.items }
+        ensures frame { (before : LiveSets) → Working before enc.old.sets self.old.slots.items
+            → Owns before enc.new.sets [] }
+        ensures same_slots { enc.new ≡ record enc.old { sets = enc.new.sets } }
+    {
+        while let Some(slot) = self.slots.pop() {
+            end(enc, slot);
+        }
+    }
+
     /// The slot at a place.
     pub(crate) fn at(&self, place: usize) -> SetId
         requires { place < length self.now.slots.items }
@@ -203,6 +281,15 @@ fn copied(enc: &mut Enc, set: SetId) -> Result<SetId, SetErr>
     ensures full { IsErrOf result SetErr.Full → IsTightFor 8 enc.old.sets }
 {
     enc.sets_mut().copy(set)
+}
+
+/// The empty set, in a new slot.
+fn no_lists(enc: &mut Enc) -> Result<SetId, SetErr>
+    ensures answer { OwnsAnswer enc.old.sets enc.new.sets nothing result }
+    ensures same_slots { enc.new ≡ record enc.old { sets = enc.new.sets } }
+    ensures never_full { IfErr result (λ e. e ≡ SetErr.Memory) }
+{
+    enc.sets_mut().none()
 }
 
 /// The set of all lists of truth values, in a new slot.
