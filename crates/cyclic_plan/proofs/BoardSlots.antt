@@ -302,3 +302,6 @@ working_owns before now work = record {
 
 pub on_ok : {T E : Type 0} (result : Result T E) (P : Type 0) (x : T) → result ≡ Ok x → OnOk result P → P
 on_ok result P x is h = subst (λ (r : Result _ _). OnOk r P) is h
+
+pub nothing_none : (sets : LiveSets) → AllNothing sets []
+nothing_none sets k l = absurd (omega arith)

@@ -4,3 +4,4 @@ pub mod Rounds
 pub mod Printed
 pub mod Board
 pub mod Stages
+pub mod Answers

@@ -1,7 +1,7 @@
 //! The slots of a search, each at a place. Each step puts a new set at one place; the slots are
 //! ended all at once, when the search is done.
 
-ghost use Rattle.std.specs.Prelude.{◌≡◌, ◌≢◌, ℕ, ◌+◌, ◌<◌, ◌↔◌, [], IsTrue, length, IfErr, IfOk, OnErr, OnOk, IsErrOf};
+ghost use Rattle.std.specs.Prelude.{◌≡◌, ◌≢◌, ℕ, ◌+◌, ◌<◌, ◌↔◌, [], IsTrue, length, map, IfErr, IfOk, OnErr, OnOk, IsErrOf};
 ghost use Rattle.dd_nodes.specs.Subfunctions.{Function};
 ghost use Rattle.dd_sets.specs.Calls.{Releases};
 ghost use Rattle.dd_sets.specs.Frames.{Owns, OwnsAnswer};
@@ -9,14 +9,16 @@ ghost use Rattle.dd_sets.specs.LiveSets.{LiveSets, IsLive, IsSets, everything, n
 ghost use Rattle.dd_sets.specs.Rooms.{IsTightFor};
 ghost use Rattle.encode_task.specs.Made.{MadeOf};
 ghost use Rattle.preimage.specs.Preimages.{OfSomeTask};
+ghost use Rattle.task_core.specs.Cubes.{cubes_of};
+ghost use Rattle.task_core.specs.Vectors.{value_of};
 ghost use Rattle.task_core.specs.declared.tasks.Task.{Task};
 ghost use Rattle.cyclic_plan.specs.Board.{AllNothing, At, HasNothing, IsWorking, Left, Moved, Start, Working, combined, led, set_at, slot_at};
 
 use dd_sets::{SetErr, SetId, Sets, full_is_tight};
 use encode_task::Enc;
 use preimage::{strong_pre, weak_pre};
-use std::alloc::Global;
-use task_core::ActionId;
+use std::alloc::{AllocError, Global};
+use task_core::{ActionId, Lit};
 
 /// How two sets are put together.
 #[derive(Clone, Copy, Debug)]
@@ -201,6 +203,28 @@ impl Board {
         let a = self.at(a);
         let b = self.at(b);
         enc.sets().same(a, b)
+    }
+
+    /// Whether a place holds the empty set.
+    pub(crate) fn is_empty(&self, enc: &Enc, place: usize) -> bool
+        requires working { IsWorking enc.now self.now.slots.items }
+        requires place { place < length self.now.slots.items }
+        ensures { IsTrue result ↔ (set_at enc.now.sets self.now.slots.items place ≡ nothing) }
+    {
+        let set = self.at(place);
+        enc.sets().is_none(set)
+    }
+
+    /// The cubes of the set at a place.
+    pub(crate) fn cubes(&self, enc: &Enc, place: usize) -> Result<Vec<Vec<Lit>>, AllocError>
+        requires working { IsWorking enc.now self.now.slots.items }
+        requires place { place < length self.now.slots.items }
+        ensures { IfOk result (λ cubes. map (λ cube. cube.items) cubes.items
+            ≡ cubes_of enc.now.sets.vars
+            (λ state. set_at enc.now.sets self.now.slots.items place (value_of state))) }
+    {
+        let set = self.at(place);
+        enc.sets().cubes(set)
     }
 
     /// Puts the set of all lists of truth values at a place.

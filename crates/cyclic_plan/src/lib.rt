@@ -9,6 +9,7 @@
 
 mod board;
 mod laws;
+mod plan;
 mod rounds;
 
 pub use laws::{

@@ -27,7 +27,7 @@ const NEXT: usize = 4;
 /// The states of kept pairs from which an action leads into the near states.
 const HITS: usize = 5;
 /// Those of them that are new.
-const NEW: usize = 6;
+pub(crate) const NEW: usize = 6;
 
 /// The place of the states of an action's kept pairs.
 fn pairs_of(a: ActionId) -> usize
