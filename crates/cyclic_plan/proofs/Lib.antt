@@ -6,4 +6,5 @@ pub mod BoardSlots
 pub mod StageSteps
 pub mod Growth
 pub mod RoundsMade
+pub mod PlanMade
 mod CyclicExamples
