@@ -4,6 +4,11 @@ use Rattle.std.specs.Option.{option_map, unwrap_or}
 use Rattle.std.specs.List.{Contains, flat_map, list_all, list_any, range_with_len}
 use Rattle.std.proofs.Math.Path.{fun_ext}
 use Rattle.std.proofs.lemmas.Bool.{false_from_ne_true, false≢true, true≢false}
+use Rattle.std.proofs.lemmas.Grind.{flat_map-append}
+use Rattle.std.proofs.lemmas.List.{append-nil}
+use Rattle.plan_rules.specs.Rules.{PlanRule}
+use Rattle.reach_plan.proofs.LayerSteps.{range-more}
+use Rattle.cyclic_plan.specs.Answers.{rule_for, rules_at}
 use Rattle.dd_nodes.specs.NodeList.{Values}
 use Rattle.dd_nodes.specs.Subfunctions.{DependsOnly, Function}
 use Rattle.dd_ops.specs.Operations.{minus_of}
@@ -160,3 +165,21 @@ cubes_agree (suc n) first f g same =
     put : (e d w x i j : Bool) → e ≡ d → w ≡ x → i ≡ j → {k l p q : List Cube} → k ≡ l → p ≡ q → cond e [] (cond w ([] ∷ []) (cond i k (map (λ cube. literal first false ∷ cube) k ++ map (λ cube. literal first true ∷ cube) p)))
         ≡ cond d [] (cond x ([] ∷ []) (cond j l (map (λ cube. literal first false ∷ cube) l ++ map (λ cube. literal first true ∷ cube) q)))
     put e d w x i j a b c {k} {l} {p} {q} s t = λ z. cond (a z) [] (cond (b z) ([] ∷ []) (cond (c z) (s z) (map (λ cube. literal first false ∷ cube) (s z) ++ map (λ cube. literal first true ∷ cube) (t z))))
+
+-- the rules of one action more
+pub rules_more : (start : Start) (enc : Encoded) (slots : List SetId) (left : SetOfVectors) (taken : Takings) (near : SetOfVectors) (a place : ℕ) (before after : List PlanRule) (cubes : List Cube) → HasNear start enc slots left taken near → a < action_count start.task
+    → place ≡ 7 + action_count start.task + a → before ≡ flat_map (rules_at (fluent_count start.task) taken) (range_with_len 0 a) → cubes ≡ cubes_of enc.sets.vars (λ state. set_at enc.sets slots place (value_of state)) → after ≡ before ++ map (rule_for a) cubes
+    → after ≡ flat_map (rules_at (fluent_count start.task) taken) (range_with_len 0 (a + 1))
+rules_more start enc slots left taken near a place before after cubes h l at is made more =
+    let n = fluent_count start.task in
+    let vars : enc.sets.vars ≡ n = h.round.at.working.kept.vars ∙ start.made.ready.vars ∙ start.made.fluents in
+    let same : cubes ≡ cubes_of n (taken a) =
+    made ∙ ap (λ k. cubes_of k (λ state. set_at enc.sets slots place (value_of state))) vars
+    ∙ cubes_agree n 0 (λ state. set_at enc.sets slots place (value_of state)) (taken a)
+    (λ v len. ap (λ p. set_at enc.sets slots p (value_of v)) at ∙ h.round.holds_taken a l v len) in
+    more
+    ∙ ap (λ xs. xs ++ map (rule_for a) cubes) is
+    ∙ ap (λ cs. flat_map (rules_at n taken) (range_with_len 0 a) ++ map (rule_for a) cs) same
+    ∙ ap (λ xs. flat_map (rules_at n taken) (range_with_len 0 a) ++ xs) (sym (append-nil (rules_at n taken a)))
+    ∙ sym (flat_map-append (rules_at n taken) (range_with_len 0 a) (a ∷ []))
+    ∙ ap (flat_map (rules_at n taken)) (sym (range-more a))

@@ -16,3 +16,4 @@ pub use laws::{
     last_round_is_largest, no_plan_without_cover, printed_plan_solves, rounds_shrink,
     rounds_stand_still, solutions_outlast_rounds,
 };
+pub use plan::plan_cyclic;

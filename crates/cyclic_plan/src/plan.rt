@@ -1,6 +1,6 @@
 //! The strong cyclic planner.
 
-ghost use Rattle.std.specs.Prelude.{◌≡◌, ℕ, ◌+◌, ◌<◌, ◌++◌, ◌^◌, [], map, length, Some, All, IsSome, IfOk, OnOk, IsErrOf};
+ghost use Rattle.std.specs.Prelude.{◌≡◌, ℕ, ◌+◌, ◌*◌, ◌<◌, ◌++◌, ◌^◌, [], map, length, Some, All, IsSome, IfOk, OnOk, IsErrOf};
 ghost use Rattle.std.specs.List.{flat_map, list_all, range_with_len};
 ghost use Rattle.dd_sets.specs.Frames.{Owns};
 ghost use Rattle.dd_sets.specs.Rooms.{IsTightFor};
@@ -15,7 +15,7 @@ ghost use Rattle.plan_rules.specs.Denoted.{denoted, IsExecutable};
 ghost use Rattle.plan_rules.specs.Plans.{IsRuleOf};
 ghost use Rattle.plan_rules.specs.Rules.{rule_of, rules_of};
 ghost use Rattle.reach_plan.specs.Found.{IfNoPlan, IfPlan};
-ghost use Rattle.cyclic_plan.specs.Answers.{rules_at};
+ghost use Rattle.cyclic_plan.specs.Answers.{Ends, rule_for, rules_at};
 ghost use Rattle.cyclic_plan.specs.Board.{At, HasNothing, IsTightAt, Left, Start, Working};
 ghost use Rattle.cyclic_plan.specs.Largest.{IsLargestSet};
 ghost use Rattle.cyclic_plan.specs.Pairs.{Pairs};
@@ -95,11 +95,84 @@ fn add_rules(
     cubes: Vec<Vec<Lit>>,
 ) -> Result<(), AllocError>
     ensures { OnOk result (map rule_of rules.new.items ≡ map rule_of rules.old.items
-        ++ map (λ cube. record { cube = cube; action = action.0 })
-        (map (λ cube. cube.items) cubes.items)) }
+        ++ map (rule_for action.0) (map (λ cube. cube.items) cubes.items)) }
 {
     for cube in cubes {
         rules.push(Rule { cube, action })?;
     }
     Ok(())
+}
+
+/// Searches with the slots of a board, which stay.
+fn search(
+    alloc: Global,
+    enc: &mut Enc,
+    board: &mut Board,
+    goal: SetId,
+    actions: u32,
+) -> Result<Found, SetErr>
+    requires ready { (start : Start) × HasNothing start enc.old board.old.slots.items }
+    requires goal { enc.old.goal ≡ Some goal }
+    requires actions { actions ≡ length enc.old.actions }
+    ensures { (start : Start) → HasNothing start enc.old board.old.slots.items
+        → Ends start enc.new board.new.slots.items result }
+{
+    begin(enc, board, goal)?;
+    last_round(enc, board, actions)?;
+    if !covers_initial(enc, board)? {
+        return Ok(Found::NoPlan);
+    }
+    spread(enc, board, actions, true)?;
+    match rules(alloc, enc, board, actions) {
+        Ok(rules) => Ok(Found::Plan(TablePlan {
+            class: Class::Cyclic,
+            rules,
+        })),
+        Err(_) => Err(SetErr::Memory),
+    }
+}
+
+/// A strong cyclic plan, or that there is none: no state-action table, not even one with several
+/// actions for a state, is a strong cyclic solution.
+///
+/// It makes rounds on sets of states. Each keeps the state-action pairs outside the goal that don't
+/// lead out of the states that are left, and then the states from which these pairs reach the goal,
+/// until a round leaves the same states as the one before (Cimatti, Pistore, Roveri and Traverso
+/// 2003). Where the initial states are left, each state takes the least-numbered action of its kept
+/// pairs that makes a step towards the goal. The time grows with the rounds, their steps and the
+/// actions, and not with the number of states.
+///
+/// `Full` comes only where the table's limit is tight for three slots an action and 32 more. All
+/// slots of the search are ended on every exit.
+pub fn plan_cyclic(alloc: Global, task: &Task, enc: &mut Enc) -> Result<Found, SetErr>
+    requires made { MadeOf task.now enc.old }
+    requires goal { IsSome task.now.goal }
+    ensures class { IfOk result (λ found. IfPlan found (λ plan. plan.class ≡ Cyclic)) }
+    ensures printed { let sys = system_of task.now in
+        IfOk result (λ found. IfPlan found (λ plan. (pairs : Pairs) × IsLargestSet sys pairs
+        × (rules_of plan ≡ cyclic_rules sys pairs))) }
+    ensures in_task { IfOk result
+        (λ found. IfPlan found
+        (λ plan. All (IsRuleOf (fluent_count task.now) (action_count task.now)) (rules_of plan))) }
+    ensures table { let sys = system_of task.now in
+        IfOk result (λ found. IfPlan found (λ plan. IsTable sys (denoted sys (rules_of plan)))) }
+    ensures solves { let sys = system_of task.now in
+        IfOk result (λ found. IfPlan found
+        (λ plan. IsSolution Cyclic sys (denoted sys (rules_of plan)))) }
+    ensures executable { let sys = system_of task.now in
+        IfOk result (λ found. IfPlan found (λ plan. IsExecutable sys (rules_of plan))) }
+    ensures no_plan { IfOk result
+        (λ found. IfNoPlan found (HasNoSolution Cyclic (system_of task.now))) }
+    ensures full { IsErrOf result SetErr.Full
+        → IsTightFor (3 * action_count task.now + 32) enc.old.sets }
+    ensures slots { Owns enc.old.sets enc.new.sets [] }
+    ensures same_slots { enc.new ≡ record enc.old { sets = enc.new.sets } }
+    ensures made { (task : TaskOf) → MadeOf task enc.old → MadeOf task enc.new }
+{
+    let goal = enc.goal().unwrap();
+    let actions = task.actions.len() as u32;
+    let mut board = Board::new(alloc, enc, actions)?;
+    let found = search(alloc, enc, &mut board, goal, actions);
+    board.close(enc);
+    found
 }
