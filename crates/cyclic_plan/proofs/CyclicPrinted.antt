@@ -73,7 +73,7 @@ module _ (sys : System) (pairs : Pairs) where
       (pair_of_exec sys pairs v a (can_execute-Exec sub v a d.executable)).0
 
   module _ (ok : IsSystem sys) (is : IsStrongCyclicSet sys pairs) where
-    near : (v : Vector) → IsState sys v → goal_or_pair sys pairs v ≡ true → connected sys pairs v ≡ true
+    pub near : (v : Vector) → IsState sys v → goal_or_pair sys pairs v ≡ true → connected sys pairs v ≡ true
     near v s h =
         ⊎_elim (λ g. layer-grows Weak sub v zero (2 ^ sys.fluents) (omega arith) g)
         (λ p. let w = list_any-witness (pairs v) (action_numbers sys) p in let k = is.connected v w.0 s w.2 in progress_connected sys pairs ok k.0 v s k.1)

@@ -7,4 +7,5 @@ pub mod StageSteps
 pub mod Growth
 pub mod RoundsMade
 pub mod PlanMade
+pub mod Answered
 mod CyclicExamples

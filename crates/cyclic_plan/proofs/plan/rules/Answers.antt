@@ -7,11 +7,11 @@ use Rattle.cyclic_plan.proofs.BoardSlots.{made_at, on_ok}
 use Rattle.cyclic_plan.proofs.PlanMade.{rules_more}
 use Rattle.cyclic_plan.proofs.plan.rules.Goals as goal
 
-pub cubes-cubes-requires-clause-working : goal.cubes-cubes-requires-clause-working
-cubes-cubes-requires-clause-working c = (c.requires.ready.0, c.requires.ready.4.round.at)
+pub cubes-requires-clause-working : goal.cubes-requires-clause-working
+cubes-requires-clause-working c = (c.requires.ready.0, c.requires.ready.4.round.at)
 
-pub cubes-cubes-requires-clause-place : goal.cubes-cubes-requires-clause-place
-cubes-cubes-requires-clause-place c =
+pub cubes-requires-clause-place : goal.cubes-requires-clause-place
+cubes-requires-clause-place c =
     let r = c.requires.ready in
     let long : length c.args.board.now.slots.items ≡ 7 + action_count r.0.task + action_count r.0.task = r.4.round.at.long in
     let actions : length c.args.enc.now.actions ≡ action_count r.0.task = (made_at r.0 c.args.enc.now c.args.board.now.slots.items r.4.round.at).actions in
