@@ -191,8 +191,9 @@ module _ (before mid now : LiveSets) (slots : List SetId) (new : SetId) (set : F
   each_now i l =
       ⊎_elim
       (λ (front : i < length slots). (
-      ap (is_live now) (at_front slots new i front) ∙ answer.kept.live (slot_at slots i) (work.live i front),
-      ap (is_live before) (at_front slots new i front) ∙ work.free i front))
+        ap (is_live now) (at_front slots new i front) ∙ answer.kept.live (slot_at slots i) (work.live i front),
+        ap (is_live before) (at_front slots new i front) ∙ work.free i front,
+      ))
       (λ (last : i ≡ length slots).
       let e : slot_at (slots ++ new ∷ []) i ≡ new.0 = ap (slot_at (slots ++ new ∷ [])) last ∙ at_end slots new in
       (ap (is_live now) e ∙ adds_one.live, ap (is_live before) e ∙ not_before before mid work.kept new.0 adds_one.free))

@@ -1,9 +1,9 @@
 -- What the parts of the planner answer.
-use Rattle.std.proofs.Common.{◌≡◌, ◌≢◌, ℕ, zero, suc, ◌+◌, ◌<◌, ◌≤◌, ◌^◌, Bool, true, false, cond, not, ◌&&◌, ◌||◌, List, [], ◌∷◌, ◌++◌, map, length, Option, None, Some, IsTrue, ◌↔◌, refl, sym, ap, subst, ◌∙◌, ⊎_elim, arith}
+use Rattle.std.proofs.Common.{◌≡◌, ℕ, zero, suc, ◌+◌, ◌<◌, Bool, true, false, cond, not, ◌&&◌, List, [], ◌∷◌, ◌++◌, map, length, Option, None, Some, IsTrue, ◌↔◌, refl, sym, ap, subst, ◌∙◌, arith}
 use Rattle.std.specs.Option.{option_map, unwrap_or}
 use Rattle.std.specs.List.{Contains, flat_map, list_all, list_any, range_with_len}
 use Rattle.std.proofs.Math.Path.{fun_ext}
-use Rattle.std.proofs.lemmas.Bool.{false_from_ne_true, false≢true, true≢false}
+use Rattle.std.proofs.lemmas.Bool.{true≢false}
 use Rattle.std.proofs.lemmas.Grind.{flat_map-append}
 use Rattle.std.proofs.lemmas.List.{append-nil}
 use Rattle.plan_rules.specs.Rules.{PlanRule}
@@ -12,7 +12,7 @@ use Rattle.cyclic_plan.specs.Answers.{rule_for, rules_at}
 use Rattle.dd_nodes.specs.NodeList.{Values}
 use Rattle.dd_nodes.specs.Subfunctions.{DependsOnly, Function}
 use Rattle.dd_ops.specs.Operations.{minus_of}
-use Rattle.dd_sets.specs.LiveSets.{IsLive, LiveSets, everything, nothing, set_of}
+use Rattle.dd_sets.specs.LiveSets.{IsLive, everything, nothing, set_of}
 use Rattle.dd_sets.specs.declared.slots.SetId.{SetId}
 use Rattle.encode_task.specs.Made.{Holds, HoldsGoal}
 use Rattle.encode_task.specs.Slots.{Encoded}
@@ -20,7 +20,6 @@ use Rattle.encode_task.specs.TaskSets.{first_values, initial_set}
 use Rattle.encode_task.proofs.ShownLemmas.{first_are, value_computed}
 use Rattle.task_core.specs.Conditions.{holds}
 use Rattle.task_core.specs.Cubes.{Cube, SetOfVectors, cubes_from, cubes_of, half, ignores_first, is_empty_set, is_whole_set, literal}
-use Rattle.task_core.specs.Systems.{IsState, System, goal_states}
 use Rattle.task_core.specs.Tasks.{action_count, fluent_count, initial_states, states_where, system_of}
 use Rattle.task_core.specs.Vectors.{Vector, all_vectors, same_value, same_vector, value_of}
 use Rattle.task_core.specs.declared.conditions.Cond.{Cond}

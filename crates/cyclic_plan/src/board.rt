@@ -174,12 +174,7 @@ impl Board {
     }
 
     /// Puts at a place a copy of the set at another one.
-    pub(crate) fn copy_of(
-        &mut self,
-        enc: &mut Enc,
-        place: usize,
-        from: usize,
-    ) -> Result<(), SetErr>
+    pub(crate) fn copy_of(&mut self, enc: &mut Enc, place: usize, from: usize) -> Result<(), SetErr>
         requires working { IsWorking enc.old self.old.slots.items }
         requires place { place < length self.old.slots.items }
         requires from { from < length self.old.slots.items }

@@ -65,12 +65,7 @@ fn covers_initial(enc: &mut Enc, board: &mut Board) -> Result<bool, SetErr>
 }
 
 /// The rules of the states that take each action, the actions in rising number.
-fn rules(
-    alloc: Global,
-    enc: &Enc,
-    board: &Board,
-    actions: u32,
-) -> Result<Vec<Rule>, AllocError>
+fn rules(alloc: Global, enc: &Enc, board: &Board, actions: u32) -> Result<Vec<Rule>, AllocError>
     requires ready { (start : Start) × (left : SetOfVectors) × (taken : Takings)
         × (near : SetOfVectors) × HasNear start enc.now board.now.slots.items left taken near }
     requires actions { actions ≡ length enc.now.actions }

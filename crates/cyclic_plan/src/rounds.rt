@@ -185,12 +185,7 @@ fn grow(enc: &mut Enc, board: &mut Board, actions: u32, taking: bool) -> Result<
 }
 
 /// The goal states, and the states that are one step from them.
-fn first_step(
-    enc: &mut Enc,
-    board: &mut Board,
-    actions: u32,
-    taking: bool,
-) -> Result<(), SetErr>
+fn first_step(enc: &mut Enc, board: &mut Board, actions: u32, taking: bool) -> Result<(), SetErr>
     requires ready { (start : Start) × (left : SetOfVectors) × (near : SetOfVectors)
         × HasNear start enc.old board.old.slots.items left none_taken near }
     requires actions { actions ≡ length enc.old.actions }
@@ -204,12 +199,7 @@ fn first_step(
 }
 
 /// One step more.
-fn next_step(
-    enc: &mut Enc,
-    board: &mut Board,
-    actions: u32,
-    taking: bool,
-) -> Result<(), SetErr>
+fn next_step(enc: &mut Enc, board: &mut Board, actions: u32, taking: bool) -> Result<(), SetErr>
     requires ready { (start : Start) × (left : SetOfVectors) × (k : ℕ)
         × HasStep start enc.old board.old.slots.items left taking k }
     requires actions { actions ≡ length enc.old.actions }
@@ -278,11 +268,7 @@ fn next_round(enc: &mut Enc, board: &mut Board, actions: u32) -> Result<(), SetE
 }
 
 /// Makes rounds until one leaves the same states as the one before.
-pub(crate) fn last_round(
-    enc: &mut Enc,
-    board: &mut Board,
-    actions: u32,
-) -> Result<(), SetErr>
+pub(crate) fn last_round(enc: &mut Enc, board: &mut Board, actions: u32) -> Result<(), SetErr>
     requires ready { (start : Start) × HasRound start enc.old board.old.slots.items
         (round_of (system_of start.task) 0) none_taken }
     requires actions { actions ≡ length enc.old.actions }

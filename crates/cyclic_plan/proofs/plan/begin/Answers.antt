@@ -1,5 +1,4 @@
-use Rattle.std.proofs.lemmas.Result.{err_from_is_err_and}
-use Rattle.cyclic_plan.proofs.BoardSlots.{left_with, passed, went}
+use Rattle.cyclic_plan.proofs.BoardSlots.{left_with, went}
 use Rattle.cyclic_plan.proofs.PlanMade.{begun, goal_live}
 use Rattle.cyclic_plan.proofs.plan.begin.Goals as goal
 

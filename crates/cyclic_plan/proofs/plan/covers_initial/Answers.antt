@@ -1,10 +1,10 @@
-use Rattle.std.proofs.Common.{ℕ, ◌<◌, ◌≡◌, ◌+◌, arith, length, subst, sym}
+use Rattle.std.proofs.Common.{◌≡◌, ◌+◌, arith, length, subst, sym}
 use Rattle.std.proofs.lemmas.Result.{err_from_is_err_and}
 use Rattle.dd_sets.specs.LiveSets.{IsLive, set_of}
 use Rattle.dd_sets.specs.declared.slots.SetId.{SetId}
 use Rattle.task_core.specs.Tasks.{action_count}
 use Rattle.cyclic_plan.specs.Board.{Moved}
-use Rattle.cyclic_plan.proofs.BoardSlots.{left_with, passed, went}
+use Rattle.cyclic_plan.proofs.BoardSlots.{passed, went}
 use Rattle.cyclic_plan.proofs.PlanMade.{initial_live, tested, tested_near}
 use Rattle.cyclic_plan.proofs.plan.covers_initial.Goals as goal
 

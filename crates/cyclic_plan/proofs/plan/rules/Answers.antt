@@ -1,9 +1,9 @@
-use Rattle.std.proofs.Common.{ℕ, ◌<◌, ◌≡◌, ◌+◌, ◌∙◌, arith, length, map, ap}
+use Rattle.std.proofs.Common.{◌≡◌, ◌+◌, ◌∙◌, arith, length, map, ap}
 use Rattle.std.specs.List.{flat_map, range_with_len}
 use Rattle.task_core.specs.Tasks.{action_count, fluent_count}
 use Rattle.plan_rules.specs.Rules.{rule_of}
 use Rattle.cyclic_plan.specs.Answers.{rules_at}
-use Rattle.cyclic_plan.proofs.BoardSlots.{made_at, on_ok}
+use Rattle.cyclic_plan.proofs.BoardSlots.{made_at}
 use Rattle.cyclic_plan.proofs.PlanMade.{rules_more}
 use Rattle.cyclic_plan.proofs.plan.rules.Goals as goal
 

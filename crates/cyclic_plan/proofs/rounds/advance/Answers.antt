@@ -14,9 +14,15 @@ returns-in_err-hit c start left taken near next ready =
 
 pub take_where-requires-clause-ready : goal.take_where-requires-clause-ready
 take_where-requires-clause-ready c =
-    let r = c.requires.ready in
-    (r.0, r.1, r.2, r.3, r.4, (λ v. may_lead (kept_system r.0 r.1) r.3 v c.args.a.0),
-    went r.0 c.hit.new.enc c.hit.new.board.slots.items _ c.hit.result _ c.in_ok-hit.was (c.hit.ensures r.0 r.1 r.2 r.3 r.4 r.5))
+    let r = c.requires.ready in (
+      r.0,
+      r.1,
+      r.2,
+      r.3,
+      r.4,
+      (λ v. may_lead (kept_system r.0 r.1) r.3 v c.args.a.0),
+      went r.0 c.hit.new.enc c.hit.new.board.slots.items _ c.hit.result _ c.in_ok-hit.was (c.hit.ensures r.0 r.1 r.2 r.3 r.4 r.5),
+    )
 
 pub take_where-requires-clause-actions : goal.take_where-requires-clause-actions
 take_where-requires-clause-actions c =

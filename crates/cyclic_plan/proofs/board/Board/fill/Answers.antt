@@ -1,6 +1,4 @@
-use Rattle.std.proofs.Common.{◌≡◌, ◌+◌, arith, length, subst}
-use Rattle.std.specs.Prelude.{OnOk}
-use Rattle.cyclic_plan.specs.Board.{AllNothing, Working}
+use Rattle.std.proofs.Common.{◌≡◌, ◌+◌, arith, length}
 use Rattle.cyclic_plan.proofs.BoardSlots.{on_ok, same_chain}
 use Rattle.cyclic_plan.proofs.board.Board.fill.Goals as goal
 

@@ -1,8 +1,7 @@
-use Rattle.std.proofs.Common.{◌≡◌, ◌+◌, [], arith, length, subst, sym, ap, ◌∙◌}
-use Rattle.dd_sets.specs.LiveSets.{LiveSets}
+use Rattle.std.proofs.Common.{◌≡◌, arith, length, subst, sym, ap}
 use Rattle.task_core.specs.Tasks.{action_count}
 use Rattle.cyclic_plan.specs.Board.{AllNothing, Working}
-use Rattle.cyclic_plan.proofs.BoardSlots.{nothing_none, working_none, working_owns}
+use Rattle.cyclic_plan.proofs.BoardSlots.{nothing_none, working_none}
 use Rattle.cyclic_plan.proofs.board.Board.new.Goals as goal
 
 pub close-requires : goal.close-requires
