@@ -1,0 +1,271 @@
+-- One step more from the goal: what is near, and what is taken.
+use Rattle.std.proofs.Common.{◌≡◌, ◌≢◌, ℕ, zero, suc, ◌+◌, ◌-◌, ◌<◌, ◌≤◌, ◌^◌, ◌==◌, Bool, true, false, cond, not, ◌&&◌, ◌||◌, List, [], ◌∷◌, ◌++◌, map, length, None, Some, refl, sym, ap, subst, ◌∙◌, ⊎_elim, arith, nat_lt}
+use Rattle.std.specs.Option.{option_and_then, option_or}
+use Rattle.std.specs.List.{Contains, find, list_any, range_with_len}
+use Rattle.std.proofs.Math.Path.{fun_ext}
+use Rattle.std.proofs.lemmas.Bool.{cases_eq, cases_lt, cond-false, cond-true, eq-eqb, false_from_ne_true, false≢true, lt-ltb, ltb-true, ne_eqb, or_left, true≢false}
+use Rattle.std.proofs.lemmas.List.{append-nil, append_assoc}
+use Rattle.std.proofs.lemmas.Option.{same_Some}
+use Rattle.std.proofs.lemmas.List.Folds.{list_any-append, find-append}
+use Rattle.std.proofs.lemmas.List.FromFn.{get_or-map-range_with_len, length-map-range_with_len}
+use Rattle.dd_nodes.specs.Subfunctions.{DependsOnly, Function}
+use Rattle.dd_sets.specs.declared.slots.SetId.{SetId}
+use Rattle.encode_task.specs.Slots.{Encoded}
+use Rattle.task_core.specs.Cubes.{SetOfVectors}
+use Rattle.task_core.specs.Systems.{IsState, IsSystem, System}
+use Rattle.task_core.specs.Tasks.{action_count, fluent_count, system_of}
+use Rattle.task_core.specs.Vectors.{Vector, all_vectors, value_of}
+use Rattle.task_core.specs.declared.classes.Class.TheVariants.{Weak}
+use Rattle.reach_plan.specs.Classes.{IsStable}
+use Rattle.reach_plan.specs.Layers.{action_numbers, layer, may_lead}
+use Rattle.reach_plan.specs.Printed.{action_of_rank, chosen_action, is_action, takers}
+use Rattle.reach_plan.proofs.ClassLayers.{chosen_kept, chosen_zero, layer-stable, rank_within-None, step_choice}
+use Rattle.reach_plan.proofs.LayerSteps.{find-first, range-more}
+use Rattle.reach_plan.proofs.LeastBounds.{stands_still}
+use Rattle.reach_plan.proofs.WeakLists.{find-None, find-Some, find-found, Contains-range_with_len-below}
+use Rattle.reach_plan.proofs.WeakPrinted.{is_action-Some, is_action-from}
+use Rattle.task_core.proofs.TaskSystem.{is_system}
+use Rattle.reach_plan.proofs.Cubes.{all_vectors-agree, all_vectors-length}
+use Rattle.cyclic_plan.proofs.Restricted.{restricted_system}
+use Rattle.cyclic_plan.proofs.RoundSteps.{held, holds_fewer}
+use Rattle.cyclic_plan.proofs.StageSteps.{depends}
+use Rattle.cyclic_plan.specs.Board.{Start, set_at}
+use Rattle.cyclic_plan.specs.Rounds.{connected, kept}
+use Rattle.cyclic_plan.specs.Stages.{HasNear, HasNext, HasRound, Takings, kept_system, next_by, taken_also, taken_by, taken_if, takers_within}
+
+-- the same states by another name
+pub round_as : (start : Start) (now : Encoded) (slots : List SetId) (left : SetOfVectors) (taken other : Takings) → HasRound start now slots left taken
+    → ((a : ℕ) (v : Vector) → a < action_count start.task → IsState (system_of start.task) v → taken a v ≡ other a v) → HasRound start now slots left other
+round_as start now slots left taken other h same = record {
+  at = h.at;
+  sound = h.sound;
+  holds_goal = h.holds_goal;
+  holds_left = h.holds_left;
+  holds_taken = λ a l v is. h.holds_taken a l v is ∙ same a v l is;
+}
+
+pub near_as : (start : Start) (now : Encoded) (slots : List SetId) (left : SetOfVectors) (taken other : Takings) (near close : SetOfVectors) → HasNear start now slots left taken near
+    → ((a : ℕ) (v : Vector) → a < action_count start.task → IsState (system_of start.task) v → taken a v ≡ other a v) → ((v : Vector) → IsState (system_of start.task) v → near v ≡ close v) → HasNear start now slots left other close
+near_as start now slots left taken other near close h same alike = record {
+  round = round_as start now slots left taken other h.round same;
+  holds_pairs = h.holds_pairs;
+  holds_near = λ v is. h.holds_near v is ∙ alike v is;
+}
+
+pub next_as : (start : Start) (now : Encoded) (slots : List SetId) (left : SetOfVectors) (taken other : Takings) (near next more : SetOfVectors) → HasNext start now slots left taken near next
+    → ((a : ℕ) (v : Vector) → a < action_count start.task → IsState (system_of start.task) v → taken a v ≡ other a v) → ((v : Vector) → IsState (system_of start.task) v → next v ≡ more v) → HasNext start now slots left other near more
+next_as start now slots left taken other near next more h same alike = record {
+  by_near = near_as start now slots left taken other near near h.by_near same (λ v is. refl);
+  holds_next = λ v is. h.holds_next v is ∙ alike v is;
+}
+
+-- no action yet, and one more
+or_none : (b : Bool) → b ≡ (b || false)
+or_none true = refl
+or_none false = refl
+
+or_assoc : (a b c : Bool) → ((a || b) || c) ≡ (a || (b || (c || false)))
+or_assoc true b c = refl
+or_assoc false true c = refl
+or_assoc false false c = or_none c
+
+pub next_none : (sys : System) (near : SetOfVectors) (v : Vector) → near v ≡ next_by sys near 0 v
+next_none sys near v = or_none (near v)
+
+pub next_more : (sys : System) (near : SetOfVectors) (n : ℕ) (v : Vector) → (next_by sys near n v || may_lead sys near v n) ≡ next_by sys near (n + 1) v
+next_more sys near n v =
+    or_assoc (near v) (list_any (may_lead sys near v) (range_with_len 0 n)) (may_lead sys near v n)
+    ∙ ap (λ b. near v || b) (sym (list_any-append (may_lead sys near v) (range_with_len 0 n) (n ∷ [])))
+    ∙ ap (λ xs. near v || list_any (may_lead sys near v) xs) (sym (range-more n))
+
+taken_below : (taking : Bool) (sys : System) (near : SetOfVectors) (taken : Takings) (n a : ℕ) (v : Vector) (b : Bool) → nat_lt a n ≡ b → taken_by taking sys near taken n a v ≡ cond (taking && b) (taken a v || (may_lead sys near v a && not (next_by sys near a v))) (taken a v)
+taken_below taking sys near taken n a v b e = ap (λ c. cond (taking && c) (taken a v || (may_lead sys near v a && not (next_by sys near a v))) (taken a v)) e
+
+not_below : (a n : ℕ) → n ≤ a → nat_lt a n ≡ false
+not_below a n l = go (nat_lt a n) refl
+  where
+    go : (b : Bool) → nat_lt a n ≡ b → nat_lt a n ≡ false
+    go true e = let h : a < n = ltb-true a n e in absurd (omega arith)
+    go false e = e
+
+pub taken_none : (taking : Bool) (sys : System) (near : SetOfVectors) (taken : Takings) (a : ℕ) (v : Vector) → taken a v ≡ taken_by taking sys near taken 0 a v
+taken_none true sys near taken a v = sym (taken_below true sys near taken 0 a v false (not_below a 0 (omega arith)))
+taken_none false sys near taken a v = refl
+
+pub taken_more : (taking : Bool) (sys : System) (near : SetOfVectors) (taken : Takings) (n a : ℕ) (v : Vector)
+    → taken_if taking (taken_by taking sys near taken n) n (λ u. may_lead sys near u n && not (next_by sys near n u)) a v ≡ taken_by taking sys near taken (n + 1) a v
+taken_more false sys near taken n a v = refl
+taken_more true sys near taken n a v =
+    ⊎_elim
+    (λ (same : a ≡ n).
+    subst (λ k. taken_also (taken_by true sys near taken n) n (λ u. may_lead sys near u n && not (next_by sys near n u)) k v ≡ taken_by true sys near taken (n + 1) k v) (sym same)
+    (cond-true (n == n) (taken_by true sys near taken n n v || (may_lead sys near v n && not (next_by sys near n v))) (taken_by true sys near taken n n v) (eq-eqb n n refl)
+    ∙ ap (λ b. b || (may_lead sys near v n && not (next_by sys near n v))) (taken_below true sys near taken n n v false (not_below n n (omega arith)))
+    ∙ sym (taken_below true sys near taken (n + 1) n v true (lt-ltb n (n + 1) (omega arith)))))
+    (λ (differs : a ≢ n).
+    cond-false (a == n) (taken_by true sys near taken n a v || (may_lead sys near v n && not (next_by sys near n v))) (taken_by true sys near taken n a v) (ne_eqb a n differs)
+    ∙ ⊎_elim
+    (λ (below : a < n).
+    taken_below true sys near taken n a v true (lt-ltb a n below) ∙ sym (taken_below true sys near taken (n + 1) a v true (lt-ltb a (n + 1) (omega arith))))
+    (λ (above : n ≤ a).
+    taken_below true sys near taken n a v false (not_below a n above) ∙ sym (taken_below true sys near taken (n + 1) a v false (not_below a (n + 1) (omega (arith, differs)))))
+    (cases_lt a n))
+    (cases_eq a n)
+
+-- all actions
+pub taken_all : (taking : Bool) (sys : System) (near : SetOfVectors) (taken : Takings) (n m a : ℕ) (v : Vector) → n ≡ m → taken_by taking sys near taken n a v ≡ taken_by taking sys near taken m a v
+taken_all taking sys near taken n m a v e = ap (λ k. taken_by taking sys near taken k a v) e
+
+-- the least-numbered action that passes a test is b
+split : (k m : ℕ) → range_with_len 0 (k + m) ≡ range_with_len 0 k ++ range_with_len k m
+split k zero = ap (range_with_len 0) (let e : k + 0 ≡ k = omega arith in e) ∙ sym (append-nil (range_with_len 0 k))
+split k (suc m) =
+    let e : k + suc m ≡ (k + 1) + m = omega arith in
+    ap (range_with_len 0) e ∙ (split (k + 1) m
+    ∙ (ap (λ xs. xs ++ range_with_len (k + 1) m) (range-more k) ∙ append_assoc (range_with_len 0 k) (k ∷ []) (range_with_len (k + 1) m)))
+
+found_before : (p : ℕ → Bool) (b n a : ℕ) → b < n → find p (range_with_len 0 b) ≡ Some a → find p (range_with_len 0 n) ≡ Some a
+found_before p b n a below h =
+    let m = n - b in
+    let e : n ≡ b + m = omega arith in
+    ap (λ k. find p (range_with_len 0 k)) e ∙ ap (find p) (split b m)
+    ∙ find-append p (range_with_len 0 b) (range_with_len b m) ∙ ap (λ o. option_or o (find p (range_with_len b m))) h
+
+first_is : (p : ℕ → Bool) (n b : ℕ) → b < n → (p b && not (list_any p (range_with_len 0 b))) ≡ is_action b (find p (range_with_len 0 n))
+first_is p n b below = go (p b) (list_any p (range_with_len 0 b)) refl refl
+  where
+    not_it : ((is_action b (find p (range_with_len 0 n)) ≡ true) → ⊥) → false ≡ is_action b (find p (range_with_len 0 n))
+    not_it no_more = sym (false_from_ne_true (is_action b (find p (range_with_len 0 n))) no_more)
+
+    earlier : list_any p (range_with_len 0 b) ≡ true → is_action b (find p (range_with_len 0 n)) ≡ true → ⊥
+    earlier f h =
+        let w = find-Some p (range_with_len 0 b) f in
+        let at = find-found p (range_with_len 0 b) w.0 w.1 in
+        let low : w.0 < b = Contains-range_with_len-below b w.0 at.0 in
+        let e : w.0 ≡ b = same_Some w.0 b (sym (found_before p b n w.0 below w.1) ∙ is_action-Some b (find p (range_with_len 0 n)) h) in
+        omega arith
+
+    fails : p b ≡ false → is_action b (find p (range_with_len 0 n)) ≡ true → ⊥
+    fails e h = true≢false (sym (find-found p (range_with_len 0 n) b (is_action-Some b (find p (range_with_len 0 n)) h)).1 ∙ e)
+
+    go : (x y : Bool) → p b ≡ x → list_any p (range_with_len 0 b) ≡ y → (x && not y) ≡ is_action b (find p (range_with_len 0 n))
+    go true false e f = sym (is_action-from b (find p (range_with_len 0 n)) (find-first p b n (find-None p (range_with_len 0 b) f) below e))
+    go true true e f = not_it (earlier f)
+    go false y e f = not_it (fails e)
+
+-- a state that no layer up to k holds has no action within it
+unchosen : (sys : System) (k : ℕ) (v : Vector) → layer Weak sys k v ≡ false → chosen_action Weak sys k v ≡ None
+unchosen sys k v e = ap (option_and_then (action_of_rank Weak sys v)) (rank_within-None Weak sys k v e)
+
+-- one layer more of what is taken
+pub takers_step : (taking : Bool) (sys : System) (k a : ℕ) (v : Vector) → a < sys.actions → taken_by taking sys (layer Weak sys k) (takers_within taking sys k) sys.actions a v ≡ takers_within taking sys (suc k) a v
+takers_step false sys k a v below = refl
+takers_step true sys k a v below =
+    taken_below true sys (layer Weak sys k) (takers_within true sys k) sys.actions a v true (lt-ltb a sys.actions below)
+    ∙ go (layer Weak sys k v) refl
+    ∙ ap (is_action a) (sym (step_choice Weak sys k v))
+  where
+    p : ℕ → Bool
+    p = may_lead sys (layer Weak sys k) v
+
+    drop_last : (b c : Bool) → (b || (c && false)) ≡ b
+    drop_last true c = refl
+    drop_last false true = refl
+    drop_last false false = refl
+
+    go : (b : Bool) → layer Weak sys k v ≡ b → (takers Weak sys k a v || (may_lead sys (layer Weak sys k) v a && not (next_by sys (layer Weak sys k) a v))) ≡ is_action a (cond b (chosen_action Weak sys k v) (find (may_lead sys (layer Weak sys k) v) (action_numbers sys)))
+    go true e =
+        ap (λ b. takers Weak sys k a v || (may_lead sys (layer Weak sys k) v a && not (b || list_any (may_lead sys (layer Weak sys k) v) (range_with_len 0 a)))) e
+        ∙ drop_last (takers Weak sys k a v) (may_lead sys (layer Weak sys k) v a)
+    go false e =
+        ap (λ o. is_action a o || (may_lead sys (layer Weak sys k) v a && not (next_by sys (layer Weak sys k) a v))) (unchosen sys k v e)
+        ∙ ap (λ b. may_lead sys (layer Weak sys k) v a && not (b || list_any (may_lead sys (layer Weak sys k) v) (range_with_len 0 a))) e
+        ∙ first_is (may_lead sys (layer Weak sys k) v) sys.actions a below
+
+-- where a layer is as the next one, it is as the last one, and the actions are chosen alike
+module _ (sys : System) (ok : IsSystem sys) (k : ℕ) (stable : IsStable Weak sys k) where
+  pub layer_last : (v : Vector) → IsState sys v → layer Weak sys k v ≡ layer Weak sys (2 ^ sys.fluents) v
+  layer_last v is =
+      let still = stands_still Weak sys in
+      ⊎_elim
+      (λ (l : k < 2 ^ sys.fluents). sym (layer-stable Weak sys ok k stable (2 ^ sys.fluents) (omega arith) v is))
+      (λ (l : 2 ^ sys.fluents ≤ k).
+      layer-stable Weak sys ok still.0 still.2 k (let h = still.1 in omega arith) v is ∙ sym (layer-stable Weak sys ok still.0 still.2 (2 ^ sys.fluents) still.1 v is))
+      (cases_lt k (2 ^ sys.fluents))
+
+chosen_alike : (sys : System) (j k : ℕ) (v : Vector) → j ≤ k → layer Weak sys j v ≡ layer Weak sys k v → chosen_action Weak sys j v ≡ chosen_action Weak sys k v
+chosen_alike sys j k v l same = go (layer Weak sys j v) refl
+  where
+    go : (b : Bool) → layer Weak sys j v ≡ b → chosen_action Weak sys j v ≡ chosen_action Weak sys k v
+    go true e = sym (chosen_kept Weak sys v j k l e)
+    go false e = unchosen sys j v e ∙ sym (unchosen sys k v (sym same ∙ e))
+
+pub chosen_same : (sys : System) (j k : ℕ) (v : Vector) → layer Weak sys j v ≡ layer Weak sys k v → chosen_action Weak sys j v ≡ chosen_action Weak sys k v
+chosen_same sys j k v same =
+    ⊎_elim (λ (l : j < k). chosen_alike sys j k v (omega arith) same) (λ (l : k ≤ j). sym (chosen_alike sys k j v l (sym same))) (cases_lt j k)
+
+-- a set that depends on n fluents alone is known by the states over them
+pub same_functions : (n : ℕ) (f g : Function) → DependsOnly 0 n f → DependsOnly 0 n g → ((v : Vector) → length v ≡ n → f (value_of v) ≡ g (value_of v)) → f ≡ g
+same_functions n f g only_f only_g same = fun_ext (λ values.
+    let v : Vector = map values (range_with_len 0 n) in
+    let within : (u : ℕ) → 0 ≤ u → u < n → values u ≡ value_of v u = λ u low l. sym (get_or-map-range_with_len values 0 n u u false l (omega arith)) in
+    only_f values (value_of v) within ∙ same v (length-map-range_with_len values 0 n) ∙ sym (only_g values (value_of v) within))
+
+-- none is taken within 0 steps; and one step more
+pub takers_none : (taking : Bool) (sys : System) (a : ℕ) (v : Vector) → false ≡ takers_within taking sys 0 a v
+takers_none false sys a v = refl
+takers_none true sys a v = sym (ap (is_action a) (chosen_zero Weak sys v))
+
+pub grown : (start : Start) (now : Encoded) (slots : List SetId) (left : SetOfVectors) (taking : Bool) (k : ℕ)
+    → HasNext start now slots left (taken_by taking (kept_system start left) (layer Weak (kept_system start left) k) (takers_within taking (kept_system start left) k) (action_count start.task)) (layer Weak (kept_system start left) k) (next_by (kept_system start left) (layer Weak (kept_system start left) k) (action_count start.task))
+    → HasNext start now slots left (takers_within taking (kept_system start left) (suc k)) (layer Weak (kept_system start left) k) (layer Weak (kept_system start left) (suc k))
+grown start now slots left taking k h =
+    next_as start now slots left _ _ (layer Weak (kept_system start left) k) _ _ h (λ a v l is. takers_step taking (kept_system start left) k a v l) (λ v is. refl)
+
+-- where the near states are as the next ones, they are all that are connected, and the actions are taken as at last
+pub spread_done : (start : Start) (now : Encoded) (slots : List SetId) (left : SetOfVectors) (taking : Bool) (k : ℕ)
+    → HasNext start now slots left (takers_within taking (kept_system start left) (suc k)) (layer Weak (kept_system start left) k) (layer Weak (kept_system start left) (suc k))
+    → set_at now.sets slots 4 ≡ set_at now.sets slots 3
+    → HasNear start now slots left (takers_within taking (kept_system start left) (2 ^ fluent_count start.task)) (connected (system_of start.task) (kept (system_of start.task) left))
+spread_done start now slots left taking k h same =
+    let sys = system_of start.task in
+    let sub = kept_system start left in
+    let ok = restricted_system sys (kept sys left) (is_system start.task) in
+    let stable : IsStable Weak sub k = λ v is. sym (h.holds_next v is) ∙ ap (λ (f : Function). f (value_of v)) same ∙ h.by_near.holds_near v is in
+    near_as start now slots left _ _ _ _ h.by_near
+    (λ a v l is. ap (λ o. taking && is_action a o) (chosen_same sub (suc k) (2 ^ fluent_count start.task) v (stable v is ∙ layer_last sub ok k stable v is)))
+    (λ v is. layer_last sub ok k stable v is)
+
+-- and where they are not, fewer states are not near
+pub spread_less : (start : Start) (enc now : Encoded) (old new : List SetId) (left : SetOfVectors) (taking : Bool) (k : ℕ) (n : ℕ)
+    → HasNext start enc old left (takers_within taking (kept_system start left) (suc k)) (layer Weak (kept_system start left) k) (layer Weak (kept_system start left) (suc k))
+    → (set_at enc.sets old 4 ≡ set_at enc.sets old 3 → ⊥) → n ≡ fluent_count start.task → (taken : Takings) (next : SetOfVectors)
+    → HasNext start now new left taken (layer Weak (kept_system start left) (suc k)) next
+    → held (λ v. not (set_at now.sets new 3 (value_of v))) (all_vectors n) < held (λ v. not (set_at enc.sets old 3 (value_of v))) (all_vectors n)
+spread_less start enc now old new left taking k n h differ is_n taken next after =
+    holds_fewer (λ v. not (set_at enc.sets old 3 (value_of v))) (λ v. not (set_at now.sets new 3 (value_of v))) (all_vectors n)
+    (λ v c out. fewer v (state v c) out)
+    (λ same. differ (same_functions (fluent_count start.task) (set_at enc.sets old 4) (set_at enc.sets old 3)
+    (depends start enc old h.by_near.round.at h.by_near.round.sound 4) (depends start enc old h.by_near.round.at h.by_near.round.sound 3)
+    (λ v is.
+    h.holds_next v is ∙ sym (after.by_near.holds_near v is)
+    ∙ not_same (set_at now.sets new 3 (value_of v)) (set_at enc.sets old 3 (value_of v))
+    (all_vectors-agree (λ u. not (set_at now.sets new 3 (value_of u))) (λ u. not (set_at enc.sets old 3 (value_of u))) n same v (is ∙ sym is_n)))))
+  where
+    state : (v : Vector) → Contains (all_vectors n) v → length v ≡ fluent_count start.task
+    state v c = all_vectors-length n v c ∙ is_n
+
+    not_same : (a b : Bool) → not a ≡ not b → a ≡ b
+    not_same true true e = refl
+    not_same true false e = absurd (false≢true e)
+    not_same false true e = absurd (true≢false e)
+    not_same false false e = refl
+
+    up : (a b : Bool) → (a ≡ true → b ≡ true) → not b ≡ true → not a ≡ true
+    up true b more out = absurd (false≢true (sym (ap not (more refl)) ∙ out))
+    up false b more out = refl
+
+    fewer : (v : Vector) → length v ≡ fluent_count start.task → not (set_at now.sets new 3 (value_of v)) ≡ true → not (set_at enc.sets old 3 (value_of v)) ≡ true
+    fewer v is out =
+        up (set_at enc.sets old 3 (value_of v)) (set_at now.sets new 3 (value_of v))
+        (λ near. after.by_near.holds_near v is ∙ or_left (layer Weak (kept_system start left) k v) _ (sym (h.by_near.holds_near v is) ∙ near)) out

@@ -1,0 +1,58 @@
+-- The rounds on sets of states: from one to the next, and the last one.
+use Rattle.std.proofs.Common.{◌≡◌, ℕ, suc, ◌+◌, ◌<◌, List, length, refl, sym, ap, ◌∙◌, arith}
+use Rattle.std.specs.List.{Contains}
+use Rattle.dd_nodes.specs.Subfunctions.{Function}
+use Rattle.dd_sets.specs.declared.slots.SetId.{SetId}
+use Rattle.encode_task.specs.Slots.{Encoded}
+use Rattle.task_core.specs.Cubes.{SetOfVectors}
+use Rattle.task_core.specs.Tasks.{action_count, fluent_count, system_of}
+use Rattle.task_core.specs.Vectors.{Vector, all_vectors, value_of}
+use Rattle.reach_plan.proofs.Cubes.{all_vectors-agree, all_vectors-length}
+use Rattle.cyclic_plan.specs.Board.{Moved, Start, set_at}
+use Rattle.cyclic_plan.specs.Rounds.{round}
+use Rattle.cyclic_plan.specs.Stages.{HasLastRound, HasNear, HasPairs, HasRound, HasRounds, Takings}
+use Rattle.cyclic_plan.proofs.Growth.{same_functions}
+use Rattle.cyclic_plan.proofs.RoundSteps.{held, holds_fewer, round_shrinks}
+use Rattle.cyclic_plan.proofs.StageSteps.{depends, here, still}
+
+-- whatever stands at the near states' place
+pub some_near : (start : Start) (now : Encoded) (slots : List SetId) (left : SetOfVectors) (taken : Takings) → HasPairs start now slots left taken (action_count start.task) → HasNear start now slots left taken (λ v. set_at now.sets slots 3 (value_of v))
+some_near start now slots left taken h = record {
+  round = h.round;
+  holds_pairs = λ a l. h.holds_pairs a l l;
+  holds_near = λ v is. refl;
+}
+
+-- the states of the last round in the place of those before
+pub left_copied : (start : Start) (enc now : Encoded) (old new : List SetId) (left : SetOfVectors) (taken : Takings) (near : SetOfVectors) → HasNear start enc old left taken near
+    → Moved start enc.sets old now new 1 (set_at enc.sets old 3) → HasRound start now new near taken
+left_copied start enc now old new left taken near h m = record {
+  at = m.at;
+  sound = m.sound;
+  holds_goal = still start enc now old new 1 _ m 0 _ (omega arith) (λ e. absurd (omega arith)) h.round.holds_goal;
+  holds_left = here start enc now old new 1 _ m near h.holds_near;
+  holds_taken = λ k l. still start enc now old new 1 _ m (7 + action_count start.task + k) (taken k) (omega arith) (λ e. absurd (omega arith)) (h.round.holds_taken k l);
+}
+
+-- where a round left the same states as the one before, it is the last
+pub round_done : (start : Start) (now : Encoded) (slots : List SetId) (r : ℕ) → HasRounds start now slots r → set_at now.sets slots 3 ≡ set_at now.sets slots 1 → HasLastRound start now slots
+round_done start now slots r h same =
+    (r, (λ v is. sym (h.holds_near v is) ∙ ap (λ (f : Function). f (value_of v)) same ∙ h.round.holds_left v is), h)
+
+-- and where it left others, fewer are left
+pub round_less : (start : Start) (enc now : Encoded) (old new : List SetId) (r n : ℕ) → HasRounds start enc old r → (set_at enc.sets old 3 ≡ set_at enc.sets old 1 → ⊥) → n ≡ fluent_count start.task → (taken : Takings) (near : SetOfVectors)
+    → HasNear start now new (round (system_of start.task) (suc r)) taken near
+    → held (λ v. set_at now.sets new 1 (value_of v)) (all_vectors n) < held (λ v. set_at enc.sets old 1 (value_of v)) (all_vectors n)
+round_less start enc now old new r n h differ is_n taken near after =
+    holds_fewer (λ v. set_at enc.sets old 1 (value_of v)) (λ v. set_at now.sets new 1 (value_of v)) (all_vectors n)
+    (λ v c inside.
+    let is = state v c in
+    h.round.holds_left v is ∙ round_shrinks (system_of start.task) r v (sym (after.round.holds_left v is) ∙ inside))
+    (λ same. differ (same_functions (fluent_count start.task) (set_at enc.sets old 3) (set_at enc.sets old 1)
+    (depends start enc old h.round.at h.round.sound 3) (depends start enc old h.round.at h.round.sound 1)
+    (λ v is.
+    h.holds_near v is ∙ sym (after.round.holds_left v is)
+    ∙ all_vectors-agree (λ u. set_at now.sets new 1 (value_of u)) (λ u. set_at enc.sets old 1 (value_of u)) n same v (is ∙ sym is_n))))
+  where
+    state : (v : Vector) → Contains (all_vectors n) v → length v ≡ fluent_count start.task
+    state v c = all_vectors-length n v c ∙ is_n

@@ -1,0 +1,29 @@
+use Rattle.std.proofs.Common.{subst, ap, ◌≡◌}
+use Rattle.dd_nodes.specs.Subfunctions.{Function}
+use Rattle.dd_sets.specs.Frames.{OwnsAnswer}
+use Rattle.dd_sets.specs.LiveSets.{set_of}
+use Rattle.encode_task.proofs.OwnedLemmas.{answer_kept}
+use Rattle.cyclic_plan.specs.Board.{led, set_at}
+use Rattle.cyclic_plan.proofs.BoardSlots.{made_at, placed}
+use Rattle.cyclic_plan.proofs.board.Board.lead.Goals as goal
+
+pub leading-answer-requires-clause-made : goal.leading-answer-requires-clause-made
+leading-answer-requires-clause-made c = (c.requires.working.0.task, made_at c.requires.working.0 c.args.enc.now c.args.self.now.slots.items c.requires.working.1)
+
+pub put-requires-clause-live : goal.put-requires-clause-live
+put-requires-clause-live c =
+    let start = c.requires.working.0 in
+    let here = c.requires.working.1 in
+    let made = made_at start c.args.enc.now c.args.self.now.slots.items here in
+    (answer_kept _ _ _ c.leading-answer.result (c.leading-answer.ensures.answer start.task made)).live _ (here.working.live c.args.place c.requires.place)
+
+pub returns : goal.returns
+returns c start here =
+    let sets = c.args.enc.now.sets in
+    let slots = c.args.self.now.slots.items in
+    let made = made_at start c.args.enc.now slots here in
+    let e : led c.args.outcomes start.task c.args.action.0 (set_of sets c.at.result.0) ≡ led c.args.outcomes start.task c.args.action.0 (set_at sets slots c.args.into) =
+    ap (λ s. led c.args.outcomes start.task c.args.action.0 (set_of sets s)) c.at.ensures in
+    placed start c.args.enc.now c.leading-answer.new.enc c.put.new.enc c.args.self.now.slots.items c.put.new.self.slots.items c.args.place _ c.leading-answer.result c.put.result here c.leading-answer.ensures.same_slots c.put.ensures.same_slots
+    (subst (λ (f : Function). OwnsAnswer sets c.leading-answer.new.enc.sets f c.leading-answer.result) e (c.leading-answer.ensures.answer start.task made)) c.leading-answer.ensures.full
+    c.put.ensures.frame c.put.ensures.here c.put.ensures.others c.put.ensures.long c.put.ensures.full c.put.ensures.sound

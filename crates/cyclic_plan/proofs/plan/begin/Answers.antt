@@ -1,0 +1,18 @@
+use Rattle.cyclic_plan.proofs.BoardSlots.{left_with, went}
+use Rattle.cyclic_plan.proofs.PlanMade.{begun, goal_live}
+use Rattle.cyclic_plan.proofs.plan.begin.Goals as goal
+
+pub copy-requires-clause-live : goal.copy-requires-clause-live
+copy-requires-clause-live c = goal_live c.requires.ready.0 c.args.enc.now c.args.board.now.slots.items c.args.goal c.requires.ready.1.at c.requires.goal
+
+pub whole-requires-clause-working : goal.whole-requires-clause-working
+whole-requires-clause-working c =
+    let r = c.requires.ready in
+    (r.0, (went r.0 c.copy.new.enc c.copy.new.self.slots.items _ c.copy.result _ c.in_ok-copy.was (c.copy.ensures r.0 r.1.at)).at)
+
+pub returns : goal.returns
+returns c start ready =
+    let m = went start c.copy.new.enc c.copy.new.self.slots.items _ c.copy.result _ c.in_ok-copy.was (c.copy.ensures start ready.at) in
+    left_with start c.whole.new.enc c.whole.new.self.slots.items _ _ c.whole.result
+    (λ w. begun start c.args.enc.now c.copy.new.enc c.whole.new.enc c.args.board.now.slots.items c.copy.new.self.slots.items c.whole.new.self.slots.items c.args.goal ready c.requires.goal m w)
+    (c.whole.ensures start m.at)

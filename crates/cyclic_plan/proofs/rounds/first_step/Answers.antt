@@ -1,0 +1,39 @@
+use Rattle.std.proofs.Common.{◌≡◌, arith, length, refl}
+use Rattle.task_core.specs.Tasks.{system_of}
+use Rattle.task_core.specs.declared.classes.Class.TheVariants.{Weak}
+use Rattle.reach_plan.specs.Layers.{layer}
+use Rattle.cyclic_plan.specs.Pairs.{is_goal}
+use Rattle.cyclic_plan.specs.Stages.{HasNear, kept_system, none_taken, takers_within}
+use Rattle.cyclic_plan.proofs.BoardSlots.{left_with, same_actions, went}
+use Rattle.cyclic_plan.proofs.Growth.{grown, near_as, takers_none}
+use Rattle.cyclic_plan.proofs.StageSteps.{near_copied}
+use Rattle.cyclic_plan.proofs.rounds.first_step.Goals as goal
+
+pub grow-requires-clause-ready : goal.grow-requires-clause-ready
+grow-requires-clause-ready c =
+    let r = c.requires.ready in
+    let now = c.copy_of.new.enc in
+    let slots = c.copy_of.new.self.slots.items in
+    let m = went r.0 now slots _ c.copy_of.result _ c.in_ok-copy_of.was (c.copy_of.ensures r.0 r.3.round.at) in
+    (r.0, r.1, none_taken, is_goal (system_of r.0.task), near_copied r.0 c.args.enc.now now c.args.board.now.slots.items slots r.1 none_taken r.2 (is_goal (system_of r.0.task)) _ r.3 m r.3.round.holds_goal)
+
+pub grow-requires-clause-actions : goal.grow-requires-clause-actions
+grow-requires-clause-actions c =
+    let r = c.requires.ready in
+    let now = c.copy_of.new.enc in
+    let slots = c.copy_of.new.self.slots.items in
+    let m = went r.0 now slots _ c.copy_of.result _ c.in_ok-copy_of.was (c.copy_of.ensures r.0 r.3.round.at) in
+    let e : length now.actions ≡ length c.args.enc.now.actions = same_actions r.0 c.args.enc.now now c.args.board.now.slots.items slots r.3.round.at m.at in
+    omega (arith, c.requires.actions)
+
+pub returns : goal.returns
+returns c start left near ready =
+    let mid = c.copy_of.new.enc in
+    let slots = c.copy_of.new.self.slots.items in
+    let sub = kept_system start left in
+    let m = went start mid slots _ c.copy_of.result _ c.in_ok-copy_of.was (c.copy_of.ensures start ready.round.at) in
+    let first : HasNear start mid slots left none_taken (layer Weak sub 0) = near_copied start c.args.enc.now mid c.args.board.now.slots.items slots left none_taken near (layer Weak sub 0) _ ready m ready.round.holds_goal in
+    let begun = near_as start mid slots left none_taken (takers_within c.args.taking sub 0) (layer Weak sub 0) (layer Weak sub 0) first (λ a v l is. takers_none c.args.taking sub a v) (λ v is. refl) in
+    left_with start c.grow.new.enc c.grow.new.board.slots.items _ _ c.grow.result
+    (λ h. grown start c.grow.new.enc c.grow.new.board.slots.items left c.args.taking 0 h)
+    (c.grow.ensures start left (takers_within c.args.taking sub 0) (layer Weak sub 0) begun)

@@ -1,0 +1,25 @@
+use Rattle.std.proofs.Common.{◌≡◌, arith, length}
+use Rattle.std.proofs.lemmas.Result.{err_from_is_err_and}
+use Rattle.task_core.specs.Tasks.{action_count}
+use Rattle.cyclic_plan.proofs.BoardSlots.{made_at, passed, same_actions}
+use Rattle.cyclic_plan.proofs.StageSteps.{pairs_all}
+use Rattle.cyclic_plan.proofs.rounds.keep_pairs.Goals as goal
+
+pub keep-requires-clause-ready : goal.keep-requires-clause-ready
+keep-requires-clause-ready c = let r = c.requires.ready in (r.0, r.1, r.2, c.loop-a.invariant r.0 r.1 r.2 r.3)
+
+pub keep-requires-clause-action : goal.keep-requires-clause-action
+keep-requires-clause-action c =
+    let r = c.requires.ready in
+    let e : length c.loop-a.enc.actions ≡ length c.args.enc.now.actions = same_actions r.0 c.args.enc.now c.loop-a.enc c.args.board.now.slots.items c.loop-a.board.slots.items r.3.at (c.loop-a.invariant r.0 r.1 r.2 r.3).round.at in
+    omega (arith, c.requires.actions)
+
+pub returns-in_err-keep : goal.returns-in_err-keep
+returns-in_err-keep c start left taken ready =
+    let p = err_from_is_err_and c.from_residual-in_err-keep.result c.from_residual-in_err-keep.ensures.1 in
+    passed start c.keep.new.enc c.keep.new.board.slots.items _ _ c.keep.result c.from_residual-in_err-keep.result _ c.in_err-keep.was p (c.keep.ensures start left taken (c.loop-a.invariant start left taken ready))
+
+pub returns : goal.returns
+returns c start left taken ready =
+    let e : length c.args.enc.now.actions ≡ action_count start.task = (made_at start c.args.enc.now c.args.board.now.slots.items ready.at).actions in
+    pairs_all start c.loop-a.enc c.loop-a.board.slots.items left taken c.loop-a.a (omega (arith, c.requires.actions)) (c.loop-a.invariant start left taken ready)

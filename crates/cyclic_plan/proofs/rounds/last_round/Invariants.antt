@@ -1,0 +1,15 @@
+use Rattle.std.proofs.Common.{ℕ}
+use Rattle.task_core.specs.Tasks.{system_of}
+use Rattle.task_core.specs.Vectors.{all_vectors, value_of}
+use Rattle.cyclic_plan.specs.Board.{Start, set_at}
+use Rattle.cyclic_plan.specs.Rounds.{round}
+use Rattle.cyclic_plan.specs.Stages.{HasRound, HasRounds, none_taken}
+use Rattle.cyclic_plan.proofs.RoundSteps.{held}
+use Rattle.cyclic_plan.proofs.rounds.last_round.Given as goal
+
+abbrev pub invariant-loop-enc : goal.invariant-loop-enc
+invariant-loop-enc l = (start : Start) → HasRound start l.fn.enc l.fn.board.slots.items (round (system_of start.task) 0) none_taken → (r : ℕ) × HasRounds start l.enc l.board.slots.items r
+
+-- how many states are left
+abbrev pub decreases-loop-enc : goal.decreases-loop-enc
+decreases-loop-enc l = held (λ v. set_at l.enc.sets l.board.slots.items 1 (value_of v)) (all_vectors l.fn.enc.fluents)

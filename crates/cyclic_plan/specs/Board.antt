@@ -1,0 +1,93 @@
+-- Private: the slots of a search, each at a place of one list, and what every exit leaves of them.
+use Rattle.std.specs.Prelude.{◌≡◌, ◌≢◌, ℕ, ◌+◌, ◌*◌, ◌<◌, false, List, length, slice_index_or, Result, Ok, Err}
+use Rattle.dd_nodes.specs.Subfunctions.{Function}
+use Rattle.dd_ops.specs.Operations.{and_of, minus_of, or_of}
+use Rattle.dd_sets.specs.Calls.{KeepsSets}
+use Rattle.dd_sets.specs.LiveSets.{LiveSets, IsLive, IsSets, is_live, live_count, nothing, set_of}
+use Rattle.dd_sets.specs.Rooms.{IsTightFor}
+use Rattle.dd_sets.specs.declared.errors.SetErr.{SetErr}
+use Rattle.dd_sets.specs.declared.errors.SetErr.TheVariants.{Full}
+use Rattle.dd_sets.specs.declared.slots.SetId.{SetId}
+use Rattle.encode_task.specs.Made.{MadeOf}
+use Rattle.encode_task.specs.Slots.{Encoded}
+use Rattle.preimage.specs.Preimages.{strong_preimage, weak_preimage}
+use Rattle.task_core.specs.Tasks.{action_count}
+use Rattle.task_core.specs.declared.tasks.Task.{Task}
+use Rattle.cyclic_plan.specs.declared.board.Operation.{Operation}
+use Rattle.cyclic_plan.specs.declared.board.Operation.TheVariants.{Join, Meet, Minus}
+use Rattle.cyclic_plan.specs.declared.board.Outcomes.{Outcomes}
+
+-- the slot at a place, and its set
+abbrev pub slot_at : List SetId → ℕ → ℕ
+slot_at slots place = (slice_index_or slots place (record { 0 = 0 })).0
+
+abbrev pub set_at : LiveSets → List SetId → ℕ → Function
+set_at sets slots place = set_of sets (slot_at slots place)
+
+-- the live slots are those of before, with their sets, and the listed ones, which are others and
+-- differ
+pub record Working (before now : LiveSets) (slots : List SetId) : Type 0 where
+  pub kept : KeepsSets before now
+  pub live : (i : ℕ) → i < length slots → IsLive now (slot_at slots i)
+  pub free : (i : ℕ) → i < length slots → is_live before (slot_at slots i) ≡ false
+  pub apart : (i j : ℕ) → i < length slots → j < length slots → i ≢ j
+      → slot_at slots i ≢ slot_at slots j
+  pub others : (slot : ℕ) → ((i : ℕ) → i < length slots → slot_at slots i ≢ slot)
+      → is_live now slot ≡ is_live before slot
+  pub count : live_count now ≡ live_count before + length slots
+
+-- where work on a task began
+pub record Start : Type 0 where
+  pub task : Task
+  pub enc : Encoded
+  pub made : MadeOf task enc
+
+-- how many places there are, and how many slots a search may need
+abbrev pub place_count : ℕ → ℕ
+place_count actions = 7 + actions + actions
+
+abbrev pub IsTightAt : Start → Type 0
+IsTightAt start = IsTightFor (3 * action_count start.task + 32) start.enc.sets
+
+-- the task's slots are as at the start, and there is a slot at each place
+pub record At (start : Start) (now : Encoded) (slots : List SetId) : Type 0 where
+  pub same : now ≡ record start.enc { sets = now.sets }
+  pub working : Working start.enc.sets now.sets slots
+  pub long : length slots ≡ place_count (action_count start.task)
+
+-- there was such a start
+abbrev pub IsWorking : Encoded → List SetId → Type 0
+IsWorking now slots = (start : Start) × At start now slots
+
+-- what an answer leaves; and after a refusal there is a slot at each place, and the limit was tight
+-- where there was no room
+abbrev pub Left : {T : Type 0} → Start → Encoded → List SetId → Type 0 → Result T SetErr → Type 0
+Left start now slots answered (Ok x) = answered
+Left start now slots answered (Err e) = At start now slots × (e ≡ Full → IsTightAt start)
+
+-- one place has another set, and the others have theirs
+pub record Moved (start : Start) (before : LiveSets) (old : List SetId) (now : Encoded) (slots : List SetId) (place : ℕ) (set : Function) : Type 0 where
+  pub at : At start now slots
+  pub sound : IsSets now.sets
+  pub here : set_at now.sets slots place ≡ set
+  pub others : (other : ℕ) → other < length slots → other ≢ place → set_at now.sets slots other ≡ set_at before old other
+
+-- what an operation makes of two sets
+abbrev pub combined : Operation → Function → Function → Function
+combined Meet = and_of
+combined Join = or_of
+combined Minus = minus_of
+
+-- where an action leads into a set
+abbrev pub led : Outcomes → Task → ℕ → Function → Function
+led Outcomes.Some = weak_preimage
+led Outcomes.Every = strong_preimage
+
+-- each place holds the empty set
+abbrev pub AllNothing : LiveSets → List SetId → Type 0
+AllNothing sets slots = (k : ℕ) → k < length slots → set_at sets slots k ≡ nothing
+
+-- there is a slot at each place, and no set yet
+pub record HasNothing (start : Start) (now : Encoded) (slots : List SetId) : Type 0 where
+  pub at : At start now slots
+  pub holds_nothing : AllNothing now.sets slots

@@ -1,0 +1,369 @@
+//! The slots of a search, each at a place. Each step puts a new set at one place; the slots are
+//! ended all at once, when the search is done.
+
+ghost use Rattle.std.specs.Prelude.{◌≡◌, ◌≢◌, ℕ, ◌+◌, ◌<◌, ◌↔◌, [], IsTrue, length, map, IfErr, IfOk, OnErr, OnOk, IsErrOf};
+ghost use Rattle.dd_nodes.specs.Subfunctions.{Function};
+ghost use Rattle.dd_sets.specs.Calls.{Releases};
+ghost use Rattle.dd_sets.specs.Frames.{Owns, OwnsAnswer};
+ghost use Rattle.dd_sets.specs.LiveSets.{LiveSets, IsLive, IsSets, everything, nothing, set_of};
+ghost use Rattle.dd_sets.specs.Rooms.{IsTightFor};
+ghost use Rattle.encode_task.specs.Made.{MadeOf};
+ghost use Rattle.preimage.specs.Preimages.{OfSomeTask};
+ghost use Rattle.task_core.specs.Cubes.{cubes_of};
+ghost use Rattle.task_core.specs.Vectors.{value_of};
+ghost use Rattle.task_core.specs.declared.tasks.Task.{Task};
+ghost use Rattle.cyclic_plan.specs.Board.{AllNothing, At, HasNothing, IsWorking, Left, Moved, Start, Working, combined, led, set_at, slot_at};
+
+use dd_sets::{SetErr, SetId, Sets, full_is_tight};
+use encode_task::Enc;
+use preimage::{strong_pre, weak_pre};
+use std::alloc::{AllocError, Global};
+use task_core::{ActionId, Lit};
+
+/// How two sets are put together.
+#[derive(Clone, Copy, Debug)]
+pub(crate) enum Operation {
+    Meet,
+    Join,
+    Minus,
+}
+
+/// Which outcomes of an action have to lead into a set.
+#[derive(Clone, Copy, Debug)]
+pub(crate) enum Outcomes {
+    Some,
+    Every,
+}
+
+/// The slots of a search, each at a place.
+#[derive(Drop)]
+pub(crate) struct Board {
+    pub(crate) slots: Vec<SetId>,
+}
+
+impl Board {
+    /// A slot for each place of a task with so many actions. Each holds the empty set.
+    pub(crate) fn new(alloc: Global, enc: &mut Enc, actions: u32) -> Result<Board, SetErr>
+        requires made { OfSomeTask enc.old }
+        requires actions { actions ≡ length enc.old.actions }
+        ensures opened { (task : Task) (made : MadeOf task enc.old)
+            → IfOk result (λ board. HasNothing
+            (record { task = task; enc = enc.old; made = made }) enc.new board.slots.items) }
+        ensures refused { OnErr result (Owns enc.old.sets enc.new.sets []) }
+        ensures same_slots { enc.new ≡ record enc.old { sets = enc.new.sets } }
+        ensures never_full { IfErr result (λ e. e ≡ SetErr.Memory) }
+    {
+        let mut board = Board {
+            slots: Vec::new(alloc),
+        };
+        match board.fill(enc, 7 + actions as usize + actions as usize) {
+            Ok(()) => Ok(board),
+            Err(refusal) => {
+                board.close(enc);
+                Err(refusal)
+            }
+        }
+    }
+
+    /// So many slots more, each with the empty set.
+    fn fill(&mut self, enc: &mut Enc, count: usize) -> Result<(), SetErr>
+        requires { (before : LiveSets) × Working before enc.old.sets self.old.slots.items }
+        ensures frame { (before : LiveSets) → Working before enc.old.sets self.old.slots.items
+            → Working before enc.new.sets self.new.slots.items }
+        ensures filled { (before : LiveSets) → Working before enc.old.sets self.old.slots.items
+            → AllNothing enc.old.sets self.old.slots.items
+            → OnOk result (AllNothing enc.new.sets self.new.slots.items) }
+        ensures long { OnOk result (length self.new.slots.items
+            ≡ length self.old.slots.items + count) }
+        ensures same_slots { enc.new ≡ record enc.old { sets = enc.new.sets } }
+        ensures never_full { IfErr result (λ e. e ≡ SetErr.Memory) }
+    {
+        for _ in 0..count {
+            self.add(enc)?;
+        }
+        Ok(())
+    }
+
+    /// One slot more, with the empty set.
+    fn add(&mut self, enc: &mut Enc) -> Result<(), SetErr>
+        requires { (before : LiveSets) × Working before enc.old.sets self.old.slots.items }
+        ensures frame { (before : LiveSets) → Working before enc.old.sets self.old.slots.items
+            → Working before enc.new.sets self.new.slots.items }
+        ensures filled { (before : LiveSets) → Working before enc.old.sets self.old.slots.items
+            → AllNothing enc.old.sets self.old.slots.items
+            → OnOk result (AllNothing enc.new.sets self.new.slots.items) }
+        ensures long { OnOk result (length self.new.slots.items
+            ≡ length self.old.slots.items + 1) }
+        ensures same_slots { enc.new ≡ record enc.old { sets = enc.new.sets } }
+        ensures never_full { IfErr result (λ e. e ≡ SetErr.Memory) }
+    {
+        let none = no_lists(enc)?;
+        match self.slots.push(none) {
+            Ok(()) => Ok(()),
+            Err(_) => {
+                end(enc, none);
+                Err(SetErr::Memory)
+            }
+        }
+    }
+
+    /// Ends all slots.
+    pub(crate) fn close(&mut self, enc: &mut Enc)
+        requires { (before : LiveSets) × Working before enc.old.sets self.old.slots.items }
+        ensures frame { (before : LiveSets) → Working before enc.old.sets self.old.slots.items
+            → Owns before enc.new.sets [] }
+        ensures same_slots { enc.new ≡ record enc.old { sets = enc.new.sets } }
+    {
+        while let Some(slot) = self.slots.pop() {
+            end(enc, slot);
+        }
+    }
+
+    /// The slot at a place.
+    pub(crate) fn at(&self, place: usize) -> SetId
+        requires { place < length self.now.slots.items }
+        ensures { result.0 ≡ slot_at self.now.slots.items place }
+    {
+        self.slots[place]
+    }
+
+    /// Ends the slot at a place, and puts there the one that was answered. A refusal is passed on.
+    fn put(
+        &mut self,
+        enc: &mut Enc,
+        place: usize,
+        answer: Result<SetId, SetErr>,
+    ) -> Result<(), SetErr>
+        requires place { place < length self.old.slots.items }
+        requires live { IsLive enc.old.sets (slot_at self.old.slots.items place) }
+        ensures frame { (before mid : LiveSets) (set : Function)
+            → Working before mid self.old.slots.items → OwnsAnswer mid enc.old.sets set answer
+            → Working before enc.new.sets self.new.slots.items }
+        ensures here { (before mid : LiveSets) (set : Function)
+            → Working before mid self.old.slots.items → OwnsAnswer mid enc.old.sets set answer
+            → OnOk result (set_at enc.new.sets self.new.slots.items place ≡ set) }
+        ensures others { (before mid : LiveSets) (set : Function)
+            → Working before mid self.old.slots.items → OwnsAnswer mid enc.old.sets set answer
+            → OnOk result ((other : ℕ) → other < length self.old.slots.items → other ≢ place
+            → set_at enc.new.sets self.new.slots.items other
+            ≡ set_at mid self.old.slots.items other) }
+        ensures long { length self.new.slots.items ≡ length self.old.slots.items }
+        ensures full { IsErrOf result SetErr.Full → IsErrOf answer SetErr.Full }
+        ensures sound { OnOk result (IsSets enc.new.sets) }
+        ensures same_slots { enc.new ≡ record enc.old { sets = enc.new.sets } }
+    {
+        let new = answer?;
+        let old = self.at(place);
+        self.slots[place] = new;
+        end(enc, old);
+        Ok(())
+    }
+
+    /// Puts a copy of a set at a place.
+    pub(crate) fn copy(&mut self, enc: &mut Enc, place: usize, set: SetId) -> Result<(), SetErr>
+        requires working { IsWorking enc.old self.old.slots.items }
+        requires place { place < length self.old.slots.items }
+        requires live { IsLive enc.old.sets set.0 }
+        ensures { (start : Start) → At start enc.old self.old.slots.items
+            → Left start enc.new self.new.slots.items
+            (Moved start enc.old.sets self.old.slots.items enc.new self.new.slots.items place
+            (set_of enc.old.sets set.0)) result }
+    {
+        let answer = copied(enc, set);
+        self.put(enc, place, answer)
+    }
+
+    /// Puts at a place a copy of the set at another one.
+    pub(crate) fn copy_of(&mut self, enc: &mut Enc, place: usize, from: usize) -> Result<(), SetErr>
+        requires working { IsWorking enc.old self.old.slots.items }
+        requires place { place < length self.old.slots.items }
+        requires from { from < length self.old.slots.items }
+        ensures { (start : Start) → At start enc.old self.old.slots.items
+            → Left start enc.new self.new.slots.items
+            (Moved start enc.old.sets self.old.slots.items enc.new self.new.slots.items place
+            (set_at enc.old.sets self.old.slots.items from)) result }
+    {
+        let set = self.at(from);
+        self.copy(enc, place, set)
+    }
+
+    /// Whether the sets at two places are the same.
+    pub(crate) fn is_same(&self, enc: &Enc, a: usize, b: usize) -> bool
+        requires working { IsWorking enc.now self.now.slots.items }
+        requires a { a < length self.now.slots.items }
+        requires b { b < length self.now.slots.items }
+        ensures { IsTrue result ↔ (set_at enc.now.sets self.now.slots.items a
+            ≡ set_at enc.now.sets self.now.slots.items b) }
+    {
+        let a = self.at(a);
+        let b = self.at(b);
+        enc.sets().same(a, b)
+    }
+
+    /// Whether a place holds the empty set.
+    pub(crate) fn is_empty(&self, enc: &Enc, place: usize) -> bool
+        requires working { IsWorking enc.now self.now.slots.items }
+        requires place { place < length self.now.slots.items }
+        ensures { IsTrue result ↔ (set_at enc.now.sets self.now.slots.items place ≡ nothing) }
+    {
+        let set = self.at(place);
+        enc.sets().is_none(set)
+    }
+
+    /// The cubes of the set at a place.
+    pub(crate) fn cubes(&self, enc: &Enc, place: usize) -> Result<Vec<Vec<Lit>>, AllocError>
+        requires working { IsWorking enc.now self.now.slots.items }
+        requires place { place < length self.now.slots.items }
+        ensures { IfOk result (λ cubes. map (λ cube. cube.items) cubes.items
+            ≡ cubes_of enc.now.sets.vars
+            (λ state. set_at enc.now.sets self.now.slots.items place (value_of state))) }
+    {
+        let set = self.at(place);
+        enc.sets().cubes(set)
+    }
+
+    /// Puts the set of all lists of truth values at a place.
+    pub(crate) fn whole(&mut self, enc: &mut Enc, place: usize) -> Result<(), SetErr>
+        requires working { IsWorking enc.old self.old.slots.items }
+        requires place { place < length self.old.slots.items }
+        ensures { (start : Start) → At start enc.old self.old.slots.items
+            → Left start enc.new self.new.slots.items
+            (Moved start enc.old.sets self.old.slots.items enc.new self.new.slots.items place
+            everything) result }
+    {
+        let answer = all_lists(enc);
+        self.put(enc, place, answer)
+    }
+
+    /// Puts at a place what an operation makes of the sets at two places.
+    pub(crate) fn combine(
+        &mut self,
+        enc: &mut Enc,
+        place: usize,
+        operation: Operation,
+        a: usize,
+        b: usize,
+    ) -> Result<(), SetErr>
+        requires working { IsWorking enc.old self.old.slots.items }
+        requires place { place < length self.old.slots.items }
+        requires a { a < length self.old.slots.items }
+        requires b { b < length self.old.slots.items }
+        ensures { (start : Start) → At start enc.old self.old.slots.items
+            → Left start enc.new self.new.slots.items
+            (Moved start enc.old.sets self.old.slots.items enc.new self.new.slots.items place
+            (combined operation (set_at enc.old.sets self.old.slots.items a)
+            (set_at enc.old.sets self.old.slots.items b))) result }
+    {
+        let answer = put_together(enc, operation, self.at(a), self.at(b));
+        self.put(enc, place, answer)
+    }
+
+    /// Puts at a place where an action leads into the set at another one.
+    pub(crate) fn lead(
+        &mut self,
+        enc: &mut Enc,
+        place: usize,
+        outcomes: Outcomes,
+        action: ActionId,
+        into: usize,
+    ) -> Result<(), SetErr>
+        requires working { IsWorking enc.old self.old.slots.items }
+        requires place { place < length self.old.slots.items }
+        requires action { action.0 < length enc.old.actions }
+        requires into { into < length self.old.slots.items }
+        ensures { (start : Start) → At start enc.old self.old.slots.items
+            → Left start enc.new self.new.slots.items
+            (Moved start enc.old.sets self.old.slots.items enc.new self.new.slots.items place
+            (led outcomes start.task action.0 (set_at enc.old.sets self.old.slots.items into)))
+            result }
+    {
+        let answer = leading(enc, outcomes, action, self.at(into));
+        self.put(enc, place, answer)
+    }
+}
+
+/// Ends a slot.
+pub(crate) fn end(enc: &mut Enc, slot: SetId)
+    requires { IsLive enc.old.sets slot.0 }
+    ensures released { Releases enc.old.sets enc.new.sets slot.0 }
+    ensures same_slots { enc.new ≡ record enc.old { sets = enc.new.sets } }
+    ensures sound { IsSets enc.new.sets }
+{
+    enc.sets_mut().release(slot);
+}
+
+/// The same set in a new slot.
+fn copied(enc: &mut Enc, set: SetId) -> Result<SetId, SetErr>
+    requires { IsLive enc.old.sets set.0 }
+    ensures answer { OwnsAnswer enc.old.sets enc.new.sets (set_of enc.old.sets set.0) result }
+    ensures same_slots { enc.new ≡ record enc.old { sets = enc.new.sets } }
+    ensures full { IsErrOf result SetErr.Full → IsTightFor 8 enc.old.sets }
+{
+    enc.sets_mut().copy(set)
+}
+
+/// The empty set, in a new slot.
+fn no_lists(enc: &mut Enc) -> Result<SetId, SetErr>
+    ensures answer { OwnsAnswer enc.old.sets enc.new.sets nothing result }
+    ensures same_slots { enc.new ≡ record enc.old { sets = enc.new.sets } }
+    ensures never_full { IfErr result (λ e. e ≡ SetErr.Memory) }
+{
+    enc.sets_mut().none()
+}
+
+/// The set of all lists of truth values, in a new slot.
+fn all_lists(enc: &mut Enc) -> Result<SetId, SetErr>
+    ensures answer { OwnsAnswer enc.old.sets enc.new.sets everything result }
+    ensures same_slots { enc.new ≡ record enc.old { sets = enc.new.sets } }
+    ensures full { IsErrOf result SetErr.Full → IsTightFor 8 enc.old.sets }
+{
+    enc.sets_mut().whole()
+}
+
+/// What an operation makes of two sets, in a new slot.
+fn put_together(enc: &mut Enc, operation: Operation, a: SetId, b: SetId) -> Result<SetId, SetErr>
+    requires a_live { IsLive enc.old.sets a.0 }
+    requires b_live { IsLive enc.old.sets b.0 }
+    ensures answer { OwnsAnswer enc.old.sets enc.new.sets
+        (combined operation (set_of enc.old.sets a.0) (set_of enc.old.sets b.0)) result }
+    ensures same_slots { enc.new ≡ record enc.old { sets = enc.new.sets } }
+    ensures full { IsErrOf result SetErr.Full → IsTightFor 8 enc.old.sets }
+{
+    operate(enc.sets_mut(), operation, a, b)
+}
+
+fn operate(sets: &mut Sets, operation: Operation, a: SetId, b: SetId) -> Result<SetId, SetErr>
+    requires a_live { IsLive sets.old a.0 }
+    requires b_live { IsLive sets.old b.0 }
+    ensures answer { OwnsAnswer sets.old sets.new
+        (combined operation (set_of sets.old a.0) (set_of sets.old b.0)) result }
+    ensures full { IsErrOf result SetErr.Full → IsTightFor 8 sets.old }
+{
+    full_is_tight();
+    match operation {
+        Operation::Meet => sets.meet(a, b),
+        Operation::Join => sets.join(a, b),
+        Operation::Minus => sets.minus(a, b),
+    }
+}
+
+/// Where an action leads into a set, in a new slot.
+fn leading(
+    enc: &mut Enc,
+    outcomes: Outcomes,
+    action: ActionId,
+    into: SetId,
+) -> Result<SetId, SetErr>
+    requires made { OfSomeTask enc.old }
+    requires action { action.0 < length enc.old.actions }
+    requires live { IsLive enc.old.sets into.0 }
+    ensures answer { (task : Task) → MadeOf task enc.old → OwnsAnswer enc.old.sets enc.new.sets
+        (led outcomes task action.0 (set_of enc.old.sets into.0)) result }
+    ensures same_slots { enc.new ≡ record enc.old { sets = enc.new.sets } }
+    ensures full { IsErrOf result SetErr.Full → IsTightFor 8 enc.old.sets }
+{
+    match outcomes {
+        Outcomes::Some => weak_pre(enc, action, into),
+        Outcomes::Every => strong_pre(enc, action, into),
+    }
+}

@@ -1,0 +1,19 @@
+//! Strong cyclic plans: plans whose executions may always still reach the goal, and end nowhere
+//! else.
+//!
+//! What they are made of is said in `specs/`: `Pairs` and `Largest` (the largest set of
+//! state-action pairs that no pair leaves and from which the goal is reached), `Rounds` (how it is
+//! found) and `Printed` (the rules, from the least-numbered action of each state that makes
+//! progress). The laws are the contracts of functions that do nothing.
+#![tactic(auto)]
+
+mod board;
+mod laws;
+mod plan;
+mod rounds;
+
+pub use laws::{
+    last_round_is_largest, no_plan_without_cover, printed_plan_solves, rounds_shrink,
+    rounds_stand_still, solutions_outlast_rounds,
+};
+pub use plan::plan_cyclic;

@@ -1,0 +1,285 @@
+//! The rounds of the search for the largest set of pairs, on sets of states.
+
+ghost use Rattle.std.specs.Prelude.{◌≡◌, ℕ, suc, ◌+◌, ◌<◌, ◌^◌, ◌&&◌, ◌||◌, not, length, false};
+ghost use Rattle.dd_sets.specs.LiveSets.{IsLive, set_of};
+ghost use Rattle.task_core.specs.Cubes.{SetOfVectors};
+ghost use Rattle.task_core.specs.Tasks.{system_of, action_count, fluent_count};
+ghost use Rattle.reach_plan.specs.Layers.{may_lead};
+ghost use Rattle.cyclic_plan.specs.Board.{At, IsWorking, Left, Start};
+ghost use Rattle.cyclic_plan.specs.Rounds.{IsLastRound, connected, kept, round as round_of};
+ghost use Rattle.cyclic_plan.specs.Stages.{HasHits, HasLastRound, HasNear, HasNext, HasPairs, HasRound, HasStep, Takings, kept_system, next_by, none_taken, taken_also, taken_by, taken_if, takers_within};
+
+use crate::board::{Board, Operation, Outcomes};
+use dd_sets::SetErr;
+use encode_task::Enc;
+use task_core::ActionId;
+
+/// The goal states.
+pub(crate) const GOAL: usize = 0;
+/// The states that are left.
+pub(crate) const LEFT: usize = 1;
+/// Those of them that are outside the goal.
+const OUTSIDE: usize = 2;
+/// The states near the goal.
+pub(crate) const NEAR: usize = 3;
+/// The states near the goal, with one step more.
+const NEXT: usize = 4;
+/// The states of kept pairs from which an action leads into the near states.
+const HITS: usize = 5;
+/// Those of them that are new.
+pub(crate) const NEW: usize = 6;
+
+/// The place of the states of an action's kept pairs.
+fn pairs_of(a: ActionId) -> usize
+    ensures { result ≡ 7 + a.0 }
+{
+    7 + a.0 as usize
+}
+
+/// The place of the states that take an action, of so many.
+pub(crate) fn takers_of(actions: u32, a: ActionId) -> usize
+    ensures { result ≡ 7 + actions + a.0 }
+{
+    7 + actions as usize + a.0 as usize
+}
+
+/// Keeps the pairs of an action that don't lead out of the states that are left.
+fn keep(enc: &mut Enc, board: &mut Board, a: ActionId) -> Result<(), SetErr>
+    requires ready { (start : Start) × (left : SetOfVectors) × (taken : Takings)
+        × HasPairs start enc.old board.old.slots.items left taken a.0 }
+    requires action { a.0 < length enc.old.actions }
+    ensures { (start : Start) (left : SetOfVectors) (taken : Takings)
+        → HasPairs start enc.old board.old.slots.items left taken a.0
+        → Left start enc.new board.new.slots.items
+        (HasPairs start enc.new board.new.slots.items left taken (a.0 + 1)) result }
+{
+    let pairs = pairs_of(a);
+    board.lead(enc, pairs, Outcomes::Every, a, LEFT)?;
+    board.combine(enc, pairs, Operation::Meet, pairs, OUTSIDE)
+}
+
+/// Finds where an action leads into the near states by its kept pairs.
+fn hit(enc: &mut Enc, board: &mut Board, a: ActionId) -> Result<(), SetErr>
+    requires ready { (start : Start) × (left : SetOfVectors) × (taken : Takings)
+        × (near : SetOfVectors) × (next : SetOfVectors)
+        × HasNext start enc.old board.old.slots.items left taken near next }
+    requires action { a.0 < length enc.old.actions }
+    ensures { (start : Start) (left : SetOfVectors) (taken : Takings)
+        (near : SetOfVectors) (next : SetOfVectors)
+        → HasNext start enc.old board.old.slots.items left taken near next
+        → Left start enc.new board.new.slots.items
+        (HasHits start enc.new board.new.slots.items left taken near next
+        (λ v. may_lead (kept_system start left) near v a.0)) result }
+{
+    board.lead(enc, HITS, Outcomes::Some, a, NEAR)?;
+    board.combine(enc, HITS, Operation::Meet, HITS, pairs_of(a))
+}
+
+/// Keeps the pairs that don't lead out of the states that are left.
+fn keep_pairs(enc: &mut Enc, board: &mut Board, actions: u32) -> Result<(), SetErr>
+    requires ready { (start : Start) × (left : SetOfVectors) × (taken : Takings)
+        × HasRound start enc.old board.old.slots.items left taken }
+    requires actions { actions ≡ length enc.old.actions }
+    ensures { (start : Start) (left : SetOfVectors) (taken : Takings)
+        → HasRound start enc.old board.old.slots.items left taken
+        → Left start enc.new board.new.slots.items
+        (HasPairs start enc.new board.new.slots.items left taken (action_count start.task))
+        result }
+{
+    board.combine(enc, OUTSIDE, Operation::Minus, LEFT, GOAL)?;
+    for a in 0..actions {
+        keep(enc, board, ActionId(a))?;
+    }
+    Ok(())
+}
+
+/// Has an action taken in the states from which it leads into the near ones, where they are new.
+fn take(enc: &mut Enc, board: &mut Board, actions: u32, a: ActionId) -> Result<(), SetErr>
+    requires ready { (start : Start) × (left : SetOfVectors) × (taken : Takings)
+        × (near : SetOfVectors) × (next : SetOfVectors) × (hits : SetOfVectors)
+        × HasHits start enc.old board.old.slots.items left taken near next hits }
+    requires actions { actions ≡ length enc.old.actions }
+    requires action { a.0 < length enc.old.actions }
+    ensures { (start : Start) (left : SetOfVectors) (taken : Takings)
+        (near : SetOfVectors) (next : SetOfVectors) (hits : SetOfVectors)
+        → HasHits start enc.old board.old.slots.items left taken near next hits
+        → Left start enc.new board.new.slots.items
+        (HasHits start enc.new board.new.slots.items left (taken_also taken a.0
+        (λ v. hits v && not (next v))) near next hits) result }
+{
+    let takers = takers_of(actions, a);
+    board.combine(enc, NEW, Operation::Minus, HITS, NEXT)?;
+    board.combine(enc, takers, Operation::Join, takers, NEW)
+}
+
+/// The same, where actions are to be taken.
+fn take_where(
+    enc: &mut Enc,
+    board: &mut Board,
+    actions: u32,
+    a: ActionId,
+    taking: bool,
+) -> Result<(), SetErr>
+    requires ready { (start : Start) × (left : SetOfVectors) × (taken : Takings)
+        × (near : SetOfVectors) × (next : SetOfVectors) × (hits : SetOfVectors)
+        × HasHits start enc.old board.old.slots.items left taken near next hits }
+    requires actions { actions ≡ length enc.old.actions }
+    requires action { a.0 < length enc.old.actions }
+    ensures { (start : Start) (left : SetOfVectors) (taken : Takings)
+        (near : SetOfVectors) (next : SetOfVectors) (hits : SetOfVectors)
+        → HasHits start enc.old board.old.slots.items left taken near next hits
+        → Left start enc.new board.new.slots.items
+        (HasHits start enc.new board.new.slots.items left (taken_if taking taken a.0
+        (λ v. hits v && not (next v))) near next hits) result }
+{
+    if taking {
+        take(enc, board, actions, a)
+    } else {
+        Ok(())
+    }
+}
+
+/// Adds the states from which an action leads into the near ones.
+fn advance(
+    enc: &mut Enc,
+    board: &mut Board,
+    actions: u32,
+    a: ActionId,
+    taking: bool,
+) -> Result<(), SetErr>
+    requires ready { (start : Start) × (left : SetOfVectors) × (taken : Takings)
+        × (near : SetOfVectors) × (next : SetOfVectors)
+        × HasNext start enc.old board.old.slots.items left taken near next }
+    requires actions { actions ≡ length enc.old.actions }
+    requires action { a.0 < length enc.old.actions }
+    ensures { (start : Start) (left : SetOfVectors) (taken : Takings)
+        (near : SetOfVectors) (next : SetOfVectors)
+        → HasNext start enc.old board.old.slots.items left taken near next
+        → Left start enc.new board.new.slots.items
+        (HasNext start enc.new board.new.slots.items left (taken_if taking taken a.0
+        (λ v. may_lead (kept_system start left) near v a.0 && not (next v))) near
+        (λ v. next v || may_lead (kept_system start left) near v a.0)) result }
+{
+    hit(enc, board, a)?;
+    take_where(enc, board, actions, a, taking)?;
+    board.combine(enc, NEXT, Operation::Join, NEXT, HITS)
+}
+
+/// Adds the states that are one step farther from the goal.
+fn grow(enc: &mut Enc, board: &mut Board, actions: u32, taking: bool) -> Result<(), SetErr>
+    requires ready { (start : Start) × (left : SetOfVectors) × (taken : Takings)
+        × (near : SetOfVectors) × HasNear start enc.old board.old.slots.items left taken near }
+    requires actions { actions ≡ length enc.old.actions }
+    ensures { (start : Start) (left : SetOfVectors) (taken : Takings) (near : SetOfVectors)
+        → HasNear start enc.old board.old.slots.items left taken near
+        → Left start enc.new board.new.slots.items
+        (HasNext start enc.new board.new.slots.items left
+        (taken_by taking (kept_system start left) near taken (action_count start.task)) near
+        (next_by (kept_system start left) near (action_count start.task))) result }
+{
+    board.copy_of(enc, NEXT, NEAR)?;
+    for a in 0..actions {
+        advance(enc, board, actions, ActionId(a), taking)?;
+    }
+    Ok(())
+}
+
+/// The goal states, and the states that are one step from them.
+fn first_step(enc: &mut Enc, board: &mut Board, actions: u32, taking: bool) -> Result<(), SetErr>
+    requires ready { (start : Start) × (left : SetOfVectors) × (near : SetOfVectors)
+        × HasNear start enc.old board.old.slots.items left none_taken near }
+    requires actions { actions ≡ length enc.old.actions }
+    ensures { (start : Start) (left : SetOfVectors) (near : SetOfVectors)
+        → HasNear start enc.old board.old.slots.items left none_taken near
+        → Left start enc.new board.new.slots.items
+        (HasStep start enc.new board.new.slots.items left taking 0) result }
+{
+    board.copy_of(enc, NEAR, GOAL)?;
+    grow(enc, board, actions, taking)
+}
+
+/// One step more.
+fn next_step(enc: &mut Enc, board: &mut Board, actions: u32, taking: bool) -> Result<(), SetErr>
+    requires ready { (start : Start) × (left : SetOfVectors) × (k : ℕ)
+        × HasStep start enc.old board.old.slots.items left taking k }
+    requires actions { actions ≡ length enc.old.actions }
+    ensures { (start : Start) (left : SetOfVectors) (k : ℕ)
+        → HasStep start enc.old board.old.slots.items left taking k
+        → Left start enc.new board.new.slots.items
+        (HasStep start enc.new board.new.slots.items left taking (suc k)) result }
+{
+    board.copy_of(enc, NEAR, NEXT)?;
+    grow(enc, board, actions, taking)
+}
+
+/// Finds the states from which the goal is reached by kept pairs, step by step.
+pub(crate) fn spread(
+    enc: &mut Enc,
+    board: &mut Board,
+    actions: u32,
+    taking: bool,
+) -> Result<(), SetErr>
+    requires ready { (start : Start) × (left : SetOfVectors) × (near : SetOfVectors)
+        × HasNear start enc.old board.old.slots.items left none_taken near }
+    requires actions { actions ≡ length enc.old.actions }
+    ensures { (start : Start) (left : SetOfVectors) (near : SetOfVectors)
+        → HasNear start enc.old board.old.slots.items left none_taken near
+        → Left start enc.new board.new.slots.items
+        (HasNear start enc.new board.new.slots.items left
+        (takers_within taking (kept_system start left) (2 ^ fluent_count start.task))
+        (connected (system_of start.task) (kept (system_of start.task) left))) result }
+{
+    first_step(enc, board, actions, taking)?;
+    while !board.is_same(enc, NEXT, NEAR) {
+        next_step(enc, board, actions, taking)?;
+    }
+    Ok(())
+}
+
+/// One round: the pairs that don't lead out of the states that are left, and the states from which
+/// these pairs reach the goal.
+fn round(enc: &mut Enc, board: &mut Board, actions: u32) -> Result<(), SetErr>
+    requires ready { (start : Start) × (left : SetOfVectors)
+        × HasRound start enc.old board.old.slots.items left none_taken }
+    requires actions { actions ≡ length enc.old.actions }
+    ensures { (start : Start) (left : SetOfVectors)
+        → HasRound start enc.old board.old.slots.items left none_taken
+        → Left start enc.new board.new.slots.items
+        (HasNear start enc.new board.new.slots.items left none_taken
+        (connected (system_of start.task) (kept (system_of start.task) left))) result }
+{
+    keep_pairs(enc, board, actions)?;
+    spread(enc, board, actions, false)
+}
+
+/// The next round, with the states that the last one left.
+fn next_round(enc: &mut Enc, board: &mut Board, actions: u32) -> Result<(), SetErr>
+    requires ready { (start : Start) × (left : SetOfVectors) × (near : SetOfVectors)
+        × HasNear start enc.old board.old.slots.items left none_taken near }
+    requires actions { actions ≡ length enc.old.actions }
+    ensures { (start : Start) (left : SetOfVectors) (near : SetOfVectors)
+        → HasNear start enc.old board.old.slots.items left none_taken near
+        → Left start enc.new board.new.slots.items
+        (HasNear start enc.new board.new.slots.items near none_taken
+        (connected (system_of start.task) (kept (system_of start.task) near))) result }
+{
+    board.copy_of(enc, LEFT, NEAR)?;
+    round(enc, board, actions)
+}
+
+/// Makes rounds until one leaves the same states as the one before.
+pub(crate) fn last_round(enc: &mut Enc, board: &mut Board, actions: u32) -> Result<(), SetErr>
+    requires ready { (start : Start) × HasRound start enc.old board.old.slots.items
+        (round_of (system_of start.task) 0) none_taken }
+    requires actions { actions ≡ length enc.old.actions }
+    ensures { (start : Start) → HasRound start enc.old board.old.slots.items
+        (round_of (system_of start.task) 0) none_taken
+        → Left start enc.new board.new.slots.items
+        (HasLastRound start enc.new board.new.slots.items) result }
+{
+    round(enc, board, actions)?;
+    while !board.is_same(enc, NEAR, LEFT) {
+        next_round(enc, board, actions)?;
+    }
+    Ok(())
+}
