@@ -1,5 +1,6 @@
 -- Private: the slots of a search, each at a place of one list, and what every exit leaves of them.
-use Rattle.std.specs.Prelude.{◌≡◌, ◌≢◌, ℕ, ◌+◌, ◌*◌, ◌<◌, false, List, length, slice_index_or, Result, Ok, Err}
+use Rattle.std.specs.Prelude.{◌≡◌, ◌≢◌, ℕ, ◌+◌, ◌*◌, ◌<◌, false, List, length, slice_index_or}
+use Rattle.std.specs.Prelude.{Result, Ok, Err}
 use Rattle.dd_nodes.specs.Subfunctions.{Function}
 use Rattle.dd_ops.specs.Operations.{and_of, minus_of, or_of}
 use Rattle.dd_sets.specs.Calls.{KeepsSets}
@@ -66,11 +67,13 @@ Left start now slots answered (Ok x) = answered
 Left start now slots answered (Err e) = At start now slots × (e ≡ Full → IsTightAt start)
 
 -- one place has another set, and the others have theirs
-pub record Moved (start : Start) (before : LiveSets) (old : List SetId) (now : Encoded) (slots : List SetId) (place : ℕ) (set : Function) : Type 0 where
+pub record Moved (start : Start) (before : LiveSets) (old : List SetId) (now : Encoded)
+    (slots : List SetId) (place : ℕ) (set : Function) : Type 0 where
   pub at : At start now slots
   pub sound : IsSets now.sets
   pub here : set_at now.sets slots place ≡ set
-  pub others : (other : ℕ) → other < length slots → other ≢ place → set_at now.sets slots other ≡ set_at before old other
+  pub others : (other : ℕ) → other < length slots → other ≢ place → set_at now.sets slots other
+      ≡ set_at before old other
 
 -- what an operation makes of two sets
 abbrev pub combined : Operation → Function → Function → Function

@@ -8,8 +8,8 @@ use Rattle.plan_rules.specs.Rules.{PlanRule}
 use Rattle.reach_plan.specs.Printed.{chosen_action, printed_rules}
 use Rattle.cyclic_plan.specs.Pairs.{Pairs, restricted}
 
--- the action of a state: the least-numbered one of its pairs with an outcome that is one step nearer
--- to the goal by pairs of the set. Goal states, and states without a pair, have none
+-- the action of a state: the least-numbered one of its pairs with an outcome that is one step
+-- nearer to the goal by pairs of the set. Goal states, and states without a pair, have none
 abbrev pub progress_action : System → Pairs → Vector → Option ℕ
 progress_action sys pairs = chosen_action Weak (restricted sys pairs) (2 ^ sys.fluents)
 

@@ -1,8 +1,10 @@
--- Private: what the slots of a search hold, as sets of states. The goal states stand at place 0, the
--- states that are left at 1, those of them outside the goal at 2, the states near the goal at 3 and
--- the next ones at 4, where an action leads into them at 5 and what is new of that at 6. From 7 on
--- there are, for each action, the states of the pairs that are kept, and then those that take it.
-use Rattle.std.specs.Prelude.{◌≡◌, ℕ, suc, ◌+◌, ◌<◌, ◌==◌, Bool, false, not, ◌&&◌, ◌||◌, List, if◌then◌else◌, nat_lt}
+-- Private: what the slots of a search hold, as sets of states. The goal states stand at place 0,
+-- the states that are left at 1, those of them outside the goal at 2, the states near the goal at 3
+-- and the next ones at 4, where an action leads into them at 5 and what is new of that at 6. From 7
+-- on there are, for each action, the states of the pairs that are kept, and then those that take
+-- it.
+use Rattle.std.specs.Prelude.{◌≡◌, ℕ, suc, ◌+◌, ◌<◌, ◌==◌, Bool, false, not, ◌&&◌, ◌||◌, List}
+use Rattle.std.specs.Prelude.{if◌then◌else◌, nat_lt}
 use Rattle.std.specs.List.{list_any, range_with_len}
 use Rattle.dd_nodes.specs.Subfunctions.{Function}
 use Rattle.dd_sets.specs.LiveSets.{IsSets}

@@ -1,7 +1,8 @@
 //! The slots of a search, each at a place. Each step puts a new set at one place; the slots are
 //! ended all at once, when the search is done.
 
-ghost use Rattle.std.specs.Prelude.{◌≡◌, ◌≢◌, ℕ, ◌+◌, ◌<◌, ◌↔◌, [], IsTrue, length, map, IfErr, IfOk, OnErr, OnOk, IsErrOf};
+ghost use Rattle.std.specs.Prelude.{◌≡◌, ◌≢◌, ℕ, ◌+◌, ◌<◌, ◌↔◌, [], IsTrue, length, map, IfErr};
+ghost use Rattle.std.specs.Prelude.{IfOk, OnErr, OnOk, IsErrOf};
 ghost use Rattle.dd_nodes.specs.Subfunctions.{Function};
 ghost use Rattle.dd_sets.specs.Calls.{Releases};
 ghost use Rattle.dd_sets.specs.Frames.{Owns, OwnsAnswer};
@@ -12,7 +13,8 @@ ghost use Rattle.preimage.specs.Preimages.{OfSomeTask};
 ghost use Rattle.task_core.specs.Cubes.{cubes_of};
 ghost use Rattle.task_core.specs.Vectors.{value_of};
 ghost use Rattle.task_core.specs.declared.tasks.Task.{Task};
-ghost use Rattle.cyclic_plan.specs.Board.{AllNothing, At, HasNothing, IsWorking, Left, Moved, Start, Working, combined, led, set_at, slot_at};
+ghost use Rattle.cyclic_plan.specs.Board.{AllNothing, At, HasNothing, IsWorking, Left, Moved};
+ghost use Rattle.cyclic_plan.specs.Board.{Start, Working, combined, led, set_at, slot_at};
 
 use dd_sets::{SetErr, SetId, Sets, full_is_tight};
 use encode_task::Enc;

@@ -55,8 +55,8 @@ pub fn printed_plan_solves()
         → IsExecutable sys (cyclic_rules sys pairs) }
 {}
 
-/// Where some initial state is neither a goal state nor has a pair of the largest set, no table is a
-/// strong cyclic solution: not one with several actions for a state, nor one with actions in goal
+/// Where some initial state is neither a goal state nor has a pair of the largest set, no table is
+/// a strong cyclic solution: not one with several actions for a state, nor one with actions in goal
 /// states.
 pub fn no_plan_without_cover()
     ensures none { (sys : System) (pairs : Pairs) → IsSystem sys → IsLargestSet sys pairs

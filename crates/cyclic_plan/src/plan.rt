@@ -1,6 +1,7 @@
 //! The strong cyclic planner.
 
-ghost use Rattle.std.specs.Prelude.{◌≡◌, ℕ, ◌+◌, ◌*◌, ◌<◌, ◌++◌, ◌^◌, [], map, length, Some, All, IsSome, IfOk, OnOk, IsErrOf};
+ghost use Rattle.std.specs.Prelude.{◌≡◌, ℕ, ◌+◌, ◌*◌, ◌<◌, ◌++◌, ◌^◌, [], map, length, Some, All};
+ghost use Rattle.std.specs.Prelude.{IsSome, IfOk, OnOk, IsErrOf};
 ghost use Rattle.std.specs.List.{flat_map, list_all, range_with_len};
 ghost use Rattle.dd_sets.specs.Frames.{Owns};
 ghost use Rattle.dd_sets.specs.Rooms.{IsTightFor};
