@@ -2,7 +2,7 @@
 //! uses them, that no other command does, and that they are dropped whatever comes. What is
 //! expected was worked out by hand.
 
-ghost use Rattle.std.specs.Prelude.{codes};
+ghost use Rattle.std.specs.Prelude.{◌≡◌, All, codes};
 
 use crate::{ActionMonitor, QueueWorld};
 use mbp_top::run;
@@ -11,6 +11,7 @@ use run_replay::{Monitor, Step, World};
 use std::alloc::{AllocError, Global};
 use std::cell::Cell;
 use std::collections::VecDeque;
+use std::fmt::Write;
 use std::rc::Rc;
 use std::test::Fail;
 use task_core::ActionId;
@@ -121,154 +122,125 @@ fn split(alloc: Global, line: &str) -> Result<Vec<String>, Fail> {
     Ok(words)
 }
 
-#[test]
-fn a_replay_with_a_world_and_monitors_of_a_caller(rt: HostRuntime) -> Result<(), Fail> {
-    let alloc = rt.alloc();
-    let world: Box<dyn World> = Box::new(
-        alloc,
-        QueueWorld {
-            numbers: VecDeque::new(alloc),
-        },
-    )?;
-    let mut monitors: Vec<Box<dyn Monitor>> = Vec::new(alloc);
-    for action in 0..2u32 {
-        monitors.push(Box::new(
-            alloc,
-            ActionMonitor {
-                action: ActionId(action),
-                count: 0,
-            },
-        )?)?;
-    }
+/// Does what the words say, over files in memory, and gives the status and what was written to
+/// both sinks.
+fn told(
+    alloc: Global,
+    line: &str,
+    world: Box<dyn World>,
+    monitors: Vec<Box<dyn Monitor>>,
+) -> Result<String, Fail>
+    requires { All (λ monitor. counted monitor ≡ 0) monitors.items }
+{
+    let words = split(alloc, line)?;
     let mut shelf = shelf(alloc)?;
     let mut out = MemSink::new(alloc, 64, 1000)?;
     let mut err = MemSink::new(alloc, 64, 1000)?;
     let status = run(
-        alloc,
-        &split(alloc, "replay d p blink r")?,
-        &mut shelf,
-        &mut out,
-        &mut err,
-        world,
-        monitors,
+        alloc, &words, &mut shelf, &mut out, &mut err, world, monitors,
     );
-    assert_eq!(rt; status, 0);
-    let text = "step 1 (on) outcome 0\nstep 2 (off) outcome 1\nstep 3 (on) outcome 0\n\
-        step 4 (on) outcome 0\nend record\ntally uses 3\ntally uses 1\n";
-    assert!(rt; out.bytes() == text.as_bytes());
-    assert!(rt; err.bytes().is_empty());
+    let mut text = format!(in alloc; "{status} ")?;
+    push_bytes(&mut text, out.bytes())?;
+    push_bytes(&mut text, err.bytes())?;
+    Ok(text)
+}
+
+/// Appends bytes, each as the character of its number.
+fn push_bytes(text: &mut String, bytes: &[u8]) -> Result<(), AllocError> {
+    for byte in bytes {
+        text.push(char::from(*byte))?;
+    }
     Ok(())
 }
 
-/// A command, its status, and how often it used the world and the monitor.
-struct Case {
-    line: &'static str,
-    status: u8,
-    world_used: u32,
-    monitor_used: u32,
+/// What a command tells with a world that draws from a queue and a monitor of each of the two
+/// actions.
+fn told_of_actions(alloc: Global, line: &str) -> Result<String, Fail> {
+    let numbers = VecDeque::new(alloc);
+    let world: Box<dyn World> = Box::new(alloc, QueueWorld { numbers })?;
+    let on = ActionMonitor {
+        action: ActionId(0),
+        count: 0,
+    };
+    let off = ActionMonitor {
+        action: ActionId(1),
+        count: 0,
+    };
+    let mut monitors: Vec<Box<dyn Monitor>> = Vec::new(alloc);
+    monitors.push(Box::new(alloc, on)?)?;
+    monitors.push(Box::new(alloc, off)?)?;
+    told(alloc, line, world, monitors)
 }
 
-static CASES: [Case; 9] = [
-    // Loaded once and asked for a number five times; told of four steps, and asked for the title
-    // and the tally.
-    Case {
-        line: "replay d p blink r",
-        status: 0,
-        world_used: 6,
-        monitor_used: 6,
-    },
-    // It ends where the goal holds: asked twice, told twice.
-    Case {
-        line: "replay d p done r",
-        status: 0,
-        world_used: 3,
-        monitor_used: 4,
-    },
-    // A stray number: asked twice, told once.
-    Case {
-        line: "replay d p blink stray",
-        status: 9,
-        world_used: 3,
-        monitor_used: 1,
-    },
-    Case {
-        line: "replay d p blink far",
-        status: 3,
-        world_used: 0,
-        monitor_used: 0,
-    },
-    Case {
-        line: "replay d p blink nowhere",
-        status: 6,
-        world_used: 0,
-        monitor_used: 0,
-    },
-    Case {
-        line: "plan weak d p",
-        status: 0,
-        world_used: 0,
-        monitor_used: 0,
-    },
-    Case {
-        line: "ground d p",
-        status: 0,
-        world_used: 0,
-        monitor_used: 0,
-    },
-    Case {
-        line: "check weak d p done",
-        status: 0,
-        world_used: 0,
-        monitor_used: 0,
-    },
-    Case {
-        line: "replay d p blink",
-        status: 2,
-        world_used: 0,
-        monitor_used: 0,
-    },
-];
+#[test]
+fn a_replay_with_a_world_and_monitors_of_a_caller(rt: HostRuntime) -> Result<(), Fail> {
+    let text = "0 step 1 (on) outcome 0\nstep 2 (off) outcome 1\nstep 3 (on) outcome 0\n\
+        step 4 (on) outcome 0\nend record\ntally uses 3\ntally uses 1\n";
+    let told = told_of_actions(rt.alloc(), "replay d p blink r")?;
+    assert_eq!(rt; told.as_str(), text);
+    Ok(())
+}
+
+/// How often a command uses the world and the monitor, and how many of the two are dropped after
+/// it: `WORLD MONITOR DROPPED`.
+fn uses_of(alloc: Global, line: &str) -> Result<String, Fail> {
+    let dropped = Rc::new(alloc, Cell::new(0))?;
+    let of_world = Rc::new(alloc, Cell::new(0))?;
+    let of_monitor = Rc::new(alloc, Cell::new(0))?;
+    told_of_uses(alloc, line, &of_world, &of_monitor, &dropped)?;
+    let mut text = String::new(alloc);
+    write!(text, "{} {} ", of_world.get(), of_monitor.get())?;
+    write!(text, "{}", dropped.get())?;
+    Ok(text)
+}
+
+/// What a command tells with a world and a monitor whose uses and drops are counted here.
+fn told_of_uses(
+    alloc: Global,
+    line: &str,
+    of_world: &Rc<Cell<u32>>,
+    of_monitor: &Rc<Cell<u32>>,
+    dropped: &Rc<Cell<u32>>,
+) -> Result<String, Fail> {
+    let world = WatchedWorld {
+        queue: QueueWorld {
+            numbers: VecDeque::new(alloc),
+        },
+        uses: Uses {
+            used: of_world.clone()?,
+            dropped: dropped.clone()?,
+        },
+    };
+    let monitor = WatchedMonitor {
+        uses: Uses {
+            used: of_monitor.clone()?,
+            dropped: dropped.clone()?,
+        },
+    };
+    let world: Box<dyn World> = Box::new(alloc, world)?;
+    let mut monitors: Vec<Box<dyn Monitor>> = Vec::new(alloc);
+    monitors.push(Box::new(alloc, monitor)?)?;
+    told(alloc, line, world, monitors)
+}
 
 #[test]
 fn who_uses_them_and_that_they_are_dropped(rt: HostRuntime) -> Result<(), Fail> {
-    let alloc = rt.alloc();
-    for case in &CASES {
-        let dropped = Rc::new(alloc, Cell::new(0))?;
-        let world_used = Rc::new(alloc, Cell::new(0))?;
-        let monitor_used = Rc::new(alloc, Cell::new(0))?;
-        let world: Box<dyn World> = Box::new(
-            alloc,
-            WatchedWorld {
-                queue: QueueWorld {
-                    numbers: VecDeque::new(alloc),
-                },
-                uses: Uses {
-                    used: world_used.clone()?,
-                    dropped: dropped.clone()?,
-                },
-            },
-        )?;
-        let mut monitors: Vec<Box<dyn Monitor>> = Vec::new(alloc);
-        monitors.push(Box::new(
-            alloc,
-            WatchedMonitor {
-                uses: Uses {
-                    used: monitor_used.clone()?,
-                    dropped: dropped.clone()?,
-                },
-            },
-        )?)?;
-        let mut shelf = shelf(alloc)?;
-        let mut out = MemSink::new(alloc, 64, 1000)?;
-        let mut err = MemSink::new(alloc, 64, 1000)?;
-        let words = split(alloc, case.line)?;
-        let status = run(
-            alloc, &words, &mut shelf, &mut out, &mut err, world, monitors,
-        );
-        assert_eq!(rt; status, case.status, "{}", case.line);
-        assert_eq!(rt; world_used.get(), case.world_used, "{}", case.line);
-        assert_eq!(rt; monitor_used.get(), case.monitor_used, "{}", case.line);
-        assert_eq!(rt; dropped.get(), 2, "{}", case.line);
+    for (line, uses) in [
+        // Loaded once and asked for a number five times; told of four steps, and asked for the
+        // title and the tally.
+        ("replay d p blink r", "6 6 2"),
+        // It ends where the goal holds: asked twice, told twice.
+        ("replay d p done r", "3 4 2"),
+        // A stray number: asked twice, told once.
+        ("replay d p blink stray", "3 1 2"),
+        ("replay d p blink far", "0 0 2"),
+        ("replay d p blink nowhere", "0 0 2"),
+        ("plan weak d p", "0 0 2"),
+        ("ground d p", "0 0 2"),
+        ("check weak d p done", "0 0 2"),
+        ("replay d p blink", "0 0 2"),
+    ] {
+        assert_eq!(rt; uses_of(rt.alloc(), line)?.as_str(), uses, "{line}");
     }
     Ok(())
 }
