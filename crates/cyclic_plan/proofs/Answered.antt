@@ -8,7 +8,7 @@ use Rattle.dd_sets.specs.declared.slots.SetId.{SetId}
 use Rattle.encode_task.specs.Slots.{Encoded}
 use Rattle.task_core.specs.Solutions.{HasNoSolution, IsStrongCyclicSolution}
 use Rattle.task_core.specs.Tasks.{action_count, fluent_count, system_of}
-use Rattle.task_core.specs.declared.classes.Class.TheVariants.{Cyclic}
+use Rattle.task_core.specs.declared.classes.Class.TheVariants.{Cyclic, Weak}
 use Rattle.task_core.specs.declared.tasks.Task.{Task}
 use Rattle.task_core.proofs.TaskSystem.{is_system}
 use Rattle.plan_rules.specs.Denoted.{IsExecutable, denoted}
@@ -63,7 +63,7 @@ module _ (task : Task) (r : ℕ) (last : IsLastRound (system_of task) r) where
         class = class;
         printed = (pairs, largest, is);
         in_task = subst (λ (rules : List PlanRule). All (IsRuleOf (fluent_count task) (action_count task)) rules) (sym is)
-            (printed_within (restricted sys pairs) (2 ^ sys.fluents) (IsRuleOf (fluent_count task) (action_count task)) (λ cube a below lt. record { cube = below; action = lt }));
+            (printed_within Weak (restricted sys pairs) (2 ^ sys.fluents) (IsRuleOf (fluent_count task) (action_count task)) (λ cube a below lt. record { cube = below; action = lt }));
         table = denoted-table sys (rules_of plan);
         solves = subst (λ (rules : List PlanRule). IsStrongCyclicSolution sys (denoted sys rules)) (sym is) (cyclic_solves sys pairs (is_system task) largest.proper (all_covered all));
         executable = subst (IsExecutable sys) (sym is) (cyclic_executable sys pairs);

@@ -29,15 +29,20 @@ few_slots slots most P Q few =
     let e : slots * P ≤ most * P = mul-le-mul_right P few in
     omega arith
 
+more_slots : (few many P Q : ℕ) → few ≤ many → few * P + Q ≤ many * P + Q
+more_slots few many P Q less =
+    let e : few * P ≤ many * P = mul-le-mul_right P less in
+    omega arith
+
 -- a bound on the slots by the number of actions and an action's slots
 slots_of_actions : (A M : ℕ) → A * (M + 1) + 220 ≤ A * (M + 6) + 256
 slots_of_actions A M =
     let e : A * (M + 1) ≤ A * (M + 6) = grind arith in
     omega arith
 
-slots_of_planner : (L A M : ℕ) → L ≤ A * (M + 1) + 5 → L + (A + 24) ≤ A * (M + 6) + 256
+slots_of_planner : (L A M : ℕ) → L ≤ A * (M + 1) + 5 → L + (3 * A + 32) ≤ A * (M + 6) + 256
 slots_of_planner L A M few =
-    let e : A * (M + 1) + A ≤ A * (M + 6) = grind arith in
+    let e : A * (M + 1) + 3 * A ≤ A * (M + 6) = grind arith in
     omega arith
 
 tight_for_slots : TightIsMonotone → (t : Task) (limit slots : ℕ)
@@ -56,11 +61,17 @@ pub tight_for_sets : TightIsMonotone → (t : Task) (limit : ℕ)
 tight_for_sets monotone t limit tight =
     tight_for_slots monotone t limit (working_slots t) (slots_of_actions (action_count t) (most_of_task t * (fluent_count t + 1))) tight
 
+-- a limit that is tight for the slots of the weak and the strong planner is tight for those of the strong cyclic one
+pub tight_for_more : TightIsMonotone → (actions : ℕ) (sets : LiveSets) → IsTightFor (actions + 24) sets → IsTightFor (3 * actions + 32) sets
+tight_for_more monotone actions sets tight =
+    monotone sets.limit sets.vars (nodes_of_slots (live_count sets + (actions + 24)) sets.vars) (nodes_of_slots (live_count sets + (3 * actions + 32)) sets.vars)
+    (more_slots (live_count sets + (actions + 24)) (live_count sets + (3 * actions + 32)) (2 ^ sets.vars) (4 ^ sets.vars) (omega arith)) tight
+
 -- while a plan is looked for
 pub tight_for_planner : TightIsMonotone → (t : Task) (sets : LiveSets) (limit : ℕ) → sets.vars ≡ fluent_count t → sets.limit ≡ limit
-    → live_count sets ≤ kept_slots t → IsTightFor (action_count t + 24) sets → IsTightLimit limit (system_of t)
+    → live_count sets ≤ kept_slots t → IsTightFor (3 * action_count t + 32) sets → IsTightLimit limit (system_of t)
 tight_for_planner monotone t sets limit of_vars of_limit few tight =
-    let slots = live_count sets + (action_count t + 24) in
+    let slots = live_count sets + (3 * action_count t + 32) in
     tight_for_slots monotone t limit slots (slots_of_planner (live_count sets) (action_count t) (most_of_task t * (fluent_count t + 1)) few)
     (subst (λ (l : ℕ). Tight l (fluent_count t) (nodes_of_slots slots (fluent_count t))) of_limit
     (subst (λ (v : ℕ). Tight sets.limit v (nodes_of_slots slots v)) of_vars tight))

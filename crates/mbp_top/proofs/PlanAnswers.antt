@@ -34,7 +34,7 @@ use Rattle.mbp_top.specs.Enough.{IsTightLimit}
 use Rattle.mbp_top.specs.FoundPlans.{IsFoundPlan, IsSearched}
 use Rattle.mbp_top.specs.Grounding.{GroundThen}
 use Rattle.mbp_top.specs.PddlTexts.{HoldBoth, ReadBoth}
-use Rattle.mbp_top.specs.PlanCommand.{IsPlanAnswer, IsPlanResult, IsPlanned, IsShortest, MayBeTooFew, PlanThen}
+use Rattle.mbp_top.specs.PlanCommand.{ArePrintedRules, IsPlanAnswer, IsPlanResult, IsPlanned, IsShortest, MayBeTooFew, PlanThen}
 use Rattle.mbp_top.specs.Words.{Bytes, PlanWords}
 use Rattle.mbp_top.proofs.Listings.{same_actions, same_count, same_fluents}
 
@@ -59,9 +59,9 @@ plan_is_result class t p text found spelled is =
       };
       shortest = record { rules = rules_of p; spelled = of_class; shortest = found.shortest };
       printed = record {
-        last = found.last;
-        is_last = found.is_last;
-        spelled = is ∙ ap (λ k. table_text fluents actions k (rules_of p)) found.of_class ∙ ap (λ rs. table_text fluents actions class rs) found.printed;
+        rules = rules_of p;
+        printed = found.printed;
+        spelled = is ∙ ap (λ k. table_text fluents actions k (rules_of p)) found.of_class;
       };
     })
 
@@ -124,9 +124,9 @@ before_plan held failed asked a (inr read) = inr (inr read)
 
 -- what a planner found, with what the law of shortest plans says of it
 pub found_plan : (class : Class) (t : Task) (r : Result Found SetErr)
-    → ((K : ℕ) (rules : List PlanRule) → IsLastLayer class (system_of t) K → rules ≡ printed_rules class (system_of t) K → IsShortest class (system_of t) (denoted (system_of t) rules))
+    → ((rules : List PlanRule) → ArePrintedRules class (system_of t) rules → IsShortest class (system_of t) (denoted (system_of t) rules))
     → IfOk r (λ found. IfPlan found (λ plan. plan.class ≡ class))
-    → IfOk r (λ found. IfPlan found (λ plan. (K : ℕ) × IsLastLayer class (system_of t) K × (rules_of plan ≡ printed_rules class (system_of t) K)))
+    → IfOk r (λ found. IfPlan found (λ plan. ArePrintedRules class (system_of t) (rules_of plan)))
     → IfOk r (λ found. IfPlan found (λ plan. All (IsRuleOf (fluent_count t) (action_count t)) (rules_of plan)))
     → IfOk r (λ found. IfPlan found (λ plan. IsTable (system_of t) (denoted (system_of t) (rules_of plan))))
     → IfOk r (λ found. IfPlan found (λ plan. IsSolution class (system_of t) (denoted (system_of t) (rules_of plan))))
@@ -137,11 +137,9 @@ found_plan class t (Ok NoPlan) shortest of_class printed in_task table solves ex
 found_plan class t (Ok (Plan p)) shortest of_class printed in_task table solves executable none = record {
   of_class = of_class;
   in_task = in_task;
-  last = printed.0;
-  is_last = printed.1;
-  printed = printed.2;
+  printed = printed;
   table = table;
   solves = solves;
   executable = executable;
-  shortest = shortest printed.0 (rules_of p) printed.1 printed.2;
+  shortest = shortest (rules_of p) printed;
 }

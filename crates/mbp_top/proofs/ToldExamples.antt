@@ -3,11 +3,11 @@ use Rattle.std.proofs.Common.{◌≡◌, List, [], ◌∷◌, ◌++◌, arith, c
 use Rattle.std.specs.Fmt.{digits}
 use Rattle.plan_io.specs.Held.{Held, Missing}
 use Rattle.plan_rules.specs.Texts.{line_feed}
-use Rattle.task_core.specs.declared.classes.Class.TheVariants.{Weak, Strong, Cyclic}
+use Rattle.task_core.specs.declared.classes.Class.TheVariants.{Weak, Strong}
 use Rattle.mbp_top.specs.Answers.{full, no_command, over_limit, read_fault, refused, status_of, text_of}
 use Rattle.mbp_top.specs.ReplayCommand.{Tallies}
 use Rattle.mbp_top.specs.Told.{AreFilesTold, IsDue}
-use Rattle.mbp_top.specs.Words.{Bytes, Command, PlanOptions, PlanWords, plan, ground, check, replay, Says, files_of}
+use Rattle.mbp_top.specs.Words.{Bytes, Command, PlanWords, plan, ground, check, replay, Says, files_of}
 
 -- the words `plan weak coin-d coin-p`, the command that they say, and the two files that it names
 abbrev coin_words : List Bytes
@@ -23,7 +23,6 @@ coin_plan = record {
 
 coin_said : Says coin_words (plan coin_plan)
 coin_said = record {
-  planned = tt;
   room = (omega arith, omega arith);
   rest = [];
   written = refl;
@@ -33,17 +32,11 @@ coin_said = record {
 coin_files : files_of (plan coin_plan) ≡ codes "coin-d" ∷ codes "coin-p" ∷ []
 coin_files = refl
 
--- no words ask for a strong cyclic plan so far
-cyclic_unsaid : (words : List Bytes) (domain problem : Bytes)
-    → (options : PlanOptions) → Says words (plan (record { class = Cyclic; domain = domain; problem = problem; options = options })) → ⊥
-cyclic_unsaid words domain problem options says = says.planned
-
 -- the words `plan strong coin-d coin-p --nodes 40`, and the command that they say
 few_said : Says (codes "plan" ∷ codes "strong" ∷ codes "coin-d" ∷ codes "coin-p" ∷ codes "--nodes" ∷ codes "40" ∷ [])
     (plan (record { class = Strong; domain = codes "coin-d"; problem = codes "coin-p"; options = record { nodes = 40 } }))
 unfolding digits
 few_said = record {
-  planned = tt;
   room = (omega arith, omega arith);
   rest = codes "--nodes" ∷ codes "40" ∷ [];
   written = refl;

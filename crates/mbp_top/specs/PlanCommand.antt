@@ -16,6 +16,9 @@ use Rattle.task_core.specs.declared.classes.Class.TheVariants.{Weak, Strong, Cyc
 use Rattle.reach_plan.specs.Bounds.{PathsAreWithin, ReachesGoalWithin}
 use Rattle.reach_plan.specs.Layers.{IsLastLayer}
 use Rattle.reach_plan.specs.Printed.{printed_rules}
+use Rattle.cyclic_plan.specs.Largest.{IsLargestSet}
+use Rattle.cyclic_plan.specs.Pairs.{Pairs}
+use Rattle.cyclic_plan.specs.Printed.{cyclic_rules}
 use Rattle.task_core.specs.Solutions.{HasNoSolution, IsSolution, IsStrongSolution, IsWeakSolution}
 use Rattle.task_core.specs.Systems.{System}
 use Rattle.task_core.specs.Tables.{IsTable, Table}
@@ -56,13 +59,30 @@ pub record IsShortestText (class : Class) (sys : System) (fluents actions : List
   pub spelled : SpellsTable fluents actions text class rules
   pub shortest : IsShortest class sys (denoted sys rules)
 
--- the text is the one that is printed: that of the rules of the layers from the goal up to the
--- first that holds every initial state
+-- the rules are those of the layers from the goal up to the first that holds every initial state
+abbrev pub AreRulesOfLayers : Class → System → List PlanRule → Type 0
+AreRulesOfLayers class sys rules =
+    (last : ℕ) × IsLastLayer class sys last × (rules ≡ printed_rules class sys last)
+
+-- the rules are those of the largest set of pairs of a state and an action from which the goal is
+-- always still reached: for each state the least-numbered action of its pairs that leads a step
+-- nearer to the goal
+abbrev pub AreRulesOfPairs : System → List PlanRule → Type 0
+AreRulesOfPairs sys rules =
+    (pairs : Pairs) × IsLargestSet sys pairs × (rules ≡ cyclic_rules sys pairs)
+
+-- the rules are those that are printed, by the class
+abbrev pub ArePrintedRules : Class → System → List PlanRule → Type 0
+ArePrintedRules Weak sys rules = AreRulesOfLayers Weak sys rules
+ArePrintedRules Strong sys rules = AreRulesOfLayers Strong sys rules
+ArePrintedRules Cyclic sys rules = AreRulesOfPairs sys rules
+
+-- the text is the one that is printed
 pub record IsPrintedText (class : Class) (sys : System) (fluents actions : List Name)
     (text : Bytes) : Type 0 where
-  pub last : ℕ
-  pub is_last : IsLastLayer class sys last
-  pub spelled : text ≡ table_text fluents actions class (printed_rules class sys last)
+  pub rules : List PlanRule
+  pub printed : ArePrintedRules class sys rules
+  pub spelled : text ≡ table_text fluents actions class rules
 
 -- what is shown where there is no plan
 abbrev pub no_plan_text : Bytes

@@ -1,8 +1,7 @@
 -- The command words: which commands there are, and which words say them.
-use Rattle.std.specs.Prelude.{◌≡◌, ℕ, ◌≤◌, ◌⊎◌, List, [], ◌∷◌, codes, decimal, ⊤}
+use Rattle.std.specs.Prelude.{◌≡◌, ℕ, ◌≤◌, ◌⊎◌, List, [], ◌∷◌, codes, decimal}
 use Rattle.plan_rules.specs.Texts.{class_word}
 use Rattle.task_core.specs.declared.classes.Class.{Class}
-use Rattle.task_core.specs.declared.classes.Class.TheVariants.{Weak, Strong, Cyclic}
 
 -- a text, as its bytes
 abbrev pub Bytes : Type 0
@@ -47,12 +46,6 @@ pub data Command : Type 0 where
   check : CheckWords → Command
   replay : ReplayWords → Command
 
--- the classes of which plans are looked for, so far
-abbrev pub IsPlannedClass : Class → Type 0
-IsPlannedClass Weak = ⊤
-IsPlannedClass Strong = ⊤
-IsPlannedClass Cyclic = ⊥
-
 -- the most nodes that may be asked for, and how many there may be where nothing is said of them
 abbrev pub most_nodes : ℕ
 most_nodes = 16777216
@@ -72,7 +65,6 @@ SaysOptions words options =
 
 -- `plan CLASS DOMAIN PROBLEM`, and then the options
 pub record SaysPlan (words : List Bytes) (asked : PlanWords) : Type 0 where
-  pub planned : IsPlannedClass asked.class
   pub room : IsNodeLimit asked.options.nodes
   pub rest : List Bytes
   pub written : words ≡ codes "plan" ∷ class_word asked.class ∷ asked.domain ∷ asked.problem ∷ rest

@@ -10,7 +10,7 @@ ghost use Rattle.mbp_top.specs.PlanCommand.{IsPlanAnswer, IsPlanResult, IsPlanne
 ghost use Rattle.mbp_top.specs.PlanCommand.{PlanThen};
 ghost use Rattle.mbp_top.specs.Grounding.{GroundThen};
 ghost use Rattle.mbp_top.specs.Values.{answer_of, bytes_of, plan_words_of, shown_of};
-ghost use Rattle.mbp_top.specs.Words.{IsNodeLimit, IsPlannedClass};
+ghost use Rattle.mbp_top.specs.Words.{IsNodeLimit};
 ghost use Rattle.pddl_ast.specs.Fits.{FitsDomain, FitsProblem};
 ghost use Rattle.pddl_ast.specs.Values.{domain_value, problem_value};
 ghost use Rattle.pddl_system.specs.Names.{NamesAreWords};
@@ -21,6 +21,7 @@ ghost use Rattle.std.specs.Prelude.{
   ◌≡◌,
   ◌≤◌,
   ◌+◌,
+  ◌*◌,
   ◌⊎◌,
   [],
   ◌∷◌,
@@ -37,6 +38,7 @@ use crate::answers::{Refusal, Shown, Text};
 use crate::grounding::{check_goal, grounded};
 use crate::pddl_texts::read_both;
 use crate::words::PlanWords;
+use cyclic_plan::plan_cyclic;
 use dd_sets::{SetErr, tight_is_monotone};
 use encode_task::{Enc, encode};
 use pddl_ast::{Domain, Problem};
@@ -52,7 +54,6 @@ pub(crate) fn plan_files<S: Shelf>(
     shelf: &mut S,
     asked: &PlanWords,
 ) -> Result<Shown, Refusal>
-    requires planned { IsPlannedClass asked.now.class }
     requires room { IsNodeLimit asked.now.options.nodes }
     ensures answer { let failed = FailedLast S.fetched S.faults shelf.old shelf.new in
         (answer_of result ≡ refused no_memory)
@@ -74,7 +75,6 @@ fn plan_problem(
     domain: &Domain,
     problem: &Problem,
 ) -> Result<Shown, Refusal>
-    requires planned { IsPlannedClass asked.now.class }
     requires room { IsNodeLimit asked.now.options.nodes }
     requires fits_domain { FitsDomain (domain_value domain.now) }
     requires fits_problem { FitsProblem (domain_value domain.now) (problem_value problem.now) }
@@ -97,7 +97,6 @@ fn plan_grounded(
     domain: &Domain,
     problem: &Problem,
 ) -> Result<Shown, Refusal>
-    requires planned { IsPlannedClass asked.now.class }
     requires room { IsNodeLimit asked.now.options.nodes }
     requires fits_domain { FitsDomain (domain_value domain.now) }
     requires fits_problem { FitsProblem (domain_value domain.now) (problem_value problem.now) }
@@ -121,7 +120,6 @@ fn plan_grounded(
 
 /// The plan for a task, found in a table for so many nodes.
 fn plan_task(alloc: Global, class: Class, nodes: u32, task: &Task) -> Result<Shown, SetErr>
-    requires planned { IsPlannedClass class }
     requires room { IsNodeLimit nodes }
     requires goal { IsSome task.now.goal }
     ensures plan { IfOk result
@@ -137,7 +135,6 @@ fn plan_task(alloc: Global, class: Class, nodes: u32, task: &Task) -> Result<Sho
 
 /// What is found for a task, in a table for so many nodes.
 fn search_task(alloc: Global, class: Class, nodes: u32, task: &Task) -> Result<Found, SetErr>
-    requires planned { IsPlannedClass class }
     requires room { IsNodeLimit nodes }
     requires goal { IsSome task.now.goal }
     ensures found { IsSearched class task.now result }
@@ -151,17 +148,18 @@ fn search_task(alloc: Global, class: Class, nodes: u32, task: &Task) -> Result<F
 
 /// The plan for a task, over its sets.
 fn find_plan(alloc: Global, class: Class, task: &Task, enc: &mut Enc) -> Result<Found, SetErr>
-    requires planned { IsPlannedClass class }
     requires made { MadeOf task.now enc.old }
     requires goal { IsSome task.now.goal }
     ensures found { IsSearched class task.now result }
     ensures full { IsErrOf result SetErr.Full
-        → IsTightFor (action_count task.now + 24) enc.old.sets }
+        → IsTightFor (3 * action_count task.now + 32) enc.old.sets }
 {
+    // This does nothing: that the limit is tight for more slots, too, rests on what it promises.
+    tight_is_monotone();
     match class {
         Class::Weak => weak_plan(alloc, task, enc),
         Class::Strong => strong_plan(alloc, task, enc),
-        Class::Cyclic => unreachable!(),
+        Class::Cyclic => strong_cyclic_plan(alloc, task, enc),
     }
 }
 
@@ -191,6 +189,17 @@ fn strong_plan(alloc: Global, task: &Task, enc: &mut Enc) -> Result<Found, SetEr
     tasks_have_systems(task);
     printed_plan_is_shortest();
     plan_strong(alloc, task, enc)
+}
+
+/// The strong cyclic plan for a task. Nothing is said of its length.
+fn strong_cyclic_plan(alloc: Global, task: &Task, enc: &mut Enc) -> Result<Found, SetErr>
+    requires made { MadeOf task.now enc.old }
+    requires goal { IsSome task.now.goal }
+    ensures found { IsSearched Class.Cyclic task.now result }
+    ensures full { IsErrOf result SetErr.Full
+        → IsTightFor (3 * action_count task.now + 32) enc.old.sets }
+{
+    plan_cyclic(alloc, task, enc)
 }
 
 /// The text of a plan.

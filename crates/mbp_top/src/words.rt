@@ -12,7 +12,6 @@ ghost use Rattle.mbp_top.specs.Words.{
   CheckWords as AskedCheck,
   GroundWords as AskedGround,
   IsNodeLimit,
-  IsPlannedClass,
   PlanOptions as AskedOptions,
   PlanWords as AskedPlan,
   ReplayWords as AskedReplay,
@@ -145,7 +144,7 @@ fn plan_words<'a>(words: &'a [String]) -> Option<PlanWords<'a>>
         return None;
     };
     Some(PlanWords {
-        class: planned_class(class)?,
+        class: class_named(class)?,
         domain,
         problem,
         options: plan_options(rest)?,
@@ -225,21 +224,6 @@ fn ground_words<'a>(words: &'a [String]) -> Option<GroundWords<'a>>
         [domain, problem] => Some(GroundWords { domain, problem }),
         _ => None,
     }
-}
-
-/// The class of this name, if plans of it are looked for.
-fn planned_class(word: &str) -> Option<Class>
-    ensures { MatchOption result
-        ((class : Class) → IsPlannedClass class → word.now ≡ class_word class → ⊥)
-        (λ class. IsPlannedClass class × (word.now ≡ class_word class)) }
-{
-    if word == "weak" {
-        return Some(Class::Weak);
-    }
-    if word == "strong" {
-        return Some(Class::Strong);
-    }
-    None
 }
 
 /// `check`, and these words after it.
