@@ -33,6 +33,8 @@ const ALL_LIT: &str = "(define (problem o) (:domain eight) (:init (a)) (:goal (a
 
 const PLAN: &str = "(plan table weak\n  (rule ((not (up))) (flip))\n)\n";
 
+const CYCLIC_PLAN: &str = "(plan table cyclic\n  (rule ((not (up))) (flip))\n)\n";
+
 const EIGHT_PLAN: &str = "(plan table weak
   (rule ((not (a)) (b) (c) (d) (e) (f) (g) (h)) (la))
   (rule ((a) (not (b)) (c) (d) (e) (f) (g) (h)) (lb))
@@ -153,7 +155,9 @@ fn each_answer_goes_where_it_belongs(rt: HostRuntime) -> Result<(), Fail> {
             "",
         ),
         ("plan strong nine-d nine", 0, NINE_PLAN, ""),
-        ("plan cyclic coin-d up", 2, "", NO_COMMAND),
+        ("plan cyclic coin-d up", 0, CYCLIC_PLAN, ""),
+        ("plan cyclic coin-d down", 1, "no plan\n", ""),
+        ("plan cyclic coin-d up --nodes 1", 5, "", "full 1\n"),
         ("plan weak coin-d up --nodes", 2, "", NO_COMMAND),
         ("plan weak coin-d up --nodes 0", 2, "", NO_COMMAND),
         ("plan weak coin-d up --nodes 02", 2, "", NO_COMMAND),

@@ -92,21 +92,21 @@ use std::alloc::Global;
 /// Does what the command words say, and gives the exit status.
 ///
 /// The words after the program's name are one command, where DOMAIN and PROBLEM are names of files
-/// on the shelf: `plan CLASS DOMAIN PROBLEM`, CLASS being `weak` or `strong`, with or without the
-/// words `--nodes N` after it, N being the most nodes of a table of diagrams, 1 to 16,777,216 and
-/// 1,048,576 where nothing is said; `ground DOMAIN PROBLEM`; `check CLASS DOMAIN PROBLEM PLAN`,
-/// CLASS being `weak`, `strong` or `cyclic` and PLAN the name of a plan's file; or `replay DOMAIN
-/// PROBLEM PLAN RECORD`, RECORD being the name of a record's file. The text of a plan, `no plan`,
-/// the listing of the fluents and actions, the verdict on the plan, or its run with what the
-/// monitors show of it goes to `out`; every other answer is one line on `err`.
+/// on the shelf and CLASS is `weak`, `strong` or `cyclic`: `plan CLASS DOMAIN PROBLEM`, with or
+/// without the words `--nodes N` after it, N being the most nodes of a table of diagrams, 1 to
+/// 16,777,216 and 1,048,576 where nothing is said; `ground DOMAIN PROBLEM`; `check CLASS DOMAIN
+/// PROBLEM PLAN`, PLAN being the name of a plan's file; or `replay DOMAIN PROBLEM PLAN RECORD`,
+/// RECORD being the name of a record's file. The text of a plan, `no plan`, the listing of the
+/// fluents and actions, the verdict on the plan, or its run with what the monitors show of it goes
+/// to `out`; every other answer is one line on `err`.
 ///
 /// `replay` hands the record's outcome numbers to the world, runs the plan with what the world then
 /// chooses, and tells the monitors of each step. No monitor has counted anything yet. The other
 /// commands use neither. The world and the monitors are dropped on every exit. The statuses:
 ///
 /// - 0: a plan of the class is on `out` (weak: from each initial state it may reach the goal;
-///   strong: it does, whatever the outcomes), or the listing, or that the plan is one of the class,
-///   or the run;
+///   strong: it does, whatever the outcomes; cyclic: whatever they are it may still reach it, and
+///   ends nowhere else), or the listing, or that the plan is one of the class, or the run;
 /// - 1: there is no plan of the class, or the plan is none of it;
 /// - 2: the words are no command;
 /// - 3: a file spells no domain, no problem of it, no plan or no record, or the record's first
@@ -196,7 +196,7 @@ pub fn run<S: Shelf, O: Sink, E: Sink>(
         (action_names domain problem) text
         × (O.written out.new ≡ append_known (O.written out.old) text) }
 
-    // And no solution of its class is shorter.
+    // And no solution of its class is shorter; of strong cyclic plans nothing is said here.
     ensures plan_shortest { (asked : PlanWords) → SaysPlan (map string_bytes words.now) asked
         → result ≡ 0
         → (domain : DomainTree) × (problem : ProblemTree) × (text : Bytes)
