@@ -1,16 +1,20 @@
 //! Strong cyclic plans: plans whose executions may always still reach the goal, and end nowhere
 //! else.
 //!
-//! What they are made of is said in `specs/`: `Pairs` and `Largest` (the largest set of
-//! state-action pairs that no pair leaves and from which the goal is reached), `Rounds` (how it is
-//! found) and `Printed` (the rules, from the least-numbered action of each state that makes
-//! progress). The laws are the contracts of functions that do nothing.
+//! `plan_cyclic` searches for them by rounds over sets of states. Which plan it gives is said in
+//! `specs/`: `Pairs` and `Largest` (the largest set of state-action pairs that no pair leads out of
+//! and from which the goal is reached), `Rounds` (how it is found) and `Printed` (the rules, from
+//! the least-numbered action of each state that makes progress); `Board`, `Stages` and `Answers`
+//! have the words of the contracts inside. The laws of strong cyclic planning that the planner
+//! rests on are the contracts of functions that do nothing.
 #![tactic(auto)]
 
 mod board;
 mod laws;
 mod plan;
 mod rounds;
+#[cfg(test)]
+mod tests;
 
 pub use laws::{
     last_round_is_largest, no_plan_without_cover, printed_plan_solves, rounds_shrink,
