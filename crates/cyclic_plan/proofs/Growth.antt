@@ -20,7 +20,7 @@ use Rattle.reach_plan.specs.Classes.{IsStable}
 use Rattle.reach_plan.specs.Layers.{action_numbers, layer, may_lead}
 use Rattle.reach_plan.specs.Printed.{action_of_rank, chosen_action, is_action, takers}
 use Rattle.reach_plan.proofs.ClassLayers.{chosen_kept, chosen_zero, layer-stable, rank_within-None, step_choice}
-use Rattle.reach_plan.proofs.LayerSteps.{find-first, range-more}
+use Rattle.reach_plan.proofs.Ranges.{find-first, range-more}
 use Rattle.reach_plan.proofs.LeastBounds.{stands_still}
 use Rattle.reach_plan.proofs.WeakLists.{find-None, find-Some, find-found, Contains-range_with_len-below}
 use Rattle.reach_plan.proofs.WeakPrinted.{is_action-Some, is_action-from}

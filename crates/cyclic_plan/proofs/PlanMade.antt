@@ -7,7 +7,7 @@ use Rattle.std.proofs.lemmas.Bool.{true≢false}
 use Rattle.std.proofs.lemmas.Grind.{flat_map-append}
 use Rattle.std.proofs.lemmas.List.{append-nil}
 use Rattle.plan_rules.specs.Rules.{PlanRule}
-use Rattle.reach_plan.proofs.LayerSteps.{range-more}
+use Rattle.reach_plan.proofs.Ranges.{range-more}
 use Rattle.cyclic_plan.specs.Answers.{rule_for, rules_at}
 use Rattle.dd_nodes.specs.NodeList.{Values}
 use Rattle.dd_nodes.specs.Subfunctions.{DependsOnly, Function}

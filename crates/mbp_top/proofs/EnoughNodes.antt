@@ -1,6 +1,6 @@
 -- A limit that is tight for the sets of a task, or for those of its planners, is tight for the nodes that are enough.
-use Rattle.std.proofs.Common.{◌≡◌, ◌≤◌, ◌+◌, ◌*◌, ◌^◌, ℕ, [], map, length, ap, subst, sym, ◌∙◌, arith, Some}
-use Rattle.std.specs.List.{range_with_len, slice_get}
+use Rattle.std.proofs.Common.{◌≡◌, ◌≤◌, ◌+◌, ◌*◌, ◌^◌, ℕ, [], map, length, ap, subst, sym, ◌∙◌, arith}
+use Rattle.std.specs.List.{range_with_len}
 use Rattle.std.specs.Option.{option_map_or}
 use Rattle.std.proofs.Math.Nat.{mul-le-mul_right}
 use Rattle.pddl_system.proofs.Lists.{map-range}
@@ -11,7 +11,6 @@ use Rattle.encode_task.specs.Bounds.{kept_slots, most_outcomes as most_of_task, 
 use Rattle.task_core.specs.Conditions.{greatest}
 use Rattle.task_core.specs.Tasks.{action_count, fluent_count, outcomes_at, system_of}
 use Rattle.task_core.specs.declared.actions.GroundAction.{GroundAction}
-use Rattle.task_core.specs.declared.actions.Outcome.{Outcome}
 use Rattle.task_core.specs.declared.tasks.Task.{Task}
 use Rattle.mbp_top.specs.Enough.{IsTightLimit, enough, most_outcomes}
 
@@ -27,11 +26,6 @@ same_most t =
 few_slots : (slots most P Q : ℕ) → slots ≤ most → slots * P + Q ≤ 2 * Q + most * P
 few_slots slots most P Q few =
     let e : slots * P ≤ most * P = mul-le-mul_right P few in
-    omega arith
-
-more_slots : (few many P Q : ℕ) → few ≤ many → few * P + Q ≤ many * P + Q
-more_slots few many P Q less =
-    let e : few * P ≤ many * P = mul-le-mul_right P less in
     omega arith
 
 -- a bound on the slots by the number of actions and an action's slots
@@ -60,12 +54,6 @@ pub tight_for_sets : TightIsMonotone → (t : Task) (limit : ℕ)
     → Tight limit (fluent_count t) (nodes_of_slots (working_slots t) (fluent_count t)) → IsTightLimit limit (system_of t)
 tight_for_sets monotone t limit tight =
     tight_for_slots monotone t limit (working_slots t) (slots_of_actions (action_count t) (most_of_task t * (fluent_count t + 1))) tight
-
--- a limit that is tight for the slots of the weak and the strong planner is tight for those of the strong cyclic one
-pub tight_for_more : TightIsMonotone → (actions : ℕ) (sets : LiveSets) → IsTightFor (actions + 24) sets → IsTightFor (3 * actions + 32) sets
-tight_for_more monotone actions sets tight =
-    monotone sets.limit sets.vars (nodes_of_slots (live_count sets + (actions + 24)) sets.vars) (nodes_of_slots (live_count sets + (3 * actions + 32)) sets.vars)
-    (more_slots (live_count sets + (actions + 24)) (live_count sets + (3 * actions + 32)) (2 ^ sets.vars) (4 ^ sets.vars) (omega arith)) tight
 
 -- while a plan is looked for
 pub tight_for_planner : TightIsMonotone → (t : Task) (sets : LiveSets) (limit : ℕ) → sets.vars ≡ fluent_count t → sets.limit ≡ limit

@@ -36,7 +36,7 @@ use Rattle.mbp_top.specs.Grounding.{GroundThen}
 use Rattle.mbp_top.specs.PddlTexts.{HoldBoth, ReadBoth}
 use Rattle.mbp_top.specs.PlanCommand.{ArePrintedRules, IsPlanAnswer, IsPlanResult, IsPlanned, IsShortest, MayBeTooFew, PlanThen}
 use Rattle.mbp_top.specs.Words.{Bytes, PlanWords}
-use Rattle.mbp_top.proofs.Listings.{same_actions, same_count, same_fluents}
+use Rattle.mbp_top.proofs.Listings.{same_actions, same_fluents}
 
 pub plan_is_result : (class : Class) (t : Task) (p : TablePlan) (text : Bytes) → IsFoundPlan class t p
     → SpellsTable (names_of_fluents t) (names_of_actions t) text p.class (rules_of p)

@@ -1,7 +1,6 @@
 -- The two files and the class decide the answer of `plan`, unless the table of nodes is full.
 use Rattle.std.proofs.Common.{◌≡◌, ◌≢◌, ℕ, true, false, ◌<◌, List, inl, inr, sym, ap, ◌∙◌, arith}
 use Rattle.plan_io.specs.Held.{Held, Untold}
-use Rattle.pddl_ast.specs.Trees.{DomainTree, ProblemTree}
 use Rattle.pddl_system.specs.Systems.{system, fluent_names, action_names}
 use Rattle.pddl_system.proofs.States.{they_have_a_system}
 use Rattle.task_core.specs.Systems.{IsSystem, System}
@@ -13,8 +12,8 @@ use Rattle.task_core.specs.declared.classes.Class.{Class}
 use Rattle.task_core.specs.declared.classes.Class.TheVariants.{Weak, Strong, Cyclic}
 use Rattle.reach_plan.specs.Layers.{IsLastLayer}
 use Rattle.reach_plan.specs.Printed.{printed_rules}
-use Rattle.mbp_top.specs.Answers.{Answer, affirmed}
-use Rattle.mbp_top.specs.Grounding.{GoalThen, GroundThen}
+use Rattle.mbp_top.specs.Answers.{affirmed}
+use Rattle.mbp_top.specs.Grounding.{GroundThen}
 use Rattle.mbp_top.specs.PddlTexts.{ReadBoth}
 use Rattle.mbp_top.specs.PlanCommand.{ArePrintedRules, AreRulesOfLayers, IsPrintedText, IsPlanResult, IsPlanned, PlanThen}
 use Rattle.mbp_top.specs.Words.{Bytes, PlanWords}
