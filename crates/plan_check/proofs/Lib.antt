@@ -5,3 +5,7 @@ pub mod SearchSteps
 pub mod SearchTurns
 pub mod VerdictLaws
 pub mod WalkFacts
+pub mod LabelFacts
+pub mod LabelTruth
+pub mod GoalLabels
+pub mod ContextLaws

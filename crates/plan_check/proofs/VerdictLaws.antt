@@ -54,7 +54,7 @@ yes_solves sys rules class (Yes bound) h = (λ _. free_solves sys rules class h.
 yes_solves sys rules class (No reason) h = (λ no_yes. absurd no_yes, λ s. excludes sys rules reason class h.has (solution_free sys rules reason class s.0 s.1))
 
 -- a reason is known by its turn
-abbrev reason_at : ℕ → Reason
+abbrev pub reason_at : ℕ → Reason
 reason_at zero = Unexecutable
 reason_at (suc zero) = Stuck
 reason_at (suc (suc zero)) = Terminal
@@ -62,7 +62,7 @@ reason_at (suc (suc (suc zero))) = Cycle
 reason_at (suc (suc (suc (suc zero)))) = Unreachable
 reason_at (suc (suc (suc (suc (suc n))))) = Formula
 
-at_turn : (reason : Reason) → reason_at (turn_of reason) ≡ reason
+pub at_turn : (reason : Reason) → reason_at (turn_of reason) ≡ reason
 at_turn Unexecutable = refl
 at_turn Stuck = refl
 at_turn Terminal = refl

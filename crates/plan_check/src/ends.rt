@@ -20,7 +20,7 @@ use std::alloc::{AllocError, Global};
 use task_core::{Cond, cond_holds};
 
 /// Whether the goal holds in the configuration of this number.
-fn is_goal(goal: &Cond, graph: &Graph, number: u32) -> bool
+pub(crate) fn is_goal(goal: &Cond, graph: &Graph, number: u32) -> bool
     requires goal { IsTrue (ids_below 256 goal.now) }
     requires number { number < graph_size graph.now }
     ensures { (n : ℕ) → IsTrue (ids_below n goal.now)

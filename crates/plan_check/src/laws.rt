@@ -3,6 +3,9 @@
 
 ghost use Rattle.std.specs.Prelude.{◌≡◌, ◌↔◌, List};
 ghost use Rattle.task_core.specs.Systems.{System};
+ghost use Rattle.task_core.specs.ContextPlans.{ContextPlan};
+ghost use Rattle.task_core.specs.declared.conditions.Cond.{Cond};
+ghost use Rattle.ctl_syntax.specs.Goals.{CtlTree};
 ghost use Rattle.task_core.specs.Solutions.{IsSolution};
 ghost use Rattle.task_core.specs.declared.classes.Class.{Class};
 ghost use Rattle.plan_rules.specs.Rules.{PlanRule};
@@ -14,6 +17,7 @@ ghost use Rattle.plan_check.specs.Verdicts.{
   IsVerdict,
   SaysYes,
 };
+ghost use Rattle.plan_check.specs.ContextVerdicts.{IsContextVerdict, MeetsGoal};
 ghost use Rattle.plan_check.specs.declared.verdicts.Reason.{Reason};
 ghost use Rattle.plan_check.specs.declared.verdicts.Verdict.{Verdict};
 
@@ -35,4 +39,18 @@ pub fn one_verdict()
 pub fn reasons_exclude_freedom()
     ensures { (sys : System) (rules : List PlanRule) (class : Class) (reason : Reason)
         → HasReason sys rules reason class → IsFreeOf sys rules reason class → ⊥ }
+{}
+
+/// The verdict on a plan with contexts is yes exactly where the plan is complete and each initial
+/// configuration has the goal.
+pub fn yes_is_met()
+    ensures { (sys : System) (plan : ContextPlan) (goal : CtlTree Cond) (verdict : Verdict)
+        → IsContextVerdict sys plan goal verdict → SaysYes verdict ↔ MeetsGoal sys plan goal }
+{}
+
+/// No plan with contexts has two verdicts.
+pub fn one_context_verdict()
+    ensures { (sys : System) (plan : ContextPlan) (goal : CtlTree Cond) (verdict other : Verdict)
+        → IsContextVerdict sys plan goal verdict → IsContextVerdict sys plan goal other
+        → verdict ≡ other }
 {}

@@ -1,19 +1,30 @@
-//! Whether a plan is a weak, strong or strong cyclic solution, read off its graph.
+//! Whether a plan is a weak, strong or strong cyclic solution, or meets a goal in computation tree
+//! logic, read off its graph.
 //!
-//! `specs/Verdicts.antt` says what a verdict means, in terms of the paths of the table that the
-//! plan denotes. Nothing here stands on the planners.
+//! `specs/Verdicts.antt` says what a verdict on a table means, in terms of the paths of the table
+//! that the plan denotes, and `specs/ContextVerdicts.antt` what one on a plan with contexts means,
+//! in terms of the paths of the context plan. Nothing here stands on the planners.
 #![tactic(auto)]
 
 mod classes;
+mod contexts;
 mod ends;
+#[cfg(test)]
+mod goal_tests;
+mod goals;
+mod labelling;
 mod laws;
 mod longest;
 mod reaching;
 mod search;
+mod spreading;
 #[cfg(test)]
 mod tests;
 mod verdicts;
 
 pub use classes::check_class;
-pub use laws::{one_verdict, reasons_exclude_freedom, yes_is_solution};
+pub use contexts::check_ctl;
+pub use laws::{
+    one_context_verdict, one_verdict, reasons_exclude_freedom, yes_is_met, yes_is_solution,
+};
 pub use verdicts::{Reason, Verdict};

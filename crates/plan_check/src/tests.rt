@@ -73,7 +73,7 @@ fn either(alloc: Global) -> Result<Vec<Vec<Alternative>>, AllocError> {
 /// `push` sets p, `try` may set it, `pull` clears it where it is set, `set` sets q where it is
 /// clear, and `clear` clears it where it is set. At first p is clear and q may be either. The goal
 /// is p.
-fn task(alloc: Global) -> Result<Task, Fail>
+pub(crate) fn task(alloc: Global) -> Result<Task, Fail>
     ensures { IfOk result (λ task. IsSome task.goal) }
 {
     let not_q = Cond::Not(Box::new(alloc, is(Q))?);

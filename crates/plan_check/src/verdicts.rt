@@ -21,10 +21,10 @@ pub enum Reason {
 /// What a check finds of a plan.
 #[derive(Clone, Copy, Debug, PartialEq, Eq)]
 pub enum Verdict {
-    /// The plan is one of the class. For the strong class `bound` is the number of steps of the
-    /// longest execution from an initial state, and 0 where there is no initial state; for the
-    /// others it is `None`.
+    /// The plan is one of the class, or meets the goal. For the strong class `bound` is the number
+    /// of steps of the longest execution from an initial state, and 0 where there is no initial
+    /// state; for the others it is `None`.
     Yes { bound: Option<u64> },
-    /// The plan is none of the class, for this reason before all others.
+    /// The plan is none of the class, or doesn't meet the goal, for this reason before all others.
     No(Reason),
 }

@@ -1,0 +1,4 @@
+pub mod Goals
+pub mod Paths
+pub mod Truth
+pub mod Values

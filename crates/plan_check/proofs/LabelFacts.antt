@@ -1,0 +1,175 @@
+-- Labels that are written mark by mark, and what a label reaches in rounds.
+use Rattle.std.proofs.Common.{◌≡◌, ◌⊎◌, ℕ, zero, suc, ◌+◌, ◌<◌, ◌≤◌, Bool, true, false, not, ◌&&◌, ◌||◌, cond, List, [], ◌∷◌, ◌++◌, length, get_or, set, refl, sym, ap, ◌∙◌, subst, arith, ⊎_elim, inl, inr}
+use Rattle.std.specs.List.{All, Contains}
+use Rattle.std.proofs.lemmas.Bool.{false≢true}
+use Rattle.std.proofs.lemmas.List.{length-set, get_or_append_left, get_or_push}
+use Rattle.std.proofs.lemmas.List.Elements.{Contains-get_or}
+use borrow.Author.Count.{below_more}
+use Rattle.exec_graph.specs.Values.{followers_at, graph_size}
+use Rattle.exec_graph.specs.declared.graphs.Graph.{Graph}
+use Rattle.plan_check.specs.Plain.{HasFollowersInside}
+use Rattle.plan_check.specs.Labels.{IsWithinRounds, in_round, is_led, mark_at}
+use Rattle.plan_check.specs.Marks.{unmarked}
+use Rattle.plan_check.specs.Spreads.{IsPass, is_due}
+use Rattle.plan_check.specs.declared.spreading.Need.{Need}
+use Rattle.plan_check.specs.declared.spreading.Need.TheVariants.{One, Each}
+use Rattle.plan_check.proofs.MarkFacts.{fewer_unmarked, marked_cases, marked_more}
+
+-- one more mark at the end
+pub mark_push : (marks : List Bool) (b : Bool) (value : ℕ → Bool) (i : ℕ) → length marks ≡ i → ((k : ℕ) → k < i → mark_at marks k ≡ value k) → b ≡ value i
+    → (k : ℕ) → k < i + 1 → mark_at (marks ++ b ∷ []) k ≡ value k
+mark_push marks b value i len so last =
+    below_more (λ k. mark_at (marks ++ b ∷ []) k ≡ value k) i
+    (λ k l. get_or_append_left marks (b ∷ []) false k (subst (λ n. k < n) (sym len) l) ∙ so k l)
+    (get_or_push marks b false i len ∙ last)
+
+-- the followers of a configuration, as they were read
+pub followers_below : (graph : Graph) → HasFollowersInside graph → (i n : ℕ) (read : List ℕ) → i < graph_size graph → n ≡ graph_size graph → followers_at graph i ≡ read → All (λ j. j < n) read
+followers_below graph inside i n read l size is = λ k d within.
+    subst (λ m. get_or read k d < m) (sym size) (inside i (get_or read k d) l (subst (λ xs. Contains xs (get_or read k d)) (sym is) (Contains-get_or read k d within)))
+
+-- truth values
+pub and_true : (a b : Bool) → a ≡ true → b ≡ true → (a && b) ≡ true
+and_true true b p q = q
+and_true false b p q = p
+
+pub and_left : (a b : Bool) → (a && b) ≡ true → a ≡ true
+and_left true b p = refl
+and_left false b p = p
+
+pub and_right : (a b : Bool) → (a && b) ≡ true → b ≡ true
+and_right true b p = p
+and_right false b p = absurd (false≢true p)
+
+pub or_cases : (a b : Bool) → (a || b) ≡ true → (a ≡ true) ⊎ (b ≡ true)
+or_cases true b p = inl refl
+or_cases false b p = inr p
+
+pub or_left : (a b : Bool) → a ≡ true → (a || b) ≡ true
+or_left true b p = refl
+or_left false b p = absurd (false≢true p)
+
+pub or_right : (a b : Bool) → b ≡ true → (a || b) ≡ true
+or_right true b p = refl
+or_right false b p = p
+
+pub not_true : (a : Bool) → not a ≡ true → a ≡ false
+not_true true p = sym p
+not_true false p = refl
+
+pub decided : (a : Bool) → (a ≡ true) ⊎ (a ≡ false)
+decided true = inl refl
+decided false = inr refl
+
+-- one, or each, of some numbers
+pub one_of : (has : ℕ → Bool) (xs : List ℕ) → is_led One has xs ≡ true → (j : ℕ) × Contains xs j × (has j ≡ true)
+one_of has [] e = absurd (false≢true e)
+one_of has (x ∷ xs) e =
+    ⊎_elim (λ h. (x, (0, omega arith, refl), h)) (λ more. let w = one_of has xs more in (w.0, (suc w.1.0, omega arith, w.1.2), w.2)) (or_cases (has x) (is_led One has xs) e)
+
+pub one_from : (has : ℕ → Bool) (xs : List ℕ) (j : ℕ) → Contains xs j → has j ≡ true → is_led One has xs ≡ true
+one_from has [] j (k, l, is) h = absurd (omega arith)
+one_from has (x ∷ xs) j (zero, l, is) h = or_left (has x) (is_led One has xs) (ap has is ∙ h)
+one_from has (x ∷ xs) j (suc k, l, is) h = or_right (has x) (is_led One has xs) (one_from has xs j (k, omega arith, is) h)
+
+pub each_of : (has : ℕ → Bool) (xs : List ℕ) → is_led Each has xs ≡ true → (j : ℕ) → Contains xs j → has j ≡ true
+each_of has [] e j (k, l, is) = absurd (omega arith)
+each_of has (x ∷ xs) e j (zero, l, is) = sym (ap has is) ∙ and_left (has x) (is_led Each has xs) e
+each_of has (x ∷ xs) e j (suc k, l, is) = each_of has xs (and_right (has x) (is_led Each has xs) e) j (k, omega arith, is)
+
+pub each_from : (has : ℕ → Bool) (xs : List ℕ) → ((j : ℕ) → Contains xs j → has j ≡ true) → is_led Each has xs ≡ true
+each_from has [] all = refl
+each_from has (x ∷ xs) all =
+    and_true (has x) (is_led Each has xs) (all x (0, omega arith, refl)) (each_from has xs (λ j c. all j (suc c.0, omega arith, c.2)))
+
+-- where not each of some numbers has it, one hasn't
+pub each_fails : (has : ℕ → Bool) (xs : List ℕ) → is_led Each has xs ≡ false → (j : ℕ) × Contains xs j × (has j ≡ false)
+each_fails has [] e = absurd (false≢true (sym e))
+each_fails has (x ∷ xs) e =
+    ⊎_elim
+    (λ (h : has x ≡ true). let w = each_fails has xs (sym (ap (λ a. a && is_led Each has xs) h) ∙ e) in (w.0, (suc w.1.0, omega arith, w.1.2), w.2))
+    (λ h. (x, (0, omega arith, refl), h))
+    (decided (has x))
+
+pub led_weaker : (need : Need) (has may : ℕ → Bool) (xs : List ℕ) → ((j : ℕ) → has j ≡ true → may j ≡ true) → is_led need has xs ≡ true → is_led need may xs ≡ true
+led_weaker One has may xs weaker e = let w = one_of has xs e in one_from may xs w.0 w.1 (weaker w.0 w.2)
+led_weaker Each has may xs weaker e = each_from may xs (λ j c. weaker j (each_of has xs e j c))
+
+-- what is reached in some rounds is reached in one more
+module _ (need : Need) (next : ℕ → List ℕ) (guard target : ℕ → Bool) where
+  pub round_more : (k i : ℕ) → in_round need next guard target k i ≡ true → in_round need next guard target (suc k) i ≡ true
+  round_more zero i e = or_left (target i) (guard i && is_led need target (next i)) e
+  round_more (suc k) i e =
+      let led = is_led need (in_round need next guard target k) (next i) in
+      let further = is_led need (in_round need next guard target (suc k)) (next i) in
+      ⊎_elim
+      (λ t. or_left (target i) (guard i && further) t)
+      (λ g. or_right (target i) (guard i && further) (and_true (guard i) further (and_left (guard i) led g)
+      (led_weaker need (in_round need next guard target k) (in_round need next guard target (suc k)) (next i) (λ j r. round_more k j r) (and_right (guard i) led g))))
+      (or_cases (target i) (guard i && led) e)
+
+  -- one more mark, of a number that has the guard and is led to marks
+  pub within_more : (marks : List Bool) (i : ℕ) → i < length marks → guard i ≡ true → is_led need (mark_at marks) (next i) ≡ true → IsWithinRounds need next guard target marks → IsWithinRounds need next guard target (set marks i true)
+  within_more marks i l g led w =
+      record {
+        rounds = suc w.rounds;
+        each = λ j m. ⊎_elim
+            (λ old. round_more w.rounds j (w.each j old))
+            (λ (same : i ≡ j). subst (λ k. in_round need next guard target (suc w.rounds) k ≡ true) same
+            (or_right (target i) (guard i && is_led need (in_round need next guard target w.rounds) (next i))
+            (and_true (guard i) (is_led need (in_round need next guard target w.rounds) (next i)) g
+            (led_weaker need (mark_at marks) (in_round need next guard target w.rounds) (next i) w.each led))))
+            (marked_cases marks i j m);
+      }
+
+-- a round, number by number
+module _ (n : ℕ) (need : Need) (next : ℕ → List ℕ) (guard before : List Bool) where
+  pub pass_none : length before ≡ n → IsPass n need next guard before before 0 false
+  pass_none count =
+      record { count = count; kept = λ j m. m; within = λ target w. w; closed = λ e j l. absurd (omega arith); fewer = omega arith }
+
+  module _ (marks : List Bool) (i : ℕ) (changed : Bool) (l : i < n) (h : IsPass n need next guard before marks i changed) where
+    -- it isn't to be marked
+    pass_kept : is_due need next guard marks i ≡ false → IsPass n need next guard before marks (i + 1) changed
+    pass_kept none =
+        record {
+          count = h.count;
+          kept = h.kept;
+          within = h.within;
+          closed = λ e. below_more (λ j. mark_at guard j ≡ true → is_led need (mark_at marks) (next j) ≡ true → mark_at marks j ≡ true) i (h.closed e)
+              (λ g led. ⊎_elim (λ m. m)
+              (λ (m : mark_at marks i ≡ false). absurd (false≢true (sym none ∙ and_true (not (mark_at marks i)) (mark_at guard i && is_led need (mark_at marks) (next i)) (ap not m) (and_true (mark_at guard i) (is_led need (mark_at marks) (next i)) g led))))
+              (decided (mark_at marks i)));
+          fewer = h.fewer;
+        }
+
+    -- it is
+    pass_more : is_due need next guard marks i ≡ true → IsPass n need next guard before (set marks i true) (i + 1) true
+    pass_more due =
+        let within : i < length marks = subst (λ m. i < m) (sym h.count) l in
+        let unset : mark_at marks i ≡ false = not_true (mark_at marks i) (and_left (not (mark_at marks i)) (mark_at guard i && is_led need (mark_at marks) (next i)) due) in
+        let both = and_right (not (mark_at marks i)) (mark_at guard i && is_led need (mark_at marks) (next i)) due in
+        let fewer : unmarked (set marks i true) + 1 ≡ unmarked marks = fewer_unmarked marks i within unset in
+        let was = h.fewer in
+        record {
+          count = length-set marks i true ∙ h.count;
+          kept = λ j m. marked_more marks i j within (h.kept j m);
+          within = λ target w. within_more need next (mark_at guard) target marks i within (and_left (mark_at guard i) (is_led need (mark_at marks) (next i)) both) (and_right (mark_at guard i) (is_led need (mark_at marks) (next i)) both) (h.within target w);
+          closed = λ e. absurd (false≢true (sym e));
+          fewer = fewer_than (unmarked (set marks i true)) (unmarked marks) (unmarked before) (cond changed 1 0) fewer was;
+        }
+      where
+        fewer_than : (a b c d : ℕ) → a + 1 ≡ b → b + d ≤ c → a + 1 ≤ c
+        fewer_than a b c d e f = omega arith
+
+    pub pass_step : (due : Bool) → due ≡ is_due need next guard marks i → (now : List Bool) → now ≡ cond due (set marks i true) marks → (after : Bool) → after ≡ cond due true changed → IsPass n need next guard before now (i + 1) after
+    pass_step true is now e after a =
+        subst (λ c. IsPass n need next guard before now (i + 1) c) (sym a) (subst (λ ms. IsPass n need next guard before ms (i + 1) true) (sym e) (pass_more (sym is)))
+    pass_step false is now e after a =
+        subst (λ c. IsPass n need next guard before now (i + 1) c) (sym a) (subst (λ ms. IsPass n need next guard before ms (i + 1) changed) (sym e) (pass_kept (sym is)))
+
+-- a number without a mark that has the guard is to be marked where it is led to marks
+pub due_where_led : (need : Need) (next : ℕ → List ℕ) (guard marks : List Bool) (i : ℕ) (led : Bool) (read : List ℕ) → mark_at marks i ≡ false → mark_at guard i ≡ true → next i ≡ read → led ≡ is_led need (mark_at marks) read → led ≡ is_due need next guard marks i
+due_where_led need next guard marks i led read f t is e =
+    e ∙ ap (is_led need (mark_at marks)) (sym is)
+    ∙ sym (ap (λ a. not a && (mark_at guard i && is_led need (mark_at marks) (next i))) f ∙ ap (λ b. b && is_led need (mark_at marks) (next i)) t)

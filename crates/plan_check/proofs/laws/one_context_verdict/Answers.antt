@@ -1,0 +1,5 @@
+use Rattle.plan_check.proofs.ContextLaws.{same_context_verdict}
+use Rattle.plan_check.proofs.laws.one_context_verdict.Goals as goal
+
+pub returns : goal.returns
+returns c = same_context_verdict

@@ -1,0 +1,7 @@
+use Rattle.std.proofs.Common.{◌≡◌, drop}
+use Rattle.plan_check.specs.Labels.{is_led, mark_at}
+use Rattle.plan_check.specs.declared.spreading.Need.TheVariants.{Each}
+use Rattle.plan_check.proofs.spreading.has_only_marked.Given as goal
+
+abbrev pub invariant-loop-i : goal.invariant-loop-i
+invariant-loop-i l = is_led Each (mark_at l.marks) (drop l.i-index l.numbers) ≡ is_led Each (mark_at l.marks) l.numbers

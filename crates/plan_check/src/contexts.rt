@@ -1,0 +1,56 @@
+//! The check of a plan with contexts against a goal in computation tree logic.
+
+ghost use Rattle.std.specs.Prelude.{IfOk, List, ℕ};
+ghost use Rattle.task_core.specs.Tasks.{fluent_count, system_of};
+ghost use Rattle.ctl_syntax.specs.Values.{NamesBelow, ctl_value};
+ghost use Rattle.plan_rules.specs.Denoted.{denoted_contexts};
+ghost use Rattle.plan_rules.specs.Rules.{ContextRule, automaton};
+ghost use Rattle.exec_graph.specs.Graphs.{IsGraphOf};
+ghost use Rattle.exec_graph.specs.Values.{plain_graph};
+ghost use Rattle.plan_check.specs.ContextVerdicts.{IsContextVerdict};
+
+use crate::ends::has_marked_starts;
+use crate::goals::labels;
+use crate::{Reason, Verdict};
+use ctl_syntax::Ctl;
+use exec_graph::Graph;
+use std::alloc::{AllocError, Global};
+use task_core::Task;
+
+/// The verdict on a plan with contexts for a goal in computation tree logic, read off the plan's
+/// graph in the task.
+///
+/// It is yes exactly where the plan is complete and each initial configuration has the goal. The
+/// plan itself isn't asked for: whatever plan with contexts the graph is the graph of, the verdict
+/// is that of the context plan that its rules denote. The goal names fluents of the task alone. For
+/// each operator of the goal the labels are found in rounds over all configurations, each of which
+/// takes as many steps as the graph has edges. An `Err` says that memory ran out.
+pub fn check_ctl(
+    alloc: Global,
+    task: &Task,
+    graph: &Graph,
+    goal: &Ctl,
+) -> Result<Verdict, AllocError>
+    requires names { NamesBelow (fluent_count task.now) (ctl_value goal.now) }
+    requires graph { (contexts : ℕ) × ((rules : List ContextRule)
+        × IsGraphOf (system_of task.now) (automaton contexts rules)
+        (plain_graph (fluent_count task.now) graph.now)) }
+    ensures verdict { (contexts : ℕ) (rules : List ContextRule)
+        → IsGraphOf (system_of task.now) (automaton contexts rules)
+        (plain_graph (fluent_count task.now) graph.now)
+        → IfOk result (IsContextVerdict (system_of task.now) (denoted_contexts rules)
+        (ctl_value goal.now)) }
+{
+    if graph.unexecutable() {
+        return Ok(Verdict::No(Reason::Unexecutable));
+    }
+    if graph.stuck() {
+        return Ok(Verdict::No(Reason::Stuck));
+    }
+    let marks = labels(alloc, graph, goal)?;
+    if has_marked_starts(graph, &marks) {
+        Ok(Verdict::Yes { bound: None })
+    } else {
+        Ok(Verdict::No(Reason::Formula))
+    }
+}

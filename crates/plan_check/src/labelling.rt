@@ -1,0 +1,149 @@
+//! Labels put together: of every form of goal from those of its parts.
+
+ghost use Rattle.std.specs.Prelude.{
+  ◌≡◌,
+  ◌<◌,
+  ◌↔◌,
+  IfOk,
+  IsTrue,
+  length,
+  true,
+  ℕ,
+};
+ghost use Rattle.std.specs.List.{All};
+ghost use Rattle.task_core.specs.Conditions.{ids_below};
+ghost use Rattle.exec_graph.specs.Values.{followers_at, graph_size};
+ghost use Rattle.plan_check.specs.Labels.{
+  IsJoined,
+  IsLeast,
+  IsNegated,
+  IsNext,
+  IsWeakest,
+  joins,
+  mark_at,
+};
+ghost use Rattle.plan_check.specs.Plain.{HasFollowersInside, is_goal_at};
+
+use crate::ends::is_goal;
+use crate::spreading::{Need, is_led, other, spread};
+use exec_graph::Graph;
+use std::alloc::{AllocError, Global};
+use task_core::Cond;
+
+/// How two labels are put together.
+#[derive(Clone, Copy, Debug, PartialEq, Eq)]
+pub(crate) enum Join {
+    And,
+    Or,
+    Implies,
+    Neither,
+}
+
+/// Two truth values put together.
+fn joins(join: Join, left: bool, right: bool) -> bool
+    ensures { result ≡ joins join left right }
+{
+    match join {
+        Join::And => left && right,
+        Join::Or => left || right,
+        Join::Implies => !left || right,
+        Join::Neither => !(left || right),
+    }
+}
+
+/// Two labels put together.
+pub(crate) fn joined(
+    alloc: Global,
+    join: Join,
+    left: &[bool],
+    right: &[bool],
+) -> Result<Vec<bool>, AllocError>
+    requires { length right.now ≡ length left.now }
+    ensures { IfOk result
+        (λ marks. IsJoined (length left.now) join left.now right.now marks.items) }
+{
+    let mut marks = Vec::new(alloc);
+    for i in 0..left.len() {
+        marks.push(joins(join, left[i], right[i]))?;
+    }
+    Ok(marks)
+}
+
+/// Where a label isn't.
+pub(crate) fn negated(alloc: Global, label: &[bool]) -> Result<Vec<bool>, AllocError>
+    ensures { IfOk result (λ marks. IsNegated (length label.now) label.now marks.items) }
+{
+    let mut marks = Vec::new(alloc);
+    for i in 0..label.len() {
+        marks.push(!label[i])?;
+    }
+    Ok(marks)
+}
+
+/// The same mark for each configuration.
+pub(crate) fn same_label(alloc: Global, graph: &Graph, mark: bool) -> Result<Vec<bool>, AllocError>
+    ensures count { IfOk result (λ marks. length marks.items ≡ graph_size graph.now) }
+    ensures each { IfOk result (λ marks. (i : ℕ) → i < graph_size graph.now
+        → mark_at marks.items i ≡ mark) }
+{
+    vec![in alloc; mark; graph.len() as usize]
+}
+
+/// Where a condition holds.
+pub(crate) fn plain_label(
+    alloc: Global,
+    graph: &Graph,
+    cond: &Cond,
+) -> Result<Vec<bool>, AllocError>
+    requires { IsTrue (ids_below 256 cond.now) }
+    ensures count { IfOk result (λ marks. length marks.items ≡ graph_size graph.now) }
+    ensures each { IfOk result (λ marks. (n i : ℕ) → IsTrue (ids_below n cond.now)
+        → i < graph_size graph.now
+        → mark_at marks.items i ≡ is_goal_at n cond.now graph.now i) }
+{
+    let mut marks = Vec::new(alloc);
+    for i in 0..graph.len() {
+        marks.push(is_goal(cond, graph, i))?;
+    }
+    Ok(marks)
+}
+
+/// Where one, or each, of the followers has a label.
+pub(crate) fn next_label(
+    alloc: Global,
+    need: Need,
+    graph: &Graph,
+    label: &[bool],
+) -> Result<Vec<bool>, AllocError>
+    requires inside { HasFollowersInside graph.now }
+    requires label { length label.now ≡ graph_size graph.now }
+    ensures { IfOk result (λ marks. IsNext (graph_size graph.now) need
+        (followers_at graph.now) label.now marks.items) }
+{
+    let mut marks = Vec::new(alloc);
+    for i in 0..graph.len() {
+        marks.push(is_led(need, label, graph.next(i)))?;
+    }
+    Ok(marks)
+}
+
+/// Where on each, or one, of the paths the guard holds until the target does, or for ever. It is
+/// the complement of an until that is found in rounds.
+pub(crate) fn weak_until(
+    alloc: Global,
+    need: Need,
+    graph: &Graph,
+    guard: &[bool],
+    target: &[bool],
+) -> Result<Vec<bool>, AllocError>
+    requires inside { HasFollowersInside graph.now }
+    requires guard { length guard.now ≡ graph_size graph.now }
+    requires target { length target.now ≡ graph_size graph.now }
+    ensures { IfOk result (λ marks. IsWeakest (graph_size graph.now) need
+        (followers_at graph.now) guard.now target.now marks.items) }
+{
+    let without = negated(alloc, target)?;
+    let mut marks = joined(alloc, Join::Neither, guard, target)?;
+    spread(other(need), graph, &without, &mut marks);
+    negated(alloc, &marks)
+}
