@@ -1,4 +1,8 @@
 pub mod Carried
+pub mod ChainConditions
+pub mod ChainForms
+pub mod ChainTruth
+pub mod ConditionTrees
 mod Examples
 pub mod Meeting
 pub mod Parts

@@ -1,6 +1,6 @@
 -- The plain trees that the type `Ctl` stands for: a `Vec` is the list of its items.
-use Rattle.std.specs.Prelude.{◌≡◌, ℕ, true}
-use Rattle.task_core.specs.Conditions.{ids_below}
+use Rattle.std.specs.Prelude.{◌≡◌, ◌≤◌, ℕ, true}
+use Rattle.task_core.specs.Conditions.{depth, ids_below}
 use Rattle.task_core.specs.declared.conditions.Cond.{Cond}
 use Rattle.ctl_syntax.specs.Goals.{CtlTree, EachPlain, plain, negation, all, any, implication, ax}
 use Rattle.ctl_syntax.specs.Goals.{ex, af, ef, ag, eg, au, eu, aw, ew, goal_row}
@@ -33,3 +33,7 @@ ctl_value = fold-Ctl (CtlTree Cond) ctl_step
 -- each condition of the goal names fluents below n alone
 abbrev pub NamesBelow : ℕ → CtlTree Cond → Type 0
 NamesBelow n goal = EachPlain (λ (cond : Cond). ids_below n cond ≡ true) goal
+
+-- each condition of the goal is at most n deep
+abbrev pub IsAtMostDeep : ℕ → CtlTree Cond → Type 0
+IsAtMostDeep n goal = EachPlain (λ (cond : Cond). depth cond ≤ n) goal

@@ -7,6 +7,11 @@
 //! of a graph.
 #![tactic(auto)]
 
+mod chains;
+mod copies;
 mod goals;
+mod laws;
 
+pub use chains::{Chain, as_chain};
 pub use goals::Ctl;
+pub use laws::chains_are_true;

@@ -1,0 +1,19 @@
+//! What holds of every goal. Each law is a function that does nothing, so that callers' proofs can
+//! cite it.
+
+ghost use Rattle.std.specs.Prelude.{◌≡◌, Some};
+ghost use Rattle.std.specs.Option.{option_map};
+ghost use Rattle.task_core.specs.declared.conditions.Cond.{Cond};
+ghost use Rattle.ctl_syntax.specs.ChainValues.{IsTrueAlike, chain_conditions, chain_value};
+ghost use Rattle.ctl_syntax.specs.Chains.{chain_of};
+ghost use Rattle.ctl_syntax.specs.Goals.{CtlTree};
+ghost use Rattle.ctl_syntax.specs.declared.chains.Chain.{Chain};
+
+/// A chain goal is true at the configurations at which the goal of its chain's sets of states is:
+/// what it asks for at once stands in one stage, and where it keeps nothing the `All` of none is
+/// kept.
+pub fn chains_are_true()
+    ensures { (goal : CtlTree Cond) (chain : Chain)
+        → Some (chain_value chain) ≡ option_map chain_conditions (chain_of goal)
+        → IsTrueAlike goal chain }
+{}
