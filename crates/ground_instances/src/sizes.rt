@@ -5,15 +5,15 @@ ghost use Rattle.std.specs.Option.{option_map};
 ghost use Rattle.ground_instances.specs.Counts.{shown};
 ghost use Rattle.ground_instances.specs.Tables.{setting_in};
 ghost use Rattle.pddl_ast.specs.Values.{domain_value, problem_value, formula_value, effect_value};
-ghost use Rattle.pddl_ast.specs.Values.{schema_value};
+ghost use Rattle.pddl_ast.specs.Values.{schema_value, temporal_value};
 ghost use Rattle.pddl_system.specs.Settings.{setting};
 ghost use Rattle.pddl_system.specs.Sizes.{keeps, object_limit, size_limit, instance_limit};
 ghost use Rattle.pddl_system.specs.Sizes.{formula_size, effect_size, schema_size, goal_size};
-ghost use Rattle.pddl_system.specs.Sizes.{most_size};
+ghost use Rattle.pddl_system.specs.Sizes.{ctl_size, most_size, temporal_size};
 
 use crate::bindings::{product, total};
 use crate::setting::Setting;
-use pddl_ast::{Domain, Effect, Formula, Problem, Schema};
+use pddl_ast::{Domain, Effect, Formula, Problem, Schema, Temporal};
 
 /// The most constants and objects.
 const MOST_OBJECTS: usize = 1_024;
@@ -89,6 +89,38 @@ impl Setting {
         }
     }
 
+    /// The expanded size of a goal in computation tree logic; 1,000,001 where it is more than
+    /// 1,000,000.
+    pub fn temporal_size(&self, goal: &Temporal) -> usize
+        ensures { result
+            ≡ shown (temporal_size (setting_in self.now).objects (temporal_value goal.now)) }
+    {
+        match goal {
+            Temporal::Plain(formula) => self.formula_size(formula),
+            Temporal::Not(part) => total(1, self.temporal_size(part)),
+            Temporal::All(parts) | Temporal::Any(parts) => {
+                let mut size = 1;
+                for part in parts {
+                    size = total(size, self.temporal_size(part));
+                }
+                size
+            }
+            Temporal::Imply(left, right) => {
+                total(
+                    1,
+                    total(self.temporal_size(left), self.temporal_size(right)),
+                )
+            }
+            Temporal::Unary(_, part) => total(1, self.temporal_size(part)),
+            Temporal::Binary(_, left, right) => {
+                total(
+                    1,
+                    total(self.temporal_size(left), self.temporal_size(right)),
+                )
+            }
+        }
+    }
+
     /// Whether the expanded size of an action is at most 100,000.
     fn is_small_action(&self, schema: &Schema) -> bool
         ensures { result ≡ nat_le (schema_size (setting_in self.now).objects
@@ -111,8 +143,19 @@ impl Setting {
         }
     }
 
-    /// Whether the expanded sizes of each action and of the goal are at most 100,000. `self` is the
-    /// setting of the domain and the problem.
+    /// Whether the expanded size of a goal in computation tree logic is at most 100,000.
+    fn is_small_ctl(&self, goal: &Option<Temporal>) -> bool
+        ensures { result ≡ nat_le (ctl_size (setting_in self.now).objects
+            (option_map temporal_value goal.now)) most_size }
+    {
+        match goal {
+            Some(goal) => self.temporal_size(goal) <= MOST_SIZE,
+            None => true,
+        }
+    }
+
+    /// Whether the expanded sizes of each action and of each goal are at most 100,000. `self` is
+    /// the setting of the domain and the problem.
     pub fn has_small_trees(&self, domain: &Domain, problem: &Problem) -> bool
         requires { setting_in self.now
             ≡ setting (domain_value domain.now) (problem_value problem.now) }
@@ -123,7 +166,7 @@ impl Setting {
                 return false;
             }
         }
-        self.is_small_goal(&problem.goal)
+        self.is_small_goal(&problem.goal) && self.is_small_ctl(&problem.ctl)
     }
 
     /// Whether the actions have at most 1,000,000 instances, kept or not. `self` is the setting of

@@ -1,5 +1,5 @@
 -- A table of atoms answers as the list of the plain atoms does.
-use Rattle.std.proofs.Common.{◌≡◌, ℕ, suc, ◌+◌, ◌<◌, ◌≤◌, arith, Bool, true, false, cond, not, List, [], ◌∷◌, ◌++◌, map, length, refl, ap, sym, ◌∙◌, Some, None, Option, ◌||◌, if◌then◌else◌}
+use Rattle.std.proofs.Common.{◌≡◌, suc, ◌+◌, ◌≤◌, arith, Bool, true, false, cond, not, List, [], ◌∷◌, ◌++◌, map, length, refl, ap, sym, ◌∙◌, Some, None, ◌||◌, if◌then◌else◌}
 use Rattle.std.specs.Prelude.{nat_lt}
 use Rattle.std.specs.List.{list_any, position, position_or_len}
 use Rattle.std.proofs.lemmas.Bool.{ltb-false}
@@ -8,7 +8,6 @@ use Rattle.ground_instances.specs.Atoms.{atom_tree}
 use Rattle.ground_instances.specs.declared.atoms.Atom.{Atom}
 use Rattle.ground_instances.specs.contracts.atoms.AtomPartialEq as derived
 use Rattle.ground_task.specs.Collecting.{with_atom}
-use Rattle.pddl_ast.specs.Trees.{AtomTree}
 use Rattle.pddl_system.specs.GroundAtoms.{is_among, same_atom}
 use Rattle.pddl_system.specs.States.{number_of}
 

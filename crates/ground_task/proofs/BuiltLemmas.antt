@@ -8,7 +8,8 @@ use Rattle.pddl_ast.specs.Trees.{AtomTree, EffectTree, EffectTrees, effect_row}
 use Rattle.pddl_system.specs.GroundAtoms.{same_atom}
 use Rattle.pddl_system.specs.Outcomes.{ChangeTree, Condition, OutcomeTree, may_change, one_change, outcomes, outcomes_of_both, outcomes_of_either, possible_changes, products, product_of_all, under}
 use Rattle.pddl_system.specs.Settings.{Setting}
-use Rattle.pddl_system.specs.Tasks.{CondTree, changed_if, change_of, condition_of, outcome_of}
+use Rattle.ctl_syntax.specs.Conditions.{CondTree}
+use Rattle.pddl_system.specs.Tasks.{changed_if, change_of, condition_of, outcome_of}
 use Rattle.pddl_system.specs.ThreeValues.{may_hold, value, value_of_all}
 use Rattle.pddl_system.proofs.NamedAtoms.{may_hold-and}
 use Rattle.task_core.specs.declared.literals.Lit.{Lit}

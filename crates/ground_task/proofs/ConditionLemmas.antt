@@ -1,8 +1,8 @@
 -- Conditions layer by layer: what each kind of formula becomes.
-use Rattle.std.proofs.Common.{◌≡◌, ℕ, Bool, List, [], ◌∷◌, ◌++◌, map, refl, ap, sym, ◌∙◌}
+use Rattle.std.proofs.Common.{◌≡◌, ℕ, List, [], ◌∷◌, ◌++◌, map, refl, ap, sym, ◌∙◌}
 use Rattle.std.specs.Prelude.{Vec, Box}
 use Rattle.std.specs.declared.alloc.Global.{Global}
-use Rattle.pddl_ast.specs.Trees.{AtomTree, FormulaTree, FormulaTrees, all, any, exists, forall, atom, no_formula, formula_then, formula_row}
+use Rattle.pddl_ast.specs.Trees.{AtomTree, FormulaTree, all, any, exists, forall, atom, formula_row}
 use Rattle.pddl_ast.specs.Values.{formula_step, formula_value}
 use Rattle.pddl_ast.specs.declared.trees.Term.{Term}
 use Rattle.pddl_ast.specs.declared.trees.Formula.{Formula}
@@ -16,8 +16,8 @@ use Rattle.task_core.specs.declared.conditions.Cond.TheFolds.{fold-roll-Cond}
 use Rattle.pddl_system.specs.GroundAtoms.{atom_of}
 use Rattle.pddl_system.specs.Objects.{bindings}
 use Rattle.pddl_system.specs.Settings.{Setting}
-use Rattle.pddl_system.specs.Tasks.{CondTree, CondTrees, all_of, any_of, atom_condition, condition_of, conditions_of, condition_row, condition_then}
-use Rattle.pddl_system.specs.Values.{condition_step, condition_value}
+use Rattle.ctl_syntax.specs.Conditions.{CondTree, all_of, any_of, condition_row, condition_then, condition_step, condition_value}
+use Rattle.pddl_system.specs.Tasks.{atom_condition, condition_of, conditions_of}
 
 pub value_All : (v : Vec Cond Global) → condition_value (ShutCond.All v) ≡ all_of (condition_row (map condition_value v.items))
 value_All v = ap condition_value (sym (ShutCond.rolls-All v)) ∙ fold-roll-Cond CondTree condition_step (OpenCond.All v)

@@ -8,6 +8,7 @@ pub mod CountLemmas
 pub mod EffectLemmas
 pub mod FactLemmas
 pub mod FoundLemmas
+pub mod GoalLemmas
 pub mod LimitLemmas
 pub mod ListSteps
 pub mod NamingLemmas

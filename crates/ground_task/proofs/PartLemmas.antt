@@ -22,7 +22,8 @@ use Rattle.pddl_system.specs.Sizes.{first_passed}
 use Rattle.pddl_system.specs.Systems as systems
 use Rattle.pddl_system.specs.Systems.{atom_name}
 use Rattle.pddl_system.specs.Tasks.{condition_of, task_of}
-use Rattle.pddl_system.specs.Values.{ArePartsOf, action_value, condition_value, task_value}
+use Rattle.ctl_syntax.specs.Conditions.{condition_value}
+use Rattle.pddl_system.specs.Values.{ArePartsOf, action_value, task_value}
 use Rattle.pddl_system.proofs.TaskParts.{parts_make_task}
 use Rattle.ground_instances.specs.Kept.{kept_by}
 use Rattle.ground_task.specs.Actions.{action_in}

@@ -6,8 +6,9 @@ use Rattle.pddl_ast.specs.Trees.{AtomTree}
 use Rattle.pddl_system.specs.GroundAtoms.{same_atom}
 use Rattle.pddl_system.specs.Outcomes.{ChangeTree, Condition, OutcomeTree, possible_changes}
 use Rattle.pddl_system.specs.Settings.{Setting}
-use Rattle.pddl_system.specs.Tasks.{CondTree, yes_always, all_of, condition_of, condition_row}
-use Rattle.pddl_system.specs.Values.{condition_value}
+use Rattle.ctl_syntax.specs.Conditions.{CondTree, yes_always, all_of, condition_row}
+use Rattle.ctl_syntax.specs.Conditions.{condition_value}
+use Rattle.pddl_system.specs.Tasks.{condition_of}
 use Rattle.ground_task.specs.declared.guards.Guards.{Guards}
 
 -- each of some lists with each of others after it; the first change slowest

@@ -1,5 +1,5 @@
 -- Private: how the atoms that are named are collected, each once, as long as they are few.
-use Rattle.std.specs.Prelude.{ℕ, ◌||◌, List, [], ◌∷◌, ◌++◌, fold, length, map, nat_lt}
+use Rattle.std.specs.Prelude.{◌||◌, List, [], ◌∷◌, ◌++◌, fold, length, map, nat_lt}
 use Rattle.std.specs.Prelude.{if◌then◌else◌, Vec}
 use Rattle.std.specs.declared.alloc.Global.{Global}
 use Rattle.pddl_ast.specs.Trees.{AtomTree, LiteralTree}

@@ -6,7 +6,7 @@ ghost use Rattle.ground_instances.specs.Tables.{setting_in};
 ghost use Rattle.pddl_ast.specs.Values.{formula_value};
 ghost use Rattle.pddl_system.specs.Objects.{bindings};
 ghost use Rattle.pddl_system.specs.Tasks.{atom_condition, condition_of, constant};
-ghost use Rattle.pddl_system.specs.Values.{condition_value};
+ghost use Rattle.ctl_syntax.specs.Conditions.{condition_value};
 
 use crate::fluents::Fluents;
 use ground_instances::{Atom, Setting, object_of};

@@ -1,7 +1,8 @@
 //! Copies of conditions and changes.
 
 ghost use Rattle.std.specs.Prelude.{◌≡◌, ◌++◌, IfOk, OnOk, map};
-ghost use Rattle.pddl_system.specs.Values.{change_value, condition_value, outcome_value};
+ghost use Rattle.ctl_syntax.specs.Conditions.{condition_value};
+ghost use Rattle.pddl_system.specs.Values.{change_value, outcome_value};
 
 use std::alloc::{AllocError, Global};
 use task_core::{Change, Cond, Outcome};

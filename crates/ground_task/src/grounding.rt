@@ -10,31 +10,37 @@ ghost use Rattle.std.specs.Prelude.{
   map,
   IfErr,
   IfOk,
+  IfSome,
   None,
   Some,
 };
 ghost use Rattle.std.specs.Option.{option_map};
+ghost use Rattle.ctl_syntax.specs.Values.{IsAtMostDeep, NamesBelow, ctl_value};
 ghost use Rattle.ground_instances.specs.Kept.{instance_of, kept_by};
 ghost use Rattle.ground_instances.specs.Tables.{setting_in};
 ghost use Rattle.ground_task.specs.Limits.{KeepsFirst, limit_of};
 ghost use Rattle.pddl_ast.specs.Fits.{FitsDomain, FitsProblem};
 ghost use Rattle.pddl_ast.specs.Values.{domain_value, formula_value, problem_value};
+ghost use Rattle.pddl_system.specs.CtlGoals.{ctl_goal_of, goal_value};
 ghost use Rattle.pddl_system.specs.Fluents.{fluents as fluents_of};
 ghost use Rattle.pddl_system.specs.Names.{NamesAreWords};
 ghost use Rattle.pddl_system.specs.Settings.{setting as setting_of};
 ghost use Rattle.pddl_system.specs.Sizes.{action_limit, first_passed, keeps};
 ghost use Rattle.pddl_system.specs.Systems.{system};
 ghost use Rattle.pddl_system.specs.Tasks.{condition_of, task_of};
-ghost use Rattle.pddl_system.specs.Values.{condition_value, task_value};
-ghost use Rattle.task_core.specs.Tasks.{system_of};
+ghost use Rattle.ctl_syntax.specs.Conditions.{condition_value};
+ghost use Rattle.pddl_system.specs.Values.{task_value};
+ghost use Rattle.task_core.specs.Tasks.{fluent_count, system_of};
 
 use crate::actions::actions;
 use crate::conditions::condition;
 use crate::counts::has_few_outcomes;
 use crate::fluents::Fluents;
 use crate::found::find_fluents;
+use crate::goals::ctl_goal;
 use crate::initial::{entries, facts};
 use crate::names::fluent_names;
+use ctl_syntax::Ctl;
 use ground_instances::{Instance, Kept, Setting, has_few_objects, kept_instances};
 use pddl_ast::{Domain, Formula, Problem};
 use std::alloc::{AllocError, Global};
@@ -45,6 +51,8 @@ use thiserror::Error;
 #[derive(Debug, Drop)]
 pub struct Grounded {
     pub task: Task,
+    /// The goal in computation tree logic over the task's conditions, where the problem has one.
+    pub ctl: Option<Ctl>,
 }
 
 /// Why a domain and a problem aren't grounded: the limit that is passed. The limits are tried in
@@ -54,7 +62,7 @@ pub enum GroundErr {
     /// There are more than 1,024 constants and objects.
     #[error("too many objects")]
     Objects,
-    /// The expanded size of an action or of the goal is more than 100,000.
+    /// The expanded size of an action or of a goal is more than 100,000.
     #[error("an action or the goal is too large")]
     Size,
     /// There are more than 1,000,000 instances of the actions, kept or not.
@@ -226,14 +234,15 @@ fn build(
     Ok(Task::new(names, actions, InitSpec { facts, entries }, goal))
 }
 
-/// The task of a domain and a problem, of which these are the setting and the kept instances.
+/// The task and the goal in computation tree logic of a domain and a problem, of which these are
+/// the setting and the kept instances.
 fn ground_kept(
     alloc: Global,
     domain: &Domain,
     problem: &Problem,
     setting: &Setting,
     instances: &[Instance],
-) -> Result<Task, GroundErr>
+) -> Result<Grounded, GroundErr>
     requires fits_domain { FitsDomain (domain_value domain.now) }
     requires fits_problem { FitsProblem (domain_value domain.now) (problem_value problem.now) }
     requires names { NamesAreWords (domain_value domain.now) (problem_value problem.now) }
@@ -244,8 +253,10 @@ fn ground_kept(
     requires first { KeepsFirst (domain_value domain.now) (problem_value problem.now) }
     requires actions { keeps (domain_value domain.now) (problem_value problem.now) action_limit
         ≡ true }
-    ensures task { IfOk result (λ task. task_value task
+    ensures task { IfOk result (λ grounded. task_value grounded.task
         ≡ task_of (domain_value domain.now) (problem_value problem.now)) }
+    ensures ctl { IfOk result (λ grounded. option_map goal_value grounded.ctl
+        ≡ ctl_goal_of (domain_value domain.now) (problem_value problem.now)) }
     ensures within { IfOk result (λ _.
         first_passed (domain_value domain.now) (problem_value problem.now) ≡ None) }
     ensures limit { IfErr result (λ refusal. (refusal ≡ GroundErr.Memory)
@@ -254,24 +265,28 @@ fn ground_kept(
 {
     let fluents = all_fluents(alloc, setting, domain, problem, instances)?;
     let task = build(alloc, domain, problem, setting, instances, &fluents)?;
-    Ok(task)
+    let ctl = ctl_goal(alloc, setting, &fluents, &problem.ctl)?;
+    Ok(Grounded { task, ctl })
 }
 
-/// The task of a domain and a problem, of which this is the setting.
+/// The task and the goal in computation tree logic of a domain and a problem, of which this is the
+/// setting.
 fn ground_set(
     alloc: Global,
     domain: &Domain,
     problem: &Problem,
     setting: &Setting,
-) -> Result<Task, GroundErr>
+) -> Result<Grounded, GroundErr>
     requires fits_domain { FitsDomain (domain_value domain.now) }
     requires fits_problem { FitsProblem (domain_value domain.now) (problem_value problem.now) }
     requires names { NamesAreWords (domain_value domain.now) (problem_value problem.now) }
     requires setting { setting_in setting.now
         ≡ setting_of (domain_value domain.now) (problem_value problem.now) }
     requires first { KeepsFirst (domain_value domain.now) (problem_value problem.now) }
-    ensures task { IfOk result (λ task. task_value task
+    ensures task { IfOk result (λ grounded. task_value grounded.task
         ≡ task_of (domain_value domain.now) (problem_value problem.now)) }
+    ensures ctl { IfOk result (λ grounded. option_map goal_value grounded.ctl
+        ≡ ctl_goal_of (domain_value domain.now) (problem_value problem.now)) }
     ensures within { IfOk result (λ _.
         first_passed (domain_value domain.now) (problem_value problem.now) ≡ None) }
     ensures limit { IfErr result (λ refusal. (refusal ≡ GroundErr.Memory)
@@ -279,17 +294,24 @@ fn ground_set(
         ≡ limit_of refusal)) }
 {
     let instances = all_kept(alloc, setting, domain, problem)?;
-    let task = ground_kept(alloc, domain, problem, setting, &instances)?;
-    Ok(task)
+    let grounded = ground_kept(alloc, domain, problem, setting, &instances)?;
+    Ok(grounded)
 }
 
-/// The task of a domain and a problem, whose system is theirs; or the first limit that is passed.
+/// The task of a domain and a problem, whose system is theirs, and their goal in computation tree
+/// logic over the task's conditions; or the first limit that is passed.
 pub fn ground(alloc: Global, domain: &Domain, problem: &Problem) -> Result<Grounded, GroundErr>
     requires fits_domain { FitsDomain (domain_value domain.now) }
     requires fits_problem { FitsProblem (domain_value domain.now) (problem_value problem.now) }
     requires names { NamesAreWords (domain_value domain.now) (problem_value problem.now) }
     ensures task { IfOk result (λ grounded. task_value grounded.task
         ≡ task_of (domain_value domain.now) (problem_value problem.now)) }
+    ensures ctl { IfOk result (λ grounded. option_map goal_value grounded.ctl
+        ≡ ctl_goal_of (domain_value domain.now) (problem_value problem.now)) }
+    ensures ctl_names { IfOk result (λ grounded. IfSome grounded.ctl (λ goal.
+        NamesBelow (fluent_count grounded.task) (ctl_value goal))) }
+    ensures ctl_shallow { IfOk result (λ grounded. IfSome grounded.ctl (λ goal.
+        IsAtMostDeep 199 (ctl_value goal))) }
     ensures system { IfOk result (λ grounded. system_of grounded.task
         ≡ system (domain_value domain.now) (problem_value problem.now)) }
     ensures within { IfOk result (λ _.
@@ -299,6 +321,6 @@ pub fn ground(alloc: Global, domain: &Domain, problem: &Problem) -> Result<Groun
         ≡ limit_of refusal)) }
 {
     let setting = small_setting(alloc, domain, problem)?;
-    let task = ground_set(alloc, domain, problem, &setting)?;
-    Ok(Grounded { task })
+    let grounded = ground_set(alloc, domain, problem, &setting)?;
+    Ok(grounded)
 }

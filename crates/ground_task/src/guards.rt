@@ -4,7 +4,7 @@ ghost use Rattle.std.specs.Prelude.{◌≡◌, ◌&&◌, ◌++◌, ◌∷◌, []
 ghost use Rattle.ground_instances.specs.Values.{known_value};
 ghost use Rattle.ground_task.specs.Built.{all_or_yes, guard_conditions};
 ghost use Rattle.pddl_system.specs.ThreeValues.{may_hold};
-ghost use Rattle.pddl_system.specs.Values.{condition_value};
+ghost use Rattle.ctl_syntax.specs.Conditions.{condition_value};
 
 use crate::copies::copies;
 use ground_instances::Value;

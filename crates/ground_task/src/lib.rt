@@ -9,6 +9,7 @@ mod copies;
 mod counts;
 mod fluents;
 mod found;
+mod goals;
 mod grounding;
 mod guards;
 mod initial;

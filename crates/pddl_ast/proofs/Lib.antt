@@ -11,3 +11,6 @@ pub mod Fitting
 pub mod TreeFitting
 pub mod ListFitting
 pub mod WordTexts
+pub mod GoalCases
+pub mod GoalOrders
+pub mod GoalFitting

@@ -18,11 +18,11 @@ use Rattle.pddl_ast.proofs.Orders.{either, at_form, one_at, names-in_order, word
 use Rattle.pddl_ast.proofs.Cases.{formula_cases, effect_cases}
 
 -- one flaw at the list
-at_list : (span : Span) → span.start + 2 ≤ span.end → IsInOrder span.start span.end (bad_list span)
+pub at_list : (span : Span) → span.start + 2 ≤ span.end → IsInOrder span.start span.end (bad_list span)
 at_list span h = (omega arith, omega arith)
 
 -- flaws of the parts stand within the list
-within : (span : Span) (lo : ℕ) (fs : List Flaw) → span.start ≤ lo → IsInOrder lo (span.end - 1) fs → IsInOrder span.start span.end fs
+pub within : (span : Span) (lo : ℕ) (fs : List Flaw) → span.start ≤ lo → IsInOrder lo (span.end - 1) fs → IsInOrder span.start span.end fs
 within span lo fs h f = in_order-from span.start lo span.end fs h (in_order-up_to lo (span.end - 1) span.end fs (omega arith) f)
 
 mutual

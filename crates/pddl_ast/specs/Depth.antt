@@ -3,7 +3,9 @@ use Rattle.std.specs.Prelude.{ℕ, ◌+◌, max}
 use Rattle.pddl_ast.specs.Trees.{FormulaTree, FormulaTrees, atom, equal, all, any, negation}
 use Rattle.pddl_ast.specs.Trees.{implication, exists, forall, no_formula, formula_then, EffectTree}
 use Rattle.pddl_ast.specs.Trees.{EffectTrees, add, delete, both, one_of, only_when, each, no_effect}
-use Rattle.pddl_ast.specs.Trees.{effect_then}
+use Rattle.pddl_ast.specs.Trees.{effect_then, TemporalTree, TemporalTrees, state_formula}
+use Rattle.pddl_ast.specs.Trees.{goal_negation, all_goals, any_goal, goal_implication, unary}
+use Rattle.pddl_ast.specs.Trees.{binary, no_temporal, temporal_then}
 
 abbrev mutual
   pub formula_depth : FormulaTree → ℕ
@@ -33,3 +35,20 @@ abbrev mutual
   pub effects_depth : EffectTrees → ℕ
   effects_depth no_effect = 0
   effects_depth (effect_then e es) = max (effect_depth e) (effects_depth es)
+
+-- a goal stands over the formulas in it
+abbrev mutual
+  pub temporal_depth : TemporalTree → ℕ
+  temporal_depth (state_formula formula) = 1 + formula_depth formula
+  temporal_depth (goal_negation part) = 1 + temporal_depth part
+  temporal_depth (all_goals parts) = 1 + temporals_depth parts
+  temporal_depth (any_goal parts) = 1 + temporals_depth parts
+  temporal_depth (goal_implication left right) =
+      1 + max (temporal_depth left) (temporal_depth right)
+  temporal_depth (unary operator part) = 1 + temporal_depth part
+  temporal_depth (binary operator left right) =
+      1 + max (temporal_depth left) (temporal_depth right)
+
+  pub temporals_depth : TemporalTrees → ℕ
+  temporals_depth no_temporal = 0
+  temporals_depth (temporal_then g gs) = max (temporal_depth g) (temporals_depth gs)

@@ -16,8 +16,10 @@ use Rattle.pddl_ast.specs.Trees.{FormulaTree, FormulaTrees, atom, equal, all, an
 use Rattle.pddl_ast.specs.Trees.{implication, exists, forall, no_formula, formula_then, EffectTree}
 use Rattle.pddl_ast.specs.Trees.{EffectTrees, add, delete, both, one_of, only_when, each, no_effect}
 use Rattle.pddl_ast.specs.Trees.{effect_then, SchemaTree, DomainTree, AtomTree, LiteralTree}
-use Rattle.pddl_ast.specs.Trees.{ProblemTree}
-use Rattle.pddl_ast.specs.Depth.{formula_depth, effect_depth}
+use Rattle.pddl_ast.specs.Trees.{ProblemTree, TemporalTree, TemporalTrees, state_formula}
+use Rattle.pddl_ast.specs.Trees.{goal_negation, all_goals, any_goal, goal_implication, unary}
+use Rattle.pddl_ast.specs.Trees.{binary, no_temporal, temporal_then}
+use Rattle.pddl_ast.specs.Depth.{formula_depth, effect_depth, temporal_depth}
 
 -- how deep a tree may be
 abbrev pub deepest : ℕ
@@ -63,6 +65,24 @@ abbrev mutual
   FitsFormulas known no_formula variables = Unit {0}
   FitsFormulas known (formula_then f fs) variables =
       FitsFormula known f variables × FitsFormulas known fs variables
+
+abbrev mutual
+  -- a goal in computation tree logic over what is known: each formula in it is one
+  pub FitsTemporal : Known → TemporalTree → ℕ → Type 0
+  FitsTemporal known (state_formula formula) variables = FitsFormula known formula variables
+  FitsTemporal known (goal_negation part) variables = FitsTemporal known part variables
+  FitsTemporal known (all_goals parts) variables = FitsTemporals known parts variables
+  FitsTemporal known (any_goal parts) variables = FitsTemporals known parts variables
+  FitsTemporal known (goal_implication left right) variables =
+      FitsTemporal known left variables × FitsTemporal known right variables
+  FitsTemporal known (unary operator part) variables = FitsTemporal known part variables
+  FitsTemporal known (binary operator left right) variables =
+      FitsTemporal known left variables × FitsTemporal known right variables
+
+  pub FitsTemporals : Known → TemporalTrees → ℕ → Type 0
+  FitsTemporals known no_temporal variables = Unit {0}
+  FitsTemporals known (temporal_then g gs) variables =
+      FitsTemporal known g variables × FitsTemporals known gs variables
 
 abbrev pub HasEffect : EffectTrees → Type 0
 HasEffect no_effect = ⊥
@@ -164,3 +184,5 @@ pub record FitsProblem (d : DomainTree) (p : ProblemTree) : Type 0 where
   pub entries : All (FitsEntry (known_with d p.objects)) p.entries
   pub goal : IfSome p.goal (λ goal. FitsFormula (known_with d p.objects) goal 0)
   pub goal_depth : IfSome p.goal (λ goal. formula_depth goal ≤ deepest)
+  pub ctl : IfSome p.ctl (λ goal. FitsTemporal (known_with d p.objects) goal 0)
+  pub ctl_depth : IfSome p.ctl (λ goal. temporal_depth goal ≤ deepest)

@@ -6,6 +6,8 @@ pub mod Known
 pub mod TypedLists
 pub mod Atoms
 pub mod Formulas
+pub mod GoalWords
+pub mod Goals
 pub mod Effects
 pub mod Depth
 pub mod Fits

@@ -6,6 +6,8 @@ use Rattle.sexpr_text.specs.declared.forms.Place.{Place}
 use Rattle.pddl_ast.specs.declared.trees.Term.{Term}
 use Rattle.pddl_ast.specs.declared.trees.Named.{Named}
 use Rattle.pddl_ast.specs.declared.trees.Predicate.{Predicate}
+use Rattle.pddl_ast.specs.declared.trees.UnaryOperator.{UnaryOperator}
+use Rattle.pddl_ast.specs.declared.trees.BinaryOperator.{BinaryOperator}
 
 -- a formula, and a list of formulas. Predicates and types are numbers
 mutual
@@ -26,6 +28,25 @@ mutual
 abbrev pub formula_row : List FormulaTree → FormulaTrees
 formula_row [] = no_formula
 formula_row (f ∷ fs) = formula_then f (formula_row fs)
+
+-- a goal in computation tree logic, and a list of such goals
+mutual
+  pub data TemporalTree : Type 0 where
+    state_formula : FormulaTree → TemporalTree
+    goal_negation : TemporalTree → TemporalTree
+    all_goals : TemporalTrees → TemporalTree
+    any_goal : TemporalTrees → TemporalTree
+    goal_implication : TemporalTree → TemporalTree → TemporalTree
+    unary : UnaryOperator → TemporalTree → TemporalTree
+    binary : BinaryOperator → TemporalTree → TemporalTree → TemporalTree
+
+  pub data TemporalTrees : Type 0 where
+    no_temporal : TemporalTrees
+    temporal_then : TemporalTree → TemporalTrees → TemporalTrees
+
+abbrev pub temporal_row : List TemporalTree → TemporalTrees
+temporal_row [] = no_temporal
+temporal_row (g ∷ gs) = temporal_then g (temporal_row gs)
 
 -- an effect, and a list of effects
 mutual
@@ -73,4 +94,6 @@ pub record ProblemTree : Type 0 where
   pub facts : List AtomTree
   pub entries : List (List (List LiteralTree))
   pub goal : Option FormulaTree
+  pub ctl : Option TemporalTree
   pub place : Place
+  pub ctl_place : Place

@@ -4,7 +4,9 @@ use Rattle.std.specs.Option.{option_map}
 use Rattle.pddl_ast.specs.Trees.{FormulaTree, atom, equal, all, any, negation, implication, exists}
 use Rattle.pddl_ast.specs.Trees.{forall, formula_row, EffectTree, add, delete, both, one_of}
 use Rattle.pddl_ast.specs.Trees.{only_when, each, effect_row, SchemaTree, DomainTree, AtomTree}
-use Rattle.pddl_ast.specs.Trees.{LiteralTree, ProblemTree}
+use Rattle.pddl_ast.specs.Trees.{LiteralTree, ProblemTree, TemporalTree, state_formula}
+use Rattle.pddl_ast.specs.Trees.{goal_negation, all_goals, any_goal, goal_implication, unary}
+use Rattle.pddl_ast.specs.Trees.{binary, temporal_row}
 use Rattle.pddl_ast.specs.declared.trees.Formula.{Formula}
 use Rattle.pddl_ast.specs.declared.trees.Formula.TheOpen.{Formula-F, Atom, Equal, All, Any, Not}
 use Rattle.pddl_ast.specs.declared.trees.Formula.TheOpen.{Imply, Exists, Forall}
@@ -13,6 +15,10 @@ use Rattle.pddl_ast.specs.declared.trees.Effect.{Effect}
 use Rattle.pddl_ast.specs.declared.trees.Effect.TheOpen.{Effect-F, Add, Delete, Both, OneOf, When}
 use Rattle.pddl_ast.specs.declared.trees.Effect.TheOpen.{Each}
 use Rattle.pddl_ast.specs.declared.trees.Effect.TheFolds.{fold-Effect}
+use Rattle.pddl_ast.specs.declared.trees.Temporal.{Temporal}
+use Rattle.pddl_ast.specs.declared.trees.Temporal.TheOpen as OpenGoal
+use Rattle.pddl_ast.specs.declared.trees.Temporal.TheOpen.{Temporal-F}
+use Rattle.pddl_ast.specs.declared.trees.Temporal.TheFolds.{fold-Temporal}
 use Rattle.pddl_ast.specs.declared.trees.Schema.{Schema}
 use Rattle.pddl_ast.specs.declared.trees.Domain.{Domain}
 use Rattle.pddl_ast.specs.declared.trees.GroundAtom.{GroundAtom}
@@ -32,6 +38,19 @@ formula_step (Forall types part) = forall types.items part.value
 
 abbrev pub formula_value : Formula → FormulaTree
 formula_value = fold-Formula FormulaTree formula_step
+
+-- one layer of a goal in computation tree logic, with the trees of its parts in their place
+abbrev pub temporal_step : Temporal-F TemporalTree → TemporalTree
+temporal_step (OpenGoal.Plain formula) = state_formula (formula_value formula)
+temporal_step (OpenGoal.Not part) = goal_negation part.value
+temporal_step (OpenGoal.All parts) = all_goals (temporal_row parts.items)
+temporal_step (OpenGoal.Any parts) = any_goal (temporal_row parts.items)
+temporal_step (OpenGoal.Imply left right) = goal_implication left.value right.value
+temporal_step (OpenGoal.Unary operator part) = unary operator part.value
+temporal_step (OpenGoal.Binary operator left right) = binary operator left.value right.value
+
+abbrev pub temporal_value : Temporal → TemporalTree
+temporal_value = fold-Temporal TemporalTree temporal_step
 
 -- one layer of an effect, with the trees of its parts in their place
 abbrev pub effect_step : Effect-F EffectTree → EffectTree
@@ -82,5 +101,7 @@ problem_value p = record {
       map (λ entry. map (λ alternative. map literal_value alternative.items) entry.items)
       p.entries.items;
   goal = option_map formula_value p.goal;
+  ctl = option_map temporal_value p.ctl;
   place = p.place;
+  ctl_place = p.ctl_place;
 }

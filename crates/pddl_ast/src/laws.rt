@@ -14,13 +14,14 @@ ghost use Rattle.pddl_ast.specs.declared.typed_lists.Declares.TheVariants.{
   PredicateVariables,
 };
 ghost use Rattle.pddl_ast.specs.Atoms.{atom_flaws, ground_atom, ground_atom_flaws};
-ghost use Rattle.pddl_ast.specs.Depth.{effect_depth, formula_depth};
+ghost use Rattle.pddl_ast.specs.Depth.{effect_depth, formula_depth, temporal_depth};
 ghost use Rattle.pddl_ast.specs.Effects.{effect_flaws, effect_of, effects_flaws, effects_of};
 ghost use Rattle.pddl_ast.specs.Effects.{first_effect};
 ghost use Rattle.pddl_ast.specs.Fits.{AreDistinct, IsKnown};
-ghost use Rattle.pddl_ast.specs.Fits.{FitsEffect, FitsFormula, FitsGroundAtom};
+ghost use Rattle.pddl_ast.specs.Fits.{FitsEffect, FitsFormula, FitsGroundAtom, FitsTemporal};
 ghost use Rattle.pddl_ast.specs.Formulas.{formula_flaws, formula_of, formulas_flaws};
 ghost use Rattle.pddl_ast.specs.Formulas.{first_formula, formulas_of};
+ghost use Rattle.pddl_ast.specs.Goals.{temporal_flaws, temporal_of, temporals_flaws};
 ghost use Rattle.pddl_ast.specs.Known.{Known};
 ghost use Rattle.pddl_ast.specs.TypedLists.{Group, names_of, typed_groups};
 ghost use Rattle.pddl_ast.specs.TypedLists.{all_seen, is_wanted, typed_list_flaws, types_of};
@@ -62,6 +63,16 @@ pub fn effects_in_order()
     ensures effect { (known : Known) (parts : Forest) (span : Span) (scope : List (List ℕ))
         → span.start + 2 ≤ span.end → IsRising (span.start + 1) (span.end - 1) parts
         → IsInOrder span.start span.end (effect_flaws known parts span scope) }
+{}
+
+/// The flaws of goals in computation tree logic are listed in the order of the text: those of a row,
+/// and those of one, within its list.
+pub fn goals_in_order()
+    ensures row { (known : Known) (row : Forest) (lo hi : ℕ)
+        → IsRising lo hi row → IsInOrder lo hi (temporals_flaws known row) }
+    ensures goal { (known : Known) (parts : Forest) (span : Span)
+        → span.start + 2 ≤ span.end → IsRising (span.start + 1) (span.end - 1) parts
+        → IsInOrder span.start span.end (temporal_flaws known parts span) }
 {}
 
 /// The names of a typed list without flaws differ from one another and from those before them, and
@@ -127,4 +138,13 @@ pub fn effects_fit()
         → effects_flaws known row scope ≡ []
         → FitsEffect known (first_effect (effects_of known row scope)) (length scope)
         × (effect_depth (first_effect (effects_of known row scope)) ≤ 1 + nesting_of row) }
+{}
+
+/// A goal in computation tree logic without flaws fits what is known, without free variables. It is
+/// at most one deeper than its list, since a formula is counted once more as a part of the goal.
+pub fn goals_fit()
+    ensures { (known : Known) (parts : Forest) (span : Span) → IsKnown known
+        → temporal_flaws known parts span ≡ []
+        → FitsTemporal known (temporal_of known parts) 0
+        × (temporal_depth (temporal_of known parts) ≤ 2 + nesting_of parts) }
 {}

@@ -58,6 +58,45 @@ pub enum Effect {
     Each(Vec<TypeId>, Box<Effect>),
 }
 
+/// An operator of computation tree logic with one part. The letter `A` or `E` says "on every path"
+/// or "on some path", and the letters `x`, `f` and `g` are next, finally and globally.
+#[derive(Clone, Copy, Debug)]
+pub enum UnaryOperator {
+    Ax,
+    Ex,
+    Af,
+    Ef,
+    Ag,
+    Eg,
+}
+
+/// An operator of computation tree logic with two parts: until and weak until, on every path or on
+/// some path.
+#[derive(Clone, Copy, Debug)]
+pub enum BinaryOperator {
+    Au,
+    Eu,
+    Aw,
+    Ew,
+}
+
+/// A goal in computation tree logic. Each part of it without operators is a `Plain` as large as can
+/// be.
+#[derive(Debug, Drop)]
+pub enum Temporal {
+    /// A condition on a state, without operators.
+    Plain(Formula),
+    Not(Box<Temporal>),
+    /// Each of them is true.
+    All(Vec<Temporal>),
+    /// One of them is true.
+    Any(Vec<Temporal>),
+    /// Where the first is true, the second is.
+    Imply(Box<Temporal>, Box<Temporal>),
+    Unary(UnaryOperator, Box<Temporal>),
+    Binary(BinaryOperator, Box<Temporal>, Box<Temporal>),
+}
+
 /// A constant or an object: its name and its type.
 #[derive(Debug, Drop)]
 pub struct Named {
@@ -117,6 +156,10 @@ pub struct Problem {
     pub facts: Vec<GroundAtom>,
     pub entries: Vec<Vec<Vec<InitialLiteral>>>,
     pub goal: Option<Formula>,
+    /// The goal in computation tree logic.
+    pub ctl: Option<Temporal>,
     /// The place of the list that defines the problem.
     pub place: Place,
+    /// The place of the goal in computation tree logic; `place` where there is none.
+    pub ctl_place: Place,
 }

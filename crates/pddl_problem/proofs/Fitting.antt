@@ -17,8 +17,8 @@ use Rattle.pddl_ast.specs.declared.trees.Named.{Named}
 use Rattle.pddl_ast.specs.declared.trees.Predicate.{Predicate}
 use Rattle.pddl_ast.specs.declared.typed_lists.Declares.TheVariants.{Objects}
 use Rattle.pddl_ast.specs.Atoms.{ground_atom}
-use Rattle.pddl_ast.specs.Depth.{formula_depth}
-use Rattle.pddl_ast.specs.Fits.{AreDistinct, AreObjects, FitsDomain, FitsEntry, FitsFormula, FitsGroundAtom, FitsLiterals, FitsProblem, IsKnown, deepest, known_in, known_with, names_of_objects}
+use Rattle.pddl_ast.specs.Depth.{formula_depth, temporal_depth}
+use Rattle.pddl_ast.specs.Fits.{AreDistinct, AreObjects, FitsDomain, FitsEntry, FitsFormula, FitsGroundAtom, FitsLiterals, FitsProblem, FitsTemporal, IsKnown, deepest, known_in, known_with, names_of_objects}
 use Rattle.pddl_ast.specs.Known.{Known}
 use Rattle.pddl_ast.specs.Trees.{AtomTree, LiteralTree, DomainTree}
 use Rattle.pddl_ast.specs.TypedLists.{is_wanted, names_of, typed_groups, typed_list_flaws, types_of}
@@ -26,10 +26,11 @@ use Rattle.pddl_ast.specs.Words.{keyword_of}
 use Rattle.pddl_ast.proofs.Fitting.{no_first, no_second, ground_atom-fits, types-within, types-length, where_false}
 use Rattle.pddl_ast.proofs.ListFitting.{names-fine, objects-seen}
 use Rattle.pddl_ast.proofs.TreeFitting.{formula-fits}
+use Rattle.pddl_ast.proofs.GoalFitting.{temporal-fits}
 use Rattle.pddl_problem.specs.Init.{AtomForm, atom_under, form_atom, form_flaws, under_atom, bad_form, left_out, positive, negative, part_flaws_by, part_flaws, part_literal_by, part_literal, alternative_flaws_by, alternative_flaws, alternative_by, alternative, entry_flaws_by, entry_flaws, facts_by, uncertain_by, entry_facts, entry_uncertain, either_way, each_entry, init_flaws, init_facts, init_entries}
 use Rattle.pddl_problem.specs.Listed.{listed_fault}
 use Rattle.pddl_ast.specs.Definitions.{title_of}
-use Rattle.pddl_problem.specs.Problems.{Definition, definition_in, defined, named, objects_of, object_list, with_objects, goal_flaws, goal_of, body_passes, definition_passes, problem_of, domain_flaws, missing_flaws}
+use Rattle.pddl_problem.specs.Problems.{Definition, definition_in, defined, named, objects_of, object_list, with_objects, goal_flaws, goal_of, ctl_flaws, ctl_of, body_passes, definition_passes, problem_of, domain_flaws, missing_flaws}
 use Rattle.pddl_problem.specs.Sections.{none_seen, sections_flaws, section, items_of}
 
 -- passes without a flaw: the first has none, and neither have the others
@@ -208,16 +209,27 @@ goal-depth known k nothing h n = tt
 goal-depth known k (word s w rest) h n = tt
 goal-depth known k (group s parts rest) h n = let p = (formula-fits known parts s [] k h).1 in omega (arith, p, n)
 
+ctl-fits : (known : Known) → IsKnown known → (row : Forest) → ctl_flaws known row ≡ [] → IfSome (ctl_of known row) (λ goal. FitsTemporal known goal 0)
+ctl-fits known k nothing h = tt
+ctl-fits known k (word s w rest) h = tt
+ctl-fits known k (group s parts rest) h = (temporal-fits known parts s k h).0
+
+-- a formula is counted once more as a part of the goal
+ctl-depth : (known : Known) → IsKnown known → (row : Forest) → ctl_flaws known row ≡ [] → 1 + nesting_of row ≤ deepest → IfSome (ctl_of known row) (λ goal. temporal_depth goal ≤ deepest)
+ctl-depth known k nothing h n = tt
+ctl-depth known k (word s w rest) h n = tt
+ctl-depth known k (group s parts rest) h n = let p = (temporal-fits known parts s k h).1 in omega (arith, p, n)
+
 found_or-nesting : (test : Forest → Bool) (s : Span) (ps rest : Forest) (span : Span) (parts : Forest) (t : Bool)
-    → (first_group_with test rest ≡ Some (span, parts) → nesting_of parts ≤ nesting_of rest)
-    → (if t then Some (s, ps) else first_group_with test rest) ≡ Some (span, parts) → nesting_of parts ≤ max (1 + nesting_of ps) (nesting_of rest)
+    → (first_group_with test rest ≡ Some (span, parts) → 1 + nesting_of parts ≤ nesting_of rest)
+    → (if t then Some (s, ps) else first_group_with test rest) ≡ Some (span, parts) → 1 + nesting_of parts ≤ max (1 + nesting_of ps) (nesting_of rest)
 found_or-nesting test s ps rest span parts true later e =
     let same : ps ≡ parts = ap (λ (o : Option (Span × Forest)). (unwrap_or o (s, ps)).1) e in
     let n : nesting_of ps ≡ nesting_of parts = ap nesting_of same in
     omega (arith, n)
 found_or-nesting test s ps rest span parts false later e = let h = later e in omega (arith, h)
 
-found-nesting : (test : Forest → Bool) (row : Forest) (span : Span) (parts : Forest) → first_group_with test row ≡ Some (span, parts) → nesting_of parts ≤ nesting_of row
+found-nesting : (test : Forest → Bool) (row : Forest) (span : Span) (parts : Forest) → first_group_with test row ≡ Some (span, parts) → 1 + nesting_of parts ≤ nesting_of row
 found-nesting test nothing span parts e = absurd (cc)
 found-nesting test (word s w rest) span parts e = found-nesting test rest span parts e
 found-nesting test (group s ps rest) span parts e = found_or-nesting test s ps rest span parts (test ps) (found-nesting test rest span parts) e
@@ -245,10 +257,10 @@ items-nesting : (w : List ℕ) (items : Forest) (o : Option Forest) → section 
 items-nesting w items None e = omega arith
 items-nesting w items (Some row) e = section-nesting w items row (first_group_with (begins_with w) items) refl e
 
--- what holds of a definition that was found: its name is a name, and its sections are no deeper than the forms
+-- what holds of a definition that was found: its name is a name, and its sections are less deep than the forms
 pub record IsFound (forest : Forest) (d : Definition) : Type 0 where
   pub name : is_name d.name ≡ true
-  pub shallow : nesting_of d.items ≤ nesting_of forest
+  pub shallow : 1 + nesting_of d.items ≤ nesting_of forest
 
 and-left : (a b : Bool) → (a && b) ≡ true → a ≡ true
 and-left true b h = refl
@@ -322,6 +334,8 @@ problem-fits domain forest d fits found shallow none =
     let objects = objects_of domain.type_names groups in
     let init = items_of (codes ":init") d.items in
     let goal = items_of (codes ":goal") d.items in
+    let ctl = items_of (codes ":ctl-goal") d.items in
+    let missing = missing_flaws d.span (section (codes ":goal") d.items) (section (codes ":ctl-goal") d.items) in
     let after : Known = known_with domain objects in
     let same : with_objects before list ≡ after = same-known domain list in
     let k : IsKnown after = known-fits domain objects fits in
@@ -330,13 +344,16 @@ problem-fits domain forest d fits found shallow none =
     let a = no_listed (sections_flaws none_seen d.items) (domain_flaws domain.name (items_of (codes ":domain") d.items) ∷ typed ∷ body) none in
     let b = no_listed (domain_flaws domain.name (items_of (codes ":domain") d.items)) (typed ∷ body) a.1 in
     let c = no_listed typed body b.1 in
-    let e = no_listed (init_flaws (with_objects before list) init) (goal_flaws (with_objects before list) goal ∷ missing_flaws d.span (section (codes ":goal") d.items) ∷ []) c.1 in
-    let g = no_listed (goal_flaws (with_objects before list) goal) (missing_flaws d.span (section (codes ":goal") d.items) ∷ []) e.1 in
+    let e = no_listed (init_flaws (with_objects before list) init) (goal_flaws (with_objects before list) goal ∷ ctl_flaws (with_objects before list) ctl ∷ missing ∷ []) c.1 in
+    let g = no_listed (goal_flaws (with_objects before list) goal) (ctl_flaws (with_objects before list) ctl ∷ missing ∷ []) e.1 in
+    let t = no_listed (ctl_flaws (with_objects before list) ctl) (missing ∷ []) g.1 in
     let no_init : init_flaws after init ≡ [] = ap (λ (x : Known). init_flaws x init) (sym same) ∙ e.0 in
     let no_goal : goal_flaws after goal ≡ [] = ap (λ (x : Known). goal_flaws x goal) (sym same) ∙ g.0 in
+    let no_ctl : ctl_flaws after ctl ≡ [] = ap (λ (x : Known). ctl_flaws x ctl) (sym same) ∙ t.0 in
     let different : AreDistinct before.objects = subst AreDistinct (sym (before-names domain)) fits.constants_differ in
     let fine = names-fine Objects before.types list before.objects before.objects [] false refl different (All-nil (λ name. is_wanted Objects name ≡ true)) c.0 in
     let deep : nesting_of goal ≤ nesting_of d.items = items-nesting (codes ":goal") d.items (section (codes ":goal") d.items) refl in
+    let ctl_deep : nesting_of ctl ≤ nesting_of d.items = items-nesting (codes ":ctl-goal") d.items (section (codes ":ctl-goal") d.items) refl in
     let low = found.shallow in
     record {
       name = found.name;
@@ -349,4 +366,7 @@ problem-fits domain forest d fits found shallow none =
       goal = subst (λ (x : Known). IfSome (goal_of x goal) (λ goal. FitsFormula after goal 0)) (sym same) (goal-fits after k goal no_goal);
       goal_depth = subst (λ (x : Known). IfSome (goal_of x goal) (λ goal. formula_depth goal ≤ deepest)) (sym same)
           (goal-depth after k goal no_goal (omega (arith, deep, low, shallow)));
+      ctl = subst (λ (x : Known). IfSome (ctl_of x ctl) (λ goal. FitsTemporal after goal 0)) (sym same) (ctl-fits after k ctl no_ctl);
+      ctl_depth = subst (λ (x : Known). IfSome (ctl_of x ctl) (λ goal. temporal_depth goal ≤ deepest)) (sym same)
+          (ctl-depth after k ctl no_ctl (omega (arith, ctl_deep, low, shallow)));
     }

@@ -18,7 +18,7 @@ use Rattle.pddl_ast.specs.Definitions.{title_of, no_define}
 use Rattle.pddl_problem.specs.Problems.{Definition, definition_in, defined, object_list, with_objects, definition_passes, problem_passes}
 use Rattle.pddl_problem.specs.Rising.{Rises}
 use Rattle.pddl_problem.specs.Sections.{none_seen, section, items_of}
-use Rattle.pddl_problem.proofs.Orders.{sections-in_order, domain-in_order, init-in_order, goal_formula-in_order, missing-in_order}
+use Rattle.pddl_problem.proofs.Orders.{sections-in_order, domain-in_order, init-in_order, goal_formula-in_order, ctl-in_order, missing-in_order}
 
 -- the parts of a list that stands among such forms, with its span
 pub record Stands (span : Span) (parts : Forest) : Type 0 where
@@ -115,7 +115,8 @@ definition-in_order name before d h =
     let domain = items-rise (codes ":domain") d.items h.items in
     let objects = items-rise (codes ":objects") d.items h.items in
     let init = items-rise (codes ":init") d.items h.items in
-    let goal = items-rise (codes ":goal") d.items h.items in (
+    let goal = items-rise (codes ":goal") d.items h.items in
+    let ctl = items-rise (codes ":ctl-goal") d.items h.items in (
       (h.items.low, h.items.high, sections-in_order none_seen h.items.low h.items.high d.items h.items.rising),
       (
         (domain.low, domain.high, domain-in_order name domain.low domain.high (items_of (codes ":domain") d.items) domain.rising),
@@ -126,8 +127,11 @@ definition-in_order name before d h =
             (
               (goal.low, goal.high, goal_formula-in_order known goal.low goal.high (items_of (codes ":goal") d.items) goal.rising),
               (
-                (d.span.start, d.span.end, missing-in_order d.span (section (codes ":goal") d.items) h.room),
-                tt,
+                (ctl.low, ctl.high, ctl-in_order known ctl.low ctl.high (items_of (codes ":ctl-goal") d.items) ctl.rising),
+                (
+                  (d.span.start, d.span.end, missing-in_order d.span (section (codes ":goal") d.items) (section (codes ":ctl-goal") d.items) h.room),
+                  tt,
+                ),
               ),
             ),
           ),

@@ -19,14 +19,16 @@ use Rattle.pddl_ast.specs.Words.{keyword_of, is_reserved}
 use Rattle.pddl_ast.specs.Known.{Known}
 use Rattle.pddl_ast.specs.Atoms.{ground_atom_flaws}
 use Rattle.pddl_problem.specs.declared.sections.Heading.{Heading}
-use Rattle.pddl_problem.specs.declared.sections.Heading.TheVariants.{Domain, Objects, Init, Goal, PassedOver, Other as OtherHeading}
+use Rattle.pddl_problem.specs.declared.sections.Heading.TheVariants.{Domain, Objects, Init, Goal, CtlGoal, PassedOver, Other as OtherHeading}
 use Rattle.pddl_problem.specs.declared.sections.Seen.{Seen}
 use Rattle.pddl_problem.specs.Sections.{heading_of, is_one, is_one_name, flaw_if, section_flaws, list_flaws, saw_list, sections_flaws}
 use Rattle.pddl_problem.specs.Init.{atom_form, atom_under, form_flaws, under_flaws, bad_form, left_out, part_flaws_by, part_flaws, alternative_flaws_by, alternative_flaws, entry_flaws_by, entry_flaws, init_flaws}
-use Rattle.pddl_problem.specs.Problems.{domain_flaws, goal_flaws, missing_flaws}
+use Rattle.pddl_problem.specs.Problems.{domain_flaws, goal_flaws, ctl_flaws, missing_flaws}
 use Rattle.pddl_ast.specs.Formulas.{formula_flaws}
+use Rattle.pddl_ast.specs.Goals.{temporal_flaws}
 use Rattle.pddl_ast.proofs.Orders.{ground_atom-in_order}
 use Rattle.pddl_ast.proofs.TreeOrders.{formula-in_order}
+use Rattle.pddl_ast.proofs.GoalOrders.{temporal-in_order}
 
 -- one flaw at a form
 pub one-in_order : (span : Span) (kind : FaultKind) → span.start < span.end → IsInOrder span.start span.end (flaw_at span kind ∷ [])
@@ -47,6 +49,7 @@ section-in_order seen span Domain head rest h = if-in_order (seen.domain || not 
 section-in_order seen span Objects head rest h = if-in_order seen.objects span BadForm h
 section-in_order seen span Init head rest h = if-in_order seen.init span BadForm h
 section-in_order seen span Goal head rest h = goal-in_order (is_one rest) seen.goal span h
+section-in_order seen span CtlGoal head rest h = goal-in_order (is_one rest) seen.ctl span h
 section-in_order seen span PassedOver head rest h = omega arith
 section-in_order seen span OtherHeading head rest h = one-in_order span (LeftOut head) h
 
@@ -223,6 +226,16 @@ goal_formula-in_order known lo hi (group s parts rest) (a, b, c, d) =
     let k : s.end ≤ hi = rising-bounds s.end hi rest d in
     wider lo s.start s.end hi (formula_flaws known parts s []) a k (formula-in_order known parts s [] b c)
 
-pub missing-in_order : (span : Span) (goal : Option Forest) → span.start < span.end → IsInOrder span.start span.end (missing_flaws span goal)
-missing-in_order span None h = one-in_order span GoalMissing h
-missing-in_order span (Some goal) h = omega arith
+pub ctl-in_order : (known : Known) (lo hi : ℕ) (row : Forest) → IsRising lo hi row → IsInOrder lo hi (ctl_flaws known row)
+ctl-in_order known lo hi nothing h = h
+ctl-in_order known lo hi (word s w rest) (a, b, c, d, e) =
+    let k : s.end ≤ hi = rising-bounds s.end hi rest e in
+    wider lo s.start s.end hi (flaw_at s BadForm ∷ []) a k (one-in_order s BadForm b)
+ctl-in_order known lo hi (group s parts rest) (a, b, c, d) =
+    let k : s.end ≤ hi = rising-bounds s.end hi rest d in
+    wider lo s.start s.end hi (temporal_flaws known parts s) a k (temporal-in_order known parts s b c)
+
+pub missing-in_order : (span : Span) (goal ctl : Option Forest) → span.start < span.end → IsInOrder span.start span.end (missing_flaws span goal ctl)
+missing-in_order span None None h = one-in_order span GoalMissing h
+missing-in_order span (Some goal) ctl h = omega arith
+missing-in_order span None (Some ctl) h = omega arith

@@ -30,14 +30,16 @@ fault-first flaws passes (Fault f) k = listed-first flaws passes f k
 
 -- problems with equal parts are equal
 pub problem-parts : (p q : ProblemTree) → p.name ≡ q.name → p.objects ≡ q.objects → p.facts ≡ q.facts → p.entries ≡ q.entries → p.goal ≡ q.goal
-    → p.place ≡ q.place → p ≡ q
-problem-parts p q a b c d e f =
+    → p.ctl ≡ q.ctl → p.place ≡ q.place → p.ctl_place ≡ q.ctl_place → p ≡ q
+problem-parts p q a b c d e f g h =
     ap (λ x. record p { name = x }) a
     ∙ (ap (λ x. record p { name = q.name; objects = x }) b
     ∙ (ap (λ x. record p { name = q.name; objects = q.objects; facts = x }) c
     ∙ (ap (λ x. record p { name = q.name; objects = q.objects; facts = q.facts; entries = x }) d
     ∙ (ap (λ x. record p { name = q.name; objects = q.objects; facts = q.facts; entries = q.entries; goal = x }) e
-    ∙ ap (λ x. record p { name = q.name; objects = q.objects; facts = q.facts; entries = q.entries; goal = q.goal; place = x }) f))))
+    ∙ (ap (λ x. record p { name = q.name; objects = q.objects; facts = q.facts; entries = q.entries; goal = q.goal; ctl = x }) f
+    ∙ (ap (λ x. record p { name = q.name; objects = q.objects; facts = q.facts; entries = q.entries; goal = q.goal; ctl = q.ctl; place = x }) g
+    ∙ ap (λ x. record p { name = q.name; objects = q.objects; facts = q.facts; entries = q.entries; goal = q.goal; ctl = q.ctl; place = q.place; ctl_place = x }) h))))))
 
 pub fault-along : (a b : Option InputFault) (e : ReadErr) → a ≡ b → IfFault e (λ f. b ≡ Some f) → IfFault e (λ f. a ≡ Some f)
 fault-along a b Memory h k = k

@@ -19,7 +19,7 @@ abbrev pub town_constants : List Named
 town_constants = record { name = codes "hub"; type_id = 1 } ∷ []
 
 abbrev pub town_predicates : List Predicate
-town_predicates = record { name = codes "p"; arity = 0 } ∷ record { name = codes "at"; arity = 1 } ∷ record { name = codes "road"; arity = 2 } ∷ []
+town_predicates = record { name = codes "p"; arity = 0 } ∷ record { name = codes "at"; arity = 1 } ∷ record { name = codes "road"; arity = 2 } ∷ record { name = codes "af"; arity = 1 } ∷ []
 
 abbrev pub town_of : List ℕ → List (List ℕ) → List ℕ → List Named → List Predicate → List SchemaTree → DomainTree
 town_of name types parents constants predicates actions =
@@ -45,8 +45,8 @@ town-fits = record {
   rooted = town-rooted;
   constants = All-from_recursion (λ (n : Named). (is_name n.name ≡ true) × (n.type_id < 2)) town_constants ((refl, omega arith), tt);
   constants_differ = (refl, tt);
-  predicate_names = All-from_recursion (λ (p : Predicate). (is_name p.name ≡ true) × (is_reserved p.name ≡ false)) town_predicates ((refl, refl), ((refl, refl), ((refl, refl), tt)));
-  predicates_differ = (refl, (refl, (refl, tt)));
+  predicate_names = All-from_recursion (λ (p : Predicate). (is_name p.name ≡ true) × (is_reserved p.name ≡ false)) town_predicates ((refl, refl), ((refl, refl), ((refl, refl), ((refl, refl), tt))));
+  predicates_differ = (refl, (refl, (refl, (refl, tt))));
   actions = All-nil (FitsSchema (known_in town_tree));
   actions_differ = tt;
 }

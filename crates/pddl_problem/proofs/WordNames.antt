@@ -1,5 +1,5 @@
 -- The names of the objects of a problem that is read are words.
-use Rattle.std.proofs.Common.{◌≡◌, ℕ, suc, Bool, true, false, List, [], ◌∷◌, ◌++◌, subst, arith, All, Option, Some, None, if◌then◌else◌, codes}
+use Rattle.std.proofs.Common.{◌≡◌, ℕ, suc, Bool, true, false, List, [], ◌∷◌, subst, arith, All, Option, Some, None, if◌then◌else◌, codes}
 use Rattle.std.specs.Option.{option_map, option_and_then, unwrap_or}
 use Rattle.std.proofs.lemmas.List.Elements.{All-nil, All-cons}
 use Rattle.sexpr_text.specs.declared.forms.Span.{Span}
@@ -13,7 +13,7 @@ use Rattle.pddl_ast.specs.TypedLists.{names_of, typed_groups, types_of}
 use Rattle.pddl_ast.specs.WordTexts.{HasWordTexts, IsWordText}
 use Rattle.pddl_ast.proofs.WordTexts.{GroupHasWords, rising_words, typed_list-words, words-after_first, words-first_group}
 use Rattle.pddl_ast.specs.Definitions.{title_of}
-use Rattle.pddl_problem.specs.Problems.{Definition, defined, definition_in, named, object_list, objects_of, problem_in, problem_of}
+use Rattle.pddl_problem.specs.Problems.{Definition, defined, definition_in, named, object_list, problem_in, problem_of}
 use Rattle.pddl_problem.specs.Rising.{Rises}
 use Rattle.pddl_problem.specs.Sections.{items_of, section}
 use Rattle.pddl_problem.specs.WordNames.{HasWordObjects}

@@ -3,6 +3,7 @@ use Rattle.std.specs.Prelude.{ℕ, List, [], ◌∷◌, ◌++◌, Option, Some, 
 use Rattle.std.specs.Option.{option_map, option_map_or, option_and_then}
 use Rattle.std.specs.Str.{bytes_eq}
 use Rattle.sexpr_text.specs.declared.forms.Span.{Span}
+use Rattle.sexpr_text.specs.declared.forms.Place.{Place}
 use Rattle.sexpr_text.specs.declared.faults.InputFault.{InputFault}
 use Rattle.sexpr_text.specs.declared.faults.FaultKind.TheVariants.{BadForm, OtherDomain}
 use Rattle.sexpr_text.specs.declared.faults.FaultKind.TheVariants.{GoalMissing}
@@ -16,8 +17,9 @@ use Rattle.pddl_ast.specs.Definitions.{title_of, no_define}
 use Rattle.pddl_ast.specs.Known.{Known}
 use Rattle.pddl_ast.specs.Fits.{known_in}
 use Rattle.pddl_ast.specs.Formulas.{formula_flaws, formula_of}
+use Rattle.pddl_ast.specs.Goals.{temporal_flaws, temporal_of}
 use Rattle.pddl_ast.specs.TypedLists.{Group, typed_list_flaws, typed_groups, names_of, types_of}
-use Rattle.pddl_ast.specs.Trees.{DomainTree, ProblemTree, FormulaTree}
+use Rattle.pddl_ast.specs.Trees.{DomainTree, ProblemTree, FormulaTree, TemporalTree}
 use Rattle.pddl_problem.specs.Sections.{none_seen, sections_flaws, section, items_of}
 use Rattle.pddl_problem.specs.Init.{init_flaws, init_facts, init_entries}
 
@@ -73,21 +75,41 @@ goal_of known nothing = None
 goal_of known (word s w rest) = None
 goal_of known (group s parts rest) = Some (formula_of known parts [])
 
--- the last pass: where there is no goal, GoalMissing at the definition's list
-abbrev pub missing_flaws : Span → Option Forest → List Flaw
-missing_flaws span None = flaw_at span GoalMissing ∷ []
-missing_flaws span (Some goal) = []
+-- the pass over the goal in computation tree logic
+abbrev pub ctl_flaws : Known → Forest → List Flaw
+ctl_flaws known nothing = []
+ctl_flaws known (word s w rest) = flaw_at s BadForm ∷ []
+ctl_flaws known (group s parts rest) = temporal_flaws known parts s
+
+abbrev pub ctl_of : Known → Forest → Option TemporalTree
+ctl_of known nothing = None
+ctl_of known (word s w rest) = None
+ctl_of known (group s parts rest) = Some (temporal_of known parts)
+
+-- the place of that goal's form; of the definition's list (`span`) where there is none
+abbrev pub ctl_place : Span → Forest → Place
+ctl_place span nothing = span.place
+ctl_place span (word s w rest) = s.place
+ctl_place span (group s parts rest) = s.place
+
+-- the last pass: where there is neither a goal nor a goal in computation tree logic, GoalMissing at
+-- the definition's list
+abbrev pub missing_flaws : Span → Option Forest → Option Forest → List Flaw
+missing_flaws span None None = flaw_at span GoalMissing ∷ []
+missing_flaws span (Some goal) ctl = []
+missing_flaws span None (Some ctl) = []
 
 -- the objects of a definition, as a typed list
 abbrev pub object_list : Definition → Forest
 object_list d = items_of (codes ":objects") d.items
 
--- the passes over the initial situation and the goal, where these names are known
+-- the passes over the initial situation and the goals, where these names are known
 abbrev pub body_passes : Known → Definition → List (List Flaw)
 body_passes known d =
     init_flaws known (items_of (codes ":init") d.items)
     ∷ goal_flaws known (items_of (codes ":goal") d.items)
-    ∷ missing_flaws d.span (section (codes ":goal") d.items)
+    ∷ ctl_flaws known (items_of (codes ":ctl-goal") d.items)
+    ∷ missing_flaws d.span (section (codes ":goal") d.items) (section (codes ":ctl-goal") d.items)
     ∷ []
 
 -- the passes after the one that finds the definition, for a domain with this name and these names
@@ -114,7 +136,9 @@ problem_of before d =
       facts = init_facts known (items_of (codes ":init") d.items);
       entries = init_entries known (items_of (codes ":init") d.items);
       goal = goal_of known (items_of (codes ":goal") d.items);
+      ctl = ctl_of known (items_of (codes ":ctl-goal") d.items);
       place = d.span.place;
+      ctl_place = ctl_place d.span (items_of (codes ":ctl-goal") d.items);
     }
 
 -- the problem that the forms of a text read as, where there is a definition

@@ -11,7 +11,7 @@ use Rattle.sexpr_text.specs.Parts.{is_nothing, is_name, begins_with, after_word,
 use Rattle.sexpr_text.specs.Flaws.{Flaw, flaw_at}
 use Rattle.pddl_problem.specs.declared.sections.Heading.{Heading}
 use Rattle.pddl_problem.specs.declared.sections.Heading.TheVariants.{Domain, Objects, Init, Goal}
-use Rattle.pddl_problem.specs.declared.sections.Heading.TheVariants.{PassedOver, Other}
+use Rattle.pddl_problem.specs.declared.sections.Heading.TheVariants.{CtlGoal, PassedOver, Other}
 use Rattle.pddl_problem.specs.declared.sections.Seen.{Seen}
 
 -- the sections that are passed over
@@ -27,6 +27,7 @@ heading_of w =
     else if bytes_eq w (codes ":objects") then Objects
     else if bytes_eq w (codes ":init") then Init
     else if bytes_eq w (codes ":goal") then Goal
+    else if bytes_eq w (codes ":ctl-goal") then CtlGoal
     else if is_passed_over w then PassedOver
     else Other
 
@@ -47,9 +48,9 @@ abbrev pub flaw_if : Bool → Span → FaultKind → List Flaw
 flaw_if test span kind = if test then flaw_at span kind ∷ [] else []
 
 -- what is wrong with a section, given which sections have come before it: a section that may come
--- once is BadForm where it comes again, but a goal is GoalTwice; a `:domain` has exactly one item,
--- a name, and a `:goal` exactly one item, or they are BadForm; every other section is left out. At
--- one section the flaw with the lower code is listed alone
+-- once is BadForm where it comes again, but a goal of either kind is GoalTwice; a `:domain` has
+-- exactly one item, a name, and a `:goal` and a `:ctl-goal` exactly one item, or they are BadForm;
+-- every other section is left out. At one section the flaw with the lower code is listed alone
 abbrev pub section_flaws : Seen → Span → Heading → List ℕ → Forest → List Flaw
 section_flaws seen span Domain head rest =
     flaw_if (seen.domain || not (is_one_name rest)) span BadForm
@@ -57,12 +58,14 @@ section_flaws seen span Objects head rest = flaw_if seen.objects span BadForm
 section_flaws seen span Init head rest = flaw_if seen.init span BadForm
 section_flaws seen span Goal head rest =
     if is_one rest then flaw_if seen.goal span GoalTwice else flaw_at span BadForm ∷ []
+section_flaws seen span CtlGoal head rest =
+    if is_one rest then flaw_if seen.ctl span GoalTwice else flaw_at span BadForm ∷ []
 section_flaws seen span PassedOver head rest = []
 section_flaws seen span Other head rest = flaw_at span (LeftOut head) ∷ []
 
 -- before the first section
 abbrev pub none_seen : Seen
-none_seen = record { domain = false; objects = false; init = false; goal = false }
+none_seen = record { domain = false; objects = false; init = false; goal = false; ctl = false }
 
 -- which sections have come, after one more
 abbrev pub saw : Seen → Heading → Seen
@@ -70,6 +73,7 @@ saw seen Domain = record seen { domain = true }
 saw seen Objects = record seen { objects = true }
 saw seen Init = record seen { init = true }
 saw seen Goal = record seen { goal = true }
+saw seen CtlGoal = record seen { ctl = true }
 saw seen PassedOver = seen
 saw seen Other = seen
 

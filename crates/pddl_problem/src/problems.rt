@@ -6,7 +6,7 @@ ghost use Rattle.sexpr_text.specs.Flaws.{first_listed};
 ghost use Rattle.sexpr_text.specs.Forest.{forest_of};
 ghost use Rattle.sexpr_text.specs.Passes.{IfFault};
 ghost use Rattle.pddl_ast.specs.Environment.{known_value};
-ghost use Rattle.pddl_ast.specs.Values.{formula_value, problem_value};
+ghost use Rattle.pddl_ast.specs.Values.{formula_value, problem_value, temporal_value};
 ghost use Rattle.pddl_problem.specs.Init as init;
 ghost use Rattle.pddl_problem.specs.Listed.{listed_fault};
 ghost use Rattle.pddl_problem.specs.Problems as problems;
@@ -17,8 +17,10 @@ use crate::definitions::{Definition, definition_in};
 use crate::init::{Initial, read_entries};
 use crate::objects::read_objects;
 use crate::sections::{check_sections, items_of, section};
-use pddl_ast::{Formula, Known, Named, Problem, Scope, read_formula, spells};
-use sexpr_text::{FaultKind, Form, Head, ReadErr, Span, Text, fault_at, head_of};
+use pddl_ast::{
+    Formula, Known, Named, Problem, Scope, Temporal, read_formula, read_temporal, spells,
+};
+use sexpr_text::{FaultKind, Form, Head, Place, ReadErr, Span, Text, fault_at, head_of};
 use std::alloc::{AllocError, Global};
 
 /// Whether the name in a `:domain` section is the domain's.
@@ -59,17 +61,49 @@ fn read_goal(alloc: Global, known: &Known, row: &[Form]) -> Result<Option<Formul
     }
 }
 
-/// Whether there is a goal.
-fn check_goal(span: Span, goal: Option<&[Form]>) -> Result<(), ReadErr>
-    ensures sound { OnOk result (problems.missing_flaws span (option_map
-        (λ row. forest_of row.now) goal.entry) ≡ []) }
+/// The goal in computation tree logic.
+fn read_ctl(alloc: Global, known: &Known, row: &[Form]) -> Result<Option<Temporal>, ReadErr>
+    ensures sound { OnOk result (problems.ctl_flaws (known_value known.now) (forest_of row.now)
+        ≡ []) }
+    ensures read { IfOk result (λ goal. option_map temporal_value goal
+        ≡ problems.ctl_of (known_value known.now) (forest_of row.now)) }
     ensures fault { IfErr result (λ e. IfFault e (λ f.
-        first_listed (problems.missing_flaws span (option_map
-        (λ row. forest_of row.now) goal.entry)) ≡ Some f)) }
+        first_listed (problems.ctl_flaws (known_value known.now) (forest_of row.now)) ≡ Some f)) }
 {
-    match goal {
-        Some(_) => Ok(()),
-        None => Err(fault_at(span, FaultKind::GoalMissing)),
+    match head_of(row) {
+        Head::Nothing => Ok(None),
+        Head::Word(span, _, _) => Err(fault_at(span, FaultKind::BadForm)),
+        Head::Group(span, parts, _) => {
+            let goal = read_temporal(alloc, known, span, parts)?;
+            Ok(Some(goal))
+        }
+    }
+}
+
+/// The place of that goal's form; of the definition's list (`span`) where there is none.
+fn ctl_place(span: Span, row: &[Form]) -> Place
+    ensures { result ≡ problems.ctl_place span (forest_of row.now) }
+{
+    match head_of(row) {
+        Head::Nothing => span.place,
+        Head::Word(span, _, _) => span.place,
+        Head::Group(span, _, _) => span.place,
+    }
+}
+
+/// Whether there is a goal of either kind.
+fn check_goal(span: Span, goal: Option<&[Form]>, ctl: Option<&[Form]>) -> Result<(), ReadErr>
+    ensures sound { OnOk result (problems.missing_flaws span
+        (option_map (λ row. forest_of row.now) goal.entry)
+        (option_map (λ row. forest_of row.now) ctl.entry) ≡ []) }
+    ensures fault { IfErr result (λ e. IfFault e (λ f.
+        first_listed (problems.missing_flaws span
+        (option_map (λ row. forest_of row.now) goal.entry)
+        (option_map (λ row. forest_of row.now) ctl.entry)) ≡ Some f)) }
+{
+    match (goal, ctl) {
+        (None, None) => Err(fault_at(span, FaultKind::GoalMissing)),
+        _ => Ok(()),
     }
 }
 
@@ -91,14 +125,15 @@ fn read_initial(alloc: Global, known: &Known, row: &[Form]) -> Result<Initial, R
     Ok(initial)
 }
 
-/// What a problem says of its objects: the initial situation and the goal.
+/// What a problem says of its objects: the initial situation and the goals.
 #[derive(Drop)]
 struct Body {
     initial: Initial,
     goal: Option<Formula>,
+    ctl: Option<Temporal>,
 }
 
-/// The initial situation and the goal of a definition.
+/// The initial situation and the goals of a definition.
 fn read_body(alloc: Global, known: &Known, definition: &Definition) -> Result<Body, ReadErr>
     ensures sound { OnOk result (listed_fault (problems.body_passes (known_value known.now)
         (definition_value definition.now)) ≡ None) }
@@ -111,14 +146,22 @@ fn read_body(alloc: Global, known: &Known, definition: &Definition) -> Result<Bo
     ensures goal { IfOk result (λ b. option_map formula_value b.goal
         ≡ problems.goal_of (known_value known.now) (sections.items_of (codes ":goal")
         (forest_of definition.now.items.now))) }
+    ensures ctl { IfOk result (λ b. option_map temporal_value b.ctl
+        ≡ problems.ctl_of (known_value known.now) (sections.items_of (codes ":ctl-goal")
+        (forest_of definition.now.items.now))) }
     ensures fault { IfErr result (λ e. IfFault e (λ f.
         listed_fault (problems.body_passes (known_value known.now)
         (definition_value definition.now)) ≡ Some f)) }
 {
     let initial = read_initial(alloc, known, items_of(definition.items, b":init"))?;
     let goal = read_goal(alloc, known, items_of(definition.items, b":goal"))?;
-    check_goal(definition.span, section(definition.items, b":goal"))?;
-    Ok(Body { initial, goal })
+    let ctl = read_ctl(alloc, known, items_of(definition.items, b":ctl-goal"))?;
+    check_goal(
+        definition.span,
+        section(definition.items, b":goal"),
+        section(definition.items, b":ctl-goal"),
+    )?;
+    Ok(Body { initial, goal, ctl })
 }
 
 /// The problem of these parts.
@@ -133,7 +176,11 @@ fn joined(
     ensures facts { IfOk result (λ p. p.facts ≡ body.initial.facts) }
     ensures entries { IfOk result (λ p. p.entries ≡ body.initial.entries) }
     ensures goal { IfOk result (λ p. p.goal ≡ body.goal) }
+    ensures ctl { IfOk result (λ p. p.ctl ≡ body.ctl) }
     ensures place { IfOk result (λ p. p.place ≡ definition.now.span.place) }
+    ensures ctl_place { IfOk result (λ p. p.ctl_place
+        ≡ problems.ctl_place definition.now.span (sections.items_of (codes ":ctl-goal")
+        (forest_of definition.now.items.now))) }
 {
     Ok(Problem {
         name: Text::new(alloc, definition.name.as_bytes())?,
@@ -141,7 +188,9 @@ fn joined(
         facts: body.initial.facts,
         entries: body.initial.entries,
         goal: body.goal,
+        ctl: body.ctl,
         place: definition.span.place,
+        ctl_place: ctl_place(definition.span, items_of(definition.items, b":ctl-goal")),
     })
 }
 

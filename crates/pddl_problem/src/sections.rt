@@ -21,6 +21,7 @@ pub(crate) enum Heading {
     Objects,
     Init,
     Goal,
+    CtlGoal,
     PassedOver,
     Other,
 }
@@ -32,6 +33,7 @@ pub(crate) struct Seen {
     pub(crate) objects: bool,
     pub(crate) init: bool,
     pub(crate) goal: bool,
+    pub(crate) ctl: bool,
 }
 
 /// What the word says that a section is.
@@ -46,6 +48,8 @@ pub(crate) fn heading_of(word: &Text) -> Heading
         Heading::Init
     } else if word.is(b":goal") {
         Heading::Goal
+    } else if word.is(b":ctl-goal") {
+        Heading::CtlGoal
     } else if word.is(b":requirements") || word.is(b":metric") || word.is(b":goal-reward") {
         Heading::PassedOver
     } else {
@@ -96,6 +100,8 @@ fn check_heading(
         Heading::Init if seen.init => Err(fault_at(span, FaultKind::BadForm)),
         Heading::Goal if !is_one(rest) => Err(fault_at(span, FaultKind::BadForm)),
         Heading::Goal if seen.goal => Err(fault_at(span, FaultKind::GoalTwice)),
+        Heading::CtlGoal if !is_one(rest) => Err(fault_at(span, FaultKind::BadForm)),
+        Heading::CtlGoal if seen.ctl => Err(fault_at(span, FaultKind::GoalTwice)),
         Heading::Other => Err(left_out(alloc, span, head)),
         _ => Ok(()),
     }
@@ -116,6 +122,7 @@ fn saw(seen: Seen, heading: Heading) -> Seen
         },
         Heading::Init => Seen { init: true, ..seen },
         Heading::Goal => Seen { goal: true, ..seen },
+        Heading::CtlGoal => Seen { ctl: true, ..seen },
         Heading::PassedOver | Heading::Other => seen,
     }
 }
@@ -146,6 +153,7 @@ pub(crate) fn check_sections(alloc: Global, items: &[Form]) -> Result<(), ReadEr
         objects: false,
         init: false,
         goal: false,
+        ctl: false,
     };
     for item in items {
         match item.view() {

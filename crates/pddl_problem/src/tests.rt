@@ -5,6 +5,7 @@ ghost use Rattle.std.specs.Prelude.{◌≡◌, [], ◌∷◌, codes, IfOk};
 ghost use Rattle.pddl_ast.specs.Fits.{FitsDomain};
 ghost use Rattle.pddl_ast.specs.Values.{domain_value};
 
+use crate::goal_tests::show_temporal;
 use crate::{one_answer, read_problem};
 use pddl_ast::{Domain, Formula, GroundAtom, InitialLiteral, Named, Predicate, Problem, Term};
 use sexpr_text::{MAX_BYTES, ReadErr, Text};
@@ -54,21 +55,23 @@ fn constants(alloc: Global) -> Result<Vec<Named>, AllocError>
     Ok(constants)
 }
 
-// The predicates `(p)`, `(at ?x)` and `(road ?x ?y)`.
+// The predicates `(p)`, `(at ?x)`, `(road ?x ?y)`, and `(af ?x)`, which has the name of an operator.
 fn predicates(alloc: Global) -> Result<Vec<Predicate>, AllocError>
     ensures { IfOk result (λ v. v.items ≡ record { name = codes "p"; arity = 0 }
         ∷ record { name = codes "at"; arity = 1 }
-        ∷ record { name = codes "road"; arity = 2 } ∷ []) }
+        ∷ record { name = codes "road"; arity = 2 }
+        ∷ record { name = codes "af"; arity = 1 } ∷ []) }
 {
     let mut predicates = Vec::new(alloc);
     predicates.push(predicate(alloc, b"p", 0)?)?;
     predicates.push(predicate(alloc, b"at", 1)?)?;
     predicates.push(predicate(alloc, b"road", 2)?)?;
+    predicates.push(predicate(alloc, b"af", 1)?)?;
     Ok(predicates)
 }
 
 // The domain `d` of these parts, without actions.
-fn town(alloc: Global) -> Result<Domain, AllocError>
+pub(crate) fn town(alloc: Global) -> Result<Domain, AllocError>
     ensures { IfOk result (λ d. FitsDomain (domain_value d)) }
 {
     let name = Text::new(alloc, b"d")?;
@@ -129,7 +132,7 @@ fn show_all(parts: &[Formula], out: &mut String) -> Result<(), AllocError> {
 }
 
 #[cycle(showing)]
-fn show_formula(formula: &Formula, out: &mut String) -> Result<(), AllocError> {
+pub(crate) fn show_formula(formula: &Formula, out: &mut String) -> Result<(), AllocError> {
     match formula {
         Formula::Atom(predicate, terms) => {
             write!(out, "{predicate}(")?;
@@ -175,7 +178,8 @@ fn show_alternative(literals: &[InitialLiteral], out: &mut String) -> Result<(),
 }
 
 // The problem's name, and its place; its objects with the numbers of their types; its facts; the
-// alternatives of its uncertain entries; its goal.
+// alternatives of its uncertain entries; its goal; the place and the tree of its goal in computation
+// tree logic, where there is one.
 fn show_problem(problem: &Problem, out: &mut String) -> Result<(), AllocError> {
     show_text(&problem.name, out)?;
     let place = problem.place;
@@ -199,13 +203,23 @@ fn show_problem(problem: &Problem, out: &mut String) -> Result<(), AllocError> {
     }
     out.push_str("; ")?;
     match &problem.goal {
-        Some(goal) => show_formula(goal, out),
-        None => out.push_str("no goal"),
+        Some(goal) => show_formula(goal, out)?,
+        None => out.push_str("no goal")?,
     }
+    show_ctl(problem, out)
+}
+
+fn show_ctl(problem: &Problem, out: &mut String) -> Result<(), AllocError> {
+    let Some(goal) = &problem.ctl else {
+        return Ok(());
+    };
+    let place = problem.ctl_place;
+    write!(out, "; {}:{} ", place.line, place.column)?;
+    show_temporal(goal, out)
 }
 
 // What the reader answers, as one line.
-fn answer(alloc: Global, bytes: &[u8], domain: &Domain) -> Result<String, AllocError>
+pub(crate) fn answer(alloc: Global, bytes: &[u8], domain: &Domain) -> Result<String, AllocError>
     requires { FitsDomain (domain_value domain.now) }
 {
     let mut out = String::new(alloc);
@@ -232,7 +246,7 @@ fn answer(alloc: Global, bytes: &[u8], domain: &Domain) -> Result<String, AllocE
 }
 
 // Texts, each with its fault: the kind's number and name, and its place.
-static FAULTS: [(&str, &str); 113] = [
+static FAULTS: [(&str, &str); 120] = [
     ("(define (problem q) (:goal (p))", "3 OpenAtEnd 1:1"),
     ("(define (problem q) (:goal (p))) )", "2 StrayClose 1:34"),
     ("(define (domain q)) )", "2 StrayClose 1:21"),
@@ -282,8 +296,30 @@ static FAULTS: [(&str, &str); 113] = [
         "16 GoalTwice 1:33",
     ),
     (
-        "(define (problem q) (:ctl-goal (af (p))))",
+        "(define (problem q) (:ctl-goal (p)) (:ctl-goal (p)))",
+        "16 GoalTwice 1:37",
+    ),
+    (
+        "(define (problem q) (:ctl-goal (p)) (:goal (p)) (:ctl-goal))",
+        "6 BadForm 1:49",
+    ),
+    ("(define (problem q) (:ctl-goal))", "6 BadForm 1:21"),
+    ("(define (problem q) (:ctl-goal (p) (p)))", "6 BadForm 1:21"),
+    (
+        "(define (problem q) (:ctl-goals (af (p))))",
         "13 LeftOut 1:21",
+    ),
+    (
+        "(define (problem q) (:ctl-goal (q)) (:goal (q)))",
+        "7 UnknownName 1:45",
+    ),
+    (
+        "(define (problem q) (:ctl-goal (q)) (:goal (p)))",
+        "7 UnknownName 1:33",
+    ),
+    (
+        "(define (problem q) (:goal (af (p))) (:ctl-goal (af (p))))",
+        "6 BadForm 1:32",
     ),
     (
         "(define (problem q) (:foo) (:objects a a) (:goal (p)))",
@@ -622,7 +658,7 @@ static FAULTS: [(&str, &str); 113] = [
 ];
 
 // Texts, each with its tree as `show_problem` shows it.
-static TREES: [(&str, &str); 12] = [
+static TREES: [(&str, &str); 15] = [
     ("(define (problem q) (:goal ()))", "q 1:1;;;; all()"),
     (
         "(DEFINE (Problem Q) (:Domain D) (:Objects A B - Place C) (:Init (At A) (Road A B) (P)) (:Goal (At B)))",
@@ -671,6 +707,19 @@ static TREES: [(&str, &str); 12] = [
     (
         "(define (problem q) (:goal (not (at hub))) (:init (and) (and (and)) (not (at hub))))",
         "q 1:1;;;; not 1( o0)",
+    ),
+    // a predicate with the name of an operator is read in a goal, and the operator in the other
+    (
+        "(define (problem q) (:ctl-goal (af (p))) (:goal (af hub)))",
+        "q 1:1;;;; 3( o0); 1:32 Af [0()]",
+    ),
+    (
+        "(define (problem q)\n (:ctl-goal (af (at a))) (:objects a))",
+        "q 1:1; a 0;;; no goal; 2:13 Af [1( o1)]",
+    ),
+    (
+        "(define (problem q) (:goal (p)) (:ctl-goal ()))",
+        "q 1:1;;;; 0(); 1:44 [all()]",
     ),
 ];
 

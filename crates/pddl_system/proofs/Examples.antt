@@ -4,17 +4,22 @@ use Rattle.std.specs.Prelude.{codes}
 use Rattle.sexpr_text.specs.declared.forms.Place.{Place}
 use Rattle.task_core.specs.Cubes.{literal}
 use Rattle.pddl_ast.specs.declared.trees.Term.TheVariants.{Variable, Object}
-use Rattle.pddl_ast.specs.Trees.{FormulaTree, atom, all, any, negation, implication, exists, forall, formula_row, EffectTree, add, delete, both, one_of, only_when, each, effect_row, AtomTree, LiteralTree, SchemaTree, DomainTree, ProblemTree}
+use Rattle.pddl_ast.specs.declared.trees.UnaryOperator.TheVariants.{Ex, Af, Eg}
+use Rattle.pddl_ast.specs.declared.trees.BinaryOperator.TheVariants.{Au}
+use Rattle.ctl_syntax.specs.Goals as goals
+use Rattle.pddl_system.specs.CtlGoals.{ctl_goal_of, grounded_goal}
+use Rattle.pddl_ast.specs.Trees.{TemporalTree, unary, binary, state_formula, goal_negation, goal_implication, all_goals, temporal_row, FormulaTree, atom, all, any, negation, implication, exists, forall, formula_row, EffectTree, add, delete, both, one_of, only_when, each, effect_row, AtomTree, LiteralTree, SchemaTree, DomainTree, ProblemTree}
 use Rattle.pddl_system.specs.Fluents.{fluents, named_by_effect}
 use Rattle.pddl_system.specs.GroundAtoms.{same_atom}
 use Rattle.pddl_system.specs.Instances.{Instance, kept_instances}
 use Rattle.pddl_system.specs.Objects.{bindings, objects_of_type}
 use Rattle.pddl_system.specs.Outcomes.{ChangeTree, outcomes}
 use Rattle.pddl_system.specs.Settings.{Setting, setting}
-use Rattle.pddl_system.specs.Sizes.{effect_size, first_passed, formula_size, outcome_count}
+use Rattle.pddl_system.specs.Sizes.{ctl_size, effect_size, temporal_size, first_passed, formula_size, outcome_count}
 use Rattle.pddl_system.specs.States.{state_after}
 use Rattle.pddl_system.specs.Systems.{action_names, fluent_names, system}
-use Rattle.pddl_system.specs.Tasks.{ActionTree, all_of, condition_row, is_fluent_true, task_of, yes_always}
+use Rattle.ctl_syntax.specs.Conditions.{all_of, any_of, condition_row, is_fluent_true, yes_always}
+use Rattle.pddl_system.specs.Tasks.{ActionTree, task_of}
 use Rattle.pddl_system.specs.ThreeValues.{value}
 use Rattle.pddl_system.specs.Truth.{is_true}
 
@@ -128,7 +133,7 @@ module _ (place : Place) where
   }
 
   abbrev entries_of_still : List AtomTree → List (List (List LiteralTree)) → ProblemTree
-  entries_of_still facts entries = record { name = codes "s"; objects = []; facts = facts; entries = entries; goal = None; place = place }
+  entries_of_still facts entries = record { name = codes "s"; objects = []; facts = facts; entries = entries; goal = None; ctl = None; place = place; ctl_place = place }
 
   abbrev p_is : Bool → List LiteralTree
   p_is positive = record { atom = atom_tree 0 []; positive = positive } ∷ []
@@ -170,7 +175,9 @@ module _ (place : Place) where
     facts = atom_tree 0 (0 ∷ []) ∷ atom_tree 1 (0 ∷ 1 ∷ []) ∷ [];
     entries = [];
     goal = Some (atom 0 (Object 1 ∷ []));
+    ctl = Some (binary Au (unary Ex (state_formula (atom 1 (Object 0 ∷ Object 1 ∷ [])))) (state_formula (atom 0 (Object 1 ∷ []))));
     place = place;
+    ctl_place = place;
   }
 
   -- of its four instances three are known to be impossible, since `next` never changes
@@ -214,3 +221,24 @@ module _ (place : Place) where
 
   slip_within : first_passed slip a_to_b ≡ None
   slip_within = refl
+
+  -- the goal in computation tree logic: `(au (ex (next a b)) (at b))`, whose first formula never changes
+  slip_ctl : ctl_goal_of slip a_to_b ≡ Some (goals.au (goals.ex (goals.plain yes_always)) (goals.plain (is_fluent_true 1)))
+  slip_ctl = refl
+
+  slip_ctl_size : ctl_size two_objects a_to_b.ctl ≡ 4
+  slip_ctl_size = refl
+
+  -- `(imply (af (at b)) (and (exists (?x) (at ?x)) (not (eg (at a)))))`
+  abbrev settles : TemporalTree
+  settles =
+      goal_implication (unary Af (state_formula (atom 0 (Object 1 ∷ []))))
+      (all_goals (temporal_row (state_formula (exists (0 ∷ []) (of_variable 0 0)) ∷ goal_negation (unary Eg (state_formula (atom 0 (Object 0 ∷ [])))) ∷ [])))
+
+  slip_settles : grounded_goal (setting slip a_to_b) (fluents slip a_to_b) settles
+      ≡ goals.implication (goals.af (goals.plain (is_fluent_true 1)))
+      (goals.all (goals.goal_row (goals.plain (any_of (condition_row (is_fluent_true 0 ∷ is_fluent_true 1 ∷ []))) ∷ goals.negation (goals.eg (goals.plain (is_fluent_true 0))) ∷ [])))
+  slip_settles = refl
+
+  settles_size : temporal_size two_objects settles ≡ 10
+  settles_size = refl

@@ -1,5 +1,6 @@
 pub mod Lists
 pub mod Counts
+pub mod CtlGoals
 pub mod NamedAtoms
 pub mod TreeTruth
 pub mod Soundness

@@ -29,14 +29,16 @@ use Rattle.pddl_system.specs.Settings.{Setting, setting}
 use Rattle.pddl_system.specs.States.{atom_holds, comes_about, formula_holds, makes, state_after, value_after, value_at}
 use Rattle.pddl_system.specs.Systems.{facts_of, initial_of, next_of, states_where, system}
 use Rattle.pddl_system.specs.Systems as systems
-use Rattle.pddl_system.specs.Tasks.{ActionTree, CondTree, TaskTree, action_of, change_of, changed_if, condition_of, outcome_of, task_of}
-use Rattle.pddl_system.specs.Values.{action_value, change_value, condition_value, outcome_value, task_value}
+use Rattle.ctl_syntax.specs.Conditions.{CondTree, condition_value}
+use Rattle.pddl_system.specs.Tasks.{ActionTree, TaskTree, action_of, change_of, changed_if, condition_of, outcome_of, task_of}
+use Rattle.pddl_system.specs.Values.{action_value, change_value, outcome_value, task_value}
 use Rattle.pddl_system.proofs.Lists.{list_all-same, list_any-same, list_any-filter, map-range, zip_any, zip_get, zip_length, zip_map}
 use Rattle.pddl_system.proofs.Members.{Apart}
 use Rattle.pddl_system.proofs.Numbers.{fluents_apart, number_is, place_is}
 use Rattle.pddl_system.proofs.RigidAtoms.{rigid_is_no_fluent}
 use Rattle.pddl_system.proofs.Soundness.{RigidIsNoFluent, no_change}
-use Rattle.pddl_system.proofs.TreeTruth.{formula_same, holds_is, stands_for, tree_holds, trees_hold-row}
+use Rattle.ctl_syntax.proofs.ConditionTrees.{holds_is, tree_holds}
+use Rattle.pddl_system.proofs.TreeTruth.{formula_same, stands_for, trees_hold-row}
 
 -- a change, an outcome and an action that stand for those of the trees do the same
 
@@ -105,7 +107,7 @@ module _ (at : Setting) (fl : List AtomTree) (apart : Apart fl) (rigid : RigidIs
       ∙ ap (λ vs. cond (formula_holds at fl v i.schema.precondition i.objects) vs []) (zip_map outcome_value (outcome_of at fl) (λ q. after (length fl) q v) (state_after at fl v) after_same x.outcomes.items (outcomes_of at i) outcomes)
 
 module _ (d : DomainTree) (p : ProblemTree) (task : Task) (is : task_value task ≡ task_of d p) where
-  count_same : fluent_count task ≡ length (fluents d p)
+  pub count_same : fluent_count task ≡ length (fluents d p)
   count_same = zip_length name_bytes (systems.atom_name d p) task.fluents.items (fluents d p) (ap (λ (t : TaskTree). t.fluents) is)
 
   actions_are : map action_value task.actions.items ≡ map (action_of d p) (kept_instances d p)

@@ -35,15 +35,17 @@ use Rattle.pddl_system.specs.Settings.{setting}
 use Rattle.pddl_system.specs.Sizes.{Limit, action_limit, outcome_limit, fluent_limit, first_passed, keeps, limits, most_outcomes}
 use Rattle.pddl_system.specs.Systems.{action_names, atom_name, fluent_names, instance_name, literal_of}
 use Rattle.pddl_system.specs.Systems as systems
-use Rattle.pddl_system.specs.Tasks.{ActionTree, CondTree, action_of, change_of, changed_if, condition_of, condition_row, outcome_of}
-use Rattle.pddl_system.specs.Values.{ArePartsOf, action_value, change_value, condition_value, outcome_value}
+use Rattle.ctl_syntax.specs.Conditions.{CondTree, condition_row, condition_value}
+use Rattle.pddl_system.specs.Tasks.{ActionTree, action_of, change_of, changed_if, condition_of, outcome_of}
+use Rattle.pddl_system.specs.Values.{ArePartsOf, action_value, change_value, outcome_value}
 use Rattle.pddl_system.proofs.Lists.{zip_all, zip_length, zip_map}
 use Rattle.pddl_system.proofs.Members.{Among, All-Among, Among-filter, Among-filter_from, Among-flat_map, Among-flat_map_from, Among-map, Among-map_from, Among-range, list_all-from_Among, list_any-from_Among, passes_Among}
 use Rattle.pddl_system.proofs.NamedAtoms.{effects_have_outcomes}
 use Rattle.pddl_system.proofs.NameLaws.{action_names_are_names, arguments_below, fluent_names_are_names, of_schema, schema_listed}
 use Rattle.pddl_system.proofs.Numbers.{length-chosen, same_atom-refl}
 use Rattle.pddl_system.proofs.Occurrences.{IsFine, IsScope, changes_are_fine, listed}
-use Rattle.pddl_system.proofs.TreeBounds.{below_is, depth_is, formula_below, formula_no_deeper, tree_below, tree_depth, trees_below-row, trees_depth}
+use Rattle.ctl_syntax.proofs.ConditionTrees.{below_is, depth_is, tree_below, tree_depth, trees_depth}
+use Rattle.pddl_system.proofs.TreeBounds.{formula_below, formula_no_deeper, trees_below-row}
 
 -- no limit is passed
 none_found : {X : Type 0} (p : X → Bool) (xs : List X) → find (λ x. not (p x)) xs ≡ None → (x : X) → Among x xs → p x ≡ true

@@ -1,116 +1,19 @@
--- Which fluents a condition tree names, and how deep it is: as the condition which it stands for; and for the
--- condition of a formula, the fluents alone, and no deeper than the formula.
-use Rattle.std.proofs.Common.{◌≡◌, ℕ, ◌+◌, ◌≤◌, Bool, true, false, ◌&&◌, List, [], ◌∷◌, ◌++◌, map, length, Option, Some, None, refl, sym, ◌∙◌, ap, subst, arith, ◌==◌}
-use Rattle.std.specs.Prelude.{nat_lt, max}
-use Rattle.std.specs.List.{list_all}
+-- The condition of a formula names fluents alone, and is no deeper than the formula.
+use Rattle.std.proofs.Common.{◌≡◌, ℕ, ◌+◌, ◌≤◌, Bool, true, false, ◌&&◌, List, [], ◌∷◌, ◌++◌, map, length, Option, Some, None, refl, arith, ◌==◌}
+use Rattle.std.specs.Prelude.{max}
 use Rattle.std.specs.Option.{option_map_or}
 use Rattle.std.proofs.lemmas.Bool.{and_from, lt-ltb}
 use Rattle.std.proofs.lemmas.List.Quantifiers.{position-Some}
 use Rattle.std.proofs.Math.Nat.{le-max_left, le-max_right, max-le}
-use Rattle.task_core.specs.Conditions.{below_step, depth, depth_step, greatest, ids_below}
-use Rattle.task_core.specs.declared.conditions.Cond.{Cond}
-use Rattle.task_core.specs.declared.conditions.Cond.TheOpen.{Cond-F, Yes, No, Is, Not, All, Any}
-use Rattle.task_core.specs.declared.conditions.Cond.TheViews.{roll-Cond}
-use Rattle.task_core.specs.declared.conditions.Cond.TheFolds.{map-Cond, fold-roll-Cond, ind-Cond}
-use Rattle.task_core.proofs.Agreement.{below_roll}
 use Rattle.pddl_ast.specs.Depth.{formula_depth, formulas_depth}
 use Rattle.pddl_ast.specs.Trees.{FormulaTree, FormulaTrees, atom, equal, all, any, negation, implication, exists, forall, no_formula, formula_then, AtomTree}
 use Rattle.pddl_system.specs.GroundAtoms.{atom_of, same_atom}
 use Rattle.pddl_system.specs.Objects.{bindings, object_of}
 use Rattle.pddl_system.specs.Settings.{Setting}
 use Rattle.pddl_system.specs.States.{number_of}
-use Rattle.pddl_system.specs.Tasks.{CondTree, CondTrees, yes_always, no_never, is_fluent_true, not_so, all_of, any_of, no_condition, condition_then, condition_row, constant, atom_condition, condition_of, conditions_of}
-use Rattle.pddl_system.specs.Values.{condition_step, condition_value}
-use Rattle.pddl_system.proofs.TreeTruth.{value_roll}
-
--- whether every fluent that a condition tree names is below n
-abbrev mutual
-  pub tree_below : ℕ → CondTree → Bool
-  tree_below n yes_always = true
-  tree_below n no_never = true
-  tree_below n (is_fluent_true f) = nat_lt f n
-  tree_below n (not_so part) = tree_below n part
-  tree_below n (all_of parts) = trees_below n parts
-  tree_below n (any_of parts) = trees_below n parts
-
-  pub trees_below : ℕ → CondTrees → Bool
-  trees_below n no_condition = true
-  trees_below n (condition_then c cs) = tree_below n c && trees_below n cs
-
--- how deep it is
-abbrev mutual
-  pub tree_depth : CondTree → ℕ
-  tree_depth yes_always = 1
-  tree_depth no_never = 1
-  tree_depth (is_fluent_true f) = 1
-  tree_depth (not_so part) = tree_depth part
-  tree_depth (all_of parts) = 1 + trees_depth parts
-  tree_depth (any_of parts) = 1 + trees_depth parts
-
-  pub trees_depth : CondTrees → ℕ
-  trees_depth no_condition = 0
-  trees_depth (condition_then c cs) = max (tree_depth c) (trees_depth cs)
-
--- as the condition which it stands for
-
-module _ (n : ℕ) where
-  abbrev Below : Cond → Type 0
-  Below c = ids_below n c ≡ tree_below n (condition_value c)
-
-  abbrev ShownBelow : Type 0
-  ShownBelow = (c : Cond) × Below c
-
-  parts_below : (parts : List ShownBelow) → list_all (λ part. part) (map (ids_below n) (map (λ (e : ShownBelow). e.0) parts)) ≡ trees_below n (condition_row (map condition_value (map (λ (e : ShownBelow). e.0) parts)))
-  parts_below [] = refl
-  parts_below (e ∷ parts) =
-      ap (λ b. b && list_all (λ part. part) (map (ids_below n) (map (λ (e : ShownBelow). e.0) parts))) e.1
-      ∙ ap (λ b. tree_below n (condition_value e.0) && b) (parts_below parts)
-
-  abbrev first_below : Cond-F ShownBelow → Cond-F Cond
-  first_below = map-Cond ShownBelow Cond (λ e. e.0)
-
-  layer_below : (y : Cond-F ShownBelow) → below_step n (map-Cond Cond Bool (ids_below n) (first_below y)) ≡ tree_below n (condition_step (map-Cond Cond CondTree condition_value (first_below y)))
-  layer_below Yes = refl
-  layer_below No = refl
-  layer_below (Is f) = refl
-  layer_below (Not part) = part.value.1
-  layer_below (All parts) = parts_below parts.items
-  layer_below (Any parts) = parts_below parts.items
-
-  roll_below : (y : Cond-F ShownBelow) → Below (roll-Cond (first_below y))
-  roll_below y = below_roll n (first_below y) ∙ layer_below y ∙ ap (tree_below n) (sym (value_roll (first_below y)))
-
-  pub below_is : (c : Cond) → ids_below n c ≡ tree_below n (condition_value c)
-  below_is = ind-Cond Below (λ x y is. subst (λ z. Below (roll-Cond z)) is (roll_below y))
-
-abbrev Deep : Cond → Type 0
-Deep c = depth c ≡ tree_depth (condition_value c)
-
-abbrev ShownDeep : Type 0
-ShownDeep = (c : Cond) × Deep c
-
-parts_deep : (parts : List ShownDeep) → greatest (map depth (map (λ (e : ShownDeep). e.0) parts)) ≡ trees_depth (condition_row (map condition_value (map (λ (e : ShownDeep). e.0) parts)))
-parts_deep [] = refl
-parts_deep (e ∷ parts) =
-    ap (λ m. max m (greatest (map depth (map (λ (e : ShownDeep). e.0) parts)))) e.1
-    ∙ ap (λ m. max (tree_depth (condition_value e.0)) m) (parts_deep parts)
-
-abbrev first_deep : Cond-F ShownDeep → Cond-F Cond
-first_deep = map-Cond ShownDeep Cond (λ e. e.0)
-
-layer_deep : (y : Cond-F ShownDeep) → depth_step (map-Cond Cond ℕ depth (first_deep y)) ≡ tree_depth (condition_step (map-Cond Cond CondTree condition_value (first_deep y)))
-layer_deep Yes = refl
-layer_deep No = refl
-layer_deep (Is f) = refl
-layer_deep (Not part) = part.value.1
-layer_deep (All parts) = ap (λ m. 1 + m) (parts_deep parts.items)
-layer_deep (Any parts) = ap (λ m. 1 + m) (parts_deep parts.items)
-
-roll_deep : (y : Cond-F ShownDeep) → Deep (roll-Cond (first_deep y))
-roll_deep y = fold-roll-Cond ℕ depth_step (first_deep y) ∙ layer_deep y ∙ ap tree_depth (sym (value_roll (first_deep y)))
-
-pub depth_is : (c : Cond) → depth c ≡ tree_depth (condition_value c)
-depth_is = ind-Cond Deep (λ x y is. subst (λ z. Deep (roll-Cond z)) is (roll_deep y))
+use Rattle.ctl_syntax.specs.Conditions.{CondTree, is_fluent_true, condition_row}
+use Rattle.pddl_system.specs.Tasks.{constant, atom_condition, condition_of, conditions_of}
+use Rattle.ctl_syntax.proofs.ConditionTrees.{tree_below, tree_depth, trees_below, trees_depth}
 
 -- rows
 

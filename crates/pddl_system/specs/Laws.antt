@@ -5,11 +5,16 @@ use Rattle.std.specs.declared.alloc.Global.{Global}
 use Rattle.pddl_ast.specs.Fits.{FitsDomain, FitsEffect, FitsProblem}
 use Rattle.pddl_ast.specs.Known.{Known}
 use Rattle.pddl_ast.specs.Trees.{AtomTree, FormulaTree, LiteralTree, EffectTree, SchemaTree}
-use Rattle.pddl_ast.specs.Trees.{DomainTree, ProblemTree}
+use Rattle.pddl_ast.specs.Trees.{DomainTree, ProblemTree, TemporalTree}
 use Rattle.pddl_ast.specs.declared.trees.Named.{Named}
 use Rattle.pddl_ast.specs.declared.trees.Predicate.{Predicate}
 use Rattle.std.specs.List.{All, AllPairs, Contains}
+use Rattle.ctl_syntax.specs.Goals.{CtlTree, map_plain}
+use Rattle.ctl_syntax.specs.Truth.{Satisfies}
+use Rattle.ctl_syntax.specs.Values.{IsAtMostDeep, NamesBelow}
 use Rattle.pddl_ast.specs.WordTexts.{IsWordText}
+use Rattle.pddl_system.specs.CtlGoals.{ConditionHoldsAt, FormulaHoldsAt}
+use Rattle.pddl_system.specs.CtlGoals.{ctl_goal_of, ctl_tree, grounded_goal}
 use Rattle.pddl_system.specs.Fluents.{changed_by, fluents, is_fluent, named_atoms, named_by_effect}
 use Rattle.pddl_system.specs.GroundAtoms.{is_among}
 use Rattle.pddl_system.specs.Instances.{Instance, is_kept, kept_instances}
@@ -24,11 +29,13 @@ use Rattle.pddl_system.specs.States.{comes_about, formula_holds, number_of}
 use Rattle.pddl_system.specs.Systems.{action_names, fluent_names, system}
 use Rattle.pddl_system.specs.Tasks.{task_of}
 use Rattle.pddl_system.specs.ThreeValues.{value}
+use Rattle.ctl_syntax.specs.Conditions.{condition_value}
 use Rattle.pddl_system.specs.Values.{ArePartsOf, task_value}
+use Rattle.task_core.specs.ContextPlans.{Configuration, ContextPlan, Follows}
 use Rattle.task_core.specs.Names.{AreActionNames, AreFluentNames}
 use Rattle.task_core.specs.Parts.{MakesTask}
 use Rattle.task_core.specs.States.{IsWithin}
-use Rattle.task_core.specs.Systems.{Exec, IsSystem}
+use Rattle.task_core.specs.Systems.{Exec, IsSystem, System}
 use Rattle.task_core.specs.Vectors.{Vector}
 use Rattle.task_core.specs.Tasks.{system_of}
 use Rattle.task_core.specs.declared.actions.GroundAction.{GroundAction}
@@ -190,3 +197,26 @@ NamedAtomsAreNoMore =
 -- the fluents are listed in order
 abbrev pub FluentsAreSorted : Type 0
 FluentsAreSorted = (d : DomainTree) (p : ProblemTree) → IsSorted atom_order (fluents d p)
+
+-- a goal over conditions that stands for the grounded goal of a domain and a problem is true where
+-- the goal of the text is: at every configuration, along the paths of every plan in every system
+abbrev pub GroundedGoalsAreTrue : Type 0
+GroundedGoalsAreTrue =
+    (d : DomainTree) (p : ProblemTree) (goal : TemporalTree) (conditions : CtlTree Cond)
+    (sys : System) (plan : ContextPlan) (x : Configuration)
+    → map_plain condition_value conditions ≡ grounded_goal (setting d p) (fluents d p) goal
+    → Satisfies (Follows sys plan) ConditionHoldsAt conditions x
+    ↔ Satisfies (Follows sys plan) (FormulaHoldsAt (setting d p) (fluents d p)) (ctl_tree goal) x
+
+-- its conditions name fluents alone, and are at most 199 deep
+abbrev pub GroundedGoalsNameFluents : Type 0
+GroundedGoalsNameFluents =
+    (d : DomainTree) (p : ProblemTree) (conditions : CtlTree Cond)
+    → Some (map_plain condition_value conditions) ≡ ctl_goal_of d p
+    → NamesBelow (length (fluents d p)) conditions
+
+abbrev pub GroundedGoalsAreShallow : Type 0
+GroundedGoalsAreShallow =
+    (d : DomainTree) (p : ProblemTree) (conditions : CtlTree Cond)
+    → FitsProblem d p → Some (map_plain condition_value conditions) ≡ ctl_goal_of d p
+    → IsAtMostDeep 199 conditions

@@ -1,3 +1,4 @@
+pub mod CtlGoals
 pub mod Fluents
 pub mod GroundAtoms
 pub mod Instances

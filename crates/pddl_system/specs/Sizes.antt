@@ -7,7 +7,9 @@ use Rattle.std.specs.Option.{option_map_or}
 use Rattle.pddl_ast.specs.Trees.{FormulaTree, FormulaTrees, atom, equal, all, any, negation}
 use Rattle.pddl_ast.specs.Trees.{implication, exists, forall, no_formula, formula_then, EffectTree}
 use Rattle.pddl_ast.specs.Trees.{EffectTrees, add, delete, both, one_of, only_when, each, no_effect}
-use Rattle.pddl_ast.specs.Trees.{effect_then, SchemaTree, DomainTree, ProblemTree}
+use Rattle.pddl_ast.specs.Trees.{effect_then, SchemaTree, DomainTree, ProblemTree, TemporalTree}
+use Rattle.pddl_ast.specs.Trees.{TemporalTrees, state_formula, goal_negation, all_goals, any_goal}
+use Rattle.pddl_ast.specs.Trees.{goal_implication, unary, binary, no_temporal, temporal_then}
 use Rattle.pddl_system.specs.Fluents.{fluents}
 use Rattle.pddl_system.specs.Instances.{kept_instances}
 use Rattle.pddl_system.specs.Objects.{all_objects}
@@ -83,12 +85,34 @@ schema_size objects s = formula_size objects s.precondition + effect_size object
 abbrev pub goal_size : (ℕ → List ℕ) → Option FormulaTree → ℕ
 goal_size objects goal = option_map_or (formula_size objects) goal 0
 
+-- the expanded size of a goal in computation tree logic: a formula in it has its own, and an
+-- operator and a connective over operators have 1 and the sizes of their parts
+abbrev mutual
+  pub temporal_size : (ℕ → List ℕ) → TemporalTree → ℕ
+  temporal_size objects (state_formula formula) = formula_size objects formula
+  temporal_size objects (goal_negation part) = 1 + temporal_size objects part
+  temporal_size objects (all_goals parts) = 1 + temporals_size objects parts
+  temporal_size objects (any_goal parts) = 1 + temporals_size objects parts
+  temporal_size objects (goal_implication left right) =
+      1 + (temporal_size objects left + temporal_size objects right)
+  temporal_size objects (unary operator part) = 1 + temporal_size objects part
+  temporal_size objects (binary operator left right) =
+      1 + (temporal_size objects left + temporal_size objects right)
+
+  pub temporals_size : (ℕ → List ℕ) → TemporalTrees → ℕ
+  temporals_size objects no_temporal = 0
+  temporals_size objects (temporal_then g gs) =
+      temporal_size objects g + temporals_size objects gs
+
+abbrev pub ctl_size : (ℕ → List ℕ) → Option TemporalTree → ℕ
+ctl_size objects goal = option_map_or (temporal_size objects) goal 0
+
 -- how many instances all actions have, kept or not
 abbrev pub instance_count : (ℕ → List ℕ) → List SchemaTree → ℕ
 instance_count objects schemas =
     sum (map (λ (s : SchemaTree). binding_count objects s.parameters) schemas)
 
--- the most objects, the most expanded size of an action and of a goal, the most instances, kept
+-- the most objects, the most expanded size of an action and of each goal, the most instances, kept
 -- instances, outcomes of one kept instance, and fluents
 abbrev pub most_objects : ℕ
 most_objects = 1024
@@ -118,6 +142,7 @@ keeps d p object_limit = nat_le (length (all_objects d p)) most_objects
 keeps d p size_limit = let objects = (setting d p).objects in
     list_all (λ s. nat_le (schema_size objects s) most_size) d.actions
     && nat_le (goal_size objects p.goal) most_size
+    && nat_le (ctl_size objects p.ctl) most_size
 keeps d p instance_limit =
     nat_le (instance_count (setting d p).objects d.actions) most_instances
 keeps d p action_limit = nat_le (length (kept_instances d p)) most_actions

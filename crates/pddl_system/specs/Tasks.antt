@@ -3,6 +3,9 @@
 use Rattle.std.specs.Prelude.{ℕ, ◌==◌, Bool, if◌then◌else◌, List, [], ◌∷◌, ◌++◌, map, Option}
 use Rattle.std.specs.List.{position_or_len}
 use Rattle.std.specs.Option.{option_map, option_map_or}
+use Rattle.ctl_syntax.specs.Conditions.{CondTree, CondTrees, yes_always, no_never, is_fluent_true}
+use Rattle.ctl_syntax.specs.Conditions.{not_so, all_of, any_of, no_condition, condition_then}
+use Rattle.ctl_syntax.specs.Conditions.{condition_row}
 use Rattle.task_core.specs.Initial.{Entry}
 use Rattle.task_core.specs.Names.{Name}
 use Rattle.task_core.specs.Vectors.{Vector}
@@ -19,24 +22,6 @@ use Rattle.pddl_system.specs.Outcomes.{possible_changes}
 use Rattle.pddl_system.specs.Settings.{Setting, setting}
 use Rattle.pddl_system.specs.States.{number_of}
 use Rattle.pddl_system.specs.Systems.{entry_of, facts_of, fluent_names, instance_name}
-
--- a condition on fluents, and a list of conditions
-mutual
-  pub data CondTree : Type 0 where
-    yes_always : CondTree
-    no_never : CondTree
-    is_fluent_true : ℕ → CondTree
-    not_so : CondTree → CondTree
-    all_of : CondTrees → CondTree
-    any_of : CondTrees → CondTree
-
-  pub data CondTrees : Type 0 where
-    no_condition : CondTrees
-    condition_then : CondTree → CondTrees → CondTrees
-
-abbrev pub condition_row : List CondTree → CondTrees
-condition_row [] = no_condition
-condition_row (c ∷ cs) = condition_then c (condition_row cs)
 
 -- an action of a task: its name, when it can be executed, and its outcomes, each a list of changes
 -- under a condition

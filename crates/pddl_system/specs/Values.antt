@@ -7,28 +7,14 @@ use Rattle.task_core.specs.Names.{name_bytes, name_of}
 use Rattle.task_core.specs.Tasks.{fluent_names}
 use Rattle.task_core.specs.declared.literals.Lit.{Lit}
 use Rattle.task_core.specs.declared.conditions.Cond.{Cond}
-use Rattle.task_core.specs.declared.conditions.Cond.TheOpen.{Cond-F, Yes, No, Is, Not, All, Any}
-use Rattle.task_core.specs.declared.conditions.Cond.TheFolds.{fold-Cond}
 use Rattle.task_core.specs.declared.actions.Change.{Change}
 use Rattle.task_core.specs.declared.actions.Outcome.{Outcome}
 use Rattle.task_core.specs.declared.actions.GroundAction.{GroundAction}
 use Rattle.task_core.specs.declared.actions.InitSpec.{InitSpec}
 use Rattle.task_core.specs.declared.tasks.Task.{Task}
 use Rattle.pddl_ast.specs.Trees.{DomainTree, ProblemTree}
-use Rattle.pddl_system.specs.Tasks.{CondTree, yes_always, no_never, is_fluent_true, not_so, all_of}
-use Rattle.pddl_system.specs.Tasks.{any_of, condition_row, ActionTree, TaskTree, task_of}
-
--- one layer of a condition, with the trees of its parts in their place
-abbrev pub condition_step : Cond-F CondTree → CondTree
-condition_step Yes = yes_always
-condition_step No = no_never
-condition_step (Is f) = is_fluent_true f.0
-condition_step (Not part) = not_so part.value
-condition_step (All parts) = all_of (condition_row parts.items)
-condition_step (Any parts) = any_of (condition_row parts.items)
-
-abbrev pub condition_value : Cond → CondTree
-condition_value = fold-Cond CondTree condition_step
+use Rattle.ctl_syntax.specs.Conditions.{CondTree, condition_value}
+use Rattle.pddl_system.specs.Tasks.{ActionTree, TaskTree, task_of}
 
 abbrev pub change_value : Change → CondTree × Lit
 change_value change = (condition_value change.cond, change.lit)

@@ -11,6 +11,9 @@ ghost use Rattle.pddl_system.specs.Laws.{
   FluentNamesAreNames,
   FluentsAreSorted,
   FluentsDiffer,
+  GroundedGoalsAreShallow,
+  GroundedGoalsAreTrue,
+  GroundedGoalsNameFluents,
   ImpossibleChangesNeverCome,
   KnownValuesAreSo,
   NamedAtomsAreChanged,
@@ -97,4 +100,13 @@ pub fn named_atoms_are_the_fluents()
     ensures listed { NamedAtomsInOrderAreFluents }
     ensures count { NamedAtomsAreNoMore }
     ensures sorted { FluentsAreSorted }
+{}
+
+/// A goal in computation tree logic over conditions that stands for the grounded goal of a domain
+/// and a problem is true where the goal of the text is, at every configuration, along the paths of
+/// every plan. Its conditions name fluents alone, and are at most 199 deep.
+pub fn grounded_goals_are_true()
+    ensures truth { GroundedGoalsAreTrue }
+    ensures fluents { GroundedGoalsNameFluents }
+    ensures shallow { GroundedGoalsAreShallow }
 {}

@@ -11,6 +11,7 @@
 //! - `Truth`, `States`, `Systems`: the truth of a formula, the state after an outcome, the system;
 //! - `Sizes`: what is counted before anything is built, and the limits;
 //! - `Tasks`, `Values`: the task as plain trees;
+//! - `CtlGoals`: the goal in computation tree logic, over formulas and over conditions;
 //! - `Names`, `Laws`: what names are made of, and the statements of the laws.
 #![tactic(auto)]
 
@@ -18,6 +19,7 @@ mod laws;
 
 pub use laws::{
     bindings_and_outcomes_are_counted, domains_have_systems, effects_name_what_they_change,
-    fluents_are_what_changes, known_values_are_so, named_atoms_are_the_fluents, names_are_names,
-    parts_make_a_task, read_names_are_words, tasks_have_the_system,
+    fluents_are_what_changes, grounded_goals_are_true, known_values_are_so,
+    named_atoms_are_the_fluents, names_are_names, parts_make_a_task, read_names_are_words,
+    tasks_have_the_system,
 };

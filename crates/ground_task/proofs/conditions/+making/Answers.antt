@@ -1,9 +1,9 @@
 use Rattle.ground_task.proofs.conditions.+making.Goals as goal
-use Rattle.std.proofs.Common.{◌≡◌, ℕ, ◌+◌, ◌<◌, ◌≤◌, List, [], ◌++◌, map, length, get_or, drop, ap, sym, ◌∙◌, arith}
+use Rattle.std.proofs.Common.{◌≡◌, ◌+◌, ◌<◌, [], ◌++◌, map, length, get_or, drop, ap, ◌∙◌, arith}
 use Rattle.pddl_ast.specs.Values.{formula_value}
 use Rattle.pddl_system.specs.Objects.{bindings}
 use Rattle.pddl_system.specs.Tasks.{atom_condition, condition_of}
-use Rattle.pddl_system.specs.Values.{condition_value}
+use Rattle.ctl_syntax.specs.Conditions.{condition_value}
 use Rattle.ground_task.proofs.BindingLemmas.{bound_below, bound_end, unbound}
 use Rattle.ground_task.proofs.ListSteps.{map_end, map_push_step}
 use Rattle.ground_instances.specs.Tables.{setting_in}

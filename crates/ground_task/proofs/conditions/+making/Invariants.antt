@@ -3,7 +3,7 @@ use Rattle.ground_instances.specs.Tables.{setting_in}
 use Rattle.pddl_ast.specs.Values.{formula_value}
 use Rattle.pddl_system.specs.Objects.{bindings}
 use Rattle.pddl_system.specs.Tasks.{condition_of}
-use Rattle.pddl_system.specs.Values.{condition_value}
+use Rattle.ctl_syntax.specs.Conditions.{condition_value}
 use Rattle.ground_task.proofs.ConditionLemmas.{each_condition}
 use Rattle.ground_task.proofs.conditions.+making.Given as goal
 

@@ -1,5 +1,5 @@
 use Rattle.std.proofs.Common.{◌≡◌, ◌++◌, drop, map}
-use Rattle.pddl_system.specs.Values.{condition_value}
+use Rattle.ctl_syntax.specs.Conditions.{condition_value}
 use Rattle.ground_task.proofs.copies.+copying.Given as goal
 
 abbrev pub invariant-copies-loop-cond : goal.invariant-copies-loop-cond

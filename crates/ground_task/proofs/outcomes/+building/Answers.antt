@@ -9,9 +9,10 @@ use Rattle.pddl_system.specs.GroundAtoms.{atom_of}
 use Rattle.pddl_system.specs.Objects.{bindings}
 use Rattle.pddl_system.specs.Outcomes as plain
 use Rattle.pddl_system.specs.Outcomes.{Condition}
-use Rattle.pddl_system.specs.Tasks.{CondTree, condition_of}
+use Rattle.ctl_syntax.specs.Conditions.{CondTree, condition_value}
+use Rattle.pddl_system.specs.Tasks.{condition_of}
 use Rattle.pddl_system.specs.ThreeValues.{may_hold, value}
-use Rattle.pddl_system.specs.Values.{condition_value, outcome_value}
+use Rattle.pddl_system.specs.Values.{outcome_value}
 use Rattle.ground_task.specs.Built.{crossed, guard_conditions, outcome_under, outcomes_under}
 use Rattle.ground_task.proofs.BindingLemmas.{bound_below, bound_end, unbound}
 use Rattle.ground_task.proofs.BuiltLemmas.{both_is, either_end, either_is, outcomes_inside, together, together_end, together_start, together_step}

@@ -1,4 +1,4 @@
-use Rattle.std.proofs.Common.{◌≡◌, List, map, ap, sym, ◌∙◌}
+use Rattle.std.proofs.Common.{List, ap, ◌∙◌}
 use Rattle.ground_instances.specs.Atoms.{atom_tree}
 use Rattle.pddl_ast.specs.Trees.{AtomTree}
 use Rattle.pddl_system.specs.States.{number_of}

@@ -1,0 +1,8 @@
+use Rattle.std.proofs.Common.{arith, ◌<◌}
+use Rattle.sexpr_text.specs.Forest.{forest_of}
+use Rattle.pddl_ast.proofs.Weights.{weight, weight_item}
+use Rattle.pddl_ast.proofs.goals.+reading.Goals as goal
+
+pub read_temporals-read_temporal-requires : goal.read_temporals-read_temporal-requires
+read_temporals-read_temporal-requires t c =
+    (let h : weight (forest_of c.in-Group.inner.now) < weight (forest_of c.args.row.now) = weight_item c.args.row.now c.loop-form.form-index c.form-item.result c.in-Group.span (forest_of c.in-Group.inner.now) c.loop-form-test.true c.form-item.is c.in-Group.ensures in omega arith, tt {0})
