@@ -49,9 +49,9 @@ first_of : (xs : List Vector) → xs ≢ [] → (t : Vector) × Contains xs t
 first_of [] n = absurd (n refl)
 first_of (t ∷ ts) n = (t, (0, omega arith, refl))
 
-module _ (sys : System) (plan : ContextPlan) (goal : CtlTree Cond) where
+module _ (sys : System) (plan : ContextPlan) (Goal : Configuration → Type 0) where
   -- a reason and its opposite
-  pub context_excludes : (reason : Reason) → HasContextReason sys plan goal reason → IsFreeOfContextReason sys plan goal reason → ⊥
+  pub context_excludes : (reason : Reason) → HasContextReason sys plan Goal reason → IsFreeOfContextReason sys plan Goal reason → ⊥
   context_excludes Unexecutable h f = h.refused.refused (f h.place h.refused.action h.reached h.refused.acts)
   context_excludes Stuck h f =
       ⊎_elim
@@ -86,7 +86,7 @@ module _ (sys : System) (plan : ContextPlan) (goal : CtlTree Cond) where
             on.contexts t (subst (λ b. HasOutcome sys x.state b t) (sym (same_action x on.action a on.acts acts)) o);
       }
 
-  met_free : MeetsGoal sys plan goal → (reason : Reason) → IsFreeOfContextReason sys plan goal reason
+  met_free : MeetsGoal sys plan Goal → (reason : Reason) → IsFreeOfContextReason sys plan Goal reason
   met_free met Unexecutable = executes_from met.complete
   met_free met Stuck = stuck_from met.complete
   met_free met Terminal = tt
@@ -94,11 +94,11 @@ module _ (sys : System) (plan : ContextPlan) (goal : CtlTree Cond) where
   met_free met Unreachable = tt
   met_free met Formula = met.has
 
-  pub yes_met : (verdict : Verdict) → IsContextVerdict sys plan goal verdict → SaysYes verdict ↔ MeetsGoal sys plan goal
+  pub yes_met : (verdict : Verdict) → IsContextVerdict sys plan Goal verdict → SaysYes verdict ↔ MeetsGoal sys plan Goal
   yes_met (Yes bound) h = (λ _. record { complete = complete_from (h.free Unexecutable) (h.free Stuck); has = h.free Formula }, λ _. tt)
   yes_met (No reason) h = (λ no_yes. absurd no_yes, λ met. context_excludes reason h.has (met_free met reason))
 
-  same_first_reason : (r s : Reason) → IsFirstContextReason sys plan goal r → IsFirstContextReason sys plan goal s → r ≡ s
+  same_first_reason : (r s : Reason) → IsFirstContextReason sys plan Goal r → IsFirstContextReason sys plan Goal s → r ≡ s
   same_first_reason r s h i =
       ⊎_elim
       (λ (e : turn_of r ≡ turn_of s). sym (at_turn r) ∙ ap reason_at e ∙ at_turn s)
@@ -109,20 +109,20 @@ module _ (sys : System) (plan : ContextPlan) (goal : CtlTree Cond) where
       order)
       (cases_order (turn_of r) (turn_of s))
 
-  pub same_context_verdict : (v w : Verdict) → IsContextVerdict sys plan goal v → IsContextVerdict sys plan goal w → v ≡ w
+  pub same_context_verdict : (v w : Verdict) → IsContextVerdict sys plan Goal v → IsContextVerdict sys plan Goal w → v ≡ w
   same_context_verdict (Yes b) (Yes c) h i = ap (λ (x : Option ℕ). Yes x) (h.unbounded ∙ sym i.unbounded)
   same_context_verdict (Yes b) (No r) h i = absurd (context_excludes r i.has (h.free r))
   same_context_verdict (No r) (Yes b) h i = absurd (context_excludes r h.has (i.free r))
   same_context_verdict (No r) (No s) h i = ap (λ (x : Reason). No x) (same_first_reason r s h i)
 
   -- verdicts from what is known of the plan
-  pub not_executed : MayNotExecute sys plan → IsContextVerdict sys plan goal (No Unexecutable)
+  pub not_executed : MayNotExecute sys plan → IsContextVerdict sys plan Goal (No Unexecutable)
   not_executed may = record { has = may; first = λ earlier l. absurd (omega arith) }
 
-  pub gets_stuck : ExecutesAlways sys plan → MayGetStuck sys plan → IsContextVerdict sys plan goal (No Stuck)
+  pub gets_stuck : ExecutesAlways sys plan → MayGetStuck sys plan → IsContextVerdict sys plan Goal (No Stuck)
   gets_stuck executes stuck = record { has = stuck; first = before }
     where
-      before : (earlier : Reason) → turn_of earlier < 1 → IsFreeOfContextReason sys plan goal earlier
+      before : (earlier : Reason) → turn_of earlier < 1 → IsFreeOfContextReason sys plan Goal earlier
       before Unexecutable l = executes
       before Stuck l = absurd (omega arith)
       before Terminal l = absurd (omega arith)
@@ -130,10 +130,10 @@ module _ (sys : System) (plan : ContextPlan) (goal : CtlTree Cond) where
       before Unreachable l = absurd (omega arith)
       before Formula l = absurd (omega arith)
 
-  pub misses_formula : ExecutesAlways sys plan → NeverStuck sys plan → (start : Configuration) → IsInitial sys start → (IsTrueAt sys plan goal start → ⊥) → IsContextVerdict sys plan goal (No Formula)
+  pub misses_formula : ExecutesAlways sys plan → NeverStuck sys plan → (start : Configuration) → IsInitial sys start → (Goal start → ⊥) → IsContextVerdict sys plan Goal (No Formula)
   misses_formula executes never start initial misses = record { has = record { start = start; initial = initial; misses = misses }; first = before }
     where
-      before : (earlier : Reason) → turn_of earlier < 5 → IsFreeOfContextReason sys plan goal earlier
+      before : (earlier : Reason) → turn_of earlier < 5 → IsFreeOfContextReason sys plan Goal earlier
       before Unexecutable l = executes
       before Stuck l = never
       before Terminal l = tt
@@ -141,7 +141,7 @@ module _ (sys : System) (plan : ContextPlan) (goal : CtlTree Cond) where
       before Unreachable l = tt
       before Formula l = absurd (omega arith)
 
-  pub meets_formula : ExecutesAlways sys plan → NeverStuck sys plan → ((x : Configuration) → IsInitial sys x → IsTrueAt sys plan goal x) → IsContextVerdict sys plan goal (Yes None)
+  pub meets_formula : ExecutesAlways sys plan → NeverStuck sys plan → ((x : Configuration) → IsInitial sys x → Goal x) → IsContextVerdict sys plan Goal (Yes None)
   meets_formula executes never has = record { free = met_free (record { complete = complete_from executes never; has = has }); unbounded = refl }
 
 -- what the graph of a plan with contexts says of it
@@ -213,9 +213,9 @@ module _ (sys : System) (contexts : ℕ) (rules : List ContextRule) (n : ℕ) (g
         let begins = (h.initial node.number node.below).1 (subst (IsInitial sys) (sym node.is) initial) in
         subst (IsTrueAt sys plan goal) node.is ((true_at goal names node.number node.below).0 ((shows.each node.number node.below).0 (all node.number node.below begins)))
 
-    pub one_misses : ExecutesAlways sys plan → NeverStuck sys plan → HasUnmarkedStart graph marks → IsContextVerdict sys plan goal (No Formula)
+    pub one_misses : ExecutesAlways sys plan → NeverStuck sys plan → HasUnmarkedStart graph marks → IsContextVerdict sys plan (IsTrueAt sys plan goal) (No Formula)
     one_misses executes never x =
-        misses_formula sys plan goal executes never (at x.number) ((h.initial x.number x.below).0 x.initial)
+        misses_formula sys plan (IsTrueAt sys plan goal) executes never (at x.number) ((h.initial x.number x.below).0 x.initial)
         (λ t. x.unmarked ((shows.each x.number x.below).1 ((true_at goal names x.number x.below).1 t)))
 
 -- the fluents of a task are few

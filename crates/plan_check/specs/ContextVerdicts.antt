@@ -1,5 +1,6 @@
 -- What a verdict on a plan with contexts says, for a goal in computation tree logic (Pistore,
--- Traverso 2001). It speaks of the context plan and of its paths, and of no graph.
+-- Traverso 2001). It speaks of the context plan and of its paths, and of no graph. A goal counts as
+-- the property of the configurations at which it is true.
 use Rattle.std.specs.Prelude.{◌≡◌, ◌⊎◌, ◌<◌, ℕ, true, IsSome, Option, Some, None, ⊤}
 use Rattle.task_core.specs.Conditions.{holds}
 use Rattle.task_core.specs.ContextPlans.{Configuration, ContextPlan, Follows, IsComplete, IsInitial}
@@ -26,9 +27,10 @@ abbrev pub IsTrueAt : System → ContextPlan → CtlTree Cond → Configuration 
 IsTrueAt sys plan goal = Satisfies (Follows sys plan) HoldsAt goal
 
 -- the plan meets the goal: it is complete, and each initial configuration has the goal
-pub record MeetsGoal (sys : System) (plan : ContextPlan) (goal : CtlTree Cond) : Type 0 where
+pub record MeetsGoal (sys : System) (plan : ContextPlan)
+    (Goal : Configuration → Type 0) : Type 0 where
   pub complete : IsComplete sys plan
-  pub has : (x : Configuration) → IsInitial sys x → IsTrueAt sys plan goal x
+  pub has : (x : Configuration) → IsInitial sys x → Goal x
 
 -- at some configuration that the plan may reach its action can't be executed
 pub record MayNotExecute (sys : System) (plan : ContextPlan) : Type 0 where
@@ -55,45 +57,44 @@ pub record NeverStuck (sys : System) (plan : ContextPlan) : Type 0 where
       → IsSome (plan.ctxt x.state x.context t)
 
 -- some initial configuration hasn't the goal
-pub record MayMissFormula (sys : System) (plan : ContextPlan) (goal : CtlTree Cond) : Type 0 where
+pub record MayMissFormula (sys : System) (Goal : Configuration → Type 0) : Type 0 where
   pub start : Configuration
   pub initial : IsInitial sys start
-  pub misses : IsTrueAt sys plan goal start → ⊥
+  pub misses : Goal start → ⊥
 
 -- the reason speaks against the plan. A plan with contexts is only asked whether it is complete and
 -- has the goal.
-abbrev pub HasContextReason : System → ContextPlan → CtlTree Cond → Reason → Type 0
-HasContextReason sys plan goal Unexecutable = MayNotExecute sys plan
-HasContextReason sys plan goal Stuck = MayGetStuck sys plan
-HasContextReason sys plan goal Terminal = ⊥
-HasContextReason sys plan goal Cycle = ⊥
-HasContextReason sys plan goal Unreachable = ⊥
-HasContextReason sys plan goal Formula = MayMissFormula sys plan goal
+abbrev pub HasContextReason : System → ContextPlan → (Configuration → Type 0) → Reason → Type 0
+HasContextReason sys plan Goal Unexecutable = MayNotExecute sys plan
+HasContextReason sys plan Goal Stuck = MayGetStuck sys plan
+HasContextReason sys plan Goal Terminal = ⊥
+HasContextReason sys plan Goal Cycle = ⊥
+HasContextReason sys plan Goal Unreachable = ⊥
+HasContextReason sys plan Goal Formula = MayMissFormula sys Goal
 
 -- the reason doesn't speak against it: its opposite
-abbrev pub IsFreeOfContextReason : System → ContextPlan → CtlTree Cond → Reason → Type 0
-IsFreeOfContextReason sys plan goal Unexecutable = ExecutesAlways sys plan
-IsFreeOfContextReason sys plan goal Stuck = NeverStuck sys plan
-IsFreeOfContextReason sys plan goal Terminal = ⊤
-IsFreeOfContextReason sys plan goal Cycle = ⊤
-IsFreeOfContextReason sys plan goal Unreachable = ⊤
-IsFreeOfContextReason sys plan goal Formula =
-    (x : Configuration) → IsInitial sys x → IsTrueAt sys plan goal x
+abbrev pub IsFreeOfContextReason : System → ContextPlan → (Configuration → Type 0) → Reason → Type 0
+IsFreeOfContextReason sys plan Goal Unexecutable = ExecutesAlways sys plan
+IsFreeOfContextReason sys plan Goal Stuck = NeverStuck sys plan
+IsFreeOfContextReason sys plan Goal Terminal = ⊤
+IsFreeOfContextReason sys plan Goal Cycle = ⊤
+IsFreeOfContextReason sys plan Goal Unreachable = ⊤
+IsFreeOfContextReason sys plan Goal Formula = (x : Configuration) → IsInitial sys x → Goal x
 
 -- the reason speaks against the plan, and none that is tried before it does
-pub record IsFirstContextReason (sys : System) (plan : ContextPlan) (goal : CtlTree Cond)
+pub record IsFirstContextReason (sys : System) (plan : ContextPlan) (Goal : Configuration → Type 0)
     (reason : Reason) : Type 0 where
-  pub has : HasContextReason sys plan goal reason
+  pub has : HasContextReason sys plan Goal reason
   pub first : (earlier : Reason) → turn_of earlier < turn_of reason
-      → IsFreeOfContextReason sys plan goal earlier
+      → IsFreeOfContextReason sys plan Goal earlier
 
 -- a yes: no reason speaks against the plan; there is no bound
-pub record IsContextYes (sys : System) (plan : ContextPlan) (goal : CtlTree Cond)
+pub record IsContextYes (sys : System) (plan : ContextPlan) (Goal : Configuration → Type 0)
     (bound : Option ℕ) : Type 0 where
-  pub free : (reason : Reason) → IsFreeOfContextReason sys plan goal reason
+  pub free : (reason : Reason) → IsFreeOfContextReason sys plan Goal reason
   pub unbounded : bound ≡ None
 
 -- the verdict on a plan with contexts: the first reason that speaks against it, else yes
-abbrev pub IsContextVerdict : System → ContextPlan → CtlTree Cond → Verdict → Type 0
-IsContextVerdict sys plan goal (Yes bound) = IsContextYes sys plan goal bound
-IsContextVerdict sys plan goal (No reason) = IsFirstContextReason sys plan goal reason
+abbrev pub IsContextVerdict : System → ContextPlan → (Configuration → Type 0) → Verdict → Type 0
+IsContextVerdict sys plan Goal (Yes bound) = IsContextYes sys plan Goal bound
+IsContextVerdict sys plan Goal (No reason) = IsFirstContextReason sys plan Goal reason

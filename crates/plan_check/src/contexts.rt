@@ -7,7 +7,7 @@ ghost use Rattle.plan_rules.specs.Denoted.{denoted_contexts};
 ghost use Rattle.plan_rules.specs.Rules.{ContextRule, automaton};
 ghost use Rattle.exec_graph.specs.Graphs.{IsGraphOf};
 ghost use Rattle.exec_graph.specs.Values.{plain_graph};
-ghost use Rattle.plan_check.specs.ContextVerdicts.{IsContextVerdict};
+ghost use Rattle.plan_check.specs.ContextVerdicts.{IsContextVerdict, IsTrueAt};
 
 use crate::ends::has_marked_starts;
 use crate::goals::labels;
@@ -39,7 +39,7 @@ pub fn check_ctl(
         → IsGraphOf (system_of task.now) (automaton contexts rules)
         (plain_graph (fluent_count task.now) graph.now)
         → IfOk result (IsContextVerdict (system_of task.now) (denoted_contexts rules)
-        (ctl_value goal.now)) }
+        (IsTrueAt (system_of task.now) (denoted_contexts rules) (ctl_value goal.now))) }
 {
     if graph.unexecutable() {
         return Ok(Verdict::No(Reason::Unexecutable));

@@ -17,7 +17,7 @@ ghost use Rattle.plan_check.specs.Verdicts.{
   IsVerdict,
   SaysYes,
 };
-ghost use Rattle.plan_check.specs.ContextVerdicts.{IsContextVerdict, MeetsGoal};
+ghost use Rattle.plan_check.specs.ContextVerdicts.{IsContextVerdict, IsTrueAt, MeetsGoal};
 ghost use Rattle.plan_check.specs.declared.verdicts.Reason.{Reason};
 ghost use Rattle.plan_check.specs.declared.verdicts.Verdict.{Verdict};
 
@@ -45,12 +45,13 @@ pub fn reasons_exclude_freedom()
 /// configuration has the goal.
 pub fn yes_is_met()
     ensures { (sys : System) (plan : ContextPlan) (goal : CtlTree Cond) (verdict : Verdict)
-        → IsContextVerdict sys plan goal verdict → SaysYes verdict ↔ MeetsGoal sys plan goal }
+        → IsContextVerdict sys plan (IsTrueAt sys plan goal) verdict
+        → SaysYes verdict ↔ MeetsGoal sys plan (IsTrueAt sys plan goal) }
 {}
 
 /// No plan with contexts has two verdicts.
 pub fn one_context_verdict()
     ensures { (sys : System) (plan : ContextPlan) (goal : CtlTree Cond) (verdict other : Verdict)
-        → IsContextVerdict sys plan goal verdict → IsContextVerdict sys plan goal other
-        → verdict ≡ other }
+        → IsContextVerdict sys plan (IsTrueAt sys plan goal) verdict
+        → IsContextVerdict sys plan (IsTrueAt sys plan goal) other → verdict ≡ other }
 {}

@@ -2,6 +2,7 @@ use Rattle.std.proofs.Common.{sym, ◌∙◌, subst}
 use Rattle.task_core.specs.Tasks.{fluent_count, system_of}
 use Rattle.ctl_syntax.specs.Values.{ctl_value}
 use Rattle.plan_rules.specs.Denoted.{denoted_contexts}
+use Rattle.plan_check.specs.ContextVerdicts.{IsTrueAt}
 use Rattle.plan_check.specs.Plain.{HasMarkedStarts, HasUnmarkedStart}
 use Rattle.plan_check.proofs.ContextLaws.{all_have, executes_always, few_names, gets_stuck, has_followers, may_get_stuck, may_not_execute, meets_formula, never_stuck, not_executed, one_misses}
 use Rattle.plan_check.proofs.contexts.check_ctl.Goals as goal
@@ -9,14 +10,14 @@ use Rattle.plan_check.proofs.contexts.check_ctl.Goals as goal
 pub returns-then-unexecutable : goal.returns-then-unexecutable
 returns-then-unexecutable c = record {
   verdict = λ contexts rules h.
-      not_executed (system_of c.args.task.now) (denoted_contexts rules) (ctl_value c.args.goal.now)
+      not_executed (system_of c.args.task.now) (denoted_contexts rules) (IsTrueAt (system_of c.args.task.now) (denoted_contexts rules) (ctl_value c.args.goal.now))
       (may_not_execute (system_of c.args.task.now) contexts rules (fluent_count c.args.task.now) c.args.graph.now h (sym (c.unexecutable.ensures 0) ∙ c.if-unexecutable.true));
 }
 
 pub returns-then-stuck : goal.returns-then-stuck
 returns-then-stuck c = record {
   verdict = λ contexts rules h.
-      gets_stuck (system_of c.args.task.now) (denoted_contexts rules) (ctl_value c.args.goal.now)
+      gets_stuck (system_of c.args.task.now) (denoted_contexts rules) (IsTrueAt (system_of c.args.task.now) (denoted_contexts rules) (ctl_value c.args.goal.now))
       (executes_always (system_of c.args.task.now) contexts rules (fluent_count c.args.task.now) c.args.graph.now h (sym (c.unexecutable.ensures 0) ∙ c.if-unexecutable.false))
       (may_get_stuck (system_of c.args.task.now) contexts rules (fluent_count c.args.task.now) c.args.graph.now h (sym (c.stuck.ensures 0) ∙ c.if-stuck.true));
 }
@@ -41,7 +42,7 @@ returns-then-has_marked_starts c = record {
       let sys = system_of c.args.task.now in
       let n = fluent_count c.args.task.now in
       let goal = ctl_value c.args.goal.now in
-      meets_formula sys (denoted_contexts rules) goal
+      meets_formula sys (denoted_contexts rules) (IsTrueAt sys (denoted_contexts rules) goal)
       (executes_always sys contexts rules n c.args.graph.now h (sym (c.unexecutable.ensures 0) ∙ c.if-unexecutable.false))
       (never_stuck sys contexts rules n c.args.graph.now h (sym (c.stuck.ensures 0) ∙ c.if-stuck.false))
       (all_have sys contexts rules n c.args.graph.now h goal c.requires.names c.in_ok-marks.marks.items (c.in_ok-marks.ensures n c.requires.names)
