@@ -11,6 +11,9 @@ use indexmap::IndexSet;
 use std::alloc::{AllocError, Global};
 use std::marker::Model;
 
+/// How many nodes make a table that grows in smaller steps, to save memory.
+const MANY: usize = 2_000_000;
+
 /// A table of diagram nodes: at most `limit` nodes over `vars` variables.
 ///
 /// A contract sees it as the record of `vars`, `limit` and `nodes`, the list of its nodes in the
@@ -179,12 +182,27 @@ fn place(nodes: &mut IndexSet<Node>, limit: usize, node: Node) -> Result<Ref, Dd
     ensures absent { OnErr result (Lacks nodes.old.keys node) }
 {
     if nodes.len() < limit {
+        widen(nodes, limit);
         intern(nodes, node)
     } else {
         match find(nodes, node) {
             Some(f) => Ok(f),
             None => Err(DdErr::Full),
         }
+    }
+}
+
+/// Makes room for three times as many nodes more, and for `limit` in all at most, where there is no
+/// room for one: so few nodes are put into a larger table again. From `MANY` nodes on, and where
+/// there is no memory for that, the room stays as it is, and an insertion doubles it.
+fn widen(nodes: &mut IndexSet<Node>, limit: usize)
+    requires within { length nodes.old.keys ≤ limit }
+    requires small { limit ≤ 16777216 }
+    ensures { nodes.new.keys ≡ nodes.old.keys }
+{
+    let count = nodes.len();
+    if count == nodes.capacity() && count < MANY {
+        let _ = nodes.reserve((3 * count).min(limit - count));
     }
 }
 
