@@ -1,5 +1,5 @@
 -- The planner's answer: what is said of it.
-use Rattle.std.proofs.Common.{◌≡◌, ℕ, ◌^◌, true, false, List, All, Result, Ok, Err, IfOk, IsErrOf, sym, subst, ◌∙◌}
+use Rattle.std.proofs.Common.{◌≡◌, ℕ, ◌+◌, ◌*◌, arith, ◌^◌, true, false, List, All, Result, Ok, Err, IfOk, IsErrOf, sym, subst, ◌∙◌}
 use Rattle.std.specs.List.{list_all}
 use Rattle.std.proofs.lemmas.Bool.{false_from_ne_true, true≢false}
 use Rattle.dd_sets.specs.declared.errors.SetErr.{SetErr}
@@ -23,7 +23,9 @@ use Rattle.reach_plan.proofs.PrintedWithin.{printed_within}
 use Rattle.reach_plan.proofs.WeakDenoted.{denoted-table}
 use Rattle.reach_plan.proofs.WeakLists.{list_all-at, list_all-from}
 use Rattle.cyclic_plan.specs.Answers.{Ends, IsPlanOf}
-use Rattle.cyclic_plan.specs.Board.{At, IsTightAt, Left, Start}
+use Rattle.dd_sets.specs.Rooms.{IsTightFor}
+use Rattle.slot_board.specs.Board as board
+use Rattle.cyclic_plan.specs.Begun.{HasNothing, place_count, At, Left, Start}
 use Rattle.cyclic_plan.specs.Largest.{covers, goal_or_pair}
 use Rattle.cyclic_plan.specs.Pairs.{restricted}
 use Rattle.cyclic_plan.specs.Printed.{cyclic_rules}
@@ -79,9 +81,9 @@ pub ends_at : (start : Start) (now : Encoded) (slots : List SetId) (result : Res
 ends_at start now slots (Ok found) ends = ends.0
 ends_at start now slots (Err e) ends = ends.0
 
-pub ends_full : (start : Start) (now : Encoded) (slots : List SetId) (result : Result Found SetErr) → Ends start now slots result → IsErrOf result Full → IsTightAt start
+pub ends_full : (start : Start) (now : Encoded) (slots : List SetId) (result : Result Found SetErr) → Ends start now slots result → IsErrOf result Full → IsTightFor (3 * action_count start.task + 32) start.enc.sets
 ends_full start now slots (Ok found) ends full = absurd (let h : Ok found ≡ Err Full = full in cc)
-ends_full start now slots (Err e) ends full = ends.1 (let h : Err e ≡ Err Full = full in cc)
+ends_full start now slots (Err e) ends full = subst (λ more. IsTightFor more start.enc.sets) (omega arith) (ends.1 (let h : Err e ≡ Err Full = full in cc))
 
 pub ends_plan : (start : Start) (now : Encoded) (slots : List SetId) (P : TablePlan → Type 0) (result : Result Found SetErr) → ((plan : TablePlan) → IsPlanOf start.task plan → P plan) → Ends start now slots result → IfOk result (λ found. IfPlan found P)
 ends_plan start now slots P (Ok (Plan plan)) each ends = each plan ends.1
@@ -96,3 +98,8 @@ ends_no_plan start now slots (Err e) ends = tt
 -- where a search begins
 abbrev pub start_of : (task : Task) (enc : Encoded) → MadeOf task enc → Start
 start_of task enc made = record { task = task; enc = enc; made = made }
+
+-- the new board's places
+pub first_places : (task : Task) (enc now : Encoded) (made : MadeOf task enc) (places : ℕ) (slots : List SetId) → places ≡ place_count (action_count task)
+    → board.HasNothing (record { task = task; enc = enc; made = made; places = places; spare = action_count task + 17 }) now slots → HasNothing (start_of task enc made) now slots
+first_places task enc now made places slots e h = subst (λ n. board.HasNothing (record { task = task; enc = enc; made = made; places = n; spare = action_count task + 17 }) now slots) e h

@@ -28,8 +28,9 @@ use Rattle.task_core.proofs.TaskSystem.{is_system}
 use Rattle.reach_plan.proofs.Cubes.{all_vectors-agree, all_vectors-length}
 use Rattle.cyclic_plan.proofs.Restricted.{restricted_system}
 use Rattle.cyclic_plan.proofs.RoundSteps.{held, holds_fewer}
-use Rattle.cyclic_plan.proofs.StageSteps.{depends}
-use Rattle.cyclic_plan.specs.Board.{Start, set_at}
+use Rattle.slot_board.proofs.BoardSlots.{depends}
+use Rattle.slot_board.specs.Board.{set_at}
+use Rattle.cyclic_plan.specs.Begun.{board_of, Start}
 use Rattle.cyclic_plan.specs.Rounds.{connected, kept}
 use Rattle.cyclic_plan.specs.Stages.{HasNear, HasNext, HasRound, Takings, kept_system, next_by, taken_also, taken_by, taken_if, takers_within}
 
@@ -131,7 +132,7 @@ found_before p b n a below h =
     ap (λ k. find p (range_with_len 0 k)) e ∙ ap (find p) (split b m)
     ∙ find-append p (range_with_len 0 b) (range_with_len b m) ∙ ap (λ o. option_or o (find p (range_with_len b m))) h
 
-first_is : (p : ℕ → Bool) (n b : ℕ) → b < n → (p b && not (list_any p (range_with_len 0 b))) ≡ is_action b (find p (range_with_len 0 n))
+pub first_is : (p : ℕ → Bool) (n b : ℕ) → b < n → (p b && not (list_any p (range_with_len 0 b))) ≡ is_action b (find p (range_with_len 0 n))
 first_is p n b below = go (p b) (list_any p (range_with_len 0 b)) refl refl
   where
     not_it : ((is_action b (find p (range_with_len 0 n)) ≡ true) → ⊥) → false ≡ is_action b (find p (range_with_len 0 n))
@@ -246,7 +247,7 @@ spread_less start enc now old new left taking k n h differ is_n taken next after
     holds_fewer (λ v. not (set_at enc.sets old 3 (value_of v))) (λ v. not (set_at now.sets new 3 (value_of v))) (all_vectors n)
     (λ v c out. fewer v (state v c) out)
     (λ same. differ (same_functions (fluent_count start.task) (set_at enc.sets old 4) (set_at enc.sets old 3)
-    (depends start enc old h.by_near.round.at h.by_near.round.sound 4) (depends start enc old h.by_near.round.at h.by_near.round.sound 3)
+    (depends (board_of start) enc old h.by_near.round.at h.by_near.round.sound 4) (depends (board_of start) enc old h.by_near.round.at h.by_near.round.sound 3)
     (λ v is.
     h.holds_next v is ∙ sym (after.by_near.holds_near v is)
     ∙ not_same (set_at now.sets new 3 (value_of v)) (set_at enc.sets old 3 (value_of v))

@@ -2,7 +2,6 @@ pub mod Restricted
 pub mod RoundSteps
 pub mod Survives
 pub mod CyclicPrinted
-pub mod BoardSlots
 pub mod StageSteps
 pub mod Growth
 pub mod RoundsMade

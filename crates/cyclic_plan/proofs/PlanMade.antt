@@ -27,11 +27,13 @@ use Rattle.task_core.proofs.TaskSystem.{is_system, states_where_has, states_wher
 use Rattle.reach_plan.proofs.Cubes.{all_vectors-length}
 use Rattle.reach_plan.proofs.Weak.{same_vector-itself, same_vector-true}
 use Rattle.reach_plan.proofs.WeakLists.{list_all-agree, list_all-at, list_all-from, list_any-agree, list_any-from, list_any-witness}
-use Rattle.cyclic_plan.specs.Board.{At, HasNothing, Moved, Start, set_at}
+use Rattle.slot_board.proofs.BoardSlots.{depends, initial_is}
+use Rattle.slot_board.specs.Board.{set_at}
+use Rattle.cyclic_plan.specs.Begun.{board_of, At, HasNothing, Moved, Start}
 use Rattle.cyclic_plan.specs.Pairs.{is_goal}
 use Rattle.cyclic_plan.specs.Rounds.{round}
 use Rattle.cyclic_plan.specs.Stages.{Agrees, HasNear, HasRound, Takings, none_taken}
-use Rattle.cyclic_plan.proofs.StageSteps.{depends, here, near_still, still}
+use Rattle.cyclic_plan.proofs.StageSteps.{here, near_still, still}
 
 -- two truth values of which each says the other
 pub same_truth : (x y : Bool) → (x ≡ true → y ≡ true) → (y ≡ true → x ≡ true) → x ≡ y
@@ -84,15 +86,6 @@ begun start enc mid now old half new slot h is first second =
           (λ v at. ap (λ (f : Function). f (value_of v)) (h.holds_nothing (7 + action_count start.task + a) (omega arith))));
     }
 
--- the initial states
-pub initial_live : (start : Start) (enc : Encoded) (slots : List SetId) → At start enc slots → IsLive enc.sets enc.initial.0
-initial_live start enc slots at =
-    subst (λ (s : SetId). IsLive enc.sets s.0) (sym (ap (λ (e : Encoded). e.initial) at.same)) (at.working.kept.live start.enc.initial.0 start.made.initial.live)
-
-initial_is : (start : Start) (enc : Encoded) (slots : List SetId) → At start enc slots → set_of enc.sets enc.initial.0 ≡ initial_set start.task
-initial_is start enc slots at =
-    ap (λ (e : Encoded). set_of enc.sets e.initial.0) at.same ∙ at.working.kept.sets start.enc.initial.0 start.made.initial.live ∙ start.made.initial.holds
-
 module _ (start : Start) (f : Function) (left : SetOfVectors) (only : DependsOnly 0 (fluent_count start.task) f) (same : Agrees start f left) where
   none_outside : minus_of (initial_set start.task) f ≡ nothing → list_all left (initial_states start.task) ≡ true
   none_outside empty = list_all-from left (initial_states start.task) (λ s c.
@@ -143,8 +136,8 @@ module _ (start : Start) (enc mid now : Encoded) (old half new : List SetId) (le
   pub tested : (answer : Bool) → (IsTrue answer ↔ (set_at now.sets new 6 ≡ nothing)) → answer ≡ list_all left (system_of start.task).initial
   tested answer is =
       let e : set_at now.sets new 6 ≡ minus_of (initial_set start.task) (set_at mid.sets half 1) =
-      second.here ∙ ap (λ (g : Function). minus_of g (set_at mid.sets half 1)) (first.here ∙ initial_is start enc old h.round.at) in
-      covers_is start (set_at mid.sets half 1) left (depends start mid half first_near.round.at first_near.round.sound 1) first_near.round.holds_left answer
+      second.here ∙ ap (λ (g : Function). minus_of g (set_at mid.sets half 1)) (first.here ∙ initial_is (board_of start) enc old h.round.at) in
+      covers_is start (set_at mid.sets half 1) left (depends (board_of start) mid half first_near.round.at first_near.round.sound 1) first_near.round.holds_left answer
       (subst (λ (g : Function). IsTrue answer ↔ (g ≡ nothing)) e is)
 
 -- the cubes of sets that hold the same states

@@ -8,12 +8,14 @@ use Rattle.task_core.specs.Cubes.{SetOfVectors}
 use Rattle.task_core.specs.Tasks.{action_count, fluent_count, system_of}
 use Rattle.task_core.specs.Vectors.{Vector, all_vectors, value_of}
 use Rattle.reach_plan.proofs.Cubes.{all_vectors-agree, all_vectors-length}
-use Rattle.cyclic_plan.specs.Board.{Moved, Start, set_at}
+use Rattle.slot_board.proofs.BoardSlots.{depends}
+use Rattle.slot_board.specs.Board.{set_at}
+use Rattle.cyclic_plan.specs.Begun.{board_of, Moved, Start}
 use Rattle.cyclic_plan.specs.Rounds.{round}
 use Rattle.cyclic_plan.specs.Stages.{HasLastRound, HasNear, HasPairs, HasRound, HasRounds, Takings}
 use Rattle.cyclic_plan.proofs.Growth.{same_functions}
 use Rattle.cyclic_plan.proofs.RoundSteps.{held, holds_fewer, round_shrinks}
-use Rattle.cyclic_plan.proofs.StageSteps.{depends, here, still}
+use Rattle.cyclic_plan.proofs.StageSteps.{here, still}
 
 -- whatever stands at the near states' place
 pub some_near : (start : Start) (now : Encoded) (slots : List SetId) (left : SetOfVectors) (taken : Takings) → HasPairs start now slots left taken (action_count start.task) → HasNear start now slots left taken (λ v. set_at now.sets slots 3 (value_of v))
@@ -49,7 +51,7 @@ round_less start enc now old new r n h differ is_n taken near after =
     let is = state v c in
     h.round.holds_left v is ∙ round_shrinks (system_of start.task) r v (sym (after.round.holds_left v is) ∙ inside))
     (λ same. differ (same_functions (fluent_count start.task) (set_at enc.sets old 3) (set_at enc.sets old 1)
-    (depends start enc old h.round.at h.round.sound 3) (depends start enc old h.round.at h.round.sound 1)
+    (depends (board_of start) enc old h.round.at h.round.sound 3) (depends (board_of start) enc old h.round.at h.round.sound 1)
     (λ v is.
     h.holds_near v is ∙ sym (after.round.holds_left v is)
     ∙ all_vectors-agree (λ u. set_at now.sets new 1 (value_of u)) (λ u. set_at enc.sets old 1 (value_of u)) n same v (is ∙ sym is_n))))

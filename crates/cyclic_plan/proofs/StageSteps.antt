@@ -4,9 +4,7 @@ use Rattle.std.specs.List.{list_all, list_any}
 use Rattle.std.proofs.lemmas.Bool.{cases_eq, cond-false, cond-true, eq-eqb, false≢true, ne_eqb}
 use Rattle.dd_nodes.specs.Subfunctions.{DependsOnly, Function}
 use Rattle.dd_ops.specs.Operations.{and_of, minus_of, or_of}
-use Rattle.dd_sets.specs.LiveSets.{IsSets}
 use Rattle.dd_sets.specs.declared.slots.SetId.{SetId}
-use Rattle.dd_sets.proofs.SetLemmas.{set_depends}
 use Rattle.encode_task.specs.Slots.{Encoded}
 use Rattle.preimage.specs.Preimages.{strong_preimage, weak_preimage}
 use Rattle.preimage.proofs.OutcomeLemmas.{strong_leads, weak_leads}
@@ -17,8 +15,10 @@ use Rattle.task_core.specs.Vectors.{Vector, value_of}
 use Rattle.task_core.proofs.TaskSystem.{executable_exec, is_system}
 use Rattle.reach_plan.specs.Layers.{may_lead, must_lead}
 use Rattle.reach_plan.proofs.WeakLists.{Contains-head, list_all-agree, list_any-agree, list_any-from, list_all-at}
-use Rattle.cyclic_plan.specs.Board.{At, Moved, Start, led, set_at}
-use Rattle.cyclic_plan.specs.declared.board.Outcomes.TheVariants as Outcomes
+use Rattle.slot_board.proofs.BoardSlots.{depends}
+use Rattle.slot_board.specs.Board.{led, set_at}
+use Rattle.cyclic_plan.specs.Begun.{board_of, Moved, Start}
+use Rattle.slot_board.specs.declared.board.Outcomes.TheVariants as Outcomes
 use Rattle.cyclic_plan.specs.Pairs.{Pairs, is_goal, restricted}
 use Rattle.cyclic_plan.specs.Rounds.{kept}
 use Rattle.cyclic_plan.specs.Stages.{Agrees, HasHits, HasNear, HasNext, HasPairs, HasRound, Takings, kept_system, taken_also}
@@ -54,12 +54,6 @@ module _ (start : Start) (enc now : Encoded) (old new : List SetId) (place : ℕ
     by_near = near_still left taken near h.by_near a b c low;
     holds_next = still 4 next (omega arith) (λ e. d (sym e)) h.holds_next;
   }
-
--- each slot's set depends on the task's fluents alone
-pub depends : (start : Start) (enc : Encoded) (slots : List SetId) → At start enc slots → IsSets enc.sets → (place : ℕ) → DependsOnly 0 (fluent_count start.task) (set_at enc.sets slots place)
-depends start enc slots at sound place =
-    let vars : enc.sets.vars ≡ fluent_count start.task = at.working.kept.vars ∙ start.made.ready.vars ∙ start.made.fluents in
-    subst (λ n. DependsOnly 0 n (set_at enc.sets slots place)) vars (set_depends enc.sets sound _)
 
 -- where an action leads into a set of states
 pub weak_agrees : (start : Start) (a : ℕ) (f : Function) (set : SetOfVectors) → DependsOnly 0 (fluent_count start.task) f → Agrees start f set → Agrees start (weak_preimage start.task a f) (λ v. may_lead (system_of start.task) set v a)
@@ -135,7 +129,7 @@ pairs_more start enc mid now old half new a left taken l h first second =
           (λ (same : b ≡ a). subst (λ k. Agrees start (set_at now.sets new (7 + k)) (λ v. kept sys left v k)) (sym same)
           (here start mid now half new (7 + a) _ second (λ v. kept sys left v a)
           (λ v is.
-          ap (λ x. x && set_at mid.sets half 2 (value_of v)) (here start enc mid old half (7 + a) _ first (λ u. must_lead sys left u a) (strong_agrees start a (set_at enc.sets old 1) left (depends start enc old h.round.at h.round.sound 1) h.round.holds_left) v is)
+          ap (λ x. x && set_at mid.sets half 2 (value_of v)) (here start enc mid old half (7 + a) _ first (λ u. must_lead sys left u a) (strong_agrees start a (set_at enc.sets old 1) left (depends (board_of start) enc old h.round.at h.round.sound 1) h.round.holds_left) v is)
           ∙ ap (λ x. must_lead sys left v a && x) (outside v is)
           ∙ turned (must_lead sys left v a) (left v) (not (is_goal sys v)))))
           (λ (differs : b ≢ a).
@@ -155,7 +149,7 @@ hits_found start enc mid now old half new a left taken near next l h first secon
       by_next = next_still start mid now half new 5 _ second left taken near next n (λ e. absurd (omega arith)) (λ e. absurd (omega arith)) (λ e. absurd (omega arith)) (λ e. absurd (omega arith)) (omega arith);
       holds_hits = here start mid now half new 5 _ second (λ v. may_lead (kept_system start left) near v a)
           (λ v is.
-          ap (λ x. x && set_at mid.sets half (7 + a) (value_of v)) (here start enc mid old half 5 _ first (λ u. may_lead sys near u a) (weak_agrees start a (set_at enc.sets old 3) near (depends start enc old h.by_near.round.at h.by_near.round.sound 3) h.by_near.holds_near) v is)
+          ap (λ x. x && set_at mid.sets half (7 + a) (value_of v)) (here start enc mid old half 5 _ first (λ u. may_lead sys near u a) (weak_agrees start a (set_at enc.sets old 3) near (depends (board_of start) enc old h.by_near.round.at h.by_near.round.sound 3) h.by_near.holds_near) v is)
           ∙ ap (λ x. may_lead sys near v a && x) (n.by_near.holds_pairs a l v is)
           ∙ sym (may_restricted sys (kept sys left) near v a));
     }

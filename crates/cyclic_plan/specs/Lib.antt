@@ -2,6 +2,6 @@ pub mod Pairs
 pub mod Largest
 pub mod Rounds
 pub mod Printed
-pub mod Board
+pub mod Begun
 pub mod Stages
 pub mod Answers

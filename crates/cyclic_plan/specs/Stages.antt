@@ -17,7 +17,8 @@ use Rattle.task_core.specs.Vectors.{Vector, value_of}
 use Rattle.task_core.specs.declared.classes.Class.TheVariants.{Weak}
 use Rattle.reach_plan.specs.Layers.{layer, may_lead}
 use Rattle.reach_plan.specs.Printed.{takers}
-use Rattle.cyclic_plan.specs.Board.{At, Start, set_at}
+use Rattle.slot_board.specs.Board.{set_at}
+use Rattle.cyclic_plan.specs.Begun.{At, Start}
 use Rattle.cyclic_plan.specs.Pairs.{is_goal, restricted}
 use Rattle.cyclic_plan.specs.Rounds.{IsLastRound, kept, round}
 

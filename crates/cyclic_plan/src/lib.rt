@@ -4,12 +4,11 @@
 //! `plan_cyclic` searches for them by rounds over sets of states. Which plan it gives is said in
 //! `specs/`: `Pairs` and `Largest` (the largest set of state-action pairs that no pair leads out of
 //! and from which the goal is reached), `Rounds` (how it is found) and `Printed` (the rules, from
-//! the least-numbered action of each state that makes progress); `Board`, `Stages` and `Answers`
+//! the least-numbered action of each state that makes progress); `Begun`, `Stages` and `Answers`
 //! have the words of the contracts inside. The laws of strong cyclic planning that the planner
 //! rests on are the contracts of functions that do nothing.
 #![tactic(auto)]
 
-mod board;
 mod laws;
 mod plan;
 mod rounds;

@@ -17,21 +17,29 @@ ghost use Rattle.plan_rules.specs.Plans.{IsRuleOf};
 ghost use Rattle.plan_rules.specs.Rules.{rule_of, rules_of};
 ghost use Rattle.reach_plan.specs.Found.{IfNoPlan, IfPlan};
 ghost use Rattle.cyclic_plan.specs.Answers.{Ends, rule_for, rules_at};
-ghost use Rattle.cyclic_plan.specs.Board.{At, HasNothing, IsTightAt, Left, Start, Working};
+ghost use Rattle.slot_board.specs.Board.{Working};
+ghost use Rattle.cyclic_plan.specs.Begun.{place_count, At, HasNothing, IsTightAt, Left, Start};
 ghost use Rattle.cyclic_plan.specs.Largest.{IsLargestSet};
 ghost use Rattle.cyclic_plan.specs.Pairs.{Pairs};
 ghost use Rattle.cyclic_plan.specs.Printed.{cyclic_rules};
 ghost use Rattle.cyclic_plan.specs.Rounds.{round as round_of};
 ghost use Rattle.cyclic_plan.specs.Stages.{HasNear, HasRound, Takings, none_taken};
 
-use crate::board::{Board, Operation};
 use crate::rounds::{GOAL, LEFT, NEW, last_round, spread, takers_of};
 use dd_sets::{SetErr, SetId};
 use encode_task::Enc;
 use plan_rules::{Class, Rule, TablePlan};
 use reach_plan::Found;
+use slot_board::{Board, Operation};
 use std::alloc::{AllocError, Global};
 use task_core::{ActionId, Lit, Task};
+
+/// How many places the board has for a task with so many actions.
+fn places(actions: u32) -> usize
+    ensures { result ≡ place_count actions }
+{
+    7 + actions as usize + actions as usize
+}
 
 /// Puts the goal states and the set of all states at their places.
 fn begin(enc: &mut Enc, board: &mut Board, goal: SetId) -> Result<(), SetErr>
@@ -167,7 +175,7 @@ pub fn plan_cyclic(alloc: Global, task: &Task, enc: &mut Enc) -> Result<Found, S
 {
     let goal = enc.goal().unwrap();
     let actions = task.actions.len() as u32;
-    let mut board = Board::new(alloc, enc, actions)?;
+    let mut board = Board::new(alloc, enc, places(actions))?;
     let found = search(alloc, enc, &mut board, goal, actions);
     board.close(enc);
     found

@@ -5,16 +5,17 @@ ghost use Rattle.dd_sets.specs.LiveSets.{IsLive, set_of};
 ghost use Rattle.task_core.specs.Cubes.{SetOfVectors};
 ghost use Rattle.task_core.specs.Tasks.{system_of, action_count, fluent_count};
 ghost use Rattle.reach_plan.specs.Layers.{may_lead};
-ghost use Rattle.cyclic_plan.specs.Board.{At, IsWorking, Left, Start};
+ghost use Rattle.slot_board.specs.Board.{IsWorking};
+ghost use Rattle.cyclic_plan.specs.Begun.{At, Left, Start};
 ghost use Rattle.cyclic_plan.specs.Rounds.{IsLastRound, connected, kept, round as round_of};
 ghost use Rattle.cyclic_plan.specs.Stages.{HasHits, HasLastRound, HasNear, HasNext, HasPairs};
 ghost use Rattle.cyclic_plan.specs.Stages.{HasRound, HasStep, Takings, kept_system, next_by};
 ghost use Rattle.cyclic_plan.specs.Stages.{none_taken, taken_also, taken_by, taken_if};
 ghost use Rattle.cyclic_plan.specs.Stages.{takers_within};
 
-use crate::board::{Board, Operation, Outcomes};
 use dd_sets::SetErr;
 use encode_task::Enc;
+use slot_board::{Board, Operation, Outcomes};
 use task_core::ActionId;
 
 /// The goal states.

@@ -23,7 +23,7 @@ with_literal_below first m b cubes lt below =
     All-map (CubeIsBelow m) (λ cube. literal first b ∷ cube) cubes
     (All-weaker (CubeIsBelow m) (λ cube. CubeIsBelow m (literal first b ∷ cube)) (λ cube h. All-cons (IsBelow m) (literal first b) cube lt h) cubes below)
 
-cubes_below : (first n m : ℕ) (set : SetOfVectors) → first + n ≤ m → All (CubeIsBelow m) (cubes_from first n set)
+pub cubes_below : (first n m : ℕ) (set : SetOfVectors) → first + n ≤ m → All (CubeIsBelow m) (cubes_from first n set)
 cubes_below first zero m set le =
     cond_both (set []) _ _ (All (CubeIsBelow m))
     (λ e. All-cons (CubeIsBelow m) [] [] (All-nil (IsBelow m)) (All-nil (CubeIsBelow m)))
@@ -37,11 +37,11 @@ cubes_below first (suc n) m set le =
     (λ e. cond_both (ignores_first n set) _ _ (All (CubeIsBelow m)) (λ e. lows)
     (λ e. All-append (CubeIsBelow m) _ _ (with_literal_below first m false _ lt lows) (with_literal_below first m true _ lt highs))))
 
-range_below : (a n m : ℕ) → a + n ≤ m → All (λ k. k < m) (range_with_len a n)
+pub range_below : (a n m : ℕ) → a + n ≤ m → All (λ k. k < m) (range_with_len a n)
 range_below a zero m le = All-nil (λ k. k < m)
 range_below a (suc n) m le = All-cons (λ k. k < m) a (range_with_len (a + 1) n) (omega arith) (range_below (a + 1) n m (omega arith))
 
-All-flat_map : {X Y : Type 0} (Q : X → Type 0) (P : Y → Type 0) (f : X → List Y) (xs : List X) → All Q xs → ((x : X) → Q x → All P (f x)) → All P (flat_map f xs)
+pub All-flat_map : {X Y : Type 0} (Q : X → Type 0) (P : Y → Type 0) (f : X → List Y) (xs : List X) → All Q xs → ((x : X) → Q x → All P (f x)) → All P (flat_map f xs)
 All-flat_map Q P f [] all each = All-nil P
 All-flat_map Q P f (x ∷ xs) all each =
     All-append P (f x) (flat_map f xs) (each x (All-head Q x xs all)) (All-flat_map Q P f xs (All-tail Q x xs all) each)

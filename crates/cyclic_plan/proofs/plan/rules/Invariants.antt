@@ -4,7 +4,7 @@ use Rattle.task_core.specs.Cubes.{SetOfVectors}
 use Rattle.task_core.specs.Tasks.{fluent_count}
 use Rattle.plan_rules.specs.Rules.{rule_of}
 use Rattle.cyclic_plan.specs.Answers.{rules_at}
-use Rattle.cyclic_plan.specs.Board.{Start}
+use Rattle.cyclic_plan.specs.Begun.{Start}
 use Rattle.cyclic_plan.specs.Stages.{HasNear, Takings}
 use Rattle.cyclic_plan.proofs.plan.rules.Given as goal
 

@@ -1,7 +1,8 @@
 use Rattle.std.proofs.Common.{ℕ}
 use Rattle.task_core.specs.Tasks.{system_of}
 use Rattle.task_core.specs.Vectors.{all_vectors, value_of}
-use Rattle.cyclic_plan.specs.Board.{Start, set_at}
+use Rattle.slot_board.specs.Board.{set_at}
+use Rattle.cyclic_plan.specs.Begun.{Start}
 use Rattle.cyclic_plan.specs.Rounds.{round}
 use Rattle.cyclic_plan.specs.Stages.{HasRound, HasRounds, none_taken}
 use Rattle.cyclic_plan.proofs.RoundSteps.{held}

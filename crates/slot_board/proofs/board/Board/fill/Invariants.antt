@@ -1,7 +1,7 @@
 use Rattle.std.proofs.Common.{◌≡◌, ◌+◌, length}
 use Rattle.dd_sets.specs.LiveSets.{LiveSets}
-use Rattle.cyclic_plan.specs.Board.{AllNothing, Working}
-use Rattle.cyclic_plan.proofs.board.Board.fill.Given as goal
+use Rattle.slot_board.specs.Board.{AllNothing, Working}
+use Rattle.slot_board.proofs.board.Board.fill.Given as goal
 
 abbrev pub invariant-loop : goal.invariant-loop
 invariant-loop l = record {

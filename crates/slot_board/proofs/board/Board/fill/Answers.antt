@@ -1,6 +1,6 @@
 use Rattle.std.proofs.Common.{◌≡◌, ◌+◌, arith, length}
-use Rattle.cyclic_plan.proofs.BoardSlots.{on_ok, same_chain}
-use Rattle.cyclic_plan.proofs.board.Board.fill.Goals as goal
+use Rattle.slot_board.proofs.BoardSlots.{on_ok, same_chain}
+use Rattle.slot_board.proofs.board.Board.fill.Goals as goal
 
 pub add-requires : goal.add-requires
 add-requires c = (c.requires.0, c.loop.invariant.frame c.requires.0 c.requires.1)

@@ -1,5 +1,5 @@
 -- How the slots of a search change by each call.
-use Rattle.std.proofs.Common.{◌≡◌, ◌≢◌, ℕ, zero, suc, ◌+◌, ◌*◌, ◌<◌, false, List, [], ◌∷◌, ◌++◌, length, slice_set, IsErrOf, Result, Ok, Err, OnOk, refl, sym, ap, subst, ◌∙◌, ⊎_elim, inl, inr, ◌⊎◌, arith, length-append}
+use Rattle.std.proofs.Common.{◌≡◌, ◌≢◌, ℕ, zero, suc, ◌+◌, ◌<◌, ◌≤◌, false, List, [], ◌∷◌, ◌++◌, length, slice_set, IsErrOf, Result, Ok, Err, OnOk, refl, sym, ap, subst, ◌∙◌, ⊎_elim, inl, inr, ◌⊎◌, arith, length-append}
 use Rattle.std.proofs.lemmas.Bool.{both_ways, cases_eq, cases_lt}
 use Rattle.std.proofs.Math.Seq.{get_or-append_seam}
 use Rattle.std.proofs.lemmas.List.{get_or_append_left, get_or-set_same, get_or-set_other}
@@ -18,7 +18,10 @@ use Rattle.dd_sets.specs.declared.errors.SetErr.{SetErr}
 use Rattle.dd_sets.specs.declared.slots.SetId.{SetId}
 use Rattle.dd_sets.proofs.FrameLemmas.{kept_chain, kept_release, kept_same, not_before}
 use Rattle.dd_sets.proofs.OwnLemmas.{own_one}
-use Rattle.cyclic_plan.specs.Board.{AllNothing, At, IsTightAt, Left, Moved, Start, Working, set_at, slot_at}
+use Rattle.dd_nodes.specs.Subfunctions.{DependsOnly}
+use Rattle.dd_sets.proofs.SetLemmas.{set_depends}
+use Rattle.encode_task.specs.TaskSets.{initial_set}
+use Rattle.slot_board.specs.Board.{AllNothing, At, IsTightAt, Left, Moved, Start, Working, set_at, slot_at}
 
 length_set : (slots : List SetId) (at : ℕ) (new : SetId) → length (slice_set slots at new) ≡ length slots
 length_set [] at new = refl
@@ -111,11 +114,11 @@ module _ (before mid now after : LiveSets) (slots : List SetId) (place : ℕ) (n
       ∙ answer.kept.sets (slot_at slots other) (work.live other l)
 
 -- a limit that is tight with the slots of the board is tight for the search
-pub tight_at : (start : Start) (enc : Encoded) (slots : List SetId) → At start enc slots → IsTightFor 8 enc.sets → IsTightAt start
-tight_at start enc slots here tight =
+pub tight_at : (start : Start) (enc : Encoded) (slots : List SetId) → At start enc slots → (few : ℕ) → few ≤ start.spare + 8 → IsTightFor few enc.sets → IsTightAt start
+tight_at start enc slots here few within tight =
     let count : live_count enc.sets ≡ live_count start.enc.sets + length slots = here.working.count in
-    let long : length slots ≡ 7 + action_count start.task + action_count start.task = here.long in
-    tight_before start.enc.sets enc.sets here.working.kept.vars here.working.kept.limit 8 (3 * action_count start.task + 32) (omega arith) tight
+    let long : length slots ≡ start.places = here.long in
+    tight_before start.enc.sets enc.sets here.working.kept.vars here.working.kept.limit few (start.places + start.spare + 8) (omega arith) tight
 
 pub same_chain : (a b c : Encoded) → b ≡ record a { sets = b.sets } → c ≡ record b { sets = c.sets } → c ≡ record a { sets = c.sets }
 same_chain a b c first second = second ∙ ap (λ (e : Encoded). record e { sets = c.sets }) first
@@ -126,21 +129,21 @@ made_at start enc slots here = made_now start.task start.enc enc here.same here.
 
 -- an answer was put at a place
 pub placed : (start : Start) (enc mid now : Encoded) (old new : List SetId) (place : ℕ) (set : Function) (answer : Result SetId SetErr) (result : Result Unit SetErr)
-    → At start enc old → mid ≡ record enc { sets = mid.sets } → now ≡ record mid { sets = now.sets } → OwnsAnswer enc.sets mid.sets set answer → (IsErrOf answer Full → IsTightFor 8 enc.sets)
+    → At start enc old → mid ≡ record enc { sets = mid.sets } → now ≡ record mid { sets = now.sets } → OwnsAnswer enc.sets mid.sets set answer → (few : ℕ) → few ≤ start.spare + 8 → (IsErrOf answer Full → IsTightFor few enc.sets)
     → ((before other : LiveSets) (g : Function) → Working before other old → OwnsAnswer other mid.sets g answer → Working before now.sets new)
     → ((before other : LiveSets) (g : Function) → Working before other old → OwnsAnswer other mid.sets g answer → OnOk result (set_at now.sets new place ≡ g))
     → ((before other : LiveSets) (g : Function) → Working before other old → OwnsAnswer other mid.sets g answer → OnOk result ((k : ℕ) → k < length old → k ≢ place → set_at now.sets new k ≡ set_at other old k))
     → length new ≡ length old → (IsErrOf result Full → IsErrOf answer Full) → OnOk result (IsSets now.sets)
     → Left start now new (Moved start enc.sets old now new place set) result
-placed start enc mid now old new place set answer (Ok x) here first second owns tight frame at others long full sound = record {
+placed start enc mid now old new place set answer (Ok x) here first second owns few within tight frame at others long full sound = record {
   at = record { same = same_chain start.enc enc now here.same (same_chain enc mid now first second); working = frame start.enc.sets enc.sets set here.working owns; long = long ∙ here.long };
   sound = sound;
   here = at start.enc.sets enc.sets set here.working owns;
   others = λ k l differs. others start.enc.sets enc.sets set here.working owns k (omega arith) differs;
 }
-placed start enc mid now old new place set answer (Err e) here first second owns tight frame at others long full sound = (
+placed start enc mid now old new place set answer (Err e) here first second owns few within tight frame at others long full sound = (
   record { same = same_chain start.enc enc now here.same (same_chain enc mid now first second); working = frame start.enc.sets enc.sets set here.working owns; long = long ∙ here.long },
-  λ is. tight_at start enc old here (tight (full (ap Err is))),
+  λ is. tight_at start enc old here few within (tight (full (ap Err is))),
 )
 
 -- what is left of an answer, and of what is made of it
@@ -166,6 +169,21 @@ same_actions start enc now old new first second =
 
 pub same_fluents : (start : Start) (enc : Encoded) (slots : List SetId) → At start enc slots → enc.fluents ≡ fluent_count start.task
 same_fluents start enc slots here = (made_at start enc slots here).fluents
+
+-- each slot's set depends on the task's fluents alone
+pub depends : (start : Start) (enc : Encoded) (slots : List SetId) → At start enc slots → IsSets enc.sets → (place : ℕ) → DependsOnly 0 (fluent_count start.task) (set_at enc.sets slots place)
+depends start enc slots at sound place =
+    let vars : enc.sets.vars ≡ fluent_count start.task = at.working.kept.vars ∙ start.made.ready.vars ∙ start.made.fluents in
+    subst (λ n. DependsOnly 0 n (set_at enc.sets slots place)) vars (set_depends enc.sets sound _)
+
+-- the initial states
+pub initial_live : (start : Start) (enc : Encoded) (slots : List SetId) → At start enc slots → IsLive enc.sets enc.initial.0
+initial_live start enc slots at =
+    subst (λ (s : SetId). IsLive enc.sets s.0) (sym (ap (λ (e : Encoded). e.initial) at.same)) (at.working.kept.live start.enc.initial.0 start.made.initial.live)
+
+pub initial_is : (start : Start) (enc : Encoded) (slots : List SetId) → At start enc slots → set_of enc.sets enc.initial.0 ≡ initial_set start.task
+initial_is start enc slots at =
+    ap (λ (e : Encoded). set_of enc.sets e.initial.0) at.same ∙ at.working.kept.sets start.enc.initial.0 start.made.initial.live ∙ start.made.initial.holds
 
 -- one slot more at the end, and one less
 at_end : (slots : List SetId) (new : SetId) → slot_at (slots ++ new ∷ []) (length slots) ≡ new.0

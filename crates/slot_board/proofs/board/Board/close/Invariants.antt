@@ -1,7 +1,7 @@
 use Rattle.std.proofs.Common.{◌≡◌, length}
 use Rattle.dd_sets.specs.LiveSets.{LiveSets}
-use Rattle.cyclic_plan.specs.Board.{Working}
-use Rattle.cyclic_plan.proofs.board.Board.close.Given as goal
+use Rattle.slot_board.specs.Board.{Working}
+use Rattle.slot_board.proofs.board.Board.close.Given as goal
 
 abbrev pub invariant-loop-slot : goal.invariant-loop-slot
 invariant-loop-slot l = record {

@@ -1,8 +1,9 @@
-use Rattle.cyclic_plan.proofs.BoardSlots.{placed}
-use Rattle.cyclic_plan.proofs.board.Board.copy.Goals as goal
+use Rattle.std.proofs.Common.{arith}
+use Rattle.slot_board.proofs.BoardSlots.{placed}
+use Rattle.slot_board.proofs.board.Board.copy.Goals as goal
 
 pub returns : goal.returns
 returns c start here =
     placed start c.args.enc.now c.copied-answer.new.enc c.put.new.enc c.args.self.now.slots.items c.put.new.self.slots.items c.args.place _ c.copied-answer.result c.put.result here c.copied-answer.ensures.same_slots c.put.ensures.same_slots
-    c.copied-answer.ensures.answer c.copied-answer.ensures.full
+    c.copied-answer.ensures.answer 8 (omega arith) c.copied-answer.ensures.full
     c.put.ensures.frame c.put.ensures.here c.put.ensures.others c.put.ensures.long c.put.ensures.full c.put.ensures.sound

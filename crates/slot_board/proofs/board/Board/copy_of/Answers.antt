@@ -1,7 +1,7 @@
 use Rattle.std.proofs.Common.{ℕ, subst}
 use Rattle.dd_sets.specs.LiveSets.{IsLive, set_of}
-use Rattle.cyclic_plan.specs.Board.{Left, Moved}
-use Rattle.cyclic_plan.proofs.board.Board.copy_of.Goals as goal
+use Rattle.slot_board.specs.Board.{Left, Moved}
+use Rattle.slot_board.proofs.board.Board.copy_of.Goals as goal
 use Rattle.std.proofs.Common.{sym}
 
 pub copy-requires-clause-live : goal.copy-requires-clause-live

@@ -1,8 +1,7 @@
-//! The slots of a search, each at a place. Each step puts a new set at one place; the slots are
-//! ended all at once, when the search is done.
+//! The slots of a search, each at a place.
 
-ghost use Rattle.std.specs.Prelude.{◌≡◌, ◌≢◌, ℕ, ◌+◌, ◌<◌, ◌↔◌, [], IsTrue, length, map, IfErr};
-ghost use Rattle.std.specs.Prelude.{IfOk, OnErr, OnOk, IsErrOf};
+ghost use Rattle.std.specs.Prelude.{◌≡◌, ◌≢◌, ℕ, ◌+◌, ◌<◌, ◌≤◌, ◌↔◌, [], IsTrue, length};
+ghost use Rattle.std.specs.Prelude.{map, IfErr, IfOk, OnErr, OnOk, IsErrOf, true};
 ghost use Rattle.dd_nodes.specs.Subfunctions.{Function};
 ghost use Rattle.dd_sets.specs.Calls.{Releases};
 ghost use Rattle.dd_sets.specs.Frames.{Owns, OwnsAnswer};
@@ -10,47 +9,65 @@ ghost use Rattle.dd_sets.specs.LiveSets.{LiveSets, IsLive, IsSets, everything, n
 ghost use Rattle.dd_sets.specs.Rooms.{IsTightFor};
 ghost use Rattle.encode_task.specs.Made.{MadeOf};
 ghost use Rattle.preimage.specs.Preimages.{OfSomeTask};
+ghost use Rattle.task_core.specs.Conditions.{holds, ids_below, is_shallow};
 ghost use Rattle.task_core.specs.Cubes.{cubes_of};
 ghost use Rattle.task_core.specs.Vectors.{value_of};
 ghost use Rattle.task_core.specs.declared.tasks.Task.{Task};
-ghost use Rattle.cyclic_plan.specs.Board.{AllNothing, At, HasNothing, IsWorking, Left, Moved};
-ghost use Rattle.cyclic_plan.specs.Board.{Start, Working, combined, led, set_at, slot_at};
+ghost use Rattle.slot_board.specs.Board.{AllNothing, At, HasNothing, IsWorking, Left, Moved};
+ghost use Rattle.slot_board.specs.Board.{Start, Working, combined, led, set_at, slot_at};
 
 use dd_sets::{SetErr, SetId, Sets, full_is_tight};
 use encode_task::Enc;
 use preimage::{strong_pre, weak_pre};
 use std::alloc::{AllocError, Global};
-use task_core::{ActionId, Lit};
+use task_core::{ActionId, Cond, Lit};
 
 /// How two sets are put together.
 #[derive(Clone, Copy, Debug)]
-pub(crate) enum Operation {
+pub enum Operation {
+    /// What is in both.
     Meet,
+    /// What is in one of them, or in both.
     Join,
+    /// What is in the first and not in the second.
     Minus,
 }
 
 /// Which outcomes of an action have to lead into a set.
 #[derive(Clone, Copy, Debug)]
-pub(crate) enum Outcomes {
+pub enum Outcomes {
+    /// At least one.
     Some,
+    /// All, of which there has to be one.
     Every,
 }
 
-/// The slots of a search, each at a place.
+/// The slots of a search, each at a place. Each call puts a new set at one place, or reads the set
+/// at one; the slots are ended all at once, by `close`, when the search is done.
+///
+/// The contracts speak of the start of a search: the task and its sets as they were before the
+/// board was made, the number of places, and how many slots the search allows itself besides. A
+/// call leaves the board and the sets at such a start wherever they were at it, also where it
+/// refuses; and it refuses for want of room only where the table's limit is tight for that start.
 #[derive(Drop)]
-pub(crate) struct Board {
-    pub(crate) slots: Vec<SetId>,
+pub struct Board {
+    /// The slots, in the order of the places.
+    pub slots: Vec<SetId>,
 }
 
 impl Board {
-    /// A slot for each place of a task with so many actions. Each holds the empty set.
-    pub(crate) fn new(alloc: Global, enc: &mut Enc, actions: u32) -> Result<Board, SetErr>
-        requires made { OfSomeTask enc.old }
-        requires actions { actions ≡ length enc.old.actions }
-        ensures opened { (task : Task) (made : MadeOf task enc.old)
-            → IfOk result (λ board. HasNothing
-            (record { task = task; enc = enc.old; made = made }) enc.new board.slots.items) }
+    /// A slot for each of so many places, each with the empty set.
+    ///
+    /// It refuses for want of memory alone, and then has ended all slots that it began.
+    pub fn new(alloc: Global, enc: &mut Enc, places: usize) -> Result<Board, SetErr>
+        ensures opened { (task : Task) (made : MadeOf task enc.old) (spare : ℕ)
+            → IfOk result (λ board. HasNothing (record {
+              task = task;
+              enc = enc.old;
+              made = made;
+              places = places;
+              spare = spare;
+            }) enc.new board.slots.items) }
         ensures refused { OnErr result (Owns enc.old.sets enc.new.sets []) }
         ensures same_slots { enc.new ≡ record enc.old { sets = enc.new.sets } }
         ensures never_full { IfErr result (λ e. e ≡ SetErr.Memory) }
@@ -58,7 +75,7 @@ impl Board {
         let mut board = Board {
             slots: Vec::new(alloc),
         };
-        match board.fill(enc, 7 + actions as usize + actions as usize) {
+        match board.fill(enc, places) {
             Ok(()) => Ok(board),
             Err(refusal) => {
                 board.close(enc);
@@ -110,7 +127,7 @@ impl Board {
     }
 
     /// Ends all slots.
-    pub(crate) fn close(&mut self, enc: &mut Enc)
+    pub fn close(&mut self, enc: &mut Enc)
         requires { (before : LiveSets) × Working before enc.old.sets self.old.slots.items }
         ensures frame { (before : LiveSets) → Working before enc.old.sets self.old.slots.items
             → Owns before enc.new.sets [] }
@@ -122,7 +139,7 @@ impl Board {
     }
 
     /// The slot at a place.
-    pub(crate) fn at(&self, place: usize) -> SetId
+    pub fn at(&self, place: usize) -> SetId
         requires { place < length self.now.slots.items }
         ensures { result.0 ≡ slot_at self.now.slots.items place }
     {
@@ -162,7 +179,7 @@ impl Board {
     }
 
     /// Puts a copy of a set at a place.
-    pub(crate) fn copy(&mut self, enc: &mut Enc, place: usize, set: SetId) -> Result<(), SetErr>
+    pub fn copy(&mut self, enc: &mut Enc, place: usize, set: SetId) -> Result<(), SetErr>
         requires working { IsWorking enc.old self.old.slots.items }
         requires place { place < length self.old.slots.items }
         requires live { IsLive enc.old.sets set.0 }
@@ -176,7 +193,7 @@ impl Board {
     }
 
     /// Puts at a place a copy of the set at another one.
-    pub(crate) fn copy_of(&mut self, enc: &mut Enc, place: usize, from: usize) -> Result<(), SetErr>
+    pub fn copy_of(&mut self, enc: &mut Enc, place: usize, from: usize) -> Result<(), SetErr>
         requires working { IsWorking enc.old self.old.slots.items }
         requires place { place < length self.old.slots.items }
         requires from { from < length self.old.slots.items }
@@ -190,7 +207,7 @@ impl Board {
     }
 
     /// Whether the sets at two places are the same.
-    pub(crate) fn is_same(&self, enc: &Enc, a: usize, b: usize) -> bool
+    pub fn is_same(&self, enc: &Enc, a: usize, b: usize) -> bool
         requires working { IsWorking enc.now self.now.slots.items }
         requires a { a < length self.now.slots.items }
         requires b { b < length self.now.slots.items }
@@ -203,7 +220,7 @@ impl Board {
     }
 
     /// Whether a place holds the empty set.
-    pub(crate) fn is_empty(&self, enc: &Enc, place: usize) -> bool
+    pub fn is_empty(&self, enc: &Enc, place: usize) -> bool
         requires working { IsWorking enc.now self.now.slots.items }
         requires place { place < length self.now.slots.items }
         ensures { IsTrue result ↔ (set_at enc.now.sets self.now.slots.items place ≡ nothing) }
@@ -213,7 +230,7 @@ impl Board {
     }
 
     /// The cubes of the set at a place.
-    pub(crate) fn cubes(&self, enc: &Enc, place: usize) -> Result<Vec<Vec<Lit>>, AllocError>
+    pub fn cubes(&self, enc: &Enc, place: usize) -> Result<Vec<Vec<Lit>>, AllocError>
         requires working { IsWorking enc.now self.now.slots.items }
         requires place { place < length self.now.slots.items }
         ensures { IfOk result (λ cubes. map (λ cube. cube.items) cubes.items
@@ -225,7 +242,7 @@ impl Board {
     }
 
     /// Puts the set of all lists of truth values at a place.
-    pub(crate) fn whole(&mut self, enc: &mut Enc, place: usize) -> Result<(), SetErr>
+    pub fn whole(&mut self, enc: &mut Enc, place: usize) -> Result<(), SetErr>
         requires working { IsWorking enc.old self.old.slots.items }
         requires place { place < length self.old.slots.items }
         ensures { (start : Start) → At start enc.old self.old.slots.items
@@ -238,7 +255,7 @@ impl Board {
     }
 
     /// Puts at a place what an operation makes of the sets at two places.
-    pub(crate) fn combine(
+    pub fn combine(
         &mut self,
         enc: &mut Enc,
         place: usize,
@@ -260,8 +277,24 @@ impl Board {
         self.put(enc, place, answer)
     }
 
+    /// Puts at a place the lists of truth values where a condition holds, which names the task's
+    /// fluents alone and is at most 200 deep. It may need 196 slots more than the other calls.
+    pub fn condition(&mut self, enc: &mut Enc, place: usize, cond: &Cond) -> Result<(), SetErr>
+        requires working { IsWorking enc.old self.old.slots.items }
+        requires place { place < length self.old.slots.items }
+        requires fluents { ids_below enc.old.sets.vars cond.now ≡ true }
+        requires shallow { is_shallow cond.now ≡ true }
+        ensures { (start : Start) → At start enc.old self.old.slots.items → 196 ≤ start.spare
+            → Left start enc.new self.new.slots.items
+            (Moved start enc.old.sets self.old.slots.items enc.new self.new.slots.items place
+            (holds cond.now)) result }
+    {
+        let answer = where_holds(enc, cond);
+        self.put(enc, place, answer)
+    }
+
     /// Puts at a place where an action leads into the set at another one.
-    pub(crate) fn lead(
+    pub fn lead(
         &mut self,
         enc: &mut Enc,
         place: usize,
@@ -285,7 +318,7 @@ impl Board {
 }
 
 /// Ends a slot.
-pub(crate) fn end(enc: &mut Enc, slot: SetId)
+fn end(enc: &mut Enc, slot: SetId)
     requires { IsLive enc.old.sets slot.0 }
     ensures released { Releases enc.old.sets enc.new.sets slot.0 }
     ensures same_slots { enc.new ≡ record enc.old { sets = enc.new.sets } }
@@ -302,6 +335,17 @@ fn copied(enc: &mut Enc, set: SetId) -> Result<SetId, SetErr>
     ensures full { IsErrOf result SetErr.Full → IsTightFor 8 enc.old.sets }
 {
     enc.sets_mut().copy(set)
+}
+
+/// The lists of truth values where a condition holds, in a new slot.
+fn where_holds(enc: &mut Enc, cond: &Cond) -> Result<SetId, SetErr>
+    requires fluents { ids_below enc.old.sets.vars cond.now ≡ true }
+    requires shallow { is_shallow cond.now ≡ true }
+    ensures answer { OwnsAnswer enc.old.sets enc.new.sets (holds cond.now) result }
+    ensures same_slots { enc.new ≡ record enc.old { sets = enc.new.sets } }
+    ensures full { IsErrOf result SetErr.Full → IsTightFor 204 enc.old.sets }
+{
+    enc.set_of(cond)
 }
 
 /// The empty set, in a new slot.

@@ -1,11 +1,11 @@
-use Rattle.std.proofs.Common.{subst, ap, ◌≡◌}
+use Rattle.std.proofs.Common.{arith, subst, ap, ◌≡◌}
 use Rattle.dd_nodes.specs.Subfunctions.{Function}
 use Rattle.dd_sets.specs.Frames.{OwnsAnswer}
 use Rattle.dd_sets.specs.LiveSets.{set_of}
 use Rattle.encode_task.proofs.OwnedLemmas.{answer_kept}
-use Rattle.cyclic_plan.specs.Board.{led, set_at}
-use Rattle.cyclic_plan.proofs.BoardSlots.{made_at, placed}
-use Rattle.cyclic_plan.proofs.board.Board.lead.Goals as goal
+use Rattle.slot_board.specs.Board.{led, set_at}
+use Rattle.slot_board.proofs.BoardSlots.{made_at, placed}
+use Rattle.slot_board.proofs.board.Board.lead.Goals as goal
 
 pub leading-answer-requires-clause-made : goal.leading-answer-requires-clause-made
 leading-answer-requires-clause-made c = (c.requires.working.0.task, made_at c.requires.working.0 c.args.enc.now c.args.self.now.slots.items c.requires.working.1)
@@ -25,5 +25,5 @@ returns c start here =
     let e : led c.args.outcomes start.task c.args.action.0 (set_of sets c.at.result.0) ≡ led c.args.outcomes start.task c.args.action.0 (set_at sets slots c.args.into) =
     ap (λ s. led c.args.outcomes start.task c.args.action.0 (set_of sets s)) c.at.ensures in
     placed start c.args.enc.now c.leading-answer.new.enc c.put.new.enc c.args.self.now.slots.items c.put.new.self.slots.items c.args.place _ c.leading-answer.result c.put.result here c.leading-answer.ensures.same_slots c.put.ensures.same_slots
-    (subst (λ (f : Function). OwnsAnswer sets c.leading-answer.new.enc.sets f c.leading-answer.result) e (c.leading-answer.ensures.answer start.task made)) c.leading-answer.ensures.full
+    (subst (λ (f : Function). OwnsAnswer sets c.leading-answer.new.enc.sets f c.leading-answer.result) e (c.leading-answer.ensures.answer start.task made)) 8 (omega arith) c.leading-answer.ensures.full
     c.put.ensures.frame c.put.ensures.here c.put.ensures.others c.put.ensures.long c.put.ensures.full c.put.ensures.sound

@@ -1,5 +1,5 @@
--- Private: the slots of a search, each at a place of one list, and what every exit leaves of them.
-use Rattle.std.specs.Prelude.{◌≡◌, ◌≢◌, ℕ, ◌+◌, ◌*◌, ◌<◌, false, List, length, slice_index_or}
+-- The slots of a search, each at a place of one list, and what every call leaves of them.
+use Rattle.std.specs.Prelude.{◌≡◌, ◌≢◌, ℕ, ◌+◌, ◌<◌, false, List, length, slice_index_or}
 use Rattle.std.specs.Prelude.{Result, Ok, Err}
 use Rattle.dd_nodes.specs.Subfunctions.{Function}
 use Rattle.dd_ops.specs.Operations.{and_of, minus_of, or_of}
@@ -12,11 +12,10 @@ use Rattle.dd_sets.specs.declared.slots.SetId.{SetId}
 use Rattle.encode_task.specs.Made.{MadeOf}
 use Rattle.encode_task.specs.Slots.{Encoded}
 use Rattle.preimage.specs.Preimages.{strong_preimage, weak_preimage}
-use Rattle.task_core.specs.Tasks.{action_count}
 use Rattle.task_core.specs.declared.tasks.Task.{Task}
-use Rattle.cyclic_plan.specs.declared.board.Operation.{Operation}
-use Rattle.cyclic_plan.specs.declared.board.Operation.TheVariants.{Join, Meet, Minus}
-use Rattle.cyclic_plan.specs.declared.board.Outcomes.{Outcomes}
+use Rattle.slot_board.specs.declared.board.Operation.{Operation}
+use Rattle.slot_board.specs.declared.board.Operation.TheVariants.{Join, Meet, Minus}
+use Rattle.slot_board.specs.declared.board.Outcomes.{Outcomes}
 
 -- the slot at a place, and its set
 abbrev pub slot_at : List SetId → ℕ → ℕ
@@ -37,24 +36,24 @@ pub record Working (before now : LiveSets) (slots : List SetId) : Type 0 where
       → is_live now slot ≡ is_live before slot
   pub count : live_count now ≡ live_count before + length slots
 
--- where work on a task began
+-- where a search began: a task and its sets, how many places it has, and how many slots it may need
+-- besides these and the eight of an operation
 pub record Start : Type 0 where
   pub task : Task
   pub enc : Encoded
   pub made : MadeOf task enc
+  pub places : ℕ
+  pub spare : ℕ
 
--- how many places there are, and how many slots a search may need
-abbrev pub place_count : ℕ → ℕ
-place_count actions = 7 + actions + actions
-
+-- the limit is tight for all slots that the search may need
 abbrev pub IsTightAt : Start → Type 0
-IsTightAt start = IsTightFor (3 * action_count start.task + 32) start.enc.sets
+IsTightAt start = IsTightFor (start.places + start.spare + 8) start.enc.sets
 
 -- the task's slots are as at the start, and there is a slot at each place
 pub record At (start : Start) (now : Encoded) (slots : List SetId) : Type 0 where
   pub same : now ≡ record start.enc { sets = now.sets }
   pub working : Working start.enc.sets now.sets slots
-  pub long : length slots ≡ place_count (action_count start.task)
+  pub long : length slots ≡ start.places
 
 -- there was such a start
 abbrev pub IsWorking : Encoded → List SetId → Type 0

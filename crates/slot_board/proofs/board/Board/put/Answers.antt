@@ -1,8 +1,8 @@
 use Rattle.std.proofs.Common.{subst}
 use Rattle.dd_sets.specs.Frames.{OwnsAnswer}
 use Rattle.dd_sets.specs.Calls.{Releases}
-use Rattle.cyclic_plan.proofs.BoardSlots.{set_here, set_other, working_put}
-use Rattle.cyclic_plan.proofs.board.Board.put.Goals as goal
+use Rattle.slot_board.proofs.BoardSlots.{set_here, set_other, working_put}
+use Rattle.slot_board.proofs.board.Board.put.Goals as goal
 
 pub returns-clause-frame : goal.returns-clause-frame
 returns-clause-frame c before mid set work answer =

@@ -1,0 +1,11 @@
+//! A board: slots for the sets of a search, each at a place, so that a search speaks of places and
+//! all slots are ended at once.
+//!
+//! `specs/Board.antt` has the words of the contracts: the slot and the set at a place, where a
+//! search began (`Start`), that it is still at that start (`At`), and that one place has a new set
+//! and the others have theirs (`Moved`).
+#![tactic(auto)]
+
+mod board;
+
+pub use board::{Board, Operation, Outcomes};
