@@ -1,0 +1,9 @@
+pub mod SceneSteps
+pub mod RoundSteps
+pub mod StageLemmas
+pub mod TakerSteps
+pub mod WinSteps
+pub mod TakenSteps
+pub mod StageOrder
+pub mod RuleSteps
+pub mod PlanSteps

@@ -1,0 +1,192 @@
+-- The rounds on sets of states: from one to the next, and the last one.
+use Rattle.std.proofs.Common.{◌≡◌, ℕ, suc, ◌+◌, ◌<◌, Bool, true, false, not, ◌&&◌, ◌||◌, [], ◌∷◌, refl, sym, ap, subst, ◌∙◌, arith}
+use Rattle.std.specs.List.{Contains, list_any, range_with_len}
+use Rattle.std.proofs.lemmas.Bool.{and_parts, false≢true, or_left, true≢false}
+use Rattle.std.proofs.lemmas.List.Folds.{list_any-append}
+use Rattle.dd_ops.specs.Operations.{and_of, minus_of, or_of}
+use Rattle.slot_board.specs.Board.{led, set_at}
+use Rattle.slot_board.specs.declared.board.Outcomes.TheVariants as Outcomes
+use Rattle.cyclic_plan.proofs.Growth.{same_functions}
+use Rattle.cyclic_plan.proofs.RoundSteps.{held, holds_fewer}
+use Rattle.chain_goals.specs.Safe.{some_must_lead}
+use Rattle.chain_goals.proofs.SafeSets.{last_round}
+use Rattle.chain_goals.proofs.StageSets.{last_near}
+use Rattle.reach_plan.specs.Layers.{must_lead}
+use Rattle.reach_plan.proofs.Cubes.{all_vectors-agree, all_vectors-length}
+use Rattle.reach_plan.proofs.Ranges.{range-more}
+use Rattle.task_core.specs.Cubes.{SetOfVectors}
+use Rattle.task_core.specs.Systems.{IsState, System}
+use Rattle.task_core.specs.Tasks.{action_count, fluent_count}
+use Rattle.task_core.specs.Vectors.{Vector, all_vectors, value_of}
+use Rattle.task_core.proofs.TaskSystem.{is_system}
+use Rattle.chain_plan.specs.Scenes.{IsReady, Moved, SameStates, Scene, Start, states_at, sys_of}
+use Rattle.chain_plan.specs.Steps.{AddsHits, HasLast, HasTurned, Leads, Turned, TurnedFrom, last_turn, turn, turns}
+use Rattle.chain_plan.specs.declared.rounds.Way.{Way}
+use Rattle.chain_plan.specs.declared.rounds.Way.TheVariants.{Growing, Shrinking}
+use Rattle.chain_plan.proofs.SceneSteps.{copied_states, depends_at, joined_states, led_states, met_states, moved_low, moved_worked, rest_states, some_leads_same, worked_chain}
+
+-- one action's states more
+pub adds_hits : (start : Start) (x m y : Scene) (a : ℕ) → IsReady start x → Moved start x m 2 (led Outcomes.Every start.task a (set_at x.0.sets x.1 0)) → Moved start m y 1 (or_of (set_at m.0.sets m.1 1) (set_at m.0.sets m.1 2)) → AddsHits start x y a
+adds_hits start x m y a ready first second = record {
+  worked = worked_chain start x m y (moved_worked start x m 2 _ first (omega arith)) (moved_worked start m y 1 _ second (omega arith));
+  near = moved_low start m y 1 _ second 0 (omega arith) (λ e. absurd (omega arith)) ∙ moved_low start x m 2 _ first 0 (omega arith) (λ e. absurd (omega arith));
+  next = λ v is.
+      ap (λ (f : SetOfVectors). f v) (joined_states start m y 1 1 2 second)
+      ∙ ap (λ (f : SetOfVectors). f v || states_at m 2 v) (moved_low start x m 2 _ first 1 (omega arith) (λ e. absurd (omega arith)))
+      ∙ ap (λ b. states_at x 1 v || b) (led_states start x m 2 a 0 ready first v is);
+}
+
+and_not : (b : Bool) → (b && not b) ≡ false
+and_not true = refl
+and_not false = refl
+
+or_none : (b : Bool) → b ≡ (b || false)
+or_none true = refl
+or_none false = refl
+
+-- no action yet, and one more
+pub leads_none : (start : Start) (x y : Scene) → Moved start x y 1 (minus_of (set_at x.0.sets x.1 0) (set_at x.0.sets x.1 0)) → Leads start x y 0
+leads_none start x y m = record {
+  worked = moved_worked start x y 1 _ m (omega arith);
+  near = moved_low start x y 1 _ m 0 (omega arith) (λ e. absurd (omega arith));
+  next = λ v is. ap (λ (f : SetOfVectors). f v) (rest_states start x y 1 0 0 m) ∙ and_not (states_at x 0 v);
+}
+
+pub any_more : (p : ℕ → Bool) (n : ℕ) → (list_any p (range_with_len 0 n) || p n) ≡ list_any p (range_with_len 0 (n + 1))
+any_more p n =
+    ap (λ b. list_any p (range_with_len 0 n) || b) (or_none (p n))
+    ∙ sym (list_any-append p (range_with_len 0 n) (n ∷ []))
+    ∙ ap (list_any p) (sym (range-more n))
+
+pub leads_more : (start : Start) (x y z : Scene) (n : ℕ) → Leads start x y n → AddsHits start y z n → Leads start x z (n + 1)
+leads_more start x y z n h more = record {
+  worked = worked_chain start x y z h.worked more.worked;
+  near = more.near ∙ h.near;
+  next = λ v is.
+      more.next v is
+      ∙ ap (λ (f : SetOfVectors). states_at y 1 v || must_lead (sys_of start) f v n) h.near
+      ∙ ap (λ b. b || must_lead (sys_of start) (states_at x 0) v n) (h.next v is)
+      ∙ any_more (must_lead (sys_of start) (states_at x 0) v) n;
+}
+
+pub leads_all : (start : Start) (x y : Scene) (n : ℕ) → n ≡ action_count start.task → Leads start x y n → Leads start x y (action_count start.task)
+leads_all start x y n e h = subst (Leads start x y) e h
+
+-- put together with the first states
+pub turned_shrinking : (start : Start) (x y z : Scene) → Leads start x y (action_count start.task) → Moved start y z 1 (and_of (set_at y.0.sets y.1 0) (set_at y.0.sets y.1 1)) → Turned Shrinking start x z
+turned_shrinking start x y z h m = record {
+  worked = worked_chain start x y z h.worked (moved_worked start y z 1 _ m (omega arith));
+  near = moved_low start y z 1 _ m 0 (omega arith) (λ e. absurd (omega arith)) ∙ h.near;
+  next = λ v is.
+      ap (λ (f : SetOfVectors). f v) (met_states start y z 1 0 1 m)
+      ∙ ap (λ (f : SetOfVectors). f v && states_at y 1 v) h.near
+      ∙ ap (λ b. states_at x 0 v && b) (h.next v is);
+}
+
+pub turned_growing : (start : Start) (x y z : Scene) → Leads start x y (action_count start.task) → Moved start y z 1 (or_of (set_at y.0.sets y.1 0) (set_at y.0.sets y.1 1)) → Turned Growing start x z
+turned_growing start x y z h m = record {
+  worked = worked_chain start x y z h.worked (moved_worked start y z 1 _ m (omega arith));
+  near = moved_low start y z 1 _ m 0 (omega arith) (λ e. absurd (omega arith)) ∙ h.near;
+  next = λ v is.
+      ap (λ (f : SetOfVectors). f v) (joined_states start y z 1 0 1 m)
+      ∙ ap (λ (f : SetOfVectors). f v || states_at y 1 v) h.near
+      ∙ ap (λ b. states_at x 0 v || b) (h.next v is);
+}
+
+-- from the states at a place
+pub turned_from : (way : Way) (start : Start) (x m z : Scene) (place : ℕ) → Moved start x m 0 (set_at x.0.sets x.1 place) → Turned way start m z → TurnedFrom way start x z place
+turned_from way start x m z place first h =
+    let copied = copied_states start x m 0 place first in
+    record {
+      worked = worked_chain start x m z (moved_worked start x m 0 _ first (omega arith)) h.worked;
+      near = h.near ∙ copied;
+      next = subst (λ (f : SetOfVectors). SameStates start (states_at z 1) (turn way (sys_of start) f)) copied h.next;
+    }
+
+-- rounds, one after another
+turns_next : (way : Way) (sys : System) (set : SetOfVectors) (k : ℕ) (v : Vector) → turn way sys (turns way sys set k) v ≡ turns way sys set (suc k) v
+turns_next Shrinking sys set k v = refl
+turns_next Growing sys set k v = refl
+
+turns_none : (way : Way) (sys : System) (set : SetOfVectors) (v : Vector) → set v ≡ turns way sys set 0 v
+turns_none Shrinking sys set v = refl
+turns_none Growing sys set v = refl
+
+pub turn_same : (way : Way) (start : Start) (f g : SetOfVectors) → SameStates start f g → SameStates start (turn way (sys_of start) f) (turn way (sys_of start) g)
+turn_same Shrinking start f g same v is = ap (λ b. b && some_must_lead (sys_of start) f v) (same v is) ∙ ap (λ b. g v && b) (some_leads_same start f g same v is)
+turn_same Growing start f g same v is = ap (λ b. b || some_must_lead (sys_of start) f v) (same v is) ∙ ap (λ b. g v || b) (some_leads_same start f g same v is)
+
+pub turned_first : (way : Way) (start : Start) (x y : Scene) (place : ℕ) → TurnedFrom way start x y place → HasTurned way start x y (states_at x place) 0
+turned_first way start x y place h =
+    let sys = sys_of start in
+    let none : SameStates start (states_at x place) (turns way sys (states_at x place) 0) = λ v is. turns_none way sys (states_at x place) v in
+    record {
+      worked = h.worked;
+      near = λ v is. ap (λ (f : SetOfVectors). f v) h.near ∙ none v is;
+      next = λ v is. h.next v is ∙ turn_same way start (states_at x place) (turns way sys (states_at x place) 0) none v is ∙ turns_next way sys (states_at x place) 0 v;
+    }
+
+pub turned_next : (way : Way) (start : Start) (x y z : Scene) (set : SetOfVectors) (k : ℕ) → HasTurned way start x y set k → TurnedFrom way start y z 1 → HasTurned way start x z set (suc k)
+turned_next way start x y z set k h more =
+    let sys = sys_of start in
+    record {
+      worked = worked_chain start x y z h.worked more.worked;
+      near = λ v is. ap (λ (f : SetOfVectors). f v) more.near ∙ h.next v is;
+      next = λ v is. more.next v is ∙ turn_same way start (states_at y 1) (turns way sys set (suc k)) h.next v is ∙ turns_next way sys set (suc k) v;
+    }
+
+last_is : (way : Way) (start : Start) (set : SetOfVectors) (k : ℕ) → SameStates start (turns way (sys_of start) set (suc k)) (turns way (sys_of start) set k) → SameStates start (turns way (sys_of start) set k) (last_turn way (sys_of start) set)
+last_is Shrinking start set k last v is = sym (last_round (sys_of start) set (is_system start.task) k last v is)
+last_is Growing start set k last v is = sym (last_near (sys_of start) set (is_system start.task) k last v is)
+
+pub turned_last : (way : Way) (start : Start) (x y : Scene) (set : SetOfVectors) (k : ℕ) → HasTurned way start x y set k → set_at y.0.sets y.1 1 ≡ set_at y.0.sets y.1 0 → HasLast way start x y set
+turned_last way start x y set k h same = record {
+  worked = h.worked;
+  near = λ v is.
+      h.near v is
+      ∙ last_is way start set k (λ u at. sym (h.next u at) ∙ ap (λ (f : _). f (value_of u)) same ∙ h.near u at) v is;
+}
+
+-- how many states may still go, or come
+pub left_over : Way → SetOfVectors → ℕ → ℕ
+left_over Shrinking set n = held set (all_vectors n)
+left_over Growing set n = held (λ v. not (set v)) (all_vectors n)
+
+not_same : (a b : Bool) → not a ≡ not b → a ≡ b
+not_same true true e = refl
+not_same true false e = absurd (false≢true e)
+not_same false true e = absurd (true≢false e)
+not_same false false e = refl
+
+up : (a b : Bool) → (a ≡ true → b ≡ true) → not b ≡ true → not a ≡ true
+up true b more out = absurd (false≢true (sym (ap not (more refl)) ∙ out))
+up false b more out = refl
+
+module _ (start : Start) (y z : Scene) (n : ℕ) (is_n : n ≡ fluent_count start.task) (ready : IsReady start y) (differ : set_at y.0.sets y.1 1 ≡ set_at y.0.sets y.1 0 → ⊥) (next : SameStates start (states_at z 0) (states_at y 1)) where
+  state : (v : Vector) → Contains (all_vectors n) v → IsState (sys_of start) v
+  state v c = all_vectors-length n v c ∙ is_n
+
+  not_alike : ((v : Vector) → IsState (sys_of start) v → states_at z 0 v ≡ states_at y 0 v) → ⊥
+  not_alike same =
+      differ (same_functions (fluent_count start.task) (set_at y.0.sets y.1 1) (set_at y.0.sets y.1 0) (depends_at start y ready 1) (depends_at start y ready 0)
+      (λ v is. sym (next v is) ∙ same v is))
+
+  pub fewer_left : (way : Way) (set : SetOfVectors) (k : ℕ) → SameStates start (states_at y 0) (turns way (sys_of start) set k) → SameStates start (states_at y 1) (turns way (sys_of start) set (suc k)) → left_over way (states_at z 0) n < left_over way (states_at y 0) n
+  unfolding left_over
+  fewer_left Shrinking set k near more =
+      holds_fewer (states_at y 0) (states_at z 0) (all_vectors n)
+      (λ v c h.
+      let is = state v c in
+      near v is ∙ (and_parts (turns Shrinking (sys_of start) set k v) _ (sym (more v is) ∙ sym (next v is) ∙ h)).0)
+      (λ same. not_alike (λ v is. all_vectors-agree (states_at z 0) (states_at y 0) n same v (is ∙ sym is_n)))
+  fewer_left Growing set k near more =
+      holds_fewer (λ v. not (states_at y 0 v)) (λ v. not (states_at z 0 v)) (all_vectors n)
+      (λ v c h.
+      let is = state v c in
+      up (states_at y 0 v) (states_at z 0 v)
+      (λ inside. next v is ∙ more v is ∙ or_left (turns Growing (sys_of start) set k v) _ (sym (near v is) ∙ inside)) h)
+      (λ same. not_alike (λ v is. not_same (states_at z 0 v) (states_at y 0 v) (all_vectors-agree (λ u. not (states_at z 0 u)) (λ u. not (states_at y 0 u)) n same v (is ∙ sym is_n))))
+
+pub turned_less : (way : Way) (start : Start) (x y z : Scene) (set : SetOfVectors) (k n : ℕ) → HasTurned way start x y set k → (set_at y.0.sets y.1 1 ≡ set_at y.0.sets y.1 0 → ⊥) → n ≡ fluent_count start.task → TurnedFrom way start y z 1
+    → left_over way (states_at z 0) n < left_over way (states_at y 0) n
+turned_less way start x y z set k n h differ is_n more = fewer_left start y z n is_n h.worked.ready differ (λ v is. ap (λ (f : SetOfVectors). f v) more.near) way set k h.near h.next

@@ -1,0 +1,156 @@
+-- The states of the contexts: of the last one, and from one to the one before.
+use Rattle.std.proofs.Common.{◌≡◌, ◌≢◌, ℕ, zero, suc, ◌+◌, ◌-◌, ◌*◌, ◌<◌, ◌≤◌, false, ◌&&◌, List, [], ◌∷◌, drop, length, map, slice_index_or, refl, sym, ap, subst, ◌∙◌, inr, ⊎_elim, arith}
+use Rattle.std.proofs.lemmas.Bool.{cases_eq}
+use Rattle.dd_ops.specs.Operations.{and_of}
+use Rattle.slot_board.specs.Board.{set_at}
+use Rattle.chain_goals.specs.Chains.{Chained}
+use Rattle.chain_goals.specs.Safe.{safe_set}
+use Rattle.chain_goals.specs.Stages.{stage_set}
+use Rattle.chain_goals.specs.Wins.{met_set, win}
+use Rattle.task_core.specs.Conditions.{holds}
+use Rattle.task_core.specs.Cubes.{SetOfVectors}
+use Rattle.task_core.specs.Vectors.{Vector}
+use Rattle.task_core.specs.declared.conditions.Cond.{Cond}
+use Rattle.ctl_syntax.specs.ChainValues.{states_of}
+use Rattle.chain_plan.specs.Scenes.{IsReady, Moved, SameStates, Scene, Start, met_place, states_at, sys_of, win_place}
+use Rattle.chain_plan.specs.Steps.{EndWon, HasLast, HasWins, StageMet, StageWon, met_by, met_first}
+use Rattle.chain_plan.specs.declared.rounds.Way.TheVariants.{Growing, Shrinking}
+use Rattle.chain_plan.proofs.SceneSteps.{changed_chain, changed_wider, copied_states, long_enough, moved_changed, moved_here, moved_other, same_length, worked_changed}
+use Rattle.chain_plan.proofs.StageLemmas.{stage_set_same}
+
+pub end_won : (start : Start) (x m k y : Scene) (place : ℕ) (cond : Cond) → Moved start x m place (holds cond) → HasLast Shrinking start m k (states_at m place) → Moved start k y place (set_at k.0.sets k.1 0) → EndWon start x y place cond
+end_won start x m k y place cond first h last = record {
+  changed =
+      changed_chain start x m y place (place + 1) (moved_changed start x m place _ first place (place + 1) (omega arith) (omega arith))
+      (changed_chain start m k y place (place + 1) (worked_changed start m k place (place + 1) h.worked) (moved_changed start k y place _ last place (place + 1) (omega arith) (omega arith)));
+  win = λ v is.
+      ap (λ (f : SetOfVectors). f v) (copied_states start k y place 0 last)
+      ∙ h.near v is
+      ∙ ap (λ (f : SetOfVectors). safe_set (sys_of start) f v) (moved_here start x m place _ first);
+}
+
+pub stage_met : (start : Start) (x m y : Scene) (place : ℕ) (cond : Cond) → place + 2 < length x.1 → IsReady start x → Moved start x m (place + 1) (holds cond) → Moved start m y (place + 1) (and_of (set_at m.0.sets m.1 (place + 1)) (set_at m.0.sets m.1 (place + 2)))
+    → StageMet start x y place cond
+stage_met start x m y place cond within ready first second =
+    let long : length m.1 ≡ length x.1 = same_length start x m ready.at first.at in
+    record {
+      changed =
+          changed_chain start x m y place (place + 2) (moved_changed start x m (place + 1) _ first place (place + 2) (omega arith) (omega arith))
+          (moved_changed start m y (place + 1) _ second place (place + 2) (omega arith) (omega arith));
+      met =
+          moved_here start m y (place + 1) _ second
+          ∙ ap {B = SetOfVectors} (λ (f : SetOfVectors) (v : Vector). f v && states_at m (place + 2) v) (moved_here start x m (place + 1) _ first)
+          ∙ ap {B = SetOfVectors} (λ (f : SetOfVectors) (v : Vector). states_of cond v && f v) (moved_other start x m (place + 1) _ first (place + 2) (omega arith) (λ e. absurd (omega arith)));
+    }
+
+pub stage_won : (start : Start) (x m k y : Scene) (place : ℕ) (cond : Cond) → 8 ≤ place → place + 2 < length x.1 → IsReady start x → StageMet start x m place cond → HasLast Growing start m k (states_at m (place + 1)) → Moved start k y place (set_at k.0.sets k.1 0)
+    → StageWon start x y place cond
+stage_won start x m k y place cond high within ready h last won =
+    let long : length k.1 ≡ length x.1 = same_length start x k ready.at last.worked.ready.at in
+    let longer : length y.1 ≡ length k.1 = same_length start k y last.worked.ready.at won.at in
+    record {
+      changed =
+          changed_chain start x m y place (place + 2) h.changed
+          (changed_chain start m k y place (place + 2) (worked_changed start m k place (place + 2) last.worked) (moved_changed start k y place _ won place (place + 2) (omega arith) (omega arith)));
+      win = λ v is.
+          ap (λ (f : SetOfVectors). f v) (copied_states start k y place 0 won)
+          ∙ last.near v is
+          ∙ ap (λ (f : SetOfVectors). stage_set (sys_of start) f v) h.met;
+      met = λ v is.
+          ap (λ (f : SetOfVectors). f v)
+          (moved_other start k y place _ won (place + 1) (omega arith) (λ e. absurd (omega arith)) ∙ last.worked.kept (place + 1) (omega arith) (omega arith) ∙ h.met);
+    }
+
+-- the stages from a number on
+pub drop_none : {X : Type 0} (xs : List X) (n : ℕ) → length xs ≤ n → drop n xs ≡ []
+drop_none [] zero few = refl
+drop_none [] (suc n) few = refl
+drop_none (x ∷ xs) zero few = absurd (omega arith)
+drop_none (x ∷ xs) (suc n) few = drop_none xs n (omega arith)
+
+pub drop_some : {X Y : Type 0} (f : X → Y) (xs : List X) (n : ℕ) (other : X) → n < length xs → drop n (map f xs) ≡ f (slice_index_or xs n other) ∷ drop (suc n) (map f xs)
+drop_some f [] n other within = absurd (omega arith)
+drop_some f (x ∷ xs) zero other within = refl
+drop_some f (x ∷ xs) (suc n) other within = drop_some f xs n other (omega arith)
+
+-- a stage and those after it, whatever stands for a stage that there isn't
+pub drop_one : (stages : List SetOfVectors) (n : ℕ) → n < length stages → drop n stages ≡ slice_index_or stages n (λ v. false) ∷ drop (suc n) stages
+drop_one [] n within = absurd (omega arith)
+drop_one (x ∷ xs) zero within = refl
+drop_one (x ∷ xs) (suc n) within = drop_one xs n (omega arith)
+
+-- the last context
+pub wins_end : (start : Start) (x y : Scene) (chain : Chained) (cond : Cond) → length chain.stages ≡ start.stages → chain.keep ≡ states_of cond → EndWon start x y (win_place start.stages) cond → HasWins start x y chain start.stages
+wins_end start x y chain cond long keep h = record {
+  changed = changed_wider start x y (win_place start.stages) (win_place start.stages + 1) 8 (9 + 2 * start.stages) (omega arith) (omega arith) h.changed;
+  won = record {
+    wins = λ j from to.
+        let e : j ≡ start.stages = omega arith in
+        subst (λ i. SameStates start (states_at y (win_place i)) (win (sys_of start) chain.keep (drop i chain.stages))) (sym e)
+        (λ v is.
+        h.win v is
+        ∙ ap (λ (f : SetOfVectors). safe_set (sys_of start) f v) (sym keep)
+        ∙ ap (λ (stages : List SetOfVectors). win (sys_of start) chain.keep stages v) (sym (drop_none chain.stages start.stages (omega arith))));
+    mets = λ j from less. absurd (omega arith);
+  };
+}
+
+-- and the one before
+module _ (start : Start) (x y z : Scene) (chain : Chained) (i : ℕ) (cond : Cond) (less : i < start.stages) (here : drop i chain.stages ≡ states_of cond ∷ drop (suc i) chain.stages) (h : HasWins start x y chain (suc i)) (more : StageWon start y z (win_place i) cond) where
+  next_place : win_place i + 2 ≡ win_place (suc i)
+  next_place = omega arith
+
+  after_place : win_place i + 1 ≡ met_place i
+  after_place = omega arith
+
+  met_now : SameStates start (met_by y (win_place i) cond) (met_set (sys_of start) chain.keep (states_of cond) (drop (suc i) chain.stages))
+  met_now v is =
+      ap (λ k. states_of cond v && states_at y k v) next_place
+      ∙ ap (λ b. states_of cond v && b) (h.won.wins (suc i) (omega arith) (omega arith) v is)
+
+  within : (k : ℕ) → k < 10 + 2 * start.stages → k < length z.1
+  within k low = long_enough start z more.changed.ready.at k low
+
+  pub wins_more : HasWins start x z chain i
+  wins_more = record {
+    changed = changed_chain start x y z 8 (9 + 2 * start.stages) h.changed (changed_wider start y z (win_place i) (win_place i + 2) 8 (9 + 2 * start.stages) (omega arith) (omega arith) more.changed);
+    won = record {
+      wins = λ j from to.
+          ⊎_elim
+          (λ (same : j ≡ i).
+          subst (λ k. SameStates start (states_at z (win_place k)) (win (sys_of start) chain.keep (drop k chain.stages))) (sym same)
+          (λ v is.
+          more.win v is
+          ∙ stage_set_same start (met_by y (win_place i) cond) (met_set (sys_of start) chain.keep (states_of cond) (drop (suc i) chain.stages)) met_now v is
+          ∙ ap (λ (stages : List SetOfVectors). win (sys_of start) chain.keep stages v) (sym here)))
+          (λ (differs : j ≢ i).
+          λ v is.
+          ap (λ (f : SetOfVectors). f v) (more.changed.kept (win_place j) (omega arith) (within (win_place j) (omega arith)) (inr (omega (arith, differs))))
+          ∙ h.won.wins j (omega (arith, differs)) to v is)
+          (cases_eq j i);
+      mets = λ j from below.
+          ⊎_elim
+          (λ (same : j ≡ i).
+          subst (λ k. SameStates start (states_at z (met_place k)) (met_first (sys_of start) chain.keep (drop k chain.stages))) (sym same)
+          (λ v is.
+          ap (λ k. states_at z k v) (sym after_place)
+          ∙ more.met v is
+          ∙ met_now v is
+          ∙ ap (λ (stages : List SetOfVectors). met_first (sys_of start) chain.keep stages v) (sym here)))
+          (λ (differs : j ≢ i).
+          λ v is.
+          ap (λ (f : SetOfVectors). f v) (more.changed.kept (met_place j) (omega arith) (within (met_place j) (omega arith)) (inr (omega (arith, differs))))
+          ∙ h.won.mets j (omega (arith, differs)) below v is)
+          (cases_eq j i);
+    };
+  }
+
+-- as the code has it: by the numbers that it computed
+pub wins_end_at : (start : Start) (x y : Scene) (chain : Chained) (cond : Cond) (n place : ℕ) → length chain.stages ≡ start.stages → n ≡ start.stages → place ≡ win_place n → chain.keep ≡ states_of cond → EndWon start x y place cond → HasWins start x y chain n
+wins_end_at start x y chain cond n place long is_n is_place keep h =
+    subst (HasWins start x y chain) (sym is_n) (wins_end start x y chain cond long keep (subst (λ k. EndWon start x y (win_place k) cond) is_n (subst (λ k. EndWon start x y k cond) is_place h)))
+
+pub wins_more_at : (start : Start) (x y z : Scene) (chain : Chained) (i place : ℕ) (cond : Cond) → 0 < i → i ≤ start.stages → place ≡ win_place (i - 1) → drop (i - 1) chain.stages ≡ states_of cond ∷ drop (suc (i - 1)) chain.stages → HasWins start x y chain i → StageWon start y z place cond
+    → HasWins start x z chain (i - 1)
+wins_more_at start x y z chain i place cond some few is_place here h more =
+    wins_more start x y z chain (i - 1) cond (omega arith) here (subst (HasWins start x y chain) (let e : i ≡ suc (i - 1) = omega arith in e) h) (subst (λ k. StageWon start y z k cond) is_place more)

@@ -1,0 +1,108 @@
+use Rattle.chain_goals.proofs.NoChain.{none_without_cover}
+use Rattle.chain_goals.specs.Wins.{covers_chain}
+use Rattle.chain_plan.proofs.PlanSteps.{blank, covered_is, ends_refused, stage_count, plan_is}
+use Rattle.chain_plan.proofs.RuleSteps.{has_still}
+use Rattle.chain_plan.proofs.SceneSteps.{same_length, long_enough}
+use Rattle.chain_plan.proofs.TakenSteps.{takers_none}
+use Rattle.chain_plan.specs.Chains.{chain_sets}
+use Rattle.chain_plan.specs.Scenes.{board_of, states_at, sys_of, win_place}
+use Rattle.slot_board.proofs.BoardSlots.{went, same_actions}
+use Rattle.std.proofs.Common.{◌≡◌, arith, length, sym, ap, suc, ◌∙◌}
+use Rattle.std.proofs.lemmas.Result.{err_from_is_err_and}
+use Rattle.std.specs.List.{list_all}
+use Rattle.std.specs.Prelude.{true}
+use Rattle.task_core.proofs.TaskSystem.{is_system}
+use Rattle.chain_plan.proofs.plan.search.Goals as goal
+
+pub win_all-requires-clause-ready : goal.win_all-requires-clause-ready
+win_all-requires-clause-ready c =
+    let start = c.requires.ready.0 in
+    let n = c.requires.ready.1 in
+    let h = c.requires.ready.2 in
+    (start, h.at, n)
+
+pub returns-in_err-win_all : goal.returns-in_err-win_all
+returns-in_err-win_all c start n h =
+    let p = err_from_is_err_and c.from_residual.result c.from_residual.ensures.1 in
+    ends_refused start (c.win_all.new.enc, c.win_all.new.board.slots.items) (chain_sets c.args.chain.now) _ c.win_all.result c.from_residual.result _ c.in_err-win_all.was p (c.win_all.ensures start h.at n)
+
+pub covers_initial-requires-clause-ready : goal.covers_initial-requires-clause-ready
+covers_initial-requires-clause-ready c =
+    let start = c.requires.ready.0 in
+    let n = c.requires.ready.1 in
+    let h = c.requires.ready.2 in
+    let w = went (board_of start) c.win_all.new.enc c.win_all.new.board.slots.items _ c.win_all.result _ c.in_ok-win_all.was (c.win_all.ensures start h.at n) in
+    (start, w.changed.ready)
+
+pub covers_initial-requires-clause-place : goal.covers_initial-requires-clause-place
+covers_initial-requires-clause-place c =
+    let start = c.requires.ready.0 in
+    let n = c.requires.ready.1 in
+    let h = c.requires.ready.2 in
+    let w = went (board_of start) c.win_all.new.enc c.win_all.new.board.slots.items _ c.win_all.result _ c.in_ok-win_all.was (c.win_all.ensures start h.at n) in
+    let l = long_enough start (c.win_all.new.enc, c.win_all.new.board.slots.items) w.changed.ready.at (win_place 0) (omega arith) in
+    omega (arith, c.win_at.ensures)
+
+pub covers_initial-requires-clause-high : goal.covers_initial-requires-clause-high
+covers_initial-requires-clause-high c = omega (arith, c.win_at.ensures)
+
+pub returns-in_err-covers_initial : goal.returns-in_err-covers_initial
+returns-in_err-covers_initial c start n h =
+    let p = err_from_is_err_and c.from_residual-in_err-covers_initial.result c.from_residual-in_err-covers_initial.ensures.1 in
+    let w = went (board_of start) c.win_all.new.enc c.win_all.new.board.slots.items _ c.win_all.result _ c.in_ok-win_all.was (c.win_all.ensures start h.at n) in
+    ends_refused start (c.covers_initial.new.enc, c.covers_initial.new.board.slots.items) (chain_sets c.args.chain.now) _ c.covers_initial.result c.from_residual-in_err-covers_initial.result _ c.in_err-covers_initial.was p (c.covers_initial.ensures.left start w.changed.ready)
+
+pub returns-then-not-branch : goal.returns-then-not-branch
+returns-then-not-branch c start n h =
+    let w = went (board_of start) c.win_all.new.enc c.win_all.new.board.slots.items _ c.win_all.result _ c.in_ok-win_all.was (c.win_all.ensures start h.at n) in
+    let v = went (board_of start) c.covers_initial.new.enc c.covers_initial.new.board.slots.items _ c.covers_initial.result _ c.in_ok-covers_initial.was (c.covers_initial.ensures.left start w.changed.ready) in
+    let e = (c.in_ok-covers_initial.ensures.answer start w.changed.ready
+    ∙ ap (λ k. list_all (states_at (c.win_all.new.enc, c.win_all.new.board.slots.items) k) (sys_of start).initial) c.win_at.ensures
+    ∙ covered_is start (c.win_all.new.enc, c.win_all.new.board.slots.items) (chain_sets c.args.chain.now) w.won) in
+    (v.ready.at, none_without_cover (sys_of start) (chain_sets c.args.chain.now) (is_system start.task) (sym e ∙ (let f = c.if-not-branch.true in cc)))
+
+pub write-requires-clause-ready : goal.write-requires-clause-ready
+write-requires-clause-ready c =
+    let start = c.requires.ready.0 in
+    let n = c.requires.ready.1 in
+    let h = c.requires.ready.2 in
+    let w = went (board_of start) c.win_all.new.enc c.win_all.new.board.slots.items _ c.win_all.result _ c.in_ok-win_all.was (c.win_all.ensures start h.at n) in
+    let v = went (board_of start) c.covers_initial.new.enc c.covers_initial.new.board.slots.items _ c.covers_initial.result _ c.in_ok-covers_initial.was (c.covers_initial.ensures.left start w.changed.ready) in
+    let long = (stage_count c.args.chain.now start.stages n) in
+    let l : c.len.result ≡ length c.args.chain.now.stages.items = omega (arith, c.len.ensures) in
+    let m : start.stages ≡ c.len.result = n ∙ sym l in
+    (start, (chain_sets c.args.chain.now), m, (long ∙ m), (has_still start (c.win_all.new.enc, c.win_all.new.board.slots.items) (c.covers_initial.new.enc, c.covers_initial.new.board.slots.items) (chain_sets c.args.chain.now) 0 (takers_none start (c.args.enc.now, c.args.board.now.slots.items) (c.win_all.new.enc, c.win_all.new.board.slots.items) (chain_sets c.args.chain.now) (blank start (c.args.enc.now, c.args.board.now.slots.items) h) (same_length start (c.args.enc.now, c.args.board.now.slots.items) (c.win_all.new.enc, c.win_all.new.board.slots.items) h.at w.changed.ready.at) w) v))
+
+pub write-requires-clause-actions : goal.write-requires-clause-actions
+write-requires-clause-actions c =
+    let start = c.requires.ready.0 in
+    let n = c.requires.ready.1 in
+    let h = c.requires.ready.2 in
+    let w = went (board_of start) c.win_all.new.enc c.win_all.new.board.slots.items _ c.win_all.result _ c.in_ok-win_all.was (c.win_all.ensures start h.at n) in
+    let v = went (board_of start) c.covers_initial.new.enc c.covers_initial.new.board.slots.items _ c.covers_initial.result _ c.in_ok-covers_initial.was (c.covers_initial.ensures.left start w.changed.ready) in
+    let e : length c.covers_initial.new.enc.actions ≡ length c.args.enc.now.actions = same_actions (board_of start) c.args.enc.now c.covers_initial.new.enc c.args.board.now.slots.items c.covers_initial.new.board.slots.items h.at v.ready.at in
+    omega (arith, c.requires.actions)
+
+pub returns-in_err-plan : goal.returns-in_err-plan
+returns-in_err-plan c start n h =
+    let p = err_from_is_err_and c.from_residual-in_err-plan.result c.from_residual-in_err-plan.ensures.1 in
+    let w = went (board_of start) c.win_all.new.enc c.win_all.new.board.slots.items _ c.win_all.result _ c.in_ok-win_all.was (c.win_all.ensures start h.at n) in
+    let v = went (board_of start) c.covers_initial.new.enc c.covers_initial.new.board.slots.items _ c.covers_initial.result _ c.in_ok-covers_initial.was (c.covers_initial.ensures.left start w.changed.ready) in
+    let long = (stage_count c.args.chain.now start.stages n) in
+    let l : c.len.result ≡ length c.args.chain.now.stages.items = omega (arith, c.len.ensures) in
+    let m : start.stages ≡ c.len.result = n ∙ sym l in
+    ends_refused start (c.write.new.enc, c.write.new.board.slots.items) (chain_sets c.args.chain.now) _ c.write.result c.from_residual-in_err-plan.result _ c.in_err-plan.was p (c.write.ensures.left start (chain_sets c.args.chain.now) m (long ∙ m) (has_still start (c.win_all.new.enc, c.win_all.new.board.slots.items) (c.covers_initial.new.enc, c.covers_initial.new.board.slots.items) (chain_sets c.args.chain.now) 0 (takers_none start (c.args.enc.now, c.args.board.now.slots.items) (c.win_all.new.enc, c.win_all.new.board.slots.items) (chain_sets c.args.chain.now) (blank start (c.args.enc.now, c.args.board.now.slots.items) h) (same_length start (c.args.enc.now, c.args.board.now.slots.items) (c.win_all.new.enc, c.win_all.new.board.slots.items) h.at w.changed.ready.at) w) v))
+
+pub returns : goal.returns
+returns c start n h =
+    let w = went (board_of start) c.win_all.new.enc c.win_all.new.board.slots.items _ c.win_all.result _ c.in_ok-win_all.was (c.win_all.ensures start h.at n) in
+    let v = went (board_of start) c.covers_initial.new.enc c.covers_initial.new.board.slots.items _ c.covers_initial.result _ c.in_ok-covers_initial.was (c.covers_initial.ensures.left start w.changed.ready) in
+    let e = (c.in_ok-covers_initial.ensures.answer start w.changed.ready
+    ∙ ap (λ k. list_all (states_at (c.win_all.new.enc, c.win_all.new.board.slots.items) k) (sys_of start).initial) c.win_at.ensures
+    ∙ covered_is start (c.win_all.new.enc, c.win_all.new.board.slots.items) (chain_sets c.args.chain.now) w.won) in
+    let long = (stage_count c.args.chain.now start.stages n) in
+    let l : c.len.result ≡ length c.args.chain.now.stages.items = omega (arith, c.len.ensures) in
+    let m : start.stages ≡ c.len.result = n ∙ sym l in
+    let all : covers_chain (sys_of start) (chain_sets c.args.chain.now) ≡ true = sym e ∙ (let f = c.if-not-branch.false in cc) in
+    let at = went (board_of start) c.write.new.enc c.write.new.board.slots.items _ c.write.result _ c.in_ok-plan.was (c.write.ensures.left start (chain_sets c.args.chain.now) m (long ∙ m) (has_still start (c.win_all.new.enc, c.win_all.new.board.slots.items) (c.covers_initial.new.enc, c.covers_initial.new.board.slots.items) (chain_sets c.args.chain.now) 0 (takers_none start (c.args.enc.now, c.args.board.now.slots.items) (c.win_all.new.enc, c.win_all.new.board.slots.items) (chain_sets c.args.chain.now) (blank start (c.args.enc.now, c.args.board.now.slots.items) h) (same_length start (c.args.enc.now, c.args.board.now.slots.items) (c.win_all.new.enc, c.win_all.new.board.slots.items) h.at w.changed.ready.at) w) v)) in
+    (at, plan_is start.task (chain_sets c.args.chain.now) c.in_ok-plan.plan (let few = c.requires.chain.few in omega (arith, long, n)) all (c.in_ok-plan.ensures.contexts ∙ ap suc (sym m ∙ sym long)) (c.in_ok-plan.ensures.printed start (chain_sets c.args.chain.now) m (long ∙ m) (has_still start (c.win_all.new.enc, c.win_all.new.board.slots.items) (c.covers_initial.new.enc, c.covers_initial.new.board.slots.items) (chain_sets c.args.chain.now) 0 (takers_none start (c.args.enc.now, c.args.board.now.slots.items) (c.win_all.new.enc, c.win_all.new.board.slots.items) (chain_sets c.args.chain.now) (blank start (c.args.enc.now, c.args.board.now.slots.items) h) (same_length start (c.args.enc.now, c.args.board.now.slots.items) (c.win_all.new.enc, c.win_all.new.board.slots.items) h.at w.changed.ready.at) w) v)))

@@ -1,0 +1,13 @@
+use Rattle.std.proofs.Common.{ℕ}
+use Rattle.chain_plan.specs.Scenes.{IsReady, Start, states_at}
+use Rattle.chain_plan.specs.Steps.{HasClimbed}
+use Rattle.chain_plan.specs.declared.rounds.Way.TheVariants.{Growing}
+use Rattle.chain_plan.proofs.RoundSteps.{left_over}
+use Rattle.chain_plan.proofs.takers.climb.Given as goal
+
+abbrev pub invariant-loop-enc : goal.invariant-loop-enc
+invariant-loop-enc l = (start : Start) → IsReady start (l.fn.enc, l.fn.board.slots.items) → (k : ℕ) × HasClimbed start (l.fn.enc, l.fn.board.slots.items) (l.enc, l.board.slots.items) l.fn.met l.fn.takers k
+
+-- how many states are not near
+abbrev pub decreases-loop-enc : goal.decreases-loop-enc
+decreases-loop-enc l = left_over Growing (states_at (l.enc, l.board.slots.items) 0) l.fn.enc.fluents

@@ -1,0 +1,244 @@
+-- Private: what the parts of a search do to the sets of states on its board. The states that a
+-- round begins with stand at place 0, those that it ends with at 1; at 3 stand the states that are
+-- still without an action, or whose stage is still to be found, and at 4 those of some rules.
+use Rattle.std.specs.Prelude.{◌≡◌, ℕ, suc, ◌+◌, ◌*◌, ◌<◌, ◌≤◌, false, not, ◌&&◌, ◌||◌}
+use Rattle.std.specs.Prelude.{List, [], ◌∷◌, ◌++◌, ◌-◌, drop, map, nat_le}
+use Rattle.std.specs.List.{find, flat_map, list_any, range_with_len}
+use Rattle.chain_goals.specs.Chains.{Chained}
+use Rattle.chain_goals.specs.Printed.{action_towards, rules_of_next}
+use Rattle.chain_goals.specs.Safe.{safe_round, safe_set, some_must_lead}
+use Rattle.chain_goals.specs.Stages.{near as near_within, stage_action, stage_set}
+use Rattle.chain_goals.specs.Wins.{met_count, met_set, win}
+use Rattle.plan_rules.specs.Rules.{ContextRule, always}
+use Rattle.reach_plan.specs.Layers.{action_numbers, must_lead}
+use Rattle.reach_plan.specs.Printed.{is_action}
+use Rattle.task_core.specs.Cubes.{Cube, SetOfVectors, cubes_of}
+use Rattle.task_core.specs.Systems.{System}
+use Rattle.task_core.specs.Tasks.{action_count, fluent_count}
+use Rattle.task_core.specs.declared.conditions.Cond.{Cond}
+use Rattle.ctl_syntax.specs.ChainValues.{states_of}
+use Rattle.chain_plan.specs.Scenes.{Changed, IsReady, SameStates, Scene, Start, Worked}
+use Rattle.chain_plan.specs.Scenes.{met_place, states_at, sys_of, takers_place, win_place}
+use Rattle.chain_plan.specs.declared.rounds.Way.{Way}
+use Rattle.chain_plan.specs.declared.rounds.Way.TheVariants.{Growing, Shrinking}
+
+-- the states from which an action leads into the first states were added to the next ones
+pub record AddsHits (start : Start) (x y : Scene) (a : ℕ) : Type 0 where
+  pub worked : Worked start x y
+  pub near : states_at y 0 ≡ states_at x 0
+  pub next : SameStates start (states_at y 1)
+      (λ v. states_at x 1 v || must_lead (sys_of start) (states_at x 0) v a)
+
+-- the next states are those from which one of the first n actions leads into the first states
+pub record Leads (start : Start) (x y : Scene) (n : ℕ) : Type 0 where
+  pub worked : Worked start x y
+  pub near : states_at y 0 ≡ states_at x 0
+  pub next : SameStates start (states_at y 1)
+      (λ v. list_any (must_lead (sys_of start) (states_at x 0) v) (range_with_len 0 n))
+
+-- one round: of a set that shrinks to what can be kept, or grows by what leads into it
+abbrev pub turn : Way → System → SetOfVectors → SetOfVectors
+turn Shrinking sys set v = set v && some_must_lead sys set v
+turn Growing sys set v = set v || some_must_lead sys set v
+
+-- so many rounds, and all of them
+abbrev pub turns : Way → System → SetOfVectors → ℕ → SetOfVectors
+turns Shrinking = safe_round
+turns Growing = near_within
+
+abbrev pub last_turn : Way → System → SetOfVectors → SetOfVectors
+last_turn Shrinking = safe_set
+last_turn Growing = stage_set
+
+-- the found states and the first ones were put together
+pub record Turned (way : Way) (start : Start) (x y : Scene) : Type 0 where
+  pub worked : Worked start x y
+  pub near : states_at y 0 ≡ states_at x 0
+  pub next : SameStates start (states_at y 1) (turn way (sys_of start) (states_at x 0))
+
+-- a round was made on the states at a place
+pub record TurnedFrom (way : Way) (start : Start) (x y : Scene) (place : ℕ) : Type 0 where
+  pub worked : Worked start x y
+  pub near : states_at y 0 ≡ states_at x place
+  pub next : SameStates start (states_at y 1) (turn way (sys_of start) (states_at x place))
+
+-- k rounds were made on a set, and one more
+pub record HasTurned (way : Way) (start : Start) (x y : Scene) (set : SetOfVectors) (k : ℕ)
+    : Type 0 where
+  pub worked : Worked start x y
+  pub near : SameStates start (states_at y 0) (turns way (sys_of start) set k)
+  pub next : SameStates start (states_at y 1) (turns way (sys_of start) set (suc k))
+
+-- all rounds were made
+pub record HasLast (way : Way) (start : Start) (x y : Scene) (set : SetOfVectors) : Type 0 where
+  pub worked : Worked start x y
+  pub near : SameStates start (states_at y 0) (last_turn way (sys_of start) set)
+
+-- the states of the last context stand at a place
+pub record EndWon (start : Start) (x y : Scene) (place : ℕ) (cond : Cond) : Type 0 where
+  pub changed : Changed start x y place (place + 1)
+  pub win : SameStates start (states_at y place) (safe_set (sys_of start) (states_of cond))
+
+-- where a stage is met, by the states of the next context, two places farther on
+abbrev pub met_by : Scene → ℕ → Cond → SetOfVectors
+met_by x place cond v = states_of cond v && states_at x (place + 2) v
+
+-- where a stage is met stands one place farther on
+pub record StageMet (start : Start) (x y : Scene) (place : ℕ) (cond : Cond) : Type 0 where
+  pub changed : Changed start x y place (place + 2)
+  pub met : states_at y (place + 1) ≡ met_by x place cond
+
+-- the states of a stage's context stand at a place, and after it those where the stage is met
+pub record StageWon (start : Start) (x y : Scene) (place : ℕ) (cond : Cond) : Type 0 where
+  pub changed : Changed start x y place (place + 2)
+  pub win : SameStates start (states_at y place) (stage_set (sys_of start) (met_by x place cond))
+  pub met : SameStates start (states_at y (place + 1)) (met_by x place cond)
+
+-- where the first of some stages is met; where there is none, nowhere
+abbrev pub met_first : System → SetOfVectors → List SetOfVectors → SetOfVectors
+met_first sys keep [] v = false
+met_first sys keep (p ∷ rest) v = met_set sys keep p rest v
+
+-- the states of the contexts from stage i on stand at their places, and those where their stages
+-- are met
+pub record Won (start : Start) (x : Scene) (chain : Chained) (i : ℕ) : Type 0 where
+  pub wins : (j : ℕ) → i ≤ j → j ≤ start.stages
+      → SameStates start (states_at x (win_place j))
+      (win (sys_of start) chain.keep (drop j chain.stages))
+  pub mets : (j : ℕ) → i ≤ j → j < start.stages
+      → SameStates start (states_at x (met_place j))
+      (met_first (sys_of start) chain.keep (drop j chain.stages))
+
+-- they were put there
+pub record HasWins (start : Start) (x y : Scene) (chain : Chained) (i : ℕ) : Type 0 where
+  pub changed : Changed start x y 8 (9 + 2 * start.stages)
+  pub won : Won start y chain i
+
+-- the least-numbered action that leads into a set
+abbrev pub first_lead : System → SetOfVectors → SetOfVectors → ℕ → SetOfVectors
+first_lead sys set rest a v =
+    rest v && is_action a (find (must_lead sys set v) (action_numbers sys))
+
+-- of the states without an action, each took the least-numbered one that leads into the first
+-- states, as far as it is one of the first n
+pub record Shared (start : Start) (x y : Scene) (takers n : ℕ) : Type 0 where
+  pub changed : Changed start x y takers (takers + action_count start.task)
+  pub near : states_at y 0 ≡ states_at x 0
+  pub next : states_at y 1 ≡ states_at x 1
+  pub rest : SameStates start (states_at y 3)
+      (λ v. states_at x 3 v
+      && not (list_any (must_lead (sys_of start) (states_at x 0) v) (range_with_len 0 n)))
+  pub taken : (a : ℕ) → a < action_count start.task → a < n
+      → SameStates start (states_at y (takers + a))
+      (λ v. states_at x (takers + a) v
+      || first_lead (sys_of start) (states_at x 0) (states_at x 3) a v)
+  pub later : (a : ℕ) → a < action_count start.task → n ≤ a
+      → states_at y (takers + a) ≡ states_at x (takers + a)
+
+-- the new states of a round took their actions
+pub record TookNew (start : Start) (x y : Scene) (takers : ℕ) : Type 0 where
+  pub changed : Changed start x y takers (takers + action_count start.task)
+  pub near : states_at y 0 ≡ states_at x 0
+  pub next : states_at y 1 ≡ states_at x 1
+  pub taken : (a : ℕ) → a < action_count start.task
+      → SameStates start (states_at y (takers + a))
+      (λ v. states_at x (takers + a) v || first_lead (sys_of start) (states_at x 0)
+      (λ u. states_at x 1 u && not (states_at x 0 u)) a v)
+
+-- the states within k steps of where a stage is met took their actions, and one more round was made
+pub record HasClimbed (start : Start) (x y : Scene) (met takers k : ℕ) : Type 0 where
+  pub changed : Changed start x y takers (takers + action_count start.task)
+  pub near : SameStates start (states_at y 0) (near_within (sys_of start) (states_at x met) k)
+  pub next : SameStates start (states_at y 1) (near_within (sys_of start) (states_at x met) (suc k))
+  pub taken : (a : ℕ) → a < action_count start.task
+      → SameStates start (states_at y (takers + a))
+      (λ v. states_at x (takers + a) v || (near_within (sys_of start) (states_at x met) k v
+      && is_action a (stage_action (sys_of start) (states_at x met) v)))
+
+-- all states of a stage's context took their actions
+pub record Climbed (start : Start) (x y : Scene) (met takers : ℕ) : Type 0 where
+  pub changed : Changed start x y takers (takers + action_count start.task)
+  pub taken : (a : ℕ) → a < action_count start.task
+      → SameStates start (states_at y (takers + a))
+      (λ v. states_at x (takers + a) v || (stage_set (sys_of start) (states_at x met) v
+      && is_action a (stage_action (sys_of start) (states_at x met) v)))
+
+-- the states of the last context took theirs
+pub record EndTaken (start : Start) (x y : Scene) (won takers : ℕ) : Type 0 where
+  pub changed : Changed start x y takers (takers + action_count start.task)
+  pub taken : (a : ℕ) → a < action_count start.task
+      → SameStates start (states_at y (takers + a))
+      (λ v. states_at x (takers + a) v
+      || first_lead (sys_of start) (states_at x won) (states_at x won) a v)
+
+-- the states of a context that take an action towards its stage
+abbrev pub takers_of : System → SetOfVectors → List SetOfVectors → ℕ → SetOfVectors
+takers_of sys keep stages a v =
+    win sys keep stages v && is_action a (action_towards sys keep stages v)
+
+-- the board has the states of all contexts, and where all stages are met; and of the first i
+-- contexts the states that take each action
+pub record HasTakers (start : Start) (x : Scene) (chain : Chained) (i : ℕ) : Type 0 where
+  pub ready : IsReady start x
+  pub won : Won start x chain 0
+  pub last : SameStates start (states_at x (met_place start.stages)) (λ v. false)
+  pub taken : (j a : ℕ) → j < i → j ≤ start.stages → a < action_count start.task
+      → SameStates start
+      (states_at x (takers_place (action_count start.task) start.stages j + a))
+      (takers_of (sys_of start) chain.keep (drop j chain.stages) a)
+  pub untaken : (j a : ℕ) → i ≤ j → j ≤ start.stages → a < action_count start.task
+      → SameStates start
+      (states_at x (takers_place (action_count start.task) start.stages j + a)) (λ v. false)
+
+-- the states of a context in which the stages before stage j are met, both counted from 0
+abbrev pub from_stage : System → Chained → ℕ → ℕ → SetOfVectors
+from_stage sys chain c j v = win sys chain.keep (drop c chain.stages) v
+    && nat_le j (c + met_count sys chain.keep (drop c chain.stages) v)
+
+-- the rule for a cube
+abbrev pub rule_for : ℕ → ℕ → ℕ → Cube → ContextRule
+rule_for context next a cube =
+    record { context = context; cube = cube; action = a; next = always next }
+
+-- the rules for all cubes of some states
+abbrev pub rules_for : ℕ → ℕ → ℕ → ℕ → SetOfVectors → List ContextRule
+rules_for fluents context next a set = map (rule_for context next a) (cubes_of fluents set)
+
+-- the rules of the chosen states that take an action were added
+pub record ListsAction (start : Start) (x y : Scene) (before after : List ContextRule)
+    (context next a takers : ℕ) : Type 0 where
+  pub worked : Worked start x y
+  pub rest : states_at y 3 ≡ states_at x 3
+  pub chosen : states_at y 4 ≡ states_at x 4
+  pub listed : after ≡ before ++ rules_for (fluent_count start.task) context next a
+      (λ v. states_at x 4 v && states_at x takers v)
+
+-- and those of the first n actions
+pub record ListsNext (start : Start) (x y : Scene) (before after : List ContextRule)
+    (context next takers n : ℕ) : Type 0 where
+  pub worked : Worked start x y
+  pub rest : states_at y 3 ≡ states_at x 3
+  pub chosen : states_at y 4 ≡ states_at x 4
+  pub listed : after ≡ before ++ flat_map
+      (λ a. rules_for (fluent_count start.task) context next a
+      (λ v. states_at x 4 v && states_at x (takers + a) v)) (range_with_len 0 n)
+
+-- the states in which a stage isn't met were chosen from those that are left
+pub record Split (start : Start) (x y : Scene) (met : ℕ) : Type 0 where
+  pub worked : Worked start x y
+  pub chosen : states_at y 4 ≡ (λ v. states_at x 3 v && not (states_at x met v))
+  pub rest : states_at y 3 ≡ (λ v. states_at x 3 v && states_at x met v)
+
+-- the rules of a context up to a next context, which are counted from 0, were added
+pub record ListsStages (start : Start) (x : Scene) (chain : Chained)
+    (before after : List ContextRule) (c j : ℕ) : Type 0 where
+  pub has : HasTakers start x chain (suc start.stages)
+  pub rest : SameStates start (states_at x 3) (from_stage (sys_of start) chain c j)
+  pub listed : after ≡ before ++ flat_map (rules_of_next (sys_of start) chain (suc c))
+      (range_with_len (suc c) (j - c))
+
+-- the rules of some contexts were added
+pub record Lists (start : Start) (x : Scene) (chain : Chained)
+    (before after more : List ContextRule) : Type 0 where
+  pub has : HasTakers start x chain (suc start.stages)
+  pub listed : after ≡ before ++ more

@@ -1,0 +1,168 @@
+//! Which states take which action, in each context.
+
+ghost use Rattle.std.specs.Prelude.{◌≡◌, ℕ, suc, ◌≤◌, ◌+◌, ◌<◌, length};
+ghost use Rattle.chain_goals.specs.Chains.{Chained};
+ghost use Rattle.task_core.specs.Tasks.{action_count};
+ghost use Rattle.chain_plan.specs.Chains.{most_stages};
+ghost use Rattle.chain_plan.specs.Scenes.{IsReady, Left, Scene, Start};
+ghost use Rattle.chain_plan.specs.Steps.{Climbed, EndTaken, HasClimbed, HasTakers, Shared};
+ghost use Rattle.chain_plan.specs.Steps.{TookNew};
+
+use crate::places::{HITS, NEAR, NEXT, REST, met_at, takers_at, win_at};
+use crate::rounds::{Way, turn_from};
+use dd_sets::SetErr;
+use encode_task::Enc;
+use slot_board::{Board, Operation, Outcomes};
+use task_core::ActionId;
+
+/// Has an action taken by the states without one from which it leads into the first states.
+fn share_one(enc: &mut Enc, board: &mut Board, takers: usize, a: ActionId) -> Result<(), SetErr>
+    requires ready { (start : Start) × (x : Scene)
+        × Shared start x (enc.old, board.old.slots.items) takers a.0 }
+    requires action { a.0 < length enc.old.actions }
+    requires places { takers + length enc.old.actions ≤ length board.old.slots.items }
+    requires high { 8 ≤ takers }
+    ensures { (start : Start) (x : Scene)
+        → Shared start x (enc.old, board.old.slots.items) takers a.0
+        → Left start (enc.new, board.new.slots.items)
+        (Shared start x (enc.new, board.new.slots.items) takers (a.0 + 1)) result }
+{
+    let place = takers + a.0 as usize;
+    board.lead(enc, HITS, Outcomes::Every, a, NEAR)?;
+    board.combine(enc, HITS, Operation::Meet, REST, HITS)?;
+    board.combine(enc, place, Operation::Join, place, HITS)?;
+    board.combine(enc, REST, Operation::Minus, REST, HITS)
+}
+
+/// Gives each of the states without an action the least-numbered one that leads into the first
+/// states.
+fn share(enc: &mut Enc, board: &mut Board, actions: u32, takers: usize) -> Result<(), SetErr>
+    requires ready { (start : Start) × IsReady start (enc.old, board.old.slots.items) }
+    requires actions { actions ≡ length enc.old.actions }
+    requires places { takers + actions ≤ length board.old.slots.items }
+    requires high { 8 ≤ takers }
+    ensures { (start : Start) → IsReady start (enc.old, board.old.slots.items)
+        → Left start (enc.new, board.new.slots.items)
+        (Shared start (enc.old, board.old.slots.items) (enc.new, board.new.slots.items) takers
+        (action_count start.task)) result }
+{
+    for a in 0..actions {
+        share_one(enc, board, takers, ActionId(a))?;
+    }
+    Ok(())
+}
+
+/// Gives each new state of a round its action.
+fn take_new(enc: &mut Enc, board: &mut Board, actions: u32, takers: usize) -> Result<(), SetErr>
+    requires ready { (start : Start) × IsReady start (enc.old, board.old.slots.items) }
+    requires actions { actions ≡ length enc.old.actions }
+    requires places { takers + actions ≤ length board.old.slots.items }
+    requires high { 8 ≤ takers }
+    ensures { (start : Start) → IsReady start (enc.old, board.old.slots.items)
+        → Left start (enc.new, board.new.slots.items)
+        (TookNew start (enc.old, board.old.slots.items) (enc.new, board.new.slots.items) takers)
+        result }
+{
+    board.combine(enc, REST, Operation::Minus, NEXT, NEAR)?;
+    share(enc, board, actions, takers)
+}
+
+/// One round more towards a stage, with the actions of the last one's new states.
+fn climb_step(enc: &mut Enc, board: &mut Board, actions: u32, takers: usize) -> Result<(), SetErr>
+    requires ready { (start : Start) × (x : Scene) × (met : ℕ) × (k : ℕ)
+        × HasClimbed start x (enc.old, board.old.slots.items) met takers k }
+    requires actions { actions ≡ length enc.old.actions }
+    requires places { takers + actions ≤ length board.old.slots.items }
+    requires high { 8 ≤ takers }
+    ensures { (start : Start) (x : Scene) (met k : ℕ)
+        → HasClimbed start x (enc.old, board.old.slots.items) met takers k
+        → Left start (enc.new, board.new.slots.items)
+        (HasClimbed start x (enc.new, board.new.slots.items) met takers (suc k)) result }
+{
+    take_new(enc, board, actions, takers)?;
+    turn_from(enc, board, actions, Way::Growing, NEXT)
+}
+
+/// Gives each state from which a stage is met for certain the action of its rank.
+fn climb(
+    enc: &mut Enc,
+    board: &mut Board,
+    actions: u32,
+    met: usize,
+    takers: usize,
+) -> Result<(), SetErr>
+    requires ready { (start : Start) × IsReady start (enc.old, board.old.slots.items) }
+    requires actions { actions ≡ length enc.old.actions }
+    requires places { takers + actions ≤ length board.old.slots.items }
+    requires met { 8 ≤ met }
+    requires apart { met < takers }
+    ensures { (start : Start) → IsReady start (enc.old, board.old.slots.items)
+        → Left start (enc.new, board.new.slots.items)
+        (Climbed start (enc.old, board.old.slots.items) (enc.new, board.new.slots.items) met
+        takers) result }
+{
+    turn_from(enc, board, actions, Way::Growing, met)?;
+    while !board.is_same(enc, NEXT, NEAR) {
+        climb_step(enc, board, actions, takers)?;
+    }
+    Ok(())
+}
+
+/// Gives each state in which the condition can be kept the least-numbered action that keeps it.
+fn take_end(
+    enc: &mut Enc,
+    board: &mut Board,
+    actions: u32,
+    won: usize,
+    takers: usize,
+) -> Result<(), SetErr>
+    requires ready { (start : Start) × IsReady start (enc.old, board.old.slots.items) }
+    requires actions { actions ≡ length enc.old.actions }
+    requires places { takers + actions ≤ length board.old.slots.items }
+    requires won { 8 ≤ won }
+    requires apart { won < takers }
+    ensures { (start : Start) → IsReady start (enc.old, board.old.slots.items)
+        → Left start (enc.new, board.new.slots.items)
+        (EndTaken start (enc.old, board.old.slots.items) (enc.new, board.new.slots.items) won
+        takers) result }
+{
+    board.copy_of(enc, NEAR, won)?;
+    board.copy_of(enc, REST, won)?;
+    share(enc, board, actions, takers)
+}
+
+/// Has the actions towards all stages taken, and those that keep the condition.
+pub(crate) fn take_all(
+    enc: &mut Enc,
+    board: &mut Board,
+    actions: u32,
+    stages: u32,
+) -> Result<(), SetErr>
+    requires ready { (start : Start) × (chain : Chained) × (start.stages ≡ stages)
+        × (length chain.stages ≡ stages)
+        × HasTakers start (enc.old, board.old.slots.items) chain 0 }
+    requires actions { actions ≡ length enc.old.actions }
+    requires few { stages ≤ most_stages }
+    ensures { (start : Start) (chain : Chained) → start.stages ≡ stages
+        → length chain.stages ≡ stages
+        → HasTakers start (enc.old, board.old.slots.items) chain 0
+        → Left start (enc.new, board.new.slots.items)
+        (HasTakers start (enc.new, board.new.slots.items) chain (suc stages)) result }
+{
+    for i in 0..stages {
+        climb(
+            enc,
+            board,
+            actions,
+            met_at(i),
+            takers_at(actions, stages, i),
+        )?;
+    }
+    take_end(
+        enc,
+        board,
+        actions,
+        win_at(stages),
+        takers_at(actions, stages, stages),
+    )
+}

@@ -1,0 +1,100 @@
+//! The states of the contexts, from the last one back.
+
+ghost use Rattle.std.specs.Prelude.{◌≡◌, ◌≤◌, ◌+◌, ◌<◌, length};
+ghost use Rattle.chain_plan.specs.Chains.{IsChainOver, IsConditionOver, chain_sets};
+ghost use Rattle.chain_plan.specs.Scenes.{IsAt, IsReady, Left, Start};
+ghost use Rattle.chain_plan.specs.Steps.{EndWon, HasWins, StageMet, StageWon};
+
+use crate::places::{NEAR, win_at};
+use crate::rounds::{Way, turn_all};
+use ctl_syntax::Chain;
+use dd_sets::SetErr;
+use encode_task::Enc;
+use slot_board::{Board, Operation};
+use task_core::Cond;
+
+/// Finds where a condition can be kept for ever.
+fn win_end(
+    enc: &mut Enc,
+    board: &mut Board,
+    actions: u32,
+    keep: &Cond,
+    place: usize,
+) -> Result<(), SetErr>
+    requires ready { (start : Start) × IsAt start (enc.old, board.old.slots.items) }
+    requires actions { actions ≡ length enc.old.actions }
+    requires keep { IsConditionOver enc.old.sets.vars keep.now }
+    requires place { place < length board.old.slots.items }
+    requires high { 8 ≤ place }
+    ensures { (start : Start) → IsAt start (enc.old, board.old.slots.items)
+        → Left start (enc.new, board.new.slots.items)
+        (EndWon start (enc.old, board.old.slots.items) (enc.new, board.new.slots.items) place
+        keep.now) result }
+{
+    board.condition(enc, place, keep)?;
+    turn_all(enc, board, actions, Way::Shrinking, place)?;
+    board.copy_of(enc, place, NEAR)
+}
+
+/// Finds where a stage is met: where its condition holds, and the states of the next context.
+fn meet_stage(enc: &mut Enc, board: &mut Board, stage: &Cond, place: usize) -> Result<(), SetErr>
+    requires ready { (start : Start) × IsReady start (enc.old, board.old.slots.items) }
+    requires stage { IsConditionOver enc.old.sets.vars stage.now }
+    requires place { place + 2 < length board.old.slots.items }
+    requires high { 8 ≤ place }
+    ensures { (start : Start) → IsReady start (enc.old, board.old.slots.items)
+        → Left start (enc.new, board.new.slots.items)
+        (StageMet start (enc.old, board.old.slots.items) (enc.new, board.new.slots.items) place
+        stage.now) result }
+{
+    board.condition(enc, place + 1, stage)?;
+    board.combine(enc, place + 1, Operation::Meet, place + 1, place + 2)
+}
+
+/// Finds the states of a stage's context: those from which the stage is met for certain.
+fn win_stage(
+    enc: &mut Enc,
+    board: &mut Board,
+    actions: u32,
+    stage: &Cond,
+    place: usize,
+) -> Result<(), SetErr>
+    requires ready { (start : Start) × IsReady start (enc.old, board.old.slots.items) }
+    requires actions { actions ≡ length enc.old.actions }
+    requires stage { IsConditionOver enc.old.sets.vars stage.now }
+    requires place { place + 2 < length board.old.slots.items }
+    requires high { 8 ≤ place }
+    ensures { (start : Start) → IsReady start (enc.old, board.old.slots.items)
+        → Left start (enc.new, board.new.slots.items)
+        (StageWon start (enc.old, board.old.slots.items) (enc.new, board.new.slots.items) place
+        stage.now) result }
+{
+    meet_stage(enc, board, stage, place)?;
+    turn_all(enc, board, actions, Way::Growing, place + 1)?;
+    board.copy_of(enc, place, NEAR)
+}
+
+/// Finds the states of all contexts.
+pub(crate) fn win_all(
+    enc: &mut Enc,
+    board: &mut Board,
+    actions: u32,
+    chain: &Chain,
+) -> Result<(), SetErr>
+    requires ready { (start : Start) × IsAt start (enc.old, board.old.slots.items)
+        × (start.stages ≡ length chain.now.stages.items) }
+    requires actions { actions ≡ length enc.old.actions }
+    requires chain { IsChainOver enc.old.sets.vars chain.now }
+    ensures { (start : Start) → IsAt start (enc.old, board.old.slots.items)
+        → start.stages ≡ length chain.now.stages.items
+        → Left start (enc.new, board.new.slots.items)
+        (HasWins start (enc.old, board.old.slots.items) (enc.new, board.new.slots.items)
+        (chain_sets chain.now) 0) result }
+{
+    let stages = chain.stages.len() as u32;
+    win_end(enc, board, actions, &chain.keep, win_at(stages))?;
+    for i in (0..stages).rev() {
+        win_stage(enc, board, actions, &chain.stages[i as usize], win_at(i))?;
+    }
+    Ok(())
+}
