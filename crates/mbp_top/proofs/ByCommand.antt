@@ -9,7 +9,7 @@ use Rattle.mbp_top.specs.Causes.{IsAnswerOf, HasCause}
 use Rattle.mbp_top.specs.PlanCommand.{IsPlanAnswer}
 use Rattle.mbp_top.specs.ReplayCommand.{Tallies}
 use Rattle.mbp_top.specs.Told.{AreFilesTold, IsDue, MayStandIn}
-use Rattle.mbp_top.specs.Words.{Bytes, Command, plan, ground, check, replay, PlanOptions, PlanWords, GroundWords, CheckWords, ReplayWords, IsNodeLimit, Says, SaysOptions, SaysPlan, SaysGround, SaysCheck, SaysReplay}
+use Rattle.mbp_top.specs.Words.{Bytes, Command, PlanKind, kind_word, of_class, with_contexts, plan, ground, check, replay, PlanOptions, PlanWords, GroundWords, CheckWords, ReplayWords, IsNodeLimit, Says, SaysOptions, SaysPlan, SaysGround, SaysCheck, SaysReplay}
 use Rattle.plan_rules.specs.Texts.{class_word}
 use Rattle.mbp_top.proofs.CheckDecides.{check_decides}
 use Rattle.mbp_top.proofs.GroundDecides.{ground_command_decides}
@@ -29,6 +29,17 @@ same_class Cyclic Weak same = absurd (omega (arith, ap (λ (w : Bytes). get_or w
 same_class Cyclic Strong same = absurd (omega (arith, ap (λ (w : Bytes). get_or w 0 0) same))
 same_class Cyclic Cyclic same = refl
 
+-- and so do those of the kinds
+same_kind : (k l : PlanKind) → kind_word k ≡ kind_word l → k ≡ l
+same_kind (of_class c) (of_class d) same = ap of_class (same_class c d same)
+same_kind (of_class Weak) with_contexts same = absurd (omega (arith, ap (λ (w : Bytes). get_or w 0 0) same))
+same_kind (of_class Strong) with_contexts same = absurd (omega (arith, ap (λ (w : Bytes). get_or w 0 0) same))
+same_kind (of_class Cyclic) with_contexts same = absurd (omega (arith, ap (λ (w : Bytes). get_or w 1 0) same))
+same_kind with_contexts (of_class Weak) same = absurd (omega (arith, ap (λ (w : Bytes). get_or w 0 0) same))
+same_kind with_contexts (of_class Strong) same = absurd (omega (arith, ap (λ (w : Bytes). get_or w 0 0) same))
+same_kind with_contexts (of_class Cyclic) same = absurd (omega (arith, ap (λ (w : Bytes). get_or w 1 0) same))
+same_kind with_contexts with_contexts same = refl
+
 -- the words say one number of nodes at most
 same_options : (words : List Bytes) (v w : PlanOptions) → IsNodeLimit v.nodes → IsNodeLimit w.nodes → SaysOptions words v → SaysOptions words w → v ≡ w
 same_options words v w room room' (inl (none, is)) (inl (none', is')) = let nodes = is ∙ sym is' in λ i. record { nodes = nodes i }
@@ -42,12 +53,12 @@ same_options words v w room room' (inr some) (inr some') =
 same_plan : (words : List Bytes) (v w : PlanWords) → SaysPlan words v → SaysPlan words w → v ≡ w
 same_plan words v w says says' =
     let both = sym says.written ∙ says'.written in
-    let classes = same_class v.class w.class (ap (λ (ws : List Bytes). get_or ws 1 []) both) in
+    let kinds = same_kind v.kind w.kind (ap (λ (ws : List Bytes). get_or ws 1 []) both) in
     let domains : v.domain ≡ w.domain = ap (λ (ws : List Bytes). get_or ws 2 []) both in
     let problems : v.problem ≡ w.problem = ap (λ (ws : List Bytes). get_or ws 3 []) both in
     let rests : says.rest ≡ says'.rest = ap (λ (ws : List Bytes). drop 4 ws) both in
     let options = same_options says'.rest v.options w.options says.room says'.room (subst (λ (ws : List Bytes). SaysOptions ws v.options) rests says.options) says'.options in
-    λ i. record { class = classes i; domain = domains i; problem = problems i; options = options i }
+    λ i. record { kind = kinds i; domain = domains i; problem = problems i; options = options i }
 
 same_ground : (words : List Bytes) (v w : GroundWords) → SaysGround words v → SaysGround words w → v ≡ w
 same_ground words v w says says' =
@@ -59,11 +70,11 @@ same_ground words v w says says' =
 same_check : (words : List Bytes) (v w : CheckWords) → SaysCheck words v → SaysCheck words w → v ≡ w
 same_check words v w says says' =
     let both = sym says ∙ says' in
-    let classes = same_class v.class w.class (ap (λ (ws : List Bytes). get_or ws 1 []) both) in
+    let kinds = same_kind v.kind w.kind (ap (λ (ws : List Bytes). get_or ws 1 []) both) in
     let domains : v.domain ≡ w.domain = ap (λ (ws : List Bytes). get_or ws 2 []) both in
     let problems : v.problem ≡ w.problem = ap (λ (ws : List Bytes). get_or ws 3 []) both in
     let plans : v.plan ≡ w.plan = ap (λ (ws : List Bytes). get_or ws 4 []) both in
-    λ i. record { class = classes i; domain = domains i; problem = problems i; plan = plans i }
+    λ i. record { kind = kinds i; domain = domains i; problem = problems i; plan = plans i }
 
 not_plan_and_check : (words : List Bytes) (v : PlanWords) (w : CheckWords) → SaysPlan words v → SaysCheck words w → ⊥
 not_plan_and_check words v w says says' =

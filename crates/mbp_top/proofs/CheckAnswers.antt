@@ -1,57 +1,74 @@
 -- The verdict on a plan of a task is that for the domain and the problem that the task comes from.
-use Rattle.std.proofs.Common.{◌≡◌, ◌⊎◌, ◌≤◌, ◌<◌, ℕ, List, length, map, take, inl, inr, refl, sym, subst, ap, ◌∙◌, None, Some, IsSome}
+use Rattle.std.proofs.Common.{◌≡◌, ◌⊎◌, ◌↔◌, ◌≤◌, ◌<◌, ℕ, List, length, map, take, inl, inr, refl, sym, subst, ap, ◌∙◌, None, Some, Option, true, false, []}
+use Rattle.std.specs.Option.{option_map}
+use Rattle.std.specs.Prelude.{IsSome}
+use Rattle.ctl_syntax.specs.Conditions.{CondTree, condition_value}
+use Rattle.ctl_syntax.specs.Goals.{CtlTree}
+use Rattle.ctl_syntax.specs.Values.{ctl_value}
+use Rattle.ctl_syntax.specs.declared.goals.Ctl.{Ctl}
 use Rattle.exec_graph.specs.Executions.{ReachesMoreThan}
 use Rattle.exec_graph.specs.Initials.{HasTooManyInitial}
-use Rattle.pddl_ast.specs.Trees.{DomainTree, ProblemTree}
+use Rattle.pddl_ast.specs.Trees.{DomainTree, FormulaTree, ProblemTree, TemporalTree}
+use Rattle.pddl_system.specs.CtlGoals.{ctl_goal_of, goal_value, grounded_goal}
 use Rattle.pddl_system.specs.Fluents.{fluents}
+use Rattle.pddl_system.specs.Laws.{GroundedGoalsAreTrue}
 use Rattle.pddl_system.specs.Settings.{setting}
 use Rattle.pddl_system.specs.Sizes.{Limit, first_passed}
 use Rattle.pddl_system.specs.Systems.{action_names, entry_of, facts_of, fluent_names, system}
-use Rattle.pddl_system.specs.Tasks.{TaskTree, task_of}
+use Rattle.pddl_system.specs.Tasks.{TaskTree, condition_of, task_of}
 use Rattle.pddl_system.specs.Values.{task_value}
+use Rattle.plan_check.specs.Verdicts.{IsVerdict}
+use Rattle.plan_check.specs.ContextVerdicts.{IsContextVerdict, IsTrueAt, IsFreeOfContextReason, HasContextReason}
+use Rattle.plan_check.specs.declared.verdicts.Reason.{Reason}
+use Rattle.plan_check.specs.declared.verdicts.Reason.TheVariants.{Unexecutable, Stuck, Terminal, Cycle, Unreachable, Formula}
+use Rattle.plan_check.specs.declared.verdicts.Verdict.{Verdict}
+use Rattle.plan_check.specs.declared.verdicts.Verdict.TheVariants.{Yes, No}
 use Rattle.plan_io.specs.Held.{Held}
-use Rattle.plan_rules.specs.Rules.{PlainPlan, PlanRule, table, automaton}
+use Rattle.plan_rules.specs.Denoted.{denoted_contexts}
+use Rattle.plan_rules.specs.Rules.{PlainPlan, table, automaton}
 use Rattle.sexpr_text.specs.declared.faults.FaultKind.TheVariants.{WrongGoalKind}
 use Rattle.sexpr_text.specs.declared.forms.Place.{Place}
+use Rattle.task_core.specs.ContextPlans.{Configuration, ContextPlan}
 use Rattle.task_core.specs.Initial.{Entry, after_entries}
 use Rattle.task_core.specs.Names.{Name}
 use Rattle.task_core.specs.Systems.{System}
 use Rattle.task_core.specs.Tasks.{action_names as names_of_actions, fluent_names as names_of_fluents, states_after_entries, system_of}
 use Rattle.task_core.specs.Vectors.{Vector}
-use Rattle.task_core.specs.declared.classes.Class.{Class}
 use Rattle.task_core.specs.declared.tasks.Task.{Task}
 use Rattle.mbp_top.specs.Answers.{Answer, Refusal, refused, no_memory, over_limit, text_fault}
-use Rattle.mbp_top.specs.CheckCommand.{CheckThen, ExploreThen, HasTooManyStates, IsChecked, IsJudged, most_followed}
-use Rattle.mbp_top.specs.Grounding.{GoalThen, GroundThen, limit_name}
-use Rattle.mbp_top.specs.PlanFiles.{IsFaultyPlan, PlacedPlan, SpellsPlaced, TableThen}
+use Rattle.mbp_top.specs.CheckCommand.{CheckThen, ExploreThen, HasTooManyStates, IsChecked, IsVerdictOf, ShowsVerdict, most_followed}
+use Rattle.mbp_top.specs.Grounding.{GoalThen, GroundThen, has_goal_for, limit_name}
+use Rattle.mbp_top.specs.Judged.{HasGoalIn, IsTaskVerdict}
+use Rattle.mbp_top.specs.PlanFiles.{IsFaultyPlan, KindThen, PlacedPlan, SpellsPlaced}
 use Rattle.mbp_top.specs.Reading.{Holds, IsRefusedFile}
-use Rattle.mbp_top.specs.Words.{Bytes, CheckWords}
+use Rattle.mbp_top.specs.TemporalGoals.{HasGoal}
+use Rattle.mbp_top.specs.Words.{Bytes, CheckWords, PlanKind, of_class, with_contexts}
 use Rattle.mbp_top.proofs.Later.{read_over}
 use Rattle.mbp_top.proofs.Listings.{same_actions, same_count, same_entries, same_fluents}
 
 -- the same from what follows
-goal_map : (name : Bytes) (problem : ProblemTree) (P Q : Answer → Type 0) (a : Answer) → (P a → Q a) → GoalThen name problem P a → GoalThen name problem Q a
-goal_map name problem P Q a f (inl why) = inl why
-goal_map name problem P Q a f (inr (some, then)) = inr (some, f then)
+goal_map : (kind : PlanKind) (name : Bytes) (problem : ProblemTree) (P Q : Answer → Type 0) (a : Answer) → (P a → Q a) → GoalThen kind name problem P a → GoalThen kind name problem Q a
+goal_map kind name problem P Q a f (inl why) = inl why
+goal_map kind name problem P Q a f (inr (some, then)) = inr (some, f then)
 
 ground_map : (d : DomainTree) (p : ProblemTree) (P Q : Answer → Type 0) (a : Answer) → (P a → Q a) → GroundThen d p P a → GroundThen d p Q a
 ground_map d p P Q a f (inl why) = inl why
 ground_map d p P Q a f (inr (kept, then)) = inr (kept, f then)
 
-table_map : (name : Bytes) (place : Place) (plan : PlainPlan) (P Q : List PlanRule → Answer → Type 0) (a : Answer)
-    → ((rules : List PlanRule) → P rules a → Q rules a) → TableThen name place plan P a → TableThen name place plan Q a
-table_map name place (table class rules) P Q a f then = f rules then
-table_map name place (automaton contexts rules) P Q a f is = is
+kind_map : (kind : PlanKind) (name : Bytes) (place : Place) (plan : PlainPlan) (P Q : Answer → Type 0) (a : Answer)
+    → (P a → Q a) → KindThen kind name place plan P a → KindThen kind name place plan Q a
+kind_map kind name place plan P Q a f (inl why) = inl why
+kind_map kind name place plan P Q a f (inr (is, then)) = inr (is, f then)
 
 -- what is said from a later state of the shelf holds from the command's start
 checked_over : (held held' : Bytes → Held) (failed failed' : Bytes → Type 0) (asked : CheckWords) (d : DomainTree) (p : ProblemTree) (a : Answer)
     → ((file : Bytes) → held' file ≡ held file) → (failed' asked.plan → failed asked.plan) → IsChecked held' failed' asked d p a → IsChecked held failed asked d p a
 checked_over held held' failed failed' asked d p a same over =
-    goal_map asked.problem p (GroundThen d p (CheckThen held' failed' asked d p)) (GroundThen d p (CheckThen held failed asked d p)) a
+    goal_map asked.kind asked.problem p (GroundThen d p (CheckThen held' failed' asked d p)) (GroundThen d p (CheckThen held failed asked d p)) a
     (ground_map d p (CheckThen held' failed' asked d p) (CheckThen held failed asked d p) a
     (read_over held held' failed failed' asked.plan (SpellsPlaced (fluent_names d p) (action_names d p)) (IsFaultyPlan (fluent_names d p) (action_names d p))
-    (λ placed. TableThen asked.plan placed.place placed.plan (λ rules.
-    ExploreThen (HasTooManyStates d p) (system d p) placed.plan (IsJudged asked.class (system d p) rules))) a same over))
+    (λ placed. KindThen asked.kind asked.plan placed.place placed.plan
+    (ExploreThen (HasTooManyStates d p) (system d p) placed.plan (ShowsVerdict (IsVerdictOf asked.kind d p placed.plan)))) a same over))
 
 pub checked_later : (held held' : Bytes → Held) (failed failed' : Bytes → Type 0) (asked : CheckWords) (d : DomainTree) (p : ProblemTree) (a : Answer)
     → ((file : Bytes) → held' file ≡ held file) → (failed' asked.plan → failed asked.plan)
@@ -84,21 +101,78 @@ too_many_back d p t is many = record {
   more = subst (λ (vs : List Vector). most_followed < length vs) (sym (same_states d p t many.entries is)) many.more;
 }
 
-explored : (X Y : Type 0) (sys sys' : System) (plan : PlainPlan) (class : Class) (rules : List PlanRule) (a : Answer) → (X → Y) → (Y → X) → sys ≡ sys'
-    → ExploreThen X sys plan (IsJudged class sys rules) a → ExploreThen Y sys' plan (IsJudged class sys' rules) a
-explored X Y sys sys' plan class rules a to from same (inl (many, is)) = inl (to many, is)
-explored X Y sys sys' plan class rules a to from same (inr (inl (few, more, is))) =
+-- a verdict for one property of configurations is that for another that holds at the same ones
+module _ (sys : System) (plan : ContextPlan) (G H : Configuration → Type 0) (same : (x : Configuration) → G x ↔ H x) where
+  free_carried : (reason : Reason) → IsFreeOfContextReason sys plan G reason → IsFreeOfContextReason sys plan H reason
+  free_carried Unexecutable free = free
+  free_carried Stuck free = free
+  free_carried Terminal free = free
+  free_carried Cycle free = free
+  free_carried Unreachable free = free
+  free_carried Formula free = λ x initial. (same x).0 (free x initial)
+
+  reason_carried : (reason : Reason) → HasContextReason sys plan G reason → HasContextReason sys plan H reason
+  reason_carried Unexecutable has = has
+  reason_carried Stuck has = has
+  reason_carried Terminal has = has
+  reason_carried Cycle has = has
+  reason_carried Unreachable has = has
+  reason_carried Formula has = record { start = has.start; initial = has.initial; misses = λ h. has.misses ((same has.start).1 h) }
+
+  verdict_carried : (verdict : Verdict) → IsContextVerdict sys plan G verdict → IsContextVerdict sys plan H verdict
+  verdict_carried (Yes bound) is = record { free = λ reason. free_carried reason (is.free reason); unbounded = is.unbounded }
+  verdict_carried (No reason) is = record { has = reason_carried reason is.has; first = λ earlier before. free_carried earlier (is.first earlier before) }
+
+-- the goal of the problem that a goal of its task stands for
+one_tree : (s t : CtlTree CondTree) → Some s ≡ Some t → s ≡ t
+one_tree s t same = cc
+
+pub goal_behind : (d : DomainTree) (p : ProblemTree) (formula : Ctl) (goal : Option TemporalTree)
+    → Some (goal_value formula) ≡ option_map (grounded_goal (setting d p) (fluents d p)) goal
+    → (g : TemporalTree) × (goal ≡ Some g) × (goal_value formula ≡ grounded_goal (setting d p) (fluents d p) g)
+goal_behind d p formula None is = absurd (cc is)
+goal_behind d p formula (Some g) is = (g, refl, one_tree (goal_value formula) (grounded_goal (setting d p) (fluents d p) g) is)
+
+-- the verdict on a plan of a task is that for the domain and the problem
+context_verdict_for : GroundedGoalsAreTrue → (d : DomainTree) (p : ProblemTree) (sys : System) (formula : Ctl) (plan : ContextPlan) (v : Verdict) → sys ≡ system d p
+    → Some (goal_value formula) ≡ ctl_goal_of d p → IsContextVerdict sys plan (IsTrueAt sys plan (ctl_value formula)) v
+    → (goal : TemporalTree) × (p.ctl ≡ Some goal) × IsContextVerdict (system d p) plan (HasGoal d p plan goal) v
+context_verdict_for law d p sys formula plan v same stands verdict =
+    let behind = goal_behind d p formula p.ctl stands in
+    let here = subst (λ (s : System). IsContextVerdict s plan (IsTrueAt s plan (ctl_value formula)) v) same verdict in (
+      behind.0,
+      behind.1,
+      verdict_carried (system d p) plan (IsTrueAt (system d p) plan (ctl_value formula)) (HasGoal d p plan behind.0)
+          (λ x. law d p behind.0 (ctl_value formula) (system d p) plan x behind.2) v here,
+    )
+
+verdict_for : GroundedGoalsAreTrue → (kind : PlanKind) (d : DomainTree) (p : ProblemTree) (t : Task) (goal : Option Ctl) (plan : PlainPlan) (v : Verdict)
+    → system_of t ≡ system d p → option_map goal_value goal ≡ ctl_goal_of d p → IsTaskVerdict kind t goal plan v → IsVerdictOf kind d p plan v
+verdict_for law (of_class class) d p t goal (table written rules) v same stands verdict = subst (λ (s : System). IsVerdict s rules class v) same verdict
+verdict_for law (of_class class) d p t goal (automaton contexts rules) v same stands never = absurd never
+verdict_for law with_contexts d p t goal (table written rules) v same stands never = absurd never
+verdict_for law with_contexts d p t goal (automaton contexts rules) v same stands (formula, is, verdict) =
+    context_verdict_for law d p (system_of t) formula (denoted_contexts rules) v same
+    (ap (λ (g : Option Ctl). option_map goal_value g) (sym is) ∙ stands) verdict
+
+shown_for : (Of Of' : Verdict → Type 0) (a : Answer) → ((v : Verdict) → Of v → Of' v) → ShowsVerdict Of a → ShowsVerdict Of' a
+shown_for Of Of' a f (v, of, is) = (v, f v of, is)
+
+explored : (X Y : Type 0) (sys sys' : System) (plan : PlainPlan) (P Q : Answer → Type 0) (a : Answer) → (X → Y) → (Y → X) → sys ≡ sys' → (P a → Q a)
+    → ExploreThen X sys plan P a → ExploreThen Y sys' plan Q a
+explored X Y sys sys' plan P Q a to from same f (inl (many, is)) = inl (to many, is)
+explored X Y sys sys' plan P Q a to from same f (inr (inl (few, more, is))) =
     inr (inl (λ many. few (from many), subst (λ (s : System). ReachesMoreThan s plan most_followed) same more, is))
-explored X Y sys sys' plan class rules a to from same (inr (inr (few, small, then))) =
+explored X Y sys sys' plan P Q a to from same f (inr (inr (few, small, then))) =
     inr (inr (
       λ many. few (from many),
       λ more. small (subst (λ (s : System). ReachesMoreThan s plan most_followed) (sym same) more),
-      subst (λ (s : System). IsJudged class s rules a) same then,
+      f then,
     ))
 
 -- the file of the plan is refused
 pub plan_refused : (held : Bytes → Held) (failed : Bytes → Type 0) (asked : CheckWords) (d : DomainTree) (p : ProblemTree) (t : Task) (r : Refusal)
-    → task_value t ≡ task_of d p → first_passed d p ≡ None → IsSome p.goal
+    → task_value t ≡ task_of d p → first_passed d p ≡ None → has_goal_for asked.kind p ≡ true
     → (r ≡ no_memory) ⊎ IsRefusedFile held failed (IsFaultyPlan (names_of_fluents t) (names_of_actions t)) asked.plan r
     → (refused r ≡ refused no_memory) ⊎ IsChecked held failed asked d p (refused r)
 plan_refused held failed asked d p t r is within goal (inl memory) = inl (ap refused memory)
@@ -108,41 +182,62 @@ plan_refused held failed asked d p t r is within goal (inr why) =
     inr (inr (goal, inr (within, inl (r, refl, named))))
 
 -- the answer for a plan that was read
-pub checked_answer : (held : Bytes → Held) (failed : Bytes → Type 0) (asked : CheckWords) (d : DomainTree) (p : ProblemTree) (t : Task) (placed : PlacedPlan) (a : Answer)
-    → task_value t ≡ task_of d p → system_of t ≡ system d p → first_passed d p ≡ None → IsSome p.goal
+pub checked_answer : GroundedGoalsAreTrue → (held : Bytes → Held) (failed : Bytes → Type 0) (asked : CheckWords) (d : DomainTree) (p : ProblemTree) (t : Task) (goal : Option Ctl)
+    (placed : PlacedPlan) (a : Answer) → task_value t ≡ task_of d p → system_of t ≡ system d p → option_map goal_value goal ≡ ctl_goal_of d p
+    → first_passed d p ≡ None → has_goal_for asked.kind p ≡ true
     → Holds held (SpellsPlaced (names_of_fluents t) (names_of_actions t)) asked.plan placed
-    → (a ≡ refused no_memory) ⊎ TableThen asked.plan placed.place placed.plan (λ rules.
-    ExploreThen (HasTooManyInitial t most_followed) (system_of t) placed.plan (IsJudged asked.class (system_of t) rules)) a
+    → (a ≡ refused no_memory) ⊎ KindThen asked.kind asked.plan placed.place placed.plan
+    (ExploreThen (HasTooManyInitial t most_followed) (system_of t) placed.plan (ShowsVerdict (IsTaskVerdict asked.kind t goal placed.plan))) a
     → (a ≡ refused no_memory) ⊎ IsChecked held failed asked d p a
-checked_answer held failed asked d p t placed a is system_is within goal holds (inl memory) = inl memory
-checked_answer held failed asked d p t placed a is system_is within goal holds (inr then) =
+checked_answer law held failed asked d p t goal placed a is system_is stands within some holds (inl memory) = inl memory
+checked_answer law held failed asked d p t goal placed a is system_is stands within some holds (inr then) =
     let fluents_named = subst (λ (ns : List Name). Holds held (SpellsPlaced ns (names_of_actions t)) asked.plan placed) (same_fluents d p t is) holds in
     let named = subst (λ (ns : List Name). Holds held (SpellsPlaced (fluent_names d p) ns) asked.plan placed) (same_actions d p t is) fluents_named in
+    let Of : Verdict → Type 0 = IsTaskVerdict asked.kind t goal placed.plan in
+    let Of' : Verdict → Type 0 = IsVerdictOf asked.kind d p placed.plan in
     inr (inr (
-      goal,
+      some,
       inr (
         within,
         inr (
           placed,
           named,
-          table_map asked.plan placed.place placed.plan
-              (λ rules. ExploreThen (HasTooManyInitial t most_followed) (system_of t) placed.plan (IsJudged asked.class (system_of t) rules))
-              (λ rules. ExploreThen (HasTooManyStates d p) (system d p) placed.plan (IsJudged asked.class (system d p) rules)) a
-              (λ rules. explored (HasTooManyInitial t most_followed) (HasTooManyStates d p) (system_of t) (system d p) placed.plan asked.class rules a
-              (too_many d p t is) (too_many_back d p t is) system_is) then,
+          kind_map asked.kind asked.plan placed.place placed.plan
+              (ExploreThen (HasTooManyInitial t most_followed) (system_of t) placed.plan (ShowsVerdict Of))
+              (ExploreThen (HasTooManyStates d p) (system d p) placed.plan (ShowsVerdict Of')) a
+              (explored (HasTooManyInitial t most_followed) (HasTooManyStates d p) (system_of t) (system d p) placed.plan (ShowsVerdict Of) (ShowsVerdict Of') a
+              (too_many d p t is) (too_many_back d p t is) system_is
+              (shown_for Of Of' a (λ v. verdict_for law asked.kind d p t goal placed.plan v system_is stands))) then,
         ),
       ),
     ))
 
--- the goal is of another kind, or a limit is passed
-pub goal_refused : (name : Bytes) (p : ProblemTree) (Then : Answer → Type 0) (r : Refusal)
-    → (r ≡ no_memory) ⊎ ((p.goal ≡ None) × (r ≡ text_fault name (record { kind = WrongGoalKind; place = p.place })))
-    → (refused r ≡ refused no_memory) ⊎ GoalThen name p Then (refused r)
-goal_refused name p Then r (inl memory) = inl (ap refused memory)
-goal_refused name p Then r (inr (none, is)) = inr (inl (none, ap refused is))
+-- a task has a goal for plans of the kind where its problem has one
+has_some : {X Y : Type 0} (f : X → Y) (o : Option X) (r : Option Y) → r ≡ option_map f o → IsSome o → IsSome r
+has_some f None r is some = absurd (cc some)
+has_some f (Some x) r is some = subst IsSome (sym is) refl
 
-pub limit_refused : (name : Bytes) (d : DomainTree) (p : ProblemTree) (Then : Answer → Type 0) (r : Refusal) → IsSome p.goal
+has_some_back : {X Y : Type 0} (f : X → Y) (o : Option X) → IsSome (option_map f o) → IsSome o
+has_some_back f None some = absurd (cc some)
+has_some_back f (Some x) some = refl
+
+pub goal_in : (kind : PlanKind) (d : DomainTree) (p : ProblemTree) (t : Task) (goal : Option Ctl) → task_value t ≡ task_of d p → option_map goal_value goal ≡ ctl_goal_of d p
+    → has_goal_for kind p ≡ true → HasGoalIn kind t goal
+goal_in (of_class class) d p t goal is stands some =
+    has_some_back condition_value t.goal
+    (has_some (λ (f : FormulaTree). condition_of (setting d p) (fluents d p) f []) p.goal (task_value t).goal (ap (λ (x : TaskTree). x.goal) is) some)
+goal_in with_contexts d p t goal is stands some =
+    has_some_back goal_value goal (has_some (grounded_goal (setting d p) (fluents d p)) p.ctl (option_map goal_value goal) stands some)
+
+-- the goal is of another kind, or a limit is passed
+pub goal_refused : (kind : PlanKind) (name : Bytes) (p : ProblemTree) (Then : Answer → Type 0) (r : Refusal)
+    → (r ≡ no_memory) ⊎ ((has_goal_for kind p ≡ false) × (r ≡ text_fault name (record { kind = WrongGoalKind; place = p.place })))
+    → (refused r ≡ refused no_memory) ⊎ GoalThen kind name p Then (refused r)
+goal_refused kind name p Then r (inl memory) = inl (ap refused memory)
+goal_refused kind name p Then r (inr (none, is)) = inr (inl (none, ap refused is))
+
+pub limit_refused : (kind : PlanKind) (name : Bytes) (d : DomainTree) (p : ProblemTree) (Then : Answer → Type 0) (r : Refusal) → has_goal_for kind p ≡ true
     → (r ≡ no_memory) ⊎ ((limit : Limit) × (first_passed d p ≡ Some limit) × (r ≡ over_limit (limit_name limit)))
-    → (refused r ≡ refused no_memory) ⊎ GoalThen name p (GroundThen d p Then) (refused r)
-limit_refused name d p Then r goal (inl memory) = inl (ap refused memory)
-limit_refused name d p Then r goal (inr (limit, passed, is)) = inr (inr (goal, inl (limit, passed, ap refused is)))
+    → (refused r ≡ refused no_memory) ⊎ GoalThen kind name p (GroundThen d p Then) (refused r)
+limit_refused kind name d p Then r goal (inl memory) = inl (ap refused memory)
+limit_refused kind name d p Then r goal (inr (limit, passed, is)) = inr (inr (goal, inl (limit, passed, ap refused is)))

@@ -1,21 +1,26 @@
 -- The three files and the class decide the answer of `check`.
-use Rattle.std.proofs.Common.{◌≡◌, ◌≢◌, ◌⊎◌, ℕ, List, inl, inr, sym, subst, ap, ◌∙◌, Option, Some, None, unwrap_or}
+use Rattle.std.proofs.Common.{◌≡◌, ◌≢◌, ◌⊎◌, ℕ, List, inl, inr, sym, subst, ap, ◌∙◌, Option, Some, None, unwrap_or, true, false}
+use Rattle.std.proofs.lemmas.Bool.{false≢true}
 use Rattle.exec_graph.specs.Executions.{ReachesMoreThan}
-use Rattle.pddl_ast.specs.Trees.{DomainTree, ProblemTree}
+use Rattle.pddl_ast.specs.Trees.{DomainTree, ProblemTree, TemporalTree}
 use Rattle.pddl_system.specs.Systems.{action_names, fluent_names, system}
 use Rattle.plan_io.specs.Held.{Held, Untold}
+use Rattle.plan_check.specs.ContextVerdicts.{IsContextVerdict}
+use Rattle.plan_check.specs.declared.verdicts.Verdict.{Verdict}
+use Rattle.plan_check.proofs.ContextLaws.{same_context_verdict}
+use Rattle.plan_rules.specs.Denoted.{denoted_contexts}
 use Rattle.plan_rules.specs.Readings.{plan_read}
-use Rattle.plan_rules.specs.Rules.{PlainPlan, PlanRule, table, automaton}
+use Rattle.plan_rules.specs.Rules.{PlainPlan, table, automaton}
 use Rattle.sexpr_text.specs.Forest.{Forest}
 use Rattle.sexpr_text.specs.declared.forms.Place.{Place}
 use Rattle.task_core.specs.Names.{Name}
 use Rattle.task_core.specs.Systems.{System}
-use Rattle.task_core.specs.declared.classes.Class.{Class}
 use Rattle.mbp_top.specs.Answers.{Answer, text_fault}
-use Rattle.mbp_top.specs.CheckCommand.{CheckThen, ExploreThen, HasTooManyStates, IsCheckAnswer, IsChecked, IsJudged, most_followed, verdict_answer}
+use Rattle.mbp_top.specs.CheckCommand.{CheckThen, ExploreThen, HasTooManyStates, IsCheckAnswer, IsChecked, IsVerdictOf, ShowsVerdict, most_followed, verdict_answer}
 use Rattle.mbp_top.specs.Grounding.{GroundThen}
-use Rattle.mbp_top.specs.PlanFiles.{IsFaultyPlan, PlacedPlan, SpellsPlaced, TableThen}
-use Rattle.mbp_top.specs.Words.{Bytes, CheckWords}
+use Rattle.mbp_top.specs.PlanFiles.{IsFaultyPlan, KindThen, PlacedPlan, SpellsPlaced}
+use Rattle.mbp_top.specs.TemporalGoals.{HasGoal}
+use Rattle.mbp_top.specs.Words.{Bytes, CheckWords, PlanKind, of_class, with_contexts}
 use Rattle.mbp_top.proofs.Deciding.{Decides, IsGrammar, read_decides}
 use Rattle.mbp_top.proofs.PddlDecides.{OneReading, both_decides, goal_decides, ground_decides}
 
@@ -36,8 +41,23 @@ plan_grammar one fluents actions = record {
   not_both = λ name bytes r t wrong spelled. one.not_both_plan fluents actions bytes t.plan wrong.0 (t.place, spelled) wrong.1;
 }
 
-judged_decides : OneReading → (class : Class) (sys : System) (rules : List PlanRule) → Decides (IsJudged class sys rules) (IsJudged class sys rules)
-judged_decides one class sys rules a b (v, of_v, is) (w, of_w, is') = is ∙ (ap verdict_answer (one.one_verdict sys rules class v w of_v of_w) ∙ sym is')
+one_goal : (s t : TemporalTree) → Some s ≡ Some t → s ≡ t
+one_goal s t same = cc
+
+-- no plan has two verdicts
+one_of_kind : OneReading → (kind : PlanKind) (d : DomainTree) (p : ProblemTree) (plan : PlainPlan) (v w : Verdict) → IsVerdictOf kind d p plan v → IsVerdictOf kind d p plan w → v ≡ w
+one_of_kind one (of_class class) d p (table written rules) v w of_v of_w = one.one_verdict (system d p) rules class v w of_v of_w
+one_of_kind one (of_class class) d p (automaton contexts rules) v w never of_w = absurd never
+one_of_kind one with_contexts d p (table written rules) v w never of_w = absurd never
+one_of_kind one with_contexts d p (automaton contexts rules) v w (g, is, of_v) (h, is', of_w) =
+    let plan = denoted_contexts rules in
+    let same : h ≡ g = one_goal h g (sym is' ∙ is) in
+    same_context_verdict (system d p) plan (HasGoal d p plan g) v w of_v
+    (subst (λ (t : TemporalTree). IsContextVerdict (system d p) plan (HasGoal d p plan t) w) same of_w)
+
+judged_decides : OneReading → (kind : PlanKind) (d : DomainTree) (p : ProblemTree) (plan : PlainPlan)
+    → Decides (ShowsVerdict (IsVerdictOf kind d p plan)) (ShowsVerdict (IsVerdictOf kind d p plan))
+judged_decides one kind d p plan a b (v, of_v, is) (w, of_w, is') = is ∙ (ap verdict_answer (one_of_kind one kind d p plan v w of_v of_w) ∙ sym is')
 
 explore_decides : (TooMany : Type 0) (sys : System) (plan : PlainPlan) (Then : Answer → Type 0) → Decides Then Then
     → Decides (ExploreThen TooMany sys plan Then) (ExploreThen TooMany sys plan Then)
@@ -51,26 +71,28 @@ explore_decides TooMany sys plan Then next a b (inr (inr (few, small, then))) (i
 explore_decides TooMany sys plan Then next a b (inr (inr (few, small, then))) (inr (inl (few', more, is'))) = absurd (small more)
 explore_decides TooMany sys plan Then next a b (inr (inr (few, small, then))) (inr (inr (few', small', then'))) = next a b then then'
 
-table_decides : (name : Bytes) (place : Place) (plan : PlainPlan) (Then : List PlanRule → Answer → Type 0) → ((rules : List PlanRule) → Decides (Then rules) (Then rules))
-    → Decides (TableThen name place plan Then) (TableThen name place plan Then)
-table_decides name place (table class rules) Then next a b then then' = next rules a b then then'
-table_decides name place (automaton contexts rules) Then next a b is is' = is ∙ sym is'
+kind_decides : (kind : PlanKind) (name : Bytes) (place : Place) (plan : PlainPlan) (Then : Answer → Type 0) → Decides Then Then
+    → Decides (KindThen kind name place plan Then) (KindThen kind name place plan Then)
+kind_decides kind name place plan Then next a b (inl (other, is)) (inl (other', is')) = is ∙ sym is'
+kind_decides kind name place plan Then next a b (inl (other, is)) (inr (right, then)) = absurd (false≢true (sym other ∙ right))
+kind_decides kind name place plan Then next a b (inr (right, then)) (inl (other, is)) = absurd (false≢true (sym other ∙ right))
+kind_decides kind name place plan Then next a b (inr (right, then)) (inr (right', then')) = next a b then then'
 
 placed_decides : OneReading → (asked : CheckWords) (d : DomainTree) (p : ProblemTree) (placed : PlacedPlan)
-    → Decides (TableThen asked.plan placed.place placed.plan (λ rules. ExploreThen (HasTooManyStates d p) (system d p) placed.plan (IsJudged asked.class (system d p) rules)))
-    (TableThen asked.plan placed.place placed.plan (λ rules. ExploreThen (HasTooManyStates d p) (system d p) placed.plan (IsJudged asked.class (system d p) rules)))
+    → Decides (KindThen asked.kind asked.plan placed.place placed.plan (ExploreThen (HasTooManyStates d p) (system d p) placed.plan (ShowsVerdict (IsVerdictOf asked.kind d p placed.plan))))
+    (KindThen asked.kind asked.plan placed.place placed.plan (ExploreThen (HasTooManyStates d p) (system d p) placed.plan (ShowsVerdict (IsVerdictOf asked.kind d p placed.plan))))
 placed_decides one asked d p placed =
-    table_decides asked.plan placed.place placed.plan
-    (λ rules. ExploreThen (HasTooManyStates d p) (system d p) placed.plan (IsJudged asked.class (system d p) rules))
-    (λ rules. explore_decides (HasTooManyStates d p) (system d p) placed.plan (IsJudged asked.class (system d p) rules)
-    (judged_decides one asked.class (system d p) rules))
+    kind_decides asked.kind asked.plan placed.place placed.plan
+    (ExploreThen (HasTooManyStates d p) (system d p) placed.plan (ShowsVerdict (IsVerdictOf asked.kind d p placed.plan)))
+    (explore_decides (HasTooManyStates d p) (system d p) placed.plan (ShowsVerdict (IsVerdictOf asked.kind d p placed.plan))
+    (judged_decides one asked.kind d p placed.plan))
 
 check_then_decides : OneReading → (held : Bytes → Held) (failed failed' : Bytes → Type 0) (asked : CheckWords) (d : DomainTree) (p : ProblemTree)
     → held asked.plan ≢ Untold → ((file : Bytes) → failed file → ⊥) → ((file : Bytes) → failed' file → ⊥)
     → Decides (CheckThen held failed asked d p) (CheckThen held failed' asked d p)
 check_then_decides one held failed failed' asked d p told quiet quiet' =
-    let Then : PlacedPlan → Answer → Type 0 = λ placed. TableThen asked.plan placed.place placed.plan (λ rules.
-    ExploreThen (HasTooManyStates d p) (system d p) placed.plan (IsJudged asked.class (system d p) rules)) in
+    let Then : PlacedPlan → Answer → Type 0 = λ placed. KindThen asked.kind asked.plan placed.place placed.plan
+    (ExploreThen (HasTooManyStates d p) (system d p) placed.plan (ShowsVerdict (IsVerdictOf asked.kind d p placed.plan))) in
     read_decides held failed failed' asked.plan (SpellsPlaced (fluent_names d p) (action_names d p)) (IsFaultyPlan (fluent_names d p) (action_names d p))
     Then Then told (quiet asked.plan) (quiet' asked.plan) (plan_grammar one (fluent_names d p) (action_names d p)) (λ placed holds. placed_decides one asked d p placed)
 
@@ -80,6 +102,6 @@ pub check_decides : OneReading → (held : Bytes → Held) (failed failed' : Byt
     → Decides (IsCheckAnswer held failed asked) (IsCheckAnswer held failed' asked)
 check_decides one held failed failed' asked told told' told'' quiet quiet' =
     both_decides one held failed failed' asked.domain asked.problem (IsChecked held failed asked) (IsChecked held failed' asked) told told' quiet quiet' (λ d p.
-    goal_decides asked.problem p (GroundThen d p (CheckThen held failed asked d p)) (GroundThen d p (CheckThen held failed' asked d p))
+    goal_decides asked.kind asked.problem p (GroundThen d p (CheckThen held failed asked d p)) (GroundThen d p (CheckThen held failed' asked d p))
     (ground_decides d p (CheckThen held failed asked d p) (CheckThen held failed' asked d p)
     (check_then_decides one held failed failed' asked d p told'' quiet quiet')))

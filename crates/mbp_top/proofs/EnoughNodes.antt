@@ -28,38 +28,58 @@ few_slots slots most P Q few =
     let e : slots * P ≤ most * P = mul-le-mul_right P few in
     omega arith
 
--- a bound on the slots by the number of actions and an action's slots
-slots_of_actions : (A M : ℕ) → A * (M + 1) + 220 ≤ A * (M + 6) + 256
-slots_of_actions A M =
-    let e : A * (M + 1) ≤ A * (M + 6) = grind arith in
+-- a bound on the slots by the number of actions, an action's slots and the stages
+slots_of_actions : (n A M : ℕ) → A * (M + 1) + 220 ≤ A * (M + n + 6) + 8 * n + 256
+slots_of_actions n A M =
+    let e : A * (M + 1) ≤ A * (M + n + 6) = grind arith in
     omega arith
 
-slots_of_planner : (L A M : ℕ) → L ≤ A * (M + 1) + 5 → L + (3 * A + 32) ≤ A * (M + 6) + 256
+slots_of_planner : (L A M : ℕ) → L ≤ A * (M + 1) + 5 → L + (3 * A + 32) ≤ A * (M + 0 + 6) + 8 * 0 + 256
 slots_of_planner L A M few =
-    let e : A * (M + 1) + 3 * A ≤ A * (M + 6) = grind arith in
+    let e : A * (M + 1) + 3 * A ≤ A * (M + 0 + 6) = grind arith in
     omega arith
 
-tight_for_slots : TightIsMonotone → (t : Task) (limit slots : ℕ)
-    → slots ≤ action_count t * (most_of_task t * (fluent_count t + 1) + 6) + 256
-    → Tight limit (fluent_count t) (nodes_of_slots slots (fluent_count t)) → IsTightLimit limit (system_of t)
-tight_for_slots monotone t limit slots few tight =
+slots_of_chain : (n L A M : ℕ) → L ≤ A * (M + 1) + 5 → L + (A * (n + 3) + 8 * n + 236) ≤ A * (M + n + 6) + 8 * n + 256
+slots_of_chain n L A M few =
+    let e : A * (M + 1) + A * (n + 3) ≤ A * (M + n + 6) = grind arith in
+    omega arith
+
+tight_for_slots : TightIsMonotone → (t : Task) (n limit slots : ℕ)
+    → slots ≤ action_count t * (most_of_task t * (fluent_count t + 1) + n + 6) + 8 * n + 256
+    → Tight limit (fluent_count t) (nodes_of_slots slots (fluent_count t)) → IsTightLimit n limit (system_of t)
+tight_for_slots monotone t n limit slots few tight =
     let F = fluent_count t in
     let A = action_count t in
-    let bound : slots ≤ A * (most_outcomes (system_of t) * (F + 1) + 6) + 256 =
-    subst (λ m. slots ≤ A * (m * (F + 1) + 6) + 256) (same_most t) few in
-    monotone limit F (nodes_of_slots slots F) (enough (system_of t)) (few_slots slots (A * (most_outcomes (system_of t) * (F + 1) + 6) + 256) (2 ^ F) (4 ^ F) bound) tight
+    let bound : slots ≤ A * (most_outcomes (system_of t) * (F + 1) + n + 6) + 8 * n + 256 =
+    subst (λ m. slots ≤ A * (m * (F + 1) + n + 6) + 8 * n + 256) (same_most t) few in
+    monotone limit F (nodes_of_slots slots F) (enough n (system_of t)) (few_slots slots (A * (most_outcomes (system_of t) * (F + 1) + n + 6) + 8 * n + 256) (2 ^ F) (4 ^ F) bound) tight
 
 -- while the sets of the task are made
-pub tight_for_sets : TightIsMonotone → (t : Task) (limit : ℕ)
-    → Tight limit (fluent_count t) (nodes_of_slots (working_slots t) (fluent_count t)) → IsTightLimit limit (system_of t)
-tight_for_sets monotone t limit tight =
-    tight_for_slots monotone t limit (working_slots t) (slots_of_actions (action_count t) (most_of_task t * (fluent_count t + 1))) tight
+pub tight_for_sets : TightIsMonotone → (t : Task) (n limit : ℕ)
+    → Tight limit (fluent_count t) (nodes_of_slots (working_slots t) (fluent_count t)) → IsTightLimit n limit (system_of t)
+tight_for_sets monotone t n limit tight =
+    tight_for_slots monotone t n limit (working_slots t) (slots_of_actions n (action_count t) (most_of_task t * (fluent_count t + 1))) tight
 
--- while a plan is looked for
-pub tight_for_planner : TightIsMonotone → (t : Task) (sets : LiveSets) (limit : ℕ) → sets.vars ≡ fluent_count t → sets.limit ≡ limit
-    → live_count sets ≤ kept_slots t → IsTightFor (3 * action_count t + 32) sets → IsTightLimit limit (system_of t)
-tight_for_planner monotone t sets limit of_vars of_limit few tight =
-    let slots = live_count sets + (3 * action_count t + 32) in
-    tight_for_slots monotone t limit slots (slots_of_planner (live_count sets) (action_count t) (most_of_task t * (fluent_count t + 1)) few)
+-- of the sets that are live
+tight_for_live : TightIsMonotone → (t : Task) (n : ℕ) (sets : LiveSets) (limit more : ℕ) → sets.vars ≡ fluent_count t → sets.limit ≡ limit
+    → live_count sets + more ≤ action_count t * (most_of_task t * (fluent_count t + 1) + n + 6) + 8 * n + 256
+    → IsTightFor more sets → IsTightLimit n limit (system_of t)
+tight_for_live monotone t n sets limit more of_vars of_limit few tight =
+    let slots = live_count sets + more in
+    tight_for_slots monotone t n limit slots few
     (subst (λ (l : ℕ). Tight l (fluent_count t) (nodes_of_slots slots (fluent_count t))) of_limit
     (subst (λ (v : ℕ). Tight sets.limit v (nodes_of_slots slots v)) of_vars tight))
+
+-- while a plan of a class is looked for
+pub tight_for_planner : TightIsMonotone → (t : Task) (sets : LiveSets) (limit : ℕ) → sets.vars ≡ fluent_count t → sets.limit ≡ limit
+    → live_count sets ≤ kept_slots t → IsTightFor (3 * action_count t + 32) sets → IsTightLimit 0 limit (system_of t)
+tight_for_planner monotone t sets limit of_vars of_limit few tight =
+    tight_for_live monotone t 0 sets limit (3 * action_count t + 32) of_vars of_limit
+    (slots_of_planner (live_count sets) (action_count t) (most_of_task t * (fluent_count t + 1)) few) tight
+
+-- while a plan for a chain of n stages is
+pub tight_for_chain : TightIsMonotone → (t : Task) (n : ℕ) (sets : LiveSets) (limit : ℕ) → sets.vars ≡ fluent_count t → sets.limit ≡ limit
+    → live_count sets ≤ kept_slots t → IsTightFor (action_count t * (n + 3) + 8 * n + 236) sets → IsTightLimit n limit (system_of t)
+tight_for_chain monotone t n sets limit of_vars of_limit few tight =
+    tight_for_live monotone t n sets limit (action_count t * (n + 3) + 8 * n + 236) of_vars of_limit
+    (slots_of_chain n (live_count sets) (action_count t) (most_of_task t * (fluent_count t + 1)) few) tight

@@ -5,6 +5,8 @@ pub mod OneCyclicPlan
 pub mod GroundDecides
 pub mod CheckDecides
 pub mod CheckAnswers
+pub mod ChainSets
+pub mod ChainAnswers
 pub mod CheckWritten
 pub mod PlanWritten
 pub mod GroundWritten

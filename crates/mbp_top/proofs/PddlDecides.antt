@@ -17,10 +17,10 @@ use Rattle.task_core.specs.Names.{Name}
 use Rattle.task_core.specs.Systems.{System}
 use Rattle.task_core.specs.declared.classes.Class.{Class}
 use Rattle.mbp_top.specs.Answers.{Answer, Refusal, refused, text_fault, over_limit, no_memory, is_shown}
-use Rattle.mbp_top.specs.Grounding.{GoalThen, GroundThen, limit_name}
+use Rattle.mbp_top.specs.Grounding.{GoalThen, GroundThen, has_goal_for, limit_name}
 use Rattle.mbp_top.specs.PddlTexts.{SpellsProblemOf, IsFaultyDomain, IsFaultyProblem, HoldBoth, ReadBoth}
 use Rattle.mbp_top.specs.Reading.{ReadThen}
-use Rattle.mbp_top.specs.Words.{Bytes}
+use Rattle.mbp_top.specs.Words.{Bytes, PlanKind}
 use Rattle.mbp_top.proofs.Deciding.{Decides, IsGrammar, read_decides, read_as}
 
 -- every text spells one domain at most or has one fault at most, and not both; and so a problem, and a plan. And
@@ -96,12 +96,12 @@ refused_both held failed domain problem Then r (inl memory) = inl memory
 refused_both held failed domain problem Then r (inr why) = inr (refused_before held failed domain problem Then (refused r) why)
 
 -- the goal's kind, and the limits, decide the answer, if what follows does
-pub goal_decides : (name : Bytes) (problem : ProblemTree) (Then Then' : Answer → Type 0) → Decides Then Then'
-    → Decides (GoalThen name problem Then) (GoalThen name problem Then')
-goal_decides name problem Then Then' next a b (inl (none, is)) (inl (none', is')) = is ∙ sym is'
-goal_decides name problem Then Then' next a b (inl (none, is)) (inr (some, then)) = absurd (false≢true (subst IsSome none some))
-goal_decides name problem Then Then' next a b (inr (some, then)) (inl (none, is)) = absurd (false≢true (subst IsSome none some))
-goal_decides name problem Then Then' next a b (inr (some, then)) (inr (some', then')) = next a b then then'
+pub goal_decides : (kind : PlanKind) (name : Bytes) (problem : ProblemTree) (Then Then' : Answer → Type 0) → Decides Then Then'
+    → Decides (GoalThen kind name problem Then) (GoalThen kind name problem Then')
+goal_decides kind name problem Then Then' next a b (inl (none, is)) (inl (none', is')) = is ∙ sym is'
+goal_decides kind name problem Then Then' next a b (inl (none, is)) (inr (some, then)) = absurd (false≢true (sym none ∙ some))
+goal_decides kind name problem Then Then' next a b (inr (some, then)) (inl (none, is)) = absurd (false≢true (sym none ∙ some))
+goal_decides kind name problem Then Then' next a b (inr (some, then)) (inr (some', then')) = next a b then then'
 
 one_limit : (l m : Limit) → Some l ≡ Some m → l ≡ m
 one_limit l m same = cc
@@ -142,9 +142,9 @@ pub shown_grounded : (domain : DomainTree) (problem : ProblemTree) (Then : Answe
 shown_grounded domain problem Then a shown (inl (l, passed, is)) = absurd (not_refused (over_limit (limit_name l)) a is shown)
 shown_grounded domain problem Then a shown (inr then) = then
 
-pub shown_goal : (name : Bytes) (problem : ProblemTree) (Then : Answer → Type 0) (a : Answer) → is_shown a ≡ true → GoalThen name problem Then a → Then a
-shown_goal name problem Then a shown (inl (none, is)) = absurd (not_refused _ a is shown)
-shown_goal name problem Then a shown (inr (some, then)) = then
+pub shown_goal : (kind : PlanKind) (name : Bytes) (problem : ProblemTree) (Then : Answer → Type 0) (a : Answer) → is_shown a ≡ true → GoalThen kind name problem Then a → Then a
+shown_goal kind name problem Then a shown (inl (none, is)) = absurd (not_refused _ a is shown)
+shown_goal kind name problem Then a shown (inr (some, then)) = then
 
 -- where the limits are kept, or there is a goal, the answer is what follows
 pub within_limits : (domain : DomainTree) (problem : ProblemTree) (Then : Answer → Type 0) (a : Answer) → first_passed domain problem ≡ None
@@ -152,6 +152,7 @@ pub within_limits : (domain : DomainTree) (problem : ProblemTree) (Then : Answer
 within_limits domain problem Then a kept (inl (l, passed, is)) = absurd (cc (passed, kept))
 within_limits domain problem Then a kept (inr (kept', then)) = then
 
-pub with_goal : (name : Bytes) (problem : ProblemTree) (Then : Answer → Type 0) (a : Answer) → IsSome problem.goal → GoalThen name problem Then a → Then a
-with_goal name problem Then a some (inl (none, is)) = absurd (false≢true (subst IsSome none some))
-with_goal name problem Then a some (inr (some', then)) = then
+pub with_goal : (kind : PlanKind) (name : Bytes) (problem : ProblemTree) (Then : Answer → Type 0) (a : Answer) → has_goal_for kind problem ≡ true
+    → GoalThen kind name problem Then a → Then a
+with_goal kind name problem Then a some (inl (none, is)) = absurd (false≢true (sym none ∙ some))
+with_goal kind name problem Then a some (inr (some', then)) = then

@@ -1,5 +1,5 @@
 -- The answer for a plan that was found, for a system and names that are equal, and for what was read.
-use Rattle.std.proofs.Common.{◌≡◌, ◌⊎◌, ℕ, List, Contains, subst, sym, ap, ◌∙◌, inl, inr, refl, None, IsSome, All}
+use Rattle.std.proofs.Common.{◌≡◌, ◌⊎◌, ℕ, List, Contains, subst, sym, ap, ◌∙◌, inl, inr, refl, None, IsSome, All, true}
 use Rattle.std.specs.Prelude.{IfOk, Result, Ok, Err}
 use Rattle.dd_sets.specs.declared.errors.SetErr.{SetErr}
 use Rattle.reach_plan.specs.Found.{IfNoPlan, IfPlan}
@@ -7,10 +7,8 @@ use Rattle.reach_plan.specs.declared.planner.Found.{Found}
 use Rattle.reach_plan.specs.declared.planner.Found.TheVariants.{NoPlan, Plan}
 use Rattle.plan_rules.specs.Plans.{IsRuleOf}
 use Rattle.pddl_ast.specs.Trees.{DomainTree, ProblemTree}
-use Rattle.pddl_system.specs.Sizes.{first_passed}
 use Rattle.pddl_system.specs.Systems.{action_names, fluent_names, system}
-use Rattle.pddl_system.specs.Tasks.{task_of}
-use Rattle.pddl_system.specs.Values.{task_value}
+use Rattle.pddl_system.specs.Sizes.{first_passed}
 use Rattle.task_core.specs.Tasks.{action_count, fluent_count, action_names as names_of_actions, fluent_names as names_of_fluents, system_of}
 use Rattle.task_core.specs.declared.tasks.Task.{Task}
 use Rattle.task_core.specs.Systems.{IsSystem, System}
@@ -32,10 +30,11 @@ use Rattle.reach_plan.specs.Printed.{printed_rules}
 use Rattle.mbp_top.specs.Answers.{Answer, affirmed, full, no_memory, refused}
 use Rattle.mbp_top.specs.Enough.{IsTightLimit}
 use Rattle.mbp_top.specs.FoundPlans.{IsFoundPlan, IsSearched}
-use Rattle.mbp_top.specs.Grounding.{GroundThen}
+use Rattle.mbp_top.specs.Grounded.{IsTaskOf}
+use Rattle.mbp_top.specs.Grounding.{GoalThen, GroundThen, has_goal_for}
 use Rattle.mbp_top.specs.PddlTexts.{HoldBoth, ReadBoth}
-use Rattle.mbp_top.specs.PlanCommand.{ArePrintedRules, IsPlanAnswer, IsPlanResult, IsPlanned, IsShortest, MayBeTooFew, PlanThen}
-use Rattle.mbp_top.specs.Words.{Bytes, PlanWords}
+use Rattle.mbp_top.specs.PlanCommand.{ArePrintedRules, IsPlanAnswer, IsPlanResult, IsPlanned, IsResultOf, IsShortest, MayBeTooFew, PlanThen, is_sought, stages_for}
+use Rattle.mbp_top.specs.Words.{Bytes, PlanKind, PlanWords, of_class}
 use Rattle.mbp_top.proofs.Listings.{same_actions, same_fluents}
 
 pub plan_is_result : (class : Class) (t : Task) (p : TablePlan) (text : Bytes) → IsFoundPlan class t p
@@ -73,22 +72,21 @@ same_result class sys sys' fluents fluents' actions actions' answer s f a h =
     (subst (λ (y : List Name). IsPlanResult class sys fluents y answer) a h))
 
 -- the answer for a task is that for the domain and the problem that it comes from
-pub planned_answer : (asked : PlanWords) (d : DomainTree) (p : ProblemTree) (t : Task) (a : Answer) → task_value t ≡ task_of d p → system_of t ≡ system d p
-    → first_passed d p ≡ None → IsPlanResult asked.class (system_of t) (names_of_fluents t) (names_of_actions t) a → GroundThen d p (PlanThen asked d p) a
-planned_answer asked d p t a is system_is within result =
-    inr (
-      within,
-      same_result asked.class (system_of t) (system d p) (names_of_fluents t) (fluent_names d p) (names_of_actions t) (action_names d p) a
-          system_is (same_fluents d p t is) (same_actions d p t is) result,
-    )
+pub planned_answer : (asked : PlanWords) (class : Class) (d : DomainTree) (p : ProblemTree) (t : Task) (a : Answer) → asked.kind ≡ of_class class → IsTaskOf d p t
+    → IsPlanResult class (system_of t) (names_of_fluents t) (names_of_actions t) a → PlanThen asked d p a
+planned_answer asked class d p t a kind of result =
+    subst (λ (k : PlanKind). IsResultOf k asked.problem d p a) (sym kind)
+    (same_result class (system_of t) (system d p) (names_of_fluents t) (fluent_names d p) (names_of_actions t) (action_names d p) a
+    of.system_is (same_fluents d p t of.task_is) (same_actions d p t of.task_is) result)
 
 -- the nodes may be too few for the problem where they may be for its task
-pub too_few : (asked : PlanWords) (d : DomainTree) (p : ProblemTree) (t : Task) → system_of t ≡ system d p → IsSome p.goal → first_passed d p ≡ None
-    → IsTightLimit asked.options.nodes (system_of t) → MayBeTooFew asked d p
-too_few asked d p t system_is goal within tight = record {
-  goal = goal;
-  within = within;
-  tight = subst (IsTightLimit asked.options.nodes) system_is tight;
+pub too_few : (asked : PlanWords) (class : Class) (d : DomainTree) (p : ProblemTree) (t : Task) → asked.kind ≡ of_class class → IsTaskOf d p t → IsSome p.goal
+    → IsTightLimit 0 asked.options.nodes (system_of t) → MayBeTooFew asked d p
+too_few asked class d p t kind of goal tight = record {
+  goal = subst (λ (k : PlanKind). is_sought k p ≡ true) (sym kind) goal;
+  within = of.within;
+  tight = subst (λ (k : PlanKind). IsTightLimit (stages_for k p) asked.options.nodes (system d p)) (sym kind)
+      (subst (IsTightLimit 0 asked.options.nodes) of.system_is tight);
 }
 
 -- no solution is shorter than the plan of the printed rules
@@ -132,10 +130,10 @@ pub found_plan : (class : Class) (t : Task) (r : Result Found SetErr)
     → IfOk r (λ found. IfPlan found (λ plan. IsSolution class (system_of t) (denoted (system_of t) (rules_of plan))))
     → IfOk r (λ found. IfPlan found (λ plan. IsExecutable (system_of t) (rules_of plan)))
     → IfOk r (λ found. IfNoPlan found (HasNoSolution class (system_of t))) → IsSearched class t r
-found_plan class t (Err e) shortest of_class printed in_task table solves executable none = tt
-found_plan class t (Ok NoPlan) shortest of_class printed in_task table solves executable none = none
-found_plan class t (Ok (Plan p)) shortest of_class printed in_task table solves executable none = record {
-  of_class = of_class;
+found_plan class t (Err e) shortest is_class printed in_task table solves executable none = tt
+found_plan class t (Ok NoPlan) shortest is_class printed in_task table solves executable none = none
+found_plan class t (Ok (Plan p)) shortest is_class printed in_task table solves executable none = record {
+  of_class = is_class;
   in_task = in_task;
   printed = printed;
   table = table;
@@ -143,3 +141,11 @@ found_plan class t (Ok (Plan p)) shortest of_class printed in_task table solves 
   executable = executable;
   shortest = shortest (rules_of p) printed;
 }
+
+-- once the goal and the limits are found to be as they are wanted, what follows is the answer
+pub planned_then : (asked : PlanWords) (d : DomainTree) (p : ProblemTree) (a : Answer) → has_goal_for asked.kind p ≡ true → first_passed d p ≡ None
+    → (a ≡ refused no_memory) ⊎ (MayBeTooFew asked d p × (a ≡ refused (full asked.options.nodes))) ⊎ PlanThen asked d p a
+    → (a ≡ refused no_memory) ⊎ (MayBeTooFew asked d p × (a ≡ refused (full asked.options.nodes))) ⊎ IsPlanned asked d p a
+planned_then asked d p a goal within (inl memory) = inl memory
+planned_then asked d p a goal within (inr (inl few)) = inr (inl few)
+planned_then asked d p a goal within (inr (inr then)) = inr (inr (inr (goal, inr (within, then))))

@@ -1,22 +1,27 @@
 -- The two files and the class decide the answer of `plan`, unless the table of nodes is full.
-use Rattle.std.proofs.Common.{◌≡◌, ◌≢◌, ℕ, true, false, ◌<◌, List, inl, inr, sym, ap, ◌∙◌, arith}
+use Rattle.std.proofs.Common.{◌≡◌, ◌≢◌, ℕ, true, false, ◌<◌, List, length, inl, inr, sym, subst, ap, ◌∙◌, arith, Some}
+use Rattle.chain_goals.specs.Chains.{context_count}
+use Rattle.chain_goals.specs.Printed.{chain_rules}
+use Rattle.ctl_syntax.specs.Chains.{PlainChain}
+use Rattle.pddl_ast.specs.Trees.{DomainTree, FormulaTree, ProblemTree}
 use Rattle.plan_io.specs.Held.{Held, Untold}
 use Rattle.pddl_system.specs.Systems.{system, fluent_names, action_names}
 use Rattle.pddl_system.proofs.States.{they_have_a_system}
 use Rattle.task_core.specs.Systems.{IsSystem, System}
-use Rattle.plan_rules.specs.Denoted.{denoted}
+use Rattle.plan_rules.specs.Denoted.{denoted, denoted_contexts}
 use Rattle.plan_rules.specs.Rules.{PlanRule}
-use Rattle.plan_rules.specs.Texts.{table_text}
+use Rattle.plan_rules.specs.Texts.{automaton_text, table_text}
 use Rattle.task_core.specs.Names.{Name}
 use Rattle.task_core.specs.declared.classes.Class.{Class}
 use Rattle.task_core.specs.declared.classes.Class.TheVariants.{Weak, Strong, Cyclic}
 use Rattle.reach_plan.specs.Layers.{IsLastLayer}
 use Rattle.reach_plan.specs.Printed.{printed_rules}
-use Rattle.mbp_top.specs.Answers.{affirmed}
+use Rattle.mbp_top.specs.Answers.{Answer, affirmed}
+use Rattle.mbp_top.specs.ChainGoals.{ChainThen, chained_of, most_stages}
 use Rattle.mbp_top.specs.Grounding.{GroundThen}
 use Rattle.mbp_top.specs.PddlTexts.{ReadBoth}
-use Rattle.mbp_top.specs.PlanCommand.{ArePrintedRules, AreRulesOfLayers, IsPrintedText, IsPlanResult, IsPlanned, PlanThen}
-use Rattle.mbp_top.specs.Words.{Bytes, PlanWords}
+use Rattle.mbp_top.specs.PlanCommand.{ArePrintedRules, AreRulesOfLayers, IsContextResult, IsPrintedChain, IsPrintedText, IsPlanResult, IsPlanned, IsResultOf, PlanThen}
+use Rattle.mbp_top.specs.Words.{Bytes, PlanKind, PlanWords, of_class, with_contexts}
 use Rattle.mbp_top.proofs.Deciding.{Decides}
 use Rattle.mbp_top.proofs.OneCyclicPlan.{one_cyclic}
 use Rattle.mbp_top.proofs.PddlDecides.{OneReading, both_decides, goal_decides, ground_decides}
@@ -53,11 +58,42 @@ result_decides class sys ok fluents actions a b (inl p) (inr n) = absurd (n.none
 result_decides class sys ok fluents actions a b (inr n) (inl p) = absurd (n.none (denoted sys p.solves.rules) p.solves.table p.solves.solves)
 result_decides class sys ok fluents actions a b (inr m) (inr n) = m.shown ∙ sym n.shown
 
+-- one chain at most
+one_chain : (c e : PlainChain FormulaTree) → Some c ≡ Some e → c ≡ e
+one_chain c e same = cc
+
+printed_once : (d : DomainTree) (p : ProblemTree) (text other : Bytes) → IsPrintedChain d p text → IsPrintedChain d p other → text ≡ other
+printed_once d p text other (c, is, spelled) (e, is', spelled') =
+    spelled
+    ∙ (ap (λ (x : PlainChain FormulaTree). automaton_text (fluent_names d p) (action_names d p) (context_count (chained_of d p x)) (chain_rules (system d p) (chained_of d p x))) (one_chain c e (sym is ∙ is'))
+    ∙ sym spelled')
+
+context_decides : (d : DomainTree) (p : ProblemTree) → Decides (IsContextResult d p) (IsContextResult d p)
+context_decides d p a b (inl f) (inl g) = f.shown ∙ (ap affirmed (printed_once d p f.text g.text f.printed g.printed) ∙ sym g.shown)
+context_decides d p a b (inl f) (inr n) = absurd (n.none (denoted_contexts f.meets.rules) f.meets.met)
+context_decides d p a b (inr n) (inl f) = absurd (n.none (denoted_contexts f.meets.rules) f.meets.met)
+context_decides d p a b (inr m) (inr n) = m.shown ∙ sym n.shown
+
+chain_decides : (name : Bytes) (p : ProblemTree) (Then : Answer → Type 0) → Decides Then Then → Decides (ChainThen name p (λ chain. Then)) (ChainThen name p (λ chain. Then))
+chain_decides name p Then next a b (inl (none, is)) (inl (none', is')) = is ∙ sym is'
+chain_decides name p Then next a b (inl (none, is)) (inr (c, some, why)) = absurd (cc (none, some))
+chain_decides name p Then next a b (inr (c, some, why)) (inl (none, is)) = absurd (cc (none, some))
+chain_decides name p Then next a b (inr (c, some, inl (many, is))) (inr (e, some', inl (many', is'))) = is ∙ sym is'
+chain_decides name p Then next a b (inr (c, some, inl (many, is))) (inr (e, some', inr (few, then))) =
+    absurd (let less : most_stages < length e.stages = subst (λ (x : PlainChain FormulaTree). most_stages < length x.stages) (one_chain c e (sym some ∙ some')) many in omega (arith, less, few))
+chain_decides name p Then next a b (inr (c, some, inr (few, then))) (inr (e, some', inl (many, is))) =
+    absurd (let less : most_stages < length c.stages = subst (λ (x : PlainChain FormulaTree). most_stages < length x.stages) (one_chain e c (sym some' ∙ some)) many in omega (arith, less, few))
+chain_decides name p Then next a b (inr (c, some, inr (few, then))) (inr (e, some', inr (few', then'))) = next a b then then'
+
+kind_decides : (kind : PlanKind) (name : Bytes) (d : DomainTree) (p : ProblemTree) → Decides (IsResultOf kind name d p) (IsResultOf kind name d p)
+kind_decides (of_class class) name d p = result_decides class (system d p) (they_have_a_system d p) (fluent_names d p) (action_names d p)
+kind_decides with_contexts name d p = chain_decides name p (IsContextResult d p) (context_decides d p)
+
 pub plan_decides : OneReading → (held : Bytes → Held) (failed failed' : Bytes → Type 0) (asked : PlanWords)
     → held asked.domain ≢ Untold → held asked.problem ≢ Untold → ((file : Bytes) → failed file → ⊥) → ((file : Bytes) → failed' file → ⊥)
     → Decides (ReadBoth held failed asked.domain asked.problem (IsPlanned asked)) (ReadBoth held failed' asked.domain asked.problem (IsPlanned asked))
 plan_decides one held failed failed' asked told told' quiet quiet' =
     both_decides one held failed failed' asked.domain asked.problem (IsPlanned asked) (IsPlanned asked) told told' quiet quiet' (λ d p.
-    goal_decides asked.problem p (GroundThen d p (PlanThen asked d p)) (GroundThen d p (PlanThen asked d p))
+    goal_decides asked.kind asked.problem p (GroundThen d p (PlanThen asked d p)) (GroundThen d p (PlanThen asked d p))
     (ground_decides d p (PlanThen asked d p) (PlanThen asked d p)
-    (result_decides asked.class (system d p) (they_have_a_system d p) (fluent_names d p) (action_names d p))))
+    (kind_decides asked.kind asked.problem d p)))

@@ -1,5 +1,5 @@
 -- Worked examples of printed plans and listings, from the trees to the text.
-use Rattle.std.proofs.Common.{◌≡◌, ℕ, true, false, [], ◌∷◌, ◌++◌, codes, Some, refl}
+use Rattle.std.proofs.Common.{◌≡◌, ℕ, true, false, [], ◌∷◌, ◌++◌, codes, None, Some, refl}
 use Rattle.sexpr_text.specs.declared.forms.Place.{Place}
 use Rattle.task_core.specs.declared.classes.Class.TheVariants.{Weak}
 use Rattle.pddl_ast.specs.Trees.{DomainTree, ProblemTree, add, all, atom, both, one_of, no_effect, effect_then, no_formula}
@@ -39,7 +39,9 @@ coin_up = record {
   facts = [];
   entries = [];
   goal = Some (atom 0 []);
+  ctl = None;
   place = record { line = 1; column = 1 };
+  ctl_place = record { line = 1; column = 1 };
 }
 
 coin_needs_a_step : covers Weak (system coin coin_up) 0 ≡ false

@@ -1,24 +1,30 @@
 -- `plan`: what was written at status 0, 1 and 5, and which statuses come.
-use Rattle.std.proofs.Common.{◌≡◌, ◌≢◌, ℕ, List, ◌⊎◌, inl, inr, refl, sym, arith, ◌∙◌, ap, true, IsSome, None}
+use Rattle.std.proofs.Common.{◌≡◌, ◌≢◌, ℕ, List, ◌⊎◌, inl, inr, refl, sym, arith, ◌∙◌, ap, true, false, Some, None, Option, length, ◌≤◌}
 use Rattle.std.specs.Io.KnownBytes.{append_known}
+use Rattle.std.specs.Option.{option_and_then, option_map_or}
+use Rattle.std.specs.Prelude.{is_some, nat_le}
+use Rattle.std.proofs.lemmas.Bool.{false≢true, leb-true}
+use Rattle.ctl_syntax.specs.Chains.{PlainChain, chain_of}
+use Rattle.pddl_system.specs.CtlGoals.{ctl_tree}
 use Rattle.plan_io.specs.Held.{Held, Untold}
-use Rattle.pddl_ast.specs.Trees.{DomainTree, ProblemTree}
+use Rattle.pddl_ast.specs.Trees.{DomainTree, FormulaTree, ProblemTree, TemporalTree}
 use Rattle.pddl_system.specs.Sizes.{first_passed}
 use Rattle.pddl_system.specs.Systems.{system, fluent_names, action_names}
 use Rattle.task_core.specs.Names.{Name}
 use Rattle.task_core.specs.declared.classes.Class.{Class}
 use Rattle.task_core.specs.Systems.{System}
 use Rattle.task_core.specs.Solutions.{HasNoSolution}
-use Rattle.mbp_top.specs.Answers.{Answer, Refusal, refused, no_memory, full, status_of, status_of_refusal, text_of, is_shown}
+use Rattle.mbp_top.specs.Answers.{Answer, Refusal, affirmed, denied, refused, no_memory, full, status_of, status_of_refusal, text_of, is_shown}
 use Rattle.mbp_top.specs.Delivery.{IsWhole, Seen}
-use Rattle.mbp_top.specs.Grounding.{GroundThen}
+use Rattle.mbp_top.specs.Grounding.{GroundThen, has_goal_for}
 use Rattle.mbp_top.specs.Enough.{IsTightLimit}
 use Rattle.mbp_top.specs.PddlTexts.{HoldBoth, IsFaultyDomain, IsFaultyProblem, ReadBoth}
-use Rattle.mbp_top.specs.PlanCommand.{IsSolvingText, IsPrintedText, IsPlanFound, IsPlanMissing, IsPlanResult, IsPlanAnswer, IsPlanned, IsShortestText, MayRunOut, PlanThen, no_plan_text}
+use Rattle.mbp_top.specs.PlanCommand.{HasNoPlan, IsContextResult, IsGoodText, IsPlanAnswer, IsPlanResult, IsPlanned, IsResultOf, IsShortText, IsTextPrinted, MayRunOut, PlanThen, is_sought, no_plan_text, stages_for}
+use Rattle.mbp_top.specs.ChainGoals.{ChainThen, goal_chain, is_short_chain, most_stages}
 use Rattle.mbp_top.specs.Reading.{IsRefusedFile}
 use Rattle.mbp_top.specs.Told.{AreFilesTold, NoFault}
 use Rattle.mbp_top.specs.ReplayCommand.{Tallies}
-use Rattle.mbp_top.specs.Words.{Bytes, PlanWords, plan, SaysPlan}
+use Rattle.mbp_top.specs.Words.{Bytes, PlanKind, PlanWords, plan, SaysPlan, of_class, with_contexts}
 use Rattle.mbp_top.proofs.ByCommand.{of_command}
 use Rattle.mbp_top.proofs.PddlDecides.{OneReading, ReadFor, both_as, not_refused, shown_both, shown_goal, shown_grounded, with_goal, within_limits}
 use Rattle.mbp_top.proofs.Statuses.{Done, shown_at, undisturbed, whole_delivery, written_shown}
@@ -28,7 +34,7 @@ pub record PlanFor (held : Bytes → Held) (asked : PlanWords) (answer : Answer)
   pub domain : DomainTree
   pub problem : ProblemTree
   pub both : HoldBoth held asked.domain asked.problem domain problem
-  pub result : IsPlanResult asked.class (system domain problem) (fluent_names domain problem) (action_names domain problem) answer
+  pub result : IsResultOf asked.kind asked.problem domain problem answer
 
 plan_for : (held : Bytes → Held) (asked : PlanWords) (a : Answer) → is_shown a ≡ true → ReadFor held asked.domain asked.problem (IsPlanned asked) a → PlanFor held asked a
 plan_for held asked a shown read = record {
@@ -36,7 +42,7 @@ plan_for held asked a shown read = record {
   problem = read.problem;
   both = read.both;
   result = (shown_grounded read.domain read.problem (PlanThen asked read.domain read.problem) a shown
-      (shown_goal asked.problem read.problem (GroundThen read.domain read.problem (PlanThen asked read.domain read.problem)) a shown read.result)).1;
+      (shown_goal asked.kind asked.problem read.problem (GroundThen read.domain read.problem (PlanThen asked read.domain read.problem)) a shown read.result)).1;
 }
 
 shown_plan : (held : Bytes → Held) (failed : Bytes → Type 0) (asked : PlanWords) (a : Answer) → is_shown a ≡ true
@@ -45,13 +51,43 @@ shown_plan held failed asked a shown (inl is) = absurd (not_refused no_memory a 
 shown_plan held failed asked a shown (inr (inl (may, is))) = absurd (not_refused (full asked.options.nodes) a is shown)
 shown_plan held failed asked a shown (inr (inr is)) = plan_for held asked a shown (shown_both held failed asked.domain asked.problem (IsPlanned asked) a shown is)
 
-plan_found : (class : Class) (sys : System) (fluents actions : List Name) (a : Answer) → IsPlanResult class sys fluents actions a → status_of a ≡ 0 → IsPlanFound class sys fluents actions a
-plan_found class sys fluents actions a (inl found) zero = found
-plan_found class sys fluents actions a (inr missing) zero = absurd (let e : 0 ≡ 1 = sym zero ∙ ap status_of missing.shown in omega arith)
+-- what is shown: a plan of the kind, with what is said of it, or that there is none
+record Found (kind : PlanKind) (d : DomainTree) (p : ProblemTree) (answer : Answer) : Type 0 where
+  text : Bytes
+  shown : answer ≡ affirmed text
+  good : IsGoodText kind d p text
+  short : IsShortText kind d p text
+  printed : IsTextPrinted kind d p text
 
-plan_missing : (class : Class) (sys : System) (fluents actions : List Name) (a : Answer) → IsPlanResult class sys fluents actions a → status_of a ≡ 1 → IsPlanMissing class sys a
-plan_missing class sys fluents actions a (inl found) one = absurd (let e : 1 ≡ 0 = sym one ∙ ap status_of found.shown in omega arith)
-plan_missing class sys fluents actions a (inr missing) one = missing
+record Lacking (kind : PlanKind) (d : DomainTree) (p : ProblemTree) (answer : Answer) : Type 0 where
+  shown : answer ≡ denied no_plan_text
+  none : HasNoPlan kind d p
+
+of_class_result : (class : Class) (d : DomainTree) (p : ProblemTree) (a : Answer) → IsPlanResult class (system d p) (fluent_names d p) (action_names d p) a
+    → Found (of_class class) d p a ⊎ Lacking (of_class class) d p a
+of_class_result class d p a (inl f) = inl (record { text = f.text; shown = f.shown; good = f.solves; short = f.shortest; printed = f.printed })
+of_class_result class d p a (inr n) = inr (record { shown = n.shown; none = n.none })
+
+of_context_result : (d : DomainTree) (p : ProblemTree) (a : Answer) → IsContextResult d p a → Found with_contexts d p a ⊎ Lacking with_contexts d p a
+of_context_result d p a (inl f) = inl (record { text = f.text; shown = f.shown; good = f.meets; short = tt; printed = f.printed })
+of_context_result d p a (inr n) = inr (record { shown = n.shown; none = n.none })
+
+shown_chain : (name : Bytes) (p : ProblemTree) (Then : Answer → Type 0) (a : Answer) → is_shown a ≡ true → ChainThen name p (λ chain. Then) a → Then a
+shown_chain name p Then a shown (inl (none, is)) = absurd (not_refused _ a is shown)
+shown_chain name p Then a shown (inr (c, some, inl (many, is))) = absurd (not_refused _ a is shown)
+shown_chain name p Then a shown (inr (c, some, inr (few, then))) = then
+
+of_result : (kind : PlanKind) (name : Bytes) (d : DomainTree) (p : ProblemTree) (a : Answer) → is_shown a ≡ true → IsResultOf kind name d p a → Found kind d p a ⊎ Lacking kind d p a
+of_result (of_class class) name d p a shown r = of_class_result class d p a r
+of_result with_contexts name d p a shown r = of_context_result d p a (shown_chain name p (IsContextResult d p) a shown r)
+
+plan_found : (kind : PlanKind) (d : DomainTree) (p : ProblemTree) (a : Answer) → Found kind d p a ⊎ Lacking kind d p a → status_of a ≡ 0 → Found kind d p a
+plan_found kind d p a (inl found) zero = found
+plan_found kind d p a (inr lacking) zero = absurd (let e : 0 ≡ 1 = sym zero ∙ ap status_of lacking.shown in omega arith)
+
+plan_missing : (kind : PlanKind) (d : DomainTree) (p : ProblemTree) (a : Answer) → Found kind d p a ⊎ Lacking kind d p a → status_of a ≡ 1 → Lacking kind d p a
+plan_missing kind d p a (inl found) one = absurd (let e : 1 ≡ 0 = sym one ∙ ap status_of found.shown in omega arith)
+plan_missing kind d p a (inr lacking) one = lacking
 
 -- what was written at status 0
 pub record PlanWritten (held : Bytes → Held) (asked : PlanWords) (out out' : Seen) : Type 0 where
@@ -59,9 +95,9 @@ pub record PlanWritten (held : Bytes → Held) (asked : PlanWords) (out out' : S
   pub problem : ProblemTree
   pub text : Bytes
   pub both : HoldBoth held asked.domain asked.problem domain problem
-  pub solves : IsSolvingText asked.class (system domain problem) (fluent_names domain problem) (action_names domain problem) text
-  pub shortest : IsShortestText asked.class (system domain problem) (fluent_names domain problem) (action_names domain problem) text
-  pub printed : IsPrintedText asked.class (system domain problem) (fluent_names domain problem) (action_names domain problem) text
+  pub good : IsGoodText asked.kind domain problem text
+  pub short : IsShortText asked.kind domain problem text
+  pub printed : IsTextPrinted asked.kind domain problem text
   pub written : out'.written ≡ append_known out.written text
 
 pub plan_written : (held : Bytes → Held) (failed : Bytes → Type 0) (tallies : Tallies) (words : List Bytes) (before after : ℕ) (out out' err err' : Seen) (status : ℕ) (a : Answer) (asked : PlanWords)
@@ -71,14 +107,14 @@ plan_written held failed tallies words before after out out' err err' status a a
     let code : status_of a ≡ 0 = sym whole.0 ∙ zero in
     let shown = shown_at a (inl code) in
     let trees = shown_plan held failed asked a shown (of_command held failed tallies words (plan asked) a says d.cause) in
-    let found = plan_found asked.class (system trees.domain trees.problem) (fluent_names trees.domain trees.problem) (action_names trees.domain trees.problem) a trees.result code in
+    let found = plan_found asked.kind trees.domain trees.problem a (of_result asked.kind asked.problem trees.domain trees.problem a shown trees.result) code in
     record {
       domain = trees.domain;
       problem = trees.problem;
       text = found.text;
       both = trees.both;
-      solves = found.solves;
-      shortest = found.shortest;
+      good = found.good;
+      short = found.short;
       printed = found.printed;
       written = written_shown a found.text out out' err err' whole.1 shown (ap text_of found.shown);
     }
@@ -88,7 +124,7 @@ pub record NoPlanWritten (held : Bytes → Held) (asked : PlanWords) (out out' :
   pub domain : DomainTree
   pub problem : ProblemTree
   pub both : HoldBoth held asked.domain asked.problem domain problem
-  pub none : HasNoSolution asked.class (system domain problem)
+  pub none : HasNoPlan asked.kind domain problem
   pub written : out'.written ≡ append_known out.written no_plan_text
 
 pub no_plan_written : (held : Bytes → Held) (failed : Bytes → Type 0) (tallies : Tallies) (words : List Bytes) (before after : ℕ) (out out' err err' : Seen) (status : ℕ) (a : Answer) (asked : PlanWords)
@@ -98,7 +134,7 @@ no_plan_written held failed tallies words before after out out' err err' status 
     let code : status_of a ≡ 1 = sym whole.0 ∙ one in
     let shown = shown_at a (inr code) in
     let trees = shown_plan held failed asked a shown (of_command held failed tallies words (plan asked) a says d.cause) in
-    let missing = plan_missing asked.class (system trees.domain trees.problem) (fluent_names trees.domain trees.problem) (action_names trees.domain trees.problem) a trees.result code in
+    let missing = plan_missing asked.kind trees.domain trees.problem a (of_result asked.kind asked.problem trees.domain trees.problem a shown trees.result) code in
     record {
       domain = trees.domain;
       problem = trees.problem;
@@ -107,10 +143,44 @@ no_plan_written held failed tallies words before after out out' err err' status 
       written = written_shown a no_plan_text out out' err err' whole.1 shown (ap text_of missing.shown);
     }
 
-result_code : (class : Class) (sys : System) (fluents actions : List Name) (a : Answer) (status : ℕ) → IsPlanResult class sys fluents actions a → status ≡ status_of a
+-- the status of what is looked for
+class_code : (class : Class) (sys : System) (fluents actions : List Name) (a : Answer) (status : ℕ) → IsPlanResult class sys fluents actions a → status ≡ status_of a
     → (status ≡ 0) ⊎ (status ≡ 1) ⊎ (status ≡ 8)
-result_code class sys fluents actions a status (inl found) code = inl (code ∙ ap status_of found.shown)
-result_code class sys fluents actions a status (inr missing) code = inr (inl (code ∙ ap status_of missing.shown))
+class_code class sys fluents actions a status (inl found) code = inl (code ∙ ap status_of found.shown)
+class_code class sys fluents actions a status (inr missing) code = inr (inl (code ∙ ap status_of missing.shown))
+
+context_code : (d : DomainTree) (p : ProblemTree) (a : Answer) (status : ℕ) → IsContextResult d p a → status ≡ status_of a → (status ≡ 0) ⊎ (status ≡ 1) ⊎ (status ≡ 8)
+context_code d p a status (inl found) code = inl (code ∙ ap status_of found.shown)
+context_code d p a status (inr missing) code = inr (inl (code ∙ ap status_of missing.shown))
+
+-- a short chain is neither refused nor too long
+never_short : (o : Option (PlainChain FormulaTree)) → o ≡ None → option_map_or (λ (c : PlainChain FormulaTree). nat_le (length c.stages) most_stages) o false ≡ true → ⊥
+never_short o none short = false≢true (sym (ap (λ (x : Option (PlainChain FormulaTree)). option_map_or (λ c. nat_le (length c.stages) most_stages) x false) none) ∙ short)
+
+within_limit : (n : ℕ) → nat_le n most_stages ≡ true → n ≤ most_stages
+within_limit n short = leb-true n most_stages short
+
+few_of : (o : Option (PlainChain FormulaTree)) (c : PlainChain FormulaTree) → o ≡ Some c → option_map_or (λ (c : PlainChain FormulaTree). nat_le (length c.stages) most_stages) o false ≡ true → length c.stages ≤ most_stages
+few_of o c some short = within_limit (length c.stages) (sym (ap (λ (x : Option (PlainChain FormulaTree)). option_map_or (λ c. nat_le (length c.stages) most_stages) x false) some) ∙ short)
+
+chain_sought : (name : Bytes) (p : ProblemTree) (Then : Answer → Type 0) (a : Answer) → is_short_chain p ≡ true → ChainThen name p (λ chain. Then) a → Then a
+chain_sought name p Then a short (inl (none, is)) = absurd (never_short (goal_chain p) none short)
+chain_sought name p Then a short (inr (c, some, inl (many, is))) = absurd (let few = few_of (goal_chain p) c some short in omega (arith, many, few))
+chain_sought name p Then a short (inr (c, some, inr (few, then))) = then
+
+result_code : (kind : PlanKind) (name : Bytes) (d : DomainTree) (p : ProblemTree) (a : Answer) (status : ℕ) → is_sought kind p ≡ true → IsResultOf kind name d p a → status ≡ status_of a
+    → (status ≡ 0) ⊎ (status ≡ 1) ⊎ (status ≡ 8)
+result_code (of_class class) name d p a status sought r code = class_code class (system d p) (fluent_names d p) (action_names d p) a status r code
+result_code with_contexts name d p a status sought r code = context_code d p a status (chain_sought name p (IsContextResult d p) a sought r) code
+
+-- a plan that is looked for has a goal
+some_chain : (o : Option TemporalTree) → option_map_or (λ (c : PlainChain FormulaTree). nat_le (length c.stages) most_stages) (option_and_then (λ goal. chain_of (ctl_tree goal)) o) false ≡ true → is_some o ≡ true
+some_chain None short = absurd (false≢true short)
+some_chain (Some g) short = refl
+
+sought_has_goal : (kind : PlanKind) (p : ProblemTree) → is_sought kind p ≡ true → has_goal_for kind p ≡ true
+sought_has_goal (of_class class) p sought = sought
+sought_has_goal with_contexts p sought = some_chain p.ctl sought
 
 -- a file that is refused has another status than a full table
 refused_not_full : (held : Bytes → Held) (failed : Bytes → Type 0) (Wrong : Bytes → Bytes → Refusal → Type 0) (name : Bytes) (r : Refusal)
@@ -118,6 +188,21 @@ refused_not_full : (held : Bytes → Held) (failed : Bytes → Type 0) (Wrong : 
 refused_not_full held failed Wrong name r wrong (inl (is, why)) five = omega (arith, ap status_of_refusal is, five)
 refused_not_full held failed Wrong name r wrong (inr (inl (is, long))) five = omega (arith, ap status_of_refusal is, five)
 refused_not_full held failed Wrong name r wrong (inr (inr misspelled)) five = omega (arith, wrong misspelled.bytes misspelled.wrong, five)
+
+-- and so has what is looked for
+class_not_full : (class : Class) (sys : System) (fluents actions : List Name) (a : Answer) → IsPlanResult class sys fluents actions a → status_of a ≢ 5
+class_not_full class sys fluents actions a (inl found) five = omega (arith, ap status_of found.shown, five)
+class_not_full class sys fluents actions a (inr missing) five = omega (arith, ap status_of missing.shown, five)
+
+context_not_full : (d : DomainTree) (p : ProblemTree) (a : Answer) → IsContextResult d p a → status_of a ≢ 5
+context_not_full d p a (inl found) five = omega (arith, ap status_of found.shown, five)
+context_not_full d p a (inr missing) five = omega (arith, ap status_of missing.shown, five)
+
+result_not_full : (kind : PlanKind) (name : Bytes) (d : DomainTree) (p : ProblemTree) (a : Answer) → IsResultOf kind name d p a → status_of a ≢ 5
+result_not_full (of_class class) name d p a r five = class_not_full class (system d p) (fluent_names d p) (action_names d p) a r five
+result_not_full with_contexts name d p a (inl (none, is)) five = omega (arith, ap status_of is, five)
+result_not_full with_contexts name d p a (inr (c, some, inl (many, is))) five = omega (arith, ap status_of is, five)
+result_not_full with_contexts name d p a (inr (c, some, inr (few, r))) five = context_not_full d p a r five
 
 -- and so has whatever follows the reading of both files
 read_not_full : (held : Bytes → Held) (failed : Bytes → Type 0) (asked : PlanWords) (a : Answer)
@@ -128,8 +213,7 @@ read_not_full held failed asked a (inr (d, holds, inl (r, is, why))) five =
     refused_not_full held failed (IsFaultyProblem d) asked.problem r (λ bytes wrong. ap status_of_refusal wrong.2) why (sym (ap status_of is) ∙ five)
 read_not_full held failed asked a (inr (d, holds, inr (p, holds', inl (none, is)))) five = omega (arith, ap status_of is, five)
 read_not_full held failed asked a (inr (d, holds, inr (p, holds', inr (some, inl (l, passed, is))))) five = omega (arith, ap status_of is, five)
-read_not_full held failed asked a (inr (d, holds, inr (p, holds', inr (some, inr (within, inl found))))) five = omega (arith, ap status_of found.shown, five)
-read_not_full held failed asked a (inr (d, holds, inr (p, holds', inr (some, inr (within, inr missing))))) five = omega (arith, ap status_of missing.shown, five)
+read_not_full held failed asked a (inr (d, holds, inr (p, holds', inr (some, inr (within, then))))) five = result_not_full asked.kind asked.problem d p a then five
 
 -- what was written at status 5
 pub record FullWritten (held : Bytes → Held) (asked : PlanWords) (err err' : Seen) : Type 0 where
@@ -158,16 +242,16 @@ full_written held failed tallies words before after out out' err err' status a a
 -- the nodes are too few for the problem that both files spell, if they are for what is known of them
 tight_of : OneReading → (held : Bytes → Held) (failed : Bytes → Type 0) (asked : PlanWords) (domain : DomainTree) (problem : ProblemTree) (a : Answer)
     → held asked.domain ≢ Untold → held asked.problem ≢ Untold → ((file : Bytes) → failed file → ⊥)
-    → HoldBoth held asked.domain asked.problem domain problem → MayRunOut held asked → IsTightLimit asked.options.nodes (system domain problem)
+    → HoldBoth held asked.domain asked.problem domain problem → MayRunOut held asked → IsTightLimit (stages_for asked.kind problem) asked.options.nodes (system domain problem)
 tight_of one held failed asked domain problem a told told' quiet both may =
-    both_as one held failed asked.domain asked.problem (λ d p b. IsTightLimit asked.options.nodes (system d p)) domain problem a told told' quiet both
+    both_as one held failed asked.domain asked.problem (λ d p b. IsTightLimit (stages_for asked.kind p) asked.options.nodes (system d p)) domain problem a told told' quiet both
     (inr (may.domain, may.both.holds_domain, inr (may.problem, may.both.holds_problem, may.few.tight)))
 
 -- the status where the files spell a domain and a problem of it within the limits
 pub plan_status : OneReading → (held : Bytes → Held) (failed : Bytes → Type 0) (tallies : Tallies) (words : List Bytes) (before after : ℕ) (out out' err err' : Seen) (status : ℕ) (a : Answer)
     (asked : PlanWords) (domain : DomainTree) (problem : ProblemTree) → Done held failed tallies words before after out out' err err' status a
     → SaysPlan words asked → HoldBoth held asked.domain asked.problem domain problem
-    → IsSome problem.goal → first_passed domain problem ≡ None → (IsTightLimit asked.options.nodes (system domain problem) → ⊥)
+    → is_sought asked.kind problem ≡ true → first_passed domain problem ≡ None → (IsTightLimit (stages_for asked.kind problem) asked.options.nodes (system domain problem) → ⊥)
     → AreFilesTold held words → ((file : Bytes) → failed file → ⊥)
     → NoFault out.faults out'.faults → NoFault err.faults err'.faults → (status ≡ 0) ⊎ (status ≡ 1) ⊎ (status ≡ 8)
 plan_status one held failed tallies words before after out out' err err' status a asked domain problem d says both goal kept room told quiet no_out no_err =
@@ -181,9 +265,9 @@ plan_status one held failed tallies words before after out out' err err' status 
           absurd (room (tight_of one held failed asked domain problem a
           (told (plan asked) asked.domain says (0, omega arith, refl)) (told (plan asked) asked.problem says (1, omega arith, refl)) quiet both may))
       go (inr (inr is)) =
-          result_code asked.class (system domain problem) (fluent_names domain problem) (action_names domain problem) a status
+          result_code asked.kind asked.problem domain problem a status goal
           (within_limits domain problem (PlanThen asked domain problem) a kept
-          (with_goal asked.problem problem (GroundThen domain problem (PlanThen asked domain problem)) a goal
+          (with_goal asked.kind asked.problem problem (GroundThen domain problem (PlanThen asked domain problem)) a (sought_has_goal asked.kind problem goal)
           (both_as one held failed asked.domain asked.problem (IsPlanned asked) domain problem a
           (told (plan asked) asked.domain says (0, omega arith, refl)) (told (plan asked) asked.problem says (1, omega arith, refl)) quiet both is)))
           code

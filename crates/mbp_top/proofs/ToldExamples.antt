@@ -7,7 +7,7 @@ use Rattle.task_core.specs.declared.classes.Class.TheVariants.{Weak, Strong}
 use Rattle.mbp_top.specs.Answers.{full, no_command, over_limit, read_fault, refused, status_of, text_of}
 use Rattle.mbp_top.specs.ReplayCommand.{Tallies}
 use Rattle.mbp_top.specs.Told.{AreFilesTold, IsDue}
-use Rattle.mbp_top.specs.Words.{Bytes, Command, PlanWords, plan, ground, check, replay, Says, files_of}
+use Rattle.mbp_top.specs.Words.{Bytes, Command, PlanWords, of_class, plan, ground, check, replay, Says, files_of}
 
 -- the words `plan weak coin-d coin-p`, the command that they say, and the two files that it names
 abbrev coin_words : List Bytes
@@ -15,7 +15,7 @@ coin_words = codes "plan" ∷ codes "weak" ∷ codes "coin-d" ∷ codes "coin-p"
 
 abbrev coin_plan : PlanWords
 coin_plan = record {
-  class = Weak;
+  kind = of_class Weak;
   domain = codes "coin-d";
   problem = codes "coin-p";
   options = record { nodes = 1048576 };
@@ -34,7 +34,7 @@ coin_files = refl
 
 -- the words `plan strong coin-d coin-p --nodes 40`, and the command that they say
 few_said : Says (codes "plan" ∷ codes "strong" ∷ codes "coin-d" ∷ codes "coin-p" ∷ codes "--nodes" ∷ codes "40" ∷ [])
-    (plan (record { class = Strong; domain = codes "coin-d"; problem = codes "coin-p"; options = record { nodes = 40 } }))
+    (plan (record { kind = of_class Strong; domain = codes "coin-d"; problem = codes "coin-p"; options = record { nodes = 40 } }))
 unfolding digits
 few_said = record {
   room = (omega arith, omega arith);

@@ -1,33 +1,33 @@
 -- The command `check`: the verdict on a plan that is handed in.
 use Rattle.std.specs.Prelude.{◌≡◌, ℕ, ◌<◌, ◌≤◌, ◌⊎◌, List, ◌++◌, codes, decimal, length, map, take}
-use Rattle.std.specs.Prelude.{Some, None}
+use Rattle.std.specs.Prelude.{Option, Some, None}
 use Rattle.exec_graph.specs.Executions.{ReachesMoreThan}
-use Rattle.pddl_ast.specs.Trees.{DomainTree, ProblemTree}
+use Rattle.pddl_ast.specs.Trees.{DomainTree, ProblemTree, TemporalTree}
 use Rattle.pddl_system.specs.Fluents.{fluents}
 use Rattle.pddl_system.specs.Settings.{setting}
 use Rattle.pddl_system.specs.Systems.{action_names, entry_of, facts_of, fluent_names, system}
-use Rattle.plan_check.specs.Verdicts.{CanFollowRules, IsVerdict}
+use Rattle.plan_check.specs.ContextVerdicts.{IsContextVerdict, IsFirstContextReason}
+use Rattle.plan_check.specs.Verdicts.{CanFollowRules, IsBound, IsFirstReason, IsVerdict}
 use Rattle.plan_check.specs.declared.verdicts.Reason.{Reason}
 use Rattle.plan_check.specs.declared.verdicts.Reason.TheVariants.{Unexecutable, Stuck, Terminal}
 use Rattle.plan_check.specs.declared.verdicts.Reason.TheVariants.{Cycle, Unreachable, Formula}
 use Rattle.plan_check.specs.declared.verdicts.Verdict.{Verdict}
 use Rattle.plan_check.specs.declared.verdicts.Verdict.TheVariants.{Yes, No}
 use Rattle.plan_io.specs.Held.{Held}
-use Rattle.plan_rules.specs.Denoted.{denoted}
-use Rattle.plan_rules.specs.Rules.{PlainPlan, PlanRule, table}
+use Rattle.plan_rules.specs.Denoted.{denoted, denoted_contexts}
+use Rattle.plan_rules.specs.Rules.{PlainPlan, PlanRule, table, automaton}
 use Rattle.plan_rules.specs.Texts.{line_feed}
-use Rattle.sexpr_text.specs.declared.forms.Place.{Place}
 use Rattle.task_core.specs.Initial.{after_entries}
-use Rattle.task_core.specs.Names.{Name}
 use Rattle.task_core.specs.Solutions.{IsSolution}
 use Rattle.task_core.specs.Systems.{System}
 use Rattle.task_core.specs.declared.classes.Class.{Class}
 use Rattle.mbp_top.specs.Answers.{Answer, affirmed, denied, refused, over_limit}
 use Rattle.mbp_top.specs.Grounding.{GoalThen, GroundThen}
 use Rattle.mbp_top.specs.PddlTexts.{ReadBoth}
-use Rattle.mbp_top.specs.PlanFiles.{PlacedPlan, SpellsPlaced, IsFaultyPlan, TableThen}
-use Rattle.mbp_top.specs.Reading.{Holds, ReadThen}
-use Rattle.mbp_top.specs.Words.{Bytes, CheckWords}
+use Rattle.mbp_top.specs.PlanFiles.{SpellsPlaced, IsFaultyPlan, KindThen}
+use Rattle.mbp_top.specs.Reading.{ReadThen}
+use Rattle.mbp_top.specs.TemporalGoals.{HasGoal, MeetsProblem}
+use Rattle.mbp_top.specs.Words.{Bytes, CheckWords, PlanKind, of_class, with_contexts}
 
 -- how many initial states, and how many configurations, are followed at most
 abbrev pub most_followed : ℕ
@@ -67,12 +67,23 @@ verdict_answer (Yes None) = affirmed (codes "yes" ++ line_feed)
 verdict_answer (Yes (Some bound)) = affirmed (codes "yes bound " ++ decimal bound ++ line_feed)
 verdict_answer (No reason) = denied (codes "no " ++ reason_word reason ++ line_feed)
 
--- the answer is the verdict on the rules as a plan of the class
-abbrev pub IsJudged : Class → System → List PlanRule → Answer → Type 0
-IsJudged class sys rules answer =
-    (verdict : Verdict) × IsVerdict sys rules class verdict × (answer ≡ verdict_answer verdict)
+-- what is shown is a verdict with this property
+abbrev pub ShowsVerdict : (Verdict → Type 0) → Answer → Type 0
+ShowsVerdict IsOf answer = (verdict : Verdict) × IsOf verdict × (answer ≡ verdict_answer verdict)
 
--- what follows once both are read and within the limits: the plan is read, it is a table, it is
+-- the verdict on a plan of the kind: on a table, as a plan of the class for the goal by
+-- reachability; on a plan with contexts, for the goal in computation tree logic
+abbrev pub IsVerdictOf : PlanKind → DomainTree → ProblemTree → PlainPlan → Verdict → Type 0
+IsVerdictOf (of_class class) domain problem (table written rules) verdict =
+    IsVerdict (system domain problem) rules class verdict
+IsVerdictOf (of_class class) domain problem (automaton contexts rules) verdict = ⊥
+IsVerdictOf with_contexts domain problem (table written rules) verdict = ⊥
+IsVerdictOf with_contexts domain problem (automaton contexts rules) verdict =
+    (goal : TemporalTree) × (problem.ctl ≡ Some goal)
+    × IsContextVerdict (system domain problem) (denoted_contexts rules)
+    (HasGoal domain problem (denoted_contexts rules) goal) verdict
+
+-- what follows once both are read and within the limits: the plan is read, it is of the kind, it is
 -- followed, and judged
 abbrev pub CheckThen : (Bytes → Held) → (Bytes → Type 0) → CheckWords → DomainTree → ProblemTree
     → Answer → Type 0
@@ -80,15 +91,15 @@ CheckThen held failed asked domain problem =
     ReadThen held failed asked.plan
     (SpellsPlaced (fluent_names domain problem) (action_names domain problem))
     (IsFaultyPlan (fluent_names domain problem) (action_names domain problem)) (λ placed.
-    TableThen asked.plan placed.place placed.plan (λ rules.
-    ExploreThen (HasTooManyStates domain problem) (system domain problem) placed.plan
-    (IsJudged asked.class (system domain problem) rules)))
+    KindThen asked.kind asked.plan placed.place placed.plan
+    (ExploreThen (HasTooManyStates domain problem) (system domain problem) placed.plan
+    (ShowsVerdict (IsVerdictOf asked.kind domain problem placed.plan))))
 
 -- what follows once both are read
 abbrev pub IsChecked : (Bytes → Held) → (Bytes → Type 0) → CheckWords → DomainTree
     → ProblemTree → Answer → Type 0
 IsChecked held failed asked domain problem =
-    GoalThen asked.problem problem
+    GoalThen asked.kind asked.problem problem
     (GroundThen domain problem (CheckThen held failed asked domain problem))
 
 -- the answer of the command
@@ -96,17 +107,36 @@ abbrev pub IsCheckAnswer : (Bytes → Held) → (Bytes → Type 0) → CheckWord
 IsCheckAnswer held failed asked =
     ReadBoth held failed asked.domain asked.problem (IsChecked held failed asked)
 
--- the file of this name spells a table with these rules
-pub record HoldsTable (held : Bytes → Held) (fluents actions : List Name) (name : Bytes)
-    (rules : List PlanRule) : Type 0 where
-  pub class : Class
-  pub place : Place
-  pub holds : Holds held (SpellsPlaced fluents actions) name
-      (record { plan = table class rules; place = place })
-
--- the plan in the files of these words solves the problem in them: each rule that matches a state
--- which it may reach can be followed there, and the table that its rules denote is a solution of
--- the class
+-- a table solves the problem: each rule that matches a state which it may reach can be followed
+-- there, and the table that its rules denote is a solution of the class
 pub record IsSolved (class : Class) (sys : System) (rules : List PlanRule) : Type 0 where
   pub executable : CanFollowRules sys rules
   pub solves : IsSolution class sys (denoted sys rules)
+
+-- a plan of the kind meets the goal that is wanted of it
+abbrev pub IsMet : PlanKind → DomainTree → ProblemTree → PlainPlan → Type 0
+IsMet (of_class class) domain problem (table written rules) =
+    IsSolved class (system domain problem) rules
+IsMet (of_class class) domain problem (automaton contexts rules) = ⊥
+IsMet with_contexts domain problem (table written rules) = ⊥
+IsMet with_contexts domain problem (automaton contexts rules) =
+    MeetsProblem domain problem (denoted_contexts rules)
+
+-- the bound that comes with a yes: a plan with contexts has none
+abbrev pub HasBound : PlanKind → DomainTree → ProblemTree → PlainPlan → Option ℕ → Type 0
+HasBound (of_class class) domain problem (table written rules) bound =
+    IsBound (system domain problem) (denoted (system domain problem) rules) class bound
+HasBound (of_class class) domain problem (automaton contexts rules) bound = ⊥
+HasBound with_contexts domain problem (table written rules) bound = ⊥
+HasBound with_contexts domain problem (automaton contexts rules) bound = bound ≡ None
+
+-- the first reason that speaks against the plan
+abbrev pub IsFirstAgainst : PlanKind → DomainTree → ProblemTree → PlainPlan → Reason → Type 0
+IsFirstAgainst (of_class class) domain problem (table written rules) reason =
+    IsFirstReason (system domain problem) rules reason class
+IsFirstAgainst (of_class class) domain problem (automaton contexts rules) reason = ⊥
+IsFirstAgainst with_contexts domain problem (table written rules) reason = ⊥
+IsFirstAgainst with_contexts domain problem (automaton contexts rules) reason =
+    (goal : TemporalTree) × (problem.ctl ≡ Some goal)
+    × IsFirstContextReason (system domain problem) (denoted_contexts rules)
+    (HasGoal domain problem (denoted_contexts rules) goal) reason

@@ -9,15 +9,17 @@ use Rattle.task_core.specs.Systems.{System}
 abbrev pub most_outcomes : System → ℕ
 most_outcomes sys = greatest (map sys.outcomes (range_with_len 0 sys.actions))
 
--- nodes that are enough for all sets that are live at a time and for one operation. Over F fluents
--- a set has fewer than 2 ^ F nodes and an operation makes fewer than 4 ^ F; an action has sets of
--- its own, and for each outcome one a fluent and one more (Bryant 1986: the size of a reduced
+-- nodes that are enough for all sets that are live at a time and for one operation, where a chain
+-- of so many stages is looked for, or a plan of a class (no stages). Over F fluents a set has fewer
+-- than 2 ^ F nodes and an operation makes fewer than 4 ^ F; an action has sets of its own, one for
+-- each stage, and for each outcome one a fluent and one more (Bryant 1986: the size of a reduced
 -- diagram)
-abbrev pub enough : System → ℕ
-enough sys =
+abbrev pub enough : ℕ → System → ℕ
+enough stages sys =
     2 * 4 ^ sys.fluents
-    + (sys.actions * (most_outcomes sys * (sys.fluents + 1) + 6) + 256) * 2 ^ sys.fluents
+    + (sys.actions * (most_outcomes sys * (sys.fluents + 1) + stages + 6) + 8 * stages + 256)
+    * 2 ^ sys.fluents
 
 -- a table for so many nodes may be too small for a problem
-abbrev pub IsTightLimit : ℕ → System → Type 0
-IsTightLimit nodes sys = Tight nodes sys.fluents (enough sys)
+abbrev pub IsTightLimit : ℕ → ℕ → System → Type 0
+IsTightLimit stages nodes sys = Tight nodes sys.fluents (enough stages sys)

@@ -1,12 +1,12 @@
 -- What follows once a domain and a problem are read: whether the goal is of the kind that is
 -- wanted, and whether all that is counted is within its limits.
-use Rattle.std.specs.Prelude.{◌≡◌, ◌⊎◌, Some, None, IsSome, codes}
+use Rattle.std.specs.Prelude.{◌≡◌, ◌⊎◌, Bool, true, false, Some, None, codes, is_some}
 use Rattle.pddl_ast.specs.Trees.{DomainTree, ProblemTree}
 use Rattle.pddl_system.specs.Sizes.{Limit, object_limit, size_limit, instance_limit, action_limit}
 use Rattle.pddl_system.specs.Sizes.{outcome_limit, fluent_limit, first_passed}
 use Rattle.sexpr_text.specs.declared.faults.FaultKind.TheVariants.{WrongGoalKind}
 use Rattle.mbp_top.specs.Answers.{Answer, refused, over_limit, text_fault}
-use Rattle.mbp_top.specs.Words.{Bytes}
+use Rattle.mbp_top.specs.Words.{Bytes, PlanKind, of_class, with_contexts}
 
 -- the name of a limit
 abbrev pub limit_name : Limit → Bytes
@@ -25,10 +25,15 @@ GroundThen domain problem Then answer =
     × (answer ≡ refused (over_limit (limit_name limit))))
     ⊎ ((first_passed domain problem ≡ None) × Then answer)
 
--- the problem in the file of this name has no goal by reachability, which is a fault at its
+-- whether the problem has a goal for plans of the kind. It may have both goals
+abbrev pub has_goal_for : PlanKind → ProblemTree → Bool
+has_goal_for (of_class class) problem = is_some problem.goal
+has_goal_for with_contexts problem = is_some problem.ctl
+
+-- the problem in the file of this name has no goal for plans of the kind, which is a fault at its
 -- definition; or it has one, and then comes what Then says
-abbrev pub GoalThen : Bytes → ProblemTree → (Answer → Type 0) → Answer → Type 0
-GoalThen name problem Then answer =
-    ((problem.goal ≡ None)
+abbrev pub GoalThen : PlanKind → Bytes → ProblemTree → (Answer → Type 0) → Answer → Type 0
+GoalThen kind name problem Then answer =
+    ((has_goal_for kind problem ≡ false)
     × (answer ≡ refused (text_fault name (record { kind = WrongGoalKind; place = problem.place }))))
-    ⊎ (IsSome problem.goal × Then answer)
+    ⊎ ((has_goal_for kind problem ≡ true) × Then answer)

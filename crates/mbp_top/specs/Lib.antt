@@ -5,6 +5,8 @@ pub mod PddlTexts
 pub mod Grounding
 pub mod GroundCommand
 pub mod Enough
+pub mod TemporalGoals
+pub mod ChainGoals
 pub mod PlanCommand
 pub mod PlanFiles
 pub mod CheckCommand
@@ -14,3 +16,6 @@ pub mod Told
 pub mod Delivery
 pub mod Values
 pub mod FoundPlans
+pub mod Grounded
+pub mod FoundChains
+pub mod Judged

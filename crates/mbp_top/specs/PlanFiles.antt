@@ -1,14 +1,16 @@
 -- How the file of a plan is read, over the names of the fluents and actions of a domain and a
 -- problem.
-use Rattle.std.specs.Prelude.{◌≡◌, List}
+use Rattle.std.specs.Prelude.{◌≡◌, ◌⊎◌, Bool, true, false, List}
 use Rattle.plan_rules.specs.Readings.{SpellsPlanAt, HasPlanFault}
-use Rattle.plan_rules.specs.Rules.{PlainPlan, PlanRule, table, automaton}
+use Rattle.plan_io.specs.Held.{Held}
+use Rattle.plan_rules.specs.Rules.{PlainPlan, table, automaton}
 use Rattle.sexpr_text.specs.declared.forms.Place.{Place}
 use Rattle.sexpr_text.specs.declared.faults.FaultKind.TheVariants.{WrongPlanKind}
 use Rattle.sexpr_text.specs.declared.faults.InputFault.{InputFault}
 use Rattle.task_core.specs.Names.{Name}
 use Rattle.mbp_top.specs.Answers.{Answer, Refusal, refused, text_fault}
-use Rattle.mbp_top.specs.Words.{Bytes}
+use Rattle.mbp_top.specs.Reading.{Holds}
+use Rattle.mbp_top.specs.Words.{Bytes, PlanKind, of_class, with_contexts}
 
 -- a plan, and where its list stands in the text
 pub record PlacedPlan : Type 0 where
@@ -26,10 +28,24 @@ IsFaultyPlan fluents actions name bytes refusal =
     (fault : InputFault) × HasPlanFault fluents actions bytes fault
     × (refusal ≡ text_fault name fault)
 
--- the plan in the file of this name is a table, and then comes what Then says of its rules; or it
--- is an automaton, which is a fault at its place
-abbrev pub TableThen : Bytes → Place → PlainPlan → (List PlanRule → Answer → Type 0) → Answer
-    → Type 0
-TableThen name place (table class rules) Then answer = Then rules answer
-TableThen name place (automaton contexts rules) Then answer =
-    answer ≡ refused (text_fault name (record { kind = WrongPlanKind; place = place }))
+-- whether the plan is of the kind: for a class a table, of whatever class it was written for
+abbrev pub is_of_kind : PlanKind → PlainPlan → Bool
+is_of_kind (of_class class) (table written rules) = true
+is_of_kind (of_class class) (automaton contexts rules) = false
+is_of_kind with_contexts (table written rules) = false
+is_of_kind with_contexts (automaton contexts rules) = true
+
+-- the plan in the file of this name isn't of the kind, which is a fault at its place; or it is, and
+-- then comes what Then says
+abbrev pub KindThen : PlanKind → Bytes → Place → PlainPlan → (Answer → Type 0) → Answer → Type 0
+KindThen kind name place plan Then answer =
+    ((is_of_kind kind plan ≡ false)
+    × (answer ≡ refused (text_fault name (record { kind = WrongPlanKind; place = place }))))
+    ⊎ ((is_of_kind kind plan ≡ true) × Then answer)
+
+-- the file of this name spells a plan
+pub record HoldsPlan (held : Bytes → Held) (fluents actions : List Name) (name : Bytes)
+    (plan : PlainPlan) : Type 0 where
+  pub place : Place
+  pub holds : Holds held (SpellsPlaced fluents actions) name
+      (record { plan = plan; place = place })

@@ -23,7 +23,7 @@ use Rattle.mbp_top.specs.Answers.{stray_outcome, unexecutable}
 use Rattle.mbp_top.specs.CheckCommand.{HasTooManyStates}
 use Rattle.mbp_top.specs.Grounding.{GroundThen}
 use Rattle.mbp_top.specs.PddlTexts.{ReadBoth}
-use Rattle.mbp_top.specs.PlanFiles.{IsFaultyPlan, SpellsPlaced}
+use Rattle.mbp_top.specs.PlanFiles.{HoldsPlan, IsFaultyPlan, SpellsPlaced}
 use Rattle.mbp_top.specs.Reading.{Holds, ReadThen}
 use Rattle.mbp_top.specs.Words.{Bytes, ReplayWords}
 
@@ -123,13 +123,6 @@ abbrev pub IsReplayAnswer : (Bytes → Held) → (Bytes → Type 0) → Tallies 
     → Type 0
 IsReplayAnswer held failed tallies asked =
     ReadBoth held failed asked.domain asked.problem (IsReplay held failed tallies asked)
-
--- the file of this name spells a plan
-pub record HoldsPlan (held : Bytes → Held) (fluents actions : List Name) (name : Bytes)
-    (plan : PlainPlan) : Type 0 where
-  pub place : Place
-  pub holds : Holds held (SpellsPlaced fluents actions) name
-      (record { plan = plan; place = place })
 
 -- the files of these words spell what is run: a plan, and a record that begins with the number of
 -- the initial state `first`

@@ -9,14 +9,15 @@ use Rattle.plan_rules.specs.Rules.{plain_of}
 use Rattle.plan_rules.specs.declared.rules.PlanRead.{PlanRead}
 use Rattle.mbp_top.specs.Grounding.{limit_name}
 use Rattle.mbp_top.specs.PlanFiles.{PlacedPlan}
-use Rattle.mbp_top.specs.Words.{Bytes, PlanOptions, PlanWords, GroundWords, CheckWords, plan}
+use Rattle.mbp_top.specs.Words.{Bytes, PlanKind, PlanOptions, PlanWords, GroundWords, CheckWords}
+use Rattle.mbp_top.specs.Words.{of_class, plan, with_contexts}
 use Rattle.mbp_top.specs.Words.{ReplayWords, ground, check, replay, Says, SayNothing}
 use Rattle.sexpr_text.specs.declared.faults.ReadErr.{ReadErr}
 use Rattle.sexpr_text.specs.declared.faults.ReadErr.TheVariants.{Fault, Memory}
 use Rattle.mbp_top.specs.declared.answers.Limit.{Limit}
 use Rattle.mbp_top.specs.declared.answers.Limit.TheVariants.{File, Objects, Size, Instances}
 use Rattle.mbp_top.specs.declared.answers.Limit.TheVariants.{Actions, Outcomes, Fluents, Initial}
-use Rattle.mbp_top.specs.declared.answers.Limit.TheVariants.{Configurations}
+use Rattle.mbp_top.specs.declared.answers.Limit.TheVariants.{Configurations, Stages}
 use Rattle.mbp_top.specs.declared.answers.Refusal.{Refusal as CodeRefusal}
 use Rattle.mbp_top.specs.declared.answers.Refusal.TheVariants.{NoCommand, TextFault, OverLimit}
 use Rattle.mbp_top.specs.declared.answers.Refusal.TheVariants.{ReadFault, NoMemory, Full}
@@ -27,6 +28,8 @@ use Rattle.mbp_top.specs.declared.answers.Text.{Text}
 use Rattle.mbp_top.specs.declared.answers.Text.TheVariants.{Fixed, Made}
 use Rattle.mbp_top.specs.declared.words.Command.{Command as CodeCommand}
 use Rattle.mbp_top.specs.declared.words.Command.TheVariants.{Plan, Ground, Check, Replay, Nothing}
+use Rattle.mbp_top.specs.declared.words.PlanKind.{PlanKind as CodePlanKind}
+use Rattle.mbp_top.specs.declared.words.PlanKind.TheVariants.{Class, Contexts}
 use Rattle.mbp_top.specs.declared.words.PlanOptions.{PlanOptions as CodePlanOptions}
 use Rattle.mbp_top.specs.declared.words.PlanWords.{PlanWords as CodePlanWords}
 use Rattle.mbp_top.specs.declared.words.GroundWords.{GroundWords as CodeGroundWords}
@@ -45,6 +48,7 @@ limit_of Instances = limit_name instance_limit
 limit_of Actions = limit_name action_limit
 limit_of Outcomes = limit_name outcome_limit
 limit_of Fluents = limit_name fluent_limit
+limit_of Stages = codes "stages"
 limit_of Initial = codes "initial"
 limit_of Configurations = codes "configurations"
 
@@ -66,12 +70,16 @@ abbrev pub answer_of : Result Shown CodeRefusal → Answer
 answer_of (Ok shown) = shown_of shown
 answer_of (Err refusal) = refused (refusal_of refusal)
 
+abbrev pub kind_of : CodePlanKind → PlanKind
+kind_of (Class class) = of_class class
+kind_of Contexts = with_contexts
+
 abbrev pub plan_options_of : CodePlanOptions → PlanOptions
 plan_options_of options = record { nodes = options.nodes }
 
 abbrev pub plan_words_of : CodePlanWords → PlanWords
 plan_words_of words = record {
-  class = words.class;
+  kind = kind_of words.kind;
   domain = words.domain.now;
   problem = words.problem.now;
   options = plan_options_of words.options;
@@ -82,7 +90,7 @@ ground_words_of words = record { domain = words.domain.now; problem = words.prob
 
 abbrev pub check_words_of : CodeCheckWords → CheckWords
 check_words_of words = record {
-  class = words.class;
+  kind = kind_of words.kind;
   domain = words.domain.now;
   problem = words.problem.now;
   plan = words.plan.now;

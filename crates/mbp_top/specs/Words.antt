@@ -11,10 +11,20 @@ Bytes = List ℕ
 pub record PlanOptions : Type 0 where
   pub nodes : ℕ
 
--- what `plan` is asked: a plan of this class, for the domain and the problem in the files of these
+-- of what kind a plan is to be: a table of a class, for a goal by reachability; or one with
+-- contexts, for a goal in computation tree logic
+pub data PlanKind : Type 0 where
+  of_class : Class → PlanKind
+  with_contexts : PlanKind
+
+abbrev pub kind_word : PlanKind → Bytes
+kind_word (of_class class) = class_word class
+kind_word with_contexts = codes "ctl"
+
+-- what `plan` is asked: a plan of this kind, for the domain and the problem in the files of these
 -- names, with these options
 pub record PlanWords : Type 0 where
-  pub class : Class
+  pub kind : PlanKind
   pub domain : Bytes
   pub problem : Bytes
   pub options : PlanOptions
@@ -24,10 +34,10 @@ pub record GroundWords : Type 0 where
   pub domain : Bytes
   pub problem : Bytes
 
--- what `check` is asked: whether the plan is one of this class, for the domain and the problem, in
+-- what `check` is asked: whether the plan is one of this kind, for the domain and the problem, in
 -- the files of these names
 pub record CheckWords : Type 0 where
-  pub class : Class
+  pub kind : PlanKind
   pub domain : Bytes
   pub problem : Bytes
   pub plan : Bytes
@@ -63,21 +73,21 @@ SaysOptions words options =
     ((words ≡ []) × (options.nodes ≡ default_nodes))
     ⊎ (words ≡ codes "--nodes" ∷ decimal options.nodes ∷ [])
 
--- `plan CLASS DOMAIN PROBLEM`, and then the options
+-- `plan CLASS DOMAIN PROBLEM` or `plan ctl DOMAIN PROBLEM`, and then the options
 pub record SaysPlan (words : List Bytes) (asked : PlanWords) : Type 0 where
   pub room : IsNodeLimit asked.options.nodes
   pub rest : List Bytes
-  pub written : words ≡ codes "plan" ∷ class_word asked.class ∷ asked.domain ∷ asked.problem ∷ rest
+  pub written : words ≡ codes "plan" ∷ kind_word asked.kind ∷ asked.domain ∷ asked.problem ∷ rest
   pub options : SaysOptions rest asked.options
 
 -- `ground DOMAIN PROBLEM`
 abbrev pub SaysGround : List Bytes → GroundWords → Type 0
 SaysGround words asked = words ≡ codes "ground" ∷ asked.domain ∷ asked.problem ∷ []
 
--- `check CLASS DOMAIN PROBLEM PLAN`
+-- `check CLASS DOMAIN PROBLEM PLAN`, or `check ctl DOMAIN PROBLEM PLAN`
 abbrev pub SaysCheck : List Bytes → CheckWords → Type 0
 SaysCheck words asked =
-    words ≡ codes "check" ∷ class_word asked.class ∷ asked.domain ∷ asked.problem ∷ asked.plan ∷ []
+    words ≡ codes "check" ∷ kind_word asked.kind ∷ asked.domain ∷ asked.problem ∷ asked.plan ∷ []
 
 -- `replay DOMAIN PROBLEM PLAN RECORD`
 abbrev pub SaysReplay : List Bytes → ReplayWords → Type 0

@@ -92,6 +92,8 @@ pub(crate) enum Limit {
     /// Outcomes of a kept instance.
     Outcomes,
     Fluents,
+    /// Stages of a chain.
+    Stages,
     /// Initial states that are followed.
     Initial,
     /// Configurations that are followed.
@@ -110,6 +112,7 @@ impl Limit {
             Limit::Actions => "actions",
             Limit::Outcomes => "outcomes",
             Limit::Fluents => "fluents",
+            Limit::Stages => "stages",
             Limit::Initial => "initial",
             Limit::Configurations => "configurations",
         }

@@ -1,40 +1,46 @@
 //! The command `check`.
 
+ghost use Rattle.ctl_syntax.specs.Values.{NamesBelow, ctl_value};
+ghost use Rattle.exec_graph.specs.Graphs.{IsGraphOf};
 ghost use Rattle.exec_graph.specs.Initials.{HasTooManyInitial};
+ghost use Rattle.exec_graph.specs.Values.{plain_graph};
 ghost use Rattle.mbp_top.specs.Answers.{no_memory, refused};
 ghost use Rattle.mbp_top.specs.Causes.{IsQuietAt};
 ghost use Rattle.mbp_top.specs.CheckCommand.{
   ExploreThen,
   IsCheckAnswer,
   IsChecked,
-  IsJudged,
+  ShowsVerdict,
   most_followed,
   verdict_answer,
 };
-ghost use Rattle.mbp_top.specs.PlanFiles.{TableThen};
-ghost use Rattle.mbp_top.specs.Values.{answer_of, check_words_of, placed_of, shown_of};
+ghost use Rattle.mbp_top.specs.Judged.{HasGoalIn, IsTaskVerdict};
+ghost use Rattle.mbp_top.specs.PlanFiles.{KindThen, is_of_kind};
+ghost use Rattle.mbp_top.specs.Values.{answer_of, check_words_of, kind_of, placed_of, shown_of};
+ghost use Rattle.mbp_top.specs.Words.{with_contexts};
 ghost use Rattle.pddl_ast.specs.Fits.{FitsDomain, FitsProblem};
 ghost use Rattle.pddl_ast.specs.Values.{domain_value, problem_value};
 ghost use Rattle.pddl_system.specs.Names.{NamesAreWords};
 ghost use Rattle.plan_io.specs.Fetches.{FailedLast, FetchesFirst};
 ghost use Rattle.plan_rules.specs.Plans.{IsPlanOf};
-ghost use Rattle.plan_rules.specs.Rules.{PlanRule, plain_of, table};
-ghost use Rattle.std.specs.Prelude.{◌≡◌, ◌≤◌, ◌⊎◌, [], ◌∷◌, IfOk, IsSome, List, ℕ};
+ghost use Rattle.plan_rules.specs.Rules.{ContextRule, PlainPlan, automaton, plain_of};
+ghost use Rattle.std.specs.Prelude.{◌≡◌, ◌≤◌, ◌⊎◌, [], ◌∷◌, IfOk, IfSome, IsSome, List, true, ℕ};
 ghost use Rattle.task_core.specs.Tasks.{action_count, fluent_count, system_of};
 
 use crate::answers::{Limit, Refusal, Shown, Text};
-use crate::grounding::{check_goal, grounded};
+use crate::grounding::{check_goal, ground_both};
 use crate::pddl_texts::read_both;
 use crate::plan_files::read_plan_file;
-use crate::words::CheckWords;
-use exec_graph::{GraphErr, explore};
+use crate::words::{CheckWords, PlanKind};
+use exec_graph::{Graph, GraphErr, explore};
+use ground_task::Grounded;
 use pddl_ast::{Domain, Problem};
-use plan_check::{Reason, Verdict, check_class};
+use pddl_system::grounded_goals_are_true;
+use plan_check::{Reason, Verdict, check_class, check_ctl};
 use plan_io::Shelf;
-use plan_rules::{Class, Plan, PlanRead};
+use plan_rules::{Plan, PlanRead};
 use sexpr_text::{FaultKind, InputFault};
 use std::alloc::{AllocError, Global};
-use task_core::Task;
 
 /// The verdict on the plan in a file, for the domain and the problem in two files.
 pub(crate) fn check_files<S: Shelf>(
@@ -76,58 +82,125 @@ fn check_problem<S: Shelf>(
     ensures kept { (file : List ℕ) → S.held shelf.new file ≡ S.held shelf.old file }
     ensures later { S.faults shelf.old ≤ S.faults shelf.new }
 {
-    check_goal(alloc, asked.problem, problem)?;
-    let task = grounded(alloc, domain, problem)?;
-    let read = read_plan_file(alloc, shelf, asked.plan, &task)?;
-    judge_plan(alloc, asked, &task, &read)
+    // This does nothing: that the task's goal is true where the problem's is rests on what it
+    // promises.
+    grounded_goals_are_true();
+    check_goal(alloc, asked.kind, asked.problem, problem)?;
+    let grounded = ground_both(alloc, domain, problem)?;
+    let read = read_plan_file(alloc, shelf, asked.plan, &grounded.task)?;
+    judge_plan(alloc, asked, &grounded, &read)
 }
 
 /// The verdict on a plan that was read.
 fn judge_plan(
     alloc: Global,
     asked: &CheckWords,
-    task: &Task,
+    grounded: &Grounded,
     read: &PlanRead,
 ) -> Result<Shown, Refusal>
-    requires goal { IsSome task.now.goal }
-    requires in_task { IsPlanOf (fluent_count task.now) (action_count task.now) read.now.plan }
-    ensures { (answer_of result ≡ refused no_memory)
-        ⊎ TableThen asked.now.plan.now (placed_of read.now).place (placed_of read.now).plan
-        (λ rules. ExploreThen (HasTooManyInitial task.now most_followed) (system_of task.now)
-        (placed_of read.now).plan (IsJudged asked.now.class (system_of task.now) rules))
+    requires goal { HasGoalIn (kind_of asked.now.kind) grounded.now.task grounded.now.ctl }
+    requires goal_names { IfSome grounded.now.ctl
+        (λ goal. NamesBelow (fluent_count grounded.now.task) (ctl_value goal)) }
+    requires in_task { IsPlanOf (fluent_count grounded.now.task) (action_count grounded.now.task)
+        read.now.plan }
+    ensures { let kind = kind_of asked.now.kind in
+        let placed = placed_of read.now in
+        (answer_of result ≡ refused no_memory)
+        ⊎ KindThen kind asked.now.plan.now placed.place placed.plan
+        (ExploreThen (HasTooManyInitial grounded.now.task most_followed)
+        (system_of grounded.now.task) placed.plan
+        (ShowsVerdict (IsTaskVerdict kind grounded.now.task grounded.now.ctl placed.plan)))
         (answer_of result) }
 {
-    match &read.plan {
-        Plan::Table(_) => judge_table(alloc, asked.class, task, &read.plan),
-        Plan::Auto(_) => Err(Refusal::TextFault(
+    if !is_plan_of_kind(asked.kind, &read.plan) {
+        return Err(Refusal::TextFault(
             String::from_str(alloc, asked.plan)?,
             InputFault {
                 kind: FaultKind::WrongPlanKind,
                 place: read.place,
             },
-        )),
+        ));
+    }
+    judge(alloc, asked.kind, grounded, &read.plan)
+}
+
+/// Whether the plan is of the kind.
+fn is_plan_of_kind(kind: PlanKind, plan: &Plan) -> bool
+    ensures { result ≡ is_of_kind (kind_of kind) (plain_of plan.now) }
+{
+    match (kind, plan) {
+        (PlanKind::Class(_), Plan::Table(_)) => true,
+        (PlanKind::Contexts, Plan::Auto(_)) => true,
+        _ => false,
     }
 }
 
-/// The verdict on a table plan.
-fn judge_table(alloc: Global, class: Class, task: &Task, plan: &Plan) -> Result<Shown, Refusal>
-    requires goal { IsSome task.now.goal }
-    requires in_task { IsPlanOf (fluent_count task.now) (action_count task.now) plan.now }
-    requires table { (word : Class) × ((rules : List PlanRule)
-        × (plain_of plan.now ≡ table word rules)) }
-    ensures { (word : Class) (rules : List PlanRule) → plain_of plan.now ≡ table word rules
-        → (answer_of result ≡ refused no_memory)
-        ⊎ ExploreThen (HasTooManyInitial task.now most_followed) (system_of task.now)
-        (plain_of plan.now) (IsJudged class (system_of task.now) rules) (answer_of result) }
+/// The verdict on a plan of the kind.
+fn judge(alloc: Global, kind: PlanKind, grounded: &Grounded, plan: &Plan) -> Result<Shown, Refusal>
+    requires goal { HasGoalIn (kind_of kind) grounded.now.task grounded.now.ctl }
+    requires goal_names { IfSome grounded.now.ctl
+        (λ goal. NamesBelow (fluent_count grounded.now.task) (ctl_value goal)) }
+    requires in_task { IsPlanOf (fluent_count grounded.now.task) (action_count grounded.now.task)
+        plan.now }
+    requires of_kind { is_of_kind (kind_of kind) (plain_of plan.now) ≡ true }
+    ensures { (answer_of result ≡ refused no_memory)
+        ⊎ ExploreThen (HasTooManyInitial grounded.now.task most_followed)
+        (system_of grounded.now.task) (plain_of plan.now)
+        (ShowsVerdict (IsTaskVerdict (kind_of kind) grounded.now.task grounded.now.ctl
+        (plain_of plan.now))) (answer_of result) }
 {
-    match explore(alloc, task, plan) {
+    match explore(alloc, &grounded.task, plan) {
         Ok(graph) => {
-            let verdict = check_class(alloc, task, &graph, class)?;
+            let verdict = verdict_on(alloc, kind, grounded, &graph)?;
             Ok(show_verdict(alloc, &verdict)?)
         }
         Err(GraphErr::Initial) => Err(Refusal::OverLimit(Limit::Initial)),
         Err(GraphErr::TooLarge) => Err(Refusal::OverLimit(Limit::Configurations)),
         Err(GraphErr::Memory) => Err(Refusal::NoMemory),
+    }
+}
+
+/// The verdict on the plan of the kind whose graph this is.
+fn verdict_on(
+    alloc: Global,
+    kind: PlanKind,
+    grounded: &Grounded,
+    graph: &Graph,
+) -> Result<Verdict, AllocError>
+    requires goal { HasGoalIn (kind_of kind) grounded.now.task grounded.now.ctl }
+    requires goal_names { IfSome grounded.now.ctl
+        (λ goal. NamesBelow (fluent_count grounded.now.task) (ctl_value goal)) }
+    requires graph { (plan : PlainPlan) × ((is_of_kind (kind_of kind) plan ≡ true)
+        × IsGraphOf (system_of grounded.now.task) plan
+        (plain_graph (fluent_count grounded.now.task) graph.now)) }
+    ensures { (plan : PlainPlan) → is_of_kind (kind_of kind) plan ≡ true
+        → IsGraphOf (system_of grounded.now.task) plan
+        (plain_graph (fluent_count grounded.now.task) graph.now)
+        → IfOk result (IsTaskVerdict (kind_of kind) grounded.now.task grounded.now.ctl plan) }
+{
+    match kind {
+        PlanKind::Class(class) => check_class(alloc, &grounded.task, graph, class),
+        PlanKind::Contexts => context_verdict(alloc, grounded, graph),
+    }
+}
+
+/// The verdict on the plan with contexts whose graph this is.
+fn context_verdict(alloc: Global, grounded: &Grounded, graph: &Graph) -> Result<Verdict, AllocError>
+    requires goal { IsSome grounded.now.ctl }
+    requires goal_names { IfSome grounded.now.ctl
+        (λ goal. NamesBelow (fluent_count grounded.now.task) (ctl_value goal)) }
+    requires graph { (contexts : ℕ) × ((rules : List ContextRule)
+        × IsGraphOf (system_of grounded.now.task) (automaton contexts rules)
+        (plain_graph (fluent_count grounded.now.task) graph.now)) }
+    ensures { (contexts : ℕ) (rules : List ContextRule)
+        → IsGraphOf (system_of grounded.now.task) (automaton contexts rules)
+        (plain_graph (fluent_count grounded.now.task) graph.now)
+        → IfOk result (IsTaskVerdict with_contexts grounded.now.task grounded.now.ctl
+        (automaton contexts rules)) }
+{
+    match &grounded.ctl {
+        Some(goal) => check_ctl(alloc, &grounded.task, graph, goal),
+        None => unreachable!(),
     }
 }
 

@@ -9,6 +9,7 @@
 #![tactic(auto)]
 
 mod answers;
+mod chain_command;
 mod check_command;
 mod commands;
 mod delivery;

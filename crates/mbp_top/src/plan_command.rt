@@ -6,11 +6,12 @@ ghost use Rattle.mbp_top.specs.Answers.{full, no_memory, refused};
 ghost use Rattle.mbp_top.specs.Causes.{IsQuietAt};
 ghost use Rattle.mbp_top.specs.Enough.{IsTightLimit};
 ghost use Rattle.mbp_top.specs.FoundPlans.{IsSearched};
+ghost use Rattle.mbp_top.specs.Grounded.{IsGroundedOf, IsTaskOf};
 ghost use Rattle.mbp_top.specs.PlanCommand.{IsPlanAnswer, IsPlanResult, IsPlanned, MayBeTooFew};
 ghost use Rattle.mbp_top.specs.PlanCommand.{PlanThen};
-ghost use Rattle.mbp_top.specs.Grounding.{GroundThen};
-ghost use Rattle.mbp_top.specs.Values.{answer_of, bytes_of, plan_words_of, shown_of};
-ghost use Rattle.mbp_top.specs.Words.{IsNodeLimit};
+ghost use Rattle.mbp_top.specs.Grounding.{has_goal_for};
+ghost use Rattle.mbp_top.specs.Values.{answer_of, bytes_of, kind_of, plan_words_of, shown_of};
+ghost use Rattle.mbp_top.specs.Words.{IsNodeLimit, of_class};
 ghost use Rattle.pddl_ast.specs.Fits.{FitsDomain, FitsProblem};
 ghost use Rattle.pddl_ast.specs.Values.{domain_value, problem_value};
 ghost use Rattle.pddl_system.specs.Names.{NamesAreWords};
@@ -30,17 +31,20 @@ ghost use Rattle.std.specs.Prelude.{
   IsSome,
   List,
   length,
+  true,
   ℕ,
 };
 ghost use Rattle.task_core.specs.Tasks.{action_count, action_names, fluent_names, system_of};
 
 use crate::answers::{Refusal, Shown, Text};
-use crate::grounding::{check_goal, grounded};
+use crate::chain_command::plan_contexts;
+use crate::grounding::{check_goal, ground_both};
 use crate::pddl_texts::read_both;
-use crate::words::PlanWords;
+use crate::words::{PlanKind, PlanWords};
 use cyclic_plan::plan_cyclic;
 use dd_sets::{SetErr, tight_is_monotone};
 use encode_task::{Enc, encode};
+use ground_task::Grounded;
 use pddl_ast::{Domain, Problem};
 use plan_io::Shelf;
 use plan_rules::{Class, Plan, write_plan};
@@ -68,7 +72,7 @@ pub(crate) fn plan_files<S: Shelf>(
     plan_problem(alloc, asked, &domain, &problem)
 }
 
-/// The plan for a problem, whose goal is to be by reachability.
+/// The plan for a problem, whose goal is to be one for plans of the kind.
 fn plan_problem(
     alloc: Global,
     asked: &PlanWords,
@@ -86,32 +90,57 @@ fn plan_problem(
         ⊎ IsPlanned asked (domain_value domain.now) (problem_value problem.now)
         (answer_of result) }
 {
-    check_goal(alloc, asked.problem, problem)?;
-    plan_grounded(alloc, asked, domain, problem)
+    check_goal(alloc, asked.kind, asked.problem, problem)?;
+    let grounded = ground_both(alloc, domain, problem)?;
+    plan_grounded(alloc, asked, domain, problem, &grounded)
 }
 
-/// The plan for a problem that has a goal by reachability.
+/// The plan for a task and its goals, which are those of the domain and the problem.
 fn plan_grounded(
     alloc: Global,
     asked: &PlanWords,
     domain: &Domain,
     problem: &Problem,
+    grounded: &Grounded,
 ) -> Result<Shown, Refusal>
     requires room { IsNodeLimit asked.now.options.nodes }
-    requires fits_domain { FitsDomain (domain_value domain.now) }
-    requires fits_problem { FitsProblem (domain_value domain.now) (problem_value problem.now) }
-    requires names { NamesAreWords (domain_value domain.now) (problem_value problem.now) }
-    requires goal { IsSome (problem_value problem.now).goal }
+    requires goal { has_goal_for (kind_of asked.now.kind) (problem_value problem.now) ≡ true }
+    requires grounded { IsGroundedOf (domain_value domain.now) (problem_value problem.now)
+        grounded.now }
     ensures { let asked = plan_words_of asked.now in
         (answer_of result ≡ refused no_memory)
         ⊎ (MayBeTooFew asked (domain_value domain.now) (problem_value problem.now)
         × (answer_of result ≡ refused (full asked.options.nodes)))
-        ⊎ GroundThen (domain_value domain.now) (problem_value problem.now)
-        (PlanThen asked (domain_value domain.now) (problem_value problem.now))
+        ⊎ PlanThen asked (domain_value domain.now) (problem_value problem.now)
         (answer_of result) }
 {
-    let task = grounded(alloc, domain, problem)?;
-    match plan_task(alloc, asked.class, asked.options.nodes, &task) {
+    match asked.kind {
+        PlanKind::Class(class) => plan_class(alloc, asked, class, domain, problem, &grounded.task),
+        PlanKind::Contexts => plan_contexts(alloc, asked, domain, problem, grounded),
+    }
+}
+
+/// The table of a class for a task.
+fn plan_class(
+    alloc: Global,
+    asked: &PlanWords,
+    class: Class,
+    domain: &Domain,
+    problem: &Problem,
+    task: &Task,
+) -> Result<Shown, Refusal>
+    requires room { IsNodeLimit asked.now.options.nodes }
+    requires class { kind_of asked.now.kind ≡ of_class class }
+    requires goal { has_goal_for (of_class class) (problem_value problem.now) ≡ true }
+    requires task { IsTaskOf (domain_value domain.now) (problem_value problem.now) task.now }
+    ensures { let asked = plan_words_of asked.now in
+        (answer_of result ≡ refused no_memory)
+        ⊎ (MayBeTooFew asked (domain_value domain.now) (problem_value problem.now)
+        × (answer_of result ≡ refused (full asked.options.nodes)))
+        ⊎ PlanThen asked (domain_value domain.now) (problem_value problem.now)
+        (answer_of result) }
+{
+    match plan_task(alloc, class, asked.options.nodes, task) {
         Ok(shown) => Ok(shown),
         Err(SetErr::Full) => Err(Refusal::Full(asked.options.nodes)),
         Err(SetErr::Memory) => Err(Refusal::NoMemory),
@@ -125,7 +154,7 @@ fn plan_task(alloc: Global, class: Class, nodes: u32, task: &Task) -> Result<Sho
     ensures plan { IfOk result
         (λ shown. IsPlanResult class (system_of task.now) (fluent_names task.now)
         (action_names task.now) (shown_of shown)) }
-    ensures full { IsErrOf result SetErr.Full → IsTightLimit nodes (system_of task.now) }
+    ensures full { IsErrOf result SetErr.Full → IsTightLimit 0 nodes (system_of task.now) }
 {
     match search_task(alloc, class, nodes, task)? {
         Found::Plan(table) => Ok(Shown::Affirmed(text_of_plan(alloc, &Plan::Table(table), task)?)),
@@ -138,7 +167,7 @@ fn search_task(alloc: Global, class: Class, nodes: u32, task: &Task) -> Result<F
     requires room { IsNodeLimit nodes }
     requires goal { IsSome task.now.goal }
     ensures found { IsSearched class task.now result }
-    ensures full { IsErrOf result SetErr.Full → IsTightLimit nodes (system_of task.now) }
+    ensures full { IsErrOf result SetErr.Full → IsTightLimit 0 nodes (system_of task.now) }
 {
     // This does nothing: that few nodes are too few for more sets rests on what it promises.
     tight_is_monotone();
@@ -203,7 +232,7 @@ fn strong_cyclic_plan(alloc: Global, task: &Task, enc: &mut Enc) -> Result<Found
 }
 
 /// The text of a plan.
-fn text_of_plan(alloc: Global, plan: &Plan, task: &Task) -> Result<Text, AllocError>
+pub(crate) fn text_of_plan(alloc: Global, plan: &Plan, task: &Task) -> Result<Text, AllocError>
     requires { IsPlanOf (length task.now.fluents.items) (length task.now.actions.items) plan.now }
     ensures text { IfOk result (λ text. bytes_of text
         ≡ plan_text (fluent_names task.now) (action_names task.now) plan.now) }

@@ -58,6 +58,19 @@ const ELEVEN: &str = "(define (problem m) (:domain many)
   (:objects a b c d e f g h i j k) (:init) (:goal (p)))
 ";
 
+/// A coin that is to come up: a goal in computation tree logic alone.
+const KEEP: &str = "(define (problem k) (:domain coin) (:init)
+  (:ctl-goal (af (up))))
+";
+
+/// Both goals.
+const BOTH: &str = "(define (problem b) (:domain coin) (:init (up)) (:goal (up))
+  (:ctl-goal (and (up) (ax (or (up) (not (up)))))))
+";
+
+/// It flips until the coin is up, and then again and again.
+const FLIPS: &str = "(plan automaton 1 (rule 1 () (flip) 1))";
+
 /// Nine fluents, which one action lights.
 const NINE: &str = "(define (domain nine)
   (:predicates (a) (b) (c) (d) (e) (f) (g) (h) (i))
@@ -65,6 +78,18 @@ const NINE: &str = "(define (domain nine)
 ";
 
 const LIT: &str = "(define (problem n) (:domain nine) (:init) (:goal (a)))\n";
+
+/// The light comes on, and then stays on.
+const LIGHT: &str = "(define (problem l) (:domain nine) (:init)
+  (:ctl-goal (af (and (a) (ag (a))))))
+";
+
+const LIGHT_PLAN: &str = "(plan automaton 2
+  (rule 1 ((not (a))) (all) 1)
+  (rule 1 ((a)) (all) 2)
+  (rule 2 ((a)) (all) 2)
+)
+";
 
 const NINE_PLAN: &str = "(plan table strong\n  (rule ((not (a))) (all))\n)\n";
 /// The coin stays down once, and then comes up.
@@ -100,6 +125,11 @@ fn shelf(alloc: Global) -> Result<MemShelf, Fail> {
     shelf.add("plan", PLAN.as_bytes())?;
     shelf.add("no-rules", b"(plan table weak)")?;
     shelf.add("one-context", b"(plan automaton 1)")?;
+    shelf.add("flips", FLIPS.as_bytes())?;
+    shelf.add("keep", KEEP.as_bytes())?;
+    shelf.add("light", LIGHT.as_bytes())?;
+    shelf.add("light-plan", LIGHT_PLAN.as_bytes())?;
+    shelf.add("both", BOTH.as_bytes())?;
     shelf.add("run", b"(record 0 1 0 1)")?;
     shelf.add("stray", b"(record 0 1 2)")?;
     shelf.add("far", b"(record 1)")?;
@@ -174,6 +204,46 @@ fn each_answer_goes_where_it_belongs(rt: HostRuntime) -> Result<(), Fail> {
         ("ground longest-d longest-up", 0, LISTING, ""),
         ("ground coin-d eight-d", 3, "", "eight-d:1:1: 5 NoDefine\n"),
         ("ground many-d many", 4, "", "limit instances\n"),
+        ("plan ctl nine-d light", 0, LIGHT_PLAN, ""),
+        ("check ctl nine-d light light-plan", 0, "yes\n", ""),
+        ("plan ctl coin-d keep", 1, "no plan\n", ""),
+        ("plan ctl coin-d both", 3, "", "both:2:14: 18 NotChain\n"),
+        ("plan ctl nine-d light --nodes 1", 5, "", "full 1\n"),
+        ("check ctl coin-d both flips", 0, "yes\n", ""),
+        ("check ctl coin-d keep flips", 1, "no formula\n", ""),
+        ("check ctl coin-d keep one-context", 1, "no stuck\n", ""),
+        ("check weak coin-d both no-rules", 0, "yes\n", ""),
+        (
+            "check ctl coin-d up flips",
+            3,
+            "",
+            "up:1:1: 17 WrongGoalKind\n",
+        ),
+        (
+            "check weak coin-d keep plan",
+            3,
+            "",
+            "keep:1:1: 17 WrongGoalKind\n",
+        ),
+        (
+            "plan weak coin-d keep",
+            3,
+            "",
+            "keep:1:1: 17 WrongGoalKind\n",
+        ),
+        (
+            "check ctl coin-d both no-rules",
+            3,
+            "",
+            "no-rules:1:1: 22 WrongPlanKind\n",
+        ),
+        (
+            "check weak coin-d both flips",
+            3,
+            "",
+            "flips:1:1: 22 WrongPlanKind\n",
+        ),
+        ("check CTL coin-d both flips", 2, "", NO_COMMAND),
         ("replay coin-d up plan run", 0, RUN, ""),
         ("replay coin-d up one-context run", 0, NO_STEP, ""),
         ("replay coin-d up plan", 2, "", NO_COMMAND),

@@ -4,9 +4,10 @@ ghost use Rattle.exec_graph.specs.Executions.{ReachesMoreThan};
 ghost use Rattle.mbp_top.specs.Answers.{Answer, status_of, text_of};
 ghost use Rattle.mbp_top.specs.Causes.{HasCause, IsQuietAt};
 ghost use Rattle.mbp_top.specs.CheckCommand.{
+  HasBound,
   HasTooManyStates,
-  HoldsTable,
-  IsSolved,
+  IsFirstAgainst,
+  IsMet,
   most_followed,
   verdict_answer,
 };
@@ -14,13 +15,18 @@ ghost use Rattle.mbp_top.specs.Delivery.{IsCut, IsDelivered, IsWhole, seen};
 ghost use Rattle.mbp_top.specs.GroundCommand.{listing_of};
 ghost use Rattle.mbp_top.specs.Enough.{IsTightLimit};
 ghost use Rattle.mbp_top.specs.PlanCommand.{
-  IsPrintedText,
-  IsShortestText,
-  IsSolvingText,
+  HasNoPlan,
+  IsGoodText,
+  IsShortText,
+  IsTextPrinted,
   MayRunOut,
+  is_sought,
   no_plan_text,
+  stages_for,
 };
+ghost use Rattle.mbp_top.specs.Grounding.{has_goal_for};
 ghost use Rattle.mbp_top.specs.PddlTexts.{HoldBoth};
+ghost use Rattle.mbp_top.specs.PlanFiles.{HoldsPlan, is_of_kind};
 ghost use Rattle.mbp_top.specs.ReplayCommand.{
   AreToldAs,
   HoldRun,
@@ -49,15 +55,12 @@ ghost use Rattle.mbp_top.specs.Answers as answers;
 ghost use Rattle.pddl_ast.specs.Trees.{DomainTree, ProblemTree};
 ghost use Rattle.pddl_system.specs.Sizes.{first_passed};
 ghost use Rattle.pddl_system.specs.Systems.{action_names, fluent_names, system};
-ghost use Rattle.plan_check.specs.Verdicts.{IsBound, IsFirstReason};
 ghost use Rattle.plan_check.specs.declared.verdicts.Reason.{Reason};
 ghost use Rattle.plan_io.specs.Fetches.{FailedLast, FetchesFirst};
-ghost use Rattle.plan_rules.specs.Denoted.{denoted};
-ghost use Rattle.plan_rules.specs.Rules.{PlainPlan, PlanRule, table};
+ghost use Rattle.plan_rules.specs.Rules.{PlainPlan};
 ghost use Rattle.run_replay.specs.Records.{RecordTree};
 ghost use Rattle.run_replay.specs.TraceTexts.{tallies_text};
 ghost use Rattle.run_replay.specs.declared.worlds.Step.{Step};
-ghost use Rattle.task_core.specs.Solutions.{HasNoSolution};
 ghost use Rattle.task_core.specs.Vectors.{Vector};
 ghost use Rattle.std.specs.Io.KnownBytes.{append_known};
 ghost use Rattle.std.specs.Prelude.{
@@ -69,12 +72,12 @@ ghost use Rattle.std.specs.Prelude.{
   ◌∷◌,
   All,
   Contains,
-  IsSome,
   List,
   None,
   Option,
   map,
   string_bytes,
+  true,
   ℕ,
 };
 
@@ -92,27 +95,30 @@ use std::alloc::Global;
 /// Does what the command words say, and gives the exit status.
 ///
 /// The words after the program's name are one command, where DOMAIN and PROBLEM are names of files
-/// on the shelf and CLASS is `weak`, `strong` or `cyclic`: `plan CLASS DOMAIN PROBLEM`, with or
-/// without the words `--nodes N` after it, N being the most nodes of a table of diagrams, 1 to
-/// 16,777,216 and 1,048,576 where nothing is said; `ground DOMAIN PROBLEM`; `check CLASS DOMAIN
-/// PROBLEM PLAN`, PLAN being the name of a plan's file; or `replay DOMAIN PROBLEM PLAN RECORD`,
-/// RECORD being the name of a record's file. The text of a plan, `no plan`, the listing of the
-/// fluents and actions, the verdict on the plan, or its run with what the monitors show of it goes
-/// to `out`; every other answer is one line on `err`.
+/// on the shelf, KIND is `weak`, `strong` or `cyclic`, the class of a table, or `ctl`, for a plan
+/// with contexts and a goal in computation tree logic: `plan KIND DOMAIN PROBLEM`, with or without
+/// the words `--nodes N` after it, N being the most nodes of a table of diagrams, 1 to 16,777,216
+/// and 1,048,576 where nothing is said; `ground DOMAIN PROBLEM`; `check KIND DOMAIN PROBLEM PLAN`,
+/// PLAN being the name of a plan's file; or `replay DOMAIN PROBLEM PLAN RECORD`, RECORD being the
+/// name of a record's file. The text of a plan, `no plan`, the listing of the fluents and actions,
+/// the verdict on the plan, or its run with what the monitors show of it goes to `out`; every other
+/// answer is one line on `err`.
 ///
 /// `replay` hands the record's outcome numbers to the world, runs the plan with what the world then
 /// chooses, and tells the monitors of each step. No monitor has counted anything yet. The other
 /// commands use neither. The world and the monitors are dropped on every exit. The statuses:
 ///
-/// - 0: a plan of the class is on `out` (weak: from each initial state it may reach the goal;
+/// - 0: a plan of the kind is on `out` (weak: from each initial state it may reach the goal;
 ///   strong: it does, whatever the outcomes; cyclic: whatever they are it may still reach it, and
-///   ends nowhere else), or the listing, or that the plan is one of the class, or the run;
-/// - 1: there is no plan of the class, or the plan is none of it;
+///   ends nowhere else; with contexts: it always goes on, and the goal in computation tree logic is
+///   true where it begins), or the listing, or that the plan is one of the kind, or the run;
+/// - 1: there is no plan of the kind, or the plan is none of it;
 /// - 2: the words are no command;
-/// - 3: a file spells no domain, no problem of it, no plan or no record, or the record's first
-///   number is that of no initial state, with the place of its fault;
-/// - 4: a limit is passed: a file is longer than 1,048,576 bytes, or there is too much to ground or
-///   to follow;
+/// - 3: a file spells no domain, no problem of it, no plan or no record, the problem's goal or the
+///   plan isn't of the kind, the goal to plan for is no chain, or the record's first number is that
+///   of no initial state, with the place of the fault;
+/// - 4: a limit is passed: a file is longer than 1,048,576 bytes, there is too much to ground or to
+///   follow, or a chain has more than 32 stages;
 /// - 5: the table of diagram nodes is full before a plan is found, or that there is none;
 /// - 6: a file can't be read;
 /// - 7: the answer can't be written, and only a part of it is on `out` or `err`;
@@ -187,22 +193,22 @@ pub fn run<S: Shelf, O: Sink, E: Sink>(
         (seen (E.written err.new) (E.faults err.new)) }
 
     // `plan`, status 0: the text that was written spells a plan that solves the problem that the
-    // two files spell.
+    // two files spell: a table that is a solution of the class, or a plan with contexts that is
+    // complete and has the goal in computation tree logic at each initial configuration.
     ensures plan_solves { (asked : PlanWords) → SaysPlan (map string_bytes words.now) asked
         → result ≡ 0
         → (domain : DomainTree) × (problem : ProblemTree) × (text : Bytes)
         × HoldBoth (S.held shelf.old) asked.domain asked.problem domain problem
-        × IsSolvingText asked.class (system domain problem) (fluent_names domain problem)
-        (action_names domain problem) text
+        × IsGoodText asked.kind domain problem text
         × (O.written out.new ≡ append_known (O.written out.old) text) }
 
-    // And no solution of its class is shorter; of strong cyclic plans nothing is said here.
+    // And no solution of its class is shorter; of strong cyclic plans, and of plans with contexts,
+    // nothing is said here.
     ensures plan_shortest { (asked : PlanWords) → SaysPlan (map string_bytes words.now) asked
         → result ≡ 0
         → (domain : DomainTree) × (problem : ProblemTree) × (text : Bytes)
         × HoldBoth (S.held shelf.old) asked.domain asked.problem domain problem
-        × IsShortestText asked.class (system domain problem) (fluent_names domain problem)
-        (action_names domain problem) text
+        × IsShortText asked.kind domain problem text
         × (O.written out.new ≡ append_known (O.written out.old) text) }
 
     // And that text is the one that is defined, byte for byte.
@@ -210,15 +216,15 @@ pub fn run<S: Shelf, O: Sink, E: Sink>(
         → result ≡ 0
         → (domain : DomainTree) × (problem : ProblemTree) × (text : Bytes)
         × HoldBoth (S.held shelf.old) asked.domain asked.problem domain problem
-        × IsPrintedText asked.class (system domain problem) (fluent_names domain problem)
-        (action_names domain problem) text
+        × IsTextPrinted asked.kind domain problem text
         × (O.written out.new ≡ append_known (O.written out.old) text) }
 
-    // `plan`, status 1: no table at all is a solution of the problem that the two files spell.
+    // `plan`, status 1: no table at all is a solution of the problem that the two files spell, or
+    // no plan with contexts at all meets its goal, whatever its contexts are and however many.
     ensures no_plan { (asked : PlanWords) → SaysPlan (map string_bytes words.now) asked → result ≡ 1
         → (domain : DomainTree) × (problem : ProblemTree)
         × HoldBoth (S.held shelf.old) asked.domain asked.problem domain problem
-        × HasNoSolution asked.class (system domain problem)
+        × HasNoPlan asked.kind domain problem
         × (O.written out.new ≡ append_known (O.written out.old) no_plan_text) }
 
     // `plan`, status 5: the number of nodes may be too small for the problem that the two files
@@ -228,13 +234,15 @@ pub fn run<S: Shelf, O: Sink, E: Sink>(
         × (E.written err.new ≡ append_known (E.written err.old)
         (text_of (answers.refused (answers.full asked.options.nodes)))) }
 
-    // `plan` of two files that spell a problem within the limits, with enough nodes: there is a
-    // plan or there is none, if no fault comes.
+    // `plan` of two files that spell a problem within the limits, with a goal of the kind (a goal
+    // in computation tree logic being a chain of few stages) and enough nodes: there is a plan or
+    // there is none, if no fault comes.
     ensures plan_complete { (asked : PlanWords) (domain : DomainTree) (problem : ProblemTree)
         → SaysPlan (map string_bytes words.now) asked
         → HoldBoth (S.held shelf.old) asked.domain asked.problem domain problem
-        → IsSome problem.goal → first_passed domain problem ≡ None
-        → (IsTightLimit asked.options.nodes (system domain problem) → ⊥)
+        → is_sought asked.kind problem ≡ true → first_passed domain problem ≡ None
+        → (IsTightLimit (stages_for asked.kind problem) asked.options.nodes
+        (system domain problem) → ⊥)
         → AreFilesTold (S.held shelf.old) (map string_bytes words.now)
         → NoFault (S.faults shelf.old) (S.faults shelf.new)
         → NoFault (O.faults out.old) (O.faults out.new)
@@ -262,50 +270,53 @@ pub fn run<S: Shelf, O: Sink, E: Sink>(
         → NoFault (E.faults err.old) (E.faults err.new)
         → (result ≡ 0) ⊎ (result ≡ 8) }
 
-    // `check`, status 0: the table that the third file spells solves the problem that the two
-    // others spell, and the text that was written says yes, for a strong plan with the length of
-    // its longest execution.
+    // `check`, status 0: the plan that the third file spells meets the goal of the problem that the
+    // two others spell, and the text that was written says yes, for a strong plan with the length
+    // of its longest execution. A table of a class solves the problem; a plan with contexts is
+    // complete, and each initial configuration has the goal in computation tree logic.
     ensures check_yes { (asked : CheckWords) → SaysCheck (map string_bytes words.now) asked
         → result ≡ 0
-        → (domain : DomainTree) × (problem : ProblemTree) × (rules : List PlanRule)
+        → (domain : DomainTree) × (problem : ProblemTree) × (plan : PlainPlan)
         × (bound : Option ℕ)
         × HoldBoth (S.held shelf.old) asked.domain asked.problem domain problem
-        × HoldsTable (S.held shelf.old) (fluent_names domain problem)
-        (action_names domain problem) asked.plan rules
-        × IsSolved asked.class (system domain problem) rules
-        × IsBound (system domain problem) (denoted (system domain problem) rules) asked.class bound
+        × HoldsPlan (S.held shelf.old) (fluent_names domain problem)
+        (action_names domain problem) asked.plan plan
+        × IsMet asked.kind domain problem plan
+        × HasBound asked.kind domain problem plan bound
         × (O.written out.new ≡ append_known (O.written out.old)
         (text_of (verdict_answer (Verdict.Yes bound)))) }
 
     // `check`, status 1: the text that was written names the first reason that speaks against the
-    // table.
+    // plan.
     ensures check_no { (asked : CheckWords) → SaysCheck (map string_bytes words.now) asked
         → result ≡ 1
-        → (domain : DomainTree) × (problem : ProblemTree) × (rules : List PlanRule)
+        → (domain : DomainTree) × (problem : ProblemTree) × (plan : PlainPlan)
         × (reason : Reason)
         × HoldBoth (S.held shelf.old) asked.domain asked.problem domain problem
-        × HoldsTable (S.held shelf.old) (fluent_names domain problem)
-        (action_names domain problem) asked.plan rules
-        × IsFirstReason (system domain problem) rules reason asked.class
+        × HoldsPlan (S.held shelf.old) (fluent_names domain problem)
+        (action_names domain problem) asked.plan plan
+        × IsFirstAgainst asked.kind domain problem plan reason
         × (O.written out.new ≡ append_known (O.written out.old)
         (text_of (verdict_answer (Verdict.No reason)))) }
 
-    // `check` of files that spell a problem within the limits and a table that reaches few
-    // configurations: yes exactly where the table solves the problem, if no fault comes.
+    // `check` of files that spell a problem within the limits, with a goal for plans of the kind,
+    // and a plan of the kind that reaches few configurations: yes exactly where the plan meets the
+    // goal, if no fault comes.
     ensures check_exact { (asked : CheckWords) (domain : DomainTree) (problem : ProblemTree)
-        (rules : List PlanRule) → SaysCheck (map string_bytes words.now) asked
+        (plan : PlainPlan) → SaysCheck (map string_bytes words.now) asked
         → HoldBoth (S.held shelf.old) asked.domain asked.problem domain problem
-        → IsSome problem.goal → first_passed domain problem ≡ None
-        → (plan : HoldsTable (S.held shelf.old) (fluent_names domain problem)
-        (action_names domain problem) asked.plan rules)
+        → has_goal_for asked.kind problem ≡ true → first_passed domain problem ≡ None
+        → HoldsPlan (S.held shelf.old) (fluent_names domain problem)
+        (action_names domain problem) asked.plan plan
+        → is_of_kind asked.kind plan ≡ true
         → (HasTooManyStates domain problem → ⊥)
-        → (ReachesMoreThan (system domain problem) (table plan.class rules) most_followed → ⊥)
+        → (ReachesMoreThan (system domain problem) plan most_followed → ⊥)
         → AreFilesTold (S.held shelf.old) (map string_bytes words.now)
         → NoFault (S.faults shelf.old) (S.faults shelf.new)
         → NoFault (O.faults out.old) (O.faults out.new)
         → NoFault (E.faults err.old) (E.faults err.new)
-        → ((result ≡ 0) × IsSolved asked.class (system domain problem) rules)
-        ⊎ ((result ≡ 1) × (IsSolved asked.class (system domain problem) rules → ⊥))
+        → ((result ≡ 0) × IsMet asked.kind domain problem plan)
+        ⊎ ((result ≡ 1) × (IsMet asked.kind domain problem plan → ⊥))
         ⊎ (result ≡ 8) }
 
     // `replay`, status 0: the text that was written is that of the trace of the plan in the third

@@ -4,6 +4,7 @@ ghost use Rattle.mbp_top.specs.Values.{
   IsSaid,
   check_words_of,
   ground_words_of,
+  kind_of,
   plan_options_of,
   plan_words_of,
   replay_words_of,
@@ -12,6 +13,7 @@ ghost use Rattle.mbp_top.specs.Words.{
   CheckWords as AskedCheck,
   GroundWords as AskedGround,
   IsNodeLimit,
+  PlanKind as AskedKind,
   PlanOptions as AskedOptions,
   PlanWords as AskedPlan,
   ReplayWords as AskedReplay,
@@ -20,6 +22,7 @@ ghost use Rattle.mbp_top.specs.Words.{
   SaysOptions,
   SaysPlan,
   SaysReplay,
+  kind_word,
 };
 ghost use Rattle.plan_rules.specs.Texts.{class_word};
 ghost use Rattle.std.specs.Prelude.{
@@ -56,11 +59,20 @@ pub(crate) enum Command<'a> {
     Nothing,
 }
 
-/// What `plan` is asked: a plan of this class, for the domain and the problem in the files of these
+/// Of what kind a plan is to be.
+#[derive(Clone, Copy)]
+pub(crate) enum PlanKind {
+    /// A table of this class, for the goal by reachability.
+    Class(Class),
+    /// A plan with contexts, for the goal in computation tree logic.
+    Contexts,
+}
+
+/// What `plan` is asked: a plan of this kind, for the domain and the problem in the files of these
 /// names, with these options.
 #[derive(Clone, Copy)]
 pub(crate) struct PlanWords<'a> {
-    pub(crate) class: Class,
+    pub(crate) kind: PlanKind,
     pub(crate) domain: &'a str,
     pub(crate) problem: &'a str,
     pub(crate) options: PlanOptions,
@@ -80,11 +92,11 @@ pub(crate) struct GroundWords<'a> {
     pub(crate) problem: &'a str,
 }
 
-/// What `check` is asked: whether the plan is one of this class, for the domain and the problem, in
+/// What `check` is asked: whether the plan is one of this kind, for the domain and the problem, in
 /// the files of these names.
 #[derive(Clone, Copy)]
 pub(crate) struct CheckWords<'a> {
-    pub(crate) class: Class,
+    pub(crate) kind: PlanKind,
     pub(crate) domain: &'a str,
     pub(crate) problem: &'a str,
     pub(crate) plan: &'a str,
@@ -140,11 +152,11 @@ fn plan_words<'a>(words: &'a [String]) -> Option<PlanWords<'a>>
         MatchOption result ((asked : AskedPlan) → SaysPlan said asked → ⊥)
         (λ asked. SaysPlan said (plan_words_of asked)) }
 {
-    let [class, domain, problem, rest @ ..] = words else {
+    let [kind, domain, problem, rest @ ..] = words else {
         return None;
     };
     Some(PlanWords {
-        class: class_named(class)?,
+        kind: kind_named(kind)?,
         domain,
         problem,
         options: plan_options(rest)?,
@@ -233,8 +245,8 @@ fn check_words<'a>(words: &'a [String]) -> Option<CheckWords<'a>>
         (λ asked. SaysCheck said (check_words_of asked)) }
 {
     match words {
-        [class, domain, problem, plan] => Some(CheckWords {
-            class: class_named(class)?,
+        [kind, domain, problem, plan] => Some(CheckWords {
+            kind: kind_named(kind)?,
             domain,
             problem,
             plan,
@@ -257,6 +269,20 @@ fn replay_words<'a>(words: &'a [String]) -> Option<ReplayWords<'a>>
             recorded,
         }),
         _ => None,
+    }
+}
+
+/// The kind of plan of this name.
+fn kind_named(word: &str) -> Option<PlanKind>
+    ensures { MatchOption result ((kind : AskedKind) → word.now ≡ kind_word kind → ⊥)
+        (λ kind. word.now ≡ kind_word (kind_of kind)) }
+{
+    if word == "ctl" {
+        return Some(PlanKind::Contexts);
+    }
+    match class_named(word) {
+        Some(class) => Some(PlanKind::Class(class)),
+        None => None,
     }
 }
 

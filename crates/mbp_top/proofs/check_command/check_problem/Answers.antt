@@ -1,8 +1,8 @@
 use Rattle.std.proofs.lemmas.Result.{err_from_is_err_and}
 use Rattle.pddl_ast.specs.Values.{domain_value, problem_value}
 use Rattle.plan_io.specs.Fetches.{FailedLast}
-use Rattle.mbp_top.specs.Values.{answer_of, check_words_of, placed_of, refusal_of}
-use Rattle.mbp_top.proofs.CheckAnswers.{checked_answer, plan_refused}
+use Rattle.mbp_top.specs.Values.{answer_of, check_words_of, kind_of, placed_of, refusal_of}
+use Rattle.mbp_top.proofs.CheckAnswers.{checked_answer, goal_in, plan_refused}
 use Rattle.mbp_top.proofs.check_command.check_problem.Goals as goal
 
 pub returns-in_err-read-clause-answer : goal.returns-in_err-read-clause-answer
@@ -12,8 +12,13 @@ returns-in_err-read-clause-answer g c =
     let failed = FailedLast g.S.Shelf.fetched g.S.Shelf.faults c.args.shelf.now c.read_plan_file.new.shelf in
     let domain = domain_value c.args.domain.now in
     let problem = problem_value c.args.problem.now in
-    rw (p.1, p.2) (plan_refused held failed (check_words_of c.args.asked.now) domain problem c.in_ok-task.task (refusal_of c.in_err-read.field-0.0)
-    c.in_ok-task.ensures.task c.in_ok-task.ensures.within c.in_ok-check_goal.ensures.goal c.in_err-read.ensures.refused)
+    rw (p.1, p.2) (plan_refused held failed (check_words_of c.args.asked.now) domain problem c.in_ok-grounded.grounded.task (refusal_of c.in_err-read.field-0.0)
+    c.in_ok-grounded.ensures.task c.in_ok-grounded.ensures.within c.in_ok-check_goal.ensures.goal c.in_err-read.ensures.refused)
+
+pub judge_plan-requires-clause-goal : goal.judge_plan-requires-clause-goal
+judge_plan-requires-clause-goal g c =
+    goal_in (kind_of c.args.asked.now.kind) (domain_value c.args.domain.now) (problem_value c.args.problem.now) c.in_ok-grounded.grounded.task c.in_ok-grounded.grounded.ctl
+    c.in_ok-grounded.ensures.task c.in_ok-grounded.ensures.ctl c.in_ok-check_goal.ensures.goal
 
 pub returns-clause-answer : goal.returns-clause-answer
 returns-clause-answer g c =
@@ -21,5 +26,7 @@ returns-clause-answer g c =
     let failed = FailedLast g.S.Shelf.fetched g.S.Shelf.faults c.args.shelf.now c.read_plan_file.new.shelf in
     let domain = domain_value c.args.domain.now in
     let problem = problem_value c.args.problem.now in
-    checked_answer held failed (check_words_of c.args.asked.now) domain problem c.in_ok-task.task (placed_of c.in_ok-read.read) (answer_of c.judge_plan.result)
-    c.in_ok-task.ensures.task c.in_ok-task.ensures.system c.in_ok-task.ensures.within c.in_ok-check_goal.ensures.goal c.in_ok-read.ensures.holds c.judge_plan.ensures
+    checked_answer c.grounded_goals_are_true.ensures.truth held failed (check_words_of c.args.asked.now) domain problem c.in_ok-grounded.grounded.task c.in_ok-grounded.grounded.ctl
+    (placed_of c.in_ok-read.read) (answer_of c.judge_plan.result)
+    c.in_ok-grounded.ensures.task c.in_ok-grounded.ensures.system c.in_ok-grounded.ensures.ctl c.in_ok-grounded.ensures.within c.in_ok-check_goal.ensures.goal
+    c.in_ok-read.ensures.holds c.judge_plan.ensures

@@ -4,7 +4,7 @@ use Rattle.mbp_top.proofs.plan_command.search_task.Goals as goal
 
 pub returns-in_err-enc-clause-full : goal.returns-in_err-enc-clause-full
 returns-in_err-enc-clause-full c is =
-    tight_for_sets c.tight_is_monotone.ensures c.args.task.now c.args.nodes (search rules)
+    tight_for_sets c.tight_is_monotone.ensures c.args.task.now 0 c.args.nodes (search rules)
 
 pub returns-clause-full : goal.returns-clause-full
 returns-clause-full c is =

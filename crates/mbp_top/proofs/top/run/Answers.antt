@@ -139,7 +139,7 @@ returns-clause-plan_solves g c asked says zero =
     let given = c.deliver.ensures.0 in
     let d = done held failed tallies words before after out out' err err' status _ given c.answer-found.ensures.cause c.answer-found.ensures.quiet_at c.deliver.ensures.1 c.deliver.ensures.2 in
     let w = plan_written held failed tallies words before after out out' err err' status given asked d says zero in
-    (w.domain, w.problem, w.text, w.both, w.solves, w.written)
+    (w.domain, w.problem, w.text, w.both, w.good, w.written)
 
 pub returns-clause-plan_shortest : goal.returns-clause-plan_shortest
 returns-clause-plan_shortest g c asked says zero =
@@ -163,7 +163,7 @@ returns-clause-plan_shortest g c asked says zero =
     let given = c.deliver.ensures.0 in
     let d = done held failed tallies words before after out out' err err' status _ given c.answer-found.ensures.cause c.answer-found.ensures.quiet_at c.deliver.ensures.1 c.deliver.ensures.2 in
     let w = plan_written held failed tallies words before after out out' err err' status given asked d says zero in
-    (w.domain, w.problem, w.text, w.both, w.shortest, w.written)
+    (w.domain, w.problem, w.text, w.both, w.short, w.written)
 
 pub returns-clause-plan_printed : goal.returns-clause-plan_printed
 returns-clause-plan_printed g c asked says zero =
@@ -355,7 +355,7 @@ returns-clause-check_yes g c asked says zero =
     let given = c.deliver.ensures.0 in
     let d = done held failed tallies words before after out out' err err' status _ given c.answer-found.ensures.cause c.answer-found.ensures.quiet_at c.deliver.ensures.1 c.deliver.ensures.2 in
     let w = check_yes_written c.yes_is_solution.ensures held failed tallies words before after out out' err err' status given asked d says zero in
-    (w.domain, w.problem, w.rules, w.bound, w.both, w.plan, w.solved, w.bounded, w.written)
+    (w.domain, w.problem, w.plan, w.bound, w.both, w.file, w.met, w.bounded, w.written)
 
 pub returns-clause-check_no : goal.returns-clause-check_no
 returns-clause-check_no g c asked says one =
@@ -379,10 +379,10 @@ returns-clause-check_no g c asked says one =
     let given = c.deliver.ensures.0 in
     let d = done held failed tallies words before after out out' err err' status _ given c.answer-found.ensures.cause c.answer-found.ensures.quiet_at c.deliver.ensures.1 c.deliver.ensures.2 in
     let w = check_no_written held failed tallies words before after out out' err err' status given asked d says one in
-    (w.domain, w.problem, w.rules, w.reason, w.both, w.plan, w.first, w.written)
+    (w.domain, w.problem, w.plan, w.reason, w.both, w.file, w.first, w.written)
 
 pub returns-clause-check_exact : goal.returns-clause-check_exact
-returns-clause-check_exact g c asked domain problem rules says both some kept plan few small told no_rise no_out no_err =
+returns-clause-check_exact g c asked domain problem plan says both some kept file right few small told no_rise no_out no_err =
     let held = g.S.Shelf.held c.args.shelf.now in
     let failed = FailedLast g.S.Shelf.fetched g.S.Shelf.faults c.args.shelf.now c.answer-found.new.shelf in
     let tallies : Tallies = λ steps. tallies_text
@@ -414,7 +414,7 @@ returns-clause-check_exact g c asked domain problem rules says both some kept pl
       not_both_plan = c.plan_or_fault.ensures.not_both;
       one_verdict = c.one_verdict.ensures;
     } in
-    check_status one c.yes_is_solution.ensures held failed tallies words before after out out' err err' status given asked domain problem rules d says both some kept plan few small told
+    check_status one c.yes_is_solution.ensures held failed tallies words before after out out' err err' status given asked domain problem plan d says both some kept file right few small told
     (λ file. no_failure g.S.Shelf.fetched g.S.Shelf.faults c.args.shelf.now c.answer-found.new.shelf file no_rise) no_out no_err
 
 pub returns-clause-replayed : goal.returns-clause-replayed

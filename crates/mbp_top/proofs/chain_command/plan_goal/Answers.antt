@@ -1,0 +1,20 @@
+use Rattle.std.proofs.Common.{inr, ap, sym, ◌∙◌, rules, Option}
+use Rattle.std.specs.Option.{option_map}
+use Rattle.ctl_syntax.specs.ChainValues.{chain_value}
+use Rattle.ctl_syntax.specs.declared.chains.Chain.{Chain}
+use Rattle.pddl_ast.specs.Values.{domain_value, problem_value}
+use Rattle.mbp_top.specs.Values.{plan_words_of}
+use Rattle.mbp_top.proofs.ChainAnswers.{chain_stands, no_chain, refused_then}
+use Rattle.mbp_top.proofs.chain_command.plan_goal.Goals as goal
+
+pub plan_stages-requires-clause-chain : goal.plan_stages-requires-clause-chain
+plan_stages-requires-clause-chain c =
+    chain_stands c.grounded_goals_are_true.ensures.truth (domain_value c.args.domain.now) (problem_value c.args.problem.now) c.args.goal.now c.in-Some.chain c.requires.goal
+    (sym (ap (λ (o : Option Chain). option_map chain_value o) c.in-Some.is) ∙ c.in_ok-chain.ensures.answer)
+
+pub returns-in_ok-from_str-in-None : goal.returns-in_ok-from_str-in-None
+returns-in_ok-from_str-in-None c =
+    let domain = domain_value c.args.domain.now in
+    let problem = problem_value c.args.problem.now in
+    let none = no_chain domain problem c.args.goal.now c.requires.goal (sym (ap (λ (o : Option Chain). option_map chain_value o) c.in-None.is) ∙ c.in_ok-chain.ensures.answer) in
+    inr (inr (refused_then domain problem (plan_words_of c.args.asked.now) _ c.requires.kind none (search rules)))

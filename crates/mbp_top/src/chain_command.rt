@@ -1,0 +1,163 @@
+//! The command `plan ctl`.
+
+ghost use Rattle.chain_plan.specs.Chains.{IsChainOver, chain_sets};
+ghost use Rattle.ctl_syntax.specs.ChainValues.{ChainIsAtMostDeep, ChainNamesBelow};
+ghost use Rattle.ctl_syntax.specs.Values.{IsAtMostDeep, NamesBelow, ctl_value};
+ghost use Rattle.mbp_top.specs.Answers.{full, no_memory, refused};
+ghost use Rattle.mbp_top.specs.Enough.{IsTightLimit};
+ghost use Rattle.mbp_top.specs.FoundChains.{IsChainResult, IsChainSearched, StandsForChain};
+ghost use Rattle.mbp_top.specs.Grounded.{IsGroundedOf, IsTaskOf};
+ghost use Rattle.mbp_top.specs.PlanCommand.{MayBeTooFew, PlanThen};
+ghost use Rattle.mbp_top.specs.Values.{answer_of, kind_of, plan_words_of, shown_of};
+ghost use Rattle.mbp_top.specs.Words.{IsNodeLimit, with_contexts};
+ghost use Rattle.pddl_ast.specs.Values.{domain_value, problem_value};
+ghost use Rattle.pddl_system.specs.CtlGoals.{ctl_goal_of, goal_value};
+ghost use Rattle.std.specs.Prelude.{◌≡◌, ◌⊎◌, IfOk, IsErrOf, IsSome, Some, length, ℕ};
+ghost use Rattle.task_core.specs.Tasks.{fluent_count, system_of};
+
+use crate::answers::{Limit, Refusal, Shown, Text};
+use crate::plan_command::text_of_plan;
+use crate::words::PlanWords;
+use chain_plan::{FoundAuto, plan_chain};
+use ctl_syntax::{Chain, Ctl, as_chain};
+use dd_sets::{SetErr, tight_is_monotone};
+use encode_task::encode;
+use ground_task::Grounded;
+use pddl_ast::{Domain, Problem};
+use pddl_system::grounded_goals_are_true;
+use plan_rules::Plan;
+use sexpr_text::{FaultKind, InputFault};
+use std::alloc::Global;
+use task_core::Task;
+
+/// The most stages of a chain.
+const MOST_STAGES: usize = 32;
+
+/// The plan with contexts for a task and its goal in computation tree logic, which are those of the
+/// domain and the problem.
+pub(crate) fn plan_contexts(
+    alloc: Global,
+    asked: &PlanWords,
+    domain: &Domain,
+    problem: &Problem,
+    grounded: &Grounded,
+) -> Result<Shown, Refusal>
+    requires room { IsNodeLimit asked.now.options.nodes }
+    requires kind { kind_of asked.now.kind ≡ with_contexts }
+    requires goal { IsSome grounded.now.ctl }
+    requires grounded { IsGroundedOf (domain_value domain.now) (problem_value problem.now)
+        grounded.now }
+    ensures { let asked = plan_words_of asked.now in
+        (answer_of result ≡ refused no_memory)
+        ⊎ (MayBeTooFew asked (domain_value domain.now) (problem_value problem.now)
+        × (answer_of result ≡ refused (full asked.options.nodes)))
+        ⊎ PlanThen asked (domain_value domain.now) (problem_value problem.now)
+        (answer_of result) }
+{
+    match &grounded.ctl {
+        Some(goal) => plan_goal(alloc, asked, domain, problem, &grounded.task, goal),
+        None => unreachable!(),
+    }
+}
+
+/// The plan with contexts for a goal.
+fn plan_goal(
+    alloc: Global,
+    asked: &PlanWords,
+    domain: &Domain,
+    problem: &Problem,
+    task: &Task,
+    goal: &Ctl,
+) -> Result<Shown, Refusal>
+    requires room { IsNodeLimit asked.now.options.nodes }
+    requires kind { kind_of asked.now.kind ≡ with_contexts }
+    requires task { IsTaskOf (domain_value domain.now) (problem_value problem.now) task.now }
+    requires goal { Some (goal_value goal.now)
+        ≡ ctl_goal_of (domain_value domain.now) (problem_value problem.now) }
+    requires names { NamesBelow (fluent_count task.now) (ctl_value goal.now) }
+    requires shallow { IsAtMostDeep 199 (ctl_value goal.now) }
+    ensures { let asked = plan_words_of asked.now in
+        (answer_of result ≡ refused no_memory)
+        ⊎ (MayBeTooFew asked (domain_value domain.now) (problem_value problem.now)
+        × (answer_of result ≡ refused (full asked.options.nodes)))
+        ⊎ PlanThen asked (domain_value domain.now) (problem_value problem.now)
+        (answer_of result) }
+{
+    // These do nothing: that the chain's sets are those of the problem's formulas rests on what
+    // they promise.
+    grounded_goals_are_true();
+    match as_chain(alloc, goal)? {
+        Some(chain) => plan_stages(alloc, asked, domain, problem, task, &chain),
+        None => Err(Refusal::TextFault(
+            String::from_str(alloc, asked.problem)?,
+            InputFault {
+                kind: FaultKind::NotChain,
+                place: problem.ctl_place,
+            },
+        )),
+    }
+}
+
+/// The plan with contexts for a chain that stands for the problem's goal.
+fn plan_stages(
+    alloc: Global,
+    asked: &PlanWords,
+    domain: &Domain,
+    problem: &Problem,
+    task: &Task,
+    chain: &Chain,
+) -> Result<Shown, Refusal>
+    requires room { IsNodeLimit asked.now.options.nodes }
+    requires kind { kind_of asked.now.kind ≡ with_contexts }
+    requires task { IsTaskOf (domain_value domain.now) (problem_value problem.now) task.now }
+    requires chain { StandsForChain (domain_value domain.now) (problem_value problem.now)
+        chain.now }
+    requires names { ChainNamesBelow (fluent_count task.now) chain.now }
+    requires shallow { ChainIsAtMostDeep 200 chain.now }
+    ensures { let asked = plan_words_of asked.now in
+        (answer_of result ≡ refused no_memory)
+        ⊎ (MayBeTooFew asked (domain_value domain.now) (problem_value problem.now)
+        × (answer_of result ≡ refused (full asked.options.nodes)))
+        ⊎ PlanThen asked (domain_value domain.now) (problem_value problem.now)
+        (answer_of result) }
+{
+    if chain.stages.len() > MOST_STAGES {
+        return Err(Refusal::OverLimit(Limit::Stages));
+    }
+    match chain_task(alloc, asked.options.nodes, task, chain) {
+        Ok(shown) => Ok(shown),
+        Err(SetErr::Full) => Err(Refusal::Full(asked.options.nodes)),
+        Err(SetErr::Memory) => Err(Refusal::NoMemory),
+    }
+}
+
+/// The plan with contexts of a task for a chain, found in a table for so many nodes.
+fn chain_task(alloc: Global, nodes: u32, task: &Task, chain: &Chain) -> Result<Shown, SetErr>
+    requires room { IsNodeLimit nodes }
+    requires chain { IsChainOver (fluent_count task.now) chain.now }
+    ensures plan { IfOk result (λ shown. IsChainResult task.now chain.now (shown_of shown)) }
+    ensures full { IsErrOf result SetErr.Full
+        → IsTightLimit (length chain.now.stages.items) nodes (system_of task.now) }
+{
+    match search_chain(alloc, nodes, task, chain)? {
+        FoundAuto::Plan(plan) => {
+            let text = text_of_plan(alloc, &Plan::Auto(plan), task)?;
+            Ok(Shown::Affirmed(text))
+        }
+        FoundAuto::NoPlan => Ok(Shown::Denied(Text::Fixed("no plan\n"))),
+    }
+}
+
+/// What is found for a task and a chain, in a table for so many nodes.
+fn search_chain(alloc: Global, nodes: u32, task: &Task, chain: &Chain) -> Result<FoundAuto, SetErr>
+    requires room { IsNodeLimit nodes }
+    requires chain { IsChainOver (fluent_count task.now) chain.now }
+    ensures found { IsChainSearched task.now chain.now result }
+    ensures full { IsErrOf result SetErr.Full
+        → IsTightLimit (length chain.now.stages.items) nodes (system_of task.now) }
+{
+    // This does nothing: that few nodes are too few for more sets rests on what it promises.
+    tight_is_monotone();
+    let mut enc = encode(alloc, task, nodes)?;
+    plan_chain(alloc, task, &mut enc, chain)
+}
