@@ -11,8 +11,8 @@ use indexmap::IndexSet;
 use std::alloc::{AllocError, Global};
 use std::marker::Model;
 
-/// How many nodes make a table that grows in smaller steps, to save memory.
-const MANY: usize = 2_000_000;
+/// How many nodes make a table that grows in the largest steps.
+const MANY: usize = 1_000_000;
 
 /// A table of diagram nodes: at most `limit` nodes over `vars` variables.
 ///
@@ -192,8 +192,9 @@ fn place(nodes: &mut IndexSet<Node>, limit: usize, node: Node) -> Result<Ref, Dd
     }
 }
 
-/// Makes room for three times as many nodes more, and for `limit` in all at most, where there is no
-/// room for one: so few nodes are put into a larger table again. From `MANY` nodes on, and where
+/// Makes room for three times as many nodes more, from `MANY` nodes on for seven times as many, and
+/// for `limit` in all at most, where there is no room for one. To put all nodes into a larger table
+/// again takes as long as to make a third of them, once they no longer fit into a cache. Where
 /// there is no memory for that, the room stays as it is, and an insertion doubles it.
 fn widen(nodes: &mut IndexSet<Node>, limit: usize)
     requires within { length nodes.old.keys ≤ limit }
@@ -201,8 +202,9 @@ fn widen(nodes: &mut IndexSet<Node>, limit: usize)
     ensures { nodes.new.keys ≡ nodes.old.keys }
 {
     let count = nodes.len();
-    if count == nodes.capacity() && count < MANY {
-        let _ = nodes.reserve((3 * count).min(limit - count));
+    if count == nodes.capacity() {
+        let times = if count < MANY { 3 } else { 7 };
+        let _ = nodes.reserve((times * count).min(limit - count));
     }
 }
 
