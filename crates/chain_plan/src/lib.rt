@@ -11,8 +11,6 @@ mod plan;
 mod rounds;
 mod rules;
 mod takers;
-#[cfg(test)]
-mod tests;
 mod wins;
 
 pub use plan::{FoundAuto, plan_chain};

@@ -12,8 +12,6 @@
 mod laws;
 mod plan;
 mod rounds;
-#[cfg(test)]
-mod tests;
 
 pub use laws::{
     last_round_is_largest, no_plan_without_cover, printed_plan_solves, rounds_shrink,

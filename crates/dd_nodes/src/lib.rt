@@ -10,8 +10,6 @@
 mod dd;
 mod laws;
 mod node;
-#[cfg(test)]
-mod tests;
 
 pub use dd::Dd;
 pub use laws::{

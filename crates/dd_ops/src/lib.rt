@@ -15,8 +15,6 @@ mod ops;
 mod question;
 mod replacements;
 mod subst;
-#[cfg(test)]
-mod tests;
 
 pub use growth_laws::{
     full_only_beyond, grows_within, piece_grows_below, pieces_grow_together,

@@ -11,8 +11,6 @@ mod errors;
 mod laws;
 mod sets;
 mod slots;
-#[cfg(test)]
-mod tests;
 
 pub use cubes::Cube;
 pub use errors::SetErr;

@@ -1,9 +1,13 @@
-//! Tables of tests of the operations on diagrams: every operation at every function of three
-//! variables, and tables of nodes that fill up.
+//! Tests of the node table, of the operations on diagrams and of sets: worked examples, every
+//! operation at every function of three variables and at every set over three fluents, and tables
+//! that fill up.
 //!
-//! They stand apart from the operations, so that these are proved once and not again with their
-//! tests.
+//! They stand apart from what they test, so that it is proved once and not again with its tests.
 #![tactic(auto)]
 
 #[cfg(test)]
-mod tests;
+mod node_tests;
+#[cfg(test)]
+mod operation_tests;
+#[cfg(test)]
+mod set_tests;

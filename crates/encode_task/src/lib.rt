@@ -15,8 +15,6 @@ mod laws;
 mod left_alone;
 mod outcomes;
 mod slots;
-#[cfg(test)]
-mod tests;
 
 pub use enc::{Enc, encode};
 pub use laws::made_is_kept;

@@ -21,8 +21,6 @@ mod plan_command;
 mod plan_files;
 mod record_files;
 mod replay_command;
-#[cfg(test)]
-mod tests;
 mod top;
 mod words;
 

@@ -3,11 +3,7 @@
 
 mod laws;
 mod preimages;
-#[cfg(test)]
-mod random_tasks;
 mod slots;
-#[cfg(test)]
-mod tests;
 
 pub use laws::preimages_lead_into_their_sets;
 pub use preimages::{strong_pre, weak_pre};

@@ -18,8 +18,6 @@ mod planner;
 mod search;
 mod set_rules;
 mod slots;
-#[cfg(test)]
-mod tests;
 
 pub use laws::{
     layers_grow, layers_stand_still, no_plan_once_stable, no_plan_without_cover,

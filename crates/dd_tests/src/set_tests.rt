@@ -1,0 +1,406 @@
+//! Every operation at every set over three fluents, and small tables that fill up over four, each
+//! against truth tables.
+ghost use Rattle.std.specs.Prelude.{◌≡◌, ◌<◌, ◌≤◌, All, IfOk, IfSome, OnOk};
+ghost use Rattle.dd_sets.specs.Calls.{KeepsSets, Releases};
+ghost use Rattle.dd_sets.specs.LiveSets.{IsLive};
+
+use dd_sets::{Cube, SetErr, SetId, Sets};
+use std::alloc::{AllocError, Global};
+use std::test::Fail;
+use task_core::{FluentId, State};
+
+/// A slot and the truth table of its set: bit `s` says whether the state is in the set whose first
+/// fluents have the values of the bits of `s`.
+type Known = (SetId, u16);
+
+/// The truth tables of four fluents.
+const FLUENTS: [u16; 4] = [0xaaaa, 0xcccc, 0xf0f0, 0xff00];
+
+/// The state whose first four fluents have the values of the bits of a number.
+fn state(bits: u32) -> State {
+    let mut state = State::none();
+    for f in 0..4u32 {
+        state = state.with(FluentId(f), bits >> f & 1 == 1);
+    }
+    state
+}
+
+/// The truth table of a slot's set.
+fn truth(sets: &Sets, a: SetId) -> u16
+    requires { IsLive sets.now a.0 }
+{
+    let mut table = 0;
+    for s in 0..16u32 {
+        if sets.holds(a, &state(s)) {
+            table |= 1u16 << s;
+        }
+    }
+    table
+}
+
+/// Whether a slot's set has a truth table; it ends the slot.
+fn had(sets: &mut Sets, made: SetId, table: u16) -> bool
+    requires { IsLive sets.old made.0 }
+    ensures { Releases sets.old sets.new made.0 }
+{
+    let is_right = truth(sets, made) == table;
+    sets.release(made);
+    is_right
+}
+
+#[tactic(auto, using(dd_sets::proofs::FrameLemmas::kept_release))]
+fn meets(sets: &mut Sets, f: Known, g: Known) -> Result<bool, SetErr>
+    requires f_live { IsLive sets.old f.0.0 }
+    requires g_live { IsLive sets.old g.0.0 }
+    ensures { KeepsSets sets.old sets.new }
+{
+    let made = sets.meet(f.0, g.0)?;
+    Ok(had(sets, made, f.1 & g.1))
+}
+
+#[tactic(auto, using(dd_sets::proofs::FrameLemmas::kept_release))]
+fn joins(sets: &mut Sets, f: Known, g: Known) -> Result<bool, SetErr>
+    requires f_live { IsLive sets.old f.0.0 }
+    requires g_live { IsLive sets.old g.0.0 }
+    ensures { KeepsSets sets.old sets.new }
+{
+    let made = sets.join(f.0, g.0)?;
+    Ok(had(sets, made, f.1 | g.1))
+}
+
+#[tactic(auto, using(dd_sets::proofs::FrameLemmas::kept_release))]
+fn subtracts(sets: &mut Sets, f: Known, g: Known) -> Result<bool, SetErr>
+    requires f_live { IsLive sets.old f.0.0 }
+    requires g_live { IsLive sets.old g.0.0 }
+    ensures { KeepsSets sets.old sets.new }
+{
+    let made = sets.minus(f.0, g.0)?;
+    Ok(had(sets, made, f.1 & !g.1))
+}
+
+#[tactic(auto, using(dd_sets::proofs::FrameLemmas::kept_release))]
+fn complements(sets: &mut Sets, f: Known) -> Result<bool, SetErr>
+    requires { IsLive sets.old f.0.0 }
+    ensures { KeepsSets sets.old sets.new }
+{
+    let made = sets.complement(f.0)?;
+    Ok(had(sets, made, !f.1))
+}
+
+#[tactic(auto, using(dd_sets::proofs::FrameLemmas::kept_release))]
+fn copies(sets: &mut Sets, f: Known) -> Result<bool, SetErr>
+    requires { IsLive sets.old f.0.0 }
+    ensures { KeepsSets sets.old sets.new }
+{
+    let made = sets.copy(f.0)?;
+    Ok(had(sets, made, f.1))
+}
+
+/// Whether a cube has a state.
+fn has_state(cube: &Cube, s: u32) -> bool {
+    cube.iter().all(|lit| lit.fluent.0 < 32 && (s >> lit.fluent.0 & 1 == 1) == lit.positive)
+}
+
+/// Whether the cubes of a set have the states of its truth table alone.
+fn has_cubes(sets: &Sets, f: Known) -> Result<bool, Fail>
+    requires { IsLive sets.now f.0.0 }
+{
+    let cubes = sets.cubes(f.0)?;
+    for s in 0..16u32 {
+        let is_in = cubes.iter().any(|cube| has_state(cube, s));
+        if is_in != (f.1 >> s & 1 == 1) {
+            return Ok(false);
+        }
+    }
+    Ok(true)
+}
+
+/// Whether the tests of two sets answer by their truth tables.
+fn compares(sets: &mut Sets, f: Known, g: Known) -> Result<bool, SetErr>
+    requires f_live { IsLive sets.old f.0.0 }
+    requires g_live { IsLive sets.old g.0.0 }
+    ensures { KeepsSets sets.old sets.new }
+{
+    let is_inside = sets.inside(f.0, g.0)?;
+    let is_none = sets.is_none(f.0);
+    Ok(
+        is_inside == (f.1 & !g.1 == 0)
+            && is_none == (f.1 == 0)
+            && sets.same(f.0, g.0) == (f.1 == g.1),
+    )
+}
+
+/// A truth table in which each fluent has the value of another truth table.
+fn replaced(table: u16, images: [u16; 4]) -> u16 {
+    let mut result = 0;
+    for s in 0..16u32 {
+        let mut from = 0u32;
+        for f in 0..4usize {
+            if images[f] >> s & 1 == 1 {
+                from |= 1 << f;
+            }
+        }
+        if table >> (from % 16) & 1 == 1 {
+            result |= 1u16 << s;
+        }
+    }
+    result
+}
+
+/// Whether the first two fluents are replaced at once, and by the first entry of each.
+#[tactic(auto, using(dd_sets::proofs::FrameLemmas::kept_release))]
+fn replaces(sets: &mut Sets, f: Known, g: Known, h: Known) -> Result<bool, SetErr>
+    requires f_live { IsLive sets.old f.0.0 }
+    requires g_live { IsLive sets.old g.0.0 }
+    requires h_live { IsLive sets.old h.0.0 }
+    ensures { KeepsSets sets.old sets.new }
+{
+    let map = [(FluentId(0), g.0), (FluentId(1), h.0), (FluentId(0), f.0)];
+    let made = sets.subst(f.0, &map)?;
+    let table = replaced(f.1, [g.1, h.1, FLUENTS[2], FLUENTS[3]]);
+    Ok(had(sets, made, table))
+}
+
+/// Whether a fluent is fixed.
+#[tactic(auto, using(dd_sets::proofs::FrameLemmas::kept_release))]
+fn fixes(sets: &mut Sets, f: Known, fluent: u32, value: bool) -> Result<bool, SetErr>
+    requires f_live { IsLive sets.old f.0.0 }
+    requires few { fluent < 3 }
+    requires vars { 3 ≤ sets.old.vars }
+    ensures { KeepsSets sets.old sets.new }
+{
+    let made = sets.cofactor(f.0, FluentId(fluent), value)?;
+    let mut images = FLUENTS;
+    images[fluent as usize] = if value { 0xffff } else { 0 };
+    Ok(had(sets, made, replaced(f.1, images)))
+}
+
+/// The set at a place of a list.
+fn pick(_sets: &Sets, known: &[Known], place: usize) -> Option<Known>
+    requires { All (λ k. IsLive _sets.now k.0.0) known.now }
+    ensures { IfSome result (λ k. IsLive _sets.now k.0.0) }
+{
+    known.get(place).copied()
+}
+
+/// Adds a set to a list.
+#[tactic(auto, using(dd_sets::proofs::FrameLemmas::all_added))]
+fn add(_sets: &Sets, known: &mut Vec<Known>, slot: SetId, table: u16) -> Result<(), AllocError>
+    requires live { All (λ k. IsLive _sets.now k.0.0) known.old.items }
+    requires new { IsLive _sets.now slot.0 }
+    ensures { OnOk result (All (λ k. IsLive _sets.now k.0.0) known.new.items) }
+{
+    known.push((slot, table))?;
+    Ok(())
+}
+
+/// The set of one state over the first three fluents. The slots on the way stay live.
+#[tactic(auto, using(dd_sets::proofs::FrameLemmas::kept_chain))]
+fn one_state(sets: &mut Sets, s: u32) -> Result<SetId, SetErr>
+    requires { 3 ≤ sets.old.vars }
+    ensures live { IfOk result (λ slot. IsLive sets.new slot.0) }
+    ensures kept { KeepsSets sets.old sets.new }
+{
+    let mut all = sets.whole()?;
+    for f in 0..3u32 {
+        let value = sets.of_fluent(FluentId(f))?;
+        all = if s >> f & 1 == 1 {
+            sets.meet(all, value)?
+        } else {
+            sets.minus(all, value)?
+        };
+    }
+    Ok(all)
+}
+
+/// A set with one state more.
+#[tactic(auto, using(dd_sets::proofs::FrameLemmas::kept_chain))]
+fn with_state(sets: &mut Sets, f: Known, s: u32) -> Result<SetId, SetErr>
+    requires vars { 3 ≤ sets.old.vars }
+    requires f_live { IsLive sets.old f.0.0 }
+    ensures live { IfOk result (λ slot. IsLive sets.new slot.0) }
+    ensures kept { KeepsSets sets.old sets.new }
+{
+    let one = one_state(sets, s)?;
+    sets.join(f.0, one)
+}
+
+/// The sets over three fluents, each at the place of its truth table over these fluents.
+#[tactic(auto, using(dd_sets::proofs::FrameLemmas::all_kept))]
+fn all_sets(alloc: Global, sets: &mut Sets) -> Result<Vec<Known>, Fail>
+    requires { 3 ≤ sets.old.vars }
+    ensures live { IfOk result (λ known. All (λ k. IsLive sets.new k.0.0) known.items) }
+    ensures vars { OnOk result (3 ≤ sets.new.vars) }
+{
+    let mut known = Vec::new(alloc);
+    let none = sets.none()?;
+    add(sets, &mut known, none, 0)?;
+    for table in 1..256u16 {
+        let rest = table & (table - 1);
+        let f = pick(sets, &known, rest as usize).ok_or("a set is missing")?;
+        let made = with_state(sets, f, table.trailing_zeros())?;
+        add(sets, &mut known, made, table * 257)?;
+    }
+    Ok(known)
+}
+
+/// Whether the operations on a set and each of a list answer by their truth tables.
+#[tactic(auto, using(dd_sets::proofs::FrameLemmas::kept_chain))]
+fn agrees(sets: &mut Sets, f: Known, known: &[Known]) -> Result<bool, SetErr>
+    requires f_live { IsLive sets.old f.0.0 }
+    requires live { All (λ k. IsLive sets.old k.0.0) known.now }
+    ensures { KeepsSets sets.old sets.new }
+{
+    for g in known {
+        if !(meets(sets, f, *g)? && joins(sets, f, *g)? && subtracts(sets, f, *g)?) {
+            return Ok(false);
+        }
+        if !(compares(sets, f, *g)? && replaces(sets, *g, f, *g)?) {
+            return Ok(false);
+        }
+    }
+    Ok(true)
+}
+
+/// Whether the operations on one set answer by its truth table.
+#[tactic(auto, using(dd_sets::proofs::FrameLemmas::kept_chain))]
+fn agrees_alone(sets: &mut Sets, f: Known) -> Result<bool, Fail>
+    requires f_live { IsLive sets.old f.0.0 }
+    requires vars { 3 ≤ sets.old.vars }
+    ensures { KeepsSets sets.old sets.new }
+{
+    let is_so = complements(sets, f)? && copies(sets, f)?;
+    let is_fixed = fixes(sets, f, 0, true)? && fixes(sets, f, 2, false)?;
+    Ok(is_so && is_fixed && has_cubes(sets, f)?)
+}
+
+/// Whether the operations on each set of a list answer by their truth tables.
+#[tactic(auto, using(dd_sets::proofs::FrameLemmas::kept_chain))]
+fn all_agree(sets: &mut Sets, known: &[Known]) -> Result<bool, Fail>
+    requires live { All (λ k. IsLive sets.old k.0.0) known.now }
+    requires vars { 3 ≤ sets.old.vars }
+{
+    for f in known {
+        if !(agrees_alone(sets, *f)? && agrees(sets, *f, known)?) {
+            return Ok(false);
+        }
+    }
+    Ok(true)
+}
+
+#[test]
+fn operations_agree_with_truth_tables(rt: HostRuntime) -> Result<(), Fail> {
+    let mut sets = Sets::new(rt.alloc(), 3, 300)?;
+    let known = all_sets(rt.alloc(), &mut sets)?;
+    assert_eq!(rt; known.len(), 256);
+    assert!(rt; all_agree(&mut sets, &known)?);
+    Ok(())
+}
+
+/// Whether each set of a list has its truth table.
+fn are_kept(sets: &Sets, known: &[Known]) -> bool
+    requires { All (λ k. IsLive sets.now k.0.0) known.now }
+{
+    for k in known {
+        if truth(sets, k.0) != k.1 {
+            return false;
+        }
+    }
+    true
+}
+
+/// The join of two sets, or the complement of the first.
+fn combine(sets: &mut Sets, is_join: bool, f: Known, g: Known) -> Result<SetId, SetErr>
+    requires f_live { IsLive sets.old f.0.0 }
+    requires g_live { IsLive sets.old g.0.0 }
+    ensures live { IfOk result (λ slot. IsLive sets.new slot.0) }
+    ensures kept { KeepsSets sets.old sets.new }
+{
+    if is_join {
+        sets.join(f.0, g.0)
+    } else {
+        sets.complement(f.0)
+    }
+}
+
+/// The empty set and the values of the four fluents, as far as there is room.
+#[tactic(auto, using(dd_sets::proofs::FrameLemmas::all_kept))]
+fn start(alloc: Global, sets: &mut Sets) -> Result<Vec<Known>, Fail>
+    requires { sets.old.vars ≡ 4 }
+    ensures { IfOk result (λ known. All (λ k. IsLive sets.new k.0.0) known.items) }
+{
+    let mut known = Vec::new(alloc);
+    let none = sets.none()?;
+    add(sets, &mut known, none, 0)?;
+    for f in 0..4u32 {
+        match sets.of_fluent(FluentId(f)) {
+            Ok(slot) => add(sets, &mut known, slot, FLUENTS[f as usize])?,
+            Err(SetErr::Full) => {}
+            Err(e) => return Err(Fail::from(e)),
+        }
+    }
+    Ok(known)
+}
+
+/// What became of a step: a set was added, or there was no room and each set is as it was, or not.
+enum Step {
+    Added,
+    Refused,
+    Lost,
+}
+
+/// Adds a set to a list, if there is room.
+#[tactic(auto, using(dd_sets::proofs::FrameLemmas::all_kept))]
+fn grow(
+    sets: &mut Sets,
+    known: &mut Vec<Known>,
+    is_join: bool,
+    places: (usize, usize),
+) -> Result<Step, Fail>
+    requires { All (λ k. IsLive sets.old k.0.0) known.old.items }
+    ensures { OnOk result (All (λ k. IsLive sets.new k.0.0) known.new.items) }
+{
+    let f = pick(sets, known, places.0).ok_or("a set is missing")?;
+    let g = pick(sets, known, places.1).ok_or("a set is missing")?;
+    match combine(sets, is_join, f, g) {
+        Ok(slot) => {
+            add(sets, known, slot, if is_join { f.1 | g.1 } else { !f.1 })?;
+            Ok(Step::Added)
+        }
+        Err(SetErr::Full) if are_kept(sets, known) => Ok(Step::Refused),
+        Err(SetErr::Full) => Ok(Step::Lost),
+        Err(e) => Err(Fail::from(e)),
+    }
+}
+
+/// Fills a table by joins and complements over four fluents, and counts the refusals; `None` where
+/// a slot lost its set.
+fn fill(alloc: Global, limit: u32) -> Result<Option<u32>, Fail>
+    requires some { 0 < limit }
+    requires few { limit ≤ 40 }
+{
+    let mut sets = Sets::new(alloc, 4, limit)?;
+    let mut known = start(alloc, &mut sets)?;
+    let mut refusals = 0u32;
+    let mut seed = 1u32;
+    for step in 0..200u32 {
+        seed = seed.wrapping_mul(1664525).wrapping_add(1013904223);
+        let count = known.len().max(1);
+        let places = ((seed >> 8) as usize % count, (seed >> 20) as usize % count);
+        match grow(&mut sets, &mut known, step % 2 == 0, places)? {
+            Step::Added => {}
+            Step::Refused => refusals = refusals.saturating_add(1),
+            Step::Lost => return Ok(None),
+        }
+    }
+    Ok(Some(refusals))
+}
+
+#[test]
+fn slots_keep_their_sets_when_full(rt: HostRuntime) -> Result<(), Fail> {
+    for limit in 1..41u32 {
+        let refusals = fill(rt.alloc(), limit)?.ok_or("a slot lost its set")?;
+        assert!(rt; refusals > 0, "at {limit}");
+    }
+    Ok(())
+}

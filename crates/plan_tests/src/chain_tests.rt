@@ -1,0 +1,207 @@
+//! Small tasks, and the plans worked out for them by hand.
+
+ghost use Rattle.std.specs.Prelude.{◌≡◌, ◌≤◌, ◌<◌, All, IfOk, length, true};
+ghost use Rattle.chain_plan.specs.Chains.{IsChainOver, IsConditionOver};
+ghost use Rattle.task_core.specs.Conditions.{ids_below, is_shallow};
+ghost use Rattle.task_core.specs.Tasks.{fluent_count};
+
+use chain_plan::{FoundAuto, plan_chain};
+use ctl_syntax::Chain;
+use dd_sets::SetErr;
+use encode_task::encode;
+use plan_rules::{AutoRule, Next};
+use std::alloc::{AllocError, Global};
+use std::test::Fail;
+use task_core::{
+    ActionId, Change, Cond, FluentId, GroundAction, InitSpec, Lit, Outcome, State, Task,
+};
+
+/// The outcome that sets a fluent.
+fn sets(alloc: Global, fluent: u32, positive: bool) -> Result<Outcome, AllocError> {
+    let change = Change {
+        cond: Cond::Yes,
+        lit: Lit {
+            fluent: FluentId(fluent),
+            positive,
+        },
+    };
+    Ok(Outcome {
+        changes: vec![in alloc; change]?,
+    })
+}
+
+/// A name of one word.
+fn name(alloc: Global, word: &str) -> Result<Vec<String>, AllocError> {
+    Ok(vec![in alloc; String::from_str(alloc, word)?]?)
+}
+
+/// A task of one fluent, on, which is off at first; one action switches it on, one off.
+fn lamp(alloc: Global) -> Result<Task, Fail>
+    ensures { IfOk result (λ task. fluent_count task ≡ 1) }
+{
+    let on = GroundAction {
+        name: name(alloc, "on")?,
+        exec: Cond::Yes,
+        outcomes: vec![in alloc; sets(alloc, 0, true)?]?,
+    };
+    let off = GroundAction {
+        name: name(alloc, "off")?,
+        exec: Cond::Yes,
+        outcomes: vec![in alloc; sets(alloc, 0, false)?]?,
+    };
+    let init = InitSpec {
+        facts: State::none(),
+        entries: Vec::new(alloc),
+    };
+    let task = Task::try_new(
+        vec![in alloc; name(alloc, "on")?]?,
+        vec![in alloc; on, off]?,
+        init,
+        None,
+    );
+    Ok(task.ok_or("these are the parts of a task")?)
+}
+
+/// That the lamp is on, or that it is off.
+fn lamp_is(alloc: Global, on: bool) -> Result<Cond, AllocError>
+    ensures { IfOk result (IsConditionOver 1) }
+{
+    if on {
+        Ok(Cond::Is(FluentId(0)))
+    } else {
+        Ok(Cond::Not(Box::new(alloc, Cond::Is(FluentId(0)))?))
+    }
+}
+
+/// So many stages, the lamp on in the first one, off in the next, and so on.
+fn by_turns(alloc: Global, count: u32) -> Result<Vec<Cond>, AllocError>
+    ensures long { IfOk result (λ stages. length stages.items ≡ count) }
+    ensures names { IfOk result
+        (λ stages. All (λ cond. ids_below 1 cond ≡ true) stages.items) }
+    ensures shallow { IfOk result
+        (λ stages. All (λ cond. is_shallow cond ≡ true) stages.items) }
+{
+    let mut stages = Vec::new(alloc);
+    for i in 0..count {
+        stages.push(lamp_is(alloc, i % 2 == 0)?)?;
+    }
+    Ok(stages)
+}
+
+/// The chain of these stages, and of what is kept.
+fn chain_of(alloc: Global, count: u32, keep: Cond) -> Result<Chain, AllocError>
+    requires few { count ≤ 32 }
+    requires keep { IsConditionOver 1 keep }
+    ensures { IfOk result (IsChainOver 1) }
+{
+    let stages = by_turns(alloc, count)?;
+    Ok(Chain { stages, keep })
+}
+
+/// The rules of the plan that is found in a table of so many nodes; none where there is no plan.
+fn rules_found(
+    alloc: Global,
+    task: &Task,
+    chain: &Chain,
+    limit: u32,
+) -> Result<Option<Vec<AutoRule>>, SetErr>
+    requires one { fluent_count task.now ≡ 1 }
+    requires chain { IsChainOver 1 chain.now }
+    requires some_room { 0 < limit }
+    requires small_limit { limit ≤ 16777216 }
+{
+    let mut enc = encode(alloc, task, limit)?;
+    match plan_chain(alloc, task, &mut enc, chain)? {
+        FoundAuto::Plan(plan) => Ok(Some(plan.rules)),
+        FoundAuto::NoPlan => Ok(None),
+    }
+}
+
+/// The rules for stages by turns, after which a condition is kept.
+fn rules_by_turns(
+    alloc: Global,
+    count: u32,
+    keep: Cond,
+    limit: u32,
+) -> Result<Option<Vec<AutoRule>>, Fail>
+    requires few { count ≤ 32 }
+    requires keep { IsConditionOver 1 keep }
+    requires some_room { 0 < limit }
+    requires small_limit { limit ≤ 16777216 }
+{
+    let lamp = lamp(alloc)?;
+    let chain = chain_of(alloc, count, keep)?;
+    Ok(rules_found(alloc, &lamp, &chain, limit)?)
+}
+
+/// Whether a rule has this context, cube, action and next context. The cube asks for the lamp to be
+/// on, or off, or matches always.
+fn is_rule(rule: &AutoRule, context: u32, lit: Option<bool>, action: u32, next: u32) -> bool {
+    let same_next = match rule.next {
+        Next::One(context) => context == next,
+        Next::Cases(_) => false,
+    };
+    let same_cube = match lit {
+        None => rule.cube.is_empty(),
+        Some(on) => rule.cube.len() == 1 && rule.cube[0].positive == on,
+    };
+    rule.context == context && rule.action == ActionId(action) && same_next && same_cube
+}
+
+// Without stages, the first action that keeps what always holds.
+#[test]
+fn keeps_what_always_holds(rt: HostRuntime) -> Result<(), Fail> {
+    let rules = rules_by_turns(rt.alloc(), 0, Cond::Yes, 1000)?.expect(&rt, "a plan");
+    assert_eq!(rt; rules.len(), 1);
+    assert!(rt; is_rule(&rules[0], 1, None, 0, 1));
+    Ok(())
+}
+
+// The lamp is off at first, so that it can't be kept on from the beginning; but after a stage.
+#[test]
+fn keeps_the_lamp_on_after_a_stage(rt: HostRuntime) -> Result<(), Fail> {
+    let alloc = rt.alloc();
+    let none = rules_by_turns(alloc, 0, lamp_is(alloc, true)?, 1000)?;
+    assert!(rt; none.is_none());
+    let rules = rules_by_turns(alloc, 1, lamp_is(alloc, true)?, 1000)?.expect(&rt, "a plan");
+    assert_eq!(rt; rules.len(), 3);
+    assert!(rt; is_rule(&rules[0], 1, Some(false), 0, 1));
+    assert!(rt; is_rule(&rules[1], 1, Some(true), 0, 2));
+    assert!(rt; is_rule(&rules[2], 2, Some(true), 0, 2));
+    Ok(())
+}
+
+// On, then off: where the lamp is on, the first context turns to the second stage.
+#[test]
+fn meets_two_stages(rt: HostRuntime) -> Result<(), Fail> {
+    let rules = rules_by_turns(rt.alloc(), 2, Cond::Yes, 1000)?.expect(&rt, "a plan");
+    assert_eq!(rt; rules.len(), 5);
+    assert!(rt; is_rule(&rules[0], 1, Some(false), 0, 1));
+    assert!(rt; is_rule(&rules[1], 1, Some(true), 1, 2));
+    assert!(rt; is_rule(&rules[2], 2, Some(true), 1, 2));
+    assert!(rt; is_rule(&rules[3], 2, Some(false), 0, 3));
+    assert!(rt; is_rule(&rules[4], 3, None, 0, 3));
+    Ok(())
+}
+
+// As many stages as there may be: two rules a stage, and one for the end.
+#[test]
+fn meets_thirty_two_stages(rt: HostRuntime) -> Result<(), Fail> {
+    let rules = rules_by_turns(rt.alloc(), 32, Cond::Yes, 1000)?.expect(&rt, "a plan");
+    assert_eq!(rt; rules.len(), 65);
+    assert!(rt; is_rule(&rules[63], 32, Some(false), 0, 33));
+    assert!(rt; is_rule(&rules[64], 33, None, 0, 33));
+    Ok(())
+}
+
+// A table without room for the lamp's one fluent beside another set, and one with it.
+#[test]
+fn is_full_in_the_smallest_table_alone(rt: HostRuntime) -> Result<(), Fail> {
+    let alloc = rt.alloc();
+    let lamp = lamp(alloc)?;
+    let chain = chain_of(alloc, 2, Cond::Yes)?;
+    let small = rules_found(alloc, &lamp, &chain, 1);
+    assert!(rt; matches!(small, Err(SetErr::Full)));
+    assert!(rt; rules_found(alloc, &lamp, &chain, 2)?.is_some());
+    Ok(())
+}
