@@ -11,8 +11,8 @@ use Rattle.chain_goals.specs.Safe.{safe_set}
 use Rattle.chain_goals.specs.Stages.{near}
 use Rattle.chain_goals.specs.Wins.{advance, covers_chain, win_at}
 
--- action 0 presses the switch: a light that is off goes on, and one that is on goes off or stays on.
--- Action 1 waits
+-- action 0 presses the switch: a light that is off goes on, and one that is on goes off or stays
+-- on. Action 1 waits
 abbrev presses : Vector → ℕ → List Vector
 presses (false ∷ []) zero = (true ∷ []) ∷ []
 presses (true ∷ []) zero = (false ∷ []) ∷ (true ∷ []) ∷ []

@@ -1,4 +1,5 @@
--- The printed rules of a chain: which of them match a state in a context, that one does, and what numbers they have.
+-- The printed rules of a chain: which of them match a state in a context, that one does, and what
+-- numbers they have.
 use Rattle.std.proofs.Common.{◌≡◌, ℕ, zero, suc, ◌+◌, ◌-◌, ◌<◌, ◌≤◌, Bool, true, [], Some, refl, sym, ◌∙◌, ap, subst, arith, ⊎_elim}
 use Rattle.std.specs.Prelude.{◌&&◌, ◌==◌}
 use Rattle.std.specs.List.{All, Contains, list_any, range_with_len}
@@ -46,7 +47,8 @@ numbers_from a (suc n) =
     (All-weaker (IsFrom (a + 1) n) (IsFrom a (suc n)) (λ k from. let low = from.low in let high = from.high in record { low = omega arith; high = omega arith }) (range_with_len (a + 1) n) (numbers_from (a + 1) n))
 
 module _ (sys : System) (chain : Chained) where
-  -- the rule takes the action towards the first stage from its context on that isn't met, and goes on there
+  -- the rule takes the action towards the first stage from its context on that isn't met, and goes
+  -- on there
   pub record LeadsOn (v : Vector) (rule : ContextRule) : Type 0 where
     pub action : chain_action sys chain (advance sys chain rule.context v) v ≡ Some rule.action
     pub next : rule.next ≡ always (advance sys chain rule.context v)

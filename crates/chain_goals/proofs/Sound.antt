@@ -1,4 +1,5 @@
--- A plan that acts as printed goes on for ever within the states of its contexts, and has the chain.
+-- A plan that acts as printed goes on for ever within the states of its contexts, and has the
+-- chain.
 use Rattle.std.proofs.Common.{◌≡◌, ℕ, zero, suc, ◌-◌, ◌≤◌, ◌^◌, Bool, true, false, List, [], ◌∷◌, drop, length, Some, refl, sym, ◌∙◌, ap, subst, arith, inr}
 use Rattle.std.proofs.lemmas.Bool.{and_parts}
 use Rattle.std.proofs.lemmas.List.{length-drop}

@@ -1,5 +1,5 @@
--- The sets of states near a set grow and stand still; so the stage set is the least one that is closed, and each of its
--- states has a rank and an action that leads one step nearer.
+-- The sets of states near a set grow and stand still; so the stage set is the least one that is
+-- closed, and each of its states has a rank and an action that leads one step nearer.
 use Rattle.std.proofs.Common.{◌≡◌, ℕ, zero, suc, ◌+◌, ◌<◌, ◌≤◌, ◌^◌, Bool, true, false, None, Some, refl, sym, ◌∙◌, ap, subst, arith, ⊎_elim}
 use Rattle.std.specs.Prelude.{not}
 use Rattle.std.specs.List.{find, range_with_len}
@@ -140,7 +140,8 @@ module _ (sys : System) (met : SetOfVectors) where
       (cases_lt r.0 (suc k)) in
       action_of v r.0 r.1 ∙ ap (action_at_rank sys met v) same
 
-  -- the action of a state in which the set isn't met yet leads one step nearer, whatever the number of steps
+  -- the action of a state in which the set isn't met yet leads one step nearer, whatever the number
+  -- of steps
   pub record IsNearer (v : Vector) (a : ℕ) : Type 0 where
     pub chosen : stage_action sys met v ≡ Some a
     pub leads : (m : ℕ) → near sys met (suc m) v ≡ true → must_lead sys (near sys met m) v a ≡ true

@@ -1,5 +1,5 @@
--- The stage that a state turns to: which stages are met, where the rest of a chain can be had, and the action that
--- leads on.
+-- The stage that a state turns to: which stages are met, where the rest of a chain can be had, and
+-- the action that leads on.
 use Rattle.std.proofs.Common.{◌≡◌, ℕ, zero, suc, ◌+◌, ◌-◌, ◌<◌, ◌≤◌, ◌^◌, Bool, true, false, List, [], ◌∷◌, drop, length, Some, refl, sym, ◌∙◌, ap, subst, arith, ⊎_elim}
 use Rattle.std.proofs.lemmas.Bool.{and_parts, cases_lt, cond-false, cond-true, true≢false}
 use Rattle.std.proofs.lemmas.List.{drop-drop, drop_all, length-drop}

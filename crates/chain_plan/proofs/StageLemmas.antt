@@ -1,5 +1,5 @@
--- The sets and the actions of a stage: they look at states alone, and each new state of a round takes the
--- least-numbered action that leads one step nearer.
+-- The sets and the actions of a stage: they look at states alone, and each new state of a round
+-- takes the least-numbered action that leads one step nearer.
 use Rattle.std.proofs.Common.{◌≡◌, ℕ, zero, suc, ◌+◌, ◌^◌, Bool, true, false, not, ◌&&◌, ◌||◌, Option, refl, sym, ap, ◌∙◌}
 use Rattle.std.specs.List.{find, range_with_len}
 use Rattle.std.specs.Option.{option_and_then}

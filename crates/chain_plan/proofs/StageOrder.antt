@@ -13,7 +13,8 @@ use Rattle.task_core.specs.Vectors.{Vector}
 use Rattle.chain_plan.specs.Steps.{from_stage, met_first}
 
 module _ (sys : System) (keep : SetOfVectors) (v : Vector) where
-  -- the first of the stages from k on is met where more than k stages are met, and the other way round
+  -- the first of the stages from k on is met where more than k stages are met, and the other way
+  -- round
   met_there : (s : List SetOfVectors) (k : ℕ) → k ≤ met_count sys keep s v → met_first sys keep (drop k s) v ≡ true → suc k ≤ met_count sys keep s v
   met_there s k l h = go (drop k s) refl h
     where

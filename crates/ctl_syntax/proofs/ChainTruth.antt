@@ -1,5 +1,5 @@
--- A chain goal is true where the goal of its stages is: what the goal asks for at once stands in one stage, and a goal
--- that keeps nothing is one that keeps the conjunction of none.
+-- A chain goal is true where the goal of its stages is: what the goal asks for at once stands in
+-- one stage, and a goal that keeps nothing is one that keeps the conjunction of none.
 use Rattle.std.proofs.Common.{◌≡◌, ◌↔◌, List, [], ◌∷◌, map, Option, Some, None, refl, subst, ap, ◌∙◌, inr, ⊎_elim}
 use Rattle.std.specs.Prelude.{IfSome, ⊤}
 use Rattle.std.specs.Option.{option_map}

@@ -1,4 +1,5 @@
--- What a condition's tree says of the condition: where it holds, which fluents it names, and how deep it is.
+-- What a condition's tree says of the condition: where it holds, which fluents it names, and how
+-- deep it is.
 use Rattle.std.proofs.Common.{◌≡◌, ℕ, ◌+◌, Bool, true, false, not, ◌&&◌, ◌||◌, List, [], ◌∷◌, map, refl, sym, ◌∙◌, ap, subst}
 use Rattle.std.specs.Prelude.{nat_lt, max, Vec}
 use Rattle.std.specs.declared.alloc.Global.{Global}

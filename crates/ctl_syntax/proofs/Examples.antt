@@ -1,5 +1,5 @@
--- Worked examples. Node 0 leads to itself and to node 1, which leads to itself alone. The proposition,
--- a number, holds of the node of that number.
+-- Worked examples. Node 0 leads to itself and to node 1, which leads to itself alone. The
+-- proposition, a number, holds of the node of that number.
 use Rattle.std.proofs.Common.{◌≡◌, ◌⊎◌, ℕ, zero, suc, ◌<◌, List, [], ◌∷◌, length, Some, None, refl, arith, inl, inr}
 use Rattle.ctl_syntax.specs.Goals.{CtlTree, plain, negation, all, af, ef, ag, eg, au, EachPlain, goal_row, map_plain}
 use Rattle.ctl_syntax.specs.Chains.{chain_of, chain_tree}
@@ -54,8 +54,8 @@ mapped = refl
 each : EachPlain (λ p. p < 3) (au (plain 0) (ag (plain 2)))
 each = (omega arith, omega arith)
 
--- chain goals, and the parts of each: nothing but a proposition to keep, nothing but one to reach, and stages one after
--- another, the first of them of two propositions
+-- chain goals, and the parts of each: nothing but a proposition to keep, nothing but one to reach,
+-- and stages one after another, the first of them of two propositions
 only_kept : chain_of {P = ℕ} (ag (plain 1)) ≡ Some (record { stages = []; keep = Some 1 })
 only_kept = refl
 
@@ -72,8 +72,8 @@ in_order = refl
 as_goal : chain_tree {P = ℕ} (1 ∷ 3 ∷ []) 4 ≡ af (all (goal_row (plain 1 ∷ af (all (goal_row (plain 3 ∷ ag (plain 4) ∷ []))) ∷ [])))
 as_goal = refl
 
--- no chain goals: operators under `ag`, no proposition before the chain goal, the chain goal before a proposition, two
--- chain goals, another operator, and a proposition alone
+-- no chain goals: operators under `ag`, no proposition before the chain goal, the chain goal before
+-- a proposition, two chain goals, another operator, and a proposition alone
 kept_with_operators : chain_of {P = ℕ} (ag (af (plain 1))) ≡ None
 kept_with_operators = refl
 

@@ -1,4 +1,5 @@
--- Small systems, their largest sets of pairs, and the strong cyclic plans that are printed for them.
+-- Small systems, their largest sets of pairs, and the strong cyclic plans that are printed for
+-- them.
 use Rattle.std.proofs.Common.{◌≡◌, ℕ, zero, suc, Bool, true, false, List, [], ◌∷◌, None, Some, refl}
 use Rattle.std.specs.Prelude.{if◌then◌else◌, ◌==◌}
 use Rattle.task_core.specs.Vectors.{Vector}
@@ -8,8 +9,9 @@ use Rattle.cyclic_plan.specs.Largest.{covers}
 use Rattle.cyclic_plan.specs.Printed.{cyclic_rules, progress_action}
 use Rattle.cyclic_plan.specs.Rounds.{kept, progress, round}
 
--- A coin that is flipped until it shows its face up: one action with two outcomes, up and as before. After one round
--- both states are left, as before it: no flip leads elsewhere, and from each state the goal may be reached.
+-- A coin that is flipped until it shows its face up: one action with two outcomes, up and as
+-- before. After one round both states are left, as before it: no flip leads elsewhere, and from
+-- each state the goal may be reached.
 abbrev flips : Vector → ℕ → List Vector
 flips v zero = (true ∷ []) ∷ v ∷ []
 flips v (suc a) = []
@@ -30,8 +32,8 @@ coin-goal = refl
 coin-rules : cyclic_rules coin (kept coin (round coin 1)) ≡ record { cube = literal 0 false ∷ []; action = 0 } ∷ []
 coin-rules = refl
 
--- A wheel that only spins: its one action leads from the state back to it, so that the goal isn't reached. Nothing
--- but the goal state is left.
+-- A wheel that only spins: its one action leads from the state back to it, so that the goal isn't
+-- reached. Nothing but the goal state is left.
 abbrev spins : Vector → ℕ → List Vector
 spins v zero = v ∷ []
 spins v (suc a) = []
@@ -45,8 +47,8 @@ wheel-left = refl
 wheel-uncovered : covers wheel (kept wheel (round wheel 1)) ≡ false
 wheel-uncovered = refl
 
--- Two fluents, goal and dead: action 0 does nothing, action 1 reaches the goal or is dead, action 2 reaches the goal or
--- does nothing. In dead states nothing can be executed.
+-- Two fluents, goal and dead: action 0 does nothing, action 1 reaches the goal or is dead, action 2
+-- reaches the goal or does nothing. In dead states nothing can be executed.
 abbrev tries : Bool → Bool → ℕ → List Vector
 tries g true a = []
 tries g false zero = (g ∷ false ∷ []) ∷ []

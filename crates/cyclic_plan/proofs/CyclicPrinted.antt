@@ -1,5 +1,6 @@
--- The printed rules denote a strong cyclic solution. They are the weak plan of the system in which only the pairs of
--- the set can be executed, so that wherever it leads the goal may still be reached.
+-- The printed rules denote a strong cyclic solution. They are the weak plan of the system in which
+-- only the pairs of the set can be executed, so that wherever it leads the goal may still be
+-- reached.
 use Rattle.std.proofs.Common.{◌≡◌, ◌≢◌, ℕ, zero, ◌^◌, true, List, [], ◌∷◌, refl, sym, ◌∙◌, subst, arith, ⊎_elim}
 use Rattle.std.specs.List.{Contains}
 use Rattle.std.proofs.lemmas.Bool.{or_cases}

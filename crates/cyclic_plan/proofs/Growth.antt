@@ -223,7 +223,8 @@ pub grown : (start : Start) (now : Encoded) (slots : List SetId) (left : SetOfVe
 grown start now slots left taking k h =
     next_as start now slots left _ _ (layer Weak (kept_system start left) k) _ _ h (λ a v l is. takers_step taking (kept_system start left) k a v l) (λ v is. refl)
 
--- where the near states are as the next ones, they are all that are connected, and the actions are taken as at last
+-- where the near states are as the next ones, they are all that are connected, and the actions are
+-- taken as at last
 pub spread_done : (start : Start) (now : Encoded) (slots : List SetId) (left : SetOfVectors) (taking : Bool) (k : ℕ)
     → HasNext start now slots left (takers_within taking (kept_system start left) (suc k)) (layer Weak (kept_system start left) k) (layer Weak (kept_system start left) (suc k))
     → set_at now.sets slots 4 ≡ set_at now.sets slots 3

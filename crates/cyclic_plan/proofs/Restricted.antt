@@ -1,5 +1,5 @@
--- The system in which only the pairs of a set can be executed, and its layers: the states from which the goal is
--- reached by these pairs.
+-- The system in which only the pairs of a set can be executed, and its layers: the states from
+-- which the goal is reached by these pairs.
 use Rattle.std.proofs.Common.{◌≡◌, ℕ, zero, suc, ◌<◌, ◌≤◌, ◌^◌, Bool, true, false, cond, [], refl, sym, ◌∙◌, subst, arith, ⊎_elim}
 use Rattle.std.specs.List.{Contains}
 use Rattle.std.proofs.lemmas.Bool.{cases_lt, or_cases, or_left, or_right}
@@ -60,8 +60,8 @@ progress_connected sys pairs ok k v is h =
     (cases_lt k still.0) in
     layer-grows Weak sub v still.0 (2 ^ sys.fluents) still.1 at_still
 
--- where the states of D have in g each pair that they have in f, and no outcome leaves D, they are no farther from
--- the goal by pairs of g
+-- where the states of D have in g each pair that they have in f, and no outcome leaves D, they are
+-- no farther from the goal by pairs of g
 module _ (sys : System) (D : Vector → Type 0) (f g : Pairs) (each : (v : Vector) (a : ℕ) → D v → f v a ≡ true → g v a ≡ true) (closed : (v : Vector) (a : ℕ) (t : Vector) → D v → HasOutcome sys v a t → D t) where
   pub more_pairs : (k : ℕ) (v : Vector) → D v → progress sys f k v ≡ true → progress sys g k v ≡ true
   more_pairs zero v d h = h

@@ -1,5 +1,6 @@
--- What stays in every round: states from which the goal is reached by pairs that don't lead out of them. So the
--- last round has the largest set of pairs, and holds the reachable states of every strong cyclic solution.
+-- What stays in every round: states from which the goal is reached by pairs that don't lead out of
+-- them. So the last round has the largest set of pairs, and holds the reachable states of every
+-- strong cyclic solution.
 use Rattle.std.proofs.Common.{◌≡◌, ◌≢◌, ℕ, zero, suc, ◌≤◌, ◌^◌, Bool, true, false, List, [], ◌∷◌, length, refl, sym, ◌∙◌, subst, arith, ⊎_elim, inl, inr, ◌⊎◌}
 use Rattle.std.specs.List.{Contains}
 use Rattle.std.proofs.lemmas.Bool.{true≢false, or_cases, or_left, or_right}

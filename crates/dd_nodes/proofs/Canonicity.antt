@@ -1,5 +1,6 @@
--- One number per function: in a reduced list two numbers have the same function exactly where they are equal (Bryant 1986,
--- Theorem 1). By induction on the numbers, from the conditions on a reduced list alone.
+-- One number per function: in a reduced list two numbers have the same function exactly where they
+-- are equal (Bryant 1986, Theorem 1). By induction on the numbers, from the conditions on a reduced
+-- list alone.
 use Rattle.std.proofs.Common.{◌≡◌, ℕ, zero, suc, ◌+◌, ◌<◌, Bool, true, false, eqb, List, length, Some, None, refl, sym, ap, subst, ◌∙◌, ⊎_elim, arith}
 use Rattle.std.proofs.lemmas.Bool.Decides.{nat_tests}
 use Rattle.std.proofs.lemmas.Bool.{cases_order, eq-eqb, ne_eqb, cond-true, cond-false}

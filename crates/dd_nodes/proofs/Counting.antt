@@ -1,5 +1,5 @@
--- Counting up to a test of sameness: as many elements as are pairwise not the same, and each the same as one of a list, the
--- list has different elements.
+-- Counting up to a test of sameness: as many elements as are pairwise not the same, and each the
+-- same as one of a list, the list has different elements.
 use Rattle.std.proofs.Common.{◌≡◌, ℕ, suc, subst, ◌+◌, ◌≤◌, Bool, true, false, not, List, [], ◌∷◌, ◌++◌, length, filter, if◌then◌else◌, refl, sym, ap, ◌∙◌, ⊎_elim, arith}
 use Rattle.std.specs.List.{list_any, list_all}
 use Rattle.std.proofs.lemmas.List.Folds.{list_any-append}
@@ -162,7 +162,8 @@ module _ {A : Type 0} (same : A → A → Bool) where
     unfolding others
     others_apart y xs apart = apart_filter (λ x. not (same x y)) xs apart
 
-    -- pairwise different elements, each the same as one of the list, are no more than the different elements of the list
+    -- pairwise different elements, each the same as one of the list, are no more than the different
+    -- elements of the list
     pub pigeonhole : (ys xs : List A) → Apart xs → covered ys xs ≡ true → length xs ≤ count same ys
     pigeonhole [] [] apart cover = omega arith
     pigeonhole [] (x ∷ xs) apart cover = absurd (false≢true cover)

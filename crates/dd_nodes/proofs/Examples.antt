@@ -55,7 +55,8 @@ and_fixed : agree 2 (fixed (true ∷ []) and_function) (λ values. values 1) ≡
 unfolding lists and_function
 and_fixed = refl
 
--- its diagram has two nodes, the constants have none, and exclusive or over three variables has five
+-- its diagram has two nodes, the constants have none, and exclusive or over three variables has
+-- five
 nodes_of_and : nodes 2 (and_function ∷ []) ≡ 2
 unfolding lists lists_up_to count_different nodes_beside and_function
 nodes_of_and = refl

@@ -92,7 +92,8 @@ module _ (before : List Node) (node : Node) where
       (λ (last : (n ≡ length before + 2) × (k ≡ node)). subst (λ m. P m k) (sym last.0) (subst (λ l. P (length before + 2) l) (sym last.1) new))
       (push_cases n k there)
 
-  -- a reduced list stays so with a node that it lacks, whose children differ, are in the list and stand below its variable
+  -- a reduced list stays so with a node that it lacks, whose children differ, are in the list and
+  -- stand below its variable
   pub reduced_push : (vars : ℕ) → IsReduced vars before → node.var < vars → node.lo ≢ node.hi → Lacks before node
       → IsNumber before node.lo.0 → IsNumber before node.hi.0 → StandsBelow before node.var node.lo.0 → StandsBelow before node.var node.hi.0
       → IsReduced vars (before ++ node ∷ [])

@@ -146,7 +146,8 @@ module _ (vars : ℕ) (list : List Node) (reduced : IsReduced vars list) where
         (part_listed vars (map (function list) from) (function list m)
         (any_map (λ n. IsReached list n m) (λ piece. IsSubfunction vars piece (function list m)) (function list) (λ n leads. reached_sub vars list reduced n m leads) from is_reached.1)))
 
-    -- each subfunction of a root's function that is not constant is the function of a number that is reached
+    -- each subfunction of a root's function that is not constant is the function of a number that
+    -- is reached
     found : (k n : ℕ) → k < length from → slice_index_or from k n ≡ n → (first : List Bool) → length first ≤ vars
         → not (keep (fixed first (function list n))) || list_any (agree vars (fixed first (function list n))) (map (function list) reached) ≡ true
     found k n within at first few =

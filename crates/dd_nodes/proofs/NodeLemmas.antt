@@ -112,7 +112,8 @@ module _ (nodes : List Node) where
         cond_out true = refl
         cond_out false = refl
 
-    -- the function of a number from variable low on depends on no variable below low, and on none that is no variable
+    -- the function of a number from variable low on depends on no variable below low, and on none
+    -- that is no variable
     pub function_blind : (bound n : ℕ) → n < bound → (low : ℕ) → StandsFrom nodes low n → (s t : Values) → ((u : ℕ) → low ≤ u → u < vars → s u ≡ t u) → function nodes n s ≡ function nodes n t
     function_blind zero n below low from s t agree = absurd (omega arith)
     function_blind (suc bound) n below low from s t agree = ⊎_elim

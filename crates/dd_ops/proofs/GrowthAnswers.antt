@@ -17,7 +17,8 @@ use Rattle.dd_nodes.proofs.Dependence.{sub_at, depends_function, function_at_hi,
 use Rattle.dd_ops.proofs.GrowthParts.{sub_ite}
 use Rattle.dd_ops.proofs.GrowthSteps.{lacks_for_part}
 
--- what a call that adds parts alone says of the lengths, and what a refusal for want of room says of the limit
+-- what a call that adds parts alone says of the lengths, and what a refusal for want of room says
+-- of the limit
 pub growth_of : (vars : ℕ) (pieces : List Function) (before after : List Node) → IsReduced vars before → AddsParts vars pieces before after → length after ≤ length before + grow vars before pieces
 growth_of vars pieces before after reduced adds = grows_within vars pieces before after reduced adds
 

@@ -1,5 +1,5 @@
--- The count: new numbers have pairwise different functions, none of them a function of an earlier number, and each is a part of
--- the pieces.
+-- The count: new numbers have pairwise different functions, none of them a function of an earlier
+-- number, and each is a part of the pieces.
 use Rattle.std.proofs.Common.{◌≡◌, ℕ, zero, suc, ◌+◌, ◌<◌, ◌≤◌, Bool, true, false, not, List, [], ◌∷◌, length, filter, flat_map, refl, sym, ap, ◌∙◌, ⊎_elim, arith, length-append}
 use Rattle.std.specs.List.{list_any, list_all}
 use Rattle.std.proofs.lemmas.Bool.{cases_lt, both_ways, or_left, or_right, or_from, and_from, not_from_false, false_from_ne_true}
@@ -86,7 +86,8 @@ module _ (vars : ℕ) (pieces : List Function) (before after : List Node) where
     earlier n number values =
         ap (λ nodes. function nodes n values) extends.appended ∙ function_kept before extends.more vars reduced n number values
 
-    -- a part of the pieces that is no function of an earlier number agrees with one that `grow` counts
+    -- a part of the pieces that is no function of an earlier number agrees with one that `grow`
+    -- counts
     part_counted : (part : Function) → IsPart vars pieces part → ((n : ℕ) → IsNumber before n → agree vars part (function after n) ≡ false) → list_any (agree vars part) listed ≡ true
     unfolding listed
     part_counted part is_part new = any_filter (agree vars part) (λ g. not (list_any (agree vars g) (functions before))) (flat_map (subfunctions vars) pieces)

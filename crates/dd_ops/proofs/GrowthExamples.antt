@@ -16,7 +16,8 @@ either = or_of (variable 0) (variable 1)
 nodes_of_both : List Node
 nodes_of_both = record { var = 1; lo = record { 0 = 0 }; hi = record { 0 = 1 } } ∷ record { var = 0; lo = record { 0 = 0 }; hi = record { 0 = 2 } } ∷ []
 
--- an empty table grows by two nodes for `both`; one that has them grows by one for `either`, and by none for variable 1
+-- an empty table grows by two nodes for `both`; one that has them grows by one for `either`, and by
+-- none for variable 1
 grow_from_empty : grow 2 [] (both ∷ []) ≡ 2
 unfolding both lists lists_up_to count_different nodes_beside function walk functions_below
 grow_from_empty = refl

@@ -15,7 +15,8 @@ use Rattle.dd_ops.proofs.GrowthSteps.{adds_chain, adds_made, adds_for_part, lack
 use Rattle.dd_ops.proofs.QuestionLemmas.{joined}
 use Rattle.dd_ops.proofs.HalvesLemmas.{var_below, var_from, var_from_later}
 
--- a question of the table t0, halved at its top: the answer to the first half leaves t1, that to the second leaves t2
+-- a question of the table t0, halved at its top: the answer to the first half leaves t1, that to
+-- the second leaves t2
 module _ (t0 : NodeTable) (table0 : IsNodeTable t0) (q : Question) (asked : IsAsked t0.nodes q) (tests : 1 < q.f.0) (var : ℕ) (top : var ≡ top_of t0.nodes q) where
   own : List Function
   own = asked_of t0.nodes q ∷ []

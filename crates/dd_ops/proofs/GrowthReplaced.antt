@@ -30,7 +30,8 @@ module _ (map : List (ℕ × Ref)) where
         ap (λ v. pieces_of_subst v t1.nodes map n) kept.vars
         ∙ pieces_kept t0.vars t0.nodes t1.nodes table0.reduced kept.nodes map numbers n number
 
-    -- the substitution in a node of the table t0: that in the child lo leaves t1, and that in hi leaves t2
+    -- the substitution in a node of the table t0: that in the child lo leaves t1, and that in hi
+    -- leaves t2
     module _ (f : ℕ) (node : Node) (there : node_at t0.nodes f ≡ Some node) where
       hi_number : IsNumber t0.nodes node.hi.0
       hi_number =
@@ -69,8 +70,8 @@ module _ (map : List (ℕ × Ref)) where
             pub replaced_rest_full : (t3 : NodeTable) → t3.vars ≡ t2.vars → IsFullFor (pieces_of_subst t2.vars t2.nodes map f) t3 → IsFullFor (pieces_of_subst t0.vars t0.nodes map f) t3
             replaced_rest_full t3 same full = full_parts (pieces_in t0 f) (pieces_in t2 f) t0 t3 (same ∙ kept2.vars ∙ kept1.vars) same_parts full
 
-      -- the function that replaces the node's variable is made first, and that leaves t1; then the question on it and the
-      -- children's answers is answered
+      -- the function that replaces the node's variable is made first, and that leaves t1; then the
+      -- question on it and the children's answers is answered
       variable_parts : AreParts t0.vars (pieces_in t0 f) (pieces_of_variable map node.var)
       variable_parts = by (is_some (listed map node.var)) refl
         where

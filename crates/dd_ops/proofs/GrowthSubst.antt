@@ -100,7 +100,8 @@ module _ (vars : ℕ) (before : List Node) where
           (λ values. depends (with_first first (replaced values)) (with_first first (λ _. false))
           (λ u above within. within_at first u (replaced values u) false (omega arith)))
 
--- an element stays in a map and in a filter that it passes, and each list of n truth values stands in `lists n`
+-- an element stays in a map and in a filter that it passes, and each list of n truth values stands
+-- in `lists n`
 Contains-map : {X Y : Type 0} (h : X → Y) (xs : List X) (x : X) → Contains xs x → Contains (map h xs) (h x)
 Contains-map h xs x (k, within, at) = at_map h xs x k within at
   where
@@ -187,7 +188,8 @@ module _ (vars : ℕ) (f : Function) (is_listed : ℕ → Bool) (replaced : Valu
 with_value_other : (values : Values) (v : ℕ) (b : Bool) (u : ℕ) → u ≢ v → with_value values v b u ≡ values u
 with_value_other values v b u other = cond-false (eqb u v) b (values u) (ne_eqb u v other)
 
--- a function of variables below vars that does not see v has the same subfunctions at both values of v
+-- a function of variables below vars that does not see v has the same subfunctions at both values
+-- of v
 unseen : (vars : ℕ) (f g : Function) (v : ℕ) → DependsOnly 0 vars f → agree vars (cofactor_of f v true) (cofactor_of f v false) ≡ true → IsSubfunction vars f g
     → (values : Values) → cofactor_of g v true values ≡ cofactor_of g v false values
 unseen vars f g v depends same sub values =
@@ -266,7 +268,8 @@ depends_on_chain vars f g v depends sub sees =
     (not-true (agree vars (cofactor_of g v true) (cofactor_of g v false)) sees)
     (agree_same vars (cofactor_of g v true) (cofactor_of g v false) (unseen vars f g v depends same sub))))
 
--- the pieces of a substitution in a subfunction are parts of those of the substitution in the function
+-- the pieces of a substitution in a subfunction are parts of those of the substitution in the
+-- function
 pub subst_pieces_sub : (vars : ℕ) (f g : Function) (is_listed : ℕ → Bool) (replaced : Values → Values) → DependsOnly 0 vars f → IsSubfunction vars f g
     → All (λ piece. IsPart vars (subst_pieces vars f is_listed replaced) piece) (subst_pieces vars g is_listed replaced)
 unfolding subst_pieces

@@ -15,7 +15,8 @@ use Rattle.dd_ops.proofs.GrowthSteps.{adds_weaker, lacks_weaker}
 use Rattle.dd_ops.proofs.GrowthSubst.{grow_subst, part_result, part_variable, sees_variable, subst_pieces_sub}
 
 module _ (vars : ℕ) where
-  -- replacements have the same functions in a longer list, and so a substitution has the same pieces
+  -- replacements have the same functions in a longer list, and so a substitution has the same
+  -- pieces
   pub replaced_kept : (before after : List Node) → IsReduced vars before → Extends before after → (entries : List (ℕ × Ref)) → AreNumbers before entries
       → (values : Values) (v : ℕ) → replaced after entries values v ≡ replaced before entries values v
   replaced_kept before after reduced extends entries numbers values v = by (listed entries v) (numbers v)
@@ -57,7 +58,8 @@ module _ (vars : ℕ) where
       lo_parts = subst_pieces_sub vars (function nodes n) (function nodes node.lo.0) (λ v. is_some (listed entries v)) (replaced nodes entries)
           (depends_number vars nodes reduced n) (sub_lo vars nodes reduced n node there)
 
-      -- so what the substitution in a child adds or lacks, in a list that maybe became longer, the substitution in the node does
+      -- so what the substitution in a child adds or lacks, in a list that maybe became longer, the
+      -- substitution in the node does
       module _ (numbers : AreNumbers nodes entries) (before after : List Node) (extends : Extends nodes before) where
         pub hi_adds : AddsParts vars (pieces_of_subst vars before entries node.hi.0) before after → AddsParts vars (pieces_of_subst vars nodes entries n) before after
         hi_adds adds =

@@ -23,7 +23,8 @@ keeps_more a b c first second = record {
 pub remembers_extends : (before after : List Node) → Extends before after → (vars : ℕ) → IsReduced vars before → (entries : List (Question × Ref)) → Remembers before entries → Remembers after entries
 remembers_extends before after extends vars reduced entries remembers i q r at = answer_extends before after extends vars reduced q r.0 (remembers i q r at)
 
--- a question is halved at its top: the first half is answered over the table t0 and leaves t1, the second over t1 and leaves t2
+-- a question is halved at its top: the first half is answered over the table t0 and leaves t1, the
+-- second over t1 and leaves t2
 pub record AreHalves (t0 t1 t2 : NodeTable) (q p0 p1 : Question) (var lo hi : ℕ) : Type 0 where
   pub table0 : IsNodeTable t0
   pub asked : IsAsked t0.nodes q

@@ -1,5 +1,6 @@
--- Substitutions that need no question: in a number that stands below the replaced variables, in a node whose variable a constant
--- replaces, and in a node over children that stand below the variable that replaces its own.
+-- Substitutions that need no question: in a number that stands below the replaced variables, in a
+-- node whose variable a constant replaces, and in a node over children that stand below the
+-- variable that replaces its own.
 use Rattle.std.proofs.Common.{◌≡◌, ◌≢◌, ℕ, ◌<◌, ◌≤◌, cond, List, [], ◌∷◌, Option, Some, length, Result, IfOk, OnErr, sym, ap, subst, ◌∙◌, ◌⊎◌, ⊎_elim, arith, if◌then◌else◌}
 use Rattle.dd_nodes.specs.declared.node.DdErr.{DdErr}
 use Rattle.dd_nodes.specs.declared.node.Node.{Node}

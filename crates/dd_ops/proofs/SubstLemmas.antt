@@ -138,7 +138,8 @@ module _ (vars : ℕ) (nodes : List Node) (reduced : IsReduced vars nodes) (map 
         ∙ sym (function_node nodes vars reduced f node (replaced nodes map values) there)) i);
   }
 
--- the same where the table has grown twice since the children's numbers came: by the replacement, and by the answer
+-- the same where the table has grown twice since the children's numbers came: by the replacement,
+-- and by the answer
 module _ (t0 t1 t2 : NodeTable) (table0 : IsNodeTable t0) (table1 : IsNodeTable t1) (table2 : IsNodeTable t2) (first : Keeps t0 t1) (second : Keeps t1 t2)
     (map : List (ℕ × Ref)) (numbers : AreNumbers t0.nodes map) (f : ℕ) (node : Node) (there : node_at t0.nodes f ≡ Some node)
     (lo hi : Ref) (lo_is : IsReplaced t0.nodes map node.lo.0 lo.0) (hi_is : IsReplaced t0.nodes map node.hi.0 hi.0)

@@ -1,4 +1,5 @@
--- How many functions a reduced list may have: each is told apart from the others by the truth values that it gives.
+-- How many functions a reduced list may have: each is told apart from the others by the truth
+-- values that it gives.
 use Rattle.std.proofs.Common.{◌≡◌, ℕ, zero, suc, ◌+◌, ◌^◌, ◌<◌, ◌≤◌, Bool, true, false, ◌&&◌, List, [], ◌∷◌, length, map, refl, sym, ap, ◌∙◌, arith}
 use Rattle.std.specs.List.{list_any, list_all}
 use mathlib.Core.Bool.{beq}

@@ -1,4 +1,5 @@
--- From what an operation on numbers says, and what became of the slots, to what the call leaves in the slots.
+-- From what an operation on numbers says, and what became of the slots, to what the call leaves in
+-- the slots.
 use Rattle.std.proofs.Common.{◌≡◌, ◌≢◌, ℕ, ◌≤◌, true, false, List, length, Option, Some, None, is_some, Result, Ok, Err, IfOk, OnErr, IsErrOf, refl, sym, ap, subst, ◌∙◌, ⊎_elim, arith}
 use Rattle.std.specs.Option.{option_map_or}
 use Rattle.std.proofs.lemmas.Bool.{cases_eq}
@@ -190,7 +191,8 @@ placed {t} {l0} {l} {number} {result} stores opens sound {set} value in_table =
     subst (λ s. Operated s (view_of t l) set result) opens
     (operated_from (view_of t l0) (view_of t l) sound (kept_nodes (view_of t l0) (view_of t l) sound refl) set (Ok number) value in_table result stores)
 
--- where a call is refused for want of room, the table holds as many nodes as it may, and so its limit is tight
+-- where a call is refused for want of room, the table holds as many nodes as it may, and so its
+-- limit is tight
 pub full_room : {t0 t : NodeTable} {l0 l : List (Option Ref)} {made : Function} {made_pieces : List Function} {answer : Result Ref DdErr} {result : Result SetId SetErr}
     → Answers made t0 t answer → Grows made_pieces t0 t answer → Stored l0 l answer result → (before : LiveSets) (pieces : List Function) → IsErrOf result SetErr.Full
     → IsFull before (view_of t l) pieces

@@ -1,4 +1,5 @@
--- What assignments make of a set, value by value: each member of the image has the values of an assigned member.
+-- What assignments make of a set, value by value: each member of the image has the values of an
+-- assigned member.
 use Rattle.std.proofs.Common.{◌≡◌, ◌≢◌, ℕ, ◌<◌, ◌==◌, Bool, true, false, cond, ◌&&◌, ◌||◌, [], ◌∷◌, refl, sym, ap, ◌∙◌, ⊎_elim, inl, inr, ◌⊎◌}
 use Rattle.std.specs.List.{fold, list_all}
 use borrow.Author.Tests.{eq-eqb}

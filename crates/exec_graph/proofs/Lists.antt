@@ -1,4 +1,5 @@
--- Facts on lists: tests over a list against its elements, and the elements of lists that are made of others.
+-- Facts on lists: tests over a list against its elements, and the elements of lists that are made
+-- of others.
 use Rattle.std.proofs.Common.{◌≡◌, ℕ, zero, suc, ◌+◌, ◌<◌, Bool, true, false, cond, List, [], ◌∷◌, length, get_or, Some, refl, sym, ap, ◌∙◌, subst, arith, inl, inr, ⊎_elim}
 use Rattle.std.specs.Prelude.{map, ◌⊎◌}
 use Rattle.std.specs.List.{Contains, list_any, find, filter, flat_map, range_with_len}

@@ -209,8 +209,8 @@ check_no_written held failed tallies words before after out out' err err' status
     no_written held asked out out' a read read.verdict read.of_plan (sym (ap status_of read.shown) ∙ code)
     (written_shown a (text_of (verdict_answer read.verdict)) out out' err err' whole.1 shown (ap text_of read.shown))
 
--- the status where the files spell a domain, a problem of it and a plan of the kind, within the limits: 0 exactly where
--- the plan meets the goal
+-- the status where the files spell a domain, a problem of it and a plan of the kind, within the
+-- limits: 0 exactly where the plan meets the goal
 verdict_status : YesSolves → (kind : PlanKind) (d : DomainTree) (p : ProblemTree) (plan : PlainPlan) (verdict : Verdict) (status : ℕ) → IsVerdictOf kind d p plan verdict
     → status ≡ status_of (verdict_answer verdict) → ((status ≡ 0) × IsMet kind d p plan) ⊎ ((status ≡ 1) × (IsMet kind d p plan → ⊥)) ⊎ (status ≡ 8)
 verdict_status law kind d p plan (Yes bound) status is code = inl (code ∙ yes_zero bound, yes_is_met law kind d p plan bound is)

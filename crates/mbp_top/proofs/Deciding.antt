@@ -1,5 +1,5 @@
--- Where the shelf tells of a file and no fault came, a command that reads it has one answer at most, if what
--- comes after it has.
+-- Where the shelf tells of a file and no fault came, a command that reads it has one answer at
+-- most, if what comes after it has.
 use Rattle.std.proofs.Common.{◌≡◌, ◌≢◌, length, ◌≤◌, inl, inr, refl, subst, sym, ap, ◌∙◌, arith}
 use Rattle.plan_io.specs.Held.{Held, Untold, Missing, Holds as HoldsBytes, Gives, MayExceed}
 use Rattle.mbp_top.specs.Answers.{Answer, refused, Refusal}

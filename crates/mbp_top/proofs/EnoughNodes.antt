@@ -1,4 +1,5 @@
--- A limit that is tight for the sets of a task, or for those of its planners, is tight for the nodes that are enough.
+-- A limit that is tight for the sets of a task, or for those of its planners, is tight for the
+-- nodes that are enough.
 use Rattle.std.proofs.Common.{◌≡◌, ◌≤◌, ◌+◌, ◌*◌, ◌^◌, ℕ, [], map, length, ap, subst, sym, ◌∙◌, arith}
 use Rattle.std.specs.List.{range_with_len}
 use Rattle.std.specs.Option.{option_map_or}

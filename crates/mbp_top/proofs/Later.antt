@@ -1,4 +1,5 @@
--- What a shelf tells stays: what a later step of a command says of its file holds from the command's start.
+-- What a shelf tells stays: what a later step of a command says of its file holds from the
+-- command's start.
 use Rattle.std.proofs.Common.{◌≡◌, ◌⊎◌, ℕ, zero, suc, List, [], ◌∷◌, take, inl, inr, refl, subst, ap, ◌∙◌}
 use Rattle.plan_io.specs.Fetches.{FailedLast, Fetches, FetchesFirst}
 use Rattle.plan_io.specs.Held.{Held}

@@ -1,4 +1,5 @@
--- Two largest sets of pairs have the same pairs of states, and so the rules that are printed of them are the same.
+-- Two largest sets of pairs have the same pairs of states, and so the rules that are printed of
+-- them are the same.
 use Rattle.std.proofs.Common.{◌≡◌, ℕ, zero, suc, ◌+◌, ◌^◌, true, List, Option, map, refl, ap, ◌∙◌}
 use Rattle.std.proofs.Math.Path.{fun_ext}
 use Rattle.std.specs.List.{find, flat_map, range_with_len}

@@ -23,8 +23,8 @@ use Rattle.mbp_top.specs.Reading.{ReadThen}
 use Rattle.mbp_top.specs.Words.{Bytes, PlanKind}
 use Rattle.mbp_top.proofs.Deciding.{Decides, IsGrammar, read_decides, read_as}
 
--- every text spells one domain at most or has one fault at most, and not both; and so a problem, and a plan. And
--- no plan has two verdicts
+-- every text spells one domain at most or has one fault at most, and not both; and so a problem,
+-- and a plan. And no plan has two verdicts
 pub record OneReading : Type 0 where
   pub one_domain : (b : List ℕ) (d e : DomainTree) → SpellsDomain b d → SpellsDomain b e → d ≡ e
   pub one_domain_fault : (b : List ℕ) (f g : InputFault) → HasDomainFault b f → HasDomainFault b g → f ≡ g

@@ -16,7 +16,8 @@ abbrev text_within : DomainTree → ProblemTree → ℕ → Bytes
 text_within d p last =
     table_text (fluent_names d p) (action_names d p) Weak (printed_rules Weak (system d p) last)
 
--- (define (domain coin) (:predicates (up)) (:action flip :effect (oneof (up) (and)))), from down to up
+-- (define (domain coin) (:predicates (up)) (:action flip :effect (oneof (up) (and)))), from down to
+-- up
 abbrev coin : DomainTree
 coin = record {
   name = codes "coin";

@@ -239,7 +239,8 @@ full_written held failed tallies words before after out out' err err' status a a
       go (inr (inl (may, is))) = record { may = may; written = line is whole.1 }
       go (inr (inr read)) = absurd (read_not_full held failed asked a read code)
 
--- the nodes are too few for the problem that both files spell, if they are for what is known of them
+-- the nodes are too few for the problem that both files spell, if they are for what is known of
+-- them
 tight_of : OneReading → (held : Bytes → Held) (failed : Bytes → Type 0) (asked : PlanWords) (domain : DomainTree) (problem : ProblemTree) (a : Answer)
     → held asked.domain ≢ Untold → held asked.problem ≢ Untold → ((file : Bytes) → failed file → ⊥)
     → HoldBoth held asked.domain asked.problem domain problem → MayRunOut held asked → IsTightLimit (stages_for asked.kind problem) asked.options.nodes (system domain problem)

@@ -1,5 +1,5 @@
--- How many forms there are in a row and in the groups of it, at any depth: what a reader of forms has
--- still before it.
+-- How many forms there are in a row and in the groups of it, at any depth: what a reader of forms
+-- has still before it.
 use Rattle.std.proofs.Common.{◌≡◌, ℕ, zero, suc, ◌+◌, ◌<◌, ◌≤◌, List, [], ◌∷◌, length, get_or, ap, sym, ◌∙◌, arith}
 use Rattle.sexpr_text.specs.declared.forms.Span.{Span}
 use Rattle.sexpr_text.specs.declared.forms.Form.{Form}

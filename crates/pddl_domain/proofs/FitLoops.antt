@@ -1,4 +1,5 @@
--- Where no name on the left of the types is its own ancestor, every chain of parents comes to `object`.
+-- Where no name on the left of the types is its own ancestor, every chain of parents comes to
+-- `object`.
 use Rattle.std.proofs.Common.{◌≡◌, ℕ, zero, suc, ◌+◌, ◌-◌, ◌<◌, ◌≤◌, ◌⊎◌, inl, inr, ◌==◌, Bool, true, false, not, ◌||◌, ◌&&◌, List, [], ◌∷◌, ◌++◌, map, length, get_or, take, replicate, refl, sym, ◌∙◌, ap, subst, arith, All, append_assoc, length-append, if◌then◌else◌, codes, cond, nat_lt, Option, Some, None, add-suc, add-zero, add-one}
 use Rattle.std.specs.List.{list_any, position, position_or_len, range_with_len}
 use Rattle.std.specs.Str.{bytes_eq}

@@ -1,5 +1,5 @@
--- The types of a domain that is read fit: their names are words and differ, each has one parent, and the
--- chain of parents of each comes to `object`.
+-- The types of a domain that is read fit: their names are words and differ, each has one parent,
+-- and the chain of parents of each comes to `object`.
 use Rattle.std.proofs.Common.{◌≡◌, ℕ, zero, suc, ◌+◌, ◌-◌, ◌<◌, ◌≤◌, Bool, true, false, not, ◌||◌, ◌&&◌, List, [], ◌∷◌, ◌++◌, map, length, get_or, replicate, refl, sym, ◌∙◌, ap, subst, arith, All, append_assoc, length-append, if◌then◌else◌, codes, add-suc, add-zero}
 use Rattle.std.specs.List.{list_any, list_all, filter, fold}
 use Rattle.std.specs.Str.{bytes_eq}

@@ -257,7 +257,8 @@ items-nesting : (w : List ℕ) (items : Forest) (o : Option Forest) → section 
 items-nesting w items None e = omega arith
 items-nesting w items (Some row) e = section-nesting w items row (first_group_with (begins_with w) items) refl e
 
--- what holds of a definition that was found: its name is a name, and its sections are less deep than the forms
+-- what holds of a definition that was found: its name is a name, and its sections are less deep
+-- than the forms
 pub record IsFound (forest : Forest) (d : Definition) : Type 0 where
   pub name : is_name d.name ≡ true
   pub shallow : 1 + nesting_of d.items ≤ nesting_of forest

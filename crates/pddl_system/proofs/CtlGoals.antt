@@ -1,5 +1,5 @@
--- Grounded goals in computation tree logic: they are true where the goals of the text are, name fluents alone, and
--- have conditions no deeper than the goals.
+-- Grounded goals in computation tree logic: they are true where the goals of the text are, name
+-- fluents alone, and have conditions no deeper than the goals.
 use Rattle.std.proofs.Common.{◌≡◌, ◌↔◌, ◌⊎◌, ℕ, ◌+◌, ◌≤◌, true, List, [], length, Option, Some, None, refl, sym, ◌∙◌, ap, subst, arith}
 use Rattle.std.specs.Prelude.{max, IfSome}
 use Rattle.std.specs.Option.{option_map, option_map_or}
@@ -136,7 +136,8 @@ module _ {X : Type 0} (Step : X → X → Type 0) (state : X → Vector) (d : Do
 pub grounded_goals_are_true : GroundedGoalsAreTrue
 grounded_goals_are_true d p goal grounded sys plan x is = keeps_truth (Follows sys plan) (λ (y : Configuration). y.state) d p goal grounded x is
 
--- what holds of the replacement of each formula that is less than m deep holds of each proposition of a goal that is
+-- what holds of the replacement of each formula that is less than m deep holds of each proposition
+-- of a goal that is
 module _ {R : Type 0} (Q : R → Type 0) (f : FormulaTree → R) (m : ℕ) (each : (formula : FormulaTree) → 1 + formula_depth formula ≤ m → Q (f formula)) where
   each_unary : (operator : UnaryOperator) (g : CtlTree FormulaTree) → EachPlain Q (map_plain f g) → EachPlain Q (map_plain f (unary_goal operator g))
   each_unary Ax g q = q

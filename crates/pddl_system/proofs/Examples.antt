@@ -41,15 +41,16 @@ nobody _ = []
 abbrev first_alone : AtomTree → Bool
 first_alone = same_atom (atom_tree 0 (0 ∷ []))
 
--- a variable that hides another of its name has the next number: (forall (?x) (exists (?x) (p ?x))), where the
--- hidden one would have the number 0
+-- a variable that hides another of its name has the next number: (forall (?x) (exists (?x) (p
+-- ?x))), where the hidden one would have the number 0
 hidden_variable : is_true two_objects first_alone (forall (0 ∷ []) (exists (0 ∷ []) (of_variable 0 1))) [] ≡ true
 hidden_variable = refl
 
 not_the_hidden_one : is_true two_objects first_alone (forall (0 ∷ []) (exists (0 ∷ []) (of_variable 0 0))) [] ≡ false
 not_the_hidden_one = refl
 
--- over no object `forall` holds, and `exists` doesn't; a `forall` effect has one outcome without a change
+-- over no object `forall` holds, and `exists` doesn't; a `forall` effect has one outcome without a
+-- change
 for_all_of_none : is_true nobody first_alone (forall (0 ∷ []) (of_variable 0 0)) [] ≡ true
 for_all_of_none = refl
 
@@ -68,7 +69,8 @@ objects_by_type : map (objects_of_type (0 ∷ 0 ∷ 0 ∷ 1 ∷ []) (record { na
     ≡ (0 ∷ 1 ∷ 2 ∷ []) ∷ (0 ∷ 2 ∷ []) ∷ (1 ∷ []) ∷ (0 ∷ []) ∷ []
 objects_by_type = refl
 
--- (forall (?x) (when (q ?x) (oneof (p ?x) (and)))): of each object by itself, the choice of the first slowest
+-- (forall (?x) (when (q ?x) (oneof (p ?x) (and)))): of each object by itself, the choice of the
+-- first slowest
 abbrev each_may : EffectTree
 each_may = each (0 ∷ []) (only_when (of_variable 1 0) (one_of (effect_row (add 0 (Variable 0 ∷ []) ∷ both (effect_row []) ∷ []))))
 
@@ -92,7 +94,8 @@ its_size = refl
 sizes : map (formula_size two_objects) (all (formula_row []) ∷ negation (of_variable 0 0) ∷ forall (0 ∷ []) (negation (of_variable 0 0)) ∷ []) ≡ 1 ∷ 2 ∷ 5 ∷ []
 sizes = refl
 
--- where predicate 1 is rigid and holds of object 0 alone, the effect names the atom of object 0 alone
+-- where predicate 1 is rigid and holds of object 0 alone, the effect names the atom of object 0
+-- alone
 abbrev rigid_condition : Setting
 rigid_condition = record { objects = two_objects; is_rigid = λ q. 1 == q; is_fact = same_atom (atom_tree 1 (0 ∷ [])) }
 
@@ -222,7 +225,8 @@ module _ (place : Place) where
   slip_within : first_passed slip a_to_b ≡ None
   slip_within = refl
 
-  -- the goal in computation tree logic: `(au (ex (next a b)) (at b))`, whose first formula never changes
+  -- the goal in computation tree logic: `(au (ex (next a b)) (at b))`, whose first formula never
+  -- changes
   slip_ctl : ctl_goal_of slip a_to_b ≡ Some (goals.au (goals.ex (goals.plain yes_always)) (goals.plain (is_fluent_true 1)))
   slip_ctl = refl
 

@@ -1,5 +1,5 @@
--- The changes that occur in the outcomes of an effect that fits: their atoms are among all atoms, and their
--- conditions less deep than the effect.
+-- The changes that occur in the outcomes of an effect that fits: their atoms are among all atoms,
+-- and their conditions less deep than the effect.
 use Rattle.std.proofs.Common.{◌≡◌, ℕ, ◌+◌, ◌<◌, ◌≤◌, Bool, true, false, ◌⊎◌, inl, inr, List, [], ◌∷◌, ◌++◌, map, length, Option, Some, None, refl, sym, ◌∙◌, ap, subst, arith}
 use Rattle.std.specs.Prelude.{max, slice_get, replicate}
 use Rattle.std.specs.List.{All, enumerate_from, range_with_len}

@@ -1,5 +1,5 @@
--- The three values are sound: what is known of a formula is so in every state, where the atoms of rigid
--- predicates are no fluents.
+-- The three values are sound: what is known of a formula is so in every state, where the atoms of
+-- rigid predicates are no fluents.
 use Rattle.std.proofs.Common.{◌≡◌, ℕ, Bool, true, false, not, ◌&&◌, ◌||◌, List, [], ◌∷◌, ◌++◌, map, Some, None, refl, ◌∙◌, ap, subst, if◌then◌else◌}
 use Rattle.std.specs.List.{list_all, list_any}
 use Rattle.std.proofs.lemmas.Bool.{and_left, and_right, or_left, or_right, true≢false}

@@ -1,4 +1,5 @@
--- The walks of a table plan's graph are the paths of its table, and what follows from it for verdicts.
+-- The walks of a table plan's graph are the paths of its table, and what follows from it for
+-- verdicts.
 use Rattle.std.proofs.Common.{◌≡◌, ◌&&◌, ℕ, ◌+◌, ◌<◌, ◌≤◌, true, List, [], ◌∷◌, ◌++◌, length, map, refl, sym, ap, ◌∙◌, subst, arith, ⊎_elim, inl, inr}
 use Rattle.std.specs.List.{Contains, filter, flat_map, list_any, range_with_len}
 use Rattle.std.proofs.lemmas.Bool.{false≢true, and_parts}

@@ -1,6 +1,6 @@
--- What labels say of paths: the least set that is found in rounds is where an until holds, on every path
--- with one number of steps for all of them, and its complement is where a weak until holds, for every
--- number of steps.
+-- What labels say of paths: the least set that is found in rounds is where an until holds, on every
+-- path with one number of steps for all of them, and its complement is where a weak until holds,
+-- for every number of steps.
 use Rattle.std.proofs.Common.{◌≡◌, ◌⊎◌, ℕ, zero, suc, ◌<◌, Bool, true, false, not, ◌&&◌, ◌||◌, List, [], ◌∷◌, length, refl, sym, ap, ◌∙◌, arith, ⊎_elim, inl, inr}
 use Rattle.std.specs.List.{Contains}
 use Rattle.std.proofs.lemmas.Bool.{false≢true}

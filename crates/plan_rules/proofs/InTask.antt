@@ -1,4 +1,5 @@
--- A plan that is read without flaws is one of the task: its fluents, its actions and its contexts are.
+-- A plan that is read without flaws is one of the task: its fluents, its actions and its contexts
+-- are.
 use Rattle.std.proofs.Common.{◌≡◌, ℕ, ◌<◌, Bool, true, false, not, ◌&&◌, List, [], ◌∷◌, ◌++◌, length, codes, refl, ap, sym, subst, ◌∙◌, arith}
 use Rattle.std.specs.Prelude.{Option, Some, None, is_some, unwrap_or, if◌then◌else◌, nat_le}
 use Rattle.std.specs.Option.{option_map, option_map_or, option_and_then}

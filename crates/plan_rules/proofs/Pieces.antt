@@ -43,8 +43,8 @@ row_of-join nothing t = refl
 row_of-join (placed_word span text rest) t = ap (word text) (row_of-join rest t)
 row_of-join (placed_group span parts rest) t = ap (group (row_of parts)) (row_of-join rest t)
 
--- the text b is read up to what is left of it; so many parentheses are open, and this row stands since
--- the innermost one
+-- the text b is read up to what is left of it; so many parentheses are open, and this row stands
+-- since the innermost one
 pub record IsAt (b left : List ℕ) (ps : List Pending) (row : Row) : Type 0 where
   pub offset : ℕ
   pub trees : Forest

@@ -21,7 +21,8 @@ use Rattle.preimage.specs.Preimages.{strong_preimage, weak_preimage}
 abbrev leads : Function → Values → Outcome → Bool
 leads set values o = set (after_value o values)
 
--- what is left of where the action can be executed without the first outcomes, and what all of them lead into the set
+-- what is left of where the action can be executed without the first outcomes, and what all of them
+-- lead into the set
 abbrev pub left_after : Task → ℕ → Function → ℕ → Function
 left_after task a set i values = exec_set task a values && not (list_any (λ o. set (after_value o values)) (take i (outcomes_at task a)))
 

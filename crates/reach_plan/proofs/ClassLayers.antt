@@ -103,8 +103,8 @@ module _ (class : Class) where
       go true = refl
       go false = refl
 
-  -- one layer more: a state that already was in the last layer keeps its action, and another one takes the
-  -- least-numbered action that may lead into that layer, if there is one
+  -- one layer more: a state that already was in the last layer keeps its action, and another one
+  -- takes the least-numbered action that may lead into that layer, if there is one
   pub step_choice : (sys : System) (K : ℕ) (v : Vector) → chosen_action class sys (suc K) v ≡ (if layer class sys K v then chosen_action class sys K v else find (leads_by class sys (layer class sys K) v) (action_numbers sys))
   step_choice sys K v = go (layer class sys K v) refl
     where

@@ -83,7 +83,8 @@ module _ (n first : ℕ) (set : SetOfVectors) (before : Vector) (x : Bool) (v : 
   at_empty true h low high = sym (list_any-false set (all_vectors (suc n)) (x ∷ v) (not-true (list_any set (all_vectors (suc n))) h) (all_vectors-holds (suc n) (x ∷ v) (omega arith)))
   at_empty false h low high = at_whole (is_whole_set (suc n) set) refl low high
 
--- the cubes of a set over the n fluents after the first ones match exactly the vectors of n values in the set
+-- the cubes of a set over the n fluents after the first ones match exactly the vectors of n values
+-- in the set
 pub cubes_match : (n first : ℕ) (set : SetOfVectors) (before v : Vector) → length before ≡ first → length v ≡ n → list_any (λ cube. matches cube (before ++ v)) (cubes_from first n set) ≡ set v
 cubes_match zero first set before [] e f = go (set [])
   where

@@ -48,8 +48,8 @@ chosen_zero sys v = go (layer Weak sys zero v)
     go true = refl
     go false = refl
 
--- one layer more: a state that already was in the last layer keeps its action, and another one takes the
--- least-numbered action that may lead into that layer, if there is one
+-- one layer more: a state that already was in the last layer keeps its action, and another one
+-- takes the least-numbered action that may lead into that layer, if there is one
 pub step_choice : (sys : System) (K : ℕ) (v : Vector) → chosen_action Weak sys (suc K) v ≡ (if layer Weak sys K v then chosen_action Weak sys K v else find (may_lead sys (layer Weak sys K) v) (action_numbers sys))
 step_choice sys K v = go (layer Weak sys K v) refl
   where

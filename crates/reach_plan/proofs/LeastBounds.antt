@@ -68,7 +68,8 @@ module _ (sys : System) (ok : IsSystem sys) (table : Table) (is_table : IsTable 
       (λ terminal. goal_layer (suc m) s reached terminal)
       (pair_or_terminal table s)
 
--- from an initial state the longest path of the printed strong plan is no longer than that of any strong solution
+-- from an initial state the longest path of the printed strong plan is no longer than that of any
+-- strong solution
 pub strong_is_shortest : (sys : System) (K : ℕ) (table : Table) (s : Vector) (n : ℕ) → IsSystem sys → IsTable sys table → IsStrongSolution sys table → Contains sys.initial s
     → PathsAreWithin sys table s n → PathsAreWithin sys (denoted sys (printed_rules Strong sys K)) s n
 strong_is_shortest sys K table s n ok is_table solves initial within =

@@ -1,5 +1,6 @@
--- Where a layer of the class Strong is as the next one and doesn't hold every initial state, no table is a strong
--- solution: from a state outside the layer one can always go on outside, and so comes back to a state at last.
+-- Where a layer of the class Strong is as the next one and doesn't hold every initial state, no
+-- table is a strong solution: from a state outside the layer one can always go on outside, and so
+-- comes back to a state at last.
 use Rattle.std.proofs.Common.{◌≡◌, ◌≢◌, ℕ, zero, suc, ◌+◌, ◌≤◌, ◌^◌, Bool, true, false, ◌&&◌, List, [], ◌∷◌, ◌++◌, length, refl, sym, ◌∙◌, ap, subst, arith, ⊎_elim}
 use Rattle.std.specs.List.{Contains, list_all, list_any}
 use Rattle.std.proofs.lemmas.Bool.{false≢true, true≢false, and_from, and_parts, or_left, or_right}
@@ -183,7 +184,8 @@ stable_no_strong sys k ok stable short table is_table solves =
     let s = failing (layer Strong sys k) sys.initial short in
     no_strong_from sys ok k stable table is_table solves s.0 s.1 s.2
 
--- the paths of a strong solution pass no state twice, so that they are no longer than there are states
+-- the paths of a strong solution pass no state twice, so that they are no longer than there are
+-- states
 module _ (sys : System) (ok : IsSystem sys) (table : Table) (solves : IsStrongSolution sys table) where
   reach_from : (x t : Vector) (rest : List Vector) → IsPath sys table t rest → Contains (t ∷ rest) x → Reaches sys table t x
   reach_from x t [] path h = ⊎_elim (λ e. subst (Reaches sys table t) e (here sys table t)) (λ c. absurd (Contains-nil x c)) (Contains-cases t [] x h)

@@ -1,5 +1,5 @@
--- A state from which a table has a path of n steps to a goal state lies in layer n. So where a table is a
--- weak solution, some layer holds every initial state.
+-- A state from which a table has a path of n steps to a goal state lies in layer n. So where a
+-- table is a weak solution, some layer holds every initial state.
 use Rattle.std.proofs.Common.{◌≡◌, ℕ, zero, suc, ◌+◌, Bool, true, false, List, [], ◌∷◌, length, refl, sym, ◌∙◌, subst, arith}
 use Rattle.std.specs.List.{Contains, list_all}
 use Rattle.std.proofs.lemmas.Bool.{false≢true, true≢false, or_right, and_from, and_parts}

@@ -8,7 +8,8 @@ use Rattle.reach_plan.specs.Layers.{covers, rank_within}
 use Rattle.reach_plan.specs.Printed.{chosen_action, printed_rules}
 use Rattle.task_core.specs.declared.classes.Class.TheVariants.{Strong, Weak}
 
--- A coin that is flipped until it shows its face up: one action with two outcomes, up and as before.
+-- A coin that is flipped until it shows its face up: one action with two outcomes, up and as
+-- before.
 abbrev flips : Vector → ℕ → List Vector
 flips v zero = (true ∷ []) ∷ v ∷ []
 flips v (suc a) = []
@@ -41,8 +42,8 @@ coin_done-rules : printed_rules Weak coin_done 0 ≡ []
 unfolding coin_done
 coin_done-rules = refl
 
--- Two switches f and g, and the goal that both are on: action 0 does nothing, action 1 turns f on or does
--- nothing, action 2 turns g on, action 3 turns g on too.
+-- Two switches f and g, and the goal that both are on: action 0 does nothing, action 1 turns f on
+-- or does nothing, action 2 turns g on, action 3 turns g on too.
 abbrev switched : Bool → Bool → ℕ → List Vector
 switched f g zero = (f ∷ g ∷ []) ∷ []
 switched f g (suc zero) = (true ∷ g ∷ []) ∷ (f ∷ g ∷ []) ∷ []
@@ -63,15 +64,16 @@ switches-uncovered = refl
 switches-covered : covers Weak switches 2 ≡ true
 switches-covered = refl
 
--- with both off, either switch leads on, and the least-numbered action is taken: so it is wherever f is off
+-- with both off, either switch leads on, and the least-numbered action is taken: so it is wherever
+-- f is off
 switches-rules : printed_rules Weak switches 2 ≡ record { cube = literal 0 false ∷ []; action = 1 } ∷ record { cube = literal 0 true ∷ literal 1 false ∷ []; action = 2 } ∷ []
 switches-rules = refl
 
 switches-chosen : chosen_action Weak switches 2 (true ∷ true ∷ []) ≡ None
 switches-chosen = refl
 
--- no flip is sure to turn the coin up, so for strong plans no layer holds the initial state; setting a switch
--- is sure
+-- no flip is sure to turn the coin up, so for strong plans no layer holds the initial state;
+-- setting a switch is sure
 coin-unsure : covers Strong coin 3 ≡ false
 coin-unsure = refl
 

@@ -20,8 +20,8 @@ all_zip_of R [] (y ∷ ys) same each = absurd (omega (arith, same))
 all_zip_of R (x ∷ xs) [] same each = absurd (omega (arith, same))
 all_zip_of R (x ∷ xs) (y ∷ ys) same each = (each 0 x (omega arith), all_zip_of R xs ys (omega (arith, same)) (λ i d lt. each (suc i) d (omega (arith, lt))))
 
--- zs is the list of before under another name. What a vector of it holds after ys was written back: of ys, and
--- of what stood behind, the first n elements
+-- zs is the list of before under another name. What a vector of it holds after ys was written back:
+-- of ys, and of what stood behind, the first n elements
 pub all_changed : {X : Type 0} (R : X → X → Type 0) (place n : ℕ) (xs zs ys : List X) → xs ≡ zs → n ≡ length zs → length ys ≡ length xs
     → length xs ≤ place → IsChangedUpTo R place xs ys → AllZip R zs (take n (ys ++ drop (length ys) zs))
 all_changed R place n xs zs ys e long same past up =

@@ -11,7 +11,8 @@ use Rattle.sexpr_text.specs.Formed.{nesting_of, is_lower_word_byte}
 abbrev text : List ℕ
 text = 40 ∷ 97 ∷ 59 ∷ 40 ∷ 10 ∷ 32 ∷ 98 ∷ 41 ∷ []
 
--- bytes: a tab and a vertical tab are white space, byte 14 is not; `!` and `~` stand in words, `;` and byte 127 do not
+-- bytes: a tab and a vertical tab are white space, byte 14 is not; `!` and `~` stand in words, `;`
+-- and byte 127 do not
 bytes_are : (is_space 9 ≡ true) × (is_space 11 ≡ true) × (is_space 14 ≡ false) × (is_word_byte 33 ≡ true) × (is_word_byte 126 ≡ true) × (is_word_byte 59 ≡ false) × (is_word_byte 127 ≡ false)
 bytes_are = (refl, refl, refl, refl, refl, refl, refl)
 

@@ -10,7 +10,8 @@ use Rattle.sexpr_text.specs.Pending.{Pending}
 use Rattle.sexpr_text.proofs.Depths.{IsQuiet, HasOpen}
 use Rattle.sexpr_text.proofs.Between.{IsGap-none, IsBetween-join, IsBetween-le}
 
--- the n-th open parenthesis, in a list that begins at offset lo, when the text is read up to offset k
+-- the n-th open parenthesis, in a list that begins at offset lo, when the text is read up to offset
+-- k
 pub record IsPending (b : List ℕ) (k n lo : ℕ) (p : Pending) : Type 0 where
   pub before : IsBetween b lo p.start p.before
   pub opens : opens_at b p.start ≡ true

@@ -104,8 +104,8 @@ cubes_match (x ∷ v) pre first set e =
       | false ↦ λ _. unless_empty_match x v pre first set e (cubes_match v)
     ] refl
 
--- the cubes over the n fluents from the given one on match, behind a front of the values before it, exactly the
--- set's members
+-- the cubes over the n fluents from the given one on match, behind a front of the values before it,
+-- exactly the set's members
 pub cubes_from_match : (first n : ℕ) (set : SetOfVectors) (pre v : Vector) → length pre ≡ first → length v ≡ n → list_any (λ cube. matches cube (pre ++ v)) (cubes_from first n set) ≡ set v
 cubes_from_match first n set pre v e l = subst (λ k. Matched first k set (pre ++ v) ≡ set v) l (cubes_match v pre first set e)
 

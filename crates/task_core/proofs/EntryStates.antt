@@ -1,4 +1,5 @@
--- The initial states: each list of states after entries is a list of states over the task's fluents.
+-- The initial states: each list of states after entries is a list of states over the task's
+-- fluents.
 use Rattle.std.proofs.Common.{◌≡◌, ◌≢◌, ℕ, zero, suc, ◌+◌, ◌<◌, ◌≤◌, Bool, true, false, cond, List, [], ◌∷◌, ◌++◌, map, length, get_or, refl, sym, ◌∙◌, ap, subst, ⊎_elim, arith}
 use Rattle.std.specs.List.{AllPairs, Contains, flat_map, fold, list_any, range_with_len}
 use Rattle.std.proofs.lemmas.List.Elements.{Contains-append_cases, Contains-get_or}

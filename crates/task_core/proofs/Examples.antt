@@ -33,7 +33,8 @@ vectors_of_two = refl
 exactly_one : cubes_of 2 (λ v. not (same_value (value_of v 0) (value_of v 1))) ≡ (literal 0 false ∷ literal 1 true ∷ []) ∷ (literal 0 true ∷ literal 1 false ∷ []) ∷ []
 exactly_one = refl
 
--- the whole set has one empty cube, the empty set none; a set that ignores the first fluent leaves it out
+-- the whole set has one empty cube, the empty set none; a set that ignores the first fluent leaves
+-- it out
 whole_set : cubes_of 2 (λ v. true) ≡ [] ∷ []
 whole_set = refl
 
@@ -102,8 +103,8 @@ module _ (alloc : Global) where
   coin_goal : (coin : Task) → fluent_count coin ≡ 1 → coin.goal ≡ Some (Is (record { 0 = 0 })) → goal_states (system_of coin) ≡ (true ∷ []) ∷ []
   coin_goal coin n g = simp (n, g, holds_Is)
 
-  -- two fluents; an action of three outcomes, which can be executed where the first is true: it deletes the
-  -- first, or adds and deletes the second, or deletes both
+  -- two fluents; an action of three outcomes, which can be executed where the first is true: it
+  -- deletes the first, or adds and deletes the second, or deletes both
   abbrev drop : GroundAction
   drop = record {
     name = vec [] (omega arith);
@@ -117,7 +118,8 @@ module _ (alloc : Global) where
   pair_not_executable : (pair : Task) → fluent_count pair ≡ 2 → pair.actions.items ≡ drop ∷ [] → next_states pair (false ∷ true ∷ []) 0 ≡ []
   pair_not_executable pair n a = simp (n, a, holds_Is)
 
--- initial states over two fluents, false at first: an entry for each value of the first, and one of the second
+-- initial states over two fluents, false at first: an entry for each value of the first, and one of
+-- the second
 abbrev both_values : ℕ → Entry
 both_values f = (literal f true ∷ []) ∷ (literal f false ∷ []) ∷ []
 

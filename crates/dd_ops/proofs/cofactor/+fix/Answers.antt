@@ -1,4 +1,5 @@
--- The memo answers rightly, the children have a greater level, and their cofactors are what `join_fixed` requires.
+-- The memo answers rightly, the children have a greater level, and their cofactors are what
+-- `join_fixed` requires.
 use Rattle.std.proofs.Common.{◌≡◌, ◌<◌, ◌-◌, Some, sym, arith}
 use Rattle.dd_nodes.specs.NodeList.{node_at}
 use Rattle.dd_nodes.proofs.Extending.{extends_more}

@@ -1,4 +1,5 @@
--- The memo answers rightly, the children have a greater level, and the numbers found stay right as the table grows.
+-- The memo answers rightly, the children have a greater level, and the numbers found stay right as
+-- the table grows.
 use Rattle.std.proofs.Common.{◌≡◌, ◌<◌, ◌-◌, Option, Some, subst, arith}
 use Rattle.dd_nodes.specs.declared.node.Ref.{Ref}
 use Rattle.dd_ops.specs.Answers.{Follows}

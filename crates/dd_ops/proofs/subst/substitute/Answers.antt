@@ -1,4 +1,5 @@
--- A number below the replaced variables is its own answer, and the table by variable holds what the list gives.
+-- A number below the replaced variables is its own answer, and the table by variable holds what the
+-- list gives.
 use Rattle.std.proofs.Common.{◌≤◌, List, ℕ, sym, subst}
 use Rattle.dd_nodes.specs.declared.node.Ref.{Ref}
 use Rattle.dd_ops.specs.Answers.{IsIndexed, StayFrom}

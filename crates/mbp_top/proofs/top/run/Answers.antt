@@ -21,8 +21,8 @@ use Rattle.mbp_top.proofs.Statuses.{
 use Rattle.mbp_top.proofs.ByCommand.{due_answer}
 use Rattle.mbp_top.proofs.top.run.Goals as goal
 
--- In each answer: what the shelf told, in which fetch it failed, the words, its counts, and what the sinks
--- showed; and then the answer that was given, with its cause and its delivery.
+-- In each answer: what the shelf told, in which fetch it failed, the words, its counts, and what
+-- the sinks showed; and then the answer that was given, with its cause and its delivery.
 
 pub returns-clause-answered : goal.returns-clause-answered
 returns-clause-answered g c =

@@ -1,4 +1,5 @@
--- The walk goes to the child whose function is that of the node at the bits, and ends at a constant.
+-- The walk goes to the child whose function is that of the node at the bits, and ends at a
+-- constant.
 use Rattle.std.proofs.Common.{◌≡◌, ◌∙◌, sym, ◌<◌, ◌+◌, length, arith, Some}
 use Rattle.dd_nodes.specs.NodeList.{values_of_bits, node_at}
 use Rattle.dd_nodes.proofs.NodeLemmas.{node_place, function_hi, function_lo, function_without_node}

@@ -1,4 +1,5 @@
--- The numbers of the listed sets replace the variables. What the operation answers, and what became of the slots, put together.
+-- The numbers of the listed sets replace the variables. What the operation answers, and what became
+-- of the slots, put together.
 use Rattle.std.proofs.Common.{refl, ◌∙◌}
 use Rattle.dd_sets.proofs.SlotLemmas.{operated, number_set, full_room}
 use Rattle.dd_sets.proofs.SetLemmas.{refs_ready, subst_made}
