@@ -1,6 +1,6 @@
 -- What the answers to the halves of a question add and lack, its own answer does.
-use Rattle.std.proofs.Common.{◌≡◌, ◌≢◌, ℕ, ◌<◌, true, false, cond, List, [], ◌∷◌, length, sym, subst, ◌∙◌, ◌⊎◌, if◌then◌else◌}
-use Rattle.dd_nodes.specs.declared.node.Node.{Node}
+use Rattle.std.proofs.Common.{◌≡◌, ◌≢◌, ℕ, ◌<◌, true, false, cond, List, [], ◌∷◌, length, sym, subst, ◌∙◌, ◌⊎◌, if◌then◌else◌, Result, IfOk, OnErr}
+use Rattle.dd_nodes.specs.declared.node.DdErr.{DdErr}
 use Rattle.dd_nodes.specs.declared.node.Ref.{Ref}
 use Rattle.dd_nodes.specs.NodeList.{Values, function, IsReduced, Appends, Lacks}
 use Rattle.dd_nodes.specs.Subfunctions.{Function}
@@ -9,9 +9,9 @@ use Rattle.dd_ops.specs.declared.question.Question.{Question}
 use Rattle.dd_ops.specs.Answers.{top_of, IsAsked, IsHalf, AreHalfAnswers, Keeps, IsFullFor, asked_of}
 use Rattle.dd_ops.specs.Growth.{IsPart, AddsParts}
 use Rattle.dd_ops.proofs.GrowthAnswers.{asked_kept, half_sub}
-use Rattle.dd_nodes.proofs.Dependence.{sub_self}
 use Rattle.dd_ops.proofs.GrowthParts.{part_only}
-use Rattle.dd_ops.proofs.GrowthSteps.{adds_chain, adds_made, adds_for_part, lacks_for_part, lacks_made}
+use Rattle.dd_ops.proofs.GrowthOps.{adds_one, full_one}
+use Rattle.dd_ops.proofs.GrowthSteps.{adds_chain, adds_for_part, lacks_for_part}
 use Rattle.dd_ops.proofs.QuestionLemmas.{joined}
 use Rattle.dd_ops.proofs.HalvesLemmas.{var_below, var_from, var_from_later}
 
@@ -79,27 +79,20 @@ module _ (t0 : NodeTable) (table0 : IsNodeTable t0) (q : Question) (asked : IsAs
       full_rest t3 full = subst (λ g. IsFullFor (g ∷ []) t3) latest full
 
 -- a node of the answers to the halves
-module _ (t : NodeTable) (table : IsNodeTable t) (q : Question) (var : ℕ) (lo hi : Ref) (halves : AreHalfAnswers t q var lo.0 hi.0) where
-  made : Node
-  made = record { var = var; lo = lo; hi = hi }
+module _ (t : NodeTable) (table : IsNodeTable t) (q : Question) (var : ℕ) (lo hi : Ref) (halves : AreHalfAnswers t q var lo.0 hi.0) (after : NodeTable) where
+  made_value : (values : Values) → (if values var then function t.nodes hi.0 values else function t.nodes lo.0 values) ≡ asked_of t.nodes q values
+  made_value values = (λ j. cond (values var) (halves.hi_value j values) (halves.lo_value j values)) ∙ joined (asked_of t.nodes q) var values
 
-  made_value : (values : Values) → asked_of t.nodes q values ≡ (if values var then function t.nodes hi.0 values else function t.nodes lo.0 values)
-  made_value values = sym ((λ j. cond (values var) (halves.hi_value j values) (halves.lo_value j values)) ∙ joined (asked_of t.nodes q) var values)
+  pub adds_join : IsNodeTable after → after.vars ≡ t.vars → (r : Result Ref DdErr)
+      → IfOk r (λ g. (after.nodes ≡ t.nodes) ⊎ Appends t.nodes (record { var = var; lo = lo; hi = hi }) g.0 after.nodes)
+      → IfOk r (λ g. (values : Values) → function after.nodes g.0 values ≡ (if values var then function t.nodes hi.0 values else function t.nodes lo.0 values))
+      → OnErr r (after ≡ t) → AddsParts t.vars (asked_of t.nodes q ∷ []) t.nodes after.nodes
+  adds_join later vars r cases value refused = adds_one t after table (subst (λ u. IsReduced u after.nodes) vars later.reduced)
+      (record { var = var; lo = lo; hi = hi }) (asked_of t.nodes q) made_value r cases value refused
 
-  whole : IsPart t.vars (asked_of t.nodes q ∷ []) (asked_of t.nodes q)
-  whole = part_only t.vars (asked_of t.nodes q) (asked_of t.nodes q) (sub_self t.vars (asked_of t.nodes q))
-
-  pub adds_join : (after : List Node) (r : ℕ) → IsReduced t.vars after → (after ≡ t.nodes) ⊎ Appends t.nodes (record { var = var; lo = lo; hi = hi }) r after
-      → ((values : Values) → function after r values ≡ (if values var then function t.nodes hi.0 values else function t.nodes lo.0 values))
-      → AddsParts t.vars (asked_of t.nodes q ∷ []) t.nodes after
-  unfolding made
-  adds_join after r reduced cases value = adds_made t.vars (asked_of t.nodes q ∷ []) t.nodes after made r (asked_of t.nodes q) table.reduced reduced cases
-      (λ values. value values ∙ sym (made_value values)) whole
-
-  pub full_join : lo ≢ hi → Lacks t.nodes (record { var = var; lo = lo; hi = hi }) → length t.nodes ≡ t.limit → IsFullFor (asked_of t.nodes q ∷ []) t
-  unfolding made
-  full_join differ lacks limit = record {
-    at_limit = limit;
-    lacks = lacks_made t.vars (asked_of t.nodes q ∷ []) t.nodes made (asked_of t.nodes q) table.reduced halves.in_range differ lacks
-        halves.lo_number halves.hi_number halves.lo_below halves.hi_below made_value whole;
-  }
+  pub full_join : lo ≢ hi → Lacks t.nodes (record { var = var; lo = lo; hi = hi }) → length t.nodes ≡ t.limit → after ≡ t
+      → IsFullFor (asked_of t.nodes q ∷ []) after
+  full_join apart lacks limit refused =
+      let reduced : IsReduced t.vars after.nodes = subst (λ (u : NodeTable). IsReduced t.vars u.nodes) (sym refused) table.reduced in
+      full_one t after table reduced (record { var = var; lo = lo; hi = hi }) (asked_of t.nodes q) made_value
+      halves.in_range halves.lo_number halves.hi_number halves.lo_below halves.hi_below apart lacks limit refused

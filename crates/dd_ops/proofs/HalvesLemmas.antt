@@ -1,14 +1,16 @@
 -- From the answers to the halves of a question to its own.
-use Rattle.std.proofs.Common.{◌≡◌, ℕ, ◌+◌, ◌-◌, ◌<◌, ◌≤◌, Bool, true, false, cond, sym, ap, subst, ◌∙◌, arith, if◌then◌else◌, List}
+use Rattle.std.proofs.Common.{◌≡◌, ℕ, ◌+◌, ◌-◌, ◌<◌, ◌≤◌, Bool, true, false, cond, sym, ap, subst, ◌∙◌, arith, if◌then◌else◌, List, ⊎_elim, Result, Ok, Err, IfOk}
+use Rattle.dd_nodes.specs.declared.node.DdErr.{DdErr}
 use Rattle.dd_nodes.specs.declared.node.Node.{Node}
 use Rattle.dd_nodes.specs.declared.node.Ref.{Ref}
 use Rattle.dd_nodes.specs.NodeList.{Values, IsNumber, function, StandsBelow, StandsFrom, IsReduced, Extends}
 use Rattle.dd_nodes.specs.Subfunctions.{Function}
 use Rattle.dd_nodes.specs.Table.{NodeTable, IsNodeTable}
 use Rattle.dd_nodes.proofs.Extending.{extends_number, extends_function, extends_below, extends_more}
+use Rattle.dd_ops.specs.declared.question.Halves.{Halves}
 use Rattle.dd_ops.specs.declared.question.Question.{Question}
 use Rattle.dd_ops.specs.Operations.{ite_of, cofactor_of}
-use Rattle.dd_ops.specs.Answers.{top_of, IsAsked, AsksFrom, IsAnswer, IsHalf, AreHalfAnswers, Remembers, Keeps}
+use Rattle.dd_ops.specs.Answers.{top_of, IsAsked, AsksFrom, IsAnswer, IsBranch, IsHalf, IsHalved, IsOperandWith, AreHalfAnswers, Remembers, Keeps}
 use Rattle.dd_ops.proofs.QuestionLemmas.{joined, asks_from_top, top_greatest, half_from, top_in_range, asks_from_small, asked_extends, asks_from_extends, asks_from_back, asked_function, answer_extends, half_value, half_below}
 
 -- a table is kept by a call that changes nothing, and by two calls in turn
@@ -122,7 +124,7 @@ module _ (t0 t1 t2 : NodeTable) (q p0 p1 : Question) (var lo hi : ℕ) (halves :
 
 -- a node of the answers to the halves answers the question
 module _ (t : NodeTable) (table : IsNodeTable t) (q : Question) (asked : IsAsked t.nodes q) (var lo hi : ℕ) (halves : AreHalfAnswers t q var lo hi) where
-  pub joined_answer : (after : List Node) (r : ℕ) → Extends t.nodes after
+  joined_answer : (after : List Node) (r : ℕ) → Extends t.nodes after
       → ((values : Values) → function after r values ≡ (if values var then function t.nodes hi values else function t.nodes lo values))
       → IsNumber after r → StandsFrom after var r → IsAnswer after q r
   joined_answer after r extends value number from =
@@ -139,3 +141,47 @@ module _ (t : NodeTable) (table : IsNodeTable t) (q : Question) (asked : IsAsked
             let low : v ≤ var = halves.least v back in
             λ (node : Node) there. let high : var ≤ node.var = from node there in omega arith;
       }
+
+  -- the same of what a call answers
+  pub node_answer : (after : List Node) → Extends t.nodes after → (r : Result Ref DdErr)
+      → IfOk r (λ f. (values : Values) → function after f.0 values ≡ (if values var then function t.nodes hi values else function t.nodes lo values))
+      → IfOk r (λ f. IsNumber after f.0) → IfOk r (λ f. StandsFrom after var f.0) → IfOk r (λ f. IsAnswer after q f.0)
+  node_answer after extends (Ok f) value number from = joined_answer after f.0 extends value number from
+  node_answer after extends (Err e) value number from = tt
+
+  -- a number with the answers as its branches, which stands as deep as the question's, answers it
+  branches_answer : (r : ℕ) → IsNumber t.nodes r → ((v : ℕ) → AsksFrom t.nodes v q → StandsFrom t.nodes v r)
+      → IsBranch t.nodes var false r lo → IsBranch t.nodes var true r hi → IsAnswer t.nodes q r
+  branches_answer r number from below above =
+      let wanted : Function = ite_of (function t.nodes q.f.0) (function t.nodes q.g.0) (function t.nodes q.h.0) in
+      record {
+        asked = asked;
+        number = number;
+        value = λ i values. (sym (joined (function t.nodes r) var values)
+            ∙ (λ j. cond (values var) (sym above.value j values) (sym below.value j values))
+            ∙ (λ j. cond (values var) (halves.hi_value j values) (halves.lo_value j values))
+            ∙ joined wanted var values) i;
+        from = from;
+      }
+
+-- an operand with the answers as its halves answers the question
+pub operand_answer : (t : NodeTable) → IsNodeTable t → (q : Question) → IsAsked t.nodes q → (halves : Halves) (lo hi : Ref)
+    → IsHalved t.nodes q halves → AreHalfAnswers t q halves.var lo.0 hi.0
+    → (r : Ref) → IsOperandWith q halves lo hi r → IsAnswer t.nodes q r.0
+operand_answer t table q asked halves lo hi halved answers r operand =
+    let answered : (f f_lo f_hi : Ref) → IsNumber t.nodes f.0 → ((v : ℕ) → AsksFrom t.nodes v q → StandsFrom t.nodes v f.0)
+    → IsBranch t.nodes halves.var false f.0 f_lo.0 → IsBranch t.nodes halves.var true f.0 f_hi.0
+    → (r ≡ f) × (lo ≡ f_lo) × (hi ≡ f_hi) → IsAnswer t.nodes q r.0
+    = λ f f_lo f_hi number from below above is.
+    branches_answer t table q asked halves.var lo.0 hi.0 answers r.0
+    (subst (λ (k : Ref). IsNumber t.nodes k.0) (sym is.0) number)
+    (λ v asks. subst (λ (k : Ref). StandsFrom t.nodes v k.0) (sym is.0) (from v asks))
+    (subst (λ (k : Ref). IsBranch t.nodes halves.var false k.0 lo.0) (sym is.0) (subst (λ (k : Ref). IsBranch t.nodes halves.var false f.0 k.0) (sym is.1) below))
+    (subst (λ (k : Ref). IsBranch t.nodes halves.var true k.0 hi.0) (sym is.0) (subst (λ (k : Ref). IsBranch t.nodes halves.var true f.0 k.0) (sym is.2) above))
+    in
+    ⊎_elim
+    (answered q.f halves.lo.f halves.hi.f asked.f (λ v asks. asks.f) halved.lo.f halved.hi.f)
+    (⊎_elim
+    (answered q.g halves.lo.g halves.hi.g asked.g (λ v asks. asks.g) halved.lo.g halved.hi.g)
+    (answered q.h halves.lo.h halves.hi.h asked.h (λ v asks. asks.h) halved.lo.h halved.hi.h))
+    operand

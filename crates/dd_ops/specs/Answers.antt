@@ -8,6 +8,7 @@ use Rattle.dd_nodes.specs.NodeList.{Values, IsNumber, node_at, function, StandsB
 use Rattle.dd_nodes.specs.NodeList.{Extends}
 use Rattle.dd_nodes.specs.Subfunctions.{Function}
 use Rattle.dd_nodes.specs.Table.{NodeTable}
+use Rattle.dd_ops.specs.declared.question.Halves.{Halves}
 use Rattle.dd_ops.specs.declared.question.Question.{Question}
 use Rattle.dd_ops.specs.declared.question.Settled.{Settled}
 use Rattle.dd_ops.specs.declared.question.Settled.TheVariants.{Known, Open}
@@ -81,6 +82,18 @@ pub record IsHalf (nodes : List Node) (v : ℕ) (b : Bool) (q p : Question) : Ty
   pub f : IsBranch nodes v b q.f.0 p.f.0
   pub g : IsBranch nodes v b q.g.0 p.g.0
   pub h : IsBranch nodes v b q.h.0 p.h.0
+
+-- both halves of a question at a variable
+pub record IsHalved (nodes : List Node) (q : Question) (halves : Halves) : Type 0 where
+  pub lo : IsHalf nodes halves.var false q halves.lo
+  pub hi : IsHalf nodes halves.var true q halves.hi
+
+-- r is an operand of a question, and lo and hi are its halves
+abbrev pub IsOperandWith : Question → Halves → Ref → Ref → Ref → Type 0
+IsOperandWith q halves lo hi r =
+    ((r ≡ q.f) × (lo ≡ halves.lo.f) × (hi ≡ halves.hi.f))
+    ⊎ ((r ≡ q.g) × (lo ≡ halves.lo.g) × (hi ≡ halves.hi.g))
+    ⊎ ((r ≡ q.h) × (lo ≡ halves.lo.h) × (hi ≡ halves.hi.h))
 
 -- lo and hi answer the halves of a question at v, the least variable that it looks at, and stand
 -- below v

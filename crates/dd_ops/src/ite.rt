@@ -1,12 +1,12 @@
 //! If-then-else, on which the other operations stand.
 ghost use Rattle.std.specs.Prelude.{◌≡◌, ◌<◌, [], ◌∷◌, IfOk, IsErrOf};
 ghost use Rattle.dd_nodes.specs.Table.{IsNodeTable};
-ghost use Rattle.dd_ops.specs.Answers.{IsAsked, IsAnswer, AreHalfAnswers, Remembers, Keeps};
-ghost use Rattle.dd_ops.specs.Answers.{IsFullFor, asked_of};
+ghost use Rattle.dd_ops.specs.Answers.{IsAsked, IsAnswer, IsHalved, AreHalfAnswers};
+ghost use Rattle.dd_ops.specs.Answers.{Remembers, Keeps, IsFullFor, asked_of};
 ghost use Rattle.dd_ops.specs.Growth.{AddsParts};
 
 use crate::memo::{recall, remember};
-use crate::question::{Question, Settled, halve, settle};
+use crate::question::{Halves, Question, Settled, halve, operand_with, settle};
 use dd_nodes::{Dd, DdErr, Ref};
 use indexmap::IndexMap;
 
@@ -52,21 +52,22 @@ fn answer_open(dd: &mut Dd, memo: &mut IndexMap<Question, Ref>, q: Question) -> 
     let halves = halve(dd, q);
     let lo = answer(dd, memo, halves.lo)?;
     let hi = answer(dd, memo, halves.hi)?;
-    join(dd, memo, q, halves.var, lo, hi)
+    join(dd, memo, q, halves, lo, hi)
 }
 
-/// The answer to a question, by the answers to its halves at `var`, which the memo keeps.
+/// The answer to a question, by the answers to its halves, which the memo keeps.
 fn join(
     dd: &mut Dd,
     memo: &mut IndexMap<Question, Ref>,
     q: Question,
-    var: u32,
+    halves: Halves,
     lo: Ref,
     hi: Ref,
 ) -> Result<Ref, DdErr>
     requires table { IsNodeTable dd.old }
     requires asked { IsAsked dd.old.nodes q }
-    requires halves { AreHalfAnswers dd.old q var lo.0 hi.0 }
+    requires halves { IsHalved dd.old.nodes q halves }
+    requires answers { AreHalfAnswers dd.old q halves.var lo.0 hi.0 }
     requires memo { Remembers dd.old.nodes memo.old.entries }
     ensures answer { IfOk result (λ r. IsAnswer dd.new.nodes q r.0) }
     ensures kept { Keeps dd.old dd.new }
@@ -75,7 +76,26 @@ fn join(
     ensures adds { AddsParts dd.old.vars (asked_of dd.old.nodes q ∷ []) dd.old.nodes dd.new.nodes }
     ensures full { IsErrOf result DdErr.Full → IsFullFor (asked_of dd.old.nodes q ∷ []) dd.new }
 {
-    let r = dd.mk(var, lo, hi)?;
+    let r = operand_or_node(dd, q, halves, lo, hi)?;
     remember(memo, q, r)?;
     Ok(r)
+}
+
+/// The number of the function whose halves are `lo` and `hi`. Where that is one of the question's
+/// operands, it needs no look at the table, which in large tables is what takes the time.
+fn operand_or_node(dd: &mut Dd, q: Question, halves: Halves, lo: Ref, hi: Ref) -> Result<Ref, DdErr>
+    requires table { IsNodeTable dd.old }
+    requires asked { IsAsked dd.old.nodes q }
+    requires halves { IsHalved dd.old.nodes q halves }
+    requires answers { AreHalfAnswers dd.old q halves.var lo.0 hi.0 }
+    ensures answer { IfOk result (λ r. IsAnswer dd.new.nodes q r.0) }
+    ensures kept { Keeps dd.old dd.new }
+    ensures table { IsNodeTable dd.new }
+    ensures adds { AddsParts dd.old.vars (asked_of dd.old.nodes q ∷ []) dd.old.nodes dd.new.nodes }
+    ensures full { IsErrOf result DdErr.Full → IsFullFor (asked_of dd.old.nodes q ∷ []) dd.new }
+{
+    match operand_with(q, halves, lo, hi) {
+        Some(r) => Ok(r),
+        None => dd.mk(halves.var, lo, hi),
+    }
 }

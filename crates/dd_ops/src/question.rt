@@ -5,7 +5,7 @@ ghost use Rattle.std.specs.Prelude.{◌≡◌, ℕ, ◌<◌, true, false, List, 
 ghost use Rattle.dd_nodes.specs.declared.node.Node.{Node};
 ghost use Rattle.dd_nodes.specs.NodeList.{IsNumber, IsReduced, StandsFrom, node_at};
 ghost use Rattle.dd_ops.specs.Answers.{level_at, level_of, top_of, IsAsked, IsAnswer, IsBranch};
-ghost use Rattle.dd_ops.specs.Answers.{IsHalf, IsRestated, IsSettled};
+ghost use Rattle.dd_ops.specs.Answers.{IsHalf, IsRestated, IsSettled, IsOperandWith};
 
 use dd_nodes::{Dd, Node, Ref};
 use std::hash::{Hash, Hasher};
@@ -179,5 +179,20 @@ pub fn branch(found: Option<Node>, f: Ref, var: u32, value: bool) -> Ref
     match found {
         Some(node) if node.var == var => if value { node.hi } else { node.lo },
         _ => f,
+    }
+}
+
+/// The operand of a question whose halves are `lo` and `hi`, if there is one.
+pub fn operand_with(q: Question, halves: Halves, lo: Ref, hi: Ref) -> Option<Ref>
+    ensures { IfSome result (IsOperandWith q halves lo hi) }
+{
+    if lo == halves.lo.f && hi == halves.hi.f {
+        Some(q.f)
+    } else if lo == halves.lo.g && hi == halves.hi.g {
+        Some(q.g)
+    } else if lo == halves.lo.h && hi == halves.hi.h {
+        Some(q.h)
+    } else {
+        None
     }
 }

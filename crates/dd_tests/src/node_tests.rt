@@ -87,7 +87,7 @@ fn tells_its_functions(rt: HostRuntime) -> Result<(), Fail> {
     Ok(())
 }
 
-/// What a full table of two nodes answers, and how many nodes it has then.
+/// Whether a full table of two nodes answers a node that is there, and has two nodes then.
 fn asked_when_full(dd: &mut Dd) -> Result<bool, DdErr>
     requires { dd.old.vars ≡ 2 }
 {

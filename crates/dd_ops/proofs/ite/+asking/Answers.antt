@@ -44,8 +44,8 @@ answer_open-answer-requires-2 t c =
     let falls : 2 * (256 - top_of later.nodes c.halve-halves.result.hi) + 1 < t = omega (arith, c.decreases) in
     (falls, (c.in_ok-lo.ensures.table, (half_asked later.nodes c.halve-halves.result.var true c.args.q c.halve-halves.result.hi half, c.in_ok-lo.ensures.memo)))
 
-pub answer_open-join-requires-clause-halves : goal.answer_open-join-requires-clause-halves
-answer_open-join-requires-clause-halves t c =
+pub answer_open-join-requires-clause-answers : goal.answer_open-join-requires-clause-answers
+answer_open-join-requires-clause-answers t c =
     half_answers c.args.dd.now c.answer.new.dd c.answer-2.new.dd c.args.q c.halve-halves.result.lo c.halve-halves.result.hi c.halve-halves.result.var c.in_ok-lo.lo.0 c.in_ok-hi.hi.0
     (record {
       table0 = c.requires.table;
@@ -61,6 +61,16 @@ answer_open-join-requires-clause-halves t c =
       table2 = c.in_ok-hi.ensures.table;
       answer1 = c.in_ok-hi.ensures.answer;
     })
+
+pub answer_open-join-requires-clause-halves : goal.answer_open-join-requires-clause-halves
+answer_open-join-requires-clause-halves t c =
+    let dd = c.args.dd.now in
+    let last = c.answer-2.new.dd in
+    let kept = keeps_more dd c.answer.new.dd last c.answer.ensures.kept c.answer-2.ensures.kept in
+    record {
+      lo = half_extends dd.nodes last.nodes kept.nodes dd.vars c.requires.table.reduced c.halve-halves.result.var false c.args.q c.halve-halves.result.lo c.requires.asked c.halve-halves.ensures.lo;
+      hi = half_extends dd.nodes last.nodes kept.nodes dd.vars c.requires.table.reduced c.halve-halves.result.var true c.args.q c.halve-halves.result.hi c.requires.asked c.halve-halves.ensures.hi;
+    }
 
 pub answer_open-returns-in_err-lo-clause-adds : goal.answer_open-returns-in_err-lo-clause-adds
 answer_open-returns-in_err-lo-clause-adds t c =
