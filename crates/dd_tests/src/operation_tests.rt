@@ -208,13 +208,23 @@ fn build_all(alloc: Global, ops: &mut Ops) -> Result<Vec<Known>, Fail>
     Ok(refs)
 }
 
+/// The number of the conjunction of the first two variables.
+fn conjunction(ops: &mut Ops) -> Result<Ref, DdErr>
+    requires { 2 ≤ ops.old.vars }
+    ensures number { IfOk result (λ f. IsNumber ops.new.nodes f.0) }
+    ensures vars { ops.new.vars ≡ ops.old.vars }
+{
+    let x = ops.var(0)?;
+    let y = ops.var(1)?;
+    ops.and(x, y)
+}
+
 /// Whether a conjunction is its second part where the first is fixed at true.
 fn fixed_conjunction_agrees(ops: &mut Ops) -> Result<bool, DdErr>
     requires { 2 ≤ ops.old.vars }
 {
-    let x = ops.var(0)?;
     let y = ops.var(1)?;
-    let both = ops.and(x, y)?;
+    let both = conjunction(ops)?;
     Ok(ops.cofactor(both, 0, true)? == y)
 }
 
@@ -222,9 +232,8 @@ fn fixed_conjunction_agrees(ops: &mut Ops) -> Result<bool, DdErr>
 fn conjunction_without_part_agrees(ops: &mut Ops) -> Result<bool, DdErr>
     requires { 2 ≤ ops.old.vars }
 {
-    let x = ops.var(0)?;
+    let both = conjunction(ops)?;
     let y = ops.var(1)?;
-    let both = ops.and(x, y)?;
     Ok(ops.minus(both, y)? == Ref(0))
 }
 
@@ -328,12 +337,8 @@ fn stays_in_all(ops: &mut Ops, refs: &[Known]) -> Result<bool, DdErr>
 {
     let x = ops.var(0)?;
     let z = ops.var(2)?;
-    replaces_in_all(
-        ops,
-        refs,
-        &[(0, x), (1, Ref(0)), (2, z)],
-        [0xaaaa, 0, 0xf0f0, 0xff00],
-    )
+    let map = [(0, x), (1, Ref(0)), (2, z)];
+    replaces_in_all(ops, refs, &map, [0xaaaa, 0, 0xf0f0, 0xff00])
 }
 
 /// Whether `cofactor` answers by the truth table of every function of a list.
