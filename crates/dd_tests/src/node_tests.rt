@@ -6,7 +6,7 @@ use dd_nodes::{Dd, DdErr, Node, Ref, one_number_per_function};
 use std::alloc::Global;
 use std::test::Fail;
 
-/// The node of the second of two variables, in an empty table or one that has it alone.
+/// The node of the second of two variables.
 fn second(dd: &mut Dd) -> Result<Ref, DdErr>
     requires { dd.old.vars ≡ 2 }
     ensures vars { dd.new.vars ≡ 2 }
@@ -19,13 +19,14 @@ fn second(dd: &mut Dd) -> Result<Ref, DdErr>
 /// The conjunction of two variables.
 fn both(dd: &mut Dd) -> Result<Ref, DdErr>
     requires { dd.old.vars ≡ 2 }
-    ensures { IfOk result (λ f. IsNumber dd.new.nodes f.0) }
+    ensures vars { dd.new.vars ≡ 2 }
+    ensures number { IfOk result (λ f. IsNumber dd.new.nodes f.0) }
 {
     let second = second(dd)?;
     dd.mk(0, Ref(0), second)
 }
 
-/// The number of a function that the table lacks: not the first variable, or the second.
+/// The number of another function: not the first variable, or the second.
 fn third(dd: &mut Dd) -> Result<Ref, DdErr>
     requires { dd.old.vars ≡ 2 }
 {
@@ -36,86 +37,83 @@ fn third(dd: &mut Dd) -> Result<Ref, DdErr>
 /// The number where both children of a node are the second variable.
 fn equal_children(dd: &mut Dd) -> Result<Ref, DdErr>
     requires { dd.old.vars ≡ 2 }
+    ensures { dd.new.vars ≡ 2 }
 {
     let second = second(dd)?;
     dd.mk(0, second, second)
 }
 
-#[test]
-fn begins_empty(rt: HostRuntime) -> Result<(), Fail> {
-    let dd = Dd::new(rt.alloc(), 2, 2)?;
-    assert_eq!(rt; dd.limit(), 2);
-    assert_eq!(rt; dd.len(), 0);
-    assert_eq!(rt; dd.node(Ref(0)), None);
-    one_number_per_function();
-    Ok(())
+/// Whether a table for two nodes has none.
+fn is_new(dd: &Dd) -> bool {
+    dd.limit() == 2 && dd.len() == 0 && dd.node(Ref(0)).is_none()
 }
 
-#[test]
-fn makes_a_node_once(rt: HostRuntime) -> Result<(), Fail> {
-    let mut dd = Dd::new(rt.alloc(), 2, 2)?;
-    assert_eq!(rt; second(&mut dd)?, Ref(2));
-    assert_eq!(rt; dd.len(), 1);
-    let mut dd = Dd::new(rt.alloc(), 2, 2)?;
-    assert_eq!(rt; both(&mut dd)?, Ref(3));
-    assert_eq!(rt; dd.len(), 2);
-    Ok(())
+/// Whether a new table makes a node once: the second variable, which the conjunction has as a child.
+fn makes_a_node_once(dd: &mut Dd) -> Result<bool, DdErr>
+    requires { dd.old.vars ≡ 2 }
+    ensures { dd.new.vars ≡ 2 }
+{
+    let is_first = second(dd)? == Ref(2) && dd.len() == 1;
+    let is_next = both(dd)? == Ref(3) && dd.len() == 2;
+    Ok(is_first && is_next)
 }
 
-#[test]
-fn tells_its_nodes(rt: HostRuntime) -> Result<(), Fail> {
-    let mut dd = Dd::new(rt.alloc(), 2, 2)?;
-    let both = both(&mut dd)?;
-    assert_eq!(rt;
-        dd.node(both),
-        Some(Node {
-            var: 0,
-            lo: Ref(0),
-            hi: Ref(2)
-        })
-    );
-    Ok(())
-}
-
-#[test]
-fn tells_its_functions(rt: HostRuntime) -> Result<(), Fail> {
-    let mut dd = Dd::new(rt.alloc(), 2, 2)?;
-    let both = both(&mut dd)?;
-    for (bits, want) in [(0, false), (1, false), (2, false), (3, true)] {
-        assert_eq!(rt; dd.eval(both, &[bits, 0, 0, 0]), want, "at {bits}");
+/// Whether a number has the function of the conjunction.
+fn is_conjunction(dd: &Dd, f: Ref) -> bool
+    requires { IsNumber dd.now.nodes f.0 }
+{
+    for bits in 0..4u64 {
+        if dd.eval(f, &[bits, 0, 0, 0]) != (bits == 3) {
+            return false;
+        }
     }
-    Ok(())
+    true
 }
 
-/// Whether a full table of two nodes answers a node that is there, and has two nodes then.
-fn asked_when_full(dd: &mut Dd) -> Result<bool, DdErr>
+/// Whether a table tells the node and the function of the conjunction.
+fn tells_its_nodes(dd: &mut Dd) -> Result<bool, DdErr>
+    requires { dd.old.vars ≡ 2 }
+    ensures { dd.new.vars ≡ 2 }
+{
+    let both = both(dd)?;
+    let node = Node {
+        var: 0,
+        lo: Ref(0),
+        hi: Ref(2),
+    };
+    Ok(dd.node(both) == Some(node) && is_conjunction(dd, both))
+}
+
+/// Whether a full table answers what is there, refuses what is not, and has two nodes then.
+fn refuses_one_node_too_many(dd: &mut Dd) -> Result<bool, DdErr>
     requires { dd.old.vars ≡ 2 }
 {
     let there = equal_children(dd)?;
-    Ok(there == Ref(2) && dd.len() == 2)
+    let is_refused = matches!(third(dd), Err(DdErr::Full));
+    Ok(there == Ref(2) && is_refused && dd.len() == 2)
 }
 
-#[test]
-fn finds_what_is_there_when_full(rt: HostRuntime) -> Result<(), Fail> {
-    let mut dd = full(rt.alloc())?;
-    assert!(rt; asked_when_full(&mut dd)?);
-    Ok(())
-}
-
-#[test]
-fn refuses_one_node_too_many(rt: HostRuntime) -> Result<(), Fail> {
-    let mut dd = full(rt.alloc())?;
-    assert_eq!(rt; third(&mut dd), Err(DdErr::Full));
-    assert_eq!(rt; dd.len(), 2);
-    Ok(())
-}
-
-/// A table that holds the two nodes that it has room for.
-fn full(alloc: Global) -> Result<Dd, Fail>
-    ensures { IfOk result (λ dd. dd.vars ≡ 2) }
+/// Whether a new table answers the worked example.
+fn worked_example_agrees(dd: &mut Dd) -> Result<bool, DdErr>
+    requires { dd.old.vars ≡ 2 }
 {
+    Ok(
+        is_new(dd)
+            && makes_a_node_once(dd)?
+            && tells_its_nodes(dd)?
+            && refuses_one_node_too_many(dd)?,
+    )
+}
+
+/// The same, with the table made.
+fn worked_example_agrees_anew(alloc: Global) -> Result<bool, Fail> {
     let mut dd = Dd::new(alloc, 2, 2)?;
-    let second = second(&mut dd)?;
-    dd.mk(0, Ref(0), second)?;
-    Ok(dd)
+    Ok(worked_example_agrees(&mut dd)?)
+}
+
+#[test]
+fn answers_the_worked_example(rt: HostRuntime) -> Result<(), Fail> {
+    one_number_per_function();
+    assert!(rt; worked_example_agrees_anew(rt.alloc())?);
+    Ok(())
 }

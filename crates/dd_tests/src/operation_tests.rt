@@ -1,5 +1,5 @@
 //! A worked example, every operation at every function of three variables, and tables that fill up.
-ghost use Rattle.std.specs.Prelude.{◌≡◌, ◌≤◌, ◌<◌, ◌↔◌, IsTrue, IfOk, All, length};
+ghost use Rattle.std.specs.Prelude.{◌≡◌, ◌≤◌, ◌<◌, ◌↔◌, IsTrue, All};
 ghost use Rattle.dd_nodes.specs.NodeList.{IsNumber};
 
 use dd_nodes::{DdErr, Ref};
@@ -11,11 +11,52 @@ use std::test::Fail;
 /// variables' values.
 const VARIABLES: [u16; 4] = [0xaaaa, 0xcccc, 0xf0f0, 0xff00];
 
-/// A number with the truth table that it has.
+/// A number with the truth table that it should have.
 #[derive(Clone, Copy)]
 struct Known {
     number: Ref,
     table: u16,
+}
+
+const NEVER: Known = Known {
+    number: Ref(0),
+    table: 0,
+};
+
+const ALWAYS: Known = Known {
+    number: Ref(1),
+    table: 0xffff,
+};
+
+/// The operations whose operands are functions alone.
+#[derive(Clone, Copy)]
+enum Operation {
+    And,
+    Or,
+    Minus,
+    Not,
+    Ite,
+}
+
+const OPERATIONS: [Operation; 5] = [
+    Operation::And,
+    Operation::Or,
+    Operation::Minus,
+    Operation::Not,
+    Operation::Ite,
+];
+
+impl Operation {
+    /// The truth table of the answer, by those of the operands that the operation has.
+    fn table(self, f: u16, g: u16, h: u16) -> u16 {
+        match self {
+            Operation::And => f & g,
+            Operation::Or => f | g,
+            Operation::Minus => f & !g,
+            Operation::Not => !f,
+            Operation::Ite => f & g | !f & h,
+        }
+    }
 }
 
 /// Whether a number is in the table.
@@ -39,108 +80,122 @@ fn truth(ops: &Ops, f: Ref) -> Option<u16> {
     Some(table)
 }
 
-/// The number of the function with a truth table of four variables.
-fn build(ops: &mut Ops, table: u16) -> Result<Ref, DdErr>
-    requires { 4 ≤ ops.old.vars }
-    ensures number { IfOk result (λ f. IsNumber ops.new.nodes f.0) }
-    ensures longer { length ops.old.nodes ≤ length ops.new.nodes }
-    ensures vars { ops.new.vars ≡ ops.old.vars }
+/// Whether a number has the truth table that it should have.
+fn is_right(ops: &Ops, f: Known) -> bool {
+    truth(ops, f.number) == Some(f.table)
+}
+
+/// The answer of an operation, by the operands that it has.
+fn answer(ops: &mut Ops, operation: Operation, f: Ref, g: Ref, h: Ref) -> Result<Ref, DdErr>
+    requires f { IsNumber ops.old.nodes f.0 }
+    requires g { IsNumber ops.old.nodes g.0 }
+    requires h { IsNumber ops.old.nodes h.0 }
+    ensures { ops.new.vars ≡ ops.old.vars }
 {
-    let mut f = Ref(0);
+    match operation {
+        Operation::And => ops.and(f, g),
+        Operation::Or => ops.or(f, g),
+        Operation::Minus => ops.minus(f, g),
+        Operation::Not => ops.not(f),
+        Operation::Ite => ops.ite(f, g, h),
+    }
+}
+
+/// The answer of an operation with the truth table that it should have; `None` where an operand is
+/// not in the table.
+fn combine(
+    ops: &mut Ops,
+    operation: Operation,
+    f: Known,
+    g: Known,
+    h: Known,
+) -> Result<Option<Known>, DdErr>
+    ensures { ops.new.vars ≡ ops.old.vars }
+{
+    if !is_number(ops, f.number) || !is_number(ops, g.number) || !is_number(ops, h.number) {
+        return Ok(None);
+    }
+    Ok(Some(Known {
+        number: answer(ops, operation, f.number, g.number, h.number)?,
+        table: operation.table(f.table, g.table, h.table),
+    }))
+}
+
+/// The answer of an operation of two operands or one, which are in the table.
+fn combined(ops: &mut Ops, operation: Operation, f: Known, g: Known) -> Result<Known, Fail>
+    ensures { ops.new.vars ≡ ops.old.vars }
+{
+    let known = combine(ops, operation, f, g, NEVER)?;
+    Ok(known.ok_or("an operand is not in the table")?)
+}
+
+/// The constant true and the first variables, as far as there is room.
+fn start(alloc: Global, ops: &mut Ops) -> Result<Vec<Known>, Fail>
+    requires { 4 ≤ ops.old.vars }
+    ensures { ops.new.vars ≡ ops.old.vars }
+{
+    let mut known = vec![in alloc; ALWAYS]?;
+    for v in 0..4u32 {
+        match ops.var(v) {
+            Ok(number) => known.push(Known {
+                number,
+                table: VARIABLES[v as usize],
+            })?,
+            Err(DdErr::Full) => {}
+            Err(e) => return Err(Fail::from(e)),
+        }
+    }
+    Ok(known)
+}
+
+/// A function of the list that `start` makes: at 0 is the constant, and at 1 the first variable.
+fn at(known: &[Known], place: usize) -> Result<Known, Fail> {
+    Ok(known.get(place).copied().ok_or("a variable is missing")?)
+}
+
+/// The function with a truth table, by the functions of `known`: the disjunction of its states.
+fn build(ops: &mut Ops, known: &[Known], table: u16) -> Result<Known, Fail>
+    ensures { ops.new.vars ≡ ops.old.vars }
+{
+    let mut f = NEVER;
     for state in 0..16u32 {
         if table >> state & 1 == 1 {
-            let here = build_state(ops, state)?;
-            f = ops.or(f, here)?;
+            let here = build_state(ops, known, state)?;
+            f = combined(ops, Operation::Or, f, here)?;
         }
     }
     Ok(f)
 }
 
-/// A function with a variable beside it, or its opposite.
-fn narrow(ops: &mut Ops, f: Ref, v: u32, value: bool) -> Result<Ref, DdErr>
-    requires vars { 4 ≤ ops.old.vars }
-    requires few { v < 4 }
-    requires number { IsNumber ops.old.nodes f.0 }
-    ensures number { IfOk result (λ f. IsNumber ops.new.nodes f.0) }
-    ensures longer { length ops.old.nodes ≤ length ops.new.nodes }
-    ensures vars { ops.new.vars ≡ ops.old.vars }
+/// The function that is true where each function of `known` has the value that it has in a state.
+fn build_state(ops: &mut Ops, known: &[Known], state: u32) -> Result<Known, Fail>
+    requires { state < 16 }
+    ensures { ops.new.vars ≡ ops.old.vars }
 {
-    let x = ops.var(v)?;
-    if value {
-        ops.and(f, x)
-    } else {
-        ops.minus(f, x)
-    }
-}
-
-/// The number of the function that is true in one state of four variables alone.
-fn build_state(ops: &mut Ops, state: u32) -> Result<Ref, DdErr>
-    requires { 4 ≤ ops.old.vars }
-    ensures number { IfOk result (λ f. IsNumber ops.new.nodes f.0) }
-    ensures longer { length ops.old.nodes ≤ length ops.new.nodes }
-    ensures vars { ops.new.vars ≡ ops.old.vars }
-{
-    let mut f = Ref(1);
-    for v in 0..4u32 {
-        f = narrow(ops, f, v, state >> v & 1 == 1)?;
+    let mut f = ALWAYS;
+    for x in known {
+        let operation = if x.table >> state & 1 == 1 {
+            Operation::And
+        } else {
+            Operation::Minus
+        };
+        f = combined(ops, operation, f, *x)?;
     }
     Ok(f)
 }
 
-/// Whether `and` answers by the truth tables of its operands.
-fn conjunction_agrees(ops: &mut Ops, f: Known, g: Known) -> Result<bool, DdErr> {
-    if !is_number(ops, f.number) || !is_number(ops, g.number) {
-        return Ok(false);
+/// The functions of three variables, with their truth tables.
+fn build_all(alloc: Global, ops: &mut Ops, known: &[Known]) -> Result<Vec<Known>, Fail>
+    ensures { ops.new.vars ≡ ops.old.vars }
+{
+    let mut refs = Vec::new(alloc);
+    for table in 0..256u16 {
+        refs.push(Known {
+            number: build(ops, known, table * 257)?.number,
+            table: table * 257,
+        })?;
     }
-    let r = ops.and(f.number, g.number)?;
-    Ok(truth(ops, r) == Some(f.table & g.table))
-}
-
-/// Whether `or` answers by the truth tables of its operands.
-fn disjunction_agrees(ops: &mut Ops, f: Known, g: Known) -> Result<bool, DdErr> {
-    if !is_number(ops, f.number) || !is_number(ops, g.number) {
-        return Ok(false);
-    }
-    let r = ops.or(f.number, g.number)?;
-    Ok(truth(ops, r) == Some(f.table | g.table))
-}
-
-/// Whether `minus` answers by the truth tables of its operands.
-fn difference_agrees(ops: &mut Ops, f: Known, g: Known) -> Result<bool, DdErr> {
-    if !is_number(ops, f.number) || !is_number(ops, g.number) {
-        return Ok(false);
-    }
-    let r = ops.minus(f.number, g.number)?;
-    Ok(truth(ops, r) == Some(f.table & !g.table))
-}
-
-/// Whether `not` answers by the truth table of its operand.
-fn negation_agrees(ops: &mut Ops, f: Known) -> Result<bool, DdErr> {
-    if !is_number(ops, f.number) {
-        return Ok(false);
-    }
-    let r = ops.not(f.number)?;
-    Ok(truth(ops, r) == Some(!f.table))
-}
-
-/// Whether `ite` answers by the truth tables of its operands.
-fn choice_agrees(ops: &mut Ops, f: Known, g: Known, h: Known) -> Result<bool, DdErr> {
-    if !is_number(ops, f.number) || !is_number(ops, g.number) || !is_number(ops, h.number) {
-        return Ok(false);
-    }
-    let r = ops.ite(f.number, g.number, h.number)?;
-    Ok(truth(ops, r) == Some(f.table & g.table | !f.table & h.table))
-}
-
-/// Whether the binary operations, negation and if-then-else answer by the truth tables of their
-/// operands.
-fn agree(ops: &mut Ops, f: Known, g: Known, h: Known) -> Result<bool, DdErr> {
-    let and = conjunction_agrees(ops, f, g)?;
-    let or = disjunction_agrees(ops, f, g)?;
-    let minus = difference_agrees(ops, f, g)?;
-    let not = negation_agrees(ops, f)?;
-    let ite = choice_agrees(ops, f, g, h)?;
-    Ok(and && or && minus && not && ite)
+    Ok(refs)
 }
 
 /// A truth table in which each variable has the value of another truth table.
@@ -160,6 +215,24 @@ fn replaced(table: u16, images: [u16; 4]) -> u16 {
     result
 }
 
+/// A function with a variable fixed, with the truth table that it should have; `None` where it is
+/// not in the table.
+fn fixed(ops: &mut Ops, f: Known, v: u32, value: bool) -> Result<Option<Known>, DdErr>
+    requires few { v < 4 }
+    requires vars { 4 ≤ ops.old.vars }
+    ensures { ops.new.vars ≡ ops.old.vars }
+{
+    if !is_number(ops, f.number) {
+        return Ok(None);
+    }
+    let mut images = VARIABLES;
+    images[v as usize] = if value { 0xffff } else { 0 };
+    Ok(Some(Known {
+        number: ops.cofactor(f.number, v, value)?,
+        table: replaced(f.table, images),
+    }))
+}
+
 /// Whether each entry of a list has a number of the table.
 fn are_numbers(ops: &Ops, map: &[(u32, Ref)]) -> bool
     ensures { IsTrue result → All (λ entry. IsNumber ops.now.nodes entry.1.0) map.now }
@@ -174,113 +247,105 @@ fn replaces(ops: &mut Ops, f: Known, map: &[(u32, Ref)], images: [u16; 4]) -> Re
     if !is_number(ops, f.number) || !are_numbers(ops, map) {
         return Ok(false);
     }
-    let r = ops.subst(f.number, map)?;
-    Ok(truth(ops, r) == Some(replaced(f.table, images)))
-}
-
-/// Whether `cofactor` answers by the truth table of `f` with variable `v` fixed.
-fn fixes(ops: &mut Ops, f: Known, v: u32, value: bool) -> Result<bool, DdErr>
-    requires few { v < 4 }
-    requires vars { 4 ≤ ops.old.vars }
-    ensures { ops.new.vars ≡ ops.old.vars }
-{
-    if !is_number(ops, f.number) {
-        return Ok(false);
-    }
-    let mut images = VARIABLES;
-    images[v as usize] = if value { 0xffff } else { 0 };
-    let r = ops.cofactor(f.number, v, value)?;
-    Ok(truth(ops, r) == Some(replaced(f.table, images)))
-}
-
-/// The functions of three variables, with their truth tables.
-fn build_all(alloc: Global, ops: &mut Ops) -> Result<Vec<Known>, Fail>
-    requires { 4 ≤ ops.old.vars }
-    ensures { ops.new.vars ≡ ops.old.vars }
-{
-    let mut refs = Vec::new(alloc);
-    for table in 0..256u16 {
-        refs.push(Known {
-            number: build(ops, table * 257)?,
-            table: table * 257,
-        })?;
-    }
-    Ok(refs)
-}
-
-/// The number of the conjunction of the first two variables.
-fn conjunction(ops: &mut Ops) -> Result<Ref, DdErr>
-    requires { 2 ≤ ops.old.vars }
-    ensures number { IfOk result (λ f. IsNumber ops.new.nodes f.0) }
-    ensures vars { ops.new.vars ≡ ops.old.vars }
-{
-    let x = ops.var(0)?;
-    let y = ops.var(1)?;
-    ops.and(x, y)
+    let number = ops.subst(f.number, map)?;
+    Ok(is_right(
+        ops,
+        Known {
+            number,
+            table: replaced(f.table, images),
+        },
+    ))
 }
 
 /// Whether a conjunction is its second part where the first is fixed at true.
-fn fixed_conjunction_agrees(ops: &mut Ops) -> Result<bool, DdErr>
-    requires { 2 ≤ ops.old.vars }
+fn fixed_conjunction_agrees(ops: &mut Ops, x: Known, y: Known) -> Result<bool, Fail>
+    requires { 4 ≤ ops.old.vars }
+    ensures { ops.new.vars ≡ ops.old.vars }
 {
-    let y = ops.var(1)?;
-    let both = conjunction(ops)?;
-    Ok(ops.cofactor(both, 0, true)? == y)
+    let both = combined(ops, Operation::And, x, y)?;
+    let second = fixed(ops, both, 0, true)?.ok_or("a conjunction is not in the table")?;
+    Ok(second.number == y.number)
 }
 
 /// Whether nothing of a conjunction is left without one of its parts.
-fn conjunction_without_part_agrees(ops: &mut Ops) -> Result<bool, DdErr>
-    requires { 2 ≤ ops.old.vars }
-{
-    let both = conjunction(ops)?;
-    let y = ops.var(1)?;
-    Ok(ops.minus(both, y)? == Ref(0))
-}
-
-/// The number of "neither of two variables".
-fn neither(ops: &mut Ops) -> Result<Ref, DdErr>
-    requires { 2 ≤ ops.old.vars }
-    ensures number { IfOk result (λ f. IsNumber ops.new.nodes f.0) }
-    ensures vars { ops.new.vars ≡ ops.old.vars }
-{
-    let x = ops.var(0)?;
-    let y = ops.var(1)?;
-    let some = ops.or(x, y)?;
-    ops.not(some)
+fn conjunction_without_part_agrees(ops: &mut Ops, x: Known, y: Known) -> Result<bool, Fail> {
+    let both = combined(ops, Operation::And, x, y)?;
+    let nothing = combined(ops, Operation::Minus, both, y)?;
+    Ok(nothing.number == Ref(0))
 }
 
 /// Whether a variable and "neither" exclude each other.
-fn contradiction_agrees(ops: &mut Ops) -> Result<bool, DdErr>
-    requires { 2 ≤ ops.old.vars }
+fn contradiction_agrees(ops: &mut Ops, x: Known, y: Known) -> Result<bool, Fail> {
+    let some = combined(ops, Operation::Or, x, y)?;
+    let neither = combined(ops, Operation::Not, some, NEVER)?;
+    let nothing = combined(ops, Operation::And, x, neither)?;
+    Ok(nothing.number == Ref(0))
+}
+
+/// Whether the worked example is answered in a table of 100 nodes.
+fn worked_example_agrees(alloc: Global, ops: &mut Ops) -> Result<bool, Fail>
+    requires { 4 ≤ ops.old.vars }
 {
-    let neither = neither(ops)?;
-    let x = ops.var(0)?;
-    Ok(ops.and(x, neither)? == Ref(0))
+    let known = start(alloc, ops)?;
+    let x = at(&known, 1)?;
+    let y = at(&known, 2)?;
+    Ok(
+        ops.table().limit() == 100
+            && fixed_conjunction_agrees(ops, x, y)?
+            && conjunction_without_part_agrees(ops, x, y)?
+            && contradiction_agrees(ops, x, y)?,
+    )
+}
+
+/// The same with a new table.
+fn worked_example_agrees_anew(alloc: Global) -> Result<bool, Fail> {
+    let mut ops = Ops::new(alloc, 4, 100)?;
+    worked_example_agrees(alloc, &mut ops)
 }
 
 #[test]
 fn answers_the_worked_example(rt: HostRuntime) -> Result<(), Fail> {
-    let mut ops = Ops::new(rt.alloc(), 2, 100)?;
-    assert_eq!(rt; ops.table().limit(), 100);
-    assert!(rt; fixed_conjunction_agrees(&mut ops)?);
-    let mut ops = Ops::new(rt.alloc(), 2, 100)?;
-    assert!(rt; conjunction_without_part_agrees(&mut ops)?);
-    let mut ops = Ops::new(rt.alloc(), 2, 100)?;
-    assert!(rt; contradiction_agrees(&mut ops)?);
+    assert!(rt; worked_example_agrees_anew(rt.alloc())?);
     Ok(())
+}
+
+/// Whether each operation answers by the truth tables of its operands.
+fn agree(ops: &mut Ops, f: Known, g: Known, h: Known) -> Result<bool, DdErr> {
+    for operation in OPERATIONS {
+        match combine(ops, operation, f, g, h)? {
+            Some(r) if is_right(ops, r) => {}
+            _ => return Ok(false),
+        }
+    }
+    Ok(true)
+}
+
+/// Whether each operation answers at every function of three variables, each with every other.
+fn all_agree(alloc: Global, ops: &mut Ops) -> Result<bool, Fail>
+    requires { 4 ≤ ops.old.vars }
+{
+    let known = start(alloc, ops)?;
+    let refs = build_all(alloc, ops, &known)?;
+    for (i, f) in refs.iter().enumerate() {
+        let h = refs.get(i / 2).copied().ok_or("a function is missing")?;
+        for g in &refs {
+            if !agree(ops, *f, *g, h)? {
+                return Ok(false);
+            }
+        }
+    }
+    Ok(refs.len() == 256)
+}
+
+/// The same with a new table.
+fn all_agree_anew(alloc: Global) -> Result<bool, Fail> {
+    let mut ops = Ops::new(alloc, 4, 70000)?;
+    all_agree(alloc, &mut ops)
 }
 
 #[test]
 fn answers_at_every_function_of_three_variables(rt: HostRuntime) -> Result<(), Fail> {
-    let mut ops = Ops::new(rt.alloc(), 4, 70000)?;
-    let refs = build_all(rt.alloc(), &mut ops)?;
-    for (i, f) in refs.iter().enumerate() {
-        let h = refs.get(i / 2).copied().ok_or("a function is missing")?;
-        for g in &refs {
-            assert!(rt; agree(&mut ops, *f, *g, h)?);
-        }
-    }
-    assert_eq!(rt; refs.len(), 256);
+    assert!(rt; all_agree_anew(rt.alloc())?);
     Ok(())
 }
 
@@ -302,43 +367,42 @@ fn replaces_in_all(
 }
 
 /// Whether two variables are exchanged.
-fn exchanges_in_all(ops: &mut Ops, refs: &[Known]) -> Result<bool, DdErr>
-    requires { 4 ≤ ops.old.vars }
+fn exchanges_in_all(ops: &mut Ops, refs: &[Known], known: &[Known]) -> Result<bool, Fail>
     ensures { ops.new.vars ≡ ops.old.vars }
 {
-    let x = ops.var(0)?;
-    let y = ops.var(1)?;
-    replaces_in_all(
-        ops,
-        refs,
-        &[(0, y), (1, x)],
-        [0xcccc, 0xaaaa, 0xf0f0, 0xff00],
-    )
+    let x = at(known, 1)?;
+    let y = at(known, 2)?;
+    let map = [(0, y.number), (1, x.number)];
+    Ok(replaces_in_all(ops, refs, &map, [0xcccc, 0xaaaa, 0xf0f0, 0xff00])?)
 }
 
 /// Whether variables are replaced by functions and constants, each by its first entry.
-fn mixes_in_all(ops: &mut Ops, refs: &[Known]) -> Result<bool, DdErr>
-    requires { 4 ≤ ops.old.vars }
+fn mixes_in_all(ops: &mut Ops, refs: &[Known], known: &[Known]) -> Result<bool, Fail>
     ensures { ops.new.vars ≡ ops.old.vars }
 {
-    let y = ops.var(1)?;
-    let z = ops.var(2)?;
-    let both = ops.and(y, z)?;
-    let x = ops.var(0)?;
-    let other = ops.not(x)?;
-    let map = [(0, both), (2, other), (1, Ref(1)), (2, y), (3, z)];
-    replaces_in_all(ops, refs, &map, [0xc0c0, 0xffff, 0x5555, 0xf0f0])
+    let x = at(known, 1)?;
+    let y = at(known, 2)?;
+    let z = at(known, 3)?;
+    let both = combined(ops, Operation::And, y, z)?.number;
+    let other = combined(ops, Operation::Not, x, NEVER)?.number;
+    let map = [
+        (0, both),
+        (2, other),
+        (1, Ref(1)),
+        (2, y.number),
+        (3, z.number),
+    ];
+    Ok(replaces_in_all(ops, refs, &map, [0xc0c0, 0xffff, 0x5555, 0xf0f0])?)
 }
 
 /// Whether variables stay that are replaced by themselves.
-fn stays_in_all(ops: &mut Ops, refs: &[Known]) -> Result<bool, DdErr>
-    requires { 4 ≤ ops.old.vars }
+fn stays_in_all(ops: &mut Ops, refs: &[Known], known: &[Known]) -> Result<bool, Fail>
     ensures { ops.new.vars ≡ ops.old.vars }
 {
-    let x = ops.var(0)?;
-    let z = ops.var(2)?;
-    let map = [(0, x), (1, Ref(0)), (2, z)];
-    replaces_in_all(ops, refs, &map, [0xaaaa, 0, 0xf0f0, 0xff00])
+    let x = at(known, 1)?;
+    let z = at(known, 3)?;
+    let map = [(0, x.number), (1, Ref(0)), (2, z.number)];
+    Ok(replaces_in_all(ops, refs, &map, [0xaaaa, 0, 0xf0f0, 0xff00])?)
 }
 
 /// Whether `cofactor` answers by the truth table of every function of a list.
@@ -348,83 +412,52 @@ fn fixes_in_all(ops: &mut Ops, refs: &[Known], v: u32, value: bool) -> Result<bo
     ensures { ops.new.vars ≡ ops.old.vars }
 {
     for f in refs {
-        if !fixes(ops, *f, v, value)? {
-            return Ok(false);
+        match fixed(ops, *f, v, value)? {
+            Some(r) if is_right(ops, r) => {}
+            _ => return Ok(false),
         }
     }
     Ok(true)
 }
 
-#[test]
-fn replaces_and_fixes_variables(rt: HostRuntime) -> Result<(), Fail> {
-    let mut ops = Ops::new(rt.alloc(), 4, 70000)?;
-    let refs = build_all(rt.alloc(), &mut ops)?;
-    assert!(rt; exchanges_in_all(&mut ops, &refs)?);
-    assert!(rt; mixes_in_all(&mut ops, &refs)?);
-    assert!(rt; stays_in_all(&mut ops, &refs)?);
-    assert!(rt; fixes_in_all(&mut ops, &refs, 1, true)?);
-    assert!(rt; fixes_in_all(&mut ops, &refs, 2, false)?);
-    Ok(())
+/// Whether variables are replaced and fixed in every function of three variables.
+fn all_replaced(alloc: Global, ops: &mut Ops) -> Result<bool, Fail>
+    requires { 4 ≤ ops.old.vars }
+{
+    let known = start(alloc, ops)?;
+    let refs = build_all(alloc, ops, &known)?;
+    Ok(
+        exchanges_in_all(ops, &refs, &known)?
+            && mixes_in_all(ops, &refs, &known)?
+            && stays_in_all(ops, &refs, &known)?
+            && fixes_in_all(ops, &refs, 1, true)?
+            && fixes_in_all(ops, &refs, 2, false)?,
+    )
 }
 
-/// The difference of two numbers or their disjunction, with the truth table that it should have.
-fn combine(ops: &mut Ops, is_difference: bool, f: Known, g: Known) -> Result<Known, DdErr>
-    ensures { ops.new.vars ≡ ops.old.vars }
-{
-    if !is_number(ops, f.number) || !is_number(ops, g.number) {
-        return Ok(f);
-    }
-    if is_difference {
-        let number = ops.minus(f.number, g.number)?;
-        Ok(Known {
-            number,
-            table: f.table & !g.table,
-        })
-    } else {
-        let number = ops.or(f.number, g.number)?;
-        Ok(Known {
-            number,
-            table: f.table | g.table,
-        })
-    }
+/// The same with a new table.
+fn all_replaced_anew(alloc: Global) -> Result<bool, Fail> {
+    let mut ops = Ops::new(alloc, 4, 70000)?;
+    all_replaced(alloc, &mut ops)
+}
+
+#[test]
+fn replaces_and_fixes_variables(rt: HostRuntime) -> Result<(), Fail> {
+    assert!(rt; all_replaced_anew(rt.alloc())?);
+    Ok(())
 }
 
 /// Whether each number still has its truth table.
 fn are_kept(ops: &Ops, known: &[Known]) -> bool {
-    known.iter().all(|k| truth(ops, k.number) == Some(k.table))
-}
-
-/// The values of the four variables, as far as there is room.
-fn start(alloc: Global, ops: &mut Ops) -> Result<Vec<Known>, Fail>
-    requires { 4 ≤ ops.old.vars }
-{
-    let mut known = vec![in alloc;
-        Known {
-            number: Ref(1),
-            table: 0xffff
-        },
-    ]?;
-    for v in 0..4u32 {
-        match ops.var(v) {
-            Ok(number) => known.push(Known {
-                number,
-                table: VARIABLES[v as usize],
-            })?,
-            Err(DdErr::Full) => {}
-            Err(e) => return Err(Fail::from(e)),
-        }
-    }
-    Ok(known)
+    known.iter().all(|f| is_right(ops, *f))
 }
 
 /// Fills a table by operations on four variables, and counts the refusals; `None` where a number
 /// lost its function.
-fn fill(alloc: Global, limit: u32) -> Result<Option<u32>, Fail>
-    requires some { 0 < limit }
-    requires few { limit ≤ 40 }
+fn fill(alloc: Global, ops: &mut Ops) -> Result<Option<u32>, Fail>
+    requires { 4 ≤ ops.old.vars }
 {
-    let mut ops = Ops::new(alloc, 4, limit)?;
-    let mut known = start(alloc, &mut ops)?;
+    let mut known = start(alloc, ops)?;
     let mut refusals = 0u32;
     let mut seed = 1u32;
     for step in 0..200u32 {
@@ -432,13 +465,27 @@ fn fill(alloc: Global, limit: u32) -> Result<Option<u32>, Fail>
         let (Some(f), Some(g)) = (any(&known, seed >> 8), any(&known, seed >> 20)) else {
             return Ok(None);
         };
-        match combine(&mut ops, step % 2 == 0, f, g) {
-            Ok(made) => known.push(made)?,
-            Err(DdErr::Full) if are_kept(&ops, &known) => refusals = refusals.saturating_add(1),
-            Err(_) => return Ok(None),
+        let operation = if step % 2 == 0 {
+            Operation::Minus
+        } else {
+            Operation::Or
+        };
+        match combine(ops, operation, f, g, NEVER) {
+            Ok(Some(made)) => known.push(made)?,
+            Err(DdErr::Full) if are_kept(ops, &known) => refusals = refusals.saturating_add(1),
+            _ => return Ok(None),
         }
     }
     Ok(Some(refusals))
+}
+
+/// The same with a new table.
+fn fill_anew(alloc: Global, limit: u32) -> Result<Option<u32>, Fail>
+    requires some { 0 < limit }
+    requires few { limit ≤ 40 }
+{
+    let mut ops = Ops::new(alloc, 4, limit)?;
+    fill(alloc, &mut ops)
 }
 
 /// The number at a place, counted round and round.
@@ -449,7 +496,7 @@ fn any(known: &[Known], place: u32) -> Option<Known> {
 #[test]
 fn keeps_functions_when_full(rt: HostRuntime) -> Result<(), Fail> {
     for limit in 1..41u32 {
-        let refusals = fill(rt.alloc(), limit)?.ok_or("a number lost its function")?;
+        let refusals = fill_anew(rt.alloc(), limit)?.ok_or("a number lost its function")?;
         assert!(rt; refusals > 0, "at {limit}");
     }
     Ok(())

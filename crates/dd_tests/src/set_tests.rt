@@ -288,12 +288,23 @@ fn all_agree(sets: &mut Sets, known: &[Known]) -> Result<bool, Fail>
     Ok(true)
 }
 
+/// Whether every operation answers at every set over three fluents, each with every other.
+fn every_set_agrees(alloc: Global, sets: &mut Sets) -> Result<bool, Fail>
+    requires { 3 ≤ sets.old.vars }
+{
+    let known = all_sets(alloc, sets)?;
+    Ok(known.len() == 256 && all_agree(sets, &known)?)
+}
+
+/// The same from no set on.
+fn every_set_agrees_anew(alloc: Global) -> Result<bool, Fail> {
+    let mut sets = Sets::new(alloc, 3, 300)?;
+    every_set_agrees(alloc, &mut sets)
+}
+
 #[test]
 fn operations_agree_with_truth_tables(rt: HostRuntime) -> Result<(), Fail> {
-    let mut sets = Sets::new(rt.alloc(), 3, 300)?;
-    let known = all_sets(rt.alloc(), &mut sets)?;
-    assert_eq!(rt; known.len(), 256);
-    assert!(rt; all_agree(&mut sets, &known)?);
+    assert!(rt; every_set_agrees_anew(rt.alloc())?);
     Ok(())
 }
 
@@ -375,19 +386,17 @@ fn grow(
 
 /// Fills a table by joins and complements over four fluents, and counts the refusals; `None` where
 /// a slot lost its set.
-fn fill(alloc: Global, limit: u32) -> Result<Option<u32>, Fail>
-    requires some { 0 < limit }
-    requires few { limit ≤ 40 }
+fn fill(alloc: Global, sets: &mut Sets) -> Result<Option<u32>, Fail>
+    requires { sets.old.vars ≡ 4 }
 {
-    let mut sets = Sets::new(alloc, 4, limit)?;
-    let mut known = start(alloc, &mut sets)?;
+    let mut known = start(alloc, sets)?;
     let mut refusals = 0u32;
     let mut seed = 1u32;
     for step in 0..200u32 {
         seed = seed.wrapping_mul(1664525).wrapping_add(1013904223);
         let count = known.len().max(1);
         let places = ((seed >> 8) as usize % count, (seed >> 20) as usize % count);
-        match grow(&mut sets, &mut known, step % 2 == 0, places)? {
+        match grow(sets, &mut known, step % 2 == 0, places)? {
             Step::Added => {}
             Step::Refused => refusals = refusals.saturating_add(1),
             Step::Lost => return Ok(None),
@@ -396,10 +405,19 @@ fn fill(alloc: Global, limit: u32) -> Result<Option<u32>, Fail>
     Ok(Some(refusals))
 }
 
+/// The same from no set on.
+fn fill_anew(alloc: Global, limit: u32) -> Result<Option<u32>, Fail>
+    requires some { 0 < limit }
+    requires few { limit ≤ 40 }
+{
+    let mut sets = Sets::new(alloc, 4, limit)?;
+    fill(alloc, &mut sets)
+}
+
 #[test]
 fn slots_keep_their_sets_when_full(rt: HostRuntime) -> Result<(), Fail> {
     for limit in 1..41u32 {
-        let refusals = fill(rt.alloc(), limit)?.ok_or("a slot lost its set")?;
+        let refusals = fill_anew(rt.alloc(), limit)?.ok_or("a slot lost its set")?;
         assert!(rt; refusals > 0, "at {limit}");
     }
     Ok(())

@@ -1,11 +1,6 @@
--- The number so far is in the table, which only grows.
-use Rattle.std.proofs.Common.{◌≡◌, ◌≤◌, length}
-use Rattle.dd_nodes.specs.NodeList.{IsNumber}
+-- The table keeps its variables.
+use Rattle.std.proofs.Common.{◌≡◌}
 use Rattle.dd_tests.proofs.operation_tests.build_state.Given as goal
 
-abbrev pub invariant-loop-v : goal.invariant-loop-v
-invariant-loop-v l = record {
-  number : IsNumber l.ops.nodes l.f.0;
-  longer : length l.initial.ops.nodes ≤ length l.ops.nodes;
-  vars : l.ops.vars ≡ l.initial.ops.vars;
-}
+abbrev pub invariant-loop-x : goal.invariant-loop-x
+invariant-loop-x l = l.ops.vars ≡ l.initial.ops.vars

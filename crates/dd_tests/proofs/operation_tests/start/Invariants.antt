@@ -1,6 +1,6 @@
 -- The table keeps its variables.
-use Rattle.std.proofs.Common.{◌≤◌}
+use Rattle.std.proofs.Common.{◌≡◌}
 use Rattle.dd_tests.proofs.operation_tests.start.Given as goal
 
 abbrev pub invariant-loop-v : goal.invariant-loop-v
-invariant-loop-v l = 4 ≤ l.ops.vars
+invariant-loop-v l = l.ops.vars ≡ l.initial.ops.vars
