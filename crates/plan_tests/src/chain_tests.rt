@@ -134,9 +134,12 @@ fn rules_by_turns(
     Ok(rules_found(alloc, &lamp, &chain, limit)?)
 }
 
-/// Whether a rule has this context, cube, action and next context. The cube asks for the lamp to be
-/// on, or off, or matches always.
-fn is_rule(rule: &AutoRule, context: u32, lit: Option<bool>, action: u32, next: u32) -> bool {
+/// What a rule should have: its context, a cube that asks for the lamp to be on or off or for
+/// nothing, its action and its next context.
+type Wanted = (u32, Option<bool>, u32, u32);
+
+/// Whether a rule is as wanted.
+fn is_rule(rule: &AutoRule, (context, lit, action, next): Wanted) -> bool {
     let same_next = match rule.next {
         Next::One(context) => context == next,
         Next::Cases(_) => false,
@@ -148,12 +151,41 @@ fn is_rule(rule: &AutoRule, context: u32, lit: Option<bool>, action: u32, next: 
     rule.context == context && rule.action == ActionId(action) && same_next && same_cube
 }
 
+/// Whether the last of so many rules are as wanted, in this order.
+fn end_as(rules: &[AutoRule], count: usize, wanted: &[Wanted]) -> bool {
+    if rules.len() != count || wanted.len() > count {
+        return false;
+    }
+    for (i, want) in wanted.iter().enumerate() {
+        match rules.get(count - wanted.len() + i) {
+            Some(rule) if is_rule(rule, *want) => {}
+            _ => return false,
+        }
+    }
+    true
+}
+
+/// Whether the plan for stages by turns has so many rules, of which the last are as wanted.
+fn plan_ends_as(
+    alloc: Global,
+    stages: u32,
+    keep: Cond,
+    count: usize,
+    wanted: &[Wanted],
+) -> Result<bool, Fail>
+    requires few { stages ≤ 32 }
+    requires keep { IsConditionOver 1 keep }
+{
+    match rules_by_turns(alloc, stages, keep, 1000)? {
+        Some(rules) => Ok(end_as(&rules, count, wanted)),
+        None => Ok(false),
+    }
+}
+
 // Without stages, the first action that keeps what always holds.
 #[test]
 fn keeps_what_always_holds(rt: HostRuntime) -> Result<(), Fail> {
-    let rules = rules_by_turns(rt.alloc(), 0, Cond::Yes, 1000)?.expect(&rt, "a plan");
-    assert_eq!(rt; rules.len(), 1);
-    assert!(rt; is_rule(&rules[0], 1, None, 0, 1));
+    assert!(rt; plan_ends_as(rt.alloc(), 0, Cond::Yes, 1, &[(1, None, 0, 1)])?);
     Ok(())
 }
 
@@ -161,47 +193,49 @@ fn keeps_what_always_holds(rt: HostRuntime) -> Result<(), Fail> {
 #[test]
 fn keeps_the_lamp_on_after_a_stage(rt: HostRuntime) -> Result<(), Fail> {
     let alloc = rt.alloc();
-    let none = rules_by_turns(alloc, 0, lamp_is(alloc, true)?, 1000)?;
-    assert!(rt; none.is_none());
-    let rules = rules_by_turns(alloc, 1, lamp_is(alloc, true)?, 1000)?.expect(&rt, "a plan");
-    assert_eq!(rt; rules.len(), 3);
-    assert!(rt; is_rule(&rules[0], 1, Some(false), 0, 1));
-    assert!(rt; is_rule(&rules[1], 1, Some(true), 0, 2));
-    assert!(rt; is_rule(&rules[2], 2, Some(true), 0, 2));
+    assert!(rt; rules_by_turns(alloc, 0, lamp_is(alloc, true)?, 1000)?.is_none());
+    let wanted = [
+        (1, Some(false), 0, 1),
+        (1, Some(true), 0, 2),
+        (2, Some(true), 0, 2),
+    ];
+    assert!(rt; plan_ends_as(alloc, 1, lamp_is(alloc, true)?, 3, &wanted)?);
     Ok(())
 }
 
 // On, then off: where the lamp is on, the first context turns to the second stage.
 #[test]
 fn meets_two_stages(rt: HostRuntime) -> Result<(), Fail> {
-    let rules = rules_by_turns(rt.alloc(), 2, Cond::Yes, 1000)?.expect(&rt, "a plan");
-    assert_eq!(rt; rules.len(), 5);
-    assert!(rt; is_rule(&rules[0], 1, Some(false), 0, 1));
-    assert!(rt; is_rule(&rules[1], 1, Some(true), 1, 2));
-    assert!(rt; is_rule(&rules[2], 2, Some(true), 1, 2));
-    assert!(rt; is_rule(&rules[3], 2, Some(false), 0, 3));
-    assert!(rt; is_rule(&rules[4], 3, None, 0, 3));
+    let wanted = [
+        (1, Some(false), 0, 1),
+        (1, Some(true), 1, 2),
+        (2, Some(true), 1, 2),
+        (2, Some(false), 0, 3),
+        (3, None, 0, 3),
+    ];
+    assert!(rt; plan_ends_as(rt.alloc(), 2, Cond::Yes, 5, &wanted)?);
     Ok(())
 }
 
 // As many stages as there may be: two rules a stage, and one for the end.
 #[test]
 fn meets_thirty_two_stages(rt: HostRuntime) -> Result<(), Fail> {
-    let rules = rules_by_turns(rt.alloc(), 32, Cond::Yes, 1000)?.expect(&rt, "a plan");
-    assert_eq!(rt; rules.len(), 65);
-    assert!(rt; is_rule(&rules[63], 32, Some(false), 0, 33));
-    assert!(rt; is_rule(&rules[64], 33, None, 0, 33));
+    let wanted = [(32, Some(false), 0, 33), (33, None, 0, 33)];
+    assert!(rt; plan_ends_as(rt.alloc(), 32, Cond::Yes, 65, &wanted)?);
     Ok(())
 }
 
-// A table without room for the lamp's one fluent beside another set, and one with it.
-#[test]
-fn is_full_in_the_smallest_table_alone(rt: HostRuntime) -> Result<(), Fail> {
-    let alloc = rt.alloc();
+/// Whether a table without room for the lamp's one fluent beside another set is too small, and one
+/// with it is not.
+fn only_the_smallest_is_full(alloc: Global) -> Result<bool, Fail> {
     let lamp = lamp(alloc)?;
     let chain = chain_of(alloc, 2, Cond::Yes)?;
-    let small = rules_found(alloc, &lamp, &chain, 1);
-    assert!(rt; matches!(small, Err(SetErr::Full)));
-    assert!(rt; rules_found(alloc, &lamp, &chain, 2)?.is_some());
+    let is_full = matches!(rules_found(alloc, &lamp, &chain, 1), Err(SetErr::Full));
+    Ok(is_full && rules_found(alloc, &lamp, &chain, 2)?.is_some())
+}
+
+#[test]
+fn is_full_in_the_smallest_table_alone(rt: HostRuntime) -> Result<(), Fail> {
+    assert!(rt; only_the_smallest_is_full(rt.alloc())?);
     Ok(())
 }

@@ -97,41 +97,62 @@ fn hazard(alloc: Global) -> Result<Task, Fail>
     task(alloc, vec![in alloc; wait, risk, retry]?)
 }
 
+/// Whether the plan of the hazard is to try, where it is neither done nor dead.
+fn plan_is_to_try(alloc: Global) -> Result<bool, Fail> {
+    match rules_found(alloc, &hazard(alloc)?, 1000)? {
+        Some(rules) => Ok(rules.len() == 1 && is_to_try(&rules[0])),
+        None => Ok(false),
+    }
+}
+
+/// Whether a rule is to try, where it is neither done nor dead.
+fn is_to_try(rule: &Rule) -> bool {
+    rule.action == ActionId(2)
+        && rule.cube.len() == 2
+        && !rule.cube[0].positive
+        && !rule.cube[1].positive
+}
+
 // Waiting makes no progress, and who takes the risk may be dead.
 #[test]
 fn tries_until_it_is_done(rt: HostRuntime) -> Result<(), Fail> {
-    let alloc = rt.alloc();
-    let hazard = hazard(alloc)?;
-    let rules = rules_found(alloc, &hazard, 1000)?.expect(&rt, "a plan");
-    assert_eq!(rt; rules.len(), 1);
-    assert_eq!(rt; rules[0].action, ActionId(2));
-    assert_eq!(rt; rules[0].cube.len(), 2);
-    assert!(rt; !rules[0].cube[0].positive && !rules[0].cube[1].positive);
+    assert!(rt; plan_is_to_try(rt.alloc())?);
     Ok(())
+}
+
+/// Whether there is a plan where the one action is to wait.
+fn waiting_has_a_plan(alloc: Global) -> Result<bool, Fail> {
+    let wait = action(alloc, "wait", vec![in alloc; nothing(alloc)]?)?;
+    let wheel = task(alloc, vec![in alloc; wait]?)?;
+    Ok(rules_found(alloc, &wheel, 1000)?.is_some())
 }
 
 #[test]
 fn has_no_plan_without_progress(rt: HostRuntime) -> Result<(), Fail> {
-    let alloc = rt.alloc();
-    let wait = action(alloc, "wait", vec![in alloc; nothing(alloc)]?)?;
-    let wheel = task(alloc, vec![in alloc; wait]?)?;
-    assert!(rt; rules_found(alloc, &wheel, 1000)?.is_none());
+    assert!(rt; !waiting_has_a_plan(rt.alloc())?);
     Ok(())
+}
+
+/// The greatest limit below 16 with which there is no room for the plan of the hazard; each greater
+/// one finds it.
+fn last_full(alloc: Global) -> Result<u32, Fail> {
+    let hazard = hazard(alloc)?;
+    let mut full = 0;
+    for limit in 1..16u32 {
+        match rules_found(alloc, &hazard, limit) {
+            Ok(Some(_)) => {}
+            Ok(None) => return Err("no plan".into()),
+            Err(SetErr::Full) => full = limit,
+            Err(e) => return Err(Fail::from(e)),
+        }
+    }
+    Ok(full)
 }
 
 // Tables too small for the task's sets, for the search, and large enough.
 #[test]
 fn is_full_in_small_tables_alone(rt: HostRuntime) -> Result<(), Fail> {
-    let alloc = rt.alloc();
-    let hazard = hazard(alloc)?;
-    let mut full = 0;
-    for limit in 1..16 {
-        match rules_found(alloc, &hazard, limit) {
-            Ok(rules) => assert!(rt; rules.is_some()),
-            Err(SetErr::Full) => full = limit,
-            Err(SetErr::Memory) => assert!(rt; false),
-        }
-    }
+    let full = last_full(rt.alloc())?;
     assert!(rt; 0 < full && full < 15);
     Ok(())
 }

@@ -132,12 +132,18 @@ fn kept_tables(task: &Task, enc: &Enc) -> [u8; 3]
     }
 }
 
+/// The sets of the task that are kept, and those of the values after each outcome.
+fn task_tables(alloc: Global) -> Result<([u8; 3], [u8; 4]), Fail> {
+    let task = slip(alloc)?.ok_or("no task")?;
+    let enc = encode(alloc, &task, 100)?;
+    Ok((kept_tables(&task, &enc), next_tables(&task, &enc)))
+}
+
 #[test]
 fn answers_the_worked_example(rt: HostRuntime) -> Result<(), Fail> {
-    let task = slip(rt.alloc())?.ok_or("no task")?;
-    let enc = encode(rt.alloc(), &task, 100)?;
-    assert_eq!(rt; kept_tables(&task, &enc), [0b1010, 0b1100, 0b0010]);
-    assert_eq!(rt; next_tables(&task, &enc), [0b0000, 0b1111, 0b1010, 0b1100]);
+    let (kept, next) = task_tables(rt.alloc())?;
+    assert_eq!(rt; kept, [0b1010, 0b1100, 0b0010]);
+    assert_eq!(rt; next, [0b0000, 0b1111, 0b1010, 0b1100]);
     Ok(())
 }
 
@@ -155,16 +161,25 @@ fn made_tables(task: &Task, enc: &mut Enc, cond: &Cond) -> Result<[u8; 2], Fail>
     Ok([table(enc.sets(), held), table(enc.sets(), led)])
 }
 
+/// The same for the task's own goal.
+fn goal_tables(alloc: Global) -> Result<[u8; 2], Fail> {
+    let task = slip(alloc)?.ok_or("no task")?;
+    let mut enc = encode(alloc, &task, 100)?;
+    match task.goal.as_ref() {
+        Some(goal) => made_tables(&task, &mut enc, goal),
+        None => Ok([0; 2]),
+    }
+}
+
+/// Whether a table of one node is too small for the task.
+fn is_too_small(alloc: Global) -> Result<bool, Fail> {
+    let task = slip(alloc)?.ok_or("no task")?;
+    Ok(matches!(encode(alloc, &task, 1), Err(SetErr::Full)))
+}
+
 #[test]
 fn answers_the_worked_calls(rt: HostRuntime) -> Result<(), Fail> {
-    let task = slip(rt.alloc())?.ok_or("no task")?;
-    let mut enc = encode(rt.alloc(), &task, 100)?;
-    let tables = match task.goal.as_ref() {
-        Some(goal) => made_tables(&task, &mut enc, goal)?,
-        None => [0; 2],
-    };
-    assert_eq!(rt; tables, [0b1100, 0b1111]);
-    let is_full = matches!(encode(rt.alloc(), &task, 1), Err(SetErr::Full));
-    assert!(rt; is_full);
+    assert_eq!(rt; goal_tables(rt.alloc())?, [0b1100, 0b1111]);
+    assert!(rt; is_too_small(rt.alloc())?);
     Ok(())
 }

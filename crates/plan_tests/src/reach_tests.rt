@@ -195,24 +195,25 @@ const SAMPLES: &[Sample<'static>] = &[
     },
 ];
 
+/// The texts of the weak and the strong plan of a sample; empty where there is none.
+fn texts(alloc: Global, sample: &Sample) -> Result<(String, String), Fail> {
+    let task = task(alloc, sample.free, sample.goal, sample.actions)?;
+    Ok((text(alloc, &task, false)?, text(alloc, &task, true)?))
+}
+
 #[test]
 fn prints_the_plans_of_small_tasks(rt: HostRuntime) -> Result<(), Fail> {
-    let alloc = rt.alloc();
     for sample in SAMPLES {
-        let task = task(alloc, sample.free, sample.goal, sample.actions)?;
-        let weak = text(alloc, &task, false)?;
+        let (weak, strong) = texts(rt.alloc(), sample)?;
         assert_eq!(rt; weak.as_str(), sample.weak);
-        let strong = text(alloc, &task, true)?;
         assert_eq!(rt; strong.as_str(), sample.strong);
     }
     Ok(())
 }
 
-// With a limit on nodes that rises, there is first no room for the sets of the task, then none for
-// the planner, and then there is a plan.
-#[test]
-fn finds_no_room_in_small_tables(rt: HostRuntime) -> Result<(), Fail> {
-    let alloc = rt.alloc();
+/// Whether the planner finds no room with some limit on nodes below 40, and whether it finds a plan
+/// with some.
+fn small_tables(alloc: Global) -> Result<(bool, bool), Fail> {
     let task = task(alloc, false, "P", &[&["", "P", "Q"], &["Q", "P"]])?;
     let mut refused = false;
     let mut found = false;
@@ -225,6 +226,14 @@ fn finds_no_room_in_small_tables(rt: HostRuntime) -> Result<(), Fail> {
             }
         }
     }
+    Ok((refused, found))
+}
+
+// With a limit on nodes that rises, there is first no room for the sets of the task, then none for
+// the planner, and then there is a plan.
+#[test]
+fn finds_no_room_in_small_tables(rt: HostRuntime) -> Result<(), Fail> {
+    let (refused, found) = small_tables(rt.alloc())?;
     assert!(rt; refused, "there is no room");
     assert!(rt; found, "there is room");
     Ok(())
