@@ -156,12 +156,3 @@ module _ (t0 t1 t2 : NodeTable) (table0 : IsNodeTable t0) (table1 : IsNodeTable 
       ∙ test_is values
       ∙ ap (λ (w : Values). w node.var) (sym (replaced_extends t0.nodes t2.nodes all t0.vars table0.reduced map numbers values)))
       r answer
-
--- a memo's numbers stay right through the calls for a node
-module _ (t0 t1 t2 t3 : NodeTable) (table0 : IsNodeTable t0) (table1 : IsNodeTable t1) (table2 : IsNodeTable t2) (first : Keeps t0 t1) (second : Keeps t1 t2) (third : Keeps t2 t3)
-    (map : List (ℕ × Ref)) (numbers : AreNumbers t0.nodes map) where
-  pub memo_later : (entries : List (Ref × Ref)) → RemembersReplaced t2.nodes map entries → RemembersReplaced t3.nodes map entries
-  memo_later entries remembers =
-      remembers_replaced_extends t2.nodes t3.nodes third.nodes t2.vars table2.reduced map
-      (numbers_extend t1.nodes t2.nodes second.nodes t1.vars table1.reduced map (numbers_extend t0.nodes t1.nodes first.nodes t0.vars table0.reduced map numbers))
-      entries remembers

@@ -78,6 +78,38 @@ fn replace(
     }
     let lo = replace(dd, questions, memo, node.lo, images)?;
     let hi = replace(dd, questions, memo, node.hi, images)?;
+    remember_choice(dd, questions, memo, images, f, node, lo, hi)
+}
+
+/// The number of a node's function with each variable of `images` replaced, by those of the node's
+/// children, which is remembered.
+fn remember_choice(
+    dd: &mut Dd,
+    questions: &mut IndexMap<Question, Ref>,
+    memo: &mut IndexMap<Ref, Ref>,
+    images: &Replacements,
+    f: Ref,
+    node: Node,
+    lo: Ref,
+    hi: Ref,
+) -> Result<Ref, DdErr>
+    requires table { IsNodeTable dd.old }
+    requires node { node_at dd.old.nodes f.0 ≡ Some node }
+    requires images { IsIndexed dd.old.nodes images.now.map.now images.now.by_var.items }
+    requires lo { IsReplaced dd.old.nodes images.now.map.now node.lo.0 lo.0 }
+    requires hi { IsReplaced dd.old.nodes images.now.map.now node.hi.0 hi.0 }
+    requires questions { Remembers dd.old.nodes questions.old.entries }
+    requires memo { RemembersReplaced dd.old.nodes images.now.map.now memo.old.entries }
+    ensures answer { IfOk result (λ r. IsReplaced dd.new.nodes images.now.map.now f.0 r.0) }
+    ensures kept { Keeps dd.old dd.new }
+    ensures table { IsNodeTable dd.new }
+    ensures questions { Remembers dd.new.nodes questions.new.entries }
+    ensures memo { RemembersReplaced dd.new.nodes images.now.map.now memo.new.entries }
+    ensures adds { AddsParts dd.old.vars (pieces_of_subst dd.old.vars dd.old.nodes
+        images.now.map.now f.0) dd.old.nodes dd.new.nodes }
+    ensures full { IsErrOf result DdErr.Full → IsFullFor
+        (pieces_of_subst dd.old.vars dd.old.nodes images.now.map.now f.0) dd.new }
+{
     let r = choose(dd, questions, images, f, node, lo, hi)?;
     remember_number(memo, f, r)?;
     Ok(r)

@@ -9,7 +9,7 @@ use Rattle.dd_ops.specs.Answers.{level_of}
 use Rattle.dd_ops.proofs.CofactorLemmas.{hi_smaller, hi_later, node_later}
 use Rattle.dd_ops.proofs.ReplacedLemmas.{indexed_extends, followed_answer, followed_adds, followed_full}
 use Rattle.dd_ops.proofs.ValueLemmas.{ok_then}
-use Rattle.dd_ops.proofs.SubstLemmas.{numbers_extend, is_replaced_extends, memo_later, replaced_remembered}
+use Rattle.dd_ops.proofs.SubstLemmas.{numbers_extend, is_replaced_extends}
 use Rattle.dd_nodes.specs.declared.node.DdErr.TheVariants.{Full}
 use Rattle.dd_ops.proofs.ErrorLemmas.{passed_on}
 use Rattle.dd_ops.proofs.GrowthReplaced.{replaced_lo_adds, replaced_lo_full, replaced_hi_adds, replaced_hi_full, replaced_rest_adds, replaced_rest_full}
@@ -28,8 +28,8 @@ pub returns-in-Some-follow-clause-full : goal.returns-in-Some-follow-clause-full
 returns-in-Some-follow-clause-full t c is = followed_full c.args.dd.now c.requires.table c.args.images.now.map.now c.requires.images.numbers c.args.f.0 c.in-Some.node c.in-Some.ensures.node
     c.in-Some-follow.child (subst (λ (o : Option Ref). Follows c.in-Some.node o c.in-Some-follow.child) c.get-image.ensures c.in-Some-follow.ensures) c.replace.new.dd c.replace.ensures.kept (c.replace.ensures.full is)
 
-pub choose-requires-clause-images : goal.choose-requires-clause-images
-choose-requires-clause-images t c =
+pub remember_choice-requires-clause-images : goal.remember_choice-requires-clause-images
+remember_choice-requires-clause-images t c =
     indexed_extends c.args.dd.now.nodes c.replace-3.new.dd.nodes (extends_more c.args.dd.now.nodes c.replace-2.new.dd.nodes c.replace-3.new.dd.nodes c.in_ok-lo.ensures.kept.nodes c.in_ok-hi.ensures.kept.nodes)
     c.args.dd.now.vars c.requires.table.reduced c.args.images.now.map.now c.args.images.now.by_var.items c.requires.images
 
@@ -54,35 +54,16 @@ replace-requires-3 t c =
       ),
     )
 
-pub choose-requires-clause-node : goal.choose-requires-clause-node
-choose-requires-clause-node t c =
+pub remember_choice-requires-clause-node : goal.remember_choice-requires-clause-node
+remember_choice-requires-clause-node t c =
     node_later c.args.dd.now c.requires.table c.args.f.0 c.in-Some.node (c.in-Some.ensures.node) c.replace-3.new.dd.nodes
     (extends_more c.args.dd.now.nodes c.replace-2.new.dd.nodes c.replace-3.new.dd.nodes c.in_ok-lo.ensures.kept.nodes c.in_ok-hi.ensures.kept.nodes)
 
-pub choose-requires-clause-lo : goal.choose-requires-clause-lo
-choose-requires-clause-lo t c =
+pub remember_choice-requires-clause-lo : goal.remember_choice-requires-clause-lo
+remember_choice-requires-clause-lo t c =
     is_replaced_extends c.replace-2.new.dd.nodes c.replace-3.new.dd.nodes c.in_ok-hi.ensures.kept.nodes c.replace-2.new.dd.vars c.in_ok-lo.ensures.table.reduced c.args.images.now.map.now
     (numbers_extend c.args.dd.now.nodes c.replace-2.new.dd.nodes c.in_ok-lo.ensures.kept.nodes c.args.dd.now.vars c.requires.table.reduced c.args.images.now.map.now c.requires.images.numbers)
     c.in-Some.node.lo.0 c.in_ok-lo.lo.0 c.in_ok-lo.ensures.answer
-
-pub returns-in_err-r-clause-memo : goal.returns-in_err-r-clause-memo
-returns-in_err-r-clause-memo t c =
-    memo_later c.args.dd.now c.replace-2.new.dd c.replace-3.new.dd c.choose.new.dd c.requires.table c.in_ok-lo.ensures.table c.in_ok-hi.ensures.table
-    c.in_ok-lo.ensures.kept c.in_ok-hi.ensures.kept c.choose.ensures.kept c.args.images.now.map.now c.requires.images.numbers c.replace-3.new.memo.entries c.in_ok-hi.ensures.memo
-
-pub returns-in_err-remember_number-clause-memo : goal.returns-in_err-remember_number-clause-memo
-returns-in_err-remember_number-clause-memo t c =
-    replaced_remembered c.choose.new.dd.nodes c.args.images.now.map.now c.replace-3.new.memo.entries c.remember_number.new.memo.entries c.args.f c.in_ok-r.r c.remember_number.ensures.entries
-    (memo_later c.args.dd.now c.replace-2.new.dd c.replace-3.new.dd c.choose.new.dd c.requires.table c.in_ok-lo.ensures.table c.in_ok-hi.ensures.table
-    c.in_ok-lo.ensures.kept c.in_ok-hi.ensures.kept c.choose.ensures.kept c.args.images.now.map.now c.requires.images.numbers c.replace-3.new.memo.entries c.in_ok-hi.ensures.memo)
-    c.in_ok-r.ensures.answer
-
-pub returns-clause-memo : goal.returns-clause-memo
-returns-clause-memo t c =
-    replaced_remembered c.choose.new.dd.nodes c.args.images.now.map.now c.replace-3.new.memo.entries c.remember_number.new.memo.entries c.args.f c.in_ok-r.r c.remember_number.ensures.entries
-    (memo_later c.args.dd.now c.replace-2.new.dd c.replace-3.new.dd c.choose.new.dd c.requires.table c.in_ok-lo.ensures.table c.in_ok-hi.ensures.table
-    c.in_ok-lo.ensures.kept c.in_ok-hi.ensures.kept c.choose.ensures.kept c.args.images.now.map.now c.requires.images.numbers c.replace-3.new.memo.entries c.in_ok-hi.ensures.memo)
-    c.in_ok-r.ensures.answer
 
 pub returns-in_err-lo-clause-adds : goal.returns-in_err-lo-clause-adds
 returns-in_err-lo-clause-adds t c = replaced_lo_adds c.args.images.now.map.now c.args.dd.now c.requires.table c.requires.images.numbers c.args.f.0 c.in-Some.node (c.in-Some.ensures.node)
@@ -100,18 +81,10 @@ pub returns-in_err-hi-clause-full : goal.returns-in_err-hi-clause-full
 returns-in_err-hi-clause-full t c is = replaced_hi_full c.args.images.now.map.now c.args.dd.now c.requires.table c.requires.images.numbers c.args.f.0 c.in-Some.node (c.in-Some.ensures.node)
     c.replace-2.new.dd c.replace-2.ensures.kept c.replace-2.ensures.adds c.replace-3.new.dd c.replace-3.ensures.kept (c.in_err-hi.ensures.full (passed_on c.from_residual-in_err-hi.result c.in_err-hi.field-0.0 Full c.from_residual-in_err-hi.ensures.1 is))
 
-pub returns-in_err-r-clause-adds : goal.returns-in_err-r-clause-adds
-returns-in_err-r-clause-adds t c = replaced_rest_adds c.args.images.now.map.now c.args.dd.now c.requires.table c.requires.images.numbers c.args.f.0 c.in-Some.node (c.in-Some.ensures.node)
-    c.replace-2.new.dd c.replace-2.ensures.kept c.replace-2.ensures.adds c.replace-3.new.dd c.replace-3.ensures.kept c.replace-3.ensures.adds c.choose.new.dd c.choose.ensures.adds
-
-pub returns-in_err-r-clause-full : goal.returns-in_err-r-clause-full
-returns-in_err-r-clause-full t c is = replaced_rest_full c.args.images.now.map.now c.args.dd.now c.requires.table c.requires.images.numbers c.args.f.0 c.in-Some.node (c.in-Some.ensures.node)
-    c.replace-2.new.dd c.replace-2.ensures.kept c.replace-2.ensures.adds c.replace-3.new.dd c.replace-3.ensures.kept c.replace-3.ensures.adds c.choose.new.dd c.choose.ensures.kept.vars (c.in_err-r.ensures.full (passed_on c.from_residual-in_err-r.result c.in_err-r.field-0.0 Full c.from_residual-in_err-r.ensures.1 is))
-
-pub returns-in_err-remember_number-clause-adds : goal.returns-in_err-remember_number-clause-adds
-returns-in_err-remember_number-clause-adds t c = replaced_rest_adds c.args.images.now.map.now c.args.dd.now c.requires.table c.requires.images.numbers c.args.f.0 c.in-Some.node (c.in-Some.ensures.node)
-    c.replace-2.new.dd c.replace-2.ensures.kept c.replace-2.ensures.adds c.replace-3.new.dd c.replace-3.ensures.kept c.replace-3.ensures.adds c.choose.new.dd c.choose.ensures.adds
-
 pub returns-clause-adds : goal.returns-clause-adds
 returns-clause-adds t c = replaced_rest_adds c.args.images.now.map.now c.args.dd.now c.requires.table c.requires.images.numbers c.args.f.0 c.in-Some.node (c.in-Some.ensures.node)
-    c.replace-2.new.dd c.replace-2.ensures.kept c.replace-2.ensures.adds c.replace-3.new.dd c.replace-3.ensures.kept c.replace-3.ensures.adds c.choose.new.dd c.choose.ensures.adds
+    c.replace-2.new.dd c.replace-2.ensures.kept c.replace-2.ensures.adds c.replace-3.new.dd c.replace-3.ensures.kept c.replace-3.ensures.adds c.remember_choice.new.dd c.remember_choice.ensures.adds
+
+pub returns-clause-full : goal.returns-clause-full
+returns-clause-full t c is = replaced_rest_full c.args.images.now.map.now c.args.dd.now c.requires.table c.requires.images.numbers c.args.f.0 c.in-Some.node (c.in-Some.ensures.node)
+    c.replace-2.new.dd c.replace-2.ensures.kept c.replace-2.ensures.adds c.replace-3.new.dd c.replace-3.ensures.kept c.replace-3.ensures.adds c.remember_choice.new.dd c.remember_choice.ensures.kept.vars (c.remember_choice.ensures.full is)
