@@ -7,6 +7,7 @@ use Rattle.dd_ops.specs.Answers.{level_of}
 use Rattle.dd_ops.proofs.CofactorLemmas.{hi_smaller, hi_later, node_later, cofactor_extends}
 use Rattle.dd_nodes.specs.declared.node.DdErr.TheVariants.{Full}
 use Rattle.dd_ops.proofs.ErrorLemmas.{passed_on}
+use Rattle.dd_ops.proofs.HalvesLemmas.{keeps_more}
 use Rattle.dd_ops.proofs.GrowthFixed.{fixed_lo_adds, fixed_lo_full, fixed_hi_adds, fixed_hi_full, fixed_rest_adds, fixed_rest_full}
 use Rattle.dd_ops.proofs.cofactor.+fix.Goals as goal
 
@@ -56,3 +57,10 @@ returns-clause-adds t c = fixed_rest_adds c.args.dd.now c.requires.table c.args.
 pub returns-clause-full : goal.returns-clause-full
 returns-clause-full t c is = fixed_rest_full c.args.dd.now c.requires.table c.args.f.0 c.in-Some.node (sym c.in-Some.ensures.node) c.args.v c.args.value c.if-node-v.true
     c.fix.new.dd c.fix.ensures.kept c.fix.ensures.adds c.fix-2.new.dd c.fix-2.ensures.kept c.fix-2.ensures.adds c.join_fixed.new.dd (c.join_fixed.ensures.full is)
+
+pub returns-in_err-hi-clause-kept : goal.returns-in_err-hi-clause-kept
+returns-in_err-hi-clause-kept t c = keeps_more c.args.dd.now c.fix.new.dd c.fix-2.new.dd c.fix.ensures.kept c.fix-2.ensures.kept
+
+pub returns-clause-kept : goal.returns-clause-kept
+returns-clause-kept t c = keeps_more c.args.dd.now c.fix.new.dd c.join_fixed.new.dd c.fix.ensures.kept
+    (keeps_more c.fix.new.dd c.fix-2.new.dd c.join_fixed.new.dd c.fix-2.ensures.kept c.join_fixed.ensures.kept)

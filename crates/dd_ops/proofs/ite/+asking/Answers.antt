@@ -108,3 +108,7 @@ answer_open-returns-clause-full t c is =
     full_rest c.args.dd.now c.requires.table c.args.q c.requires.asked c.requires.tests c.halve-halves.result.var c.halve-halves.ensures.top
     c.halve-halves.result.lo c.halve-halves.ensures.lo c.answer.new.dd c.answer.ensures.kept c.answer.ensures.adds
     c.halve-halves.result.hi (half_extends c.args.dd.now.nodes c.answer.new.dd.nodes c.answer.ensures.kept.nodes c.args.dd.now.vars c.requires.table.reduced c.halve-halves.result.var true c.args.q c.halve-halves.result.hi c.requires.asked c.halve-halves.ensures.hi) c.answer-2.new.dd c.answer-2.ensures.kept c.answer-2.ensures.adds c.join.new.dd (c.join.ensures.full is)
+
+pub answer_open-returns-clause-kept : goal.answer_open-returns-clause-kept
+answer_open-returns-clause-kept t c = keeps_more c.args.dd.now c.answer.new.dd c.join.new.dd c.answer.ensures.kept
+    (keeps_more c.answer.new.dd c.answer-2.new.dd c.join.new.dd c.answer-2.ensures.kept c.join.ensures.kept)

@@ -12,6 +12,7 @@ use Rattle.dd_ops.proofs.ValueLemmas.{ok_then}
 use Rattle.dd_ops.proofs.SubstLemmas.{numbers_extend, is_replaced_extends}
 use Rattle.dd_nodes.specs.declared.node.DdErr.TheVariants.{Full}
 use Rattle.dd_ops.proofs.ErrorLemmas.{passed_on}
+use Rattle.dd_ops.proofs.HalvesLemmas.{keeps_more}
 use Rattle.dd_ops.proofs.GrowthReplaced.{replaced_lo_adds, replaced_lo_full, replaced_hi_adds, replaced_hi_full, replaced_rest_adds, replaced_rest_full}
 use Rattle.dd_ops.proofs.subst.+replace.Goals as goal
 
@@ -88,3 +89,10 @@ returns-clause-adds t c = replaced_rest_adds c.args.images.now.map.now c.args.dd
 pub returns-clause-full : goal.returns-clause-full
 returns-clause-full t c is = replaced_rest_full c.args.images.now.map.now c.args.dd.now c.requires.table c.requires.images.numbers c.args.f.0 c.in-Some.node (c.in-Some.ensures.node)
     c.replace-2.new.dd c.replace-2.ensures.kept c.replace-2.ensures.adds c.replace-3.new.dd c.replace-3.ensures.kept c.replace-3.ensures.adds c.remember_choice.new.dd c.remember_choice.ensures.kept.vars (c.remember_choice.ensures.full is)
+
+pub returns-in_err-hi-clause-kept : goal.returns-in_err-hi-clause-kept
+returns-in_err-hi-clause-kept t c = keeps_more c.args.dd.now c.replace-2.new.dd c.replace-3.new.dd c.replace-2.ensures.kept c.replace-3.ensures.kept
+
+pub returns-clause-kept : goal.returns-clause-kept
+returns-clause-kept t c = keeps_more c.args.dd.now c.replace-2.new.dd c.remember_choice.new.dd c.replace-2.ensures.kept
+    (keeps_more c.replace-2.new.dd c.replace-3.new.dd c.remember_choice.new.dd c.replace-3.ensures.kept c.remember_choice.ensures.kept)
