@@ -24,6 +24,7 @@ pub mod SafeSets
 pub mod StageSets
 pub mod Towards
 pub mod RuleParts
+pub mod FiniteContexts
 pub mod PlanRuns
 pub mod Sound
 pub mod NoChain

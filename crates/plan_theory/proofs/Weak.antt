@@ -5,7 +5,8 @@ use Rattle.std.specs.List.{Contains, list_all}
 use Rattle.std.proofs.lemmas.Bool.{false≢true, true≢false, or_right, and_from, and_parts}
 use Rattle.task_core.specs.Vectors.{Vector, same_vector, same_value}
 use Rattle.task_core.specs.Systems.{System, IsSystem, IsState, Exec, HasOutcome, goal_states}
-use Rattle.task_core.specs.Tables.{Table, IsTable, IsPath, last_state}
+use Rattle.task_core.specs.Tables.{Table, IsTable, Leads}
+use Rattle.task_core.specs.Paths.{IsPath, last_of}
 use Rattle.task_core.specs.Solutions.{IsWeakSolution, MayReachGoal}
 use Rattle.plan_theory.specs.Layers.{layer, covers, may_lead, action_numbers}
 use Rattle.plan_theory.proofs.Layers.{layer-grows}
@@ -50,7 +51,7 @@ pub layer-suc : (sys : System) → IsSystem sys → (k : ℕ) (s : Vector) (a : 
 layer-suc sys ok k s a t o h = or_right (layer Weak sys k s) _ (list_any-from (may_lead sys (layer Weak sys k) s) (action_numbers sys) a (Contains-range_with_len sys.actions a (ok.actions s a (HasOutcome-Exec sys s a t o))) (list_any-from (layer Weak sys k) (sys.next s a) t o h))
 
 -- a path of n steps to a goal state begins in layer n
-pub path_in_layer : (sys : System) → IsSystem sys → (table : Table) (s : Vector) (rest : List Vector) → IsPath sys table s rest → Contains (goal_states sys) (last_state s rest) → layer Weak sys (length rest) s ≡ true
+pub path_in_layer : (sys : System) → IsSystem sys → (table : Table) (s : Vector) (rest : List Vector) → IsPath (Leads sys table) s rest → Contains (goal_states sys) (last_of s rest) → layer Weak sys (length rest) s ≡ true
 path_in_layer sys ok table s [] p g = layer-zero sys s g
 path_in_layer sys ok table s (t ∷ rest) p g = layer-suc sys ok (length rest) s p.0.action t p.0.outcome (path_in_layer sys ok table t rest p.1 g)
 
