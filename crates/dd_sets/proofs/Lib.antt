@@ -1,6 +1,9 @@
 pub mod CubeLemmas
 pub mod FrameLemmas
+pub mod MadeLemmas
+pub mod NoRoomLemmas
 pub mod OwnLemmas
+pub mod OwnedLemmas
 pub mod RoomLemmas
 pub mod SetLemmas
 pub mod SlotLemmas

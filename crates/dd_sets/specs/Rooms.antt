@@ -40,7 +40,7 @@ pub record IsSubstitution (vars : ℕ) (pieces : List Function) : Type 0 where
   pub fluents : DependsOnly 0 vars set
   pub is_listed : ℕ → Bool
   pub replaced : Values → Values
-  pub pieces : pieces ≡ subst_pieces vars set is_listed replaced
+  pub are : pieces ≡ subst_pieces vars set is_listed replaced
 
 -- the pieces of one operation: one function, or those of one substitution
 abbrev pub IsOneCall : ℕ → List Function → Type 0

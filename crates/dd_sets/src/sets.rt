@@ -1,17 +1,19 @@
 //! The sets of a table, each in a slot.
 ghost use Rattle.std.specs.Prelude.{◌≡◌, ℕ, ◌<◌, ◌≤◌, ◌↔◌, Some, Bool, true, false, [], ◌∷◌, map};
-ghost use Rattle.std.specs.Prelude.{is_some, IsTrue, IfOk, IfErr, OnErr, IsErrOf};
+ghost use Rattle.std.specs.Prelude.{is_some, IsTrue, IfOk, IfErr, OnErr, IsErrOf, ◌⊎◌};
 ghost use Rattle.dd_nodes.specs.NodeList.{Values, IsNumber};
+ghost use Rattle.dd_nodes.specs.Subfunctions.{Function};
 ghost use Rattle.dd_ops.specs.Growth.{subst_pieces};
 ghost use Rattle.dd_ops.specs.Operations.{variable, not_of, and_of, or_of, minus_of, cofactor_of};
 ghost use Rattle.task_core.specs.Cubes.{cubes_of};
 ghost use Rattle.task_core.specs.States.{truth};
 ghost use Rattle.task_core.specs.Vectors.{value_of};
-ghost use Rattle.dd_sets.specs.Calls.{KeepsSets, Adds, AddsNone, Releases};
-ghost use Rattle.dd_sets.specs.LiveSets.{IsSets, IsLive, AllLive, is_live, set_of, live_count};
+ghost use Rattle.dd_sets.specs.Calls.{KeepsSets, Adds, AddsNone, Releases, MakesOnly};
+ghost use Rattle.dd_sets.specs.Frames.{Owns, OwnsAnswer, OwnsBoth, AreTwo, piece_of};
+ghost use Rattle.dd_sets.specs.LiveSets.{LiveSets, IsSets, IsLive, AllLive, is_live, set_of, live_count};
 ghost use Rattle.dd_sets.specs.LiveSets.{nothing, everything, number_at, listed_set};
 ghost use Rattle.dd_sets.specs.LiveSets.{values_by_sets, subst_set};
-ghost use Rattle.dd_sets.specs.Rooms.{IsFull};
+ghost use Rattle.dd_sets.specs.Rooms.{IsFull, AnySet, NoRoom};
 ghost use Rattle.dd_sets.specs.Stores.{ref_at, refs_of};
 
 use crate::cubes::{Cube, walk};
