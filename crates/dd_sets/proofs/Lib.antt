@@ -5,6 +5,7 @@ pub mod NoRoomLemmas
 pub mod OwnLemmas
 pub mod OwnedLemmas
 pub mod RoomLemmas
+pub mod RoomSteps
 pub mod SetLemmas
 pub mod SlotLemmas
 pub mod TightLemmas
