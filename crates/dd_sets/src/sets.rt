@@ -81,6 +81,13 @@ impl Sets {
         })
     }
 
+    /// Nothing: the contract says what is true of the sets of every table, for callers to cite.
+    pub fn sound(&self)
+        ensures { IsSets self.now }
+    {
+        let _ = &self.ops;
+    }
+
     /// The number of the set that a live slot holds.
     fn number(&self, a: SetId) -> Ref
         requires { IsLive self.now a.0 }
