@@ -15,7 +15,7 @@ ghost use Rattle.ctl_syntax.specs.Conditions.{condition_value};
 ghost use Rattle.ctl_syntax.specs.Goals.{af, ag, all, goal_row, plain};
 ghost use Rattle.ctl_syntax.specs.Values.{IsAtMostDeep, NamesBelow, ctl_value};
 
-use crate::copies::copied;
+use crate::copies::copied_condition;
 use crate::goals::Ctl;
 use std::alloc::{AllocError, Global};
 use task_core::Cond;
@@ -63,7 +63,7 @@ fn keeping(alloc: Global, part: &Ctl, stages: Vec<Cond>) -> Result<Option<Chain>
 {
     match part {
         Ctl::Plain(cond) => {
-            let keep = copied(alloc, cond)?;
+            let keep = copied_condition(alloc, cond)?;
             Ok(Some(Chain { stages, keep }))
         }
         _ => Ok(None),
@@ -94,7 +94,7 @@ fn with_last_stage(
 {
     let mut stages = stages;
     let mut stage = Vec::new(alloc);
-    stage.push(copied(alloc, cond)?)?;
+    stage.push(copied_condition(alloc, cond)?)?;
     stages.push(Cond::All(stage))?;
     Ok(Some(Chain {
         stages,
@@ -157,7 +157,7 @@ fn plain_copies(alloc: Global, goals: &[Ctl]) -> Result<Vec<Cond>, AllocError>
     let mut copies = Vec::new(alloc);
     for goal in goals {
         if let Ctl::Plain(cond) = goal {
-            copies.push(copied(alloc, cond)?)?;
+            copies.push(copied_condition(alloc, cond)?)?;
         }
     }
     Ok(copies)

@@ -13,5 +13,6 @@ mod goals;
 mod laws;
 
 pub use chains::{Chain, as_chain};
+pub use copies::{copied_condition, copied_conditions};
 pub use goals::Ctl;
 pub use laws::chains_are_true;

@@ -6,13 +6,14 @@ ghost use Rattle.pddl_system.specs.GroundAtoms.{atom_of};
 ghost use Rattle.pddl_system.specs.Objects.{object_of as the_object_of};
 
 use pddl_ast::{ObjectId, PredicateId, Term};
+use smallvec::SmallVec;
 use std::alloc::{AllocError, Global};
 
 /// A predicate with an object for each of its terms. Equal ones have equal hashes.
 #[derive(Debug, PartialEq, Eq, PartialOrd, Ord, Hash, Drop)]
 pub struct Atom {
     pub predicate: PredicateId,
-    pub objects: Vec<ObjectId>,
+    pub objects: SmallVec<ObjectId, 4>,
 }
 
 impl Atom {

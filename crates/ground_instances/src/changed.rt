@@ -13,6 +13,7 @@ ghost use Rattle.pddl_system.specs.Settings.{changes, entry_names, is_rigid_in};
 use crate::atoms::Atom;
 use indexmap::IndexSet;
 use pddl_ast::{Domain, Effect, InitialLiteral, PredicateId, Problem};
+use smallvec::SmallVec;
 use std::alloc::{AllocError, Global};
 
 /// The predicates that an effect changes or that an uncertain entry names: those that aren't rigid.
@@ -99,7 +100,7 @@ pub fn fact_set(alloc: Global, problem: &Problem) -> Result<IndexSet<Atom>, Allo
     for fact in &problem.facts {
         facts.insert(Atom {
             predicate: fact.predicate,
-            objects: Vec::from_slice(alloc, &fact.objects)?,
+            objects: SmallVec::from_slice(alloc, &fact.objects)?,
         })?;
     }
     Ok(facts)

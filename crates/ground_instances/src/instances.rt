@@ -11,6 +11,7 @@ ghost use Rattle.pddl_system.specs.Sizes.{most_actions};
 use crate::setting::Setting;
 use crate::values::Value;
 use pddl_ast::{Domain, ObjectId, Schema};
+use smallvec::SmallVec;
 use std::alloc::{AllocError, Global};
 
 /// The most kept instances.
@@ -21,7 +22,7 @@ const MOST_KEPT: usize = 16_384;
 #[derive(Debug, Drop)]
 pub struct Instance {
     pub action: usize,
-    pub objects: Vec<ObjectId>,
+    pub objects: SmallVec<ObjectId, 4>,
 }
 
 /// The kept instances in their order, unless there are too many.
@@ -110,7 +111,7 @@ impl Setting {
         }
         kept.push(Instance {
             action,
-            objects: Vec::from_slice(alloc, objects)?,
+            objects: SmallVec::from_slice(alloc, objects)?,
         })?;
         Ok(true)
     }

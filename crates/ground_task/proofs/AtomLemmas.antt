@@ -9,7 +9,7 @@ use Rattle.ground_instances.specs.declared.atoms.Atom.{Atom}
 use Rattle.ground_instances.specs.contracts.atoms.AtomPartialEq as derived
 use Rattle.ground_task.specs.Collecting.{with_atom}
 use Rattle.pddl_system.specs.GroundAtoms.{is_among, same_atom}
-use Rattle.pddl_system.specs.States.{number_of}
+use Rattle.pddl_system.specs.States.{fluent_number}
 
 -- the derived test whether two atoms are equal
 abbrev pub is_atom : Atom → Atom → Bool
@@ -26,7 +26,7 @@ pub atom_place : (a : Atom) (keys : List Atom) → position_or_len (is_atom a) k
 atom_place a [] = refl
 atom_place a (k ∷ keys) = ap (λ n. cond (not (is_atom a k)) (1 + n) 0) (atom_place a keys)
 
-pub atom_number : (a : Atom) (keys : List Atom) → position (is_atom a) keys ≡ number_of (map atom_tree keys) (atom_tree a)
+pub atom_number : (a : Atom) (keys : List Atom) → position (is_atom a) keys ≡ fluent_number (map atom_tree keys) (atom_tree a)
 atom_number a keys =
     let there = same_atom (atom_tree a) in
     ap (λ n. cond (nat_lt n (length keys)) (Some n) None) (atom_place a keys)

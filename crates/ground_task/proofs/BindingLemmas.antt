@@ -1,20 +1,19 @@
 -- A loop over the bindings of variables by their numbers.
 use Rattle.std.proofs.Common.{◌≡◌, ℕ, ◌<◌, ◌≤◌, List, ◌++◌, length, take, sym, ap, ◌∙◌, arith}
 use Rattle.std.proofs.lemmas.List.{take_at}
-use Rattle.ground_instances.specs.Counts.{shown}
 use Rattle.pddl_system.specs.Objects.{bindings}
 use Rattle.pddl_system.specs.Sizes.{binding_count}
 use Rattle.pddl_system.proofs.Counts.{bindings_are_counted}
 
--- a number below the shown count is that of a binding
-pub bound_below : (objects : ℕ → List ℕ) (types : List ℕ) (count number : ℕ) → count ≡ shown (binding_count objects types) → number < count → number < length (bindings objects types)
-bound_below objects types count number shows below =
+-- a number below the count is that of a binding
+pub bound_below : (objects : ℕ → List ℕ) (types : List ℕ) (count number : ℕ) → count ≡ binding_count objects types → number < count → number < length (bindings objects types)
+bound_below objects types count number counts below =
     let whole : length (bindings objects types) ≡ binding_count objects types = bindings_are_counted objects types in
     omega arith
 
--- one that is not below it is past the last, where the count is not shown capped
-pub bound_end : (objects : ℕ → List ℕ) (types : List ℕ) (count number : ℕ) → count ≡ shown (binding_count objects types) → count ≤ 1000000 → count ≤ number → length (bindings objects types) ≤ number
-bound_end objects types count number shows small past =
+-- one that is not below it is past the last
+pub bound_end : (objects : ℕ → List ℕ) (types : List ℕ) (count number : ℕ) → count ≡ binding_count objects types → count ≤ number → length (bindings objects types) ≤ number
+bound_end objects types count number counts past =
     let whole : length (bindings objects types) ≡ binding_count objects types = bindings_are_counted objects types in
     omega arith
 

@@ -8,7 +8,7 @@ use Rattle.pddl_ast.specs.Trees.{SchemaTree, DomainTree}
 use Rattle.pddl_system.specs.Instances.{Instance as InstanceTree}
 use Rattle.pddl_system.specs.Outcomes.{outcomes_of}
 use Rattle.pddl_system.specs.Settings.{Setting}
-use Rattle.pddl_system.specs.Sizes.{most_outcomes, outcome_count}
+use Rattle.pddl_system.specs.Sizes.{most_outcomes_of_one, outcome_count}
 use Rattle.pddl_system.proofs.Counts.{outcomes_are_counted}
 use Rattle.ground_instances.specs.Kept.{instance_of}
 use Rattle.ground_instances.specs.declared.instances.Instance.{Instance}
@@ -28,7 +28,7 @@ picked objects (s ∷ schemas) (suc n) k is = let rest = picked objects schemas 
 -- what is known of the action, at its number
 pub read_at_action : (d : DomainTree) (at : Setting) (few : List Bool) (item : Instance) (k : InstanceTree) (r : Bool)
     → few ≡ map (has_few at) d.actions → instance_of d item ≡ Some k
-    → (item.action < length few) × (r ≡ get_or few item.action r → r ≡ nat_le (length (outcomes_of at k)) most_outcomes)
+    → (item.action < length few) × (r ≡ get_or few item.action r → r ≡ nat_le (length (outcomes_of at k)) most_outcomes_of_one)
 read_at_action d at few item k r made is =
     let there = picked item.objects.items d.actions item.action k is in
     let n : length few ≡ length d.actions = ap length made ∙ length-map d.actions (has_few at) in (
@@ -36,7 +36,7 @@ read_at_action d at few item k r made is =
       λ read. read ∙ ap (λ l. get_or l item.action r) made
           ∙ get_or-map (has_few at) d.actions item.action k.schema r there.0
           ∙ ap (has_few at) (sym there.1)
-          ∙ ap (λ c. nat_le c most_outcomes) (sym (outcomes_are_counted at.objects k.schema.effect k.objects)),
+          ∙ ap (λ c. nat_le c most_outcomes_of_one) (sym (outcomes_are_counted at.objects k.schema.effect k.objects)),
     )
 
 pub all_fails : {X : Type 0} (test : X → Bool) (xs : List X) (i : ℕ) (x : X) (whole : Bool) → drop i xs ≡ x ∷ drop (suc i) xs → test x ≡ false → list_all test (drop i xs) ≡ whole → false ≡ whole

@@ -37,7 +37,7 @@ pub record AreBuilt (d : DomainTree) (p : ProblemTree) (at : Setting) (listed : 
   pub named : map name_bytes names ≡ map (atom_name d p) listed
   pub acts : map action_value actions ≡ map (action_in at listed d p) (kept_by at d)
   pub begins : (f : ℕ) → truth init.facts f ≡ value_of (systems.facts_of at listed) f
-  pub entered : initial.entries_of init ≡ map (systems.entry_of listed) p.entries
+  pub entered : initial.entries_of init ≡ map (systems.entry_over listed) p.entries
   pub wanted : option_map condition_value goal ≡ option_map (λ (g : FormulaTree). condition_of at listed g []) p.goal
 
 module _ (d : DomainTree) (p : ProblemTree) (at : Setting) (listed : List AtomTree)
@@ -50,7 +50,7 @@ module _ (d : DomainTree) (p : ProblemTree) (at : Setting) (listed : List AtomTr
     fluents_are = built.named ∙ ap (map (atom_name d p)) built.fluents_are;
     actions_are = built.acts ∙ ap (λ s. map (action_in s listed d p) (kept_by s d)) built.setting_is ∙ ap (λ l. map (action_in (setting d p) l d p) (kept_by (setting d p) d)) built.fluents_are;
     facts_are = ap (λ n. initial.facts_of n init) (sym count) ∙ vector_is (systems.facts_of at listed) init.facts built.begins ∙ ap (λ s. systems.facts_of s listed) built.setting_is ∙ ap (systems.facts_of (setting d p)) built.fluents_are;
-    entries_are = built.entered ∙ ap (λ l. map (systems.entry_of l) p.entries) built.fluents_are;
+    entries_are = built.entered ∙ ap (λ l. map (systems.entry_over l) p.entries) built.fluents_are;
     goal_is = built.wanted ∙ ap (λ s. option_map (λ (g : FormulaTree). condition_of s listed g []) p.goal) built.setting_is ∙ ap (λ l. option_map (λ (g : FormulaTree). condition_of (setting d p) l g []) p.goal) built.fluents_are;
   }
 

@@ -14,10 +14,6 @@ use pddl_ast::{Formula, ObjectId, TypeId};
 use std::alloc::{AllocError, Global};
 use task_core::{Cond, FluentId};
 
-/// The most bindings of the variables of a quantifier. A formula within the limit of size has
-/// fewer.
-const MOST_BINDINGS: usize = 1_000_000;
-
 /// The condition that holds always, or never.
 fn constant(holds: bool) -> Cond
     ensures { condition_value result ≡ constant holds }
@@ -75,10 +71,7 @@ fn conditions_for_each(
     ensures scope { OnOk result (scope.new.items ≡ scope.old.items) }
 {
     let outer = scope.len();
-    let count = setting.binding_count(types);
-    if count > MOST_BINDINGS {
-        return Err(AllocError);
-    }
+    let count = setting.few_bindings(types)?;
     let mut conds = Vec::new(alloc);
     for number in 0..count {
         setting.bind(types, count, number, scope)?;

@@ -1,49 +1,18 @@
-//! Copies of conditions and changes.
+//! Copies of changes.
 
-ghost use Rattle.std.specs.Prelude.{◌≡◌, ◌++◌, IfOk, OnOk, map};
-ghost use Rattle.ctl_syntax.specs.Conditions.{condition_value};
+ghost use Rattle.std.specs.Prelude.{◌≡◌, ◌++◌, IfOk, map};
 ghost use Rattle.pddl_system.specs.Values.{change_value, outcome_value};
 
+use ctl_syntax::copied_condition;
 use std::alloc::{AllocError, Global};
-use task_core::{Change, Cond, Outcome};
-
-/// Copies of conditions.
-#[cycle(copying)]
-pub(crate) fn copies(alloc: Global, conds: &[Cond]) -> Result<Vec<Cond>, AllocError>
-    ensures { IfOk result (λ copies.
-        map condition_value copies.items ≡ map condition_value conds.now) }
-{
-    let mut copies = Vec::new(alloc);
-    for cond in conds {
-        copies.push(copied(alloc, cond)?)?;
-    }
-    Ok(copies)
-}
-
-/// A copy of a condition.
-#[cycle(copying)]
-pub(crate) fn copied(alloc: Global, cond: &Cond) -> Result<Cond, AllocError>
-    ensures { IfOk result (λ copy. condition_value copy ≡ condition_value cond.now) }
-{
-    match cond {
-        Cond::Yes => Ok(Cond::Yes),
-        Cond::No => Ok(Cond::No),
-        Cond::Is(fluent) => Ok(Cond::Is(*fluent)),
-        Cond::Not(part) => {
-            let copy = copied(alloc, part)?;
-            Ok(Cond::Not(Box::new(alloc, copy)?))
-        }
-        Cond::All(parts) => Ok(Cond::All(copies(alloc, parts)?)),
-        Cond::Any(parts) => Ok(Cond::Any(copies(alloc, parts)?)),
-    }
-}
+use task_core::{Change, Outcome};
 
 /// A copy of a change.
 fn copied_change(alloc: Global, change: &Change) -> Result<Change, AllocError>
     ensures { IfOk result (λ copy. change_value copy ≡ change_value change.now) }
 {
     Ok(Change {
-        cond: copied(alloc, &change.cond)?,
+        cond: copied_condition(alloc, &change.cond)?,
         lit: change.lit,
     })
 }

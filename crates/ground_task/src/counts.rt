@@ -7,7 +7,7 @@ ghost use Rattle.ground_instances.specs.Tables.{setting_in};
 ghost use Rattle.ground_task.specs.Capped.{capped, has_few};
 ghost use Rattle.pddl_ast.specs.Values.{domain_value, effect_value, schema_value};
 ghost use Rattle.pddl_system.specs.Outcomes.{outcomes_of};
-ghost use Rattle.pddl_system.specs.Sizes.{most_outcomes, outcome_count};
+ghost use Rattle.pddl_system.specs.Sizes.{most_outcomes_of_one, outcome_count};
 
 use ground_instances::{Instance, Setting};
 use pddl_ast::{Domain, Effect, Schema};
@@ -95,7 +95,7 @@ pub(crate) fn has_few_outcomes(
     requires { map (instance_of (domain_value domain.now)) instances.now
         ≡ map Some (kept_by (setting_in setting.now) (domain_value domain.now)) }
     ensures { IfOk result (λ few. few
-        ≡ list_all (λ i. nat_le (length (outcomes_of (setting_in setting.now) i)) most_outcomes)
+        ≡ list_all (λ i. nat_le (length (outcomes_of (setting_in setting.now) i)) most_outcomes_of_one)
         (kept_by (setting_in setting.now) (domain_value domain.now))) }
 {
     let few = few_outcomes(alloc, setting, &domain.actions)?;

@@ -9,7 +9,7 @@ ghost use Rattle.pddl_ast.specs.Trees.{AtomTree};
 ghost use Rattle.ground_task.specs.Collecting.{with_atom};
 ghost use Rattle.pddl_system.specs.GroundAtoms.{is_among, same_atom};
 ghost use Rattle.pddl_system.specs.Orders.{atom_order};
-ghost use Rattle.pddl_system.specs.States.{number_of};
+ghost use Rattle.pddl_system.specs.States.{fluent_number};
 
 use ground_instances::Atom;
 use indexmap::IndexSet;
@@ -96,7 +96,7 @@ impl Fluents {
 
     /// The number of an atom among the fluents, where it is one.
     pub fn number_of(&self, atom: &Atom) -> Option<FluentId>
-        ensures { option_map (λ f. f.0) result ≡ number_of self.now (atom_tree atom.now) }
+        ensures { option_map (λ f. f.0) result ≡ fluent_number self.now (atom_tree atom.now) }
     {
         match self.atoms.get_index_of(atom) {
             Some(place) => Some(FluentId(place as u32)),

@@ -6,7 +6,7 @@ ghost use Rattle.ground_task.specs.Built.{all_or_yes, guard_conditions};
 ghost use Rattle.pddl_system.specs.ThreeValues.{may_hold};
 ghost use Rattle.ctl_syntax.specs.Conditions.{condition_value};
 
-use crate::copies::copies;
+use ctl_syntax::copied_conditions;
 use ground_instances::Value;
 use std::alloc::{AllocError, Global};
 use task_core::Cond;
@@ -48,7 +48,7 @@ impl Guards {
         ensures may_hold { IfOk result (λ guards. guards.may_hold
             ≡ (self.now.may_hold && may_hold)) }
     {
-        let mut conds = copies(alloc, &self.conds)?;
+        let mut conds = copied_conditions(alloc, &self.conds)?;
         conds.push(cond)?;
         Ok(Guards {
             conds,
@@ -64,7 +64,7 @@ impl Guards {
         if self.conds.is_empty() {
             Ok(Cond::Yes)
         } else {
-            Ok(Cond::All(copies(alloc, &self.conds)?))
+            Ok(Cond::All(copied_conditions(alloc, &self.conds)?))
         }
     }
 }

@@ -65,7 +65,7 @@ fn entry(
     alternatives: &[Vec<InitialLiteral>],
 ) -> Result<Vec<Alternative>, AllocError>
     ensures { IfOk result (λ entry. initial.entry_of entry.items
-        ≡ systems.entry_of fluents.now (entry_value alternatives.now)) }
+        ≡ systems.entry_over fluents.now (entry_value alternatives.now)) }
 {
     let mut entry = Vec::new(alloc);
     for literals in alternatives {
@@ -81,7 +81,7 @@ pub(crate) fn entries(
     listed: &[Vec<Vec<InitialLiteral>>],
 ) -> Result<Vec<Vec<Alternative>>, AllocError>
     ensures { IfOk result (λ entries. map (λ e. initial.entry_of e.items) entries.items
-        ≡ map (systems.entry_of fluents.now) (entries_value listed.now)) }
+        ≡ map (systems.entry_over fluents.now) (entries_value listed.now)) }
 {
     let mut entries = Vec::new(alloc);
     for alternatives in listed {

@@ -21,11 +21,8 @@ use crate::guards::may_hold;
 use crate::schemas::schema_of;
 use ground_instances::{Atom, Instance, Setting};
 use pddl_ast::{Domain, Effect, GroundAtom, InitialLiteral, ObjectId, TypeId};
+use smallvec::SmallVec;
 use std::alloc::{AllocError, Global};
-
-/// The most bindings of the variables of a `forall` effect. An effect within the limit of size has
-/// fewer.
-const MOST_BINDINGS: usize = 1_000_000;
 
 /// Adds the atoms that effects name. The scope is afterwards as it was before.
 #[cycle(naming)]
@@ -64,10 +61,7 @@ fn name_for_each(
     ensures scope { OnOk result (scope.new.items ≡ scope.old.items) }
 {
     let outer = scope.len();
-    let count = setting.binding_count(types);
-    if count > MOST_BINDINGS {
-        return Err(AllocError);
-    }
+    let count = setting.few_bindings(types)?;
     for number in 0..count {
         setting.bind(types, count, number, scope)?;
         name_effect(alloc, setting, effect, scope, fluents)?;
@@ -148,7 +142,7 @@ pub(crate) fn atom_of(alloc: Global, atom: &GroundAtom) -> Result<Atom, AllocErr
 {
     Ok(Atom {
         predicate: atom.predicate,
-        objects: Vec::from_slice(alloc, &atom.objects)?,
+        objects: SmallVec::from_slice(alloc, &atom.objects)?,
     })
 }
 

@@ -21,10 +21,6 @@ use pddl_ast::{Effect, ObjectId, TypeId};
 use std::alloc::{AllocError, Global};
 use task_core::{Change, Lit, Outcome};
 
-/// The most bindings of the variables of a `forall` effect. An effect within the limit of size has
-/// fewer.
-const MOST_BINDINGS: usize = 1_000_000;
-
 /// The change that adds an atom (positive) or deletes it under the conditions of the guards.
 fn change(
     alloc: Global,
@@ -146,10 +142,7 @@ fn outcomes_of_each(
     ensures scope { OnOk result (scope.new.items ≡ scope.old.items) }
 {
     let outer = scope.len();
-    let count = setting.binding_count(types);
-    if count > MOST_BINDINGS {
-        return Err(AllocError);
-    }
+    let count = setting.few_bindings(types)?;
     let mut made = no_change(alloc)?;
     for number in 0..count {
         setting.bind(types, count, number, scope)?;

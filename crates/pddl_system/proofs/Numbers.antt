@@ -12,7 +12,7 @@ use Rattle.pddl_ast.specs.Trees.{AtomTree, DomainTree, ProblemTree}
 use Rattle.pddl_system.specs.Fluents.{fluents, is_fluent}
 use Rattle.pddl_system.specs.GroundAtoms.{all_atoms, atoms_of_predicate, same_atom}
 use Rattle.pddl_system.specs.Objects.{all_objects, bindings}
-use Rattle.pddl_system.specs.States.{number_of}
+use Rattle.pddl_system.specs.States.{fluent_number}
 use Rattle.pddl_system.proofs.Members.{Among, Apart, Among-flat_map, Among-flat_map_from, Among-in_range, Among-map, Among-map_from, Among-slice_get, Apart-filter, Apart-flat_map, Apart-map, Apart-range, numbers_are}
 
 -- atoms that pass the test are the same
@@ -126,7 +126,7 @@ place_is (x ∷ xs) apart (suc k) y h b = by_test (same_atom b x) refl (place_is
     by_test false e rest = rw e (eqb-suc (position_or_len (same_atom b) xs) k ∙ rest)
 
 -- so the k-th has the number k
-pub number_is : (xs : List AtomTree) → Apart xs → (k : ℕ) (y : AtomTree) → slice_get xs k ≡ Some y → number_of xs y ≡ Some k
+pub number_is : (xs : List AtomTree) → Apart xs → (k : ℕ) (y : AtomTree) → slice_get xs k ≡ Some y → fluent_number xs y ≡ Some k
 number_is xs apart k y h =
     let first : position_or_len (same_atom y) xs ≡ k = eqb-true (position_or_len (same_atom y) xs) k (place_is xs apart k y h y ∙ same_atom-refl y) in
     ap (λ n. cond (ltb n (length xs)) (Some n) None) first

@@ -12,7 +12,7 @@ use Rattle.pddl_system.specs.Instances.{Instance, instances_of, is_kept, kept_in
 use Rattle.pddl_system.specs.Objects.{all_objects, bindings}
 use Rattle.pddl_system.specs.Outcomes.{OutcomeTree, outcomes, outcomes_of_both, outcomes_of_either, products, product_of_all}
 use Rattle.pddl_system.specs.Settings.{Setting, changes, entry_names, is_rigid_in, setting, some_changes}
-use Rattle.pddl_system.specs.States.{number_of}
+use Rattle.pddl_system.specs.States.{fluent_number}
 use Rattle.pddl_system.specs.ThreeValues.{may_hold, value}
 use Rattle.pddl_system.proofs.Lists.{list_any-flat_map, list_any-never, list_any-weaker, list_any-filter}
 use Rattle.pddl_system.proofs.Members.{Among-filter_from, Among-from_list_any}
@@ -117,7 +117,7 @@ module _ (d : DomainTree) (p : ProblemTree) where
       ap (λ b. cond (not b) (1 + position_or_len (same_atom a) xs) 0) parts.0
       ∙ (let rest = no_place a xs parts.1 in omega arith)
 
-  no_number : (a : AtomTree) (xs : List AtomTree) → list_any (same_atom a) xs ≡ false → number_of xs a ≡ None
+  no_number : (a : AtomTree) (xs : List AtomTree) → list_any (same_atom a) xs ≡ false → fluent_number xs a ≡ None
   no_number a xs h =
       let last = no_place a xs h in
       ap (λ b. cond b (Some (position_or_len (same_atom a) xs)) None) (le-ltb (position_or_len (same_atom a) xs) (length xs) (omega arith))

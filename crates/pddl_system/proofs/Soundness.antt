@@ -9,7 +9,7 @@ use Rattle.pddl_system.specs.GroundAtoms.{atom_of}
 use Rattle.pddl_system.specs.Objects.{bindings}
 use Rattle.pddl_system.specs.Outcomes.{ChangeTree, Condition, may_change}
 use Rattle.pddl_system.specs.Settings.{Setting}
-use Rattle.pddl_system.specs.States.{atom_holds, comes_about, formula_holds, number_of, value_at}
+use Rattle.pddl_system.specs.States.{atom_holds, comes_about, formula_holds, fluent_number, value_at}
 use Rattle.pddl_system.specs.ThreeValues.{Value, may_hold, value, values, value_and, value_or, value_not, value_of_all, value_of_any}
 use Rattle.pddl_system.specs.Truth.{are_true, is_one_true}
 
@@ -48,7 +48,7 @@ any_tells f g each (x ∷ xs) = or_tells (f x) (value_of_any (map f xs)) (g x) (
 
 -- atoms of rigid predicates are no fluents
 abbrev pub RigidIsNoFluent : Setting → List AtomTree → Type 0
-RigidIsNoFluent at fl = (a : AtomTree) → at.is_rigid a.predicate ≡ true → number_of fl a ≡ None
+RigidIsNoFluent at fl = (a : AtomTree) → at.is_rigid a.predicate ≡ true → fluent_number fl a ≡ None
 
 module _ (at : Setting) (fl : List AtomTree) (v : Vector) (rigid : RigidIsNoFluent at fl) where
   atom_tells : (a : AtomTree) → Tells (if at.is_rigid a.predicate then Some (at.is_fact a) else None) (atom_holds at fl v a)

@@ -96,7 +96,7 @@ module _ (d : DomainTree) (p : ProblemTree) where
 
 pub they_have_a_system : TheyHaveASystem
 they_have_a_system d p = record {
-  initial = λ s h. after_entries_are (length (fluents d p)) (facts_of (setting d p) (fluents d p)) (map (systems.entry_of (fluents d p)) p.entries) (length-map (fluents d p) (setting d p).is_fact) s h;
+  initial = λ s h. after_entries_are (length (fluents d p)) (facts_of (setting d p) (fluents d p)) (map (systems.entry_over (fluents d p)) p.entries) (length-map (fluents d p) (setting d p).is_fact) s h;
   goal = λ s h. goal_is_states d p p.goal s h;
   next = λ s a t h. nexts_are_states d p s (slice_get (kept_instances d p) a) t h;
   actions = λ s a exec. only_kept d p s a (slice_get (kept_instances d p) a) refl exec;

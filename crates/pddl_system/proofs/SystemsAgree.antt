@@ -136,7 +136,7 @@ module _ (d : DomainTree) (p : ProblemTree) (task : Task) (is : task_value task 
   initial_same =
       ap (λ vs. after_entries (fluent_count task) vs (entries_of task.init)) (ap (λ (t : TaskTree). t.facts) is)
       ∙ ap (λ es. after_entries (fluent_count task) (facts_of (setting d p) (fluents d p)) es) (ap (λ (t : TaskTree). t.entries) is)
-      ∙ ap (λ n. after_entries n (facts_of (setting d p) (fluents d p)) (map (systems.entry_of (fluents d p)) p.entries)) count_same
+      ∙ ap (λ n. after_entries n (facts_of (setting d p) (fluents d p)) (map (systems.entry_over (fluents d p)) p.entries)) count_same
 
   goal_of : (goal : Option Cond) (wanted : Option FormulaTree) → option_map condition_value goal ≡ option_map (λ f. condition_of (setting d p) (fluents d p) f []) wanted
       → option_map (tasks.states_where (length (fluents d p))) goal ≡ option_map (states_where (setting d p) (fluents d p)) wanted

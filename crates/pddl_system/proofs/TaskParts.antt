@@ -32,7 +32,7 @@ use Rattle.pddl_system.specs.Names.{NamesAreWords}
 use Rattle.pddl_system.specs.Objects.{all_objects, is_kind_of, type_of}
 use Rattle.pddl_system.specs.Outcomes.{ChangeTree, Condition, OutcomeTree, may_change, outcomes_of, possible_changes}
 use Rattle.pddl_system.specs.Settings.{setting}
-use Rattle.pddl_system.specs.Sizes.{Limit, action_limit, outcome_limit, fluent_limit, first_passed, keeps, limits, most_outcomes}
+use Rattle.pddl_system.specs.Sizes.{Limit, action_limit, outcome_limit, fluent_limit, first_passed, keeps, limits, most_outcomes_of_one}
 use Rattle.pddl_system.specs.Systems.{action_names, atom_name, fluent_names, instance_name, literal_of}
 use Rattle.pddl_system.specs.Systems as systems
 use Rattle.ctl_syntax.specs.Conditions.{CondTree, condition_row, condition_value}
@@ -292,7 +292,7 @@ module _ (d : DomainTree) (p : ProblemTree) (fits_d : FitsDomain d) (fits_p : Fi
     few_outcomes : (i : Instance) → Among i (kept_instances d p) → length (outcomes_of (setting d p) i) ≤ 64
     few_outcomes i h =
         leb-true (length (outcomes_of (setting d p) i)) 64
-        (passes_Among (λ j. nat_le (length (outcomes_of (setting d p) j)) most_outcomes) i (kept_instances d p) (kept_limit outcome_limit (inr (inr (inr (inr (inl refl)))))) h)
+        (passes_Among (λ j. nat_le (length (outcomes_of (setting d p) j)) most_outcomes_of_one) i (kept_instances d p) (kept_limit outcome_limit (inr (inr (inr (inr (inl refl)))))) h)
 
     count_same : length fluent_list ≡ many
     count_same = zip_length name_bytes (atom_name d p) fluent_list (fluents d p) parts.fluents_are
@@ -310,7 +310,7 @@ module _ (d : DomainTree) (p : ProblemTree) (fits_d : FitsDomain d) (fits_p : Fi
         facts_within = facts;
         entries_within = subst (λ n. entries_within n init ≡ true) (sym count_same)
             (ap (list_all (entry_within many)) parts.entries_are
-            ∙ list_all-from_Among (entry_within many) (map (systems.entry_of (fluents d p)) p.entries) each_entry);
+            ∙ list_all-from_Among (entry_within many) (map (systems.entry_over (fluents d p)) p.entries) each_entry);
         goal_within = subst (λ n. goal_within n goal ≡ true) (sym count_same) (goal_within_it goal p.goal parts.goal_is);
       };
       shallow = record {
@@ -321,9 +321,9 @@ module _ (d : DomainTree) (p : ProblemTree) (fits_d : FitsDomain d) (fits_p : Fi
       action_names = subst AreActionNames (sym (zip_map action_value (action_of d p) name_of (instance_name d p) (λ x i e. ap (λ (t : ActionTree). t.name) e) actions (kept_instances d p) parts.actions_are)) (action_names_are_names d p fits_d fits_p words);
     }
       where
-        each_entry : (entry : List (List Lit)) → Among entry (map (systems.entry_of (fluents d p)) p.entries) → entry_within many entry ≡ true
+        each_entry : (entry : List (List Lit)) → Among entry (map (systems.entry_over (fluents d p)) p.entries) → entry_within many entry ≡ true
         each_entry entry h =
-            let from = Among-map_from (systems.entry_of (fluents d p)) entry p.entries h in
+            let from = Among-map_from (systems.entry_over (fluents d p)) entry p.entries h in
             subst (λ e. entry_within many e ≡ true) from.2 (entry_is_within from.0 from.1)
 
 pub parts_make_task : PartsMakeTask

@@ -10,7 +10,7 @@ use Rattle.pddl_ast.specs.Trees.{FormulaTree, FormulaTrees, atom, equal, all, an
 use Rattle.pddl_system.specs.GroundAtoms.{atom_of, same_atom}
 use Rattle.pddl_system.specs.Objects.{bindings, object_of}
 use Rattle.pddl_system.specs.Settings.{Setting}
-use Rattle.pddl_system.specs.States.{number_of}
+use Rattle.pddl_system.specs.States.{fluent_number}
 use Rattle.ctl_syntax.specs.Conditions.{CondTree, is_fluent_true, condition_row}
 use Rattle.pddl_system.specs.Tasks.{constant, atom_condition, condition_of, conditions_of}
 use Rattle.ctl_syntax.proofs.ConditionTrees.{tree_below, tree_depth, trees_below, trees_depth}
@@ -37,14 +37,14 @@ module _ (at : Setting) (fl : List AtomTree) where
   constant_depth false = omega arith
 
   atom_below : (a : AtomTree) → tree_below (length fl) (atom_condition at fl a) ≡ true
-  atom_below a = by_number (number_of fl a) refl
+  atom_below a = by_number (fluent_number fl a) refl
     where
-      by_number : (o : Option ℕ) → number_of fl a ≡ o → tree_below (length fl) (option_map_or is_fluent_true o (constant (at.is_fact a))) ≡ true
+      by_number : (o : Option ℕ) → fluent_number fl a ≡ o → tree_below (length fl) (option_map_or is_fluent_true o (constant (at.is_fact a))) ≡ true
       by_number (Some k) e = lt-ltb k (length fl) (position-Some (same_atom a) fl k a e).0
       by_number None e = constant_below (length fl) (at.is_fact a)
 
   atom_depth : (a : AtomTree) → tree_depth (atom_condition at fl a) ≤ 1
-  atom_depth a = by_number (number_of fl a)
+  atom_depth a = by_number (fluent_number fl a)
     where
       by_number : (o : Option ℕ) → tree_depth (option_map_or is_fluent_true o (constant (at.is_fact a))) ≤ 1
       by_number (Some k) = omega arith

@@ -10,7 +10,7 @@ use Rattle.pddl_ast.specs.Trees.{FormulaTree, FormulaTrees, atom, equal, all, an
 use Rattle.pddl_system.specs.GroundAtoms.{atom_of}
 use Rattle.pddl_system.specs.Objects.{bindings, object_of}
 use Rattle.pddl_system.specs.Settings.{Setting}
-use Rattle.pddl_system.specs.States.{atom_holds, formula_holds, number_of, value_at}
+use Rattle.pddl_system.specs.States.{atom_holds, formula_holds, fluent_number, value_at}
 use Rattle.ctl_syntax.proofs.ConditionTrees.{holds_is, one_holds, tree_holds, trees_hold}
 use Rattle.ctl_syntax.specs.Conditions.{CondTree, is_fluent_true, condition_row, condition_value}
 use Rattle.pddl_system.specs.Tasks.{constant, atom_condition, condition_of, conditions_of}
@@ -33,7 +33,7 @@ constant_same false value = refl
 -- the condition of a formula holds where the formula does
 module _ (at : Setting) (fl : List AtomTree) (v : Vector) where
   atom_same : (a : AtomTree) → tree_holds (atom_condition at fl a) (value_of v) ≡ atom_holds at fl v a
-  atom_same a = by_number (number_of fl a)
+  atom_same a = by_number (fluent_number fl a)
     where
       by_number : (o : Option ℕ) → tree_holds (option_map_or is_fluent_true o (constant (at.is_fact a))) (value_of v) ≡ value_at v (at.is_fact a) o
       by_number (Some k) = refl

@@ -25,7 +25,7 @@ use Rattle.pddl_system.specs.Objects.{bindings}
 use Rattle.pddl_system.specs.Outcomes.{ChangeTree, OutcomeTree, may_change, outcomes, outcomes_of}
 use Rattle.pddl_system.specs.Settings.{Setting, is_rigid_in, setting}
 use Rattle.pddl_system.specs.Sizes.{binding_count, first_passed, outcome_count}
-use Rattle.pddl_system.specs.States.{comes_about, formula_holds, number_of}
+use Rattle.pddl_system.specs.States.{comes_about, formula_holds, fluent_number}
 use Rattle.pddl_system.specs.Systems.{action_names, fluent_names, system}
 use Rattle.pddl_system.specs.Tasks.{task_of}
 use Rattle.pddl_system.specs.ThreeValues.{value}
@@ -155,7 +155,7 @@ FluentsDiffer = (d : DomainTree) (p : ProblemTree) → AllPairs (λ a b. a ≢ b
 abbrev pub RigidAtomsAreNoFluents : Type 0
 RigidAtomsAreNoFluents =
     (d : DomainTree) (p : ProblemTree) (a : AtomTree)
-    → is_rigid_in d p a.predicate ≡ true → number_of (fluents d p) a ≡ None
+    → is_rigid_in d p a.predicate ≡ true → fluent_number (fluents d p) a ≡ None
 
 -- the parts of the system of a domain and a problem fit together
 abbrev pub TheyHaveASystem : Type 0

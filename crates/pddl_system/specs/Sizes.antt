@@ -126,8 +126,8 @@ most_instances = 1000000
 abbrev pub most_actions : ℕ
 most_actions = 16384
 
-abbrev pub most_outcomes : ℕ
-most_outcomes = 64
+abbrev pub most_outcomes_of_one : ℕ
+most_outcomes_of_one = 64
 
 abbrev pub most_fluents : ℕ
 most_fluents = 256
@@ -147,7 +147,7 @@ keeps d p instance_limit =
     nat_le (instance_count (setting d p).objects d.actions) most_instances
 keeps d p action_limit = nat_le (length (kept_instances d p)) most_actions
 keeps d p outcome_limit =
-    list_all (λ i. nat_le (length (outcomes_of (setting d p) i)) most_outcomes)
+    list_all (λ i. nat_le (length (outcomes_of (setting d p) i)) most_outcomes_of_one)
     (kept_instances d p)
 keeps d p fluent_limit = nat_le (length (fluents d p)) most_fluents
 

@@ -11,8 +11,8 @@ use Rattle.pddl_system.specs.Settings.{Setting}
 use Rattle.pddl_system.specs.Truth.{is_true}
 
 -- the number of an atom among the fluents
-abbrev pub number_of : List AtomTree → AtomTree → Option ℕ
-number_of fluents a = position (same_atom a) fluents
+abbrev pub fluent_number : List AtomTree → AtomTree → Option ℕ
+fluent_number fluents a = position (same_atom a) fluents
 
 -- the value of an atom that has this number, or of one that is no fluent
 abbrev pub value_at : Vector → Bool → Option ℕ → Bool
@@ -21,7 +21,7 @@ value_at v initially None = initially
 
 -- the value of an atom in the state v
 abbrev pub atom_holds : Setting → List AtomTree → Vector → AtomTree → Bool
-atom_holds at fluents v a = value_at v (at.is_fact a) (number_of fluents a)
+atom_holds at fluents v a = value_at v (at.is_fact a) (fluent_number fluents a)
 
 -- whether a formula holds in the state v, where the variables in scope stand for these objects
 abbrev pub formula_holds : Setting → List AtomTree → Vector → FormulaTree → List ℕ → Bool

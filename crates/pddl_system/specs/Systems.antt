@@ -28,8 +28,8 @@ literal_of fluents l = record {
 }
 
 -- the uncertain entries over the fluents
-abbrev pub entry_of : List AtomTree → List (List LiteralTree) → Entry
-entry_of fluents = map (map (literal_of fluents))
+abbrev pub entry_over : List AtomTree → List (List LiteralTree) → Entry
+entry_over fluents = map (map (literal_of fluents))
 
 -- the state in which just the facts are true
 abbrev pub facts_of : Setting → List AtomTree → Vector
@@ -38,7 +38,7 @@ facts_of at = map at.is_fact
 -- the initial states: the uncertain entries act in their order on the facts
 abbrev pub initial_of : Setting → List AtomTree → List (List (List LiteralTree)) → List Vector
 initial_of at fluents entries =
-    after_entries (length fluents) (facts_of at fluents) (map (entry_of fluents) entries)
+    after_entries (length fluents) (facts_of at fluents) (map (entry_over fluents) entries)
 
 -- the states in which a formula without free variables holds
 abbrev pub states_where : Setting → List AtomTree → FormulaTree → List Vector

@@ -20,8 +20,8 @@ use Rattle.pddl_system.specs.Objects.{bindings, object_of}
 use Rattle.pddl_system.specs.Outcomes.{ChangeTree, Condition, OutcomeTree, outcomes_of}
 use Rattle.pddl_system.specs.Outcomes.{possible_changes}
 use Rattle.pddl_system.specs.Settings.{Setting, setting}
-use Rattle.pddl_system.specs.States.{number_of}
-use Rattle.pddl_system.specs.Systems.{entry_of, facts_of, fluent_names, instance_name}
+use Rattle.pddl_system.specs.States.{fluent_number}
+use Rattle.pddl_system.specs.Systems.{entry_over, facts_of, fluent_names, instance_name}
 
 -- an action of a task: its name, when it can be executed, and its outcomes, each a list of changes
 -- under a condition
@@ -43,7 +43,7 @@ constant b = if b then yes_always else no_never
 
 abbrev pub atom_condition : Setting → List AtomTree → AtomTree → CondTree
 atom_condition at fluents a =
-    option_map_or is_fluent_true (number_of fluents a) (constant (at.is_fact a))
+    option_map_or is_fluent_true (fluent_number fluents a) (constant (at.is_fact a))
 
 -- the condition of a formula where the variables in scope stand for these objects. An implication
 -- is that the first part doesn't hold, or the second does; a quantifier is taken for each binding,
@@ -101,6 +101,6 @@ task_of d p = record {
   fluents = fluent_names d p;
   actions = map (action_of d p) (kept_instances d p);
   facts = facts_of (setting d p) (fluents d p);
-  entries = map (entry_of (fluents d p)) p.entries;
+  entries = map (entry_over (fluents d p)) p.entries;
   goal = option_map (λ goal. condition_of (setting d p) (fluents d p) goal []) p.goal;
 }

@@ -38,7 +38,7 @@ conditions_for_each-loop-number-preserved t c =
     let all = bindings at.objects c.args.types.now in
     let number = c.loop-number.number in
     let part = formula_value c.args.formula.now in
-    let there : number < length all = bound_below at.objects c.args.types.now c.binding_count-count.result number c.binding_count-count.ensures c.loop-number-test.true in
+    let there : number < length all = bound_below at.objects c.args.types.now c.in_ok-count.count number c.in_ok-count.ensures.count c.loop-number-test.true in
     let entered : c.bind.new.scope.items ≡ scope ++ get_or all number [] = c.in_ok-bind.ensures ∙ ap (λ s. s ++ get_or all number []) c.loop-number.invariant.0 in
     let new : condition_value c.in_ok-condition.field-0 ≡ condition_of at c.args.fluents.now part (scope ++ get_or all number []) = c.in_ok-condition.ensures.condition ∙ ap (condition_of at c.args.fluents.now part) entered in (
       c.truncate.ensures.items ∙ unbound scope c.bind.new.scope.items c.condition.new.scope.items c.loop-number.scope.items (get_or all number []) c.len-outer.result (c.in_ok-bind.ensures) c.loop-number.invariant.0 c.in_ok-condition.ensures.scope (c.len-outer.ensures ∙ c.args.scope.now.ok.0),
@@ -50,5 +50,5 @@ pub conditions_for_each-returns-clause-conditions : goal.conditions_for_each-ret
 conditions_for_each-returns-clause-conditions t c =
     let at = setting_in c.args.setting.now in
     map_end (λ chosen. condition_of at c.args.fluents.now (formula_value c.args.formula.now) (c.args.scope.now.items ++ chosen)) (bindings at.objects c.args.types.now) c.loop-number.number _ _
-    (bound_end at.objects c.args.types.now c.binding_count-count.result c.loop-number.number c.binding_count-count.ensures (omega (arith, c.if-count-gt-MOST_BINDINGS.false)) c.loop-number-test.false)
+    (bound_end at.objects c.args.types.now c.in_ok-count.count c.loop-number.number c.in_ok-count.ensures.count c.loop-number-test.false)
     c.loop-number.invariant.1

@@ -5,7 +5,7 @@ use Rattle.ground_instances.specs.Tables.{setting_in}
 use Rattle.pddl_ast.specs.Values.{domain_value, schema_value}
 use Rattle.pddl_system.specs.Instances.{Instance as InstanceTree}
 use Rattle.pddl_system.specs.Outcomes.{outcomes_of}
-use Rattle.pddl_system.specs.Sizes.{most_outcomes}
+use Rattle.pddl_system.specs.Sizes.{most_outcomes_of_one}
 use Rattle.ground_task.specs.Capped.{has_few}
 use Rattle.ground_task.proofs.NamingLemmas.{turn}
 use Rattle.ground_task.proofs.NumberedLemmas.{all_fails, all_passes, read_at_action}
@@ -25,7 +25,7 @@ returns-then-not-index c =
     let at = setting_in c.args.setting.now in
     let k = turn (instance_of d) c.args.instances.now (kept_by at d) c.loop-instance.instance-index c.instance-item.result c.requires c.loop-instance-test.true c.instance-item.is in
     let there = read_at_action d at c.in_ok-few.few.items c.instance-item.result k.0 c.index.result.now (c.in_ok-few.ensures ∙ ap (λ l. map (has_few at) (map schema_value l)) c.deref.ensures.value) k.1 in
-    all_fails (λ (i : InstanceTree). nat_le (length (outcomes_of at i)) most_outcomes) (kept_by at d) c.loop-instance.instance-index k.0 _ k.2 (sym (there.1 c.index.ensures) ∙ c.if-not-index.true) c.loop-instance.invariant
+    all_fails (λ (i : InstanceTree). nat_le (length (outcomes_of at i)) most_outcomes_of_one) (kept_by at d) c.loop-instance.instance-index k.0 _ k.2 (sym (there.1 c.index.ensures) ∙ c.if-not-index.true) c.loop-instance.invariant
 
 pub loop-instance-preserved : goal.loop-instance-preserved
 loop-instance-preserved c =
@@ -33,4 +33,4 @@ loop-instance-preserved c =
     let at = setting_in c.args.setting.now in
     let k = turn (instance_of d) c.args.instances.now (kept_by at d) c.loop-instance.instance-index c.instance-item.result c.requires c.loop-instance-test.true c.instance-item.is in
     let there = read_at_action d at c.in_ok-few.few.items c.instance-item.result k.0 c.index.result.now (c.in_ok-few.ensures ∙ ap (λ l. map (has_few at) (map schema_value l)) c.deref.ensures.value) k.1 in
-    all_passes (λ (i : InstanceTree). nat_le (length (outcomes_of at i)) most_outcomes) (kept_by at d) c.loop-instance.instance-index k.0 _ k.2 (sym (there.1 c.index.ensures) ∙ c.if-not-index.false) c.loop-instance.invariant
+    all_passes (λ (i : InstanceTree). nat_le (length (outcomes_of at i)) most_outcomes_of_one) (kept_by at d) c.loop-instance.instance-index k.0 _ k.2 (sym (there.1 c.index.ensures) ∙ c.if-not-index.false) c.loop-instance.invariant

@@ -9,15 +9,15 @@ use Rattle.pddl_ast.specs.Values.{domain_value, problem_value}
 use Rattle.pddl_system.specs.Instances.{Instance as InstanceTree}
 use Rattle.pddl_system.specs.Outcomes.{outcomes_of}
 use Rattle.pddl_system.specs.Settings.{Setting, setting}
-use Rattle.pddl_system.specs.Sizes.{keeps, most_outcomes, outcome_limit}
+use Rattle.pddl_system.specs.Sizes.{keeps, most_outcomes_of_one, outcome_limit}
 use Rattle.ground_task.proofs.LimitLemmas.{passes_fluents, passes_outcomes}
 use Rattle.ground_task.proofs.grounding.all_fluents.Goals as goal
 
 -- what is counted is what the limit asks for
 counted : (d : DomainTree) (p : ProblemTree) (at : Setting) (few b : Bool) → at ≡ setting d p
-    → few ≡ list_all (λ (i : InstanceTree). nat_le (length (outcomes_of at i)) most_outcomes) (kept_by at d) → few ≡ b → keeps d p outcome_limit ≡ b
+    → few ≡ list_all (λ (i : InstanceTree). nat_le (length (outcomes_of at i)) most_outcomes_of_one) (kept_by at d) → few ≡ b → keeps d p outcome_limit ≡ b
 counted d p at few b is counts answer =
-    sym (counts ∙ ap (λ (s : Setting). list_all (λ (i : InstanceTree). nat_le (length (outcomes_of s i)) most_outcomes) (kept_by s d)) is) ∙ answer
+    sym (counts ∙ ap (λ (s : Setting). list_all (λ (i : InstanceTree). nat_le (length (outcomes_of s i)) most_outcomes_of_one) (kept_by s d)) is) ∙ answer
 
 pub returns-then-not-few-clause-limit : goal.returns-then-not-few-clause-limit
 returns-then-not-few-clause-limit c =

@@ -20,7 +20,7 @@ new-requires-clause-few_fluents c =
       named = c.in_ok-names.ensures;
       acts = c.in_ok-actions.ensures;
       begins = c.facts-facts.ensures;
-      entered = c.in_ok-entries.ensures ∙ ap (λ l. map (systems.entry_of fl) (entries_value l)) c.deref.ensures.value;
+      entered = c.in_ok-entries.ensures ∙ ap (λ l. map (systems.entry_over fl) (entries_value l)) c.deref.ensures.value;
       wanted = c.in_ok-goal.ensures;
     } in
     (make_task d p at fl c.in_ok-names.names.items c.in_ok-actions.actions.items init c.in_ok-goal.goal built c.requires.fits_domain c.requires.fits_problem c.requires.names c.requires.within).few_fluents
@@ -38,7 +38,7 @@ new-requires-clause-few_actions c =
       named = c.in_ok-names.ensures;
       acts = c.in_ok-actions.ensures;
       begins = c.facts-facts.ensures;
-      entered = c.in_ok-entries.ensures ∙ ap (λ l. map (systems.entry_of fl) (entries_value l)) c.deref.ensures.value;
+      entered = c.in_ok-entries.ensures ∙ ap (λ l. map (systems.entry_over fl) (entries_value l)) c.deref.ensures.value;
       wanted = c.in_ok-goal.ensures;
     } in
     (make_task d p at fl c.in_ok-names.names.items c.in_ok-actions.actions.items init c.in_ok-goal.goal built c.requires.fits_domain c.requires.fits_problem c.requires.names c.requires.within).few_actions
@@ -56,7 +56,7 @@ new-requires-clause-actions_within c =
       named = c.in_ok-names.ensures;
       acts = c.in_ok-actions.ensures;
       begins = c.facts-facts.ensures;
-      entered = c.in_ok-entries.ensures ∙ ap (λ l. map (systems.entry_of fl) (entries_value l)) c.deref.ensures.value;
+      entered = c.in_ok-entries.ensures ∙ ap (λ l. map (systems.entry_over fl) (entries_value l)) c.deref.ensures.value;
       wanted = c.in_ok-goal.ensures;
     } in
     (make_task d p at fl c.in_ok-names.names.items c.in_ok-actions.actions.items init c.in_ok-goal.goal built c.requires.fits_domain c.requires.fits_problem c.requires.names c.requires.within).within.actions_within
@@ -74,7 +74,7 @@ new-requires-clause-facts_within c =
       named = c.in_ok-names.ensures;
       acts = c.in_ok-actions.ensures;
       begins = c.facts-facts.ensures;
-      entered = c.in_ok-entries.ensures ∙ ap (λ l. map (systems.entry_of fl) (entries_value l)) c.deref.ensures.value;
+      entered = c.in_ok-entries.ensures ∙ ap (λ l. map (systems.entry_over fl) (entries_value l)) c.deref.ensures.value;
       wanted = c.in_ok-goal.ensures;
     } in
     (make_task d p at fl c.in_ok-names.names.items c.in_ok-actions.actions.items init c.in_ok-goal.goal built c.requires.fits_domain c.requires.fits_problem c.requires.names c.requires.within).within.facts_within
@@ -92,7 +92,7 @@ new-requires-clause-entries_within c =
       named = c.in_ok-names.ensures;
       acts = c.in_ok-actions.ensures;
       begins = c.facts-facts.ensures;
-      entered = c.in_ok-entries.ensures ∙ ap (λ l. map (systems.entry_of fl) (entries_value l)) c.deref.ensures.value;
+      entered = c.in_ok-entries.ensures ∙ ap (λ l. map (systems.entry_over fl) (entries_value l)) c.deref.ensures.value;
       wanted = c.in_ok-goal.ensures;
     } in
     (make_task d p at fl c.in_ok-names.names.items c.in_ok-actions.actions.items init c.in_ok-goal.goal built c.requires.fits_domain c.requires.fits_problem c.requires.names c.requires.within).within.entries_within
@@ -110,7 +110,7 @@ new-requires-clause-goal_within c =
       named = c.in_ok-names.ensures;
       acts = c.in_ok-actions.ensures;
       begins = c.facts-facts.ensures;
-      entered = c.in_ok-entries.ensures ∙ ap (λ l. map (systems.entry_of fl) (entries_value l)) c.deref.ensures.value;
+      entered = c.in_ok-entries.ensures ∙ ap (λ l. map (systems.entry_over fl) (entries_value l)) c.deref.ensures.value;
       wanted = c.in_ok-goal.ensures;
     } in
     (make_task d p at fl c.in_ok-names.names.items c.in_ok-actions.actions.items init c.in_ok-goal.goal built c.requires.fits_domain c.requires.fits_problem c.requires.names c.requires.within).within.goal_within
@@ -128,7 +128,7 @@ new-requires-clause-fluent_names c =
       named = c.in_ok-names.ensures;
       acts = c.in_ok-actions.ensures;
       begins = c.facts-facts.ensures;
-      entered = c.in_ok-entries.ensures ∙ ap (λ l. map (systems.entry_of fl) (entries_value l)) c.deref.ensures.value;
+      entered = c.in_ok-entries.ensures ∙ ap (λ l. map (systems.entry_over fl) (entries_value l)) c.deref.ensures.value;
       wanted = c.in_ok-goal.ensures;
     } in
     (make_task d p at fl c.in_ok-names.names.items c.in_ok-actions.actions.items init c.in_ok-goal.goal built c.requires.fits_domain c.requires.fits_problem c.requires.names c.requires.within).fluent_names
@@ -146,7 +146,7 @@ new-requires-clause-action_names c =
       named = c.in_ok-names.ensures;
       acts = c.in_ok-actions.ensures;
       begins = c.facts-facts.ensures;
-      entered = c.in_ok-entries.ensures ∙ ap (λ l. map (systems.entry_of fl) (entries_value l)) c.deref.ensures.value;
+      entered = c.in_ok-entries.ensures ∙ ap (λ l. map (systems.entry_over fl) (entries_value l)) c.deref.ensures.value;
       wanted = c.in_ok-goal.ensures;
     } in
     (make_task d p at fl c.in_ok-names.names.items c.in_ok-actions.actions.items init c.in_ok-goal.goal built c.requires.fits_domain c.requires.fits_problem c.requires.names c.requires.within).action_names
@@ -164,7 +164,7 @@ new-requires-clause-shallow_actions c =
       named = c.in_ok-names.ensures;
       acts = c.in_ok-actions.ensures;
       begins = c.facts-facts.ensures;
-      entered = c.in_ok-entries.ensures ∙ ap (λ l. map (systems.entry_of fl) (entries_value l)) c.deref.ensures.value;
+      entered = c.in_ok-entries.ensures ∙ ap (λ l. map (systems.entry_over fl) (entries_value l)) c.deref.ensures.value;
       wanted = c.in_ok-goal.ensures;
     } in
     (make_task d p at fl c.in_ok-names.names.items c.in_ok-actions.actions.items init c.in_ok-goal.goal built c.requires.fits_domain c.requires.fits_problem c.requires.names c.requires.within).shallow.shallow_actions
@@ -182,7 +182,7 @@ new-requires-clause-shallow_goal c =
       named = c.in_ok-names.ensures;
       acts = c.in_ok-actions.ensures;
       begins = c.facts-facts.ensures;
-      entered = c.in_ok-entries.ensures ∙ ap (λ l. map (systems.entry_of fl) (entries_value l)) c.deref.ensures.value;
+      entered = c.in_ok-entries.ensures ∙ ap (λ l. map (systems.entry_over fl) (entries_value l)) c.deref.ensures.value;
       wanted = c.in_ok-goal.ensures;
     } in
     (make_task d p at fl c.in_ok-names.names.items c.in_ok-actions.actions.items init c.in_ok-goal.goal built c.requires.fits_domain c.requires.fits_problem c.requires.names c.requires.within).shallow.shallow_goal
@@ -200,7 +200,7 @@ returns c =
       named = c.in_ok-names.ensures;
       acts = c.in_ok-actions.ensures;
       begins = c.facts-facts.ensures;
-      entered = c.in_ok-entries.ensures ∙ ap (λ l. map (systems.entry_of fl) (entries_value l)) c.deref.ensures.value;
+      entered = c.in_ok-entries.ensures ∙ ap (λ l. map (systems.entry_over fl) (entries_value l)) c.deref.ensures.value;
       wanted = c.in_ok-goal.ensures;
     } in
     task_is d p c.new.result c.in_ok-names.names c.in_ok-actions.actions init c.in_ok-goal.goal c.new.ensures.fluents c.new.ensures.actions c.new.ensures.init c.new.ensures.goal

@@ -9,5 +9,5 @@ use Rattle.ground_task.proofs.initial.entries.Given as goal
 
 abbrev pub invariant-loop-alternatives : goal.invariant-loop-alternatives
 invariant-loop-alternatives l =
-    map (λ (e : Vec Alternative Global). initial.entry_of e.items) l.entries.items ++ map (systems.entry_of l.fluents) (entries_value (drop l.alternatives-index l.listed))
-    ≡ map (systems.entry_of l.fluents) (entries_value l.listed)
+    map (λ (e : Vec Alternative Global). initial.entry_of e.items) l.entries.items ++ map (systems.entry_over l.fluents) (entries_value (drop l.alternatives-index l.listed))
+    ≡ map (systems.entry_over l.fluents) (entries_value l.listed)

@@ -6,5 +6,5 @@ use Rattle.ground_task.proofs.initial.entry.Given as goal
 
 abbrev pub invariant-loop-literals : goal.invariant-loop-literals
 invariant-loop-literals l =
-    initial.entry_of l.entry.items ++ systems.entry_of l.fluents (entry_value (drop l.literals-index l.alternatives))
-    ≡ systems.entry_of l.fluents (entry_value l.alternatives)
+    initial.entry_of l.entry.items ++ systems.entry_over l.fluents (entry_value (drop l.literals-index l.alternatives))
+    ≡ systems.entry_over l.fluents (entry_value l.alternatives)

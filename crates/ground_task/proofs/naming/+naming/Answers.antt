@@ -42,7 +42,7 @@ name_for_each-loop-number-preserved t c =
     let number = c.loop-number.number in
     let part = effect_value c.args.effect.now in
     let chosen = get_or all number [] in
-    let there : number < length all = bound_below at.objects c.args.types.now c.binding_count-count.result number c.binding_count-count.ensures c.loop-number-test.true in
+    let there : number < length all = bound_below at.objects c.args.types.now c.in_ok-count.count number c.in_ok-count.ensures.count c.loop-number-test.true in
     let entered : c.bind.new.scope.items ≡ scope ++ chosen = c.in_ok-bind.ensures ∙ ap (λ s. s ++ chosen) c.loop-number.invariant.0 in (
       c.truncate.ensures.items ∙ unbound scope c.bind.new.scope.items c.name_effect.new.scope.items c.loop-number.scope.items chosen c.len-outer.result c.in_ok-bind.ensures c.loop-number.invariant.0 c.in_ok-name_effect.ensures.scope (c.len-outer.ensures ∙ c.args.scope.now.ok.0),
       collect_step (λ (b : List ℕ). named_by_effect at part (scope ++ b)) all number [] c.loop-number.fluents _ _ there
@@ -54,5 +54,5 @@ pub name_for_each-returns-clause-named : goal.name_for_each-returns-clause-named
 name_for_each-returns-clause-named t c =
     let at = setting_in c.args.setting.now in
     collect_end (λ (b : List ℕ). named_by_effect at (effect_value c.args.effect.now) (c.args.scope.now.items ++ b)) (bindings at.objects c.args.types.now) c.loop-number.number c.loop-number.fluents _
-    (bound_end at.objects c.args.types.now c.binding_count-count.result c.loop-number.number c.binding_count-count.ensures (omega (arith, c.if-count-gt-MOST_BINDINGS.false)) c.loop-number-test.false)
+    (bound_end at.objects c.args.types.now c.in_ok-count.count c.loop-number.number c.in_ok-count.ensures.count c.loop-number-test.false)
     c.loop-number.invariant.1

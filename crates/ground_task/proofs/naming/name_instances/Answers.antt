@@ -34,7 +34,7 @@ loop-instance-preserved c =
     let same : instance_with s item ≡ k.0 = inner (instance_with s item) k.0 (sym c.schema_of-schema.ensures ∙ k.1) in
     collect_turn (λ (j : InstanceTree). named_by_effect at j.schema.effect j.objects) (kept_by at d) i k.0 c.loop-instance.fluents _ _ k.2
     (c.in_ok-name_effect.ensures.named
-    ∙ ap (λ l. collected c.loop-instance.fluents (named_by_effect at s.effect l)) (c.in_ok-scope.ensures.items ∙ c.deref.ensures.value)
+    ∙ ap (λ l. collected c.loop-instance.fluents (named_by_effect at s.effect l)) (c.in_ok-scope.ensures.items ∙ c.deref.ensures)
     ∙ ap (λ (j : InstanceTree). collected c.loop-instance.fluents (named_by_effect at j.schema.effect j.objects)) same)
     c.loop-instance.invariant
   where

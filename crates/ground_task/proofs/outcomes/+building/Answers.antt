@@ -100,7 +100,7 @@ outcomes_of_each-loop-number-preserved t c =
     let number = c.loop-number.number in
     let part = effect_value c.args.effect.now in
     let chosen = get_or all number [] in
-    let there : number < length all = bound_below at.objects c.args.types.now c.binding_count-count.result number c.binding_count-count.ensures c.loop-number-test.true in
+    let there : number < length all = bound_below at.objects c.args.types.now c.in_ok-count.count number c.in_ok-count.ensures.count c.loop-number-test.true in
     let entered : c.bind.new.scope.items ≡ scope ++ chosen = c.in_ok-bind.ensures ∙ ap (λ s. s ++ chosen) c.loop-number.invariant.0 in (
       c.truncate.ensures.items ∙ unbound scope c.bind.new.scope.items c.outcomes.new.scope.items c.loop-number.scope.items chosen c.len-outer.result c.in_ok-bind.ensures c.loop-number.invariant.0 c.in_ok-next.ensures.scope (c.len-outer.ensures ∙ c.args.scope.now.ok.0),
       together_step at c.args.fluents.now c.args.guards.now (λ (b : List ℕ). plain.outcomes at.objects part (scope ++ b)) all number []
@@ -114,5 +114,5 @@ pub outcomes_of_each-returns-clause-outcomes : goal.outcomes_of_each-returns-cla
 outcomes_of_each-returns-clause-outcomes t c =
     let at = setting_in c.args.setting.now in
     together_end at c.args.fluents.now c.args.guards.now (λ (chosen : List ℕ). plain.outcomes at.objects (effect_value c.args.effect.now) (c.args.scope.now.items ++ chosen)) (bindings at.objects c.args.types.now) c.loop-number.number (map outcome_value c.loop-number.made.items)
-    (bound_end at.objects c.args.types.now c.binding_count-count.result c.loop-number.number c.binding_count-count.ensures (omega (arith, c.if-count-gt-MOST_BINDINGS.false)) c.loop-number-test.false)
+    (bound_end at.objects c.args.types.now c.in_ok-count.count c.loop-number.number c.in_ok-count.ensures.count c.loop-number-test.false)
     c.loop-number.invariant.1
