@@ -21,6 +21,7 @@ ghost use Rattle.std.specs.Prelude.{
   List,
   OnOk,
   length,
+  map,
 };
 ghost use Rattle.task_core.specs.States.{IsWithin};
 ghost use Rattle.task_core.specs.Tasks.{action_count, fluent_count, system_of};
@@ -72,32 +73,22 @@ pub fn execute(
 ) -> Result<Trace, RunErr>
     requires plan_of_task { IsPlanOf (fluent_count task.now) (action_count task.now) plan.now }
     requires within { IsWithin (fluent_count task.now) first }
-    requires untold { All (λ monitor. counted monitor ≡ 0) monitors.old.items }
+    requires untold { All (λ monitor. (shown monitor).counted ≡ 0) monitors.old.items }
     ensures first_state { IfOk result (λ trace. trace.first ≡ first) }
     ensures trace { IfOk result (λ trace. trace_value (fluent_count task.now) trace (left world.new)
         ≡ trace_in task.now plan.now first (left world.old)) }
     ensures in_task { IfOk result (λ trace.
         All (IsStepOf (fluent_count task.now) (action_count task.now)) trace.steps.items) }
-    ensures told { IfOk result (λ trace. AreTold
-        (λ monitor. record {
-          counted = counted monitor;
-          title = title monitor;
-          weight = weight
-              monitor;
-        })
-        trace.steps.items monitors.old.items monitors.new.items) }
+    ensures told { IfOk result (λ trace. AreTold trace.steps.items
+        (map (λ monitor. shown monitor) monitors.old.items)
+        (map (λ monitor. shown monitor) monitors.new.items)) }
     ensures refused { IfErr result (λ refusal. (steps : List Step) ×
         IsRefused (fluent_count task.now) refusal
         (trace_in task.now plan.now first (left world.old)) (left world.old) steps (left world.new)
         × All (IsStepOf (fluent_count task.now) (action_count task.now)) steps
-        × AreTold
-        (λ monitor. record {
-          counted = counted monitor;
-          title = title monitor;
-          weight = weight
-              monitor;
-        })
-        steps monitors.old.items monitors.new.items) }
+        × AreTold steps
+        (map (λ monitor. shown monitor) monitors.old.items)
+        (map (λ monitor. shown monitor) monitors.new.items)) }
 {
     let mut run = Run {
         steps: Vec::new(alloc),
@@ -148,15 +139,10 @@ impl Run {
         context: Option<u32>,
         monitors: &mut Vec<Box<dyn Monitor>>,
     ) -> Result<(), AllocFailed<Step>>
-        requires small { All (λ monitor. counted monitor ≤ 2 ^ 127) monitors.old.items }
-        ensures told { AreTold
-            (λ monitor. record {
-              counted = counted monitor;
-              title = title monitor;
-              weight = weight
-                  monitor;
-            })
-            (step ∷ []) monitors.old.items monitors.new.items }
+        requires small { All (λ monitor. (shown monitor).counted ≤ 2 ^ 127) monitors.old.items }
+        ensures told { AreTold (step ∷ [])
+            (map (λ monitor. shown monitor) monitors.old.items)
+            (map (λ monitor. shown monitor) monitors.new.items) }
         ensures steps { OnOk result (self.new.steps.items ≡ self.old.steps.items ++ step ∷ []) }
         ensures state { OnOk result (self.new.state ≡ step.after) }
         ensures context { OnOk result (self.new.context ≡ context) }

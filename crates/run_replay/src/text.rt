@@ -7,6 +7,7 @@ ghost use Rattle.run_replay.specs.TraceTexts.{
   ending_word,
   step_line,
   tally_line,
+  tally_lines,
   trace_text,
 };
 ghost use Rattle.std.specs.List.{flat_map};
@@ -49,7 +50,7 @@ pub fn write_trace(
         ≡ trace_text (action_names task.now)
         (steps_value (fluent_count task.now) trace.now.steps.items)
         (ending_of trace.now.end)
-        ++ flat_map (λ monitor. tally_line (title monitor) (counted monitor)) monitors.now) }
+        ++ tally_lines (map (λ monitor. shown monitor) monitors.now)) }
 {
     let mut out = Vec::new(alloc);
     push_steps(&mut out, task, &trace.steps)?;
@@ -113,7 +114,7 @@ fn push_tallies(
     monitors: &[Box<dyn Monitor>],
 ) -> Result<(), AllocError>
     ensures { OnOk result (out.new.items ≡ out.old.items
-        ++ flat_map (λ monitor. tally_line (title monitor) (counted monitor)) monitors.now) }
+        ++ tally_lines (map (λ monitor. shown monitor) monitors.now)) }
 {
     for monitor in monitors {
         push_tally(alloc, out, monitor)?;
@@ -128,7 +129,7 @@ fn push_tally(
     monitor: &Box<dyn Monitor>,
 ) -> Result<(), AllocError>
     ensures { OnOk result (out.new.items
-        ≡ out.old.items ++ tally_line (title monitor.now) (counted monitor.now)) }
+        ≡ out.old.items ++ tally_line (shown monitor.now).title (shown monitor.now).counted) }
 {
     out.extend_from_slice(b"tally ")?;
     push_title(alloc, out, monitor)?;
@@ -143,14 +144,14 @@ fn push_title(
     out: &mut Vec<u8>,
     monitor: &Box<dyn Monitor>,
 ) -> Result<(), AllocError>
-    ensures { OnOk result (out.new.items ≡ out.old.items ++ title monitor.now) }
+    ensures { OnOk result (out.new.items ≡ out.old.items ++ (shown monitor.now).title) }
 {
     monitor.name(alloc, out)
 }
 
 /// The tally of a monitor.
 fn tally_of(monitor: &Box<dyn Monitor>) -> u128
-    ensures { result ≡ counted monitor.now }
+    ensures { result ≡ (shown monitor.now).counted }
 {
     monitor.tally()
 }
