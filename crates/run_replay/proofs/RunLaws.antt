@@ -16,10 +16,11 @@ use Rattle.run_replay.specs.declared.traces.RunErr.TheVariants.{StrayOutcome, Un
 use Rattle.run_replay.specs.Runs.{IsStepOf, IsFrontOf, IsRefused, outcome_numbers, step_value, steps_value}
 use Rattle.run_replay.specs.Running.{HasRun, after_steps, next_turn_of, rest_of}
 use Rattle.run_replay.specs.Traces.{Trace, TraceStep, Turn, Ends, Goes, Ending, Terminal, Ended, Capped, Stray, Unexecutable, turn, acting, choosing, trace_from, trace_of, after_step, most_steps}
+use Rattle.run_replay.specs.TraceTexts.{tallies_of, tally_lines}
 use Rattle.run_replay.specs.Turns.{IsRefusal}
 use Rattle.run_replay.specs.Watching.{AreTold, MonitorData}
 use Rattle.run_replay.proofs.PlanCubes.{unmapped}
-use Rattle.run_replay.proofs.Telling.{are_told_none, are_told_more, small_tallies}
+use Rattle.run_replay.proofs.Telling.{are_told_none, are_told_more, small_tallies, tallies_told}
 
 not_zero : (k : ℕ) → (suc k == 0) ≡ false
 not_zero k = grind (arith, nat_tests)
@@ -197,3 +198,12 @@ pub tallies_are_small : {X : Type 0} (shown : X → MonitorData) (monitors now :
 tallies_are_small {X} shown monitors now {steps} run untold =
     unmapped (λ (y : MonitorData). y.counted ≤ 2 ^ 127) shown now
     (small_tallies steps (map shown monitors) (map shown now) (All-map (λ (x : MonitorData). x.counted ≡ 0) shown monitors untold) run.told run.few)
+
+-- what is told of them after the run
+pub tallies_are_sums : {X : Type 0} (shown : X → MonitorData) (monitors now : List X)
+    {sys : System} {plan : ContextPlan} {n m : ℕ} {first : Vector} {words : List ℕ}
+    {steps : List Step} {state : State} {context : Option ℕ} {left : List ℕ}
+    → HasRun sys plan n m first words (map shown monitors) steps state context left (map shown now)
+    → All (λ (x : X). (shown x).counted ≡ 0) monitors → tally_lines (map shown now) ≡ tallies_of (map shown monitors) steps
+tallies_are_sums {X} shown monitors now {steps} run untold =
+    tallies_told steps (map shown monitors) (map shown now) (All-map (λ (x : MonitorData). x.counted ≡ 0) shown monitors untold) run.told

@@ -5,6 +5,7 @@ ghost use Rattle.plan_rules.specs.Rules.{plain_of};
 ghost use Rattle.run_replay.specs.declared.worlds.Step.{Step};
 ghost use Rattle.run_replay.specs.Running.{next_turn_of};
 ghost use Rattle.run_replay.specs.Runs.{IsRefused, IsStepOf, trace_in, trace_value};
+ghost use Rattle.run_replay.specs.TraceTexts.{tallies_of, tally_lines};
 ghost use Rattle.run_replay.specs.Traces.{run_plan};
 ghost use Rattle.run_replay.specs.Turns.{IsTurn, MakesStepOf};
 ghost use Rattle.run_replay.specs.Watching.{AreTold};
@@ -59,7 +60,8 @@ struct Run {
 ///
 /// Want of memory may stop the run after any step. Whatever the answer, the monitors were told of
 /// the steps that were made and of nothing else, and the list has the same monitors in the same
-/// order, each with its title and its weights.
+/// order, each with its title and its weights. So what is told of the monitors after a run are the
+/// sums of their weights over its steps.
 ///
 /// The plan's numbers are those of the task's fluents and actions, the state has no true fluent
 /// past the task's, and no monitor has counted anything yet.
@@ -82,6 +84,9 @@ pub fn execute(
     ensures told { IfOk result (λ trace. AreTold trace.steps.items
         (map (λ monitor. shown monitor) monitors.old.items)
         (map (λ monitor. shown monitor) monitors.new.items)) }
+    ensures tallies { IfOk result (λ trace.
+        tally_lines (map (λ monitor. shown monitor) monitors.new.items)
+        ≡ tallies_of (map (λ monitor. shown monitor) monitors.old.items) trace.steps.items) }
     ensures refused { IfErr result (λ refusal. (steps : List Step) ×
         IsRefused (fluent_count task.now) refusal
         (trace_in task.now plan.now first (left world.old)) (left world.old) steps (left world.new)

@@ -1,6 +1,6 @@
 use Rattle.std.proofs.Common.{sym}
 use Rattle.std.proofs.lemmas.Result.{err_from_is_err_and}
-use Rattle.run_replay.proofs.RunLaws.{starts, one_more, ends, front_of, refuses, tallies_are_small}
+use Rattle.run_replay.proofs.RunLaws.{starts, one_more, ends, front_of, refuses, tallies_are_small, tallies_are_sums}
 use Rattle.run_replay.proofs.runs.execute.Goals as goal
 
 pub loop-end-init : goal.loop-end-init
@@ -8,6 +8,9 @@ loop-end-init g c = rw c.new.ensures.items (starts _ _ _ _ _ _ _ c.requires.with
 
 pub returns-in-Ends-clause-trace : goal.returns-in-Ends-clause-trace
 returns-in-Ends-clause-trace g c = sym (ends c.loop-end.invariant c.in-Ends.ensures.turn)
+
+pub returns-in-Ends-clause-tallies : goal.returns-in-Ends-clause-tallies
+returns-in-Ends-clause-tallies g c = tallies_are_sums _ _ _ c.loop-end.invariant c.requires.untold
 
 pub returns-in-Refuses-clause-refused : goal.returns-in-Refuses-clause-refused
 returns-in-Refuses-clause-refused g c =
