@@ -27,13 +27,12 @@ ghost use Rattle.std.specs.Prelude.{
 ghost use Rattle.task_core.specs.States.{IsWithin};
 ghost use Rattle.task_core.specs.Tasks.{action_count, fluent_count, system_of};
 
-use crate::advice::FIRST_CONTEXT;
 use crate::monitors::Monitor;
 use crate::traces::{RunErr, Trace};
 use crate::turns::{Turn, take_turn};
 use crate::watch::tell;
 use crate::worlds::{Step, World};
-use plan_rules::Plan;
+use plan_rules::{FIRST_CONTEXT, Plan};
 use std::alloc::{AllocFailed, Global};
 use task_core::{State, Task};
 
