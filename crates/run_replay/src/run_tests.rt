@@ -60,11 +60,11 @@ impl ActionMonitor {
 }
 
 impl Monitor for ActionMonitor {
-    ghost counted = { λ monitor. monitor.count };
-
-    ghost title = { λ _. codes "own" };
-
-    ghost weight = { λ monitor step. if step.action.0 == monitor.action.0 then 1 else 0 };
+    ghost shown = { λ monitor. record {
+      counted = monitor.count;
+      title = codes "own";
+      weight = λ step. if step.action.0 == monitor.action.0 then 1 else 0;
+    } };
 
     fn seen(&mut self, step: &Step) {
         if step.action == self.action {
@@ -175,7 +175,7 @@ fn told(
     world: &mut Box<dyn World>,
     monitors: &mut Vec<Box<dyn Monitor>>,
 ) -> Result<String, Fail>
-    requires { All (λ monitor. counted monitor ≡ 0) monitors.old.items }
+    requires { All (λ monitor. (shown monitor).counted ≡ 0) monitors.old.items }
 {
     let mut out = String::new(alloc);
     if plan.len() > MAX_BYTES {
@@ -331,7 +331,7 @@ fn told_at_the_end(
     world: &mut Box<dyn World>,
     monitors: &mut Vec<Box<dyn Monitor>>,
 ) -> Result<String, Fail>
-    requires { All (λ monitor. counted monitor ≡ 0) monitors.old.items }
+    requires { All (λ monitor. (shown monitor).counted ≡ 0) monitors.old.items }
 {
     let mut out = String::new(alloc);
     let task = switches(alloc)?.ok_or("no task")?;
