@@ -1,5 +1,5 @@
 -- What the parts of the planner answer.
-use Rattle.std.proofs.Common.{◌≡◌, ℕ, zero, suc, ◌+◌, ◌<◌, Bool, true, false, cond, not, ◌&&◌, List, [], ◌∷◌, ◌++◌, map, length, Option, None, Some, IsTrue, ◌↔◌, refl, sym, ap, subst, ◌∙◌, arith}
+use Rattle.std.proofs.Common.{◌≡◌, ℕ, zero, suc, ◌+◌, ◌<◌, ◌^◌, Bool, true, false, cond, not, ◌&&◌, List, [], ◌∷◌, ◌++◌, map, length, Option, None, Some, IsTrue, ◌↔◌, refl, sym, ap, subst, ◌∙◌, arith}
 use Rattle.std.specs.Option.{option_map, unwrap_or}
 use Rattle.std.specs.List.{Contains, flat_map, list_all, list_any, range_with_len}
 use Rattle.std.proofs.Math.Path.{fun_ext}
@@ -8,7 +8,9 @@ use Rattle.std.proofs.lemmas.Grind.{flat_map-append}
 use Rattle.std.proofs.lemmas.List.{append-nil}
 use Rattle.plan_rules.specs.Rules.{PlanRule}
 use Rattle.reach_plan.proofs.Ranges.{range-more}
-use Rattle.cyclic_plan.specs.Answers.{rule_for, rules_at}
+use Rattle.reach_plan.specs.Printed.{rules_of_action, takers}
+use Rattle.task_core.specs.declared.classes.Class.TheVariants.{Weak}
+use Rattle.cyclic_plan.specs.Answers.{rule_for}
 use Rattle.dd_nodes.specs.NodeList.{Values}
 use Rattle.dd_nodes.specs.Subfunctions.{DependsOnly, Function}
 use Rattle.dd_ops.specs.Operations.{minus_of}
@@ -30,7 +32,8 @@ use Rattle.reach_plan.proofs.WeakLists.{list_all-agree, list_all-at, list_all-fr
 use Rattle.slot_board.proofs.BoardSlots.{depends, initial_is}
 use Rattle.slot_board.specs.Board.{set_at}
 use Rattle.cyclic_plan.specs.Begun.{board_of, At, HasNothing, Moved, Start}
-use Rattle.cyclic_plan.specs.Pairs.{is_goal}
+use Rattle.cyclic_plan.specs.Pairs.{is_goal, restricted}
+use Rattle.cyclic_plan.specs.Takers.{HasTable}
 use Rattle.cyclic_plan.specs.Rounds.{round}
 use Rattle.cyclic_plan.specs.Stages.{Agrees, HasNear, HasRound, Takings, none_taken}
 use Rattle.cyclic_plan.proofs.StageSteps.{here, near_still, still}
@@ -159,19 +162,21 @@ cubes_agree (suc n) first f g same =
     put e d w x i j a b c {k} {l} {p} {q} s t = λ z. cond (a z) [] (cond (b z) ([] ∷ []) (cond (c z) (s z) (map (λ cube. literal first false ∷ cube) (s z) ++ map (λ cube. literal first true ∷ cube) (t z))))
 
 -- the rules of one action more
-pub rules_more : (start : Start) (enc : Encoded) (slots : List SetId) (left : SetOfVectors) (taken : Takings) (near : SetOfVectors) (a place : ℕ) (before after : List PlanRule) (cubes : List Cube) → HasNear start enc slots left taken near → a < action_count start.task
-    → place ≡ 7 + action_count start.task + a → before ≡ flat_map (rules_at (fluent_count start.task) taken) (range_with_len 0 a) → cubes ≡ cubes_of enc.sets.vars (λ state. set_at enc.sets slots place (value_of state)) → after ≡ before ++ map (rule_for a) cubes
-    → after ≡ flat_map (rules_at (fluent_count start.task) taken) (range_with_len 0 (a + 1))
-rules_more start enc slots left taken near a place before after cubes h l at is made more =
+pub rules_more : (start : Start) (enc : Encoded) (slots : List SetId) (h : HasTable start enc slots) (a place : ℕ) (before after : List PlanRule) (cubes : List Cube) → a < action_count start.task → place ≡ 7 + action_count start.task + a
+    → before ≡ flat_map (rules_of_action Weak (restricted (system_of start.task) h.pairs) (2 ^ fluent_count start.task)) (range_with_len 0 a) → cubes ≡ cubes_of enc.sets.vars (λ state. set_at enc.sets slots place (value_of state)) → after ≡ before ++ map (rule_for a) cubes
+    → after ≡ flat_map (rules_of_action Weak (restricted (system_of start.task) h.pairs) (2 ^ fluent_count start.task)) (range_with_len 0 (a + 1))
+rules_more start enc slots h a place before after cubes l at is made more =
     let n = fluent_count start.task in
-    let vars : enc.sets.vars ≡ n = h.round.at.working.kept.vars ∙ start.made.ready.vars ∙ start.made.fluents in
-    let same : cubes ≡ cubes_of n (taken a) =
+    let rules = rules_of_action Weak (restricted (system_of start.task) h.pairs) (2 ^ fluent_count start.task) in
+    let taken : SetOfVectors = takers Weak (restricted (system_of start.task) h.pairs) (2 ^ fluent_count start.task) a in
+    let vars : enc.sets.vars ≡ n = h.at.working.kept.vars ∙ start.made.ready.vars ∙ start.made.fluents in
+    let same : cubes ≡ cubes_of n taken =
     made ∙ ap (λ k. cubes_of k (λ state. set_at enc.sets slots place (value_of state))) vars
-    ∙ cubes_agree n 0 (λ state. set_at enc.sets slots place (value_of state)) (taken a)
-    (λ v len. ap (λ p. set_at enc.sets slots p (value_of v)) at ∙ h.round.holds_taken a l v len) in
+    ∙ cubes_agree n 0 (λ state. set_at enc.sets slots place (value_of state)) taken
+    (λ v len. ap (λ p. set_at enc.sets slots p (value_of v)) at ∙ h.taken a l v len) in
     more
     ∙ ap (λ xs. xs ++ map (rule_for a) cubes) is
-    ∙ ap (λ cs. flat_map (rules_at n taken) (range_with_len 0 a) ++ map (rule_for a) cs) same
-    ∙ ap (λ xs. flat_map (rules_at n taken) (range_with_len 0 a) ++ xs) (sym (append-nil (rules_at n taken a)))
-    ∙ sym (flat_map-append (rules_at n taken) (range_with_len 0 a) (a ∷ []))
-    ∙ ap (flat_map (rules_at n taken)) (sym (range-more a))
+    ∙ ap (λ cs. flat_map rules (range_with_len 0 a) ++ map (rule_for a) cs) same
+    ∙ ap (λ xs. flat_map rules (range_with_len 0 a) ++ xs) (sym (append-nil (rules a)))
+    ∙ sym (flat_map-append rules (range_with_len 0 a) (a ∷ []))
+    ∙ ap (flat_map rules) (sym (range-more a))

@@ -4,4 +4,5 @@ pub mod Rounds
 pub mod Printed
 pub mod Begun
 pub mod Stages
+pub mod Takers
 pub mod Answers
