@@ -4,14 +4,14 @@ use Rattle.dd_sets.specs.LiveSets.{IsSets}
 use Rattle.dd_sets.specs.declared.slots.SetId.{SetId}
 use Rattle.encode_task.specs.Made.{MadeOf}
 use Rattle.encode_task.specs.Slots.{Encoded}
-use Rattle.reach_plan.specs.Printed.{is_action}
+use Rattle.plan_theory.specs.LayerPlans.{is_action}
 use Rattle.slot_board.specs.Board.{set_at}
 use Rattle.task_core.specs.Tasks.{action_count, system_of}
 use Rattle.task_core.specs.declared.tasks.Task.{Task}
 use Rattle.cyclic_plan.specs.Begun.{At, Start}
-use Rattle.cyclic_plan.specs.Largest.{IsLargestSet, covers}
-use Rattle.cyclic_plan.specs.Pairs.{Pairs}
-use Rattle.cyclic_plan.specs.Printed.{progress_action}
+use Rattle.plan_theory.specs.LargestSets.{IsLargestSet, covers}
+use Rattle.plan_theory.specs.Pairs.{Pairs}
+use Rattle.plan_theory.specs.CyclicPlans.{progress_action}
 use Rattle.cyclic_plan.specs.Stages.{Agrees}
 
 -- where a search for a task began

@@ -3,9 +3,9 @@ use Rattle.std.specs.List.{flat_map, range_with_len}
 use Rattle.task_core.specs.Tasks.{action_count, fluent_count, system_of}
 use Rattle.task_core.specs.declared.classes.Class.TheVariants.{Weak}
 use Rattle.plan_rules.specs.Rules.{rule_of}
-use Rattle.reach_plan.specs.Printed.{rules_of_action}
+use Rattle.plan_theory.specs.LayerPlans.{rules_of_action}
 use Rattle.cyclic_plan.specs.Begun.{board_of}
-use Rattle.cyclic_plan.specs.Pairs.{restricted}
+use Rattle.plan_theory.specs.Pairs.{restricted}
 use Rattle.slot_board.proofs.BoardSlots.{made_at}
 use Rattle.cyclic_plan.proofs.PlanMade.{rules_more}
 use Rattle.cyclic_plan.proofs.plan.rules.Goals as goal
