@@ -16,7 +16,7 @@ use Rattle.dd_sets.specs.declared.errors.SetErr.{SetErr}
 use Rattle.dd_sets.specs.declared.errors.SetErr.TheVariants.{Full}
 use Rattle.dd_sets.specs.declared.slots.SetId.{SetId}
 use Rattle.encode_task.specs.Slots.{Encoded}
-use Rattle.cyclic_plan.specs.Begun.{At, IsTightAt, Start}
+use Rattle.slot_board.specs.Board.{At, IsTightAt, Start}
 use Rattle.plan_theory.specs.LargestSets.{IsLargestSet}
 use Rattle.plan_theory.specs.Pairs.{Pairs}
 use Rattle.plan_theory.specs.CyclicPlans.{cyclic_rules}

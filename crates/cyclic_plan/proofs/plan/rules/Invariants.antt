@@ -4,7 +4,7 @@ use Rattle.task_core.specs.Tasks.{fluent_count, system_of}
 use Rattle.task_core.specs.declared.classes.Class.TheVariants.{Weak}
 use Rattle.plan_rules.specs.Rules.{rule_of}
 use Rattle.plan_theory.specs.LayerPlans.{rules_of_action}
-use Rattle.cyclic_plan.specs.Begun.{Start}
+use Rattle.slot_board.specs.Board.{Start}
 use Rattle.plan_theory.specs.Pairs.{restricted}
 use Rattle.cyclic_plan.specs.Takers.{HasTable}
 use Rattle.cyclic_plan.proofs.plan.rules.Given as goal
