@@ -15,19 +15,19 @@ use Rattle.slot_board.specs.Board as board
 use Rattle.slot_board.specs.Board.{IsTightAt}
 use Rattle.slot_board.proofs.BoardSlots.{initial_is}
 use Rattle.cyclic_plan.proofs.PlanMade.{covers_is}
-use Rattle.chain_goals.specs.Chains.{Chained, context_count}
-use Rattle.chain_goals.specs.Plans.{HasNoContextPlan, IsChainPlan}
-use Rattle.chain_goals.specs.Printed.{chain_rules}
-use Rattle.chain_goals.specs.Wins.{covers_chain, win, win_at}
-use Rattle.chain_goals.proofs.RuleParts.{acts_as_printed, rules_within}
-use Rattle.chain_goals.proofs.Sound.{plan_solves}
+use Rattle.plan_theory.specs.Chains.{Chained, context_count}
+use Rattle.plan_theory.specs.ChainPlans.{HasNoContextPlan, IsChainPlan}
+use Rattle.plan_theory.specs.ChainPrinted.{chain_rules}
+use Rattle.plan_theory.specs.Wins.{covers_chain, win, win_at}
+use Rattle.plan_theory.proofs.RuleParts.{acts_as_printed, rules_within}
+use Rattle.plan_theory.proofs.Sound.{plan_solves}
 use Rattle.ctl_syntax.specs.ChainValues.{states_of}
 use Rattle.ctl_syntax.specs.declared.chains.Chain.{Chain}
 use Rattle.plan_rules.specs.Denoted.{denoted_contexts}
 use Rattle.plan_rules.specs.Plans.{IsContextRuleOf}
 use Rattle.plan_rules.specs.Rules.{ContextRule, context_rules_of}
 use Rattle.plan_rules.specs.declared.rules.AutoPlan.{AutoPlan}
-use Rattle.reach_plan.proofs.WeakLists.{list_all-agree}
+use Rattle.plan_theory.proofs.WeakLists.{list_all-agree}
 use Rattle.task_core.specs.Tasks.{action_count, fluent_count, system_of}
 use Rattle.task_core.specs.Vectors.{value_of}
 use Rattle.task_core.specs.declared.tasks.Task.{Task}
@@ -40,7 +40,7 @@ use Rattle.chain_plan.specs.Steps.{HasTakers, Won}
 use Rattle.chain_plan.specs.Tables.{HasTable, start_of}
 use Rattle.chain_plan.specs.declared.plan.FoundAuto.{FoundAuto}
 use Rattle.chain_plan.specs.declared.plan.FoundAuto.TheVariants.{NoPlan, Plan}
-use Rattle.chain_plan.proofs.SceneSteps.{begun, depends_at, moved_worked, same_length, worked_chain}
+use Rattle.chain_plan.proofs.SceneSteps.{depends_at, moved_worked, same_length, worked_chain}
 
 -- the initial states without those at a place
 module _ (start : Start) (x m y : Scene) (place : ℕ) (high : 8 ≤ place) (within : place < length x.1) (ready : IsReady start x) (first : Moved start x m 4 (set_of x.0.sets x.0.initial.0)) (second : Moved start m y 4 (minus_of (board.set_at m.0.sets m.1 4) (board.set_at m.0.sets m.1 place))) where
@@ -54,7 +54,7 @@ module _ (start : Start) (x m y : Scene) (place : ℕ) (high : 8 ≤ place) (wit
       second.here
       ∙ ap (λ (g : Function). minus_of g (board.set_at m.0.sets m.1 place)) (first.here ∙ initial_is (board_of start) x.0 x.1 ready.at)
       ∙ ap (minus_of (initial_set start.task)) (first.others place (omega arith) (λ e. absurd (omega arith))) in
-      covers_is (begun start) (board.set_at x.0.sets x.1 place) (states_at x place) (depends_at start x ready place) (λ v at. refl) answer
+      covers_is (board_of start) (board.set_at x.0.sets x.1 place) (states_at x place) (depends_at start x ready place) (λ v at. refl) answer
       (subst (λ (g : Function). IsTrue answer ↔ (g ≡ nothing)) e is)
 
 -- the states of the first context

@@ -6,11 +6,10 @@ use Rattle.dd_ops.specs.Operations.{and_of, minus_of, or_of}
 use Rattle.slot_board.specs.Board.{led, set_at}
 use Rattle.slot_board.specs.declared.board.Outcomes.TheVariants as Outcomes
 use Rattle.slot_board.proofs.BoardSlots.{depends}
-use Rattle.cyclic_plan.specs.Begun as cyclic
 use Rattle.cyclic_plan.proofs.StageSteps.{strong_agrees}
-use Rattle.chain_goals.specs.Safe.{some_must_lead}
-use Rattle.reach_plan.specs.Layers.{action_numbers, must_lead}
-use Rattle.reach_plan.proofs.WeakLists.{list_all-agree, list_any-agree}
+use Rattle.plan_theory.specs.Safe.{some_must_lead}
+use Rattle.plan_theory.specs.Layers.{action_numbers, must_lead}
+use Rattle.plan_theory.proofs.WeakLists.{list_all-agree, list_any-agree}
 use Rattle.task_core.specs.Cubes.{SetOfVectors}
 use Rattle.task_core.specs.Systems.{IsState}
 use Rattle.task_core.specs.Tasks.{action_count, fluent_count, next_states}
@@ -107,9 +106,6 @@ pub same_back : (start : Start) (f g : SetOfVectors) → SameStates start f g �
 same_back start f g same v is = sym (same v is)
 
 -- where an action leads into a set of states
-abbrev pub begun : Start → cyclic.Start
-begun start = record { task = start.task; enc = start.enc; made = start.made }
-
 pub depends_at : (start : Start) (x : Scene) → IsReady start x → (place : ℕ) → DependsOnly 0 (fluent_count start.task) (set_at x.0.sets x.1 place)
 depends_at start x ready place = depends (board_of start) x.0 x.1 ready.at ready.sound place
 
@@ -117,7 +113,7 @@ pub led_states : (start : Start) (x y : Scene) (place a into : ℕ) → IsReady 
     → SameStates start (states_at y place) (λ v. must_lead (sys_of start) (states_at x into) v a)
 led_states start x y place a into ready m v is =
     ap (λ (f : SetOfVectors). f v) (moved_here start x y place _ m)
-    ∙ strong_agrees (begun start) a (set_at x.0.sets x.1 into) (states_at x into) (depends_at start x ready into) (λ u at. refl) v is
+    ∙ strong_agrees (board_of start) a (set_at x.0.sets x.1 into) (states_at x into) (depends_at start x ready into) (λ u at. refl) v is
 
 pub leads_same : (start : Start) (f g : SetOfVectors) → SameStates start f g → (v : Vector) (a : ℕ) → IsState (sys_of start) v → must_lead (sys_of start) f v a ≡ must_lead (sys_of start) g v a
 leads_same start f g same v a is =

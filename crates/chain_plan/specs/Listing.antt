@@ -1,8 +1,8 @@
 -- Private: which rules were listed.
 use Rattle.std.specs.Prelude.{◌≡◌, ℕ, suc, ◌+◌, ◌-◌, List, ◌++◌, map}
 use Rattle.std.specs.List.{flat_map, range_with_len}
-use Rattle.chain_goals.specs.Chains.{Chained}
-use Rattle.chain_goals.specs.Printed.{rules_of_next}
+use Rattle.plan_theory.specs.Chains.{Chained}
+use Rattle.plan_theory.specs.ChainPrinted.{rules_of_next}
 use Rattle.plan_rules.specs.Rules.{ContextRule, always}
 use Rattle.task_core.specs.Cubes.{Cube, SetOfVectors, cubes_of}
 use Rattle.task_core.specs.Tasks.{fluent_count}

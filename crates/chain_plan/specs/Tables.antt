@@ -1,9 +1,9 @@
 -- The printed table on the board of a search: for each context, next context and action the states
 -- in which the action is taken.
 use Rattle.std.specs.Prelude.{◌≡◌, ℕ, suc, ◌+◌, ◌<◌, length, true}
-use Rattle.chain_goals.specs.Chains.{Chained}
-use Rattle.chain_goals.specs.Printed.{rule_states}
-use Rattle.chain_goals.specs.Wins.{covers_chain}
+use Rattle.plan_theory.specs.Chains.{Chained}
+use Rattle.plan_theory.specs.ChainPrinted.{rule_states}
+use Rattle.plan_theory.specs.Wins.{covers_chain}
 use Rattle.encode_task.specs.Made.{MadeOf}
 use Rattle.encode_task.specs.Slots.{Encoded}
 use Rattle.task_core.specs.Tasks.{action_count}

@@ -1,5 +1,5 @@
 -- The planner's answer: what is said of it.
-use Rattle.std.proofs.Common.{◌≡◌, ℕ, ◌+◌, ◌*◌, arith, ◌^◌, Bool, true, false, List, All, Option, Some, IfSome, Result, Ok, Err, IfOk, sym, subst, ◌∙◌}
+use Rattle.std.proofs.Common.{◌≡◌, ℕ, ◌+◌, ◌*◌, arith, ◌^◌, Bool, true, false, List, All, Option, Some, IfSome, Result, Ok, Err, IfOk, refl, sym, subst, ◌∙◌}
 use Rattle.std.specs.List.{list_all}
 use Rattle.std.proofs.lemmas.Bool.{false_from_ne_true, true≢false}
 use Rattle.dd_sets.specs.declared.errors.SetErr.{SetErr}
@@ -15,26 +15,27 @@ use Rattle.plan_rules.specs.Denoted.{IsExecutable, denoted}
 use Rattle.plan_rules.specs.Plans.{IsRuleOf}
 use Rattle.plan_rules.specs.Rules.{PlanRule, rules_of}
 use Rattle.plan_rules.specs.declared.rules.TablePlan.{TablePlan}
-use Rattle.reach_plan.specs.declared.planner.Found.{Found}
-use Rattle.reach_plan.specs.declared.planner.Found.TheVariants.{NoPlan, Plan}
-use Rattle.reach_plan.specs.Found.{IfNoPlan, IfPlan}
+use Rattle.plan_theory.specs.declared.answers.Found.{Found}
+use Rattle.plan_theory.specs.declared.answers.Found.TheVariants.{NoPlan, Plan}
+use Rattle.plan_theory.specs.Found.{IfNoPlan, IfPlan}
 use Rattle.encode_task.specs.Made.{MadeOf}
-use Rattle.reach_plan.proofs.PrintedWithin.{printed_within}
-use Rattle.reach_plan.proofs.WeakDenoted.{denoted-table}
-use Rattle.reach_plan.proofs.WeakLists.{list_all-at, list_all-from}
+use Rattle.plan_theory.proofs.PrintedWithin.{printed_within}
+use Rattle.plan_theory.proofs.WeakDenoted.{denoted-table}
+use Rattle.plan_theory.proofs.WeakLists.{list_all-at, list_all-from}
 use Rattle.task_core.specs.Cubes.{SetOfVectors}
 use Rattle.cyclic_plan.specs.Answers.{Ends, IsAnswer, IsPlanOf}
 use Rattle.cyclic_plan.specs.Stages.{HasNear, kept_system, takers_within}
 use Rattle.cyclic_plan.specs.Takers.{HasTable, start_of}
 use Rattle.dd_sets.specs.Rooms.{IsTightFor}
 use Rattle.slot_board.specs.Board as board
-use Rattle.cyclic_plan.specs.Begun.{HasNothing, place_count, At, Left, Start}
-use Rattle.cyclic_plan.specs.Largest.{covers, goal_or_pair}
-use Rattle.cyclic_plan.specs.Pairs.{restricted}
-use Rattle.cyclic_plan.specs.Printed.{cyclic_rules}
-use Rattle.cyclic_plan.specs.Rounds.{IsLastRound, kept, round}
-use Rattle.cyclic_plan.proofs.CyclicPrinted.{cyclic_executable, cyclic_solves, near}
-use Rattle.cyclic_plan.proofs.Survives.{last_is_largest, left_state, none_without_cover}
+use Rattle.slot_board.specs.Board.{At, IsTightAt, Left, Start}
+use Rattle.cyclic_plan.specs.Stages.{HasNothing, place_count}
+use Rattle.plan_theory.specs.LargestSets.{covers, goal_or_pair}
+use Rattle.plan_theory.specs.Pairs.{restricted}
+use Rattle.plan_theory.specs.CyclicPlans.{cyclic_rules}
+use Rattle.plan_theory.specs.PairRounds.{IsLastRound, kept, round}
+use Rattle.plan_theory.proofs.CyclicPrinted.{cyclic_executable, cyclic_solves, near}
+use Rattle.plan_theory.proofs.Survives.{last_is_largest, left_state, none_without_cover}
 
 module _ (task : Task) (r : ℕ) (last : IsLastRound (system_of task) r) where
   -- the states that the last round leaves are the goal states and those of its pairs
@@ -59,19 +60,20 @@ module _ (task : Task) (r : ℕ) (last : IsLastRound (system_of task) r) where
       let sys = system_of task in
       none_without_cover sys (kept sys (round sys r)) (is_system task) (last_is_largest sys (is_system task) r last) (not_covered short)
 
-  -- the search's board has the printed table
-  pub table_is : list_all (round (system_of task) r) (system_of task).initial ≡ true → (enc : Encoded) (made : MadeOf task enc) (now : Encoded) (slots : List SetId) (near : SetOfVectors)
-      → HasNear (start_of task enc made) now slots (round (system_of task) r) (takers_within true (kept_system (start_of task enc made) (round (system_of task) r)) (2 ^ fluent_count task)) near → HasTable (start_of task enc made) now slots
-  table_is all enc made now slots near h =
-      let sys = system_of task in
-      record {
-        at = h.round.at;
-        sound = h.round.sound;
-        pairs = kept sys (round sys r);
-        largest = last_is_largest sys (is_system task) r last;
-        covered = all_covered all;
-        taken = λ a l v is. h.round.holds_taken a l v is;
-      }
+-- the search's board has the printed table
+pub table_is : (start : Start) (r : ℕ) (last : IsLastRound (system_of start.task) r) → list_all (round (system_of start.task) r) (system_of start.task).initial ≡ true → (now : Encoded) (slots : List SetId) (near : SetOfVectors)
+    → HasNear start now slots (round (system_of start.task) r) (takers_within true (kept_system start (round (system_of start.task) r)) (2 ^ fluent_count start.task)) near → HasTable start now slots
+table_is start r last all now slots near h =
+    let sys = system_of start.task in
+    record {
+      at = h.round.at;
+      places = h.round.places;
+      sound = h.round.sound;
+      pairs = kept sys (round sys r);
+      largest = last_is_largest sys (is_system start.task) r last;
+      covered = all_covered start.task r last all;
+      taken = λ a l v is. h.round.holds_taken a l v is;
+    }
 
 -- and so a plan has it
 pub plan_of_table : (start : Start) (now : Encoded) (slots : List SetId) (h : HasTable start now slots) (plan : TablePlan) → plan.class ≡ Cyclic → rules_of plan ≡ cyclic_rules (system_of start.task) h.pairs → IsPlanOf start.task plan
@@ -100,10 +102,11 @@ ends_found start now slots result is ends = subst (Ends start now slots) is ends
 pub ends_none : (start : Start) (now : Encoded) (slots : List SetId) (result : Result Bool SetErr) → result ≡ Ok false → Ends start now slots result → At start now slots × HasNoSolution Cyclic (system_of start.task)
 ends_none start now slots result is ends = subst (Ends start now slots) is ends
 
-pub ends_refusal : (start : Start) (now : Encoded) (slots : List SetId) (result : Result Bool SetErr) (e : SetErr) → result ≡ Err e → Ends start now slots result → At start now slots × (e ≡ Full → IsTightFor (3 * action_count start.task + 32) start.enc.sets)
-ends_refusal start now slots result e is ends =
-    let left = subst (Ends start now slots) is ends in
-    (left.0, λ full. subst (λ more. IsTightFor more start.enc.sets) (omega arith) (left.1 full))
+pub ends_refusal : (start : Start) (now : Encoded) (slots : List SetId) (result : Result Bool SetErr) (e : SetErr) → result ≡ Err e → Ends start now slots result → At start now slots × (e ≡ Full → IsTightAt start)
+ends_refusal start now slots result e is ends = subst (Ends start now slots) is ends
+
+pub room_of : (task : Task) (enc : Encoded) (made : MadeOf task enc) → IsTightAt (start_of task enc made) → IsTightFor (3 * action_count task + 32) enc.sets
+room_of task enc made tight = subst (λ more. IsTightFor more enc.sets) (omega arith) tight
 
 -- what is said of a value that is there
 pub some_has : {T : Type 0} (o : Option T) (P : T → Type 0) (x : T) → o ≡ Some x → IfSome o P → P x
@@ -123,4 +126,6 @@ answer_no_plan task (Err e) is = tt
 -- the new board's places
 pub first_places : (task : Task) (enc now : Encoded) (made : MadeOf task enc) (places : ℕ) (slots : List SetId) → places ≡ place_count (action_count task)
     → board.HasNothing (record { task = task; enc = enc; made = made; places = places; spare = action_count task + 17 }) now slots → HasNothing (start_of task enc made) now slots
-first_places task enc now made places slots e h = subst (λ n. board.HasNothing (record { task = task; enc = enc; made = made; places = n; spare = action_count task + 17 }) now slots) e h
+first_places task enc now made places slots e h =
+    let new : board.HasNothing (start_of task enc made) now slots = subst (λ n. board.HasNothing (record { task = task; enc = enc; made = made; places = n; spare = action_count task + 17 }) now slots) e h in
+    record { at = new.at; places = refl; holds_nothing = new.holds_nothing }

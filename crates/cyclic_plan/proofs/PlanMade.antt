@@ -7,8 +7,8 @@ use Rattle.std.proofs.lemmas.Bool.{true≢false}
 use Rattle.std.proofs.lemmas.Grind.{flat_map-append}
 use Rattle.std.proofs.lemmas.List.{append-nil}
 use Rattle.plan_rules.specs.Rules.{PlanRule}
-use Rattle.reach_plan.proofs.Ranges.{range-more}
-use Rattle.reach_plan.specs.Printed.{rules_of_action, takers}
+use Rattle.plan_theory.proofs.Ranges.{range-more}
+use Rattle.plan_theory.specs.LayerPlans.{rules_of_action, takers}
 use Rattle.task_core.specs.declared.classes.Class.TheVariants.{Weak}
 use Rattle.cyclic_plan.specs.Answers.{rule_for}
 use Rattle.dd_nodes.specs.NodeList.{Values}
@@ -26,15 +26,16 @@ use Rattle.task_core.specs.Tasks.{action_count, fluent_count, initial_states, st
 use Rattle.task_core.specs.Vectors.{Vector, all_vectors, same_value, same_vector, value_of}
 use Rattle.task_core.specs.declared.conditions.Cond.{Cond}
 use Rattle.task_core.proofs.TaskSystem.{is_system, states_where_has, states_where_holds}
-use Rattle.reach_plan.proofs.Cubes.{all_vectors-length}
-use Rattle.reach_plan.proofs.Weak.{same_vector-itself, same_vector-true}
-use Rattle.reach_plan.proofs.WeakLists.{list_all-agree, list_all-at, list_all-from, list_any-agree, list_any-from, list_any-witness}
+use Rattle.plan_theory.proofs.Cubes.{all_vectors-length}
+use Rattle.plan_theory.proofs.Weak.{same_vector-itself, same_vector-true}
+use Rattle.plan_theory.proofs.WeakLists.{list_all-agree, list_all-at, list_all-from, list_any-agree, list_any-from, list_any-witness}
 use Rattle.slot_board.proofs.BoardSlots.{depends, initial_is}
 use Rattle.slot_board.specs.Board.{set_at}
-use Rattle.cyclic_plan.specs.Begun.{board_of, At, HasNothing, Moved, Start}
-use Rattle.cyclic_plan.specs.Pairs.{is_goal, restricted}
+use Rattle.slot_board.specs.Board.{At, Moved, Start}
+use Rattle.cyclic_plan.specs.Stages.{HasNothing}
+use Rattle.plan_theory.specs.Pairs.{is_goal, restricted}
 use Rattle.cyclic_plan.specs.Takers.{HasTable}
-use Rattle.cyclic_plan.specs.Rounds.{round}
+use Rattle.plan_theory.specs.PairRounds.{round}
 use Rattle.cyclic_plan.specs.Stages.{Agrees, HasNear, HasRound, Takings, none_taken}
 use Rattle.cyclic_plan.proofs.StageSteps.{here, near_still, still}
 
@@ -76,16 +77,17 @@ pub begun : (start : Start) (enc mid now : Encoded) (old half new : List SetId) 
     → HasRound start now new (round (system_of start.task) 0) none_taken
 begun start enc mid now old half new slot h is first second =
     let goal = goal_held start slot (sym (ap (λ (e : Encoded). e.goal) h.at.same) ∙ is) in
-    let long : length old ≡ 7 + action_count start.task + action_count start.task = h.at.long in
+    let long : length old ≡ 7 + action_count start.task + action_count start.task = h.at.long ∙ h.places in
     record {
       at = second.at;
+      places = h.places;
       sound = second.sound;
-      holds_goal = still start mid now half new 1 _ second 0 _ (omega arith) (λ e. absurd (omega arith))
-          (here start enc mid old half 0 _ first _ (λ v at. ap (λ (f : Function). f (value_of v)) (h.at.working.kept.sets slot.0 goal.0) ∙ goal.1 v at));
-      holds_left = here start mid now half new 1 _ second _ (λ v at. refl);
+      holds_goal = still start mid now half new 1 _ second h.places 0 _ (omega arith) (λ e. absurd (omega arith))
+          (here start enc mid old half 0 _ first h.places _ (λ v at. ap (λ (f : Function). f (value_of v)) (h.at.working.kept.sets slot.0 goal.0) ∙ goal.1 v at));
+      holds_left = here start mid now half new 1 _ second h.places _ (λ v at. refl);
       holds_taken = λ a l.
-          still start mid now half new 1 _ second (7 + action_count start.task + a) (none_taken a) (omega arith) (λ e. absurd (omega arith))
-          (still start enc mid old half 0 _ first (7 + action_count start.task + a) (none_taken a) (omega arith) (λ e. absurd (omega arith))
+          still start mid now half new 1 _ second h.places (7 + action_count start.task + a) (none_taken a) (omega arith) (λ e. absurd (omega arith))
+          (still start enc mid old half 0 _ first h.places (7 + action_count start.task + a) (none_taken a) (omega arith) (λ e. absurd (omega arith))
           (λ v at. ap (λ (f : Function). f (value_of v)) (h.holds_nothing (7 + action_count start.task + a) (omega arith))));
     }
 
@@ -131,16 +133,16 @@ module _ (start : Start) (enc mid now : Encoded) (old half new : List SetId) (le
     (first : Moved start enc.sets old mid half 6 (set_of enc.sets enc.initial.0))
     (second : Moved start mid.sets half now new 6 (minus_of (set_at mid.sets half 6) (set_at mid.sets half 1))) where
   first_near : HasNear start mid half left taken near
-  first_near = near_still start enc mid old half 6 _ first left taken near h (λ e. absurd (omega arith)) (λ e. absurd (omega arith)) (λ e. absurd (omega arith)) (omega arith)
+  first_near = near_still start enc mid old half 6 _ first h.round.places left taken near h (λ e. absurd (omega arith)) (λ e. absurd (omega arith)) (λ e. absurd (omega arith)) (omega arith)
 
   pub tested_near : HasNear start now new left taken near
-  tested_near = near_still start mid now half new 6 _ second left taken near first_near (λ e. absurd (omega arith)) (λ e. absurd (omega arith)) (λ e. absurd (omega arith)) (omega arith)
+  tested_near = near_still start mid now half new 6 _ second first_near.round.places left taken near first_near (λ e. absurd (omega arith)) (λ e. absurd (omega arith)) (λ e. absurd (omega arith)) (omega arith)
 
   pub tested : (answer : Bool) → (IsTrue answer ↔ (set_at now.sets new 6 ≡ nothing)) → answer ≡ list_all left (system_of start.task).initial
   tested answer is =
       let e : set_at now.sets new 6 ≡ minus_of (initial_set start.task) (set_at mid.sets half 1) =
-      second.here ∙ ap (λ (g : Function). minus_of g (set_at mid.sets half 1)) (first.here ∙ initial_is (board_of start) enc old h.round.at) in
-      covers_is start (set_at mid.sets half 1) left (depends (board_of start) mid half first_near.round.at first_near.round.sound 1) first_near.round.holds_left answer
+      second.here ∙ ap (λ (g : Function). minus_of g (set_at mid.sets half 1)) (first.here ∙ initial_is start enc old h.round.at) in
+      covers_is start (set_at mid.sets half 1) left (depends start mid half first_near.round.at first_near.round.sound 1) first_near.round.holds_left answer
       (subst (λ (g : Function). IsTrue answer ↔ (g ≡ nothing)) e is)
 
 -- the cubes of sets that hold the same states

@@ -4,19 +4,24 @@ use Rattle.dd_sets.specs.LiveSets.{IsSets}
 use Rattle.dd_sets.specs.declared.slots.SetId.{SetId}
 use Rattle.encode_task.specs.Made.{MadeOf}
 use Rattle.encode_task.specs.Slots.{Encoded}
-use Rattle.reach_plan.specs.Printed.{is_action}
-use Rattle.slot_board.specs.Board.{set_at}
+use Rattle.plan_theory.specs.LayerPlans.{is_action}
 use Rattle.task_core.specs.Tasks.{action_count, system_of}
 use Rattle.task_core.specs.declared.tasks.Task.{Task}
-use Rattle.cyclic_plan.specs.Begun.{At, Start}
-use Rattle.cyclic_plan.specs.Largest.{IsLargestSet, covers}
-use Rattle.cyclic_plan.specs.Pairs.{Pairs}
-use Rattle.cyclic_plan.specs.Printed.{progress_action}
-use Rattle.cyclic_plan.specs.Stages.{Agrees}
+use Rattle.slot_board.specs.Board.{At, Start, set_at}
+use Rattle.plan_theory.specs.LargestSets.{IsLargestSet, covers}
+use Rattle.plan_theory.specs.Pairs.{Pairs}
+use Rattle.plan_theory.specs.CyclicPlans.{progress_action}
+use Rattle.cyclic_plan.specs.Stages.{Agrees, place_count}
 
--- where a search for a task began
+-- where a search for a task began: its board has places for seven sets and two for each action
 abbrev pub start_of : (task : Task) (enc : Encoded) → MadeOf task enc → Start
-start_of task enc made = record { task = task; enc = enc; made = made }
+start_of task enc made = record {
+  task = task;
+  enc = enc;
+  made = made;
+  places = place_count (action_count task);
+  spare = action_count task + 17;
+}
 
 -- the place of the states that take an action, of so many actions
 abbrev pub takers_place : ℕ → ℕ → ℕ
@@ -27,6 +32,7 @@ takers_place actions a = 7 + actions + a
 -- state is a goal state or has a pair
 pub record HasTable (start : Start) (now : Encoded) (slots : List SetId) : Type 0 where
   pub at : At start now slots
+  pub places : start.places ≡ place_count (action_count start.task)
   pub sound : IsSets now.sets
   pub pairs : Pairs
   pub largest : IsLargestSet (system_of start.task) pairs

@@ -1,5 +1,5 @@
-use Rattle.chain_goals.specs.Chains.{context_count}
-use Rattle.chain_goals.specs.Printed.{chain_rules}
+use Rattle.plan_theory.specs.Chains.{context_count}
+use Rattle.plan_theory.specs.ChainPrinted.{chain_rules}
 use Rattle.chain_plan.proofs.PlanSteps.{plan_is}
 use Rattle.chain_plan.specs.Scenes.{board_of, sys_of}
 use Rattle.plan_rules.specs.Rules.{context_rule_of}

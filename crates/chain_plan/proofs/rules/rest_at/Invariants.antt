@@ -1,5 +1,5 @@
 use Rattle.std.proofs.Common.{◌≡◌, length, suc}
-use Rattle.chain_goals.specs.Chains.{Chained}
+use Rattle.plan_theory.specs.Chains.{Chained}
 use Rattle.chain_plan.specs.Scenes.{Start}
 use Rattle.chain_plan.specs.Steps.{HasRest, HasTakers}
 use Rattle.chain_plan.proofs.rules.rest_at.Given as goal

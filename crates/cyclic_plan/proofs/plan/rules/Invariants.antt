@@ -3,9 +3,9 @@ use Rattle.std.specs.List.{flat_map, range_with_len}
 use Rattle.task_core.specs.Tasks.{fluent_count, system_of}
 use Rattle.task_core.specs.declared.classes.Class.TheVariants.{Weak}
 use Rattle.plan_rules.specs.Rules.{rule_of}
-use Rattle.reach_plan.specs.Printed.{rules_of_action}
-use Rattle.cyclic_plan.specs.Begun.{Start}
-use Rattle.cyclic_plan.specs.Pairs.{restricted}
+use Rattle.plan_theory.specs.LayerPlans.{rules_of_action}
+use Rattle.slot_board.specs.Board.{Start}
+use Rattle.plan_theory.specs.Pairs.{restricted}
 use Rattle.cyclic_plan.specs.Takers.{HasTable}
 use Rattle.cyclic_plan.proofs.plan.rules.Given as goal
 
