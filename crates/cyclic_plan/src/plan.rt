@@ -136,11 +136,7 @@ fn search(enc: &mut Enc, board: &mut Board, goal: SetId, actions: u32) -> Result
 /// `takers_of` tells the place of an action's states. `Full` comes only where the table's limit is
 /// tight for three slots an action and 32 more. Where no board is answered, all slots of the search
 /// are ended.
-pub fn cyclic_takers(
-    alloc: Global,
-    task: &Task,
-    enc: &mut Enc,
-) -> Result<Option<Board>, SetErr>
+pub fn cyclic_takers(alloc: Global, task: &Task, enc: &mut Enc) -> Result<Option<Board>, SetErr>
     requires made { MadeOf task.now enc.old }
     requires goal { IsSome task.now.goal }
     ensures table { (made : MadeOf task.now enc.old) → IfOk result (λ found. IfSome found
