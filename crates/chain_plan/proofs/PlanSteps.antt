@@ -1,5 +1,5 @@
 -- The search: whether the initial states are covered, and what it answers.
-use Rattle.std.proofs.Common.{◌≡◌, ℕ, suc, ◌+◌, ◌-◌, ◌*◌, ◌<◌, ◌≤◌, ◌↔◌, Bool, true, false, IsTrue, IsErrOf, IfOk, List, All, Result, Ok, Err, drop, length, refl, sym, ap, subst, ◌∙◌, arith}
+use Rattle.std.proofs.Common.{◌≡◌, ℕ, suc, ◌+◌, ◌-◌, ◌*◌, ◌<◌, ◌≤◌, ◌↔◌, Bool, true, false, IsTrue, IsErrOf, IfOk, List, All, Option, Some, IfSome, Result, Ok, Err, drop, length, refl, sym, ap, subst, ◌∙◌, arith}
 use Rattle.std.specs.List.{list_all}
 use Rattle.std.proofs.lemmas.List.{length-map}
 use Rattle.dd_nodes.specs.Subfunctions.{Function}
@@ -12,6 +12,7 @@ use Rattle.encode_task.specs.Made.{MadeOf}
 use Rattle.encode_task.specs.Slots.{Encoded}
 use Rattle.encode_task.specs.TaskSets.{initial_set}
 use Rattle.slot_board.specs.Board as board
+use Rattle.slot_board.specs.Board.{IsTightAt}
 use Rattle.slot_board.proofs.BoardSlots.{initial_is}
 use Rattle.cyclic_plan.proofs.PlanMade.{covers_is}
 use Rattle.plan_theory.specs.Chains.{Chained, context_count}
@@ -31,14 +32,15 @@ use Rattle.task_core.specs.Tasks.{action_count, fluent_count, system_of}
 use Rattle.task_core.specs.Vectors.{value_of}
 use Rattle.task_core.specs.declared.tasks.Task.{Task}
 use Rattle.task_core.proofs.TaskSystem.{is_system}
-use Rattle.chain_plan.specs.Answers.{Ends, IsPlanOf}
+use Rattle.chain_plan.specs.Answers.{Ends, IsAnswer, IsPlanOf}
 use Rattle.chain_plan.specs.Chains.{chain_sets}
 use Rattle.chain_plan.specs.Found.{IfNoPlan, IfPlan}
 use Rattle.chain_plan.specs.Scenes.{HasNothing, IsAt, IsReady, Left, Moved, SameStates, Scene, Start, Worked, board_of, place_count, states_at, sys_of, win_place}
-use Rattle.chain_plan.specs.Steps.{Won}
+use Rattle.chain_plan.specs.Steps.{HasTakers, Won}
+use Rattle.chain_plan.specs.Tables.{HasTable, start_of}
 use Rattle.chain_plan.specs.declared.plan.FoundAuto.{FoundAuto}
 use Rattle.chain_plan.specs.declared.plan.FoundAuto.TheVariants.{NoPlan, Plan}
-use Rattle.chain_plan.proofs.SceneSteps.{begun, depends_at, moved_worked, same_length, worked_chain}
+use Rattle.chain_plan.proofs.SceneSteps.{depends_at, moved_worked, same_length, worked_chain}
 
 -- the initial states without those at a place
 module _ (start : Start) (x m y : Scene) (place : ℕ) (high : 8 ≤ place) (within : place < length x.1) (ready : IsReady start x) (first : Moved start x m 4 (set_of x.0.sets x.0.initial.0)) (second : Moved start m y 4 (minus_of (board.set_at m.0.sets m.1 4) (board.set_at m.0.sets m.1 place))) where
@@ -52,7 +54,7 @@ module _ (start : Start) (x m y : Scene) (place : ℕ) (high : 8 ≤ place) (wit
       second.here
       ∙ ap (λ (g : Function). minus_of g (board.set_at m.0.sets m.1 place)) (first.here ∙ initial_is (board_of start) x.0 x.1 ready.at)
       ∙ ap (minus_of (initial_set start.task)) (first.others place (omega arith) (λ e. absurd (omega arith))) in
-      covers_is (begun start) (board.set_at x.0.sets x.1 place) (states_at x place) (depends_at start x ready place) (λ v at. refl) answer
+      covers_is (board_of start) (board.set_at x.0.sets x.1 place) (states_at x place) (depends_at start x ready place) (λ v at. refl) answer
       (subst (λ (g : Function). IsTrue answer ↔ (g ≡ nothing)) e is)
 
 -- the states of the first context
@@ -89,39 +91,60 @@ plan_is task chain plan few covered contexts printed =
           (plan_solves sys (is_system task) chain (denoted_contexts (chain_rules sys chain)) (acts_as_printed sys chain (is_system task)) covered);
     }
 
+-- the printed table is on the board
+pub table_is : (start : Start) (x : Scene) (chain : Chained) (n : ℕ) → length chain.stages ≡ start.stages → start.stages ≡ n → HasTakers start x chain (suc n) → covers_chain (sys_of start) chain ≡ true → HasTable start x chain
+table_is start x chain n long is_n h covered = record {
+  stages = long;
+  takers = subst (λ k. HasTakers start x chain (suc k)) (sym is_n) h;
+  covered = covered;
+}
+
 -- what a refused step leaves of the search
-pub ends_refused : {T : Type 0} (start : Start) (x : Scene) (chain : Chained) (P : Type 0) (inner : Result T SetErr) (outer : Result FoundAuto SetErr) (e : SetErr) → inner ≡ Err e → (f : SetErr) × (outer ≡ Err f) × (f ≡ e) → Left start x P inner → Ends start x chain outer
+pub ends_refused : {T : Type 0} (start : Start) (x : Scene) (chain : Chained) (P : Type 0) (inner : Result T SetErr) (outer : Result Bool SetErr) (e : SetErr) → inner ≡ Err e → (f : SetErr) × (outer ≡ Err f) × (f ≡ e) → Left start x P inner → Ends start x chain outer
 ends_refused start x chain P inner outer e was p left =
     subst (Ends start x chain) (sym p.1) (let kept = subst (Left start x P) was left in (kept.0, λ full. kept.1 (sym p.2 ∙ full)))
 
 -- what the end of a search says
-pub ends_at : (start : Start) (x : Scene) (chain : Chained) (result : Result FoundAuto SetErr) → Ends start x chain result → IsAt start x
-ends_at start x chain (Ok found) ends = ends.0
-ends_at start x chain (Err e) ends = ends.0
+pub ends_found : (start : Start) (x : Scene) (chain : Chained) (result : Result Bool SetErr) → result ≡ Ok true → Ends start x chain result → HasTable start x chain
+ends_found start x chain result is ends = subst (Ends start x chain) is ends
 
-pub ends_full : (start : Start) (x : Scene) (chain : Chained) (result : Result FoundAuto SetErr) → Ends start x chain result → IsErrOf result Full → IsTightFor (action_count start.task * (start.stages + 3) + 8 * start.stages + 236) start.enc.sets
-ends_full start x chain (Ok found) ends full = absurd (let h : Ok found ≡ Err Full = full in cc)
-ends_full start x chain (Err e) ends full =
-    subst (λ more. IsTightFor more start.enc.sets) (room (action_count start.task) start.stages) (ends.1 (let h : Err e ≡ Err Full = full in cc))
+pub ends_none : (start : Start) (x : Scene) (chain : Chained) (result : Result Bool SetErr) → result ≡ Ok false → Ends start x chain result → IsAt start x × HasNoContextPlan (system_of start.task) chain
+ends_none start x chain result is ends = subst (Ends start x chain) is ends
+
+pub ends_refusal : (start : Start) (x : Scene) (chain : Chained) (result : Result Bool SetErr) (e : SetErr) → result ≡ Err e → Ends start x chain result → IsAt start x × (e ≡ Full → IsTightAt (board_of start))
+ends_refusal start x chain result e is ends = subst (Ends start x chain) is ends
+
+pub room_of : (start : Start) → IsTightAt (board_of start) → IsTightFor (action_count start.task * (start.stages + 3) + 8 * start.stages + 236) start.enc.sets
+room_of start tight = subst (λ more. IsTightFor more start.enc.sets) (room (action_count start.task) start.stages) tight
   where
-    room : (a n : ℕ) → place_count a n + (2 * a + 6 * n + 218) + 8 ≡ a * (n + 3) + 8 * n + 236
+    room : (a n : ℕ) → place_count a n + (a + 6 * n + 218) + 8 ≡ a * (n + 3) + 8 * n + 236
     room a n = omega arith
 
-pub ends_plan : (start : Start) (x : Scene) (chain : Chained) (P : AutoPlan → Type 0) (result : Result FoundAuto SetErr) → ((plan : AutoPlan) → IsPlanOf start.task chain plan → P plan) → Ends start x chain result → IfOk result (λ found. IfPlan found P)
-ends_plan start x chain P (Ok (Plan plan)) each ends = each plan ends.1
-ends_plan start x chain P (Ok NoPlan) each ends = tt
-ends_plan start x chain P (Err e) each ends = tt
+-- what a call leaves, whether or not it refuses
+pub left_at : {T : Type 0} (start : Start) (x : Scene) (result : Result T SetErr) → Left start x (IsAt start x) result → IsAt start x
+left_at start x (Ok t) left = left
+left_at start x (Err e) left = left.0
 
-pub ends_no_plan : (start : Start) (x : Scene) (chain : Chained) (result : Result FoundAuto SetErr) → Ends start x chain result → IfOk result (λ found. IfNoPlan found (HasNoContextPlan (system_of start.task) chain))
-ends_no_plan start x chain (Ok (Plan plan)) ends = tt
-ends_no_plan start x chain (Ok NoPlan) ends = ends.1
-ends_no_plan start x chain (Err e) ends = tt
+pub left_full : {T : Type 0} (start : Start) (x : Scene) (P : Type 0) (result : Result T SetErr) → Left start x P result → IsErrOf result Full → IsTightAt (board_of start)
+left_full start x P (Ok t) left full = absurd (let h : Ok t ≡ Err Full = full in cc)
+left_full start x P (Err e) left full = left.1 (let h : Err e ≡ Err Full = full in cc)
 
--- where a search begins
-abbrev pub start_of : (task : Task) (enc : Encoded) → MadeOf task enc → ℕ → Start
-start_of task enc made n = record { task = task; enc = enc; made = made; stages = n }
+-- what is said of a value that is there
+pub some_has : {T : Type 0} (o : Option T) (P : T → Type 0) (x : T) → o ≡ Some x → IfSome o P → P x
+some_has o P x is has = subst (λ (p : _). IfSome p P) is has
 
-pub first_places : (task : Task) (enc now : Encoded) (made : MadeOf task enc) (n places spare : ℕ) (slots : List _) → places ≡ place_count (action_count task) n → spare ≡ 2 * action_count task + 6 * n + 218
+-- what is said of an answer
+pub answer_plan : (task : Task) (chain : Chained) (P : AutoPlan → Type 0) (result : Result FoundAuto SetErr) → ((plan : AutoPlan) → IsPlanOf task chain plan → P plan) → IfOk result (IsAnswer task chain) → IfOk result (λ found. IfPlan found P)
+answer_plan task chain P (Ok (Plan plan)) each is = each plan is
+answer_plan task chain P (Ok NoPlan) each is = tt
+answer_plan task chain P (Err e) each is = tt
+
+pub answer_no_plan : (task : Task) (chain : Chained) (result : Result FoundAuto SetErr) → IfOk result (IsAnswer task chain) → IfOk result (λ found. IfNoPlan found (HasNoContextPlan (system_of task) chain))
+answer_no_plan task chain (Ok (Plan plan)) is = tt
+answer_no_plan task chain (Ok NoPlan) is = is
+answer_no_plan task chain (Err e) is = tt
+
+pub first_places : (task : Task) (enc now : Encoded) (made : MadeOf task enc) (n places spare : ℕ) (slots : List _) → places ≡ place_count (action_count task) n → spare ≡ action_count task + 6 * n + 218
     → board.HasNothing (record { task = task; enc = enc; made = made; places = places; spare = spare }) now slots → HasNothing (start_of task enc made n) (now, slots)
 first_places task enc now made n places spare slots e f h =
     subst (λ k. board.HasNothing (record { task = task; enc = enc; made = made; places = place_count (action_count task) n; spare = k }) now slots) f

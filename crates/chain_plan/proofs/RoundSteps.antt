@@ -20,21 +20,10 @@ use Rattle.task_core.specs.Tasks.{action_count, fluent_count}
 use Rattle.task_core.specs.Vectors.{Vector, all_vectors, value_of}
 use Rattle.task_core.proofs.TaskSystem.{is_system}
 use Rattle.chain_plan.specs.Scenes.{IsReady, Moved, SameStates, Scene, Start, states_at, sys_of}
-use Rattle.chain_plan.specs.Steps.{AddsHits, HasLast, HasTurned, Leads, Turned, TurnedFrom, last_turn, turn, turns}
+use Rattle.chain_plan.specs.Steps.{AddsHits, HasLast, HasTurned, KeepsHits, Leads, TurnedFrom, hits_by, last_turn, turn, turn_by, turns}
 use Rattle.chain_plan.specs.declared.rounds.Way.{Way}
 use Rattle.chain_plan.specs.declared.rounds.Way.TheVariants.{Growing, Shrinking}
-use Rattle.chain_plan.proofs.SceneSteps.{copied_states, depends_at, joined_states, led_states, met_states, moved_low, moved_worked, rest_states, some_leads_same, worked_chain}
-
--- one action's states more
-pub adds_hits : (start : Start) (x m y : Scene) (a : ℕ) → IsReady start x → Moved start x m 2 (led Outcomes.Every start.task a (set_at x.0.sets x.1 0)) → Moved start m y 1 (or_of (set_at m.0.sets m.1 1) (set_at m.0.sets m.1 2)) → AddsHits start x y a
-adds_hits start x m y a ready first second = record {
-  worked = worked_chain start x m y (moved_worked start x m 2 _ first (omega arith)) (moved_worked start m y 1 _ second (omega arith));
-  near = moved_low start m y 1 _ second 0 (omega arith) (λ e. absurd (omega arith)) ∙ moved_low start x m 2 _ first 0 (omega arith) (λ e. absurd (omega arith));
-  next = λ v is.
-      ap (λ (f : SetOfVectors). f v) (joined_states start m y 1 1 2 second)
-      ∙ ap (λ (f : SetOfVectors). f v || states_at m 2 v) (moved_low start x m 2 _ first 1 (omega arith) (λ e. absurd (omega arith)))
-      ∙ ap (λ b. states_at x 1 v || b) (led_states start x m 2 a 0 ready first v is);
-}
+use Rattle.chain_plan.proofs.SceneSteps.{copied_states, depends_at, joined_states, led_states, met_states, moved_low, moved_worked, rest_states, some_leads_same, worked_chain, worked_same}
 
 and_not : (b : Bool) → (b && not b) ≡ false
 and_not true = refl
@@ -44,12 +33,53 @@ or_none : (b : Bool) → b ≡ (b || false)
 or_none true = refl
 or_none false = refl
 
+and_none : (b : Bool) → (b && false) ≡ false
+and_none true = refl
+and_none false = refl
+
+-- what one action adds to a round
+pub keeps_some : (start : Start) (x y : Scene) → Moved start x y 2 (and_of (set_at x.0.sets x.1 0) (set_at x.0.sets x.1 2)) → KeepsHits Shrinking start x y
+keeps_some start x y m = record {
+  worked = moved_worked start x y 2 _ m (omega arith);
+  near = moved_low start x y 2 _ m 0 (omega arith) (λ e. absurd (omega arith));
+  next = moved_low start x y 2 _ m 1 (omega arith) (λ e. absurd (omega arith));
+  hits = met_states start x y 2 0 2 m;
+}
+
+pub keeps_all : (start : Start) (x : Scene) → IsReady start x → KeepsHits Growing start x x
+keeps_all start x ready = record { worked = worked_same start x ready; near = refl; next = refl; hits = refl }
+
+hits_same : (way : Way) (start : Start) (set f g : SetOfVectors) → SameStates start f g → SameStates start (hits_by way set f) (hits_by way set g)
+hits_same Shrinking start set f g same v is = ap (λ b. set v && b) (same v is)
+hits_same Growing start set f g same v is = same v is
+
+pub adds_hits : (way : Way) (start : Start) (x m k y : Scene) (a : ℕ) → IsReady start x → Moved start x m 2 (led Outcomes.Every start.task a (set_at x.0.sets x.1 0)) → KeepsHits way start m k → Moved start k y 1 (or_of (set_at k.0.sets k.1 1) (set_at k.0.sets k.1 2)) → AddsHits way start x y a
+adds_hits way start x m k y a ready first kept second =
+    let near_is : states_at m 0 ≡ states_at x 0 = moved_low start x m 2 _ first 0 (omega arith) (λ e. absurd (omega arith)) in
+    record {
+      worked = worked_chain start x k y (worked_chain start x m k (moved_worked start x m 2 _ first (omega arith)) kept.worked) (moved_worked start k y 1 _ second (omega arith));
+      near = moved_low start k y 1 _ second 0 (omega arith) (λ e. absurd (omega arith)) ∙ kept.near ∙ near_is;
+      next = λ v is.
+          ap (λ (f : SetOfVectors). f v) (joined_states start k y 1 1 2 second)
+          ∙ ap (λ (f : SetOfVectors). f v || states_at k 2 v) (kept.next ∙ moved_low start x m 2 _ first 1 (omega arith) (λ e. absurd (omega arith)))
+          ∙ ap (λ (f : SetOfVectors). states_at x 1 v || f v) kept.hits
+          ∙ ap (λ (f : SetOfVectors). states_at x 1 v || hits_by way f (states_at m 2) v) near_is
+          ∙ ap (λ b. states_at x 1 v || b) (hits_same way start (states_at x 0) (states_at m 2) (λ u. must_lead (sys_of start) (states_at x 0) u a) (led_states start x m 2 a 0 ready first) v is);
+    }
+
 -- no action yet, and one more
-pub leads_none : (start : Start) (x y : Scene) → Moved start x y 1 (minus_of (set_at x.0.sets x.1 0) (set_at x.0.sets x.1 0)) → Leads start x y 0
+pub leads_none : (start : Start) (x y : Scene) → Moved start x y 1 (minus_of (set_at x.0.sets x.1 0) (set_at x.0.sets x.1 0)) → Leads Shrinking start x y 0
 leads_none start x y m = record {
   worked = moved_worked start x y 1 _ m (omega arith);
   near = moved_low start x y 1 _ m 0 (omega arith) (λ e. absurd (omega arith));
-  next = λ v is. ap (λ (f : SetOfVectors). f v) (rest_states start x y 1 0 0 m) ∙ and_not (states_at x 0 v);
+  next = λ v is. ap (λ (f : SetOfVectors). f v) (rest_states start x y 1 0 0 m) ∙ and_not (states_at x 0 v) ∙ sym (and_none (states_at x 0 v));
+}
+
+pub leads_copied : (start : Start) (x y : Scene) → Moved start x y 1 (set_at x.0.sets x.1 0) → Leads Growing start x y 0
+leads_copied start x y m = record {
+  worked = moved_worked start x y 1 _ m (omega arith);
+  near = moved_low start x y 1 _ m 0 (omega arith) (λ e. absurd (omega arith));
+  next = λ v is. ap (λ (f : SetOfVectors). f v) (copied_states start x y 1 0 m) ∙ or_none (states_at x 0 v);
 }
 
 pub any_more : (p : ℕ → Bool) (n : ℕ) → (list_any p (range_with_len 0 n) || p n) ≡ list_any p (range_with_len 0 (n + 1))
@@ -58,50 +88,45 @@ any_more p n =
     ∙ sym (list_any-append p (range_with_len 0 n) (n ∷ []))
     ∙ ap (list_any p) (sym (range-more n))
 
-pub leads_more : (start : Start) (x y z : Scene) (n : ℕ) → Leads start x y n → AddsHits start y z n → Leads start x z (n + 1)
-leads_more start x y z n h more = record {
+pub turned_more : (way : Way) (sys : System) (set : SetOfVectors) (n : ℕ) (v : Vector) → (turn_by way sys set n v || hits_by way set (λ u. must_lead sys set u n) v) ≡ turn_by way sys set (n + 1) v
+turned_more Shrinking sys set n v = both (set v) (list_any (must_lead sys set v) (range_with_len 0 n)) (must_lead sys set v n) ∙ ap (λ b. set v && b) (any_more (must_lead sys set v) n)
+  where
+    both : (s l p : Bool) → ((s && l) || (s && p)) ≡ (s && (l || p))
+    both true l p = refl
+    both false l p = refl
+turned_more Growing sys set n v = either (set v) (list_any (must_lead sys set v) (range_with_len 0 n)) (must_lead sys set v n) ∙ ap (λ b. set v || b) (any_more (must_lead sys set v) n)
+  where
+    either : (s l p : Bool) → ((s || l) || p) ≡ (s || (l || p))
+    either true l p = refl
+    either false l p = refl
+
+pub leads_more : (way : Way) (start : Start) (x y z : Scene) (n : ℕ) → Leads way start x y n → AddsHits way start y z n → Leads way start x z (n + 1)
+leads_more way start x y z n h more = record {
   worked = worked_chain start x y z h.worked more.worked;
   near = more.near ∙ h.near;
   next = λ v is.
       more.next v is
-      ∙ ap (λ (f : SetOfVectors). states_at y 1 v || must_lead (sys_of start) f v n) h.near
-      ∙ ap (λ b. b || must_lead (sys_of start) (states_at x 0) v n) (h.next v is)
-      ∙ any_more (must_lead (sys_of start) (states_at x 0) v) n;
+      ∙ ap (λ (f : SetOfVectors). states_at y 1 v || hits_by way f (λ u. must_lead (sys_of start) f u n) v) h.near
+      ∙ ap (λ b. b || hits_by way (states_at x 0) (λ u. must_lead (sys_of start) (states_at x 0) u n) v) (h.next v is)
+      ∙ turned_more way (sys_of start) (states_at x 0) n v;
 }
 
-pub leads_all : (start : Start) (x y : Scene) (n : ℕ) → n ≡ action_count start.task → Leads start x y n → Leads start x y (action_count start.task)
-leads_all start x y n e h = subst (Leads start x y) e h
-
--- put together with the first states
-pub turned_shrinking : (start : Start) (x y z : Scene) → Leads start x y (action_count start.task) → Moved start y z 1 (and_of (set_at y.0.sets y.1 0) (set_at y.0.sets y.1 1)) → Turned Shrinking start x z
-turned_shrinking start x y z h m = record {
-  worked = worked_chain start x y z h.worked (moved_worked start y z 1 _ m (omega arith));
-  near = moved_low start y z 1 _ m 0 (omega arith) (λ e. absurd (omega arith)) ∙ h.near;
-  next = λ v is.
-      ap (λ (f : SetOfVectors). f v) (met_states start y z 1 0 1 m)
-      ∙ ap (λ (f : SetOfVectors). f v && states_at y 1 v) h.near
-      ∙ ap (λ b. states_at x 0 v && b) (h.next v is);
-}
-
-pub turned_growing : (start : Start) (x y z : Scene) → Leads start x y (action_count start.task) → Moved start y z 1 (or_of (set_at y.0.sets y.1 0) (set_at y.0.sets y.1 1)) → Turned Growing start x z
-turned_growing start x y z h m = record {
-  worked = worked_chain start x y z h.worked (moved_worked start y z 1 _ m (omega arith));
-  near = moved_low start y z 1 _ m 0 (omega arith) (λ e. absurd (omega arith)) ∙ h.near;
-  next = λ v is.
-      ap (λ (f : SetOfVectors). f v) (joined_states start y z 1 0 1 m)
-      ∙ ap (λ (f : SetOfVectors). f v || states_at y 1 v) h.near
-      ∙ ap (λ b. states_at x 0 v || b) (h.next v is);
-}
+pub leads_all : (way : Way) (start : Start) (x y : Scene) (n : ℕ) → n ≡ action_count start.task → Leads way start x y n → Leads way start x y (action_count start.task)
+leads_all way start x y n e h = subst (Leads way start x y) e h
 
 -- from the states at a place
-pub turned_from : (way : Way) (start : Start) (x m z : Scene) (place : ℕ) → Moved start x m 0 (set_at x.0.sets x.1 place) → Turned way start m z → TurnedFrom way start x z place
+pub turned_from : (way : Way) (start : Start) (x m z : Scene) (place : ℕ) → Moved start x m 0 (set_at x.0.sets x.1 place) → Leads way start m z (action_count start.task) → TurnedFrom way start x z place
 turned_from way start x m z place first h =
     let copied = copied_states start x m 0 place first in
     record {
       worked = worked_chain start x m z (moved_worked start x m 0 _ first (omega arith)) h.worked;
       near = h.near ∙ copied;
-      next = subst (λ (f : SetOfVectors). SameStates start (states_at z 1) (turn way (sys_of start) f)) copied h.next;
+      next = subst (λ (f : SetOfVectors). SameStates start (states_at z 1) (turn way (sys_of start) f)) copied (all_turned way h.next);
     }
+  where
+    all_turned : (way : Way) → SameStates start (states_at z 1) (turn_by way (sys_of start) (states_at m 0) (action_count start.task)) → SameStates start (states_at z 1) (turn way (sys_of start) (states_at m 0))
+    all_turned Shrinking same = same
+    all_turned Growing same = same
 
 -- rounds, one after another
 turns_next : (way : Way) (sys : System) (set : SetOfVectors) (k : ℕ) (v : Vector) → turn way sys (turns way sys set k) v ≡ turns way sys set (suc k) v

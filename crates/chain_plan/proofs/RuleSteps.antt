@@ -1,8 +1,8 @@
 -- The rules of a plan: of one action, one next context and one context more.
-use Rattle.std.proofs.Common.{◌≡◌, ℕ, suc, ◌+◌, ◌-◌, ◌*◌, ◌<◌, ◌≤◌, ◌==◌, Bool, true, false, not, ◌&&◌, List, [], ◌∷◌, ◌++◌, drop, length, map, IfErr, OnOk, Result, Ok, Err, refl, sym, ap, subst, ◌∙◌, ⊎_elim, arith}
+use Rattle.std.proofs.Common.{◌≡◌, ◌≢◌, ℕ, suc, ◌+◌, ◌-◌, ◌*◌, ◌<◌, ◌≤◌, ◌==◌, Bool, true, false, not, ◌&&◌, List, [], ◌∷◌, ◌++◌, drop, length, map, IfErr, OnOk, Result, Ok, Err, refl, sym, ap, subst, ◌∙◌, inl, ⊎_elim, arith}
 use Rattle.std.specs.Prelude.{nat_le}
 use Rattle.std.specs.List.{Contains, flat_map, range_with_len}
-use Rattle.std.proofs.lemmas.Bool.{eq-eqb, eqb-true, le-leb, cases_lt}
+use Rattle.std.proofs.lemmas.Bool.{cases_eq, cases_lt, eq-eqb, eqb-true, le-leb}
 use Rattle.std.proofs.lemmas.Grind.{flat_map-append}
 use Rattle.std.proofs.lemmas.List.{append-nil, append_assoc, map-id}
 use Rattle.std.proofs.lemmas.List.FromFn.{map-range_with_len_more}
@@ -22,11 +22,13 @@ use Rattle.task_core.specs.Cubes.{SetOfVectors}
 use Rattle.task_core.specs.Systems.{System}
 use Rattle.task_core.specs.Tasks.{action_count, fluent_count}
 use Rattle.task_core.specs.Vectors.{Vector}
-use Rattle.chain_plan.specs.Scenes.{IsAt, IsReady, Left, Moved, SameStates, Scene, Start, Worked, met_place, states_at, sys_of, takers_place, win_place}
-use Rattle.chain_plan.specs.Steps.{HasTakers, Lists, ListsAction, ListsNext, ListsStages, Split, from_stage, met_first, rule_for, rules_for}
-use Rattle.chain_plan.proofs.SceneSteps.{copied_states, long_enough, met_states, moved_low, moved_other, moved_worked, rest_states, same_length, worked_chain}
+use Rattle.chain_plan.specs.Listing.{Lists, ListsStages, rule_for, rules_for, rules_of_places}
+use Rattle.chain_plan.specs.Scenes.{Changed, IsAt, IsReady, Left, Moved, SameStates, Scene, Start, Worked, met_place, rules_place, states_at, sys_of, takers_place, win_place}
+use Rattle.chain_plan.specs.Steps.{Chooses, HasRest, HasTakers, from_stage, met_first}
+use Rattle.chain_plan.specs.Tables.{HasRuleStates, HasTable}
+use Rattle.chain_plan.proofs.SceneSteps.{changed_chain, copied_states, long_enough, met_states, moved_changed, moved_low, moved_other, moved_worked, rest_states, same_length, worked_changed}
 use Rattle.chain_plan.proofs.StageOrder.{at_this, from_next, won_this}
-use Rattle.chain_plan.proofs.TakenSteps.{takers_within}
+use Rattle.chain_plan.proofs.TakenSteps.{takers_apart, takers_within}
 use Rattle.chain_plan.proofs.WinSteps.{drop_none}
 
 -- lists of rules
@@ -45,62 +47,24 @@ flat_agree f g (x ∷ xs) same =
     ap (λ ys. ys ++ flat_map f xs) (same x (Contains-head x xs))
     ∙ ap (λ ys. g x ++ ys) (flat_agree f g xs (λ y c. same y (Contains-cons x xs y c)))
 
--- one action
-pub lists_action : (start : Start) (x y : Scene) (before after : List ContextRule) (context next a takers : ℕ) → Moved start x y 2 (and_of (set_at x.0.sets x.1 4) (set_at x.0.sets x.1 takers))
-    → after ≡ before ++ rules_for (fluent_count start.task) context next a (states_at y 2) → ListsAction start x y before after context next a takers
-lists_action start x y before after context next a takers m listed = record {
-  worked = moved_worked start x y 2 _ m (omega arith);
-  rest = moved_low start x y 2 _ m 3 (omega arith) (λ e. absurd (omega arith));
-  chosen = moved_low start x y 2 _ m 4 (omega arith) (λ e. absurd (omega arith));
-  listed = listed ∙ ap (λ (f : SetOfVectors). before ++ rules_for (fluent_count start.task) context next a f) (met_states start x y 2 4 takers m);
-}
+-- the rules of one place more
+pub places_none : (start : Start) (x : Scene) (before : List ContextRule) (context next place : ℕ) → before ≡ before ++ rules_of_places start x context next place 0
+places_none start x before context next place = sym (append-nil before)
 
-pub lists_none : (start : Start) (x : Scene) (before : List ContextRule) (context next takers : ℕ) → IsReady start x → ListsNext start x x before before context next takers 0
-lists_none start x before context next takers ready = record {
-  worked = record { ready = ready; kept = λ k high within. refl };
-  rest = refl;
-  chosen = refl;
-  listed = sym (append-nil before);
-}
+pub places_more : (start : Start) (x : Scene) (before mid after : List ContextRule) (context next place n : ℕ) → mid ≡ before ++ rules_of_places start x context next place n
+    → after ≡ mid ++ rules_for (fluent_count start.task) context next n (states_at x (place + n)) → after ≡ before ++ rules_of_places start x context next place (n + 1)
+places_more start x before mid after context next place n h more =
+    let f : ℕ → List ContextRule = λ a. rules_for (fluent_count start.task) context next a (states_at x (place + a)) in
+    more
+    ∙ ap (λ rules. rules ++ f n) h
+    ∙ append_assoc before (flat_map f (range_with_len 0 n)) (f n)
+    ∙ ap (λ k. before ++ (flat_map f (range_with_len 0 n) ++ f k)) (let e : n ≡ 0 + n = omega arith in e)
+    ∙ ap (λ rules. before ++ rules) (flat_more f 0 n)
 
-pub lists_more : (start : Start) (x y z : Scene) (before mid after : List ContextRule) (context next takers n : ℕ) → 8 ≤ takers → takers + n < length x.1 → IsReady start x → ListsNext start x y before mid context next takers n
-    → ListsAction start y z mid after context next n (takers + n) → ListsNext start x z before after context next takers (n + 1)
-lists_more start x y z before mid after context next takers n high within ready h more =
-    let long : length y.1 ≡ length x.1 = same_length start x y ready.at h.worked.ready.at in
-    let f : ℕ → List ContextRule = λ a. rules_for (fluent_count start.task) context next a (λ v. states_at x 4 v && states_at x (takers + a) v) in
-    record {
-      worked = worked_chain start x y z h.worked more.worked;
-      rest = more.rest ∙ h.rest;
-      chosen = more.chosen ∙ h.chosen;
-      listed =
-          more.listed
-          ∙ ap (λ (g : SetOfVectors). mid ++ rules_for (fluent_count start.task) context next n (λ v. g v && states_at y (takers + n) v)) h.chosen
-          ∙ ap (λ (g : SetOfVectors). mid ++ rules_for (fluent_count start.task) context next n (λ v. states_at x 4 v && g v)) (h.worked.kept (takers + n) (omega arith) (omega arith))
-          ∙ ap (λ rules. rules ++ f n) h.listed
-          ∙ append_assoc before (flat_map f (range_with_len 0 n)) (f n)
-          ∙ ap (λ k. before ++ (flat_map f (range_with_len 0 n) ++ f k)) (let e : n ≡ 0 + n = omega arith in e)
-          ∙ ap (λ rules. before ++ rules) (flat_more f 0 n);
-    }
-
-pub lists_all : (start : Start) (x y : Scene) (before after : List ContextRule) (context next takers n m : ℕ) → n ≡ m → ListsNext start x y before after context next takers n → ListsNext start x y before after context next takers m
-lists_all start x y before after context next takers n m e h = subst (ListsNext start x y before after context next takers) e h
-
--- the states in which a stage isn't met
-pub split_states : (start : Start) (x m y : Scene) (met : ℕ) → 8 ≤ met → met < length x.1 → IsReady start x → Moved start x m 4 (minus_of (set_at x.0.sets x.1 3) (set_at x.0.sets x.1 met)) → Moved start m y 3 (and_of (set_at m.0.sets m.1 3) (set_at m.0.sets m.1 met)) → Split start x y met
-split_states start x m y met high within ready first second =
-    let long : length m.1 ≡ length x.1 = same_length start x m ready.at first.at in
-    record {
-      worked = worked_chain start x m y (moved_worked start x m 4 _ first (omega arith)) (moved_worked start m y 3 _ second (omega arith));
-      chosen = moved_low start m y 3 _ second 4 (omega arith) (λ e. absurd (omega arith)) ∙ rest_states start x m 4 3 met first;
-      rest =
-          met_states start m y 3 3 met second
-          ∙ ap {B = SetOfVectors} (λ (f : SetOfVectors) (v : Vector). f v && states_at m met v) (moved_low start x m 4 _ first 3 (omega arith) (λ e. absurd (omega arith)))
-          ∙ ap {B = SetOfVectors} (λ (f : SetOfVectors) (v : Vector). states_at x 3 v && f v) (moved_other start x m 4 _ first met (omega arith) (λ e. absurd (omega arith)));
-    }
-
--- working places alone were written
-pub has_still : (start : Start) (x y : Scene) (chain : Chained) (i : ℕ) → HasTakers start x chain i → Worked start x y → HasTakers start y chain i
-has_still start x y chain i h w = record {
+-- what stands before the states of rules stays
+pub has_beside : (start : Start) (x y : Scene) (chain : Chained) (i : ℕ) → HasTakers start x chain i
+    → Changed start x y (rules_place (action_count start.task) start.stages) (rules_place (action_count start.task) start.stages + action_count start.task) → HasTakers start y chain i
+has_beside start x y chain i h w = record {
   ready = w.ready;
   won = record {
     wins = λ j from to v is. ap (λ (f : SetOfVectors). f v) (early (win_place j) (omega arith) (omega arith)) ∙ h.won.wins j from to v is;
@@ -112,12 +76,23 @@ has_still start x y chain i h w = record {
 }
   where
     early : (k : ℕ) → 8 ≤ k → k < 10 + 2 * start.stages → states_at y k ≡ states_at x k
-    early k high less = w.kept k high (long_enough start y w.ready.at k less)
+    early k high less = w.kept k high (long_enough start y w.ready.at k less) (inl (early_place (suc start.stages * action_count start.task)))
+      where
+        early_place : (t : ℕ) → k < 10 + 2 * start.stages + t
+        early_place t = omega arith
 
     late : (j a : ℕ) → j ≤ start.stages → a < action_count start.task → states_at y (takers_place (action_count start.task) start.stages j + a) ≡ states_at x (takers_place (action_count start.task) start.stages j + a)
     late j a low below =
-        let fits = takers_within start y w.ready.at j low in
+        let fits = takers_within start y w.ready.at j (omega arith) in
+        let apart = takers_apart (action_count start.task) start.stages j (suc start.stages) (omega arith) in
         w.kept (takers_place (action_count start.task) start.stages j + a) (omega arith) (omega arith)
+        (inl (let m : takers_place (action_count start.task) start.stages j + a < rules_place (action_count start.task) start.stages = omega arith in m))
+
+-- and so do all places but the working ones
+pub has_still : (start : Start) (x y : Scene) (chain : Chained) (i : ℕ) → HasTakers start x chain i → Worked start x y → HasTakers start y chain i
+has_still start x y chain i h w =
+    has_beside start x y chain i h
+    (worked_changed start x y (rules_place (action_count start.task) start.stages) (rules_place (action_count start.task) start.stages + action_count start.task) w)
 
 -- where a stage is met, and after the last one nowhere
 mets_all : (start : Start) (x : Scene) (chain : Chained) (j : ℕ) → length chain.stages ≡ start.stages → j ≤ start.stages → HasTakers start x chain (suc start.stages) → SameStates start (states_at x (met_place j)) (met_first (sys_of start) chain.keep (drop j chain.stages))
@@ -132,9 +107,71 @@ mets_all start x chain j long few h =
     ∙ ap (λ (s : List SetOfVectors). met_first (sys_of start) chain.keep s v) (sym (drop_none chain.stages j (omega arith))))
     (cases_lt j start.stages)
 
--- the rules of one next context more
-module _ (start : Start) (x m y : Scene) (chain : Chained) (before mid after : List ContextRule) (c j : ℕ) (long : length chain.stages ≡ start.stages) (from : c ≤ j) (few : j ≤ start.stages) (h : ListsStages start x chain before mid c j)
-    (cut : Split start x m (met_place j)) (more : ListsNext start m y mid after (suc c) (suc j) (takers_place (action_count start.task) start.stages j) (action_count start.task)) where
+-- the states of a context, and those of them in which one stage more is met
+pub rest_none : (start : Start) (x y : Scene) (chain : Chained) (c : ℕ) → c ≤ start.stages → HasTakers start x chain (suc start.stages) → Moved start x y 3 (set_at x.0.sets x.1 (win_place c)) → HasRest start y chain c c
+rest_none start x y chain c few h m =
+    let sys = sys_of start in
+    record {
+      has = has_still start x y chain (suc start.stages) h (moved_worked start x y 3 _ m (omega arith));
+      rest = λ v is.
+          ap (λ (f : SetOfVectors). f v) (copied_states start x y 3 (win_place c) m)
+          ∙ h.won.wins c (omega arith) few v is
+          ∙ all_from (win sys chain.keep (drop c chain.stages) v) (nat_le c (c + met_count sys chain.keep (drop c chain.stages) v)) (le-leb c (c + met_count sys chain.keep (drop c chain.stages) v) (omega arith));
+    }
+  where
+    all_from : (w l : Bool) → l ≡ true → w ≡ (w && l)
+    all_from true l e = sym e
+    all_from false l e = refl
+
+pub rest_more : (start : Start) (x y : Scene) (chain : Chained) (c j : ℕ) → length chain.stages ≡ start.stages → c ≤ j → j ≤ start.stages → HasRest start x chain c j → Moved start x y 3 (and_of (set_at x.0.sets x.1 3) (set_at x.0.sets x.1 (met_place j))) → HasRest start y chain c (j + 1)
+rest_more start x y chain c j long from few h m =
+    let sys = sys_of start in
+    record {
+      has = has_still start x y chain (suc start.stages) h.has (moved_worked start x y 3 _ m (omega arith));
+      rest = λ v is.
+          ap (λ (f : SetOfVectors). f v) (met_states start x y 3 3 (met_place j) m)
+          ∙ ap (λ b. b && states_at x (met_place j) v) (h.rest v is)
+          ∙ ap (λ b. from_stage sys chain c j v && b) (mets_all start x chain j long few h.has v is)
+          ∙ from_next sys chain c j from v
+          ∙ ap (λ k. from_stage sys chain c k v) (let e : suc j ≡ j + 1 = omega arith in e);
+    }
+
+-- the states of one action's rules more
+pub chooses_none : (start : Start) (x : Scene) (takers place : ℕ) → IsReady start x → Chooses start x x takers place 0
+chooses_none start x takers place ready = record {
+  changed = record { ready = ready; kept = λ k high within out. refl };
+  chosen = refl;
+  sets = λ a within below. absurd (omega arith);
+}
+
+pub chooses_more : (start : Start) (x y z : Scene) (takers place n : ℕ) → 8 ≤ takers → takers + action_count start.task ≤ place → place + action_count start.task ≤ length x.1 → n < action_count start.task → IsReady start x → Chooses start x y takers place n
+    → Moved start y z (place + n) (and_of (set_at y.0.sets y.1 4) (set_at y.0.sets y.1 (takers + n))) → Chooses start x z takers place (n + 1)
+chooses_more start x y z takers place n high apart fits below ready h m =
+    let long : length y.1 ≡ length x.1 = same_length start x y ready.at h.changed.ready.at in
+    let longer : length z.1 ≡ length x.1 = same_length start x z ready.at m.at in
+    record {
+      changed = changed_chain start x y z place (place + action_count start.task) h.changed (moved_changed start y z (place + n) _ m place (place + action_count start.task) (omega arith) (omega arith));
+      chosen = moved_low start y z (place + n) _ m 4 (omega arith) (λ e. absurd (omega arith)) ∙ h.chosen;
+      sets = λ a within less.
+          ⊎_elim
+          (λ (same : a ≡ n).
+          subst (λ k. states_at z (place + k) ≡ (λ v. states_at x 4 v && states_at x (takers + k) v)) (sym same)
+          (met_states start y z (place + n) 4 (takers + n) m
+          ∙ ap {B = SetOfVectors} (λ (f : SetOfVectors) (v : Vector). f v && states_at y (takers + n) v) h.chosen
+          ∙ ap {B = SetOfVectors} (λ (f : SetOfVectors) (v : Vector). states_at x 4 v && f v) (h.changed.kept (takers + n) (omega arith) (omega arith) (inl (let l : takers + n < place = omega arith in l)))))
+          (λ (differs : a ≢ n).
+          moved_other start y z (place + n) _ m (place + a) (omega arith) (λ e. differs (omega arith))
+          ∙ h.sets a within (omega (arith, differs)))
+          (cases_eq a n);
+    }
+
+pub chooses_all : (start : Start) (x y : Scene) (takers place n m : ℕ) → n ≡ m → Chooses start x y takers place n → Chooses start x y takers place m
+chooses_all start x y takers place n m e h = subst (Chooses start x y takers place) e h
+
+-- the states of the rules of a context and a next one
+module _ (start : Start) (x m y : Scene) (chain : Chained) (c j : ℕ) (table : HasTable start x chain) (from : c ≤ j) (few : j ≤ start.stages) (h : HasRest start x chain c j)
+    (first : Moved start x m 4 (minus_of (set_at x.0.sets x.1 3) (set_at x.0.sets x.1 (met_place j))))
+    (more : Chooses start m y (takers_place (action_count start.task) start.stages j) (rules_place (action_count start.task) start.stages) (action_count start.task)) where
   abbrev sys : System
   sys = sys_of start
 
@@ -142,20 +179,10 @@ module _ (start : Start) (x m y : Scene) (chain : Chained) (before mid after : L
   t = takers_place (action_count start.task) start.stages j
 
   mets : SameStates start (states_at x (met_place j)) (met_first sys chain.keep (drop j chain.stages))
-  mets = mets_all start x chain j long few h.has
+  mets = mets_all start x chain j table.stages few h.has
 
-  worked : Worked start x y
-  worked = worked_chain start x m y cut.worked more.worked
-
-  now_has : HasTakers start y chain (suc start.stages)
-  now_has = has_still start x y chain (suc start.stages) h.has worked
-
-  rest_now : SameStates start (states_at y 3) (from_stage sys chain c (suc j))
-  rest_now v is =
-      ap (λ (f : SetOfVectors). f v) (more.rest ∙ cut.rest)
-      ∙ ap (λ b. b && states_at x (met_place j) v) (h.rest v is)
-      ∙ ap (λ b. from_stage sys chain c j v && b) (mets v is)
-      ∙ from_next sys chain c j from v
+  still_has : HasTakers start m chain (suc start.stages)
+  still_has = has_still start x m chain (suc start.stages) h.has (moved_worked start x m 4 _ first (omega arith))
 
   first_stages : stages_from (suc c) chain.stages ≡ drop c chain.stages
   first_stages = ap (λ k. drop k chain.stages) (let e : suc c - 1 ≡ c = omega arith in e)
@@ -175,71 +202,91 @@ module _ (start : Start) (x m y : Scene) (chain : Chained) (before mid after : L
   drop_won true false s i h = refl
   drop_won false e s i h = refl
 
-  chosen : (a : ℕ) → a < action_count start.task → SameStates start (λ v. states_at m 4 v && states_at m (t + a) v) (rule_states sys chain (suc c) (suc j) a)
-  chosen a below v is =
-      let fits = takers_within start m cut.worked.ready.at j few in
+  rule_states_at : (a : ℕ) → a < action_count start.task → SameStates start (states_at y (rules_place (action_count start.task) start.stages + a)) (rule_states sys chain (suc c) (suc j) a)
+  rule_states_at a below v is =
       let won = win sys chain.keep (drop c chain.stages) v in
       let count = met_count sys chain.keep (drop c chain.stages) v in
       let acts = λ (s : List SetOfVectors). is_action a (action_towards sys chain.keep s v) in
-      ap (λ (f : SetOfVectors). f v && states_at m (t + a) v) cut.chosen
-      ∙ ap (λ (f : SetOfVectors). (states_at x 3 v && not (states_at x (met_place j) v)) && f v) (cut.worked.kept (t + a) (omega arith) (omega arith))
-      ∙ ap (λ b. (b && not (states_at x (met_place j) v)) && states_at x (t + a) v) (h.rest v is)
-      ∙ ap (λ b. (from_stage sys chain c j v && not b) && states_at x (t + a) v) (mets v is)
-      ∙ ap (λ b. b && states_at x (t + a) v) (at_this sys chain c j from v)
-      ∙ ap (λ b. (won && (c + count == j)) && b) (h.has.taken j a (omega arith) few below v is)
+      ap (λ (f : SetOfVectors). f v) (more.sets a below below)
+      ∙ ap (λ (f : SetOfVectors). f v && states_at m (t + a) v) (rest_states start x m 4 3 (met_place j) first)
+      ∙ ap (λ b. (b && not (states_at x (met_place j) v)) && states_at m (t + a) v) (h.rest v is)
+      ∙ ap (λ b. (from_stage sys chain c j v && not b) && states_at m (t + a) v) (mets v is)
+      ∙ ap (λ b. b && states_at m (t + a) v) (at_this sys chain c j from v)
+      ∙ ap (λ b. (won && (c + count == j)) && b) (still_has.taken j a (omega arith) few below v is)
       ∙ drop_won won (c + count == j) (win sys chain.keep (drop j chain.stages) v) (acts (drop j chain.stages)) (won_this sys chain c j from v)
       ∙ ap (λ b. won && (b && acts (drop j chain.stages))) (same_number count)
       ∙ ap (λ (s : List SetOfVectors). win sys chain.keep s v && ((suc c + met_count sys chain.keep s v == suc j) && acts (drop j chain.stages))) (sym first_stages)
       ∙ ap (λ (s : List SetOfVectors). win_at sys chain (suc c) v && ((advance sys chain (suc c) v == suc j) && acts s)) (sym these_stages)
 
-  abbrev here : ℕ → List ContextRule
-  here a = rules_for (fluent_count start.task) (suc c) (suc j) a (λ v. states_at m 4 v && states_at m (t + a) v)
-
-  listed_here : flat_map here (range_with_len 0 (action_count start.task)) ≡ rules_of_next sys chain (suc c) (suc j)
-  listed_here =
-      flat_agree here (rules_of_action sys chain (suc c) (suc j)) (range_with_len 0 (action_count start.task))
-      (λ a at.
-      ap (map (rule_for (suc c) (suc j) a))
-      (cubes_agree (fluent_count start.task) 0 (λ v. states_at m 4 v && states_at m (t + a) v) (rule_states sys chain (suc c) (suc j) a)
-      (λ v is. chosen a (Contains-range_with_len-below (action_count start.task) a at) v is)))
-
-  pub stages_more : ListsStages start y chain before after c (j + 1)
-  stages_more = record {
-    has = now_has;
-    rest = λ v is. rest_now v is ∙ ap (λ k. from_stage sys chain c k v) (let e : suc j ≡ j + 1 = omega arith in e);
-    listed =
-        more.listed
-        ∙ ap (λ rules. mid ++ rules) listed_here
-        ∙ ap (λ rules. rules ++ rules_of_next sys chain (suc c) (suc j)) h.listed
-        ∙ append_assoc before (flat_map (rules_of_next sys chain (suc c)) (range_with_len (suc c) (j - c))) (rules_of_next sys chain (suc c) (suc j))
-        ∙ ap (λ k. before ++ (flat_map (rules_of_next sys chain (suc c)) (range_with_len (suc c) (j - c)) ++ rules_of_next sys chain (suc c) k)) (let e : suc j ≡ suc c + (j - c) = omega arith in e)
-        ∙ ap (λ rules. before ++ rules) (flat_more (rules_of_next sys chain (suc c)) (suc c) (j - c))
-        ∙ ap (λ k. before ++ flat_map (rules_of_next sys chain (suc c)) (range_with_len (suc c) k)) (let e : (j - c) + 1 ≡ (j + 1) - c = omega arith in e);
+  pub has_rule_states : HasRuleStates start y chain c j
+  has_rule_states = record {
+    table = record {
+      stages = table.stages;
+      takers = has_beside start m y chain (suc start.stages) still_has more.changed;
+      covered = table.covered;
+    };
+    sets = rule_states_at;
   }
 
--- the first next context
-pub stages_none : (start : Start) (x y : Scene) (chain : Chained) (rules : List ContextRule) (c : ℕ) → c ≤ start.stages → HasTakers start x chain (suc start.stages) → Moved start x y 3 (set_at x.0.sets x.1 (win_place c)) → ListsStages start y chain rules rules c c
-stages_none start x y chain rules c few h m =
+-- as the code has it: by the places that it computed
+pub rule_states_made : (start : Start) (x w m y : Scene) (chain : Chained) (c j met takers place n : ℕ) → HasTable start w chain → c ≤ j → j ≤ start.stages → met ≡ met_place j → takers ≡ takers_place (action_count start.task) start.stages j → place ≡ rules_place (action_count start.task) start.stages → n ≡ action_count start.task
+    → HasRest start x chain c j → Moved start x m 4 (minus_of (set_at x.0.sets x.1 3) (set_at x.0.sets x.1 met)) → Chooses start m y takers place n → HasRuleStates start y chain c j
+rule_states_made start x w m y chain c j met takers place n table from few is_met is_takers is_place is_n h first more =
+    has_rule_states start x m y chain c j (record { stages = table.stages; takers = h.has; covered = table.covered }) from few h
+    (subst (λ k. Moved start x m 4 (minus_of (set_at x.0.sets x.1 3) (set_at x.0.sets x.1 k))) is_met first)
+    (subst (λ k. Chooses start m y (takers_place (action_count start.task) start.stages j) (rules_place (action_count start.task) start.stages) k) is_n
+    (subst (λ k. Chooses start m y (takers_place (action_count start.task) start.stages j) k n) is_place
+    (subst (λ k. Chooses start m y k place n) is_takers more)))
+
+-- the rules of one next context more
+pub stages_more : (start : Start) (y : Scene) (chain : Chained) (before mid after : List ContextRule) (c j : ℕ) → c ≤ j → mid ≡ before ++ flat_map (rules_of_next (sys_of start) chain (suc c)) (range_with_len (suc c) (j - c)) → HasRuleStates start y chain c j
+    → after ≡ mid ++ rules_of_places start y (suc c) (suc j) (rules_place (action_count start.task) start.stages) (action_count start.task) → ListsStages start y chain before after c (j + 1)
+stages_more start y chain before mid after c j from h states more =
     let sys = sys_of start in
+    let p = rules_place (action_count start.task) start.stages in
+    let here : ℕ → List ContextRule = λ a. rules_for (fluent_count start.task) (suc c) (suc j) a (states_at y (p + a)) in
+    let listed_here : flat_map here (range_with_len 0 (action_count start.task)) ≡ rules_of_next sys chain (suc c) (suc j) =
+    flat_agree here (rules_of_action sys chain (suc c) (suc j)) (range_with_len 0 (action_count start.task))
+    (λ a at.
+    ap (map (rule_for (suc c) (suc j) a))
+    (cubes_agree (fluent_count start.task) 0 (states_at y (p + a)) (rule_states sys chain (suc c) (suc j) a)
+    (λ v is. states.sets a (Contains-range_with_len-below (action_count start.task) a at) v is))) in
     record {
-      has = has_still start x y chain (suc start.stages) h (moved_worked start x y 3 _ m (omega arith));
-      rest = λ v is.
-          ap (λ (f : SetOfVectors). f v) (copied_states start x y 3 (win_place c) m)
-          ∙ h.won.wins c (omega arith) few v is
-          ∙ all_from (win sys chain.keep (drop c chain.stages) v) (nat_le c (c + met_count sys chain.keep (drop c chain.stages) v)) (le-leb c (c + met_count sys chain.keep (drop c chain.stages) v) (omega arith));
+      table = states.table;
       listed =
-          sym (append-nil rules)
-          ∙ ap (λ k. rules ++ flat_map (rules_of_next sys chain (suc c)) (range_with_len (suc c) k)) (let e : 0 ≡ c - c = omega arith in e);
+          more
+          ∙ ap (λ rules. mid ++ rules) listed_here
+          ∙ ap (λ rules. rules ++ rules_of_next sys chain (suc c) (suc j)) h
+          ∙ append_assoc before (flat_map (rules_of_next sys chain (suc c)) (range_with_len (suc c) (j - c))) (rules_of_next sys chain (suc c) (suc j))
+          ∙ ap (λ k. before ++ (flat_map (rules_of_next sys chain (suc c)) (range_with_len (suc c) (j - c)) ++ rules_of_next sys chain (suc c) k)) (let e : suc j ≡ suc c + (j - c) = omega arith in e)
+          ∙ ap (λ rules. before ++ rules) (flat_more (rules_of_next sys chain (suc c)) (suc c) (j - c))
+          ∙ ap (λ k. before ++ flat_map (rules_of_next sys chain (suc c)) (range_with_len (suc c) k)) (let e : (j - c) + 1 ≡ (j + 1) - c = omega arith in e);
     }
-  where
-    all_from : (w l : Bool) → l ≡ true → w ≡ (w && l)
-    all_from true l e = sym e
-    all_from false l e = refl
+
+-- as the code has it
+pub stage_listed : (start : Start) (y : Scene) (chain : Chained) (before mid after : List ContextRule) (c j place actions c' j' : ℕ) → c ≤ j → place ≡ rules_place (action_count start.task) start.stages → actions ≡ action_count start.task → c' ≡ suc c → j' ≡ suc j
+    → mid ≡ before ++ flat_map (rules_of_next (sys_of start) chain (suc c)) (range_with_len (suc c) (j - c)) → HasRuleStates start y chain c j → after ≡ mid ++ rules_of_places start y c' j' place actions → ListsStages start y chain before after c (j + 1)
+stage_listed start y chain before mid after c j place actions c' j' from is_place is_actions is_c is_j h states more =
+    stages_more start y chain before mid after c j from h states
+    (more
+    ∙ ap (λ k. mid ++ rules_of_places start y k j' place actions) is_c
+    ∙ ap (λ k. mid ++ rules_of_places start y (suc c) k place actions) is_j
+    ∙ ap (λ k. mid ++ rules_of_places start y (suc c) (suc j) k actions) is_place
+    ∙ ap (λ k. mid ++ rules_of_places start y (suc c) (suc j) (rules_place (action_count start.task) start.stages) k) is_actions)
+
+-- no next context yet
+pub stages_none : (start : Start) (x : Scene) (chain : Chained) (rules : List ContextRule) (c : ℕ) → HasTable start x chain → ListsStages start x chain rules rules c c
+stages_none start x chain rules c table = record {
+  table = table;
+  listed =
+      sym (append-nil rules)
+      ∙ ap (λ k. rules ++ flat_map (rules_of_next (sys_of start) chain (suc c)) (range_with_len (suc c) k)) (let e : 0 ≡ c - c = omega arith in e);
+}
 
 -- all next contexts
 pub stages_all : (start : Start) (y : Scene) (chain : Chained) (before after : List ContextRule) (c j : ℕ) → length chain.stages ≡ start.stages → c ≤ start.stages → j ≡ start.stages + 1 → ListsStages start y chain before after c j → Lists start y chain before after (rules_of_context (sys_of start) chain (suc c))
 stages_all start y chain before after c j long few e h = record {
-  has = h.has;
+  table = h.table;
   listed =
       h.listed
       ∙ ap (λ k. before ++ flat_map (rules_of_next (sys_of start) chain (suc c)) (range_with_len (suc c) k))
@@ -247,15 +294,15 @@ stages_all start y chain before after c j long few e h = record {
 }
 
 -- the rules of one context more
-pub contexts_none : (start : Start) (x : Scene) (chain : Chained) (rules : List ContextRule) → HasTakers start x chain (suc start.stages) → Lists start x chain rules rules (flat_map (rules_of_context (sys_of start) chain) (range_with_len 1 0))
-contexts_none start x chain rules h = record { has = h; listed = sym (append-nil rules) }
+pub contexts_none : (start : Start) (x : Scene) (chain : Chained) (rules : List ContextRule) → HasTable start x chain → Lists start x chain rules rules (flat_map (rules_of_context (sys_of start) chain) (range_with_len 1 0))
+contexts_none start x chain rules h = record { table = h; listed = sym (append-nil rules) }
 
 pub contexts_more : (start : Start) (y z : Scene) (chain : Chained) (before mid after : List ContextRule) (c : ℕ) → Lists start y chain before mid (flat_map (rules_of_context (sys_of start) chain) (range_with_len 1 c)) → Lists start z chain mid after (rules_of_context (sys_of start) chain (suc c))
     → Lists start z chain before after (flat_map (rules_of_context (sys_of start) chain) (range_with_len 1 (c + 1)))
 contexts_more start y z chain before mid after c h more =
     let f = rules_of_context (sys_of start) chain in
     record {
-      has = more.has;
+      table = more.table;
       listed =
           more.listed
           ∙ ap (λ rules. rules ++ f (suc c)) h.listed
@@ -267,20 +314,9 @@ contexts_more start y z chain before mid after c h more =
 pub contexts_all : (start : Start) (y : Scene) (chain : Chained) (before after : List ContextRule) (k : ℕ) → length chain.stages ≡ start.stages → k ≡ start.stages + 1 → Lists start y chain before after (flat_map (rules_of_context (sys_of start) chain) (range_with_len 1 k))
     → Lists start y chain before after (chain_rules (sys_of start) chain)
 contexts_all start y chain before after k long e h = record {
-  has = h.has;
+  table = h.table;
   listed = h.listed ∙ ap (λ n. before ++ flat_map (rules_of_context (sys_of start) chain) (range_with_len 1 n)) (let same : k ≡ suc (length chain.stages) = omega arith in same);
 }
-
--- as the code has it: by the places that it computed
-pub stage_listed : (start : Start) (x m y : Scene) (chain : Chained) (before mid after : List ContextRule) (c j met takers actions c' j' : ℕ) → length chain.stages ≡ start.stages → c ≤ j → j ≤ start.stages
-    → met ≡ met_place j → takers ≡ takers_place (action_count start.task) start.stages j → actions ≡ action_count start.task → c' ≡ suc c → j' ≡ suc j
-    → ListsStages start x chain before mid c j → Split start x m met → ListsNext start m y mid after c' j' takers actions → ListsStages start y chain before after c (j + 1)
-stage_listed start x m y chain before mid after c j met takers actions c' j' long from few is_met is_takers is_actions is_c is_j h cut more =
-    stages_more start x m y chain before mid after c j long from few h (subst (Split start x m) is_met cut)
-    (subst (λ k. ListsNext start m y mid after (suc c) (suc j) (takers_place (action_count start.task) start.stages j) k) is_actions
-    (subst (λ k. ListsNext start m y mid after (suc c) (suc j) k actions) is_takers
-    (subst (λ k. ListsNext start m y mid after (suc c) k takers actions) is_j
-    (subst (λ k. ListsNext start m y mid after k j' takers actions) is_c more))))
 
 -- a listing that gives up for want of memory alone
 pub listed_left : (start : Start) (x : Scene) → IsAt start x → (Q P : Type 0) (result : Result Unit SetErr) → (P → Q) → OnOk result P → IfErr result (λ e. e ≡ Memory) → Left start x Q result

@@ -6,7 +6,6 @@ use Rattle.dd_ops.specs.Operations.{and_of, minus_of, or_of}
 use Rattle.slot_board.specs.Board.{led, set_at}
 use Rattle.slot_board.specs.declared.board.Outcomes.TheVariants as Outcomes
 use Rattle.slot_board.proofs.BoardSlots.{depends}
-use Rattle.cyclic_plan.specs.Begun as cyclic
 use Rattle.cyclic_plan.proofs.StageSteps.{strong_agrees}
 use Rattle.plan_theory.specs.Safe.{some_must_lead}
 use Rattle.plan_theory.specs.Layers.{action_numbers, must_lead}
@@ -23,7 +22,7 @@ pub same_length : (start : Start) (x y : Scene) → IsAt start x → IsAt start 
 same_length start x y first second = second.long ∙ sym first.long
 
 pub long_enough : (start : Start) (x : Scene) → IsAt start x → (k : ℕ) → k < 10 + 2 * start.stages → k < length x.1
-long_enough start x at k low = go (suc start.stages * action_count start.task) at.long
+long_enough start x at k low = go (suc (suc start.stages) * action_count start.task) at.long
   where
     go : (t : ℕ) → length x.1 ≡ 10 + 2 * start.stages + t → k < length x.1
     go t e = omega arith
@@ -32,7 +31,7 @@ pub low : (start : Start) (x : Scene) → IsAt start x → (k : ℕ) → k < 10 
 low start x at k less = long_enough start x at k (omega arith)
 
 -- what a condition may need
-pub spare_enough : (start : Start) → 196 ≤ 2 * action_count start.task + 6 * start.stages + 218
+pub spare_enough : (start : Start) → 196 ≤ action_count start.task + 6 * start.stages + 218
 spare_enough start = omega arith
 
 -- a set as its states
@@ -107,9 +106,6 @@ pub same_back : (start : Start) (f g : SetOfVectors) → SameStates start f g �
 same_back start f g same v is = sym (same v is)
 
 -- where an action leads into a set of states
-abbrev pub begun : Start → cyclic.Start
-begun start = record { task = start.task; enc = start.enc; made = start.made }
-
 pub depends_at : (start : Start) (x : Scene) → IsReady start x → (place : ℕ) → DependsOnly 0 (fluent_count start.task) (set_at x.0.sets x.1 place)
 depends_at start x ready place = depends (board_of start) x.0 x.1 ready.at ready.sound place
 
@@ -117,7 +113,7 @@ pub led_states : (start : Start) (x y : Scene) (place a into : ℕ) → IsReady 
     → SameStates start (states_at y place) (λ v. must_lead (sys_of start) (states_at x into) v a)
 led_states start x y place a into ready m v is =
     ap (λ (f : SetOfVectors). f v) (moved_here start x y place _ m)
-    ∙ strong_agrees (begun start) a (set_at x.0.sets x.1 into) (states_at x into) (depends_at start x ready into) (λ u at. refl) v is
+    ∙ strong_agrees (board_of start) a (set_at x.0.sets x.1 into) (states_at x into) (depends_at start x ready into) (λ u at. refl) v is
 
 pub leads_same : (start : Start) (f g : SetOfVectors) → SameStates start f g → (v : Vector) (a : ℕ) → IsState (sys_of start) v → must_lead (sys_of start) f v a ≡ must_lead (sys_of start) g v a
 leads_same start f g same v a is =

@@ -8,6 +8,7 @@ use Rattle.std.proofs.lemmas.Bool.{or_left, true≢false}
 use Rattle.plan_theory.specs.Safe.{some_must_lead}
 use Rattle.plan_theory.specs.StageSets.{action_at_rank, near, stage_action, stage_rank, stage_set}
 use Rattle.plan_theory.proofs.StageSets.{action-next, no_action-met}
+use Rattle.plan_theory.proofs.WeakLists.{find-None}
 use Rattle.plan_theory.specs.Layers.{action_numbers, must_lead}
 use Rattle.plan_theory.specs.LayerPlans.{is_action}
 use Rattle.task_core.specs.Cubes.{SetOfVectors}
@@ -56,8 +57,12 @@ none_taken sys met v a b = sym (ap (λ c. b || c) (go (met v) refl) ∙ or_none 
     go true e = ap (λ o. met v && is_action a o) (no_action-met sys met v e) ∙ and_none (met v)
     go false e = ap (λ c. c && is_action a (stage_action sys met v)) e
 
+-- no action leads into a set where none is the first
+no_first : (sys : System) (set : SetOfVectors) (v : Vector) (a : ℕ) → some_must_lead sys set v ≡ false → is_action a (find (must_lead sys set v) (action_numbers sys)) ≡ false
+no_first sys set v a none = ap (is_action a) (find-None (must_lead sys set v) (action_numbers sys) none)
+
 pub more_taken : (sys : System) (met : SetOfVectors) (v : Vector) (a k : ℕ) (b : Bool) → IsSystem sys → IsState sys v
-    → ((b || (near sys met k v && is_action a (stage_action sys met v))) || ((near sys met (suc k) v && not (near sys met k v)) && is_action a (find (must_lead sys (near sys met k) v) (action_numbers sys))))
+    → ((b || (near sys met k v && is_action a (stage_action sys met v))) || (not (near sys met k v) && is_action a (find (must_lead sys (near sys met k) v) (action_numbers sys))))
     ≡ (b || (near sys met (suc k) v && is_action a (stage_action sys met v)))
 more_taken sys met v a k b ok is = go (near sys met k v) (near sys met (suc k) v) refl refl
   where
@@ -67,16 +72,19 @@ more_taken sys met v a k b ok is = go (near sys met k v) (near sys met (suc k) v
     j : Bool
     j = is_action a (find (must_lead sys (near sys met k) v) (action_numbers sys))
 
-    put : (n m c d : Bool) → near sys met k v ≡ n → near sys met (suc k) v ≡ m → (((b || (n && c)) || ((m && not n) && d)) ≡ (b || (m && c))) → ((b || (near sys met k v && c)) || ((near sys met (suc k) v && not (near sys met k v)) && d)) ≡ (b || (near sys met (suc k) v && c))
-    put n m c d e f h = ap (λ x. (b || (x && c)) || ((near sys met (suc k) v && not x) && d)) e ∙ ap (λ x. (b || (n && c)) || ((x && not n) && d)) f ∙ h ∙ ap (λ x. b || (x && c)) (sym f)
+    put : (n m : Bool) → near sys met k v ≡ n → near sys met (suc k) v ≡ m → ((b || (n && i)) || (not n && j)) ≡ (b || (m && i)) → ((b || (near sys met k v && i)) || (not (near sys met k v) && j)) ≡ (b || (near sys met (suc k) v && i))
+    put n m e f h = ap (λ x. (b || (x && i)) || (not x && j)) e ∙ h ∙ ap (λ x. b || (x && i)) (sym f)
 
-    both : (c d : Bool) → ((b || c) || (false && d)) ≡ (b || c)
-    both c d = or_none (b || c)
+    or_false : (x y : Bool) → (x || y) ≡ false → y ≡ false
+    or_false true y e = absurd (true≢false e)
+    or_false false y e = e
 
-    go : (n m : Bool) → near sys met k v ≡ n → near sys met (suc k) v ≡ m → ((b || (near sys met k v && i)) || ((near sys met (suc k) v && not (near sys met k v)) && j)) ≡ (b || (near sys met (suc k) v && i))
-    go true true e f = put true true i j e f (both i j)
+    go : (n m : Bool) → near sys met k v ≡ n → near sys met (suc k) v ≡ m → ((b || (near sys met k v && i)) || (not (near sys met k v) && j)) ≡ (b || (near sys met (suc k) v && i))
+    go true true e f = put true true e f (or_none (b || i))
     go true false e f = absurd (true≢false (sym (or_left (near sys met k v) _ e) ∙ f))
-    go false false e f = put false false i j e f (or_none (b || false))
+    go false false e f =
+        put false false e f
+        (ap (λ x. (b || false) || x) (no_first sys (near sys met k) v a (or_false (near sys met k v) _ f)) ∙ or_none (b || false))
     go false true e f =
-        put false true i j e f
+        put false true e f
         (ap (λ x. x || j) (or_none b) ∙ ap (λ o. b || is_action a o) (sym (action-next sys met ok k v is f e)))

@@ -23,10 +23,10 @@ takers_apart actions stages i j less =
     let step : suc i * actions ≡ i * actions + actions = omega arith in
     omega arith
 
-pub takers_within : (start : Start) (x : Scene) → IsAt start x → (i : ℕ) → i ≤ start.stages → takers_place (action_count start.task) start.stages i + action_count start.task ≤ length x.1
+pub takers_within : (start : Start) (x : Scene) → IsAt start x → (i : ℕ) → i ≤ suc start.stages → takers_place (action_count start.task) start.stages i + action_count start.task ≤ length x.1
 takers_within start x at i few =
-    let apart = takers_apart (action_count start.task) start.stages i (suc start.stages) (omega arith) in
-    let e : length x.1 ≡ takers_place (action_count start.task) start.stages (suc start.stages) = at.long in
+    let apart = takers_apart (action_count start.task) start.stages i (suc (suc start.stages)) (omega arith) in
+    let e : length x.1 ≡ takers_place (action_count start.task) start.stages (suc (suc start.stages)) = at.long in
     omega arith
 
 -- what stands before the states that take actions stays
@@ -53,7 +53,7 @@ module _ (start : Start) (x y : Scene) (chain : Chained) (i : ℕ) (few : i ≤ 
   -- and so do those of the other contexts
   others : (j a : ℕ) → j ≤ n → a < A → j ≢ i → states_at y (takers_place A n j + a) ≡ states_at x (takers_place A n j + a)
   others j a low below differs =
-      let fits = takers_within start y changed.ready.at j low in
+      let fits = takers_within start y changed.ready.at j (omega arith) in
       changed.kept (takers_place A n j + a) (omega arith) (omega arith)
       (⊎_elim
       (λ (l : j < i). let apart = takers_apart A n j i l in inl (let m : takers_place A n j + a < takers_place A n i = omega arith in m))
@@ -127,7 +127,7 @@ takers_none start x y chain blank same h = record {
   taken = λ j a less low below. absurd (omega arith);
   untaken = λ j a from low below v is.
       let t = takers_place (action_count start.task) start.stages j in
-      let fits = takers_within start y h.changed.ready.at j low in
+      let fits = takers_within start y h.changed.ready.at j (omega arith) in
       ap (λ (f : SetOfVectors). f v) (h.changed.kept (t + a) (omega arith) (omega arith) (inr (omega arith)))
       ∙ blank (t + a) (omega arith) (omega arith) v is;
 }

@@ -15,7 +15,7 @@ use Rattle.task_core.specs.Tasks.{action_count, fluent_count}
 use Rattle.task_core.specs.Vectors.{Vector, value_of}
 use Rattle.task_core.proofs.TaskSystem.{is_system}
 use Rattle.chain_plan.specs.Scenes.{IsReady, Moved, SameStates, Scene, Start, states_at, sys_of}
-use Rattle.chain_plan.specs.Steps.{Climbed, EndTaken, HasClimbed, Shared, TookNew, TurnedFrom, first_lead}
+use Rattle.chain_plan.specs.Steps.{Climbed, ClimbedFrom, Climbs, EndTaken, HasClimbed, Shared, first_lead, turn, turn_by}
 use Rattle.chain_plan.specs.declared.rounds.Way.TheVariants.{Growing}
 use Rattle.chain_plan.proofs.RoundSteps.{any_more, fewer_left, left_over, turn_same}
 use Rattle.chain_plan.proofs.SceneSteps.{changed_chain, copied_states, joined_states, led_states, met_states, moved_changed, moved_low, moved_other, moved_worked, rest_states, same_length, worked_chain, worked_changed}
@@ -146,80 +146,192 @@ module _ (start : Start) (x w one two three last : Scene) (takers a : ℕ) (high
 pub shared_all : (start : Start) (x y : Scene) (takers n : ℕ) → n ≡ action_count start.task → Shared start x y takers n → Shared start x y takers (action_count start.task)
 shared_all start x y takers n e h = subst (Shared start x y takers) e h
 
--- the new states of a round
-pub took_new : (start : Start) (x m y : Scene) (takers : ℕ) → 8 ≤ takers → takers + action_count start.task ≤ length x.1 → IsReady start x → Moved start x m 3 (minus_of (set_at x.0.sets x.1 1) (set_at x.0.sets x.1 0)) → Shared start m y takers (action_count start.task)
-    → TookNew start x y takers
-took_new start x m y takers high fits ready first h =
+-- a round that begins with a copy of the first states
+pub climbs_none : (start : Start) (x y : Scene) (takers : ℕ) → 8 ≤ takers → takers + action_count start.task ≤ length x.1 → IsReady start x → Moved start x y 1 (set_at x.0.sets x.1 0) → Climbs start x y takers 0
+climbs_none start x y takers high fits ready m =
+    let long : length y.1 ≡ length x.1 = same_length start x y ready.at m.at in
+    record {
+      changed = worked_changed start x y takers (takers + action_count start.task) (moved_worked start x y 1 _ m (omega arith));
+      near = moved_low start x y 1 _ m 0 (omega arith) (λ e. absurd (omega arith));
+      next = λ v is. ap (λ (f : SetOfVectors). f v) (copied_states start x y 1 0 m) ∙ or_none (states_at x 0 v);
+      taken = λ a within below. absurd (omega arith);
+      later = λ a within from. moved_other start x y 1 _ m (takers + a) (omega arith) (λ e. absurd (omega arith));
+    }
+  where
+    or_none : (b : Bool) → b ≡ (b || false)
+    or_none true = refl
+    or_none false = refl
+
+new_ones : (r s t : Bool) → (t && not (r || s)) ≡ (not r && (t && not s))
+new_ones true s true = refl
+new_ones true s false = refl
+new_ones false s t = refl
+
+joined : (r s t : Bool) → ((r || s) || t) ≡ (r || (s || t))
+joined true s t = refl
+joined false s t = refl
+
+-- one action more
+module _ (start : Start) (x w one two three last : Scene) (takers a : ℕ) (high : 8 ≤ takers) (fits : takers + action_count start.task ≤ length w.1) (below : a < action_count start.task) (h : Climbs start x w takers a)
+    (first : Moved start w one 2 (led Outcomes.Every start.task a (set_at w.0.sets w.1 0)))
+    (second : Moved start one two 4 (minus_of (set_at one.0.sets one.1 2) (set_at one.0.sets one.1 1)))
+    (third : Moved start two three (takers + a) (or_of (set_at two.0.sets two.1 (takers + a)) (set_at two.0.sets two.1 4)))
+    (fourth : Moved start three last 1 (or_of (set_at three.0.sets three.1 1) (set_at three.0.sets three.1 2))) where
+  steps_one : length one.1 ≡ length w.1
+  steps_one = same_length start w one h.changed.ready.at first.at
+
+  steps_two : length two.1 ≡ length w.1
+  steps_two = same_length start w two h.changed.ready.at second.at
+
+  steps_three : length three.1 ≡ length w.1
+  steps_three = same_length start w three h.changed.ready.at third.at
+
+  steps_last : length last.1 ≡ length w.1
+  steps_last = same_length start w last h.changed.ready.at fourth.at
+
+  unmoved : (k : ℕ) → k < length w.1 → k ≢ 1 → k ≢ 2 → k ≢ 4 → k ≢ takers + a → states_at last k ≡ states_at w k
+  unmoved k within b c d e =
+      let e1 = steps_one in let e2 = steps_two in let e3 = steps_three in let e4 = steps_last in
+      moved_other start three last 1 _ fourth k (omega arith) b
+      ∙ moved_other start two three (takers + a) _ third k (omega arith) e
+      ∙ moved_other start one two 4 _ second k (omega arith) d
+      ∙ moved_other start w one 2 _ first k (omega arith) c
+
+  hits_one : SameStates start (states_at one 2) (λ v. must_lead (sys_of start) (states_at x 0) v a)
+  hits_one v is = led_states start w one 2 a 0 h.changed.ready first v is ∙ ap (λ (f : SetOfVectors). must_lead (sys_of start) f v a) h.near
+
+  -- those of them that are new take the action
+  new_two : SameStates start (states_at two 4) (first_lead (sys_of start) (states_at x 0) (λ u. not (states_at x 0 u)) a)
+  new_two v is =
+      ap (λ (f : SetOfVectors). f v) (rest_states start one two 4 2 1 second)
+      ∙ ap (λ (f : SetOfVectors). states_at one 2 v && not (f v)) (moved_low start w one 2 _ first 1 (omega arith) (λ e. absurd (omega arith)))
+      ∙ ap (λ b. b && not (states_at w 1 v)) (hits_one v is)
+      ∙ ap (λ b. must_lead (sys_of start) (states_at x 0) v a && not b) (h.next v is)
+      ∙ new_ones (states_at x 0 v) (list_any (must_lead (sys_of start) (states_at x 0) v) (range_with_len 0 a)) (must_lead (sys_of start) (states_at x 0) v a)
+      ∙ ap (λ b. not (states_at x 0 v) && b) (first_is (must_lead (sys_of start) (states_at x 0) v) (action_count start.task) a below)
+
+  taken_here : SameStates start (states_at last (takers + a)) (λ v. states_at x (takers + a) v || first_lead (sys_of start) (states_at x 0) (λ u. not (states_at x 0 u)) a v)
+  taken_here v is =
+      let e1 = steps_one in let e2 = steps_two in let e3 = steps_three in let e4 = steps_last in
+      ap (λ (f : SetOfVectors). f v) (moved_other start three last 1 _ fourth (takers + a) (omega arith) (λ e. absurd (omega arith)))
+      ∙ ap (λ (f : SetOfVectors). f v) (joined_states start two three (takers + a) (takers + a) 4 third)
+      ∙ ap (λ (f : SetOfVectors). f v || states_at two 4 v)
+      (moved_other start one two 4 _ second (takers + a) (omega arith) (λ e. absurd (omega arith))
+      ∙ moved_other start w one 2 _ first (takers + a) (omega arith) (λ e. absurd (omega arith))
+      ∙ h.later a below (omega arith))
+      ∙ ap (λ b. states_at x (takers + a) v || b) (new_two v is)
+
+  next_now : SameStates start (states_at last 1) (turn_by Growing (sys_of start) (states_at x 0) (a + 1))
+  next_now v is =
+      ap (λ (f : SetOfVectors). f v) (joined_states start three last 1 1 2 fourth)
+      ∙ ap (λ (f : SetOfVectors). f v || states_at three 2 v)
+      (moved_low start two three (takers + a) _ third 1 (omega arith) (λ e. absurd (omega arith))
+      ∙ moved_low start one two 4 _ second 1 (omega arith) (λ e. absurd (omega arith))
+      ∙ moved_low start w one 2 _ first 1 (omega arith) (λ e. absurd (omega arith)))
+      ∙ ap (λ (f : SetOfVectors). states_at w 1 v || f v)
+      (moved_low start two three (takers + a) _ third 2 (omega arith) (λ e. absurd (omega arith))
+      ∙ moved_low start one two 4 _ second 2 (omega arith) (λ e. absurd (omega arith)))
+      ∙ ap (λ b. states_at w 1 v || b) (hits_one v is)
+      ∙ ap (λ b. b || must_lead (sys_of start) (states_at x 0) v a) (h.next v is)
+      ∙ joined (states_at x 0 v) (list_any (must_lead (sys_of start) (states_at x 0) v) (range_with_len 0 a)) (must_lead (sys_of start) (states_at x 0) v a)
+      ∙ ap (λ b. states_at x 0 v || b) (any_more (must_lead (sys_of start) (states_at x 0) v) a)
+
+  pub climbs_more : Climbs start x last takers (a + 1)
+  climbs_more = record {
+    changed =
+        changed_chain start x w last takers (takers + action_count start.task) h.changed
+        (changed_chain start w two last takers (takers + action_count start.task)
+        (worked_changed start w two takers (takers + action_count start.task) (worked_chain start w one two (moved_worked start w one 2 _ first (omega arith)) (moved_worked start one two 4 _ second (omega arith))))
+        (changed_chain start two three last takers (takers + action_count start.task)
+        (moved_changed start two three (takers + a) _ third takers (takers + action_count start.task) (omega arith) (omega arith))
+        (worked_changed start three last takers (takers + action_count start.task) (moved_worked start three last 1 _ fourth (omega arith)))));
+    near = unmoved 0 (omega arith) (λ e. absurd (omega arith)) (λ e. absurd (omega arith)) (λ e. absurd (omega arith)) (λ e. absurd (omega arith)) ∙ h.near;
+    next = next_now;
+    taken = λ b within less.
+        ⊎_elim
+        (λ (same : b ≡ a).
+        subst (λ k. SameStates start (states_at last (takers + k)) (λ v. states_at x (takers + k) v || first_lead (sys_of start) (states_at x 0) (λ u. not (states_at x 0 u)) k v)) (sym same) taken_here)
+        (λ (differs : b ≢ a).
+        λ v is.
+        ap (λ (f : SetOfVectors). f v) (unmoved (takers + b) (omega arith) (λ e. absurd (omega arith)) (λ e. absurd (omega arith)) (λ e. absurd (omega arith)) (λ e. differs (omega arith)))
+        ∙ h.taken b within (omega (arith, differs)) v is)
+        (cases_eq b a);
+    later = λ b within from.
+        unmoved (takers + b) (omega arith) (λ e. absurd (omega arith)) (λ e. absurd (omega arith)) (λ e. absurd (omega arith)) (λ e. absurd (omega arith))
+        ∙ h.later b within (omega arith);
+  }
+
+pub climbs_all : (start : Start) (x y : Scene) (takers n : ℕ) → n ≡ action_count start.task → Climbs start x y takers n → Climbs start x y takers (action_count start.task)
+climbs_all start x y takers n e h = subst (Climbs start x y takers) e h
+
+-- a round on the states at a place
+pub climbed_from : (start : Start) (x m y : Scene) (place takers : ℕ) → 8 ≤ takers → takers + action_count start.task ≤ length x.1 → IsReady start x → Moved start x m 0 (set_at x.0.sets x.1 place) → Climbs start m y takers (action_count start.task) → ClimbedFrom start x y place takers
+climbed_from start x m y place takers high fits ready first h =
     let sys = sys_of start in
     let long : length m.1 ≡ length x.1 = same_length start x m ready.at first.at in
+    let copied = copied_states start x m 0 place first in
     record {
       changed =
           changed_chain start x m y takers (takers + action_count start.task)
-          (worked_changed start x m takers (takers + action_count start.task) (moved_worked start x m 3 _ first (omega arith))) h.changed;
-      near = h.near ∙ moved_low start x m 3 _ first 0 (omega arith) (λ e. absurd (omega arith));
-      next = h.next ∙ moved_low start x m 3 _ first 1 (omega arith) (λ e. absurd (omega arith));
+          (worked_changed start x m takers (takers + action_count start.task) (moved_worked start x m 0 _ first (omega arith))) h.changed;
+      near = h.near ∙ copied;
+      next = subst (λ (f : SetOfVectors). SameStates start (states_at y 1) (turn Growing sys f)) copied h.next;
       taken = λ a below v is.
           h.taken a below below v is
-          ∙ ap (λ (f : SetOfVectors). f v || first_lead sys (states_at m 0) (states_at m 3) a v) (moved_other start x m 3 _ first (takers + a) (omega arith) (λ e. absurd (omega arith)))
-          ∙ ap (λ (f : SetOfVectors). states_at x (takers + a) v || first_lead sys f (states_at m 3) a v) (moved_low start x m 3 _ first 0 (omega arith) (λ e. absurd (omega arith)))
-          ∙ ap (λ (f : SetOfVectors). states_at x (takers + a) v || first_lead sys (states_at x 0) f a v) (rest_states start x m 3 1 0 first);
+          ∙ ap (λ (f : SetOfVectors). f v || first_lead sys (states_at m 0) (λ u. not (states_at m 0 u)) a v) (moved_other start x m 0 _ first (takers + a) (omega arith) (λ e. absurd (omega arith)))
+          ∙ ap (λ (f : SetOfVectors). states_at x (takers + a) v || first_lead sys f (λ u. not (f u)) a v) copied;
     }
 
 -- the first round towards a stage
-pub climbed_first : (start : Start) (x y : Scene) (met takers : ℕ) → 8 ≤ takers → takers + action_count start.task ≤ length x.1 → IsReady start x → TurnedFrom Growing start x y met → HasClimbed start x y met takers 0
-climbed_first start x y met takers high fits ready h =
-    let long : length y.1 ≡ length x.1 = same_length start x y ready.at h.worked.ready.at in
+pub climbed_first : (start : Start) (x y : Scene) (met takers : ℕ) → ClimbedFrom start x y met takers → HasClimbed start x y met takers 0
+climbed_first start x y met takers h =
+    let sys = sys_of start in
+    let set = states_at x met in
     record {
-      changed = worked_changed start x y takers (takers + action_count start.task) h.worked;
+      changed = h.changed;
       near = λ v is. ap (λ (f : SetOfVectors). f v) h.near;
       next = h.next;
       taken = λ a below v is.
-          ap (λ (f : SetOfVectors). f v) (h.worked.kept (takers + a) (omega arith) (omega arith))
-          ∙ none_taken (sys_of start) (states_at x met) v a (states_at x (takers + a) v);
+          h.taken a below v is
+          ∙ ap (λ b. b || first_lead sys set (λ u. not (set u)) a v) (none_taken sys set v a (states_at x (takers + a) v))
+          ∙ more_taken sys set v a 0 (states_at x (takers + a) v) (is_system start.task) is;
     }
 
--- and one more, once the new states took their actions
-pub climbed_more : (start : Start) (x y m z : Scene) (met takers k : ℕ) → 8 ≤ takers → takers + action_count start.task ≤ length y.1 → HasClimbed start x y met takers k → TookNew start y m takers → TurnedFrom Growing start m z 1
-    → HasClimbed start x z met takers (suc k)
-climbed_more start x y m z met takers k high fits h took more =
+-- and one more
+pub climbed_more : (start : Start) (x y z : Scene) (met takers k : ℕ) → 8 ≤ takers → takers + action_count start.task ≤ length y.1 → HasClimbed start x y met takers k → ClimbedFrom start y z 1 takers → HasClimbed start x z met takers (suc k)
+climbed_more start x y z met takers k high fits h more =
     let sys = sys_of start in
     let set = states_at x met in
-    let long : length m.1 ≡ length y.1 = same_length start y m h.changed.ready.at took.changed.ready.at in
-    let longer : length z.1 ≡ length m.1 = same_length start m z took.changed.ready.at more.worked.ready.at in
-    let now : SameStates start (states_at m 1) (near sys set (suc k)) = λ v is. ap (λ (f : SetOfVectors). f v) took.next ∙ h.next v is in
     record {
-      changed =
-          changed_chain start x y z takers (takers + action_count start.task) h.changed
-          (changed_chain start y m z takers (takers + action_count start.task) took.changed (worked_changed start m z takers (takers + action_count start.task) more.worked));
-      near = λ v is. ap (λ (f : SetOfVectors). f v) more.near ∙ now v is;
-      next = λ v is. more.next v is ∙ turn_same Growing start (states_at m 1) (near sys set (suc k)) now v is;
+      changed = changed_chain start x y z takers (takers + action_count start.task) h.changed more.changed;
+      near = λ v is. ap (λ (f : SetOfVectors). f v) more.near ∙ h.next v is;
+      next = λ v is. more.next v is ∙ turn_same Growing start (states_at y 1) (near sys set (suc k)) h.next v is;
       taken = λ a below v is.
-          ap (λ (f : SetOfVectors). f v) (more.worked.kept (takers + a) (omega arith) (omega arith))
-          ∙ took.taken a below v is
-          ∙ ap (λ b. b || first_lead sys (states_at y 0) (λ u. states_at y 1 u && not (states_at y 0 u)) a v) (h.taken a below v is)
-          ∙ ap (λ o. (states_at x (takers + a) v || (near sys set k v && is_action a (stage_action sys set v))) || ((states_at y 1 v && not (states_at y 0 v)) && is_action a o)) (first_same start (states_at y 0) (near sys set k) h.near v is)
-          ∙ ap (λ b. (states_at x (takers + a) v || (near sys set k v && is_action a (stage_action sys set v))) || ((b && not (states_at y 0 v)) && is_action a (find (must_lead sys (near sys set k) v) (action_numbers sys)))) (h.next v is)
-          ∙ ap (λ b. (states_at x (takers + a) v || (near sys set k v && is_action a (stage_action sys set v))) || ((near sys set (suc k) v && not b) && is_action a (find (must_lead sys (near sys set k) v) (action_numbers sys)))) (h.near v is)
-          ∙ more_taken sys set v a k (states_at x (takers + a) v) (is_system start.task) is;
+          more.taken a below v is
+          ∙ ap (λ b. b || first_lead sys (states_at y 1) (λ u. not (states_at y 1 u)) a v) (h.taken a below v is)
+          ∙ ap (λ o. (states_at x (takers + a) v || (near sys set (suc k) v && is_action a (stage_action sys set v))) || (not (states_at y 1 v) && is_action a o)) (first_same start (states_at y 1) (near sys set (suc k)) h.next v is)
+          ∙ ap (λ b. (states_at x (takers + a) v || (near sys set (suc k) v && is_action a (stage_action sys set v))) || (not b && is_action a (find (must_lead sys (near sys set (suc k)) v) (action_numbers sys)))) (h.next v is)
+          ∙ more_taken sys set v a (suc k) (states_at x (takers + a) v) (is_system start.task) is;
     }
 
 -- fewer states are left
-pub climbed_less : (start : Start) (x y z : Scene) (met takers k n : ℕ) → HasClimbed start x y met takers k → (set_at y.0.sets y.1 1 ≡ set_at y.0.sets y.1 0 → ⊥) → n ≡ fluent_count start.task → HasClimbed start x z met takers (suc k)
+pub climbed_less : (start : Start) (x y z : Scene) (met takers k n : ℕ) → HasClimbed start x y met takers k → (set_at y.0.sets y.1 1 ≡ set_at y.0.sets y.1 0 → ⊥) → n ≡ fluent_count start.task → ClimbedFrom start y z 1 takers
     → left_over Growing (states_at z 0) n < left_over Growing (states_at y 0) n
 climbed_less start x y z met takers k n h differ is_n more =
-    fewer_left start y z n is_n h.changed.ready differ (λ v is. more.near v is ∙ sym (h.next v is)) Growing (states_at x met) k h.near h.next
+    fewer_left start y z n is_n h.changed.ready differ (λ v is. ap (λ (f : SetOfVectors). f v) more.near) Growing (states_at x met) k h.near h.next
 
 -- all rounds
 pub climbed_last : (start : Start) (x y : Scene) (met takers k : ℕ) → HasClimbed start x y met takers k → set_at y.0.sets y.1 1 ≡ set_at y.0.sets y.1 0 → Climbed start x y met takers
 climbed_last start x y met takers k h same =
     let sys = sys_of start in
     let set = states_at x met in
+    let last : SameStates start (near sys set (suc k)) (near sys set k) = λ u at. sym (h.next u at) ∙ ap (λ (f : _). f (value_of u)) same ∙ h.near u at in
     record {
       changed = h.changed;
       taken = λ a below v is.
           h.taken a below v is
           ∙ ap (λ b. states_at x (takers + a) v || (b && is_action a (stage_action sys set v)))
-          (sym (last_near sys set (is_system start.task) k (λ u at. sym (h.next u at) ∙ ap (λ (f : _). f (value_of u)) same ∙ h.near u at) v is));
+          (last v is ∙ sym (last_near sys set (is_system start.task) k last v is));
     }
 
 -- the states of the last context

@@ -1,5 +1,5 @@
 -- Private: what a search answers.
-use Rattle.std.specs.Prelude.{◌≡◌, Result, Ok, Err}
+use Rattle.std.specs.Prelude.{◌≡◌, Bool, true, false, Result, Ok, Err}
 use Rattle.plan_theory.specs.Chains.{Chained, context_count}
 use Rattle.plan_theory.specs.ChainPlans.{HasNoContextPlan, IsChainPlan}
 use Rattle.plan_theory.specs.ChainPrinted.{chain_rules}
@@ -13,6 +13,7 @@ use Rattle.slot_board.specs.Board.{IsTightAt}
 use Rattle.task_core.specs.Tasks.{action_count, fluent_count, system_of}
 use Rattle.task_core.specs.declared.tasks.Task.{Task}
 use Rattle.chain_plan.specs.Scenes.{IsAt, Scene, Start, board_of}
+use Rattle.chain_plan.specs.Tables.{HasTable}
 use Rattle.chain_plan.specs.declared.plan.FoundAuto.{FoundAuto}
 use Rattle.chain_plan.specs.declared.plan.FoundAuto.TheVariants.{NoPlan, Plan}
 
@@ -28,7 +29,8 @@ abbrev pub IsAnswer : Task → Chained → FoundAuto → Type 0
 IsAnswer task chain (Plan plan) = IsPlanOf task chain plan
 IsAnswer task chain NoPlan = HasNoContextPlan (system_of task) chain
 
--- what a search leaves
-abbrev pub Ends : Start → Scene → Chained → Result FoundAuto SetErr → Type 0
-Ends start x chain (Ok found) = IsAt start x × IsAnswer start.task chain found
+-- what a search leaves: the printed table on its board, or that no plan has the chain
+abbrev pub Ends : Start → Scene → Chained → Result Bool SetErr → Type 0
+Ends start x chain (Ok true) = HasTable start x chain
+Ends start x chain (Ok false) = IsAt start x × HasNoContextPlan (system_of start.task) chain
 Ends start x chain (Err e) = IsAt start x × (e ≡ Full → IsTightAt (board_of start))

@@ -1,6 +1,7 @@
--- Private: the sets of states on the board of a search, and what a call leaves of them. There are
--- eight working places; then, for each stage and the end after the last one, the states of its
--- context and those where it is met; then, for each of these, the states that take each action.
+-- The sets of states on the board of a search, and what a call leaves of them. There are eight
+-- working places; then, for each stage and the end after the last one, the states of its context and
+-- those where it is met; then, for each of these, the states that take each action; and then, for
+-- each action, the states of the rules for one context and one next context.
 use Rattle.std.specs.Prelude.{◌≡◌, ℕ, suc, ◌+◌, ◌*◌, ◌<◌, ◌≤◌, ◌⊎◌, List, Result, length}
 use Rattle.dd_nodes.specs.Subfunctions.{Function}
 use Rattle.dd_sets.specs.LiveSets.{IsSets}
@@ -36,8 +37,12 @@ met_place i = 9 + 2 * i
 abbrev pub takers_place : ℕ → ℕ → ℕ → ℕ
 takers_place actions stages i = 10 + 2 * stages + i * actions
 
+-- the first place of those for the states of rules
+abbrev pub rules_place : ℕ → ℕ → ℕ
+rules_place actions stages = takers_place actions stages (suc stages)
+
 abbrev pub place_count : ℕ → ℕ → ℕ
-place_count actions stages = takers_place actions stages (suc stages)
+place_count actions stages = takers_place actions stages (suc (suc stages))
 
 -- so its board begins
 abbrev pub board_of : Start → board.Start
@@ -46,7 +51,7 @@ board_of start = record {
   enc = start.enc;
   made = start.made;
   places = place_count (action_count start.task) start.stages;
-  spare = 2 * action_count start.task + 6 * start.stages + 218;
+  spare = action_count start.task + 6 * start.stages + 218;
 }
 
 -- the task's sets, and the slots of a board

@@ -1,6 +1,7 @@
 -- Private: what the parts of a search do to the sets of states on its board. The states that a
 -- round begins with stand at place 0, those that it ends with at 1; at 3 stand the states that are
--- still without an action, or whose stage is still to be found, and at 4 those of some rules.
+-- still without an action, or whose stage is still to be found, and at 4 those that are new, or of
+-- some rules.
 use Rattle.std.specs.Prelude.{◌≡◌, ℕ, suc, ◌+◌, ◌*◌, ◌<◌, ◌≤◌, false, not, ◌&&◌, ◌||◌}
 use Rattle.std.specs.Prelude.{List, [], ◌∷◌, ◌++◌, ◌-◌, drop, map, nat_le}
 use Rattle.std.specs.List.{find, flat_map, list_any, range_with_len}
@@ -22,20 +23,6 @@ use Rattle.chain_plan.specs.Scenes.{met_place, states_at, sys_of, takers_place, 
 use Rattle.chain_plan.specs.declared.rounds.Way.{Way}
 use Rattle.chain_plan.specs.declared.rounds.Way.TheVariants.{Growing, Shrinking}
 
--- the states from which an action leads into the first states were added to the next ones
-pub record AddsHits (start : Start) (x y : Scene) (a : ℕ) : Type 0 where
-  pub worked : Worked start x y
-  pub near : states_at y 0 ≡ states_at x 0
-  pub next : SameStates start (states_at y 1)
-      (λ v. states_at x 1 v || must_lead (sys_of start) (states_at x 0) v a)
-
--- the next states are those from which one of the first n actions leads into the first states
-pub record Leads (start : Start) (x y : Scene) (n : ℕ) : Type 0 where
-  pub worked : Worked start x y
-  pub near : states_at y 0 ≡ states_at x 0
-  pub next : SameStates start (states_at y 1)
-      (λ v. list_any (must_lead (sys_of start) (states_at x 0) v) (range_with_len 0 n))
-
 -- one round: of a set that shrinks to what can be kept, or grows by what leads into it
 abbrev pub turn : Way → System → SetOfVectors → SetOfVectors
 turn Shrinking sys set v = set v && some_must_lead sys set v
@@ -50,11 +37,36 @@ abbrev pub last_turn : Way → System → SetOfVectors → SetOfVectors
 last_turn Shrinking = safe_set
 last_turn Growing = stage_set
 
--- the found states and the first ones were put together
-pub record Turned (way : Way) (start : Start) (x y : Scene) : Type 0 where
+-- one round as far as the first n actions have it
+abbrev pub turn_by : Way → System → SetOfVectors → ℕ → SetOfVectors
+turn_by Shrinking sys set n v = set v && list_any (must_lead sys set v) (range_with_len 0 n)
+turn_by Growing sys set n v = set v || list_any (must_lead sys set v) (range_with_len 0 n)
+
+-- what one action adds to it: where it leads into the set; of a set that shrinks, its own states
+-- alone
+abbrev pub hits_by : Way → SetOfVectors → SetOfVectors → SetOfVectors
+hits_by Shrinking set hits v = set v && hits v
+hits_by Growing set hits v = hits v
+
+-- of the states at 2 stayed those that a round adds
+pub record KeepsHits (way : Way) (start : Start) (x y : Scene) : Type 0 where
   pub worked : Worked start x y
   pub near : states_at y 0 ≡ states_at x 0
-  pub next : SameStates start (states_at y 1) (turn way (sys_of start) (states_at x 0))
+  pub next : states_at y 1 ≡ states_at x 1
+  pub hits : states_at y 2 ≡ hits_by way (states_at x 0) (states_at x 2)
+
+-- the states that a round adds by one action were added to the next ones
+pub record AddsHits (way : Way) (start : Start) (x y : Scene) (a : ℕ) : Type 0 where
+  pub worked : Worked start x y
+  pub near : states_at y 0 ≡ states_at x 0
+  pub next : SameStates start (states_at y 1) (λ v. states_at x 1 v
+      || hits_by way (states_at x 0) (λ u. must_lead (sys_of start) (states_at x 0) u a) v)
+
+-- a round was made on the first states, as far as the first n actions have it
+pub record Leads (way : Way) (start : Start) (x y : Scene) (n : ℕ) : Type 0 where
+  pub worked : Worked start x y
+  pub near : states_at y 0 ≡ states_at x 0
+  pub next : SameStates start (states_at y 1) (turn_by way (sys_of start) (states_at x 0) n)
 
 -- a round was made on the states at a place
 pub record TurnedFrom (way : Way) (start : Start) (x y : Scene) (place : ℕ) : Type 0 where
@@ -135,24 +147,36 @@ pub record Shared (start : Start) (x y : Scene) (takers n : ℕ) : Type 0 where
   pub later : (a : ℕ) → a < action_count start.task → n ≤ a
       → states_at y (takers + a) ≡ states_at x (takers + a)
 
--- the new states of a round took their actions
-pub record TookNew (start : Start) (x y : Scene) (takers : ℕ) : Type 0 where
+-- a round was made on the first states, as far as the first n actions have it, and each new state
+-- took the least-numbered action that leads into the first states
+pub record Climbs (start : Start) (x y : Scene) (takers n : ℕ) : Type 0 where
   pub changed : Changed start x y takers (takers + action_count start.task)
   pub near : states_at y 0 ≡ states_at x 0
-  pub next : states_at y 1 ≡ states_at x 1
-  pub taken : (a : ℕ) → a < action_count start.task
-      → SameStates start (states_at y (takers + a))
-      (λ v. states_at x (takers + a) v || first_lead (sys_of start) (states_at x 0)
-      (λ u. states_at x 1 u && not (states_at x 0 u)) a v)
+  pub next : SameStates start (states_at y 1) (turn_by Growing (sys_of start) (states_at x 0) n)
+  pub taken : (a : ℕ) → a < action_count start.task → a < n
+      → SameStates start (states_at y (takers + a)) (λ v. states_at x (takers + a) v
+      || first_lead (sys_of start) (states_at x 0) (λ u. not (states_at x 0 u)) a v)
+  pub later : (a : ℕ) → a < action_count start.task → n ≤ a
+      → states_at y (takers + a) ≡ states_at x (takers + a)
 
--- the states within k steps of where a stage is met took their actions, and one more round was made
+-- a round was made on the states at a place, and the new ones took their actions
+pub record ClimbedFrom (start : Start) (x y : Scene) (place takers : ℕ) : Type 0 where
+  pub changed : Changed start x y takers (takers + action_count start.task)
+  pub near : states_at y 0 ≡ states_at x place
+  pub next : SameStates start (states_at y 1) (turn Growing (sys_of start) (states_at x place))
+  pub taken : (a : ℕ) → a < action_count start.task
+      → SameStates start (states_at y (takers + a)) (λ v. states_at x (takers + a) v
+      || first_lead (sys_of start) (states_at x place) (λ u. not (states_at x place u)) a v)
+
+-- k rounds towards where a stage is met were made, and one more, and the states that they found
+-- took their actions
 pub record HasClimbed (start : Start) (x y : Scene) (met takers k : ℕ) : Type 0 where
   pub changed : Changed start x y takers (takers + action_count start.task)
   pub near : SameStates start (states_at y 0) (near_within (sys_of start) (states_at x met) k)
   pub next : SameStates start (states_at y 1) (near_within (sys_of start) (states_at x met) (suc k))
   pub taken : (a : ℕ) → a < action_count start.task
       → SameStates start (states_at y (takers + a))
-      (λ v. states_at x (takers + a) v || (near_within (sys_of start) (states_at x met) k v
+      (λ v. states_at x (takers + a) v || (near_within (sys_of start) (states_at x met) (suc k) v
       && is_action a (stage_action (sys_of start) (states_at x met) v)))
 
 -- all states of a stage's context took their actions
@@ -195,50 +219,14 @@ abbrev pub from_stage : System → Chained → ℕ → ℕ → SetOfVectors
 from_stage sys chain c j v = win sys chain.keep (drop c chain.stages) v
     && nat_le j (c + met_count sys chain.keep (drop c chain.stages) v)
 
--- the rule for a cube
-abbrev pub rule_for : ℕ → ℕ → ℕ → Cube → ContextRule
-rule_for context next a cube =
-    record { context = context; cube = cube; action = a; next = always next }
-
--- the rules for all cubes of some states
-abbrev pub rules_for : ℕ → ℕ → ℕ → ℕ → SetOfVectors → List ContextRule
-rules_for fluents context next a set = map (rule_for context next a) (cubes_of fluents set)
-
--- the rules of the chosen states that take an action were added
-pub record ListsAction (start : Start) (x y : Scene) (before after : List ContextRule)
-    (context next a takers : ℕ) : Type 0 where
-  pub worked : Worked start x y
-  pub rest : states_at y 3 ≡ states_at x 3
-  pub chosen : states_at y 4 ≡ states_at x 4
-  pub listed : after ≡ before ++ rules_for (fluent_count start.task) context next a
-      (λ v. states_at x 4 v && states_at x takers v)
-
--- and those of the first n actions
-pub record ListsNext (start : Start) (x y : Scene) (before after : List ContextRule)
-    (context next takers n : ℕ) : Type 0 where
-  pub worked : Worked start x y
-  pub rest : states_at y 3 ≡ states_at x 3
-  pub chosen : states_at y 4 ≡ states_at x 4
-  pub listed : after ≡ before ++ flat_map
-      (λ a. rules_for (fluent_count start.task) context next a
-      (λ v. states_at x 4 v && states_at x (takers + a) v)) (range_with_len 0 n)
-
--- the states in which a stage isn't met were chosen from those that are left
-pub record Split (start : Start) (x y : Scene) (met : ℕ) : Type 0 where
-  pub worked : Worked start x y
-  pub chosen : states_at y 4 ≡ (λ v. states_at x 3 v && not (states_at x met v))
-  pub rest : states_at y 3 ≡ (λ v. states_at x 3 v && states_at x met v)
-
--- the rules of a context up to a next context, which are counted from 0, were added
-pub record ListsStages (start : Start) (x : Scene) (chain : Chained)
-    (before after : List ContextRule) (c j : ℕ) : Type 0 where
+-- the states of a context in which the stages before a next one are met stand at 3
+pub record HasRest (start : Start) (x : Scene) (chain : Chained) (c j : ℕ) : Type 0 where
   pub has : HasTakers start x chain (suc start.stages)
   pub rest : SameStates start (states_at x 3) (from_stage (sys_of start) chain c j)
-  pub listed : after ≡ before ++ flat_map (rules_of_next (sys_of start) chain (suc c))
-      (range_with_len (suc c) (j - c))
 
--- the rules of some contexts were added
-pub record Lists (start : Start) (x : Scene) (chain : Chained)
-    (before after more : List ContextRule) : Type 0 where
-  pub has : HasTakers start x chain (suc start.stages)
-  pub listed : after ≡ before ++ more
+-- for each of the first n actions, the states at 4 that take it were put at a place
+pub record Chooses (start : Start) (x y : Scene) (takers place n : ℕ) : Type 0 where
+  pub changed : Changed start x y place (place + action_count start.task)
+  pub chosen : states_at y 4 ≡ states_at x 4
+  pub sets : (a : ℕ) → a < action_count start.task → a < n
+      → states_at y (place + a) ≡ (λ v. states_at x 4 v && states_at x (takers + a) v)

@@ -3,7 +3,8 @@
 //!
 //! `plan_chain` searches for them on sets of states. Which plan it gives is said in the `specs/` of
 //! `plan_theory`; `specs/Chains.antt` here says which sets of states a chain of conditions speaks
-//! of. `Scenes`, `Steps` and `Answers` have the words of the contracts inside.
+//! of. `chain_takers` and `rule_sets` give the same plan as sets of states, in slots (`Tables`).
+//! `Scenes`, `Steps`, `Listing` and `Answers` have the words of the contracts inside.
 #![tactic(auto)]
 
 mod places;
@@ -13,4 +14,6 @@ mod rules;
 mod takers;
 mod wins;
 
-pub use plan::{FoundAuto, plan_chain};
+pub use places::rule_place;
+pub use plan::{FoundAuto, chain_takers, plan_chain};
+pub use rules::rule_sets;

@@ -1,6 +1,7 @@
 //! The planner for chains.
 
-ghost use Rattle.std.specs.Prelude.{◌≡◌, suc, ◌+◌, ◌*◌, ◌<◌, ◌≤◌, [], length, IfOk, IsErrOf};
+ghost use Rattle.std.specs.Prelude.{◌≡◌, suc, ◌+◌, ◌*◌, ◌<◌, ◌≤◌, [], length, IfNone, IfOk, IfSome};
+ghost use Rattle.std.specs.Prelude.{IsErrOf, OnErr};
 ghost use Rattle.std.specs.List.{list_all};
 ghost use Rattle.plan_theory.specs.Chains.{Chained, HasChain};
 ghost use Rattle.plan_theory.specs.ChainPlans.{HasNoContextPlan};
@@ -11,15 +12,16 @@ ghost use Rattle.encode_task.specs.Made.{MadeOf};
 ghost use Rattle.plan_rules.specs.Denoted.{denoted_contexts};
 ghost use Rattle.plan_rules.specs.Plans.{IsAutomatonOf};
 ghost use Rattle.plan_rules.specs.Rules.{context_rules_of};
+ghost use Rattle.slot_board.specs.Board.{IsTightAt};
 ghost use Rattle.task_core.specs.ContextPlans.{Configuration, IsComplete, IsInitial};
 ghost use Rattle.task_core.specs.Tasks.{action_count, fluent_count, system_of};
 ghost use Rattle.task_core.specs.declared.tasks.Task.{Task as TaskOf};
-ghost use Rattle.chain_plan.specs.Answers.{Ends};
+ghost use Rattle.chain_plan.specs.Answers.{Ends, IsAnswer, IsPlanOf};
 ghost use Rattle.chain_plan.specs.Chains.{IsChainOver, most_stages, chain_sets};
 ghost use Rattle.chain_plan.specs.Found.{IfNoPlan, IfPlan};
 ghost use Rattle.chain_plan.specs.Scenes.{HasNothing, IsAt, IsReady, Left, Start, Worked};
-ghost use Rattle.chain_plan.specs.Scenes.{states_at, sys_of};
-ghost use Rattle.chain_plan.specs.Steps.{HasTakers};
+ghost use Rattle.chain_plan.specs.Scenes.{board_of, states_at, sys_of};
+ghost use Rattle.chain_plan.specs.Tables.{HasTable, start_of};
 
 use crate::places::{NEW, places, win_at};
 use crate::rules::list_all;
@@ -60,47 +62,13 @@ fn covers_initial(enc: &mut Enc, board: &mut Board, place: usize) -> Result<bool
     Ok(board.is_empty(enc, NEW))
 }
 
-/// The plan, from the states of the contexts.
-fn write(
-    alloc: Global,
-    enc: &mut Enc,
-    board: &mut Board,
-    actions: u32,
-    stages: u32,
-) -> Result<AutoPlan, SetErr>
-    requires ready { (start : Start) × (chain : Chained)
-        × (start.stages ≡ stages) × (length chain.stages ≡ stages)
-        × HasTakers start (enc.old, board.old.slots.items) chain 0 }
-    requires actions { actions ≡ length enc.old.actions }
-    requires few { stages ≤ most_stages }
-    ensures left { (start : Start) (chain : Chained)
-        → start.stages ≡ stages → length chain.stages ≡ stages
-        → HasTakers start (enc.old, board.old.slots.items) chain 0
-        → Left start (enc.new, board.new.slots.items)
-        (IsAt start (enc.new, board.new.slots.items)) result }
-    ensures contexts { IfOk result (λ plan. plan.contexts ≡ suc stages) }
-    ensures printed { (start : Start) (chain : Chained)
-        → start.stages ≡ stages → length chain.stages ≡ stages
-        → HasTakers start (enc.old, board.old.slots.items) chain 0
-        → IfOk result (λ plan. context_rules_of plan ≡ chain_rules (sys_of start) chain) }
-{
-    let mut rules = Vec::new(alloc);
-    take_all(enc, board, actions, stages)?;
-    list_all(enc, board, &mut rules, actions, stages)?;
-    Ok(AutoPlan {
-        contexts: stages + 1,
-        rules,
-    })
-}
-
-/// Searches with the slots of a board, which stay.
+/// Searches with the slots of a board, which stay: whether there is a plan.
 fn search(
-    alloc: Global,
     enc: &mut Enc,
     board: &mut Board,
     actions: u32,
     chain: &Chain,
-) -> Result<FoundAuto, SetErr>
+) -> Result<bool, SetErr>
     requires ready { (start : Start) × (start.stages ≡ length chain.now.stages.items)
         × HasNothing start (enc.old, board.old.slots.items) }
     requires actions { actions ≡ length enc.old.actions }
@@ -111,14 +79,18 @@ fn search(
 {
     win_all(enc, board, actions, chain)?;
     if !covers_initial(enc, board, win_at(0))? {
-        return Ok(FoundAuto::NoPlan);
+        return Ok(false);
     }
-    let plan = write(alloc, enc, board, actions, chain.stages.len() as u32)?;
-    Ok(FoundAuto::Plan(plan))
+    take_all(enc, board, actions, chain.stages.len() as u32)?;
+    Ok(true)
 }
 
-/// A plan for a chain, or that there is none: no plan with contexts, whatever its contexts are and
-/// however many, goes on wherever it leads and has the chain at each initial configuration.
+/// The plan for a chain in sets of states: for each context its states, and those that take each
+/// action towards its stage, in slots at places of a board, which the caller closes. From these
+/// `rule_sets` makes, for a context and a next one, the states in which each action is taken: for
+/// all contexts at once they would be more slots than the rule for `Full` allows. Or that there is
+/// no plan: no plan with contexts, whatever its contexts are and however many, goes on wherever it
+/// leads and has the chain at each initial configuration.
 ///
 /// It works on sets of states (Pistore and Traverso 2001). First it finds where the condition at
 /// the end can be kept for ever: a set that shrinks, round by round, to the states with an action
@@ -132,8 +104,135 @@ fn search(
 ///
 /// A chain has at most 32 stages, and each of its conditions names the task's fluents alone and is
 /// at most 200 deep. `Full` comes only where the table's limit is tight for three slots an action,
-/// one more for each action and stage, eight a stage and 236 more. All slots of the search are
-/// ended on every exit.
+/// one more for each action and stage, eight a stage and 236 more. Where no board is answered, all
+/// slots of the search are ended.
+pub fn chain_takers(
+    alloc: Global,
+    task: &Task,
+    enc: &mut Enc,
+    chain: &Chain,
+) -> Result<Option<Board>, SetErr>
+    requires made { MadeOf task.now enc.old }
+    requires chain { IsChainOver (fluent_count task.now) chain.now }
+    ensures table { (made : MadeOf task.now enc.old) → IfOk result (λ found. IfSome found
+        (λ board. HasTable (start_of task.now enc.old made (length chain.now.stages.items))
+        (enc.new, board.slots.items) (chain_sets chain.now))) }
+    ensures no_plan { IfOk result (λ found. IfNone found (HasNoContextPlan
+        (system_of task.now) (chain_sets chain.now))) }
+    ensures full { IsErrOf result SetErr.Full → IsTightFor (action_count task.now
+        * (length chain.now.stages.items + 3) + 8 * length chain.now.stages.items + 236)
+        enc.old.sets }
+    ensures closed { IfOk result (λ found. IfNone found (Owns enc.old.sets enc.new.sets [])) }
+    ensures refused { OnErr result (Owns enc.old.sets enc.new.sets []) }
+    ensures same_slots { enc.new ≡ record enc.old { sets = enc.new.sets } }
+{
+    let actions = task.actions.len() as u32;
+    let mut board = Board::new(alloc, enc, places(actions, chain.stages.len() as u32))?;
+    match search(enc, &mut board, actions, chain) {
+        Ok(true) => Ok(Some(board)),
+        Ok(false) => {
+            board.close(enc);
+            Ok(None)
+        }
+        Err(refusal) => {
+            board.close(enc);
+            Err(refusal)
+        }
+    }
+}
+
+/// The plan that a board has in sets of states, whose slots stay.
+fn write(
+    alloc: Global,
+    enc: &mut Enc,
+    board: &mut Board,
+    actions: u32,
+    stages: u32,
+) -> Result<AutoPlan, SetErr>
+    requires ready { (start : Start) × (chain : Chained) × (start.stages ≡ stages)
+        × HasTable start (enc.old, board.old.slots.items) chain }
+    requires actions { actions ≡ length enc.old.actions }
+    requires few { stages ≤ most_stages }
+    ensures left { (start : Start) (chain : Chained) → start.stages ≡ stages
+        → HasTable start (enc.old, board.old.slots.items) chain
+        → Left start (enc.new, board.new.slots.items)
+        (IsAt start (enc.new, board.new.slots.items)) result }
+    ensures plan { (start : Start) (chain : Chained) → start.stages ≡ stages
+        → HasTable start (enc.old, board.old.slots.items) chain
+        → IfOk result (IsPlanOf start.task chain) }
+{
+    let mut rules = Vec::new(alloc);
+    list_all(enc, board, &mut rules, actions, stages)?;
+    Ok(AutoPlan {
+        contexts: stages + 1,
+        rules,
+    })
+}
+
+/// The same, and the slots are ended.
+fn close_as_plan(
+    alloc: Global,
+    enc: &mut Enc,
+    board: Board,
+    actions: u32,
+    stages: u32,
+) -> Result<AutoPlan, SetErr>
+    requires ready { (start : Start) × (chain : Chained) × (start.stages ≡ stages)
+        × HasTable start (enc.old, board.slots.items) chain }
+    requires actions { actions ≡ length enc.old.actions }
+    requires few { stages ≤ most_stages }
+    ensures plan { (start : Start) (chain : Chained) → start.stages ≡ stages
+        → HasTable start (enc.old, board.slots.items) chain
+        → IfOk result (IsPlanOf start.task chain) }
+    ensures full { (start : Start) (chain : Chained) → start.stages ≡ stages
+        → HasTable start (enc.old, board.slots.items) chain
+        → IsErrOf result SetErr.Full → IsTightAt (board_of start) }
+    ensures slots { (start : Start) (chain : Chained) → start.stages ≡ stages
+        → HasTable start (enc.old, board.slots.items) chain
+        → Owns start.enc.sets enc.new.sets [] }
+    ensures same_slots { (start : Start) (chain : Chained) → start.stages ≡ stages
+        → HasTable start (enc.old, board.slots.items) chain
+        → enc.new ≡ record start.enc { sets = enc.new.sets } }
+{
+    let mut board = board;
+    let plan = write(alloc, enc, &mut board, actions, stages);
+    board.close(enc);
+    plan
+}
+
+/// The plan in sets of states, and then its cubes.
+fn find_plan(
+    alloc: Global,
+    task: &Task,
+    enc: &mut Enc,
+    chain: &Chain,
+) -> Result<FoundAuto, SetErr>
+    requires made { MadeOf task.now enc.old }
+    requires chain { IsChainOver (fluent_count task.now) chain.now }
+    ensures answer { IfOk result (IsAnswer task.now (chain_sets chain.now)) }
+    ensures full { IsErrOf result SetErr.Full → IsTightFor (action_count task.now
+        * (length chain.now.stages.items + 3) + 8 * length chain.now.stages.items + 236)
+        enc.old.sets }
+    ensures slots { Owns enc.old.sets enc.new.sets [] }
+    ensures same_slots { enc.new ≡ record enc.old { sets = enc.new.sets } }
+{
+    let actions = task.actions.len() as u32;
+    let stages = chain.stages.len() as u32;
+    match chain_takers(alloc, task, enc, chain)? {
+        Some(board) => {
+            let plan = close_as_plan(alloc, enc, board, actions, stages)?;
+            Ok(FoundAuto::Plan(plan))
+        }
+        None => Ok(FoundAuto::NoPlan),
+    }
+}
+
+/// A plan for a chain, or that there is none: no plan with contexts, whatever its contexts are and
+/// however many, goes on wherever it leads and has the chain at each initial configuration.
+///
+/// Its rules are the cubes of the sets that `chain_takers` and `rule_sets` find: contexts in rising
+/// number, for each its next contexts, and for each of these its actions. Of chains and of `Full`
+/// the same holds as there. All slots of the search are ended on every exit.
 pub fn plan_chain(
     alloc: Global,
     task: &Task,
@@ -162,9 +261,5 @@ pub fn plan_chain(
     ensures same_slots { enc.new ≡ record enc.old { sets = enc.new.sets } }
     ensures made { (task : TaskOf) → MadeOf task enc.old → MadeOf task enc.new }
 {
-    let actions = task.actions.len() as u32;
-    let mut board = Board::new(alloc, enc, places(actions, chain.stages.len() as u32))?;
-    let found = search(alloc, enc, &mut board, actions, chain);
-    board.close(enc);
-    found
+    find_plan(alloc, task, enc, chain)
 }

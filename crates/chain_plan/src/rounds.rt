@@ -2,8 +2,8 @@
 
 ghost use Rattle.std.specs.Prelude.{◌≡◌, ◌<◌, length};
 ghost use Rattle.task_core.specs.Tasks.{action_count};
-ghost use Rattle.chain_plan.specs.Scenes.{IsReady, Left, Scene, Start, states_at};
-ghost use Rattle.chain_plan.specs.Steps.{AddsHits, HasLast, Leads, Turned, TurnedFrom};
+ghost use Rattle.chain_plan.specs.Scenes.{IsReady, Left, Start, states_at};
+ghost use Rattle.chain_plan.specs.Steps.{AddsHits, HasLast, KeepsHits, Leads, TurnedFrom};
 
 use crate::places::{HITS, NEAR, NEXT};
 use dd_sets::SetErr;
@@ -20,52 +20,70 @@ pub(crate) enum Way {
     Growing,
 }
 
-/// Adds the states from which an action leads into the first states to the next ones.
-fn add_hits(enc: &mut Enc, board: &mut Board, a: ActionId) -> Result<(), SetErr>
+/// Where rounds shrink, leaves of the states from which an action leads into the first ones those
+/// that are among these.
+fn keep_hits(enc: &mut Enc, board: &mut Board, way: Way) -> Result<(), SetErr>
+    requires ready { (start : Start) × IsReady start (enc.old, board.old.slots.items) }
+    ensures { (start : Start) → IsReady start (enc.old, board.old.slots.items)
+        → Left start (enc.new, board.new.slots.items)
+        (KeepsHits way start (enc.old, board.old.slots.items) (enc.new, board.new.slots.items))
+        result }
+{
+    match way {
+        Way::Shrinking => board.combine(enc, HITS, Operation::Meet, NEAR, HITS),
+        Way::Growing => Ok(()),
+    }
+}
+
+/// Adds the states from which an action leads into the first states to the next ones, where rounds
+/// shrink those of the first states alone.
+fn add_hits(enc: &mut Enc, board: &mut Board, way: Way, a: ActionId) -> Result<(), SetErr>
     requires ready { (start : Start) × IsReady start (enc.old, board.old.slots.items) }
     requires action { a.0 < length enc.old.actions }
     ensures { (start : Start) → IsReady start (enc.old, board.old.slots.items)
         → Left start (enc.new, board.new.slots.items)
-        (AddsHits start (enc.old, board.old.slots.items) (enc.new, board.new.slots.items) a.0)
-        result }
+        (AddsHits way start (enc.old, board.old.slots.items) (enc.new, board.new.slots.items)
+        a.0) result }
 {
     board.lead(enc, HITS, Outcomes::Every, a, NEAR)?;
+    keep_hits(enc, board, way)?;
     board.combine(enc, NEXT, Operation::Join, NEXT, HITS)
 }
 
-/// Finds the states from which some action leads into the first states.
-fn lead_all(enc: &mut Enc, board: &mut Board, actions: u32) -> Result<(), SetErr>
+/// Puts the states that a round begins with to the next ones where rounds grow, and none where they
+/// shrink.
+fn begin_next(enc: &mut Enc, board: &mut Board, way: Way) -> Result<(), SetErr>
+    requires ready { (start : Start) × IsReady start (enc.old, board.old.slots.items) }
+    ensures { (start : Start) → IsReady start (enc.old, board.old.slots.items)
+        → Left start (enc.new, board.new.slots.items)
+        (Leads way start (enc.old, board.old.slots.items) (enc.new, board.new.slots.items) 0)
+        result }
+{
+    match way {
+        Way::Shrinking => board.combine(enc, NEXT, Operation::Minus, NEAR, NEAR),
+        Way::Growing => board.copy_of(enc, NEXT, NEAR),
+    }
+}
+
+/// Makes a round on the first states. Each set that it makes is the first states with some from
+/// which an action leads into them, or a part of that.
+fn lead_all(enc: &mut Enc, board: &mut Board, actions: u32, way: Way) -> Result<(), SetErr>
     requires ready { (start : Start) × IsReady start (enc.old, board.old.slots.items) }
     requires actions { actions ≡ length enc.old.actions }
     ensures { (start : Start) → IsReady start (enc.old, board.old.slots.items)
         → Left start (enc.new, board.new.slots.items)
-        (Leads start (enc.old, board.old.slots.items) (enc.new, board.new.slots.items)
+        (Leads way start (enc.old, board.old.slots.items) (enc.new, board.new.slots.items)
         (action_count start.task)) result }
 {
-    board.combine(enc, NEXT, Operation::Minus, NEAR, NEAR)?;
+    begin_next(enc, board, way)?;
     for a in 0..actions {
-        add_hits(enc, board, ActionId(a))?;
+        add_hits(enc, board, way, ActionId(a))?;
     }
     Ok(())
 }
 
-/// Puts the found states and the first ones together.
-fn put_together(enc: &mut Enc, board: &mut Board, way: Way) -> Result<(), SetErr>
-    requires ready { (start : Start) × (x : Scene)
-        × Leads start x (enc.old, board.old.slots.items) (action_count start.task) }
-    ensures { (start : Start) (x : Scene)
-        → Leads start x (enc.old, board.old.slots.items) (action_count start.task)
-        → Left start (enc.new, board.new.slots.items)
-        (Turned way start x (enc.new, board.new.slots.items)) result }
-{
-    match way {
-        Way::Shrinking => board.combine(enc, NEXT, Operation::Meet, NEAR, NEXT),
-        Way::Growing => board.combine(enc, NEXT, Operation::Join, NEAR, NEXT),
-    }
-}
-
 /// Makes a round on the states at a place.
-pub(crate) fn turn_from(
+fn turn_from(
     enc: &mut Enc,
     board: &mut Board,
     actions: u32,
@@ -81,8 +99,7 @@ pub(crate) fn turn_from(
         place) result }
 {
     board.copy_of(enc, NEAR, place)?;
-    lead_all(enc, board, actions)?;
-    put_together(enc, board, way)
+    lead_all(enc, board, actions, way)
 }
 
 /// Makes rounds, from the states at a place on, until nothing changes.

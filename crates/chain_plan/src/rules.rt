@@ -8,10 +8,12 @@ ghost use Rattle.plan_rules.specs.Rules.{ContextRule, context_rule_of};
 ghost use Rattle.task_core.specs.Tasks.{fluent_count};
 ghost use Rattle.chain_plan.specs.Chains.{most_stages};
 ghost use Rattle.chain_plan.specs.Scenes.{IsReady, Left, Start, states_at, sys_of};
-ghost use Rattle.chain_plan.specs.Steps.{HasTakers, Lists, ListsAction, ListsNext, ListsStages};
-ghost use Rattle.chain_plan.specs.Steps.{Split, rule_for, rules_for};
+ghost use Rattle.chain_plan.specs.Listing.{Lists, ListsStages, rule_for, rules_for};
+ghost use Rattle.chain_plan.specs.Listing.{rules_of_places};
+ghost use Rattle.chain_plan.specs.Steps.{Chooses, HasRest, HasTakers};
+ghost use Rattle.chain_plan.specs.Tables.{HasRuleStates, HasTable};
 
-use crate::places::{HITS, NEW, REST, met_at, takers_at, win_at};
+use crate::places::{NEW, REST, met_at, takers_at, win_at};
 use dd_sets::SetErr;
 use encode_task::Enc;
 use plan_rules::{AutoRule, Next};
@@ -42,23 +44,25 @@ fn add_rules(
     Ok(())
 }
 
-/// The rules of the states at a working place.
-fn list_hits(
+/// The rules of the states at a place.
+fn list_at(
     enc: &Enc,
     board: &Board,
     rules: &mut Vec<AutoRule>,
     context: u32,
     next: u32,
     action: ActionId,
+    place: usize,
 ) -> Result<(), SetErr>
     requires ready { (start : Start) × IsReady start (enc.now, board.now.slots.items) }
+    requires place { place < length board.now.slots.items }
     ensures never_full { IfErr result (λ e. e ≡ SetErr.Memory) }
     ensures listed { (start : Start) → IsReady start (enc.now, board.now.slots.items)
         → OnOk result (map context_rule_of rules.new.items
         ≡ map context_rule_of rules.old.items ++ rules_for (fluent_count start.task) context next
-        action.0 (states_at (enc.now, board.now.slots.items) 2)) }
+        action.0 (states_at (enc.now, board.now.slots.items) place)) }
 {
-    match board.cubes(enc, HITS) {
+    match board.cubes(enc, place) {
         Ok(cubes) => match add_rules(rules, context, next, action, cubes) {
             Ok(()) => Ok(()),
             Err(_) => Err(SetErr::Memory),
@@ -67,74 +71,110 @@ fn list_hits(
     }
 }
 
-/// The rules of the chosen states that take an action.
-fn list_action(
-    enc: &mut Enc,
-    board: &mut Board,
-    rules: &mut Vec<AutoRule>,
-    context: u32,
-    next: u32,
-    action: ActionId,
-    takers: usize,
-) -> Result<(), SetErr>
-    requires ready { (start : Start) × IsReady start (enc.old, board.old.slots.items) }
-    requires place { takers < length board.old.slots.items }
-    ensures { (start : Start) → IsReady start (enc.old, board.old.slots.items)
-        → Left start (enc.new, board.new.slots.items)
-        (ListsAction start (enc.old, board.old.slots.items) (enc.new, board.new.slots.items)
-        (map context_rule_of rules.old.items) (map context_rule_of rules.new.items) context next
-        action.0 takers) result }
-{
-    board.combine(enc, HITS, Operation::Meet, NEW, takers)?;
-    list_hits(enc, board, rules, context, next, action)
-}
-
-/// The rules of the chosen states, the actions in rising number.
-fn list_next(
-    enc: &mut Enc,
-    board: &mut Board,
+/// The rules of the states at the places of the actions, the actions in rising number.
+fn list_places(
+    enc: &Enc,
+    board: &Board,
     rules: &mut Vec<AutoRule>,
     actions: u32,
     context: u32,
     next: u32,
-    takers: usize,
+    place: usize,
 ) -> Result<(), SetErr>
-    requires ready { (start : Start) × IsReady start (enc.old, board.old.slots.items) }
-    requires actions { actions ≡ length enc.old.actions }
-    requires places { takers + actions ≤ length board.old.slots.items }
-    requires high { 8 ≤ takers }
-    ensures { (start : Start) → IsReady start (enc.old, board.old.slots.items)
-        → Left start (enc.new, board.new.slots.items)
-        (ListsNext start (enc.old, board.old.slots.items) (enc.new, board.new.slots.items)
-        (map context_rule_of rules.old.items) (map context_rule_of rules.new.items) context next
-        takers actions) result }
+    requires ready { (start : Start) × IsReady start (enc.now, board.now.slots.items) }
+    requires places { place + actions ≤ length board.now.slots.items }
+    ensures never_full { IfErr result (λ e. e ≡ SetErr.Memory) }
+    ensures listed { (start : Start) → IsReady start (enc.now, board.now.slots.items)
+        → OnOk result (map context_rule_of rules.new.items
+        ≡ map context_rule_of rules.old.items
+        ++ rules_of_places start (enc.now, board.now.slots.items) context next place actions) }
 {
     for a in 0..actions {
-        list_action(
-            enc,
-            board,
-            rules,
-            context,
-            next,
-            ActionId(a),
-            takers + a as usize,
-        )?;
+        list_at(enc, board, rules, context, next, ActionId(a), place + a as usize)?;
     }
     Ok(())
 }
 
-/// Takes the states in which a stage isn't met from those that are left.
-fn split(enc: &mut Enc, board: &mut Board, met: usize) -> Result<(), SetErr>
+/// Finds the states of a context in which the stages before a next one are met.
+fn rest_at(
+    enc: &mut Enc,
+    board: &mut Board,
+    stages: u32,
+    context: u32,
+    next: u32,
+) -> Result<(), SetErr>
+    requires ready { (start : Start) × (chain : Chained)
+        × (start.stages ≡ stages) × (length chain.stages ≡ stages)
+        × HasTakers start (enc.old, board.old.slots.items) chain (suc stages) }
+    requires few { stages ≤ most_stages }
+    requires context { context ≤ next }
+    requires next { next ≤ stages }
+    ensures { (start : Start) (chain : Chained)
+        → start.stages ≡ stages → length chain.stages ≡ stages
+        → HasTakers start (enc.old, board.old.slots.items) chain (suc stages)
+        → Left start (enc.new, board.new.slots.items)
+        (HasRest start (enc.new, board.new.slots.items) chain context next) result }
+{
+    board.copy_of(enc, REST, win_at(context))?;
+    for stage in context..next {
+        board.combine(enc, REST, Operation::Meet, REST, met_at(stage))?;
+    }
+    Ok(())
+}
+
+/// Puts at a place, for each action, the chosen states that take it.
+fn choose_all(
+    enc: &mut Enc,
+    board: &mut Board,
+    actions: u32,
+    takers: usize,
+    place: usize,
+) -> Result<(), SetErr>
     requires ready { (start : Start) × IsReady start (enc.old, board.old.slots.items) }
-    requires met { met < length board.old.slots.items }
-    requires high { 8 ≤ met }
+    requires actions { actions ≡ length enc.old.actions }
+    requires places { place + actions ≤ length board.old.slots.items }
+    requires apart { takers + actions ≤ place }
+    requires high { 8 ≤ takers }
     ensures { (start : Start) → IsReady start (enc.old, board.old.slots.items)
         → Left start (enc.new, board.new.slots.items)
-        (Split start (enc.old, board.old.slots.items) (enc.new, board.new.slots.items) met)
-        result }
+        (Chooses start (enc.old, board.old.slots.items) (enc.new, board.new.slots.items) takers
+        place actions) result }
 {
-    board.combine(enc, NEW, Operation::Minus, REST, met)?;
-    board.combine(enc, REST, Operation::Meet, REST, met)
+    for a in 0..actions {
+        let here = a as usize;
+        board.combine(enc, place + here, Operation::Meet, NEW, takers + here)?;
+    }
+    Ok(())
+}
+
+/// Puts at its place, for each action, the states in which the printed plan takes it in a context
+/// and goes on in a next one. Both are counted from 0, and the next one is not before the context.
+///
+/// `rule_place` tells the place of an action. The board is that of `chain_takers`, and stays it.
+pub fn rule_sets(
+    enc: &mut Enc,
+    board: &mut Board,
+    actions: u32,
+    stages: u32,
+    context: u32,
+    next: u32,
+) -> Result<(), SetErr>
+    requires ready { (start : Start) × (chain : Chained) × (start.stages ≡ stages)
+        × HasTable start (enc.old, board.old.slots.items) chain }
+    requires actions { actions ≡ length enc.old.actions }
+    requires few { stages ≤ most_stages }
+    requires context { context ≤ next }
+    requires next { next ≤ stages }
+    ensures { (start : Start) (chain : Chained) → start.stages ≡ stages
+        → HasTable start (enc.old, board.old.slots.items) chain
+        → Left start (enc.new, board.new.slots.items)
+        (HasRuleStates start (enc.new, board.new.slots.items) chain context next) result }
+{
+    let takers = takers_at(actions, stages, next);
+    let place = takers_at(actions, stages, stages + 1);
+    rest_at(enc, board, stages, context, next)?;
+    board.combine(enc, NEW, Operation::Minus, REST, met_at(next))?;
+    choose_all(enc, board, actions, takers, place)
 }
 
 /// The rules of a context, counted from 0, towards a next one.
@@ -148,24 +188,23 @@ fn list_stage(
     next: u32,
 ) -> Result<(), SetErr>
     requires ready { (start : Start) × (chain : Chained) × (before : List ContextRule)
-        × (start.stages ≡ stages) × (length chain.stages ≡ stages)
-        × ListsStages start (enc.old, board.old.slots.items) chain before
-        (map context_rule_of rules.old.items) stage next }
+        × (start.stages ≡ stages) × ListsStages start (enc.old, board.old.slots.items) chain
+        before (map context_rule_of rules.old.items) stage next }
     requires actions { actions ≡ length enc.old.actions }
     requires few { stages ≤ most_stages }
     requires stage { stage ≤ next }
     requires next { next ≤ stages }
     ensures { (start : Start) (chain : Chained) (before : List ContextRule)
-        → start.stages ≡ stages → length chain.stages ≡ stages
+        → start.stages ≡ stages
         → ListsStages start (enc.old, board.old.slots.items) chain before
         (map context_rule_of rules.old.items) stage next
         → Left start (enc.new, board.new.slots.items)
         (ListsStages start (enc.new, board.new.slots.items) chain before
         (map context_rule_of rules.new.items) stage (next + 1)) result }
 {
-    let takers = takers_at(actions, stages, next);
-    split(enc, board, met_at(next))?;
-    list_next(enc, board, rules, actions, stage + 1, next + 1, takers)
+    let place = takers_at(actions, stages, stages + 1);
+    rule_sets(enc, board, actions, stages, stage, next)?;
+    list_places(enc, board, rules, actions, stage + 1, next + 1, place)
 }
 
 /// The rules of a context, the next contexts in rising number.
@@ -177,21 +216,18 @@ fn list_context(
     stages: u32,
     stage: u32,
 ) -> Result<(), SetErr>
-    requires ready { (start : Start) × (chain : Chained)
-        × (start.stages ≡ stages) × (length chain.stages ≡ stages)
-        × HasTakers start (enc.old, board.old.slots.items) chain (suc stages) }
+    requires ready { (start : Start) × (chain : Chained) × (start.stages ≡ stages)
+        × HasTable start (enc.old, board.old.slots.items) chain }
     requires actions { actions ≡ length enc.old.actions }
     requires few { stages ≤ most_stages }
     requires stage { stage ≤ stages }
-    ensures { (start : Start) (chain : Chained)
-        → start.stages ≡ stages → length chain.stages ≡ stages
-        → HasTakers start (enc.old, board.old.slots.items) chain (suc stages)
+    ensures { (start : Start) (chain : Chained) → start.stages ≡ stages
+        → HasTable start (enc.old, board.old.slots.items) chain
         → Left start (enc.new, board.new.slots.items)
         (Lists start (enc.new, board.new.slots.items) chain (map context_rule_of rules.old.items)
         (map context_rule_of rules.new.items)
         (rules_of_context (sys_of start) chain (suc stage))) result }
 {
-    board.copy_of(enc, REST, win_at(stage))?;
     for next in stage..stages + 1 {
         list_stage(enc, board, rules, actions, stages, stage, next)?;
     }
@@ -206,14 +242,12 @@ pub(crate) fn list_all(
     actions: u32,
     stages: u32,
 ) -> Result<(), SetErr>
-    requires ready { (start : Start) × (chain : Chained)
-        × (start.stages ≡ stages) × (length chain.stages ≡ stages)
-        × HasTakers start (enc.old, board.old.slots.items) chain (suc stages) }
+    requires ready { (start : Start) × (chain : Chained) × (start.stages ≡ stages)
+        × HasTable start (enc.old, board.old.slots.items) chain }
     requires actions { actions ≡ length enc.old.actions }
     requires few { stages ≤ most_stages }
-    ensures { (start : Start) (chain : Chained)
-        → start.stages ≡ stages → length chain.stages ≡ stages
-        → HasTakers start (enc.old, board.old.slots.items) chain (suc stages)
+    ensures { (start : Start) (chain : Chained) → start.stages ≡ stages
+        → HasTable start (enc.old, board.old.slots.items) chain
         → Left start (enc.new, board.new.slots.items)
         (Lists start (enc.new, board.new.slots.items) chain (map context_rule_of rules.old.items)
         (map context_rule_of rules.new.items) (chain_rules (sys_of start) chain)) result }

@@ -1,15 +1,14 @@
 //! Which states take which action, in each context.
 
-ghost use Rattle.std.specs.Prelude.{◌≡◌, ℕ, suc, ◌≤◌, ◌+◌, ◌<◌, length};
+ghost use Rattle.std.specs.Prelude.{◌≡◌, suc, ◌≤◌, ◌+◌, ◌<◌, length};
 ghost use Rattle.plan_theory.specs.Chains.{Chained};
 ghost use Rattle.task_core.specs.Tasks.{action_count};
 ghost use Rattle.chain_plan.specs.Chains.{most_stages};
 ghost use Rattle.chain_plan.specs.Scenes.{IsReady, Left, Scene, Start};
-ghost use Rattle.chain_plan.specs.Steps.{Climbed, EndTaken, HasClimbed, HasTakers, Shared};
-ghost use Rattle.chain_plan.specs.Steps.{TookNew};
+ghost use Rattle.chain_plan.specs.Steps.{Climbed, ClimbedFrom, Climbs, EndTaken, HasTakers};
+ghost use Rattle.chain_plan.specs.Steps.{Shared};
 
-use crate::places::{HITS, NEAR, NEXT, REST, met_at, takers_at, win_at};
-use crate::rounds::{Way, turn_from};
+use crate::places::{HITS, NEAR, NEW, NEXT, REST, met_at, takers_at, win_at};
 use dd_sets::SetErr;
 use encode_task::Enc;
 use slot_board::{Board, Operation, Outcomes};
@@ -52,35 +51,64 @@ fn share(enc: &mut Enc, board: &mut Board, actions: u32, takers: usize) -> Resul
     Ok(())
 }
 
-/// Gives each new state of a round its action.
-fn take_new(enc: &mut Enc, board: &mut Board, actions: u32, takers: usize) -> Result<(), SetErr>
+/// Adds the states from which an action leads into the first states to the next ones, and has it
+/// taken by those that are new.
+fn climb_by(enc: &mut Enc, board: &mut Board, takers: usize, a: ActionId) -> Result<(), SetErr>
+    requires ready { (start : Start) × (x : Scene)
+        × Climbs start x (enc.old, board.old.slots.items) takers a.0 }
+    requires action { a.0 < length enc.old.actions }
+    requires places { takers + length enc.old.actions ≤ length board.old.slots.items }
+    requires high { 8 ≤ takers }
+    ensures { (start : Start) (x : Scene)
+        → Climbs start x (enc.old, board.old.slots.items) takers a.0
+        → Left start (enc.new, board.new.slots.items)
+        (Climbs start x (enc.new, board.new.slots.items) takers (a.0 + 1)) result }
+{
+    let place = takers + a.0 as usize;
+    board.lead(enc, HITS, Outcomes::Every, a, NEAR)?;
+    board.combine(enc, NEW, Operation::Minus, HITS, NEXT)?;
+    board.combine(enc, place, Operation::Join, place, NEW)?;
+    board.combine(enc, NEXT, Operation::Join, NEXT, HITS)
+}
+
+/// Makes a round on the first states, and gives each new state its action.
+fn climb_near(enc: &mut Enc, board: &mut Board, actions: u32, takers: usize) -> Result<(), SetErr>
     requires ready { (start : Start) × IsReady start (enc.old, board.old.slots.items) }
     requires actions { actions ≡ length enc.old.actions }
     requires places { takers + actions ≤ length board.old.slots.items }
     requires high { 8 ≤ takers }
     ensures { (start : Start) → IsReady start (enc.old, board.old.slots.items)
         → Left start (enc.new, board.new.slots.items)
-        (TookNew start (enc.old, board.old.slots.items) (enc.new, board.new.slots.items) takers)
-        result }
+        (Climbs start (enc.old, board.old.slots.items) (enc.new, board.new.slots.items) takers
+        (action_count start.task)) result }
 {
-    board.combine(enc, REST, Operation::Minus, NEXT, NEAR)?;
-    share(enc, board, actions, takers)
+    board.copy_of(enc, NEXT, NEAR)?;
+    for a in 0..actions {
+        climb_by(enc, board, takers, ActionId(a))?;
+    }
+    Ok(())
 }
 
-/// One round more towards a stage, with the actions of the last one's new states.
-fn climb_step(enc: &mut Enc, board: &mut Board, actions: u32, takers: usize) -> Result<(), SetErr>
-    requires ready { (start : Start) × (x : Scene) × (met : ℕ) × (k : ℕ)
-        × HasClimbed start x (enc.old, board.old.slots.items) met takers k }
+/// Makes a round on the states at a place, and gives each new state its action.
+fn climb_from(
+    enc: &mut Enc,
+    board: &mut Board,
+    actions: u32,
+    place: usize,
+    takers: usize,
+) -> Result<(), SetErr>
+    requires ready { (start : Start) × IsReady start (enc.old, board.old.slots.items) }
     requires actions { actions ≡ length enc.old.actions }
+    requires place { place < length board.old.slots.items }
     requires places { takers + actions ≤ length board.old.slots.items }
     requires high { 8 ≤ takers }
-    ensures { (start : Start) (x : Scene) (met k : ℕ)
-        → HasClimbed start x (enc.old, board.old.slots.items) met takers k
+    ensures { (start : Start) → IsReady start (enc.old, board.old.slots.items)
         → Left start (enc.new, board.new.slots.items)
-        (HasClimbed start x (enc.new, board.new.slots.items) met takers (suc k)) result }
+        (ClimbedFrom start (enc.old, board.old.slots.items) (enc.new, board.new.slots.items)
+        place takers) result }
 {
-    take_new(enc, board, actions, takers)?;
-    turn_from(enc, board, actions, Way::Growing, NEXT)
+    board.copy_of(enc, NEAR, place)?;
+    climb_near(enc, board, actions, takers)
 }
 
 /// Gives each state from which a stage is met for certain the action of its rank.
@@ -101,9 +129,9 @@ fn climb(
         (Climbed start (enc.old, board.old.slots.items) (enc.new, board.new.slots.items) met
         takers) result }
 {
-    turn_from(enc, board, actions, Way::Growing, met)?;
+    climb_from(enc, board, actions, met, takers)?;
     while !board.is_same(enc, NEXT, NEAR) {
-        climb_step(enc, board, actions, takers)?;
+        climb_from(enc, board, actions, NEXT, takers)?;
     }
     Ok(())
 }

@@ -1,5 +1,5 @@
 -- The planner's answer: what is said of it.
-use Rattle.std.proofs.Common.{◌≡◌, ℕ, ◌+◌, ◌*◌, arith, ◌^◌, true, false, List, All, Result, Ok, Err, IfOk, IsErrOf, sym, subst, ◌∙◌}
+use Rattle.std.proofs.Common.{◌≡◌, ℕ, ◌+◌, ◌*◌, arith, ◌^◌, Bool, true, false, List, All, Option, Some, IfSome, Result, Ok, Err, IfOk, refl, sym, subst, ◌∙◌}
 use Rattle.std.specs.List.{list_all}
 use Rattle.std.proofs.lemmas.Bool.{false_from_ne_true, true≢false}
 use Rattle.dd_sets.specs.declared.errors.SetErr.{SetErr}
@@ -22,10 +22,14 @@ use Rattle.encode_task.specs.Made.{MadeOf}
 use Rattle.plan_theory.proofs.PrintedWithin.{printed_within}
 use Rattle.plan_theory.proofs.WeakDenoted.{denoted-table}
 use Rattle.plan_theory.proofs.WeakLists.{list_all-at, list_all-from}
-use Rattle.cyclic_plan.specs.Answers.{Ends, IsPlanOf}
+use Rattle.task_core.specs.Cubes.{SetOfVectors}
+use Rattle.cyclic_plan.specs.Answers.{Ends, IsAnswer, IsPlanOf}
+use Rattle.cyclic_plan.specs.Stages.{HasNear, kept_system, takers_within}
+use Rattle.cyclic_plan.specs.Takers.{HasTable, start_of}
 use Rattle.dd_sets.specs.Rooms.{IsTightFor}
 use Rattle.slot_board.specs.Board as board
-use Rattle.cyclic_plan.specs.Begun.{HasNothing, place_count, At, Left, Start}
+use Rattle.slot_board.specs.Board.{At, IsTightAt, Left, Start}
+use Rattle.cyclic_plan.specs.Stages.{HasNothing, place_count}
 use Rattle.plan_theory.specs.LargestSets.{covers, goal_or_pair}
 use Rattle.plan_theory.specs.Pairs.{restricted}
 use Rattle.plan_theory.specs.CyclicPlans.{cyclic_rules}
@@ -56,50 +60,72 @@ module _ (task : Task) (r : ℕ) (last : IsLastRound (system_of task) r) where
       let sys = system_of task in
       none_without_cover sys (kept sys (round sys r)) (is_system task) (last_is_largest sys (is_system task) r last) (not_covered short)
 
-  pub plan_is : list_all (round (system_of task) r) (system_of task).initial ≡ true → (plan : TablePlan) → plan.class ≡ Cyclic → rules_of plan ≡ cyclic_rules (system_of task) (kept (system_of task) (round (system_of task) r)) → IsPlanOf task plan
-  plan_is all plan class is =
-      let sys = system_of task in
-      let pairs = kept sys (round sys r) in
-      let largest = last_is_largest sys (is_system task) r last in
-      record {
-        class = class;
-        printed = (pairs, largest, is);
-        in_task = subst (λ (rules : List PlanRule). All (IsRuleOf (fluent_count task) (action_count task)) rules) (sym is)
-            (printed_within Weak (restricted sys pairs) (2 ^ sys.fluents) (IsRuleOf (fluent_count task) (action_count task)) (λ cube a below lt. record { cube = below; action = lt }));
-        table = denoted-table sys (rules_of plan);
-        solves = subst (λ (rules : List PlanRule). IsStrongCyclicSolution sys (denoted sys rules)) (sym is) (cyclic_solves sys pairs (is_system task) largest.proper (all_covered all));
-        executable = subst (IsExecutable sys) (sym is) (cyclic_executable sys pairs);
-      }
+-- the search's board has the printed table
+pub table_is : (start : Start) (r : ℕ) (last : IsLastRound (system_of start.task) r) → list_all (round (system_of start.task) r) (system_of start.task).initial ≡ true → (now : Encoded) (slots : List SetId) (near : SetOfVectors)
+    → HasNear start now slots (round (system_of start.task) r) (takers_within true (kept_system start (round (system_of start.task) r)) (2 ^ fluent_count start.task)) near → HasTable start now slots
+table_is start r last all now slots near h =
+    let sys = system_of start.task in
+    record {
+      at = h.round.at;
+      places = h.round.places;
+      sound = h.round.sound;
+      pairs = kept sys (round sys r);
+      largest = last_is_largest sys (is_system start.task) r last;
+      covered = all_covered start.task r last all;
+      taken = λ a l v is. h.round.holds_taken a l v is;
+    }
+
+-- and so a plan has it
+pub plan_of_table : (start : Start) (now : Encoded) (slots : List SetId) (h : HasTable start now slots) (plan : TablePlan) → plan.class ≡ Cyclic → rules_of plan ≡ cyclic_rules (system_of start.task) h.pairs → IsPlanOf start.task plan
+plan_of_table start now slots h plan class is =
+    let task = start.task in
+    let sys = system_of task in
+    record {
+      class = class;
+      printed = (h.pairs, h.largest, is);
+      in_task = subst (λ (rules : List PlanRule). All (IsRuleOf (fluent_count task) (action_count task)) rules) (sym is)
+          (printed_within Weak (restricted sys h.pairs) (2 ^ sys.fluents) (IsRuleOf (fluent_count task) (action_count task)) (λ cube a below lt. record { cube = below; action = lt }));
+      table = denoted-table sys (rules_of plan);
+      solves = subst (λ (rules : List PlanRule). IsStrongCyclicSolution sys (denoted sys rules)) (sym is) (cyclic_solves sys h.pairs (is_system task) h.largest.proper h.covered);
+      executable = subst (IsExecutable sys) (sym is) (cyclic_executable sys h.pairs);
+    }
 
 -- what a refused step leaves of the search
-pub ends_refused : {T : Type 0} (start : Start) (now : Encoded) (slots : List SetId) (P : Type 0) (inner : Result T SetErr) (outer : Result Found SetErr) (e : SetErr) → inner ≡ Err e → (x : SetErr) × (outer ≡ Err x) × (x ≡ e) → Left start now slots P inner → Ends start now slots outer
+pub ends_refused : {T : Type 0} (start : Start) (now : Encoded) (slots : List SetId) (P : Type 0) (inner : Result T SetErr) (outer : Result Bool SetErr) (e : SetErr) → inner ≡ Err e → (x : SetErr) × (outer ≡ Err x) × (x ≡ e) → Left start now slots P inner → Ends start now slots outer
 ends_refused start now slots P inner outer e was p left =
     subst (Ends start now slots) (sym p.1) (let kept = subst (Left start now slots P) was left in (kept.0, λ full. kept.1 (sym p.2 ∙ full)))
 
 -- what the end of a search says
-pub ends_at : (start : Start) (now : Encoded) (slots : List SetId) (result : Result Found SetErr) → Ends start now slots result → At start now slots
-ends_at start now slots (Ok found) ends = ends.0
-ends_at start now slots (Err e) ends = ends.0
+pub ends_found : (start : Start) (now : Encoded) (slots : List SetId) (result : Result Bool SetErr) → result ≡ Ok true → Ends start now slots result → HasTable start now slots
+ends_found start now slots result is ends = subst (Ends start now slots) is ends
 
-pub ends_full : (start : Start) (now : Encoded) (slots : List SetId) (result : Result Found SetErr) → Ends start now slots result → IsErrOf result Full → IsTightFor (3 * action_count start.task + 32) start.enc.sets
-ends_full start now slots (Ok found) ends full = absurd (let h : Ok found ≡ Err Full = full in cc)
-ends_full start now slots (Err e) ends full = subst (λ more. IsTightFor more start.enc.sets) (omega arith) (ends.1 (let h : Err e ≡ Err Full = full in cc))
+pub ends_none : (start : Start) (now : Encoded) (slots : List SetId) (result : Result Bool SetErr) → result ≡ Ok false → Ends start now slots result → At start now slots × HasNoSolution Cyclic (system_of start.task)
+ends_none start now slots result is ends = subst (Ends start now slots) is ends
 
-pub ends_plan : (start : Start) (now : Encoded) (slots : List SetId) (P : TablePlan → Type 0) (result : Result Found SetErr) → ((plan : TablePlan) → IsPlanOf start.task plan → P plan) → Ends start now slots result → IfOk result (λ found. IfPlan found P)
-ends_plan start now slots P (Ok (Plan plan)) each ends = each plan ends.1
-ends_plan start now slots P (Ok NoPlan) each ends = tt
-ends_plan start now slots P (Err e) each ends = tt
+pub ends_refusal : (start : Start) (now : Encoded) (slots : List SetId) (result : Result Bool SetErr) (e : SetErr) → result ≡ Err e → Ends start now slots result → At start now slots × (e ≡ Full → IsTightAt start)
+ends_refusal start now slots result e is ends = subst (Ends start now slots) is ends
 
-pub ends_no_plan : (start : Start) (now : Encoded) (slots : List SetId) (result : Result Found SetErr) → Ends start now slots result → IfOk result (λ found. IfNoPlan found (HasNoSolution Cyclic (system_of start.task)))
-ends_no_plan start now slots (Ok (Plan plan)) ends = tt
-ends_no_plan start now slots (Ok NoPlan) ends = ends.1
-ends_no_plan start now slots (Err e) ends = tt
+pub room_of : (task : Task) (enc : Encoded) (made : MadeOf task enc) → IsTightAt (start_of task enc made) → IsTightFor (3 * action_count task + 32) enc.sets
+room_of task enc made tight = subst (λ more. IsTightFor more enc.sets) (omega arith) tight
 
--- where a search begins
-abbrev pub start_of : (task : Task) (enc : Encoded) → MadeOf task enc → Start
-start_of task enc made = record { task = task; enc = enc; made = made }
+-- what is said of a value that is there
+pub some_has : {T : Type 0} (o : Option T) (P : T → Type 0) (x : T) → o ≡ Some x → IfSome o P → P x
+some_has o P x is has = subst (λ (p : _). IfSome p P) is has
+
+-- what is said of a plan
+pub answer_plan : (task : Task) (P : TablePlan → Type 0) (result : Result Found SetErr) → ((plan : TablePlan) → IsPlanOf task plan → P plan) → IfOk result (IsAnswer task) → IfOk result (λ found. IfPlan found P)
+answer_plan task P (Ok (Plan plan)) each is = each plan is
+answer_plan task P (Ok NoPlan) each is = tt
+answer_plan task P (Err e) each is = tt
+
+pub answer_no_plan : (task : Task) (result : Result Found SetErr) → IfOk result (IsAnswer task) → IfOk result (λ found. IfNoPlan found (HasNoSolution Cyclic (system_of task)))
+answer_no_plan task (Ok (Plan plan)) is = tt
+answer_no_plan task (Ok NoPlan) is = is
+answer_no_plan task (Err e) is = tt
 
 -- the new board's places
 pub first_places : (task : Task) (enc now : Encoded) (made : MadeOf task enc) (places : ℕ) (slots : List SetId) → places ≡ place_count (action_count task)
     → board.HasNothing (record { task = task; enc = enc; made = made; places = places; spare = action_count task + 17 }) now slots → HasNothing (start_of task enc made) now slots
-first_places task enc now made places slots e h = subst (λ n. board.HasNothing (record { task = task; enc = enc; made = made; places = n; spare = action_count task + 17 }) now slots) e h
+first_places task enc now made places slots e h =
+    let new : board.HasNothing (start_of task enc made) now slots = subst (λ n. board.HasNothing (record { task = task; enc = enc; made = made; places = n; spare = action_count task + 17 }) now slots) e h in
+    record { at = new.at; places = refl; holds_nothing = new.holds_nothing }

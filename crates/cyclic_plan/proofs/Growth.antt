@@ -30,7 +30,7 @@ use Rattle.plan_theory.proofs.Restricted.{restricted_system}
 use Rattle.plan_theory.proofs.RoundSteps.{held, holds_fewer}
 use Rattle.slot_board.proofs.BoardSlots.{depends}
 use Rattle.slot_board.specs.Board.{set_at}
-use Rattle.cyclic_plan.specs.Begun.{board_of, Start}
+use Rattle.slot_board.specs.Board.{Start}
 use Rattle.plan_theory.specs.PairRounds.{connected, kept}
 use Rattle.cyclic_plan.specs.Stages.{HasNear, HasNext, HasRound, Takings, kept_system, next_by, taken_also, taken_by, taken_if, takers_within}
 
@@ -39,6 +39,7 @@ pub round_as : (start : Start) (now : Encoded) (slots : List SetId) (left : SetO
     → ((a : ℕ) (v : Vector) → a < action_count start.task → IsState (system_of start.task) v → taken a v ≡ other a v) → HasRound start now slots left other
 round_as start now slots left taken other h same = record {
   at = h.at;
+  places = h.places;
   sound = h.sound;
   holds_goal = h.holds_goal;
   holds_left = h.holds_left;
@@ -248,7 +249,7 @@ spread_less start enc now old new left taking k n h differ is_n taken next after
     holds_fewer (λ v. not (set_at enc.sets old 3 (value_of v))) (λ v. not (set_at now.sets new 3 (value_of v))) (all_vectors n)
     (λ v c out. fewer v (state v c) out)
     (λ same. differ (same_functions (fluent_count start.task) (set_at enc.sets old 4) (set_at enc.sets old 3)
-    (depends (board_of start) enc old h.by_near.round.at h.by_near.round.sound 4) (depends (board_of start) enc old h.by_near.round.at h.by_near.round.sound 3)
+    (depends start enc old h.by_near.round.at h.by_near.round.sound 4) (depends start enc old h.by_near.round.at h.by_near.round.sound 3)
     (λ v is.
     h.holds_next v is ∙ sym (after.by_near.holds_near v is)
     ∙ not_same (set_at now.sets new 3 (value_of v)) (set_at enc.sets old 3 (value_of v))

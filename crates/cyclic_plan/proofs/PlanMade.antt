@@ -1,5 +1,5 @@
 -- What the parts of the planner answer.
-use Rattle.std.proofs.Common.{◌≡◌, ℕ, zero, suc, ◌+◌, ◌<◌, Bool, true, false, cond, not, ◌&&◌, List, [], ◌∷◌, ◌++◌, map, length, Option, None, Some, IsTrue, ◌↔◌, refl, sym, ap, subst, ◌∙◌, arith}
+use Rattle.std.proofs.Common.{◌≡◌, ℕ, zero, suc, ◌+◌, ◌<◌, ◌^◌, Bool, true, false, cond, not, ◌&&◌, List, [], ◌∷◌, ◌++◌, map, length, Option, None, Some, IsTrue, ◌↔◌, refl, sym, ap, subst, ◌∙◌, arith}
 use Rattle.std.specs.Option.{option_map, unwrap_or}
 use Rattle.std.specs.List.{Contains, flat_map, list_all, list_any, range_with_len}
 use Rattle.std.proofs.Math.Path.{fun_ext}
@@ -8,7 +8,9 @@ use Rattle.std.proofs.lemmas.Grind.{flat_map-append}
 use Rattle.std.proofs.lemmas.List.{append-nil}
 use Rattle.plan_rules.specs.Rules.{PlanRule}
 use Rattle.plan_theory.proofs.Ranges.{range-more}
-use Rattle.cyclic_plan.specs.Answers.{rule_for, rules_at}
+use Rattle.plan_theory.specs.LayerPlans.{rules_of_action, takers}
+use Rattle.task_core.specs.declared.classes.Class.TheVariants.{Weak}
+use Rattle.cyclic_plan.specs.Answers.{rule_for}
 use Rattle.dd_nodes.specs.NodeList.{Values}
 use Rattle.dd_nodes.specs.Subfunctions.{DependsOnly, Function}
 use Rattle.dd_ops.specs.Operations.{minus_of}
@@ -29,8 +31,10 @@ use Rattle.plan_theory.proofs.Weak.{same_vector-itself, same_vector-true}
 use Rattle.plan_theory.proofs.WeakLists.{list_all-agree, list_all-at, list_all-from, list_any-agree, list_any-from, list_any-witness}
 use Rattle.slot_board.proofs.BoardSlots.{depends, initial_is}
 use Rattle.slot_board.specs.Board.{set_at}
-use Rattle.cyclic_plan.specs.Begun.{board_of, At, HasNothing, Moved, Start}
-use Rattle.plan_theory.specs.Pairs.{is_goal}
+use Rattle.slot_board.specs.Board.{At, Moved, Start}
+use Rattle.cyclic_plan.specs.Stages.{HasNothing}
+use Rattle.plan_theory.specs.Pairs.{is_goal, restricted}
+use Rattle.cyclic_plan.specs.Takers.{HasTable}
 use Rattle.plan_theory.specs.PairRounds.{round}
 use Rattle.cyclic_plan.specs.Stages.{Agrees, HasNear, HasRound, Takings, none_taken}
 use Rattle.cyclic_plan.proofs.StageSteps.{here, near_still, still}
@@ -73,16 +77,17 @@ pub begun : (start : Start) (enc mid now : Encoded) (old half new : List SetId) 
     → HasRound start now new (round (system_of start.task) 0) none_taken
 begun start enc mid now old half new slot h is first second =
     let goal = goal_held start slot (sym (ap (λ (e : Encoded). e.goal) h.at.same) ∙ is) in
-    let long : length old ≡ 7 + action_count start.task + action_count start.task = h.at.long in
+    let long : length old ≡ 7 + action_count start.task + action_count start.task = h.at.long ∙ h.places in
     record {
       at = second.at;
+      places = h.places;
       sound = second.sound;
-      holds_goal = still start mid now half new 1 _ second 0 _ (omega arith) (λ e. absurd (omega arith))
-          (here start enc mid old half 0 _ first _ (λ v at. ap (λ (f : Function). f (value_of v)) (h.at.working.kept.sets slot.0 goal.0) ∙ goal.1 v at));
-      holds_left = here start mid now half new 1 _ second _ (λ v at. refl);
+      holds_goal = still start mid now half new 1 _ second h.places 0 _ (omega arith) (λ e. absurd (omega arith))
+          (here start enc mid old half 0 _ first h.places _ (λ v at. ap (λ (f : Function). f (value_of v)) (h.at.working.kept.sets slot.0 goal.0) ∙ goal.1 v at));
+      holds_left = here start mid now half new 1 _ second h.places _ (λ v at. refl);
       holds_taken = λ a l.
-          still start mid now half new 1 _ second (7 + action_count start.task + a) (none_taken a) (omega arith) (λ e. absurd (omega arith))
-          (still start enc mid old half 0 _ first (7 + action_count start.task + a) (none_taken a) (omega arith) (λ e. absurd (omega arith))
+          still start mid now half new 1 _ second h.places (7 + action_count start.task + a) (none_taken a) (omega arith) (λ e. absurd (omega arith))
+          (still start enc mid old half 0 _ first h.places (7 + action_count start.task + a) (none_taken a) (omega arith) (λ e. absurd (omega arith))
           (λ v at. ap (λ (f : Function). f (value_of v)) (h.holds_nothing (7 + action_count start.task + a) (omega arith))));
     }
 
@@ -128,16 +133,16 @@ module _ (start : Start) (enc mid now : Encoded) (old half new : List SetId) (le
     (first : Moved start enc.sets old mid half 6 (set_of enc.sets enc.initial.0))
     (second : Moved start mid.sets half now new 6 (minus_of (set_at mid.sets half 6) (set_at mid.sets half 1))) where
   first_near : HasNear start mid half left taken near
-  first_near = near_still start enc mid old half 6 _ first left taken near h (λ e. absurd (omega arith)) (λ e. absurd (omega arith)) (λ e. absurd (omega arith)) (omega arith)
+  first_near = near_still start enc mid old half 6 _ first h.round.places left taken near h (λ e. absurd (omega arith)) (λ e. absurd (omega arith)) (λ e. absurd (omega arith)) (omega arith)
 
   pub tested_near : HasNear start now new left taken near
-  tested_near = near_still start mid now half new 6 _ second left taken near first_near (λ e. absurd (omega arith)) (λ e. absurd (omega arith)) (λ e. absurd (omega arith)) (omega arith)
+  tested_near = near_still start mid now half new 6 _ second first_near.round.places left taken near first_near (λ e. absurd (omega arith)) (λ e. absurd (omega arith)) (λ e. absurd (omega arith)) (omega arith)
 
   pub tested : (answer : Bool) → (IsTrue answer ↔ (set_at now.sets new 6 ≡ nothing)) → answer ≡ list_all left (system_of start.task).initial
   tested answer is =
       let e : set_at now.sets new 6 ≡ minus_of (initial_set start.task) (set_at mid.sets half 1) =
-      second.here ∙ ap (λ (g : Function). minus_of g (set_at mid.sets half 1)) (first.here ∙ initial_is (board_of start) enc old h.round.at) in
-      covers_is start (set_at mid.sets half 1) left (depends (board_of start) mid half first_near.round.at first_near.round.sound 1) first_near.round.holds_left answer
+      second.here ∙ ap (λ (g : Function). minus_of g (set_at mid.sets half 1)) (first.here ∙ initial_is start enc old h.round.at) in
+      covers_is start (set_at mid.sets half 1) left (depends start mid half first_near.round.at first_near.round.sound 1) first_near.round.holds_left answer
       (subst (λ (g : Function). IsTrue answer ↔ (g ≡ nothing)) e is)
 
 -- the cubes of sets that hold the same states
@@ -159,19 +164,21 @@ cubes_agree (suc n) first f g same =
     put e d w x i j a b c {k} {l} {p} {q} s t = λ z. cond (a z) [] (cond (b z) ([] ∷ []) (cond (c z) (s z) (map (λ cube. literal first false ∷ cube) (s z) ++ map (λ cube. literal first true ∷ cube) (t z))))
 
 -- the rules of one action more
-pub rules_more : (start : Start) (enc : Encoded) (slots : List SetId) (left : SetOfVectors) (taken : Takings) (near : SetOfVectors) (a place : ℕ) (before after : List PlanRule) (cubes : List Cube) → HasNear start enc slots left taken near → a < action_count start.task
-    → place ≡ 7 + action_count start.task + a → before ≡ flat_map (rules_at (fluent_count start.task) taken) (range_with_len 0 a) → cubes ≡ cubes_of enc.sets.vars (λ state. set_at enc.sets slots place (value_of state)) → after ≡ before ++ map (rule_for a) cubes
-    → after ≡ flat_map (rules_at (fluent_count start.task) taken) (range_with_len 0 (a + 1))
-rules_more start enc slots left taken near a place before after cubes h l at is made more =
+pub rules_more : (start : Start) (enc : Encoded) (slots : List SetId) (h : HasTable start enc slots) (a place : ℕ) (before after : List PlanRule) (cubes : List Cube) → a < action_count start.task → place ≡ 7 + action_count start.task + a
+    → before ≡ flat_map (rules_of_action Weak (restricted (system_of start.task) h.pairs) (2 ^ fluent_count start.task)) (range_with_len 0 a) → cubes ≡ cubes_of enc.sets.vars (λ state. set_at enc.sets slots place (value_of state)) → after ≡ before ++ map (rule_for a) cubes
+    → after ≡ flat_map (rules_of_action Weak (restricted (system_of start.task) h.pairs) (2 ^ fluent_count start.task)) (range_with_len 0 (a + 1))
+rules_more start enc slots h a place before after cubes l at is made more =
     let n = fluent_count start.task in
-    let vars : enc.sets.vars ≡ n = h.round.at.working.kept.vars ∙ start.made.ready.vars ∙ start.made.fluents in
-    let same : cubes ≡ cubes_of n (taken a) =
+    let rules = rules_of_action Weak (restricted (system_of start.task) h.pairs) (2 ^ fluent_count start.task) in
+    let taken : SetOfVectors = takers Weak (restricted (system_of start.task) h.pairs) (2 ^ fluent_count start.task) a in
+    let vars : enc.sets.vars ≡ n = h.at.working.kept.vars ∙ start.made.ready.vars ∙ start.made.fluents in
+    let same : cubes ≡ cubes_of n taken =
     made ∙ ap (λ k. cubes_of k (λ state. set_at enc.sets slots place (value_of state))) vars
-    ∙ cubes_agree n 0 (λ state. set_at enc.sets slots place (value_of state)) (taken a)
-    (λ v len. ap (λ p. set_at enc.sets slots p (value_of v)) at ∙ h.round.holds_taken a l v len) in
+    ∙ cubes_agree n 0 (λ state. set_at enc.sets slots place (value_of state)) taken
+    (λ v len. ap (λ p. set_at enc.sets slots p (value_of v)) at ∙ h.taken a l v len) in
     more
     ∙ ap (λ xs. xs ++ map (rule_for a) cubes) is
-    ∙ ap (λ cs. flat_map (rules_at n taken) (range_with_len 0 a) ++ map (rule_for a) cs) same
-    ∙ ap (λ xs. flat_map (rules_at n taken) (range_with_len 0 a) ++ xs) (sym (append-nil (rules_at n taken a)))
-    ∙ sym (flat_map-append (rules_at n taken) (range_with_len 0 a) (a ∷ []))
-    ∙ ap (flat_map (rules_at n taken)) (sym (range-more a))
+    ∙ ap (λ cs. flat_map rules (range_with_len 0 a) ++ map (rule_for a) cs) same
+    ∙ ap (λ xs. flat_map rules (range_with_len 0 a) ++ xs) (sym (append-nil (rules a)))
+    ∙ sym (flat_map-append rules (range_with_len 0 a) (a ∷ []))
+    ∙ ap (flat_map rules) (sym (range-more a))

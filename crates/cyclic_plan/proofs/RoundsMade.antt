@@ -10,7 +10,7 @@ use Rattle.task_core.specs.Vectors.{Vector, all_vectors, value_of}
 use Rattle.plan_theory.proofs.Cubes.{all_vectors-agree, all_vectors-length}
 use Rattle.slot_board.proofs.BoardSlots.{depends}
 use Rattle.slot_board.specs.Board.{set_at}
-use Rattle.cyclic_plan.specs.Begun.{board_of, Moved, Start}
+use Rattle.slot_board.specs.Board.{Moved, Start}
 use Rattle.plan_theory.specs.PairRounds.{round}
 use Rattle.cyclic_plan.specs.Stages.{HasLastRound, HasNear, HasPairs, HasRound, HasRounds, Takings}
 use Rattle.cyclic_plan.proofs.Growth.{same_functions}
@@ -30,10 +30,11 @@ pub left_copied : (start : Start) (enc now : Encoded) (old new : List SetId) (le
     → Moved start enc.sets old now new 1 (set_at enc.sets old 3) → HasRound start now new near taken
 left_copied start enc now old new left taken near h m = record {
   at = m.at;
+  places = h.round.places;
   sound = m.sound;
-  holds_goal = still start enc now old new 1 _ m 0 _ (omega arith) (λ e. absurd (omega arith)) h.round.holds_goal;
-  holds_left = here start enc now old new 1 _ m near h.holds_near;
-  holds_taken = λ k l. still start enc now old new 1 _ m (7 + action_count start.task + k) (taken k) (omega arith) (λ e. absurd (omega arith)) (h.round.holds_taken k l);
+  holds_goal = still start enc now old new 1 _ m h.round.places 0 _ (omega arith) (λ e. absurd (omega arith)) h.round.holds_goal;
+  holds_left = here start enc now old new 1 _ m h.round.places near h.holds_near;
+  holds_taken = λ k l. still start enc now old new 1 _ m h.round.places (7 + action_count start.task + k) (taken k) (omega arith) (λ e. absurd (omega arith)) (h.round.holds_taken k l);
 }
 
 -- where a round left the same states as the one before, it is the last
@@ -51,7 +52,7 @@ round_less start enc now old new r n h differ is_n taken near after =
     let is = state v c in
     h.round.holds_left v is ∙ round_shrinks (system_of start.task) r v (sym (after.round.holds_left v is) ∙ inside))
     (λ same. differ (same_functions (fluent_count start.task) (set_at enc.sets old 3) (set_at enc.sets old 1)
-    (depends (board_of start) enc old h.round.at h.round.sound 3) (depends (board_of start) enc old h.round.at h.round.sound 1)
+    (depends start enc old h.round.at h.round.sound 3) (depends start enc old h.round.at h.round.sound 1)
     (λ v is.
     h.holds_near v is ∙ sym (after.round.holds_left v is)
     ∙ all_vectors-agree (λ u. set_at now.sets new 1 (value_of u)) (λ u. set_at enc.sets old 1 (value_of u)) n same v (is ∙ sym is_n))))

@@ -17,17 +17,17 @@ use Rattle.plan_theory.specs.Layers.{may_lead, must_lead}
 use Rattle.plan_theory.proofs.WeakLists.{Contains-head, list_all-agree, list_any-agree, list_any-from, list_all-at}
 use Rattle.slot_board.proofs.BoardSlots.{depends}
 use Rattle.slot_board.specs.Board.{led, set_at}
-use Rattle.cyclic_plan.specs.Begun.{board_of, Moved, Start}
+use Rattle.slot_board.specs.Board.{Moved, Start}
 use Rattle.slot_board.specs.declared.board.Outcomes.TheVariants as Outcomes
 use Rattle.plan_theory.specs.Pairs.{Pairs, is_goal, restricted}
 use Rattle.plan_theory.specs.PairRounds.{kept}
-use Rattle.cyclic_plan.specs.Stages.{Agrees, HasHits, HasNear, HasNext, HasPairs, HasRound, Takings, kept_system, taken_also}
+use Rattle.cyclic_plan.specs.Stages.{place_count, Agrees, HasHits, HasNear, HasNext, HasPairs, HasRound, Takings, kept_system, taken_also}
 
 -- a place that isn't written keeps its set
-module _ (start : Start) (enc now : Encoded) (old new : List SetId) (place : ℕ) (g : Function) (m : Moved start enc.sets old now new place g) where
+module _ (start : Start) (enc now : Encoded) (old new : List SetId) (place : ℕ) (g : Function) (m : Moved start enc.sets old now new place g) (places : start.places ≡ place_count (action_count start.task)) where
   pub still : (k : ℕ) (set : SetOfVectors) → k < 7 + action_count start.task + action_count start.task → k ≢ place → Agrees start (set_at enc.sets old k) set → Agrees start (set_at now.sets new k) set
   still k set l differs h v is =
-      let long : length new ≡ 7 + action_count start.task + action_count start.task = m.at.long in
+      let long : length new ≡ 7 + action_count start.task + action_count start.task = m.at.long ∙ places in
       ap (λ (f : Function). f (value_of v)) (m.others k (omega arith) differs) ∙ h v is
 
   pub here : (set : SetOfVectors) → Agrees start g set → Agrees start (set_at now.sets new place) set
@@ -36,6 +36,7 @@ module _ (start : Start) (enc now : Encoded) (old new : List SetId) (place : ℕ
   pub round_still : (left : SetOfVectors) (taken : Takings) → HasRound start enc old left taken → place ≢ 0 → place ≢ 1 → place < 7 + action_count start.task → HasRound start now new left taken
   round_still left taken r a b low = record {
     at = m.at;
+    places = places;
     sound = m.sound;
     holds_goal = still 0 _ (omega arith) (λ e. a (sym e)) r.holds_goal;
     holds_left = still 1 _ (omega arith) (λ e. b (sym e)) r.holds_left;
@@ -119,22 +120,22 @@ pub pairs_more : (start : Start) (enc mid now : Encoded) (old half new : List Se
     → Moved start mid.sets half now new (7 + a) (and_of (set_at mid.sets half (7 + a)) (set_at mid.sets half 2)) → HasPairs start now new left taken (a + 1)
 pairs_more start enc mid now old half new a left taken l h first second =
     let sys = system_of start.task in
-    let r = round_still start enc mid old half (7 + a) _ first left taken h.round (λ e. absurd (omega arith)) (λ e. absurd (omega arith)) (omega arith) in
-    let outside = still start enc mid old half (7 + a) _ first 2 _ (omega arith) (λ e. absurd (omega arith)) h.holds_outside in
+    let r = round_still start enc mid old half (7 + a) _ first h.round.places left taken h.round (λ e. absurd (omega arith)) (λ e. absurd (omega arith)) (omega arith) in
+    let outside = still start enc mid old half (7 + a) _ first h.round.places 2 _ (omega arith) (λ e. absurd (omega arith)) h.holds_outside in
     record {
-      round = round_still start mid now half new (7 + a) _ second left taken r (λ e. absurd (omega arith)) (λ e. absurd (omega arith)) (omega arith);
-      holds_outside = still start mid now half new (7 + a) _ second 2 _ (omega arith) (λ e. absurd (omega arith)) outside;
+      round = round_still start mid now half new (7 + a) _ second h.round.places left taken r (λ e. absurd (omega arith)) (λ e. absurd (omega arith)) (omega arith);
+      holds_outside = still start mid now half new (7 + a) _ second h.round.places 2 _ (omega arith) (λ e. absurd (omega arith)) outside;
       holds_pairs = λ b below within.
           ⊎_elim
           (λ (same : b ≡ a). subst (λ k. Agrees start (set_at now.sets new (7 + k)) (λ v. kept sys left v k)) (sym same)
-          (here start mid now half new (7 + a) _ second (λ v. kept sys left v a)
+          (here start mid now half new (7 + a) _ second h.round.places (λ v. kept sys left v a)
           (λ v is.
-          ap (λ x. x && set_at mid.sets half 2 (value_of v)) (here start enc mid old half (7 + a) _ first (λ u. must_lead sys left u a) (strong_agrees start a (set_at enc.sets old 1) left (depends (board_of start) enc old h.round.at h.round.sound 1) h.round.holds_left) v is)
+          ap (λ x. x && set_at mid.sets half 2 (value_of v)) (here start enc mid old half (7 + a) _ first h.round.places (λ u. must_lead sys left u a) (strong_agrees start a (set_at enc.sets old 1) left (depends start enc old h.round.at h.round.sound 1) h.round.holds_left) v is)
           ∙ ap (λ x. must_lead sys left v a && x) (outside v is)
           ∙ turned (must_lead sys left v a) (left v) (not (is_goal sys v)))))
           (λ (differs : b ≢ a).
-          still start mid now half new (7 + a) _ second (7 + b) _ (omega arith) (λ e. differs (omega arith))
-          (still start enc mid old half (7 + a) _ first (7 + b) _ (omega arith) (λ e. differs (omega arith)) (h.holds_pairs b (let d = differs in omega arith) within)))
+          still start mid now half new (7 + a) _ second h.round.places (7 + b) _ (omega arith) (λ e. differs (omega arith))
+          (still start enc mid old half (7 + a) _ first h.round.places (7 + b) _ (omega arith) (λ e. differs (omega arith)) (h.holds_pairs b (let d = differs in omega arith) within)))
           (cases_eq b a);
     }
 
@@ -144,12 +145,12 @@ pub hits_found : (start : Start) (enc mid now : Encoded) (old half new : List Se
     → Moved start mid.sets half now new 5 (and_of (set_at mid.sets half 5) (set_at mid.sets half (7 + a))) → HasHits start now new left taken near next (λ v. may_lead (kept_system start left) near v a)
 hits_found start enc mid now old half new a left taken near next l h first second =
     let sys = system_of start.task in
-    let n = next_still start enc mid old half 5 _ first left taken near next h (λ e. absurd (omega arith)) (λ e. absurd (omega arith)) (λ e. absurd (omega arith)) (λ e. absurd (omega arith)) (omega arith) in
+    let n = next_still start enc mid old half 5 _ first h.by_near.round.places left taken near next h (λ e. absurd (omega arith)) (λ e. absurd (omega arith)) (λ e. absurd (omega arith)) (λ e. absurd (omega arith)) (omega arith) in
     record {
-      by_next = next_still start mid now half new 5 _ second left taken near next n (λ e. absurd (omega arith)) (λ e. absurd (omega arith)) (λ e. absurd (omega arith)) (λ e. absurd (omega arith)) (omega arith);
-      holds_hits = here start mid now half new 5 _ second (λ v. may_lead (kept_system start left) near v a)
+      by_next = next_still start mid now half new 5 _ second h.by_near.round.places left taken near next n (λ e. absurd (omega arith)) (λ e. absurd (omega arith)) (λ e. absurd (omega arith)) (λ e. absurd (omega arith)) (omega arith);
+      holds_hits = here start mid now half new 5 _ second h.by_near.round.places (λ v. may_lead (kept_system start left) near v a)
           (λ v is.
-          ap (λ x. x && set_at mid.sets half (7 + a) (value_of v)) (here start enc mid old half 5 _ first (λ u. may_lead sys near u a) (weak_agrees start a (set_at enc.sets old 3) near (depends (board_of start) enc old h.by_near.round.at h.by_near.round.sound 3) h.by_near.holds_near) v is)
+          ap (λ x. x && set_at mid.sets half (7 + a) (value_of v)) (here start enc mid old half 5 _ first h.by_near.round.places (λ u. may_lead sys near u a) (weak_agrees start a (set_at enc.sets old 3) near (depends start enc old h.by_near.round.at h.by_near.round.sound 3) h.by_near.holds_near) v is)
           ∙ ap (λ x. may_lead sys near v a && x) (n.by_near.holds_pairs a l v is)
           ∙ sym (may_restricted sys (kept sys left) near v a));
     }
@@ -158,8 +159,8 @@ hits_found start enc mid now old half new a left taken near next l h first secon
 pub outside_found : (start : Start) (enc now : Encoded) (old new : List SetId) (left : SetOfVectors) (taken : Takings) → HasRound start enc old left taken
     → Moved start enc.sets old now new 2 (minus_of (set_at enc.sets old 1) (set_at enc.sets old 0)) → HasPairs start now new left taken 0
 outside_found start enc now old new left taken h m = record {
-  round = round_still start enc now old new 2 _ m left taken h (λ e. absurd (omega arith)) (λ e. absurd (omega arith)) (omega arith);
-  holds_outside = here start enc now old new 2 _ m _
+  round = round_still start enc now old new 2 _ m h.places left taken h (λ e. absurd (omega arith)) (λ e. absurd (omega arith)) (omega arith);
+  holds_outside = here start enc now old new 2 _ m h.places _
       (λ v is.
       ap (λ x. x && not (set_at enc.sets old 0 (value_of v))) (h.holds_left v is)
       ∙ ap (λ x. left v && not x) (h.holds_goal v is));
@@ -178,16 +179,16 @@ module _ (start : Start) (enc mid now : Encoded) (old half new : List SetId) (a 
     (first : Moved start enc.sets old mid half 6 (minus_of (set_at enc.sets old 5) (set_at enc.sets old 4)))
     (second : Moved start mid.sets half now new (7 + action_count start.task + a) (or_of (set_at mid.sets half (7 + action_count start.task + a)) (set_at mid.sets half 6))) where
   first_next : HasNext start mid half left taken near next
-  first_next = next_still start enc mid old half 6 _ first left taken near next h.by_next (λ e. absurd (omega arith)) (λ e. absurd (omega arith)) (λ e. absurd (omega arith)) (λ e. absurd (omega arith)) (omega arith)
+  first_next = next_still start enc mid old half 6 _ first h.by_next.by_near.round.places left taken near next h.by_next (λ e. absurd (omega arith)) (λ e. absurd (omega arith)) (λ e. absurd (omega arith)) (λ e. absurd (omega arith)) (omega arith)
 
   first_new : Agrees start (set_at mid.sets half 6) (λ v. hits v && not (next v))
-  first_new = here start enc mid old half 6 _ first _
+  first_new = here start enc mid old half 6 _ first h.by_next.by_near.round.places _
       (λ v is.
       ap (λ x. x && not (set_at enc.sets old 4 (value_of v))) (h.holds_hits v is)
       ∙ ap (λ x. hits v && not x) (h.by_next.holds_next v is))
 
   low : (k : ℕ) (set : SetOfVectors) → k < 7 + action_count start.task → Agrees start (set_at mid.sets half k) set → Agrees start (set_at now.sets new k) set
-  low k set below holds = still start mid now half new (7 + action_count start.task + a) _ second k set (omega arith) (λ e. absurd (omega arith)) holds
+  low k set below holds = still start mid now half new (7 + action_count start.task + a) _ second h.by_next.by_near.round.places k set (omega arith) (λ e. absurd (omega arith)) holds
 
   taken_now : (b : ℕ) → b < action_count start.task → Agrees start (set_at now.sets new (7 + action_count start.task + b)) (taken_also taken a (λ v. hits v && not (next v)) b)
   taken_now b below =
@@ -195,12 +196,12 @@ module _ (start : Start) (enc mid now : Encoded) (old half new : List SetId) (a 
       (λ (same : b ≡ a).
       subst (λ k. Agrees start (set_at now.sets new (7 + action_count start.task + k)) (taken_also taken a (λ v. hits v && not (next v)) k)) (sym same)
       (λ v is.
-      here start mid now half new (7 + action_count start.task + a) _ second (λ u. taken a u || (hits u && not (next u)))
+      here start mid now half new (7 + action_count start.task + a) _ second h.by_next.by_near.round.places (λ u. taken a u || (hits u && not (next u)))
       (λ u at. ap (λ x. x || set_at mid.sets half 6 (value_of u)) (first_next.by_near.round.holds_taken a l u at) ∙ ap (λ x. taken a u || x) (first_new u at)) v is
       ∙ sym (cond-true (a == a) (taken a v || (hits v && not (next v))) (taken a v) (eq-eqb a a refl))))
       (λ (differs : b ≢ a).
       λ v is.
-      still start mid now half new (7 + action_count start.task + a) _ second (7 + action_count start.task + b) (taken b) (omega arith) (λ e. differs (omega arith)) (first_next.by_near.round.holds_taken b below) v is
+      still start mid now half new (7 + action_count start.task + a) _ second h.by_next.by_near.round.places (7 + action_count start.task + b) (taken b) (omega arith) (λ e. differs (omega arith)) (first_next.by_near.round.holds_taken b below) v is
       ∙ sym (cond-false (b == a) (taken b v || (hits v && not (next v))) (taken b v) (ne_eqb b a differs)))
       (cases_eq b a)
 
@@ -210,6 +211,7 @@ module _ (start : Start) (enc mid now : Encoded) (old half new : List SetId) (a 
       by_near = record {
         round = record {
           at = second.at;
+          places = h.by_next.by_near.round.places;
           sound = second.sound;
           holds_goal = low 0 _ (omega arith) first_next.by_near.round.holds_goal;
           holds_left = low 1 _ (omega arith) first_next.by_near.round.holds_left;
@@ -220,15 +222,15 @@ module _ (start : Start) (enc mid now : Encoded) (old half new : List SetId) (a 
       };
       holds_next = low 4 _ (omega arith) first_next.holds_next;
     };
-    holds_hits = low 5 _ (omega arith) (still start enc mid old half 6 _ first 5 hits (omega arith) (λ e. absurd (omega arith)) h.holds_hits);
+    holds_hits = low 5 _ (omega arith) (still start enc mid old half 6 _ first h.by_next.by_near.round.places 5 hits (omega arith) (λ e. absurd (omega arith)) h.holds_hits);
   }
 
 -- the next states with those that an action leads to the near ones
 pub next_joined : (start : Start) (enc now : Encoded) (old new : List SetId) (left : SetOfVectors) (taken : Takings) (near next hits : SetOfVectors) → HasHits start enc old left taken near next hits
     → Moved start enc.sets old now new 4 (or_of (set_at enc.sets old 4) (set_at enc.sets old 5)) → HasNext start now new left taken near (λ v. next v || hits v)
 next_joined start enc now old new left taken near next hits h m = record {
-  by_near = near_still start enc now old new 4 _ m left taken near h.by_next.by_near (λ e. absurd (omega arith)) (λ e. absurd (omega arith)) (λ e. absurd (omega arith)) (omega arith);
-  holds_next = here start enc now old new 4 _ m _
+  by_near = near_still start enc now old new 4 _ m h.by_next.by_near.round.places left taken near h.by_next.by_near (λ e. absurd (omega arith)) (λ e. absurd (omega arith)) (λ e. absurd (omega arith)) (omega arith);
+  holds_next = here start enc now old new 4 _ m h.by_next.by_near.round.places _
       (λ v is.
       ap (λ x. x || set_at enc.sets old 5 (value_of v)) (h.by_next.holds_next v is)
       ∙ ap (λ x. next v || x) (h.holds_hits v is));
@@ -238,14 +240,14 @@ next_joined start enc now old new left taken near next hits h m = record {
 pub next_copied : (start : Start) (enc now : Encoded) (old new : List SetId) (left : SetOfVectors) (taken : Takings) (near : SetOfVectors) → HasNear start enc old left taken near
     → Moved start enc.sets old now new 4 (set_at enc.sets old 3) → HasNext start now new left taken near near
 next_copied start enc now old new left taken near h m = record {
-  by_near = near_still start enc now old new 4 _ m left taken near h (λ e. absurd (omega arith)) (λ e. absurd (omega arith)) (λ e. absurd (omega arith)) (omega arith);
-  holds_next = here start enc now old new 4 _ m near h.holds_near;
+  by_near = near_still start enc now old new 4 _ m h.round.places left taken near h (λ e. absurd (omega arith)) (λ e. absurd (omega arith)) (λ e. absurd (omega arith)) (omega arith);
+  holds_next = here start enc now old new 4 _ m h.round.places near h.holds_near;
 }
 
 pub near_copied : (start : Start) (enc now : Encoded) (old new : List SetId) (left : SetOfVectors) (taken : Takings) (near close : SetOfVectors) (g : Function) → HasNear start enc old left taken near
     → Moved start enc.sets old now new 3 g → Agrees start g close → HasNear start now new left taken close
 near_copied start enc now old new left taken near close g h m same = record {
-  round = round_still start enc now old new 3 g m left taken h.round (λ e. absurd (omega arith)) (λ e. absurd (omega arith)) (omega arith);
-  holds_pairs = λ k l. still start enc now old new 3 g m (7 + k) _ (omega arith) (λ e. absurd (omega arith)) (h.holds_pairs k l);
-  holds_near = here start enc now old new 3 g m close same;
+  round = round_still start enc now old new 3 g m h.round.places left taken h.round (λ e. absurd (omega arith)) (λ e. absurd (omega arith)) (omega arith);
+  holds_pairs = λ k l. still start enc now old new 3 g m h.round.places (7 + k) _ (omega arith) (λ e. absurd (omega arith)) (h.holds_pairs k l);
+  holds_near = here start enc now old new 3 g m h.round.places close same;
 }

@@ -1,6 +1,6 @@
 -- Private: what the planner's parts answer.
-use Rattle.std.specs.Prelude.{◌≡◌, ℕ, List, map, All, Result, Ok, Err}
-use Rattle.task_core.specs.Cubes.{Cube, cubes_of}
+use Rattle.std.specs.Prelude.{◌≡◌, ℕ, Bool, true, false, List, All, Result, Ok, Err}
+use Rattle.task_core.specs.Cubes.{Cube}
 use Rattle.task_core.specs.Solutions.{HasNoSolution, IsSolution}
 use Rattle.task_core.specs.Tables.{IsTable}
 use Rattle.task_core.specs.Tasks.{action_count, fluent_count, system_of}
@@ -16,19 +16,15 @@ use Rattle.dd_sets.specs.declared.errors.SetErr.{SetErr}
 use Rattle.dd_sets.specs.declared.errors.SetErr.TheVariants.{Full}
 use Rattle.dd_sets.specs.declared.slots.SetId.{SetId}
 use Rattle.encode_task.specs.Slots.{Encoded}
-use Rattle.cyclic_plan.specs.Begun.{At, IsTightAt, Start}
+use Rattle.slot_board.specs.Board.{At, IsTightAt, Start}
 use Rattle.plan_theory.specs.LargestSets.{IsLargestSet}
 use Rattle.plan_theory.specs.Pairs.{Pairs}
 use Rattle.plan_theory.specs.CyclicPlans.{cyclic_rules}
-use Rattle.cyclic_plan.specs.Stages.{Takings}
+use Rattle.cyclic_plan.specs.Takers.{HasTable}
 
 -- the rule that takes an action where a cube matches
 abbrev pub rule_for : ℕ → Cube → PlanRule
 rule_for a cube = record { cube = cube; action = a }
-
--- the rules of an action
-abbrev pub rules_at : ℕ → Takings → ℕ → List PlanRule
-rules_at n taken a = map (rule_for a) (cubes_of n (taken a))
 
 -- a plan for the task, and all that is said of it
 pub record IsPlanOf (task : Task) (plan : TablePlan) : Type 0 where
@@ -44,7 +40,9 @@ abbrev pub IsAnswer : Task → Found → Type 0
 IsAnswer task (Plan plan) = IsPlanOf task plan
 IsAnswer task NoPlan = HasNoSolution Cyclic (system_of task)
 
--- what a search leaves
-abbrev pub Ends : Start → Encoded → List SetId → Result Found SetErr → Type 0
-Ends start now slots (Ok found) = At start now slots × IsAnswer start.task found
+-- what a search leaves: the printed table on its board, or that no table is a solution
+abbrev pub Ends : Start → Encoded → List SetId → Result Bool SetErr → Type 0
+Ends start now slots (Ok true) = HasTable start now slots
+Ends start now slots (Ok false) =
+    At start now slots × HasNoSolution Cyclic (system_of start.task)
 Ends start now slots (Err e) = At start now slots × (e ≡ Full → IsTightAt start)

@@ -1,3 +1,3 @@
-pub mod Begun
 pub mod Stages
+pub mod Takers
 pub mod Answers

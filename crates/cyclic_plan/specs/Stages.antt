@@ -17,8 +17,7 @@ use Rattle.task_core.specs.Vectors.{Vector, value_of}
 use Rattle.task_core.specs.declared.classes.Class.TheVariants.{Weak}
 use Rattle.plan_theory.specs.Layers.{layer, may_lead}
 use Rattle.plan_theory.specs.LayerPlans.{takers}
-use Rattle.slot_board.specs.Board.{set_at}
-use Rattle.cyclic_plan.specs.Begun.{At, Start}
+use Rattle.slot_board.specs.Board.{AllNothing, At, Start, set_at}
 use Rattle.plan_theory.specs.Pairs.{is_goal, restricted}
 use Rattle.plan_theory.specs.PairRounds.{IsLastRound, kept, round}
 
@@ -37,10 +36,21 @@ none_taken a v = false
 abbrev pub kept_system : Start → SetOfVectors → System
 kept_system start left = let sys = system_of start.task in restricted sys (kept sys left)
 
+-- how many places there are for so many actions
+abbrev pub place_count : ℕ → ℕ
+place_count actions = 7 + actions + actions
+
+-- there is a slot at each place, and no set yet
+pub record HasNothing (start : Start) (now : Encoded) (slots : List SetId) : Type 0 where
+  pub at : At start now slots
+  pub places : start.places ≡ place_count (action_count start.task)
+  pub holds_nothing : AllNothing now.sets slots
+
 -- the states that are left stand at their place
 pub record HasRound (start : Start) (now : Encoded) (slots : List SetId) (left : SetOfVectors)
     (taken : Takings) : Type 0 where
   pub at : At start now slots
+  pub places : start.places ≡ place_count (action_count start.task)
   pub sound : IsSets now.sets
   pub holds_goal : Agrees start (set_at now.sets slots 0) (is_goal (system_of start.task))
   pub holds_left : Agrees start (set_at now.sets slots 1) left

@@ -1,12 +1,12 @@
 //! The strong cyclic planner.
 
 ghost use Rattle.std.specs.Prelude.{◌≡◌, ℕ, ◌+◌, ◌*◌, ◌<◌, ◌++◌, ◌^◌, [], map, length, Some, All};
-ghost use Rattle.std.specs.Prelude.{IsSome, IfOk, OnOk, IsErrOf};
-ghost use Rattle.std.specs.List.{flat_map, list_all, range_with_len};
+ghost use Rattle.std.specs.Prelude.{IsSome, IfErr, IfNone, IfOk, IfSome, OnErr, OnOk, IsErrOf};
+ghost use Rattle.std.specs.List.{list_all};
 ghost use Rattle.dd_sets.specs.Frames.{Owns};
 ghost use Rattle.dd_sets.specs.Rooms.{IsTightFor};
 ghost use Rattle.encode_task.specs.Made.{MadeOf};
-ghost use Rattle.task_core.specs.Cubes.{Cube, SetOfVectors, cubes_of};
+ghost use Rattle.task_core.specs.Cubes.{Cube, SetOfVectors};
 ghost use Rattle.task_core.specs.Solutions.{HasNoSolution, IsSolution};
 ghost use Rattle.task_core.specs.Tables.{IsTable};
 ghost use Rattle.task_core.specs.Tasks.{action_count, fluent_count, system_of};
@@ -16,14 +16,15 @@ ghost use Rattle.plan_rules.specs.Denoted.{denoted, IsExecutable};
 ghost use Rattle.plan_rules.specs.Plans.{IsRuleOf};
 ghost use Rattle.plan_rules.specs.Rules.{rule_of, rules_of};
 ghost use Rattle.plan_theory.specs.Found.{IfNoPlan, IfPlan};
-ghost use Rattle.cyclic_plan.specs.Answers.{Ends, rule_for, rules_at};
-ghost use Rattle.slot_board.specs.Board.{Working};
-ghost use Rattle.cyclic_plan.specs.Begun.{place_count, At, HasNothing, IsTightAt, Left, Start};
+ghost use Rattle.cyclic_plan.specs.Answers.{Ends, IsAnswer, IsPlanOf, rule_for};
+ghost use Rattle.slot_board.specs.Board.{Left, Start};
+ghost use Rattle.cyclic_plan.specs.Stages.{place_count, HasNothing};
 ghost use Rattle.plan_theory.specs.LargestSets.{IsLargestSet};
 ghost use Rattle.plan_theory.specs.Pairs.{Pairs};
 ghost use Rattle.plan_theory.specs.CyclicPlans.{cyclic_rules};
 ghost use Rattle.plan_theory.specs.PairRounds.{round as round_of};
 ghost use Rattle.cyclic_plan.specs.Stages.{HasNear, HasRound, Takings, none_taken};
+ghost use Rattle.cyclic_plan.specs.Takers.{HasTable, start_of};
 
 use crate::rounds::{GOAL, LEFT, NEW, last_round, spread, takers_of};
 use dd_sets::{SetErr, SetId};
@@ -75,14 +76,11 @@ fn covers_initial(enc: &mut Enc, board: &mut Board) -> Result<bool, SetErr>
 
 /// The rules of the states that take each action, the actions in rising number.
 fn rules(alloc: Global, enc: &Enc, board: &Board, actions: u32) -> Result<Vec<Rule>, AllocError>
-    requires ready { (start : Start) × (left : SetOfVectors) × (taken : Takings)
-        × (near : SetOfVectors) × HasNear start enc.now board.now.slots.items left taken near }
+    requires ready { (start : Start) × HasTable start enc.now board.now.slots.items }
     requires actions { actions ≡ length enc.now.actions }
-    ensures { (start : Start) (left : SetOfVectors) (taken : Takings) (near : SetOfVectors)
-        → HasNear start enc.now board.now.slots.items left taken near
+    ensures { (start : Start) (table : HasTable start enc.now board.now.slots.items)
         → IfOk result (λ rules. map rule_of rules.items
-        ≡ flat_map (rules_at (fluent_count start.task) taken)
-        (range_with_len 0 (action_count start.task))) }
+        ≡ cyclic_rules (system_of start.task) table.pairs) }
 {
     let mut rules = Vec::new(alloc);
     for a in 0..actions {
@@ -107,14 +105,8 @@ fn add_rules(
     Ok(())
 }
 
-/// Searches with the slots of a board, which stay.
-fn search(
-    alloc: Global,
-    enc: &mut Enc,
-    board: &mut Board,
-    goal: SetId,
-    actions: u32,
-) -> Result<Found, SetErr>
+/// Searches with the slots of a board, which stay: whether there is a plan.
+fn search(enc: &mut Enc, board: &mut Board, goal: SetId, actions: u32) -> Result<bool, SetErr>
     requires ready { (start : Start) × HasNothing start enc.old board.old.slots.items }
     requires goal { enc.old.goal ≡ Some goal }
     requires actions { actions ≡ length enc.old.actions }
@@ -124,20 +116,15 @@ fn search(
     begin(enc, board, goal)?;
     last_round(enc, board, actions)?;
     if !covers_initial(enc, board)? {
-        return Ok(Found::NoPlan);
+        return Ok(false);
     }
     spread(enc, board, actions, true)?;
-    match rules(alloc, enc, board, actions) {
-        Ok(rules) => Ok(Found::Plan(TablePlan {
-            class: Class::Cyclic,
-            rules,
-        })),
-        Err(_) => Err(SetErr::Memory),
-    }
+    Ok(true)
 }
 
-/// A strong cyclic plan, or that there is none: no state-action table, not even one with several
-/// actions for a state, is a strong cyclic solution.
+/// The strong cyclic plan in sets of states: for each action the states that take it, in slots at
+/// places of a board, which the caller closes. Or that there is none: no state-action table, not
+/// even one with several actions for a state, is a strong cyclic solution.
 ///
 /// It makes rounds on sets of states. Each keeps the state-action pairs outside the goal that don't
 /// lead out of the states that are left, and then the states from which these pairs reach the goal,
@@ -146,6 +133,90 @@ fn search(
 /// pairs that makes a step towards the goal. The time grows with the rounds, their steps and the
 /// actions, and not with the number of states.
 ///
+/// `takers_of` tells the place of an action's states. `Full` comes only where the table's limit is
+/// tight for three slots an action and 32 more. Where no board is answered, all slots of the search
+/// are ended.
+pub fn cyclic_takers(alloc: Global, task: &Task, enc: &mut Enc) -> Result<Option<Board>, SetErr>
+    requires made { MadeOf task.now enc.old }
+    requires goal { IsSome task.now.goal }
+    ensures table { (made : MadeOf task.now enc.old) → IfOk result (λ found. IfSome found
+        (λ board. HasTable (start_of task.now enc.old made) enc.new board.slots.items)) }
+    ensures no_plan { IfOk result
+        (λ found. IfNone found (HasNoSolution Cyclic (system_of task.now))) }
+    ensures full { IsErrOf result SetErr.Full
+        → IsTightFor (3 * action_count task.now + 32) enc.old.sets }
+    ensures closed { IfOk result (λ found. IfNone found (Owns enc.old.sets enc.new.sets [])) }
+    ensures refused { OnErr result (Owns enc.old.sets enc.new.sets []) }
+    ensures same_slots { enc.new ≡ record enc.old { sets = enc.new.sets } }
+{
+    let goal = enc.goal().unwrap();
+    let actions = task.actions.len() as u32;
+    let mut board = Board::new(alloc, enc, places(actions))?;
+    match search(enc, &mut board, goal, actions) {
+        Ok(true) => Ok(Some(board)),
+        Ok(false) => {
+            board.close(enc);
+            Ok(None)
+        }
+        Err(refusal) => {
+            board.close(enc);
+            Err(refusal)
+        }
+    }
+}
+
+/// The plan that a board has in sets of states; its slots are ended.
+fn close_as_plan(
+    alloc: Global,
+    enc: &mut Enc,
+    board: Board,
+    actions: u32,
+) -> Result<TablePlan, SetErr>
+    requires ready { (start : Start) × HasTable start enc.old board.slots.items }
+    requires actions { actions ≡ length enc.old.actions }
+    ensures plan { (start : Start) → HasTable start enc.old board.slots.items
+        → IfOk result (IsPlanOf start.task) }
+    ensures slots { (start : Start) → HasTable start enc.old board.slots.items
+        → Owns start.enc.sets enc.new.sets [] }
+    ensures same_slots { enc.new ≡ record enc.old { sets = enc.new.sets } }
+    ensures never_full { IfErr result (λ e. e ≡ SetErr.Memory) }
+{
+    let mut board = board;
+    let rules = rules(alloc, enc, &board, actions);
+    board.close(enc);
+    match rules {
+        Ok(rules) => Ok(TablePlan {
+            class: Class::Cyclic,
+            rules,
+        }),
+        Err(_) => Err(SetErr::Memory),
+    }
+}
+
+/// The plan in sets of states, and then its cubes.
+fn find_plan(alloc: Global, task: &Task, enc: &mut Enc) -> Result<Found, SetErr>
+    requires made { MadeOf task.now enc.old }
+    requires goal { IsSome task.now.goal }
+    ensures answer { IfOk result (IsAnswer task.now) }
+    ensures full { IsErrOf result SetErr.Full
+        → IsTightFor (3 * action_count task.now + 32) enc.old.sets }
+    ensures slots { Owns enc.old.sets enc.new.sets [] }
+    ensures same_slots { enc.new ≡ record enc.old { sets = enc.new.sets } }
+{
+    let actions = task.actions.len() as u32;
+    match cyclic_takers(alloc, task, enc)? {
+        Some(board) => {
+            let plan = close_as_plan(alloc, enc, board, actions)?;
+            Ok(Found::Plan(plan))
+        }
+        None => Ok(Found::NoPlan),
+    }
+}
+
+/// A strong cyclic plan, or that there is none: no state-action table, not even one with several
+/// actions for a state, is a strong cyclic solution.
+///
+/// Its rules are the cubes of the sets that `cyclic_takers` finds, the actions in rising number.
 /// `Full` comes only where the table's limit is tight for three slots an action and 32 more. All
 /// slots of the search are ended on every exit.
 pub fn plan_cyclic(alloc: Global, task: &Task, enc: &mut Enc) -> Result<Found, SetErr>
@@ -173,10 +244,5 @@ pub fn plan_cyclic(alloc: Global, task: &Task, enc: &mut Enc) -> Result<Found, S
     ensures same_slots { enc.new ≡ record enc.old { sets = enc.new.sets } }
     ensures made { (task : TaskOf) → MadeOf task enc.old → MadeOf task enc.new }
 {
-    let goal = enc.goal().unwrap();
-    let actions = task.actions.len() as u32;
-    let mut board = Board::new(alloc, enc, places(actions))?;
-    let found = search(alloc, enc, &mut board, goal, actions);
-    board.close(enc);
-    found
+    find_plan(alloc, task, enc)
 }

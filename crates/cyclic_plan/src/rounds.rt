@@ -6,12 +6,13 @@ ghost use Rattle.task_core.specs.Cubes.{SetOfVectors};
 ghost use Rattle.task_core.specs.Tasks.{system_of, action_count, fluent_count};
 ghost use Rattle.plan_theory.specs.Layers.{may_lead};
 ghost use Rattle.slot_board.specs.Board.{IsWorking};
-ghost use Rattle.cyclic_plan.specs.Begun.{At, Left, Start};
+ghost use Rattle.slot_board.specs.Board.{At, Left, Start};
 ghost use Rattle.plan_theory.specs.PairRounds.{IsLastRound, connected, kept, round as round_of};
 ghost use Rattle.cyclic_plan.specs.Stages.{HasHits, HasLastRound, HasNear, HasNext, HasPairs};
 ghost use Rattle.cyclic_plan.specs.Stages.{HasRound, HasStep, Takings, kept_system, next_by};
 ghost use Rattle.cyclic_plan.specs.Stages.{none_taken, taken_also, taken_by, taken_if};
 ghost use Rattle.cyclic_plan.specs.Stages.{takers_within};
+ghost use Rattle.cyclic_plan.specs.Takers.{takers_place};
 
 use dd_sets::SetErr;
 use encode_task::Enc;
@@ -41,8 +42,8 @@ fn pairs_of(a: ActionId) -> usize
 }
 
 /// The place of the states that take an action, of so many.
-pub(crate) fn takers_of(actions: u32, a: ActionId) -> usize
-    ensures { result ≡ 7 + actions + a.0 }
+pub fn takers_of(actions: u32, a: ActionId) -> usize
+    ensures { result ≡ takers_place actions a.0 }
 {
     7 + actions as usize + a.0 as usize
 }

@@ -1,6 +1,6 @@
 use Rattle.plan_theory.proofs.NoChain.{none_without_cover}
 use Rattle.plan_theory.specs.Wins.{covers_chain}
-use Rattle.chain_plan.proofs.PlanSteps.{blank, covered_is, ends_refused, stage_count, plan_is}
+use Rattle.chain_plan.proofs.PlanSteps.{blank, covered_is, ends_refused, stage_count, table_is}
 use Rattle.chain_plan.proofs.RuleSteps.{has_still}
 use Rattle.chain_plan.proofs.SceneSteps.{same_length, long_enough}
 use Rattle.chain_plan.proofs.TakenSteps.{takers_none}
@@ -61,8 +61,8 @@ returns-then-not-branch c start n h =
     ∙ covered_is start (c.win_all.new.enc, c.win_all.new.board.slots.items) (chain_sets c.args.chain.now) w.won) in
     (v.ready.at, none_without_cover (sys_of start) (chain_sets c.args.chain.now) (is_system start.task) (sym e ∙ (let f = c.if-not-branch.true in cc)))
 
-pub write-requires-clause-ready : goal.write-requires-clause-ready
-write-requires-clause-ready c =
+pub take_all-requires-clause-ready : goal.take_all-requires-clause-ready
+take_all-requires-clause-ready c =
     let start = c.requires.ready.0 in
     let n = c.requires.ready.1 in
     let h = c.requires.ready.2 in
@@ -73,8 +73,8 @@ write-requires-clause-ready c =
     let m : start.stages ≡ c.len.result = n ∙ sym l in
     (start, (chain_sets c.args.chain.now), m, (long ∙ m), (has_still start (c.win_all.new.enc, c.win_all.new.board.slots.items) (c.covers_initial.new.enc, c.covers_initial.new.board.slots.items) (chain_sets c.args.chain.now) 0 (takers_none start (c.args.enc.now, c.args.board.now.slots.items) (c.win_all.new.enc, c.win_all.new.board.slots.items) (chain_sets c.args.chain.now) (blank start (c.args.enc.now, c.args.board.now.slots.items) h) (same_length start (c.args.enc.now, c.args.board.now.slots.items) (c.win_all.new.enc, c.win_all.new.board.slots.items) h.at w.changed.ready.at) w) v))
 
-pub write-requires-clause-actions : goal.write-requires-clause-actions
-write-requires-clause-actions c =
+pub take_all-requires-clause-actions : goal.take_all-requires-clause-actions
+take_all-requires-clause-actions c =
     let start = c.requires.ready.0 in
     let n = c.requires.ready.1 in
     let h = c.requires.ready.2 in
@@ -83,15 +83,15 @@ write-requires-clause-actions c =
     let e : length c.covers_initial.new.enc.actions ≡ length c.args.enc.now.actions = same_actions (board_of start) c.args.enc.now c.covers_initial.new.enc c.args.board.now.slots.items c.covers_initial.new.board.slots.items h.at v.ready.at in
     omega (arith, c.requires.actions)
 
-pub returns-in_err-plan : goal.returns-in_err-plan
-returns-in_err-plan c start n h =
-    let p = err_from_is_err_and c.from_residual-in_err-plan.result c.from_residual-in_err-plan.ensures.1 in
+pub returns-in_err-take_all : goal.returns-in_err-take_all
+returns-in_err-take_all c start n h =
+    let p = err_from_is_err_and c.from_residual-in_err-take_all.result c.from_residual-in_err-take_all.ensures.1 in
     let w = went (board_of start) c.win_all.new.enc c.win_all.new.board.slots.items _ c.win_all.result _ c.in_ok-win_all.was (c.win_all.ensures start h.at n) in
     let v = went (board_of start) c.covers_initial.new.enc c.covers_initial.new.board.slots.items _ c.covers_initial.result _ c.in_ok-covers_initial.was (c.covers_initial.ensures.left start w.changed.ready) in
     let long = (stage_count c.args.chain.now start.stages n) in
     let l : c.len.result ≡ length c.args.chain.now.stages.items = omega (arith, c.len.ensures) in
     let m : start.stages ≡ c.len.result = n ∙ sym l in
-    ends_refused start (c.write.new.enc, c.write.new.board.slots.items) (chain_sets c.args.chain.now) _ c.write.result c.from_residual-in_err-plan.result _ c.in_err-plan.was p (c.write.ensures.left start (chain_sets c.args.chain.now) m (long ∙ m) (has_still start (c.win_all.new.enc, c.win_all.new.board.slots.items) (c.covers_initial.new.enc, c.covers_initial.new.board.slots.items) (chain_sets c.args.chain.now) 0 (takers_none start (c.args.enc.now, c.args.board.now.slots.items) (c.win_all.new.enc, c.win_all.new.board.slots.items) (chain_sets c.args.chain.now) (blank start (c.args.enc.now, c.args.board.now.slots.items) h) (same_length start (c.args.enc.now, c.args.board.now.slots.items) (c.win_all.new.enc, c.win_all.new.board.slots.items) h.at w.changed.ready.at) w) v))
+    ends_refused start (c.take_all.new.enc, c.take_all.new.board.slots.items) (chain_sets c.args.chain.now) _ c.take_all.result c.from_residual-in_err-take_all.result _ c.in_err-take_all.was p (c.take_all.ensures start (chain_sets c.args.chain.now) m (long ∙ m) (has_still start (c.win_all.new.enc, c.win_all.new.board.slots.items) (c.covers_initial.new.enc, c.covers_initial.new.board.slots.items) (chain_sets c.args.chain.now) 0 (takers_none start (c.args.enc.now, c.args.board.now.slots.items) (c.win_all.new.enc, c.win_all.new.board.slots.items) (chain_sets c.args.chain.now) (blank start (c.args.enc.now, c.args.board.now.slots.items) h) (same_length start (c.args.enc.now, c.args.board.now.slots.items) (c.win_all.new.enc, c.win_all.new.board.slots.items) h.at w.changed.ready.at) w) v))
 
 pub returns : goal.returns
 returns c start n h =
@@ -104,5 +104,5 @@ returns c start n h =
     let l : c.len.result ≡ length c.args.chain.now.stages.items = omega (arith, c.len.ensures) in
     let m : start.stages ≡ c.len.result = n ∙ sym l in
     let all : covers_chain (sys_of start) (chain_sets c.args.chain.now) ≡ true = sym e ∙ (let f = c.if-not-branch.false in cc) in
-    let at = went (board_of start) c.write.new.enc c.write.new.board.slots.items _ c.write.result _ c.in_ok-plan.was (c.write.ensures.left start (chain_sets c.args.chain.now) m (long ∙ m) (has_still start (c.win_all.new.enc, c.win_all.new.board.slots.items) (c.covers_initial.new.enc, c.covers_initial.new.board.slots.items) (chain_sets c.args.chain.now) 0 (takers_none start (c.args.enc.now, c.args.board.now.slots.items) (c.win_all.new.enc, c.win_all.new.board.slots.items) (chain_sets c.args.chain.now) (blank start (c.args.enc.now, c.args.board.now.slots.items) h) (same_length start (c.args.enc.now, c.args.board.now.slots.items) (c.win_all.new.enc, c.win_all.new.board.slots.items) h.at w.changed.ready.at) w) v)) in
-    (at, plan_is start.task (chain_sets c.args.chain.now) c.in_ok-plan.plan (let few = c.requires.chain.few in omega (arith, long, n)) all (c.in_ok-plan.ensures.contexts ∙ ap suc (sym m ∙ sym long)) (c.in_ok-plan.ensures.printed start (chain_sets c.args.chain.now) m (long ∙ m) (has_still start (c.win_all.new.enc, c.win_all.new.board.slots.items) (c.covers_initial.new.enc, c.covers_initial.new.board.slots.items) (chain_sets c.args.chain.now) 0 (takers_none start (c.args.enc.now, c.args.board.now.slots.items) (c.win_all.new.enc, c.win_all.new.board.slots.items) (chain_sets c.args.chain.now) (blank start (c.args.enc.now, c.args.board.now.slots.items) h) (same_length start (c.args.enc.now, c.args.board.now.slots.items) (c.win_all.new.enc, c.win_all.new.board.slots.items) h.at w.changed.ready.at) w) v)))
+    let t = went (board_of start) c.take_all.new.enc c.take_all.new.board.slots.items _ c.take_all.result _ c.in_ok-take_all.was (c.take_all.ensures start (chain_sets c.args.chain.now) m (long ∙ m) (has_still start (c.win_all.new.enc, c.win_all.new.board.slots.items) (c.covers_initial.new.enc, c.covers_initial.new.board.slots.items) (chain_sets c.args.chain.now) 0 (takers_none start (c.args.enc.now, c.args.board.now.slots.items) (c.win_all.new.enc, c.win_all.new.board.slots.items) (chain_sets c.args.chain.now) (blank start (c.args.enc.now, c.args.board.now.slots.items) h) (same_length start (c.args.enc.now, c.args.board.now.slots.items) (c.win_all.new.enc, c.win_all.new.board.slots.items) h.at w.changed.ready.at) w) v)) in
+    table_is start (c.take_all.new.enc, c.take_all.new.board.slots.items) (chain_sets c.args.chain.now) c.len.result long m t all

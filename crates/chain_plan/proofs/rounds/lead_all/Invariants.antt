@@ -3,4 +3,4 @@ use Rattle.chain_plan.specs.Steps.{Leads}
 use Rattle.chain_plan.proofs.rounds.lead_all.Given as goal
 
 abbrev pub invariant-loop-a : goal.invariant-loop-a
-invariant-loop-a l = (start : Start) → IsReady start (l.fn.enc, l.fn.board.slots.items) → Leads start (l.fn.enc, l.fn.board.slots.items) (l.enc, l.board.slots.items) l.a
+invariant-loop-a l = (start : Start) → IsReady start (l.fn.enc, l.fn.board.slots.items) → Leads l.fn.way start (l.fn.enc, l.fn.board.slots.items) (l.enc, l.board.slots.items) l.a

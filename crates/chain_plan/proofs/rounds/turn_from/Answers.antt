@@ -37,24 +37,9 @@ lead_all-requires-clause-actions c =
     let m = went (board_of start) c.copy_of.new.enc c.copy_of.new.self.slots.items _ c.copy_of.result _ c.in_ok-copy_of.was (c.copy_of.ensures (board_of start) ready.at) in
     let e : length c.copy_of.new.enc.actions ≡ length c.args.enc.now.actions = same_actions (board_of start) c.args.enc.now c.copy_of.new.enc c.args.board.now.slots.items c.copy_of.new.self.slots.items ready.at m.at in omega (arith, c.requires.actions)
 
-pub returns-in_err-lead_all : goal.returns-in_err-lead_all
-returns-in_err-lead_all c start ready =
-    let p = err_from_is_err_and c.from_residual-in_err-lead_all.result c.from_residual-in_err-lead_all.ensures.1 in
-    let m = went (board_of start) c.copy_of.new.enc c.copy_of.new.self.slots.items _ c.copy_of.result _ c.in_ok-copy_of.was (c.copy_of.ensures (board_of start) ready.at) in
-    passed (board_of start) c.lead_all.new.enc c.lead_all.new.board.slots.items _ _ c.lead_all.result c.from_residual-in_err-lead_all.result _ c.in_err-lead_all.was p (c.lead_all.ensures start (moved_ready start (c.args.enc.now, c.args.board.now.slots.items) (c.copy_of.new.enc, c.copy_of.new.self.slots.items) 0 _ m))
-
-pub put_together-requires : goal.put_together-requires
-put_together-requires c =
-    let start = c.requires.ready.0 in
-    let ready = c.requires.ready.1 in
-    let m = went (board_of start) c.copy_of.new.enc c.copy_of.new.self.slots.items _ c.copy_of.result _ c.in_ok-copy_of.was (c.copy_of.ensures (board_of start) ready.at) in
-    let h = went (board_of start) c.lead_all.new.enc c.lead_all.new.board.slots.items _ c.lead_all.result _ c.in_ok-lead_all.was (c.lead_all.ensures start (moved_ready start (c.args.enc.now, c.args.board.now.slots.items) (c.copy_of.new.enc, c.copy_of.new.self.slots.items) 0 _ m)) in
-    record { ready = (start, (c.copy_of.new.enc, c.copy_of.new.self.slots.items), h) }
-
 pub returns : goal.returns
 returns c start ready =
     let m = went (board_of start) c.copy_of.new.enc c.copy_of.new.self.slots.items _ c.copy_of.result _ c.in_ok-copy_of.was (c.copy_of.ensures (board_of start) ready.at) in
-    let h = went (board_of start) c.lead_all.new.enc c.lead_all.new.board.slots.items _ c.lead_all.result _ c.in_ok-lead_all.was (c.lead_all.ensures start (moved_ready start (c.args.enc.now, c.args.board.now.slots.items) (c.copy_of.new.enc, c.copy_of.new.self.slots.items) 0 _ m)) in
-    left_with (board_of start) c.put_together.new.enc c.put_together.new.board.slots.items _ _ c.put_together.result
-    (λ t. turned_from c.args.way start (c.args.enc.now, c.args.board.now.slots.items) (c.copy_of.new.enc, c.copy_of.new.self.slots.items) (c.put_together.new.enc, c.put_together.new.board.slots.items) c.args.place m t)
-    (c.put_together.ensures start (c.copy_of.new.enc, c.copy_of.new.self.slots.items) h)
+    left_with (board_of start) c.lead_all.new.enc c.lead_all.new.board.slots.items _ _ c.lead_all.result
+    (λ t. turned_from c.args.way start (c.args.enc.now, c.args.board.now.slots.items) (c.copy_of.new.enc, c.copy_of.new.self.slots.items) (c.lead_all.new.enc, c.lead_all.new.board.slots.items) c.args.place m t)
+    (c.lead_all.ensures start (moved_ready start (c.args.enc.now, c.args.board.now.slots.items) (c.copy_of.new.enc, c.copy_of.new.self.slots.items) 0 _ m))

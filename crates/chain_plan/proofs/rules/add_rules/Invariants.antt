@@ -1,6 +1,6 @@
 use Rattle.std.proofs.Common.{◌≡◌, ◌++◌, map}
 use Rattle.plan_rules.specs.Rules.{context_rule_of}
-use Rattle.chain_plan.specs.Steps.{rule_for}
+use Rattle.chain_plan.specs.Listing.{rule_for}
 use Rattle.chain_plan.proofs.rules.add_rules.Given as goal
 
 abbrev pub invariant-loop-cube : goal.invariant-loop-cube

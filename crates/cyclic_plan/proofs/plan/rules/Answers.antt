@@ -1,31 +1,32 @@
-use Rattle.std.proofs.Common.{◌≡◌, ◌+◌, ◌∙◌, arith, length, map, ap}
+use Rattle.std.proofs.Common.{◌≡◌, ◌+◌, ◌∙◌, ◌^◌, arith, length, map, ap}
 use Rattle.std.specs.List.{flat_map, range_with_len}
-use Rattle.task_core.specs.Tasks.{action_count, fluent_count}
+use Rattle.task_core.specs.Tasks.{action_count, fluent_count, system_of}
+use Rattle.task_core.specs.declared.classes.Class.TheVariants.{Weak}
 use Rattle.plan_rules.specs.Rules.{rule_of}
-use Rattle.cyclic_plan.specs.Answers.{rules_at}
-use Rattle.cyclic_plan.specs.Begun.{board_of}
+use Rattle.plan_theory.specs.LayerPlans.{rules_of_action}
+use Rattle.plan_theory.specs.Pairs.{restricted}
 use Rattle.slot_board.proofs.BoardSlots.{made_at}
 use Rattle.cyclic_plan.proofs.PlanMade.{rules_more}
 use Rattle.cyclic_plan.proofs.plan.rules.Goals as goal
 
 pub cubes-requires-clause-working : goal.cubes-requires-clause-working
-cubes-requires-clause-working c = (board_of c.requires.ready.0, c.requires.ready.4.round.at)
+cubes-requires-clause-working c = (c.requires.ready.0, c.requires.ready.1.at)
 
 pub cubes-requires-clause-place : goal.cubes-requires-clause-place
 cubes-requires-clause-place c =
     let r = c.requires.ready in
-    let long : length c.args.board.now.slots.items ≡ 7 + action_count r.0.task + action_count r.0.task = r.4.round.at.long in
-    let actions : length c.args.enc.now.actions ≡ action_count r.0.task = (made_at (board_of r.0) c.args.enc.now c.args.board.now.slots.items r.4.round.at).actions in
+    let long : length c.args.board.now.slots.items ≡ 7 + action_count r.0.task + action_count r.0.task = r.1.at.long ∙ r.1.places in
+    let actions : length c.args.enc.now.actions ≡ action_count r.0.task = (made_at r.0 c.args.enc.now c.args.board.now.slots.items r.1.at).actions in
     omega (arith, c.takers_of.ensures, c.requires.actions)
 
 pub loop-a-preserved : goal.loop-a-preserved
-loop-a-preserved c start left taken near ready =
-    let actions : length c.args.enc.now.actions ≡ action_count start.task = (made_at (board_of start) c.args.enc.now c.args.board.now.slots.items ready.round.at).actions in
-    rules_more start c.args.enc.now c.args.board.now.slots.items left taken near c.loop-a.a c.takers_of.result (map rule_of c.loop-a.rules.items) (map rule_of c.add_rules.new.rules.items) (map (λ cube. cube.items) c.in_ok-cubes.cubes.items) ready
-    (omega (arith, c.requires.actions)) (omega (arith, c.takers_of.ensures, c.requires.actions)) (c.loop-a.invariant start left taken near ready) c.in_ok-cubes.ensures c.in_ok-add_rules.ensures
+loop-a-preserved c start table =
+    let actions : length c.args.enc.now.actions ≡ action_count start.task = (made_at start c.args.enc.now c.args.board.now.slots.items table.at).actions in
+    rules_more start c.args.enc.now c.args.board.now.slots.items table c.loop-a.a c.takers_of.result (map rule_of c.loop-a.rules.items) (map rule_of c.add_rules.new.rules.items) (map (λ cube. cube.items) c.in_ok-cubes.cubes.items)
+    (omega (arith, c.requires.actions)) (omega (arith, c.takers_of.ensures, c.requires.actions)) (c.loop-a.invariant start table) c.in_ok-cubes.ensures c.in_ok-add_rules.ensures
 
 pub returns : goal.returns
-returns c start left taken near ready =
-    let actions : length c.args.enc.now.actions ≡ action_count start.task = (made_at (board_of start) c.args.enc.now c.args.board.now.slots.items ready.round.at).actions in
+returns c start table =
+    let actions : length c.args.enc.now.actions ≡ action_count start.task = (made_at start c.args.enc.now c.args.board.now.slots.items table.at).actions in
     let e : c.loop-a.a ≡ action_count start.task = omega (arith, c.requires.actions) in
-    c.loop-a.invariant start left taken near ready ∙ ap (λ n. flat_map (rules_at (fluent_count start.task) taken) (range_with_len 0 n)) e
+    c.loop-a.invariant start table ∙ ap (λ n. flat_map (rules_of_action Weak (restricted (system_of start.task) table.pairs) (2 ^ fluent_count start.task)) (range_with_len 0 n)) e

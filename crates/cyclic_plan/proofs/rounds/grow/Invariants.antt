@@ -1,5 +1,5 @@
 use Rattle.task_core.specs.Cubes.{SetOfVectors}
-use Rattle.cyclic_plan.specs.Begun.{Start}
+use Rattle.slot_board.specs.Board.{Start}
 use Rattle.cyclic_plan.specs.Stages.{HasNear, HasNext, Takings, kept_system, next_by, taken_by}
 use Rattle.cyclic_plan.proofs.rounds.grow.Given as goal
 

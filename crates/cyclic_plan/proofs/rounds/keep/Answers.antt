@@ -1,9 +1,9 @@
 use Rattle.task_core.specs.Tasks.{action_count}
 use Rattle.std.proofs.lemmas.Result.{err_from_is_err_and}
-use Rattle.std.proofs.Common.{ℕ, subst, ◌≡◌, ◌+◌, arith, length}
+use Rattle.std.proofs.Common.{ℕ, subst, ◌≡◌, ◌+◌, arith, length, ◌∙◌}
 use Rattle.dd_ops.specs.Operations.{and_of}
 use Rattle.slot_board.specs.Board.{led as leads, set_at}
-use Rattle.cyclic_plan.specs.Begun.{board_of, Moved}
+use Rattle.slot_board.specs.Board.{Moved}
 use Rattle.slot_board.specs.declared.board.Outcomes.TheVariants as Outcomes
 use Rattle.slot_board.proofs.BoardSlots.{action_within, left_with, went, passed, made_at}
 use Rattle.cyclic_plan.proofs.StageSteps.{pairs_more}
@@ -12,49 +12,49 @@ use Rattle.cyclic_plan.proofs.rounds.keep.Goals as goal
 pub combine-requires-clause-working : goal.combine-requires-clause-working
 combine-requires-clause-working c =
     let start = c.requires.ready.0 in
-    (board_of start, (went (board_of start) c.lead.new.enc c.lead.new.self.slots.items _ c.lead.result _ c.in_ok-lead.was (c.lead.ensures (board_of start) c.requires.ready.3.round.at)).at)
+    (start, (went start c.lead.new.enc c.lead.new.self.slots.items _ c.lead.result _ c.in_ok-lead.was (c.lead.ensures start c.requires.ready.3.round.at)).at)
 
 pub returns : goal.returns
 returns c start left taken ready =
     let old = c.args.board.now.slots.items in
     let a = c.args.a.0 in
     let at = ready.round.at in
-    let led = went (board_of start) c.lead.new.enc c.lead.new.self.slots.items _ c.lead.result _ c.in_ok-lead.was (c.lead.ensures (board_of start) at) in
-    left_with (board_of start) c.combine.new.enc c.combine.new.self.slots.items _ _ c.combine.result
+    let led = went start c.lead.new.enc c.lead.new.self.slots.items _ c.lead.result _ c.in_ok-lead.was (c.lead.ensures start at) in
+    left_with start c.combine.new.enc c.combine.new.self.slots.items _ _ c.combine.result
     (λ met.
-    pairs_more start c.args.enc.now c.lead.new.enc c.combine.new.enc old c.lead.new.self.slots.items c.combine.new.self.slots.items a left taken (action_within (board_of start) c.args.enc.now old a at c.requires.action) ready
+    pairs_more start c.args.enc.now c.lead.new.enc c.combine.new.enc old c.lead.new.self.slots.items c.combine.new.self.slots.items a left taken (action_within start c.args.enc.now old a at c.requires.action) ready
     (subst (λ (p : ℕ). Moved start c.args.enc.now.sets old c.lead.new.enc c.lead.new.self.slots.items p (leads Outcomes.Every start.task a (set_at c.args.enc.now.sets old 1))) c.pairs_of-pairs.ensures led)
     (subst (λ (p : ℕ). Moved start c.lead.new.enc.sets c.lead.new.self.slots.items c.combine.new.enc c.combine.new.self.slots.items p (and_of (set_at c.lead.new.enc.sets c.lead.new.self.slots.items p) (set_at c.lead.new.enc.sets c.lead.new.self.slots.items 2))) c.pairs_of-pairs.ensures met))
-    (c.combine.ensures (board_of start) led.at)
+    (c.combine.ensures start led.at)
 
 pub returns-in_err-lead : goal.returns-in_err-lead
 returns-in_err-lead c start left taken ready =
     let p = err_from_is_err_and c.from_residual.result c.from_residual.ensures.1 in
-    passed (board_of start) c.lead.new.enc c.lead.new.self.slots.items _ _ c.lead.result c.from_residual.result _ c.in_err-lead.was p (c.lead.ensures (board_of start) ready.round.at)
+    passed start c.lead.new.enc c.lead.new.self.slots.items _ _ c.lead.result c.from_residual.result _ c.in_err-lead.was p (c.lead.ensures start ready.round.at)
 
 pub combine-requires-clause-place : goal.combine-requires-clause-place
 combine-requires-clause-place c =
     let start = c.requires.ready.0 in
     let at = c.requires.ready.3.round.at in
-    let now = (went (board_of start) c.lead.new.enc c.lead.new.self.slots.items _ c.lead.result _ c.in_ok-lead.was (c.lead.ensures (board_of start) at)).at in
-    let e : length c.lead.new.self.slots.items ≡ 7 + action_count start.task + action_count start.task = now.long in
-    let actions : length c.args.enc.now.actions ≡ action_count start.task = (made_at (board_of start) c.args.enc.now c.args.board.now.slots.items at).actions in
+    let now = (went start c.lead.new.enc c.lead.new.self.slots.items _ c.lead.result _ c.in_ok-lead.was (c.lead.ensures start at)).at in
+    let e : length c.lead.new.self.slots.items ≡ 7 + action_count start.task + action_count start.task = now.long ∙ c.requires.ready.3.round.places in
+    let actions : length c.args.enc.now.actions ≡ action_count start.task = (made_at start c.args.enc.now c.args.board.now.slots.items at).actions in
     omega (arith, c.pairs_of-pairs.ensures, c.requires.action)
 
 pub combine-requires-clause-a : goal.combine-requires-clause-a
 combine-requires-clause-a c =
     let start = c.requires.ready.0 in
     let at = c.requires.ready.3.round.at in
-    let now = (went (board_of start) c.lead.new.enc c.lead.new.self.slots.items _ c.lead.result _ c.in_ok-lead.was (c.lead.ensures (board_of start) at)).at in
-    let e : length c.lead.new.self.slots.items ≡ 7 + action_count start.task + action_count start.task = now.long in
-    let actions : length c.args.enc.now.actions ≡ action_count start.task = (made_at (board_of start) c.args.enc.now c.args.board.now.slots.items at).actions in
+    let now = (went start c.lead.new.enc c.lead.new.self.slots.items _ c.lead.result _ c.in_ok-lead.was (c.lead.ensures start at)).at in
+    let e : length c.lead.new.self.slots.items ≡ 7 + action_count start.task + action_count start.task = now.long ∙ c.requires.ready.3.round.places in
+    let actions : length c.args.enc.now.actions ≡ action_count start.task = (made_at start c.args.enc.now c.args.board.now.slots.items at).actions in
     omega (arith, c.pairs_of-pairs.ensures, c.requires.action)
 
 pub combine-requires-clause-b : goal.combine-requires-clause-b
 combine-requires-clause-b c =
     let start = c.requires.ready.0 in
     let at = c.requires.ready.3.round.at in
-    let now = (went (board_of start) c.lead.new.enc c.lead.new.self.slots.items _ c.lead.result _ c.in_ok-lead.was (c.lead.ensures (board_of start) at)).at in
-    let e : length c.lead.new.self.slots.items ≡ 7 + action_count start.task + action_count start.task = now.long in
-    let actions : length c.args.enc.now.actions ≡ action_count start.task = (made_at (board_of start) c.args.enc.now c.args.board.now.slots.items at).actions in
+    let now = (went start c.lead.new.enc c.lead.new.self.slots.items _ c.lead.result _ c.in_ok-lead.was (c.lead.ensures start at)).at in
+    let e : length c.lead.new.self.slots.items ≡ 7 + action_count start.task + action_count start.task = now.long ∙ c.requires.ready.3.round.places in
+    let actions : length c.args.enc.now.actions ≡ action_count start.task = (made_at start c.args.enc.now c.args.board.now.slots.items at).actions in
     omega (arith, c.pairs_of-pairs.ensures, c.requires.action)

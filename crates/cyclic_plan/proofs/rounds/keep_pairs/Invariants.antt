@@ -1,5 +1,5 @@
 use Rattle.task_core.specs.Cubes.{SetOfVectors}
-use Rattle.cyclic_plan.specs.Begun.{Start}
+use Rattle.slot_board.specs.Board.{Start}
 use Rattle.cyclic_plan.specs.Stages.{HasPairs, HasRound, Takings}
 use Rattle.cyclic_plan.proofs.rounds.keep_pairs.Given as goal
 

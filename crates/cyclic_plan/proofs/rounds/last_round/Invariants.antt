@@ -2,7 +2,7 @@ use Rattle.std.proofs.Common.{ℕ}
 use Rattle.task_core.specs.Tasks.{system_of}
 use Rattle.task_core.specs.Vectors.{all_vectors, value_of}
 use Rattle.slot_board.specs.Board.{set_at}
-use Rattle.cyclic_plan.specs.Begun.{Start}
+use Rattle.slot_board.specs.Board.{Start}
 use Rattle.plan_theory.specs.PairRounds.{round}
 use Rattle.cyclic_plan.specs.Stages.{HasRound, HasRounds, none_taken}
 use Rattle.plan_theory.proofs.RoundSteps.{held}

@@ -1,20 +1,20 @@
 use Rattle.std.proofs.lemmas.Result.{err_from_is_err_and}
-use Rattle.std.proofs.Common.{ℕ, ◌+◌, ◌≡◌, arith, length, subst}
+use Rattle.std.proofs.Common.{ℕ, ◌+◌, ◌≡◌, arith, length, subst, ◌∙◌}
 use Rattle.dd_ops.specs.Operations.{or_of}
 use Rattle.task_core.specs.Tasks.{action_count}
 use Rattle.slot_board.specs.Board.{set_at}
-use Rattle.cyclic_plan.specs.Begun.{board_of, Moved}
+use Rattle.slot_board.specs.Board.{Moved}
 use Rattle.slot_board.proofs.BoardSlots.{action_within, left_with, made_at, went, passed}
 use Rattle.cyclic_plan.proofs.StageSteps.{takes}
 use Rattle.cyclic_plan.proofs.rounds.take.Goals as goal
 
 pub combine-requires-clause-working : goal.combine-requires-clause-working
-combine-requires-clause-working c = (board_of c.requires.ready.0, c.requires.ready.6.by_next.by_near.round.at)
+combine-requires-clause-working c = (c.requires.ready.0, c.requires.ready.6.by_next.by_near.round.at)
 
 pub combine-requires-2-clause-working : goal.combine-requires-2-clause-working
 combine-requires-2-clause-working c =
     let start = c.requires.ready.0 in
-    (board_of start, (went (board_of start) c.combine.new.enc c.combine.new.self.slots.items _ c.combine.result _ c.in_ok-combine.was (c.combine.ensures (board_of start) c.requires.ready.6.by_next.by_near.round.at)).at)
+    (start, (went start c.combine.new.enc c.combine.new.self.slots.items _ c.combine.result _ c.in_ok-combine.was (c.combine.ensures start c.requires.ready.6.by_next.by_near.round.at)).at)
 
 pub returns : goal.returns
 returns c start left taken near next hits ready =
@@ -22,43 +22,43 @@ returns c start left taken near next hits ready =
     let half = c.combine.new.self.slots.items in
     let a = c.args.a.0 in
     let at = ready.by_next.by_near.round.at in
-    let actions : length c.args.enc.now.actions ≡ action_count start.task = (made_at (board_of start) c.args.enc.now old at).actions in
+    let actions : length c.args.enc.now.actions ≡ action_count start.task = (made_at start c.args.enc.now old at).actions in
     let place : c.takers_of-takers.result ≡ 7 + action_count start.task + a = omega (arith, c.takers_of-takers.ensures, c.requires.actions) in
-    let first = went (board_of start) c.combine.new.enc half _ c.combine.result _ c.in_ok-combine.was (c.combine.ensures (board_of start) at) in
-    left_with (board_of start) c.combine-2.new.enc c.combine-2.new.self.slots.items _ _ c.combine-2.result
+    let first = went start c.combine.new.enc half _ c.combine.result _ c.in_ok-combine.was (c.combine.ensures start at) in
+    left_with start c.combine-2.new.enc c.combine-2.new.self.slots.items _ _ c.combine-2.result
     (λ joined.
-    takes start c.args.enc.now c.combine.new.enc c.combine-2.new.enc old half c.combine-2.new.self.slots.items a left taken near next hits (action_within (board_of start) c.args.enc.now old a at c.requires.action) ready first
+    takes start c.args.enc.now c.combine.new.enc c.combine-2.new.enc old half c.combine-2.new.self.slots.items a left taken near next hits (action_within start c.args.enc.now old a at c.requires.action) ready first
     (subst (λ (p : ℕ). Moved start c.combine.new.enc.sets half c.combine-2.new.enc c.combine-2.new.self.slots.items p (or_of (set_at c.combine.new.enc.sets half p) (set_at c.combine.new.enc.sets half 6))) place joined))
-    (c.combine-2.ensures (board_of start) first.at)
+    (c.combine-2.ensures start first.at)
 
 pub returns-in_err-combine : goal.returns-in_err-combine
 returns-in_err-combine c start left taken near next hits ready =
     let p = err_from_is_err_and c.from_residual.result c.from_residual.ensures.1 in
-    passed (board_of start) c.combine.new.enc c.combine.new.self.slots.items _ _ c.combine.result c.from_residual.result _ c.in_err-combine.was p (c.combine.ensures (board_of start) ready.by_next.by_near.round.at)
+    passed start c.combine.new.enc c.combine.new.self.slots.items _ _ c.combine.result c.from_residual.result _ c.in_err-combine.was p (c.combine.ensures start ready.by_next.by_near.round.at)
 
 pub combine-requires-2-clause-place : goal.combine-requires-2-clause-place
 combine-requires-2-clause-place c =
     let start = c.requires.ready.0 in
     let at = c.requires.ready.6.by_next.by_near.round.at in
-    let now = (went (board_of start) c.combine.new.enc c.combine.new.self.slots.items _ c.combine.result _ c.in_ok-combine.was (c.combine.ensures (board_of start) at)).at in
-    let e : length c.combine.new.self.slots.items ≡ 7 + action_count start.task + action_count start.task = now.long in
-    let actions : length c.args.enc.now.actions ≡ action_count start.task = (made_at (board_of start) c.args.enc.now c.args.board.now.slots.items at).actions in
+    let now = (went start c.combine.new.enc c.combine.new.self.slots.items _ c.combine.result _ c.in_ok-combine.was (c.combine.ensures start at)).at in
+    let e : length c.combine.new.self.slots.items ≡ 7 + action_count start.task + action_count start.task = now.long ∙ c.requires.ready.6.by_next.by_near.round.places in
+    let actions : length c.args.enc.now.actions ≡ action_count start.task = (made_at start c.args.enc.now c.args.board.now.slots.items at).actions in
     omega (arith, c.takers_of-takers.ensures, c.requires.actions, c.requires.action)
 
 pub combine-requires-2-clause-a : goal.combine-requires-2-clause-a
 combine-requires-2-clause-a c =
     let start = c.requires.ready.0 in
     let at = c.requires.ready.6.by_next.by_near.round.at in
-    let now = (went (board_of start) c.combine.new.enc c.combine.new.self.slots.items _ c.combine.result _ c.in_ok-combine.was (c.combine.ensures (board_of start) at)).at in
-    let e : length c.combine.new.self.slots.items ≡ 7 + action_count start.task + action_count start.task = now.long in
-    let actions : length c.args.enc.now.actions ≡ action_count start.task = (made_at (board_of start) c.args.enc.now c.args.board.now.slots.items at).actions in
+    let now = (went start c.combine.new.enc c.combine.new.self.slots.items _ c.combine.result _ c.in_ok-combine.was (c.combine.ensures start at)).at in
+    let e : length c.combine.new.self.slots.items ≡ 7 + action_count start.task + action_count start.task = now.long ∙ c.requires.ready.6.by_next.by_near.round.places in
+    let actions : length c.args.enc.now.actions ≡ action_count start.task = (made_at start c.args.enc.now c.args.board.now.slots.items at).actions in
     omega (arith, c.takers_of-takers.ensures, c.requires.actions, c.requires.action)
 
 pub combine-requires-2-clause-b : goal.combine-requires-2-clause-b
 combine-requires-2-clause-b c =
     let start = c.requires.ready.0 in
     let at = c.requires.ready.6.by_next.by_near.round.at in
-    let now = (went (board_of start) c.combine.new.enc c.combine.new.self.slots.items _ c.combine.result _ c.in_ok-combine.was (c.combine.ensures (board_of start) at)).at in
-    let e : length c.combine.new.self.slots.items ≡ 7 + action_count start.task + action_count start.task = now.long in
-    let actions : length c.args.enc.now.actions ≡ action_count start.task = (made_at (board_of start) c.args.enc.now c.args.board.now.slots.items at).actions in
+    let now = (went start c.combine.new.enc c.combine.new.self.slots.items _ c.combine.result _ c.in_ok-combine.was (c.combine.ensures start at)).at in
+    let e : length c.combine.new.self.slots.items ≡ 7 + action_count start.task + action_count start.task = now.long ∙ c.requires.ready.6.by_next.by_near.round.places in
+    let actions : length c.args.enc.now.actions ≡ action_count start.task = (made_at start c.args.enc.now c.args.board.now.slots.items at).actions in
     omega (arith, c.takers_of-takers.ensures, c.requires.actions, c.requires.action)

@@ -1,6 +1,6 @@
 use Rattle.std.proofs.Common.{Bool, sym, subst}
 use Rattle.std.specs.Prelude.{◌&&◌, not}
-use Rattle.cyclic_plan.specs.Begun.{Left}
+use Rattle.slot_board.specs.Board.{Left}
 use Rattle.cyclic_plan.specs.Stages.{HasHits, taken_if}
 use Rattle.cyclic_plan.proofs.rounds.take_where.Goals as goal
 

@@ -1,0 +1,6 @@
+use Rattle.chain_plan.specs.Scenes.{IsReady, Start}
+use Rattle.chain_plan.specs.Steps.{Climbs}
+use Rattle.chain_plan.proofs.takers.climb_near.Given as goal
+
+abbrev pub invariant-loop-a : goal.invariant-loop-a
+invariant-loop-a l = (start : Start) → IsReady start (l.fn.enc, l.fn.board.slots.items) → Climbs start (l.fn.enc, l.fn.board.slots.items) (l.enc, l.board.slots.items) l.fn.takers l.a

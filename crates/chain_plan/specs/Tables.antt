@@ -1,0 +1,31 @@
+-- The printed table on the board of a search: for each context, next context and action the states
+-- in which the action is taken.
+use Rattle.std.specs.Prelude.{◌≡◌, ℕ, suc, ◌+◌, ◌<◌, length, true}
+use Rattle.plan_theory.specs.Chains.{Chained}
+use Rattle.plan_theory.specs.ChainPrinted.{rule_states}
+use Rattle.plan_theory.specs.Wins.{covers_chain}
+use Rattle.encode_task.specs.Made.{MadeOf}
+use Rattle.encode_task.specs.Slots.{Encoded}
+use Rattle.task_core.specs.Tasks.{action_count}
+use Rattle.task_core.specs.declared.tasks.Task.{Task}
+use Rattle.chain_plan.specs.Scenes.{SameStates, Scene, Start, rules_place, states_at, sys_of}
+use Rattle.chain_plan.specs.Steps.{HasTakers}
+
+-- where a search for a task and so many stages began
+abbrev pub start_of : (task : Task) (enc : Encoded) → MadeOf task enc → ℕ → Start
+start_of task enc made n = record { task = task; enc = enc; made = made; stages = n }
+
+-- the board has, for each context, its states and those that take each action towards its stage;
+-- and each initial state is one of the first context
+pub record HasTable (start : Start) (x : Scene) (chain : Chained) : Type 0 where
+  pub stages : length chain.stages ≡ start.stages
+  pub takers : HasTakers start x chain (suc start.stages)
+  pub covered : covers_chain (sys_of start) chain ≡ true
+
+-- and, for a context and a next one, which are counted from 0, the states in which each action is
+-- taken, as the printed rules have it
+pub record HasRuleStates (start : Start) (x : Scene) (chain : Chained) (c j : ℕ) : Type 0 where
+  pub table : HasTable start x chain
+  pub sets : (a : ℕ) → a < action_count start.task
+      → SameStates start (states_at x (rules_place (action_count start.task) start.stages + a))
+      (rule_states (sys_of start) chain (suc c) (suc j) a)
