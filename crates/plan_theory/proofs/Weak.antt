@@ -1,17 +1,17 @@
 -- A state from which a table has a path of n steps to a goal state lies in layer n. So where a
 -- table is a weak solution, some layer holds every initial state.
-use Rattle.std.proofs.Common.{◌≡◌, ℕ, zero, suc, ◌+◌, Bool, true, false, List, [], ◌∷◌, length, refl, sym, ◌∙◌, subst, arith}
+use Rattle.std.proofs.Common.{◌≡◌, ℕ, suc, ◌+◌, true, false, List, [], ◌∷◌, length, refl, sym, ◌∙◌, subst, arith}
 use Rattle.std.specs.List.{Contains, list_all}
-use Rattle.std.proofs.lemmas.Bool.{false≢true, true≢false, or_right, and_from, and_parts}
-use Rattle.task_core.specs.Vectors.{Vector, same_vector, same_value}
-use Rattle.task_core.specs.Systems.{System, IsSystem, IsState, Exec, HasOutcome, goal_states}
+use Rattle.std.proofs.lemmas.Bool.{true≢false, or_right, and_from}
+use Rattle.task_core.specs.Vectors.{Vector}
+use Rattle.task_core.specs.Systems.{System, IsSystem, IsState, HasOutcome, goal_states}
 use Rattle.task_core.specs.Tables.{Table, IsTable, Leads}
 use Rattle.task_core.specs.Paths.{IsPath, last_of}
 use Rattle.task_core.specs.Solutions.{IsWeakSolution, MayReachGoal}
 use Rattle.plan_theory.specs.Layers.{layer, covers, may_lead, action_numbers}
 use Rattle.plan_theory.proofs.ClassLayers.{layer-grows, layer-zero, stable_no_cover}
 pub use Rattle.plan_theory.proofs.Tests.{HasOutcome-Exec, same_value-true, same_vector-itself, same_vector-true}
-use Rattle.plan_theory.proofs.WeakLists.{Contains-nil, Contains-head, Contains-cons, Contains-range_with_len, list_any-from, list_any-witness, list_all-at, list_all-from}
+use Rattle.plan_theory.proofs.WeakLists.{Contains-head, Contains-cons, Contains-range_with_len, list_any-from, list_all-at, list_all-from}
 use Rattle.task_core.specs.declared.classes.Class.TheVariants.{Weak}
 
 -- a state with an outcome in a layer is in the next one

@@ -1,23 +1,18 @@
 -- The printed plan is a weak solution.
-use Rattle.std.proofs.Common.{◌≡◌, ℕ, zero, suc, ◌<◌, ◌≤◌, Bool, true, false, [], ◌∷◌, Option, None, Some, refl, sym, ap, ◌∙◌, arith, ⊎_elim}
-use Rattle.std.specs.Prelude.{◌&&◌, ◌==◌}
+use Rattle.std.proofs.Common.{◌≡◌, ℕ, zero, suc, ◌<◌, ◌≤◌, Bool, true, false, [], ◌∷◌, Some, refl, sym, ◌∙◌, arith, ⊎_elim}
 use Rattle.std.specs.List.{Contains, list_any, find}
-use Rattle.std.proofs.lemmas.Bool.{false≢true, true≢false, or_cases, and_parts, and_from, cases_lt, eqb-true, eq-eqb, cond-true, cond-false}
-use Rattle.std.proofs.lemmas.Option.{none-some}
+use Rattle.std.proofs.lemmas.Bool.{true≢false, or_cases, cond-false}
 use Rattle.task_core.specs.Vectors.{Vector}
-use Rattle.task_core.specs.Systems.{System, IsSystem, IsState, Exec}
-use Rattle.task_core.specs.Tables.{Table, IsTable, Leads, IsTerminal}
+use Rattle.task_core.specs.Systems.{System, IsSystem, IsState}
+use Rattle.task_core.specs.Tables.{Table, IsTable, Leads}
 use Rattle.task_core.specs.Solutions.{IsWeakSolution, MayReachGoal}
-use Rattle.task_core.specs.Cubes.{Cube, matches, cubes_of}
-use Rattle.plan_rules.specs.Rules.{PlanRule}
-use Rattle.plan_rules.specs.Denoted.{advises, denoted, IsExecutable}
+use Rattle.plan_rules.specs.Denoted.{denoted, IsExecutable}
 use Rattle.plan_theory.specs.Layers.{layer, may_lead, action_numbers, IsLastLayer}
-use Rattle.plan_theory.specs.LayerPlans.{chosen_action, is_action, takers, rules_of_action, printed_rules}
-use Rattle.plan_theory.proofs.Cubes.{cubes_match}
+use Rattle.plan_theory.specs.LayerPlans.{chosen_action, printed_rules}
 use Rattle.plan_theory.proofs.ClassLayers.{chosen_advised, chosen_kept, goal_terminal, layer-zero_goal, printed_executable, step_choice}
 pub use Rattle.plan_theory.proofs.Tests.{is_action-Some, is_action-from}
-use Rattle.plan_theory.proofs.WeakDenoted.{denoted-from, denoted-pair, denoted-table, can_execute-outcome}
-use Rattle.plan_theory.proofs.WeakLists.{Contains-map, Contains-map-witness, Contains-flat_map, Contains-flat_map-witness, Contains-range_with_len, Contains-range_with_len-below, list_any-from, list_any-witness, list_all-at, find-Some, find-found}
+use Rattle.plan_theory.proofs.WeakDenoted.{denoted-from, denoted-table, can_execute-outcome}
+use Rattle.plan_theory.proofs.WeakLists.{Contains-range_with_len-below, list_any-witness, list_all-at, find-Some, find-found}
 use Rattle.task_core.specs.declared.classes.Class.TheVariants.{Weak}
 
 -- a first step before a path to the goal
