@@ -99,7 +99,7 @@ fn show_text(text: &Text, out: &mut String) -> Result<(), AllocError> {
 // As `1(0 2)`.
 fn show_atom(atom: &GroundAtom, out: &mut String) -> Result<(), AllocError> {
     write!(out, "{}(", atom.predicate)?;
-    for object in &atom.objects {
+    for object in atom.objects.as_slice() {
         write!(out, " {object}")?;
     }
     out.push_str(")")
