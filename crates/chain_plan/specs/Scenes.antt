@@ -1,7 +1,7 @@
 -- The sets of states on the board of a search, and what a call leaves of them. There are eight
--- working places; then, for each stage and the end after the last one, the states of its context and
--- those where it is met; then, for each of these, the states that take each action; and then, for
--- each action, the states of the rules for one context and one next context.
+-- working places; then, for each stage and the end after the last one, the states of its context
+-- and those where it is met; then, for each of these, the states that take each action; and then,
+-- for each action, the states of the rules for one context and one next context.
 use Rattle.std.specs.Prelude.{◌≡◌, ℕ, suc, ◌+◌, ◌*◌, ◌<◌, ◌≤◌, ◌⊎◌, List, Result, length}
 use Rattle.dd_nodes.specs.Subfunctions.{Function}
 use Rattle.dd_sets.specs.LiveSets.{IsSets}

@@ -63,12 +63,7 @@ fn covers_initial(enc: &mut Enc, board: &mut Board, place: usize) -> Result<bool
 }
 
 /// Searches with the slots of a board, which stay: whether there is a plan.
-fn search(
-    enc: &mut Enc,
-    board: &mut Board,
-    actions: u32,
-    chain: &Chain,
-) -> Result<bool, SetErr>
+fn search(enc: &mut Enc, board: &mut Board, actions: u32, chain: &Chain) -> Result<bool, SetErr>
     requires ready { (start : Start) × (start.stages ≡ length chain.now.stages.items)
         × HasNothing start (enc.old, board.old.slots.items) }
     requires actions { actions ≡ length enc.old.actions }
@@ -201,12 +196,7 @@ fn close_as_plan(
 }
 
 /// The plan in sets of states, and then its cubes.
-fn find_plan(
-    alloc: Global,
-    task: &Task,
-    enc: &mut Enc,
-    chain: &Chain,
-) -> Result<FoundAuto, SetErr>
+fn find_plan(alloc: Global, task: &Task, enc: &mut Enc, chain: &Chain) -> Result<FoundAuto, SetErr>
     requires made { MadeOf task.now enc.old }
     requires chain { IsChainOver (fluent_count task.now) chain.now }
     ensures answer { IfOk result (IsAnswer task.now (chain_sets chain.now)) }

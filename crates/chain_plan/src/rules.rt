@@ -90,7 +90,15 @@ fn list_places(
         ++ rules_of_places start (enc.now, board.now.slots.items) context next place actions) }
 {
     for a in 0..actions {
-        list_at(enc, board, rules, context, next, ActionId(a), place + a as usize)?;
+        list_at(
+            enc,
+            board,
+            rules,
+            context,
+            next,
+            ActionId(a),
+            place + a as usize,
+        )?;
     }
     Ok(())
 }

@@ -2,9 +2,9 @@
 //! else.
 //!
 //! `plan_cyclic` searches for them by rounds over sets of states. Which plan it gives is said in
-//! `plan_theory`, whose laws of strong cyclic planning the planner rests on. `cyclic_takers` gives the
-//! same plan as sets of states, in slots (`Takers`); `Stages` and `Answers` have the words of the
-//! contracts inside.
+//! `plan_theory`, whose laws of strong cyclic planning the planner rests on. `cyclic_takers` gives
+//! the same plan as sets of states, in slots (`Takers`); `Stages` and `Answers` have the words of
+//! the contracts inside.
 #![tactic(auto)]
 
 mod plan;
