@@ -1,10 +1,11 @@
 -- How the slots of a search change by each call.
-use Rattle.std.proofs.Common.{◌≡◌, ◌≢◌, ℕ, zero, suc, ◌+◌, ◌<◌, ◌≤◌, false, List, [], ◌∷◌, ◌++◌, length, slice_set, IsErrOf, Result, Ok, Err, OnOk, refl, sym, ap, subst, ◌∙◌, ⊎_elim, inl, inr, ◌⊎◌, arith, length-append}
+use Rattle.std.proofs.Common.{◌≡◌, ◌≢◌, ◌↔◌, IsTrue, Bool, true, ℕ, zero, suc, ◌+◌, ◌<◌, ◌≤◌, false, List, [], ◌∷◌, ◌++◌, length, slice_set, IfOk, IsErrOf, Result, Ok, Err, OnOk, refl, sym, ap, subst, ◌∙◌, ⊎_elim, inl, inr, ◌⊎◌, arith, length-append}
 use Rattle.std.proofs.lemmas.Bool.{both_ways, cases_eq, cases_lt}
 use Rattle.std.proofs.Math.Seq.{get_or-append_seam}
 use Rattle.std.proofs.lemmas.List.{get_or_append_left, get_or-set_same, get_or-set_other}
 use Rattle.dd_nodes.specs.Subfunctions.{Function}
-use Rattle.dd_sets.specs.Calls.{Adds, Releases}
+use Rattle.dd_nodes.specs.NodeList.{Values}
+use Rattle.dd_sets.specs.Calls.{Adds, AddsNone, KeepsSets, Releases}
 use Rattle.dd_sets.specs.Frames.{Owns, OwnsAnswer}
 use Rattle.dd_sets.specs.LiveSets.{LiveSets, IsLive, IsSets, is_live, live_count, nothing, set_of}
 use Rattle.dd_sets.specs.Rooms.{IsTightFor}
@@ -13,7 +14,9 @@ use Rattle.encode_task.specs.Slots.{Encoded}
 use Rattle.encode_task.proofs.TightLemmas.{tight_before}
 use Rattle.encode_task.specs.Made.{MadeOf}
 use Rattle.preimage.proofs.FrameSteps.{made_now}
-use Rattle.task_core.specs.Tasks.{action_count, fluent_count}
+use Rattle.task_core.specs.Tasks.{action_count, fluent_count, initial_states}
+use Rattle.task_core.specs.Vectors.{value_of}
+use Rattle.std.specs.List.{list_all}
 use Rattle.dd_sets.specs.declared.errors.SetErr.{SetErr}
 use Rattle.dd_sets.specs.declared.slots.SetId.{SetId}
 use Rattle.dd_sets.proofs.FrameLemmas.{kept_chain, kept_release, kept_same, not_before}
@@ -21,7 +24,8 @@ use Rattle.dd_sets.proofs.OwnLemmas.{own_one}
 use Rattle.dd_nodes.specs.Subfunctions.{DependsOnly}
 use Rattle.dd_sets.proofs.SetLemmas.{set_depends}
 use Rattle.encode_task.specs.TaskSets.{initial_set}
-use Rattle.slot_board.specs.Board.{AllNothing, At, IsTightAt, Left, Moved, Start, Working, set_at, slot_at}
+use Rattle.slot_board.specs.Board.{AllNothing, At, IsTightAt, Left, Moved, Start, Stayed, Working, set_at, slot_at}
+use Rattle.slot_board.proofs.InitialStates.{inside_is}
 
 length_set : (slots : List SetId) (at : ℕ) (new : SetId) → length (slice_set slots at new) ≡ length slots
 length_set [] at new = refl
@@ -324,3 +328,56 @@ on_ok result P x is h = subst (λ (r : Result _ _). OnOk r P) is h
 
 pub nothing_none : (sets : LiveSets) → AllNothing sets []
 nothing_none sets k l = absurd (omega arith)
+
+-- a call that changes no slot
+pub working_same : (before now after : LiveSets) (slots : List SetId) → Working before now slots → KeepsSets now after → AddsNone now after → Working before after slots
+working_same before now after slots work kept none = record {
+  kept = kept_chain before now after work.kept kept;
+  live = λ i l. kept.live (slot_at slots i) (work.live i l);
+  free = work.free;
+  apart = work.apart;
+  others = λ slot out. none.others slot ∙ work.others slot out;
+  count = none.count ∙ work.count;
+}
+
+pub at_same : (start : Start) (enc now : Encoded) (slots : List SetId) → At start enc slots → now ≡ record enc { sets = now.sets } → KeepsSets enc.sets now.sets → AddsNone enc.sets now.sets → At start now slots
+at_same start enc now slots here same kept none = record {
+  same = same_chain start.enc enc now here.same same;
+  working = working_same start.enc.sets enc.sets now.sets slots here.working kept none;
+  long = here.long;
+}
+
+-- the test of the initial states
+pub tested : (start : Start) (enc now : Encoded) (slots : List SetId) (result : Result Bool SetErr) → At start enc slots → now ≡ record enc { sets = now.sets } → KeepsSets enc.sets now.sets → AddsNone enc.sets now.sets → IsSets now.sets → (IsErrOf result Full → IsTightFor 8 enc.sets)
+    → Left start now slots (Stayed start enc.sets now slots) result
+tested start enc now slots (Ok covered) here same kept none sound full = record {
+  at = at_same start enc now slots here same kept none;
+  sound = sound;
+  each = λ place l. kept.sets (slot_at slots place) (here.working.live place l);
+}
+tested start enc now slots (Err e) here same kept none sound full = (
+  at_same start enc now slots here same kept none,
+  λ is. tight_at start enc slots here 8 (omega arith) (full (ap Err is)),
+)
+
+pub covered_is : (start : Start) (enc now : Encoded) (slots : List SetId) (place : ℕ) (covered : Bool) → At start enc slots → place < length slots → now ≡ record enc { sets = now.sets } → KeepsSets enc.sets now.sets → AddsNone enc.sets now.sets → IsSets now.sets
+    → IsTrue covered ↔ ((values : Values) → set_of enc.sets enc.initial.0 values ≡ true → set_at enc.sets slots place values ≡ true) → covered ≡ list_all (λ state. set_at enc.sets slots place (value_of state)) (initial_states start.task)
+covered_is start enc now slots place covered here within same kept none sound is =
+    let stays : set_at now.sets slots place ≡ set_at enc.sets slots place = kept.sets (slot_at slots place) (here.working.live place within) in
+    inside_is start.task (set_at enc.sets slots place)
+    (subst (DependsOnly 0 (fluent_count start.task)) stays (depends start now slots (at_same start enc now slots here same kept none) sound place))
+    covered
+    (subst (λ (f : Function). IsTrue covered ↔ ((values : Values) → f values ≡ true → set_at enc.sets slots place values ≡ true)) (initial_is start enc slots here) is)
+
+pub covered_answer : (start : Start) (enc now : Encoded) (slots : List SetId) (place : ℕ) (result : Result Bool SetErr) → At start enc slots → place < length slots → now ≡ record enc { sets = now.sets } → KeepsSets enc.sets now.sets → AddsNone enc.sets now.sets → IsSets now.sets
+    → IfOk result (λ inside. IsTrue inside ↔ ((values : Values) → set_of enc.sets enc.initial.0 values ≡ true → set_at enc.sets slots place values ≡ true)) → IfOk result (λ covered. covered ≡ list_all (λ state. set_at enc.sets slots place (value_of state)) (initial_states start.task))
+covered_answer start enc now slots place (Ok covered) here within same kept none sound is = covered_is start enc now slots place covered here within same kept none sound is
+covered_answer start enc now slots place (Err e) here within same kept none sound is = tt
+
+-- where the last slot is ended, the others hold their sets
+pub sets_popped : (before now after : LiveSets) (slots : List SetId) (last : SetId) → Working before now (slots ++ last ∷ []) → Releases now after last.0 → (place : ℕ) → place < length slots → set_at after slots place ≡ set_at now (slots ++ last ∷ []) place
+sets_popped before now after slots last work ends place l =
+    let long : length (slots ++ last ∷ []) ≡ length slots + 1 = one_longer slots last in
+    let other : place ≢ length slots = λ h. absurd (omega arith) in
+    ends.sets (slot_at slots place) (λ e. work.apart place (length slots) (omega arith) (omega arith) other (at_front slots last place l ∙ e ∙ sym (at_end slots last)))
+    ∙ ap (set_of now) (sym (at_front slots last place l))

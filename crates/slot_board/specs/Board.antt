@@ -59,11 +59,24 @@ pub record At (start : Start) (now : Encoded) (slots : List SetId) : Type 0 wher
 abbrev pub IsWorking : Encoded → List SetId → Type 0
 IsWorking now slots = (start : Start) × At start now slots
 
--- what an answer leaves; and after a refusal there is a slot at each place, and the limit was tight
--- where there was no room
+-- what an answer leaves, by what it is; and after a refusal there is a slot at each place, and the
+-- limit was tight where there was no room
+abbrev pub Ends : {T : Type 0} → Start → Encoded → List SetId → (T → Type 0) → Result T SetErr
+    → Type 0
+Ends start now slots answered (Ok x) = answered x
+Ends start now slots answered (Err e) = At start now slots × (e ≡ Full → IsTightAt start)
+
+-- what any answer leaves
 abbrev pub Left : {T : Type 0} → Start → Encoded → List SetId → Type 0 → Result T SetErr → Type 0
-Left start now slots answered (Ok x) = answered
-Left start now slots answered (Err e) = At start now slots × (e ≡ Full → IsTightAt start)
+Left start now slots answered = Ends start now slots (λ x. answered)
+
+-- each place has its set still
+pub record Stayed (start : Start) (before : LiveSets) (now : Encoded) (slots : List SetId)
+    : Type 0 where
+  pub at : At start now slots
+  pub sound : IsSets now.sets
+  pub each : (place : ℕ) → place < length slots → set_at now.sets slots place
+      ≡ set_at before slots place
 
 -- one place has another set, and the others have theirs
 pub record Moved (start : Start) (before : LiveSets) (old : List SetId) (now : Encoded)

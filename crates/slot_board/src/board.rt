@@ -2,8 +2,10 @@
 
 ghost use Rattle.std.specs.Prelude.{◌≡◌, ◌≢◌, ℕ, ◌+◌, ◌<◌, ◌≤◌, ◌↔◌, [], IsTrue, length};
 ghost use Rattle.std.specs.Prelude.{map, IfErr, IfOk, OnErr, OnOk, IsErrOf, true};
+ghost use Rattle.std.specs.List.{list_all};
+ghost use Rattle.dd_nodes.specs.NodeList.{Values};
 ghost use Rattle.dd_nodes.specs.Subfunctions.{Function};
-ghost use Rattle.dd_sets.specs.Calls.{Releases};
+ghost use Rattle.dd_sets.specs.Calls.{AddsNone, KeepsSets, Releases};
 ghost use Rattle.dd_sets.specs.Frames.{Owns, OwnsAnswer};
 ghost use Rattle.dd_sets.specs.LiveSets.{LiveSets, IsLive, IsSets, everything, nothing, set_of};
 ghost use Rattle.dd_sets.specs.Rooms.{IsTightFor};
@@ -11,10 +13,11 @@ ghost use Rattle.encode_task.specs.Made.{MadeOf};
 ghost use Rattle.preimage.specs.Preimages.{OfSomeTask};
 ghost use Rattle.task_core.specs.Conditions.{holds, ids_below, is_shallow};
 ghost use Rattle.task_core.specs.Cubes.{cubes_of};
+ghost use Rattle.task_core.specs.Tasks.{initial_states};
 ghost use Rattle.task_core.specs.Vectors.{value_of};
 ghost use Rattle.task_core.specs.declared.tasks.Task.{Task};
 ghost use Rattle.slot_board.specs.Board.{AllNothing, At, HasNothing, IsWorking, Left, Moved};
-ghost use Rattle.slot_board.specs.Board.{Start, Working, combined, led, set_at, slot_at};
+ghost use Rattle.slot_board.specs.Board.{Start, Stayed, Working, combined, led, set_at, slot_at};
 
 use dd_sets::{SetErr, SetId, Sets, full_is_tight};
 use encode_task::Enc;
@@ -126,6 +129,40 @@ impl Board {
         }
     }
 
+    /// Ends the slots from a place on.
+    pub fn cut(&mut self, enc: &mut Enc, places: usize)
+        requires working { (before : LiveSets) × Working before enc.old.sets self.old.slots.items }
+        requires places { places ≤ length self.old.slots.items }
+        ensures frame { (before : LiveSets) → Working before enc.old.sets self.old.slots.items
+            → Working before enc.new.sets self.new.slots.items }
+        ensures sets { (place : ℕ) → place < places
+            → set_at enc.new.sets self.new.slots.items place
+            ≡ set_at enc.old.sets self.old.slots.items place }
+        ensures long { length self.new.slots.items ≡ places }
+        ensures same_slots { enc.new ≡ record enc.old { sets = enc.new.sets } }
+    {
+        while self.slots.len() > places {
+            self.drop_last(enc);
+        }
+    }
+
+    /// Ends the last slot.
+    fn drop_last(&mut self, enc: &mut Enc)
+        requires working { (before : LiveSets) × Working before enc.old.sets self.old.slots.items }
+        requires some { 0 < length self.old.slots.items }
+        ensures frame { (before : LiveSets) → Working before enc.old.sets self.old.slots.items
+            → Working before enc.new.sets self.new.slots.items }
+        ensures sets { (place : ℕ) → place < length self.new.slots.items
+            → set_at enc.new.sets self.new.slots.items place
+            ≡ set_at enc.old.sets self.old.slots.items place }
+        ensures long { length self.new.slots.items + 1 ≡ length self.old.slots.items }
+        ensures same_slots { enc.new ≡ record enc.old { sets = enc.new.sets } }
+    {
+        if let Some(slot) = self.slots.pop() {
+            end(enc, slot);
+        }
+    }
+
     /// Ends all slots.
     pub fn close(&mut self, enc: &mut Enc)
         requires { (before : LiveSets) × Working before enc.old.sets self.old.slots.items }
@@ -229,6 +266,22 @@ impl Board {
         enc.sets().is_none(set)
     }
 
+    /// Whether each initial state is in the set at a place.
+    pub fn covers_initial(&self, enc: &mut Enc, place: usize) -> Result<bool, SetErr>
+        requires working { IsWorking enc.old self.now.slots.items }
+        requires place { place < length self.now.slots.items }
+        ensures left { (start : Start) → At start enc.old self.now.slots.items
+            → Left start enc.new self.now.slots.items
+            (Stayed start enc.old.sets enc.new self.now.slots.items) result }
+        ensures answer { (start : Start) → At start enc.old self.now.slots.items
+            → IfOk result (λ covered. covered
+            ≡ list_all (λ state. set_at enc.old.sets self.now.slots.items place (value_of state))
+            (initial_states start.task)) }
+    {
+        let set = self.at(place);
+        holds_initial(enc, set)
+    }
+
     /// The cubes of the set at a place.
     pub fn cubes(&self, enc: &Enc, place: usize) -> Result<Vec<Vec<Lit>>, AllocError>
         requires working { IsWorking enc.now self.now.slots.items }
@@ -325,6 +378,24 @@ fn end(enc: &mut Enc, slot: SetId)
     ensures sound { IsSets enc.new.sets }
 {
     enc.sets_mut().release(slot);
+}
+
+/// Whether the set of a slot has all initial states.
+fn holds_initial(enc: &mut Enc, set: SetId) -> Result<bool, SetErr>
+    requires initial { IsLive enc.old.sets enc.old.initial.0 }
+    requires live { IsLive enc.old.sets set.0 }
+    ensures answer { IfOk result (λ inside. IsTrue inside ↔ ((values : Values)
+        → set_of enc.old.sets enc.old.initial.0 values ≡ true
+        → set_of enc.old.sets set.0 values ≡ true)) }
+    ensures kept { KeepsSets enc.old.sets enc.new.sets }
+    ensures none { AddsNone enc.old.sets enc.new.sets }
+    ensures full { IsErrOf result SetErr.Full → IsTightFor 8 enc.old.sets }
+    ensures same_slots { enc.new ≡ record enc.old { sets = enc.new.sets } }
+    ensures sound { IsSets enc.new.sets }
+{
+    full_is_tight();
+    let initial = enc.initial();
+    enc.sets_mut().inside(initial, set)
 }
 
 /// The same set in a new slot.
