@@ -8,7 +8,6 @@ pub mod PlanSteps
 pub mod PrintedWithin
 pub mod SearchSteps
 pub mod SetLayers
-pub mod WorkingSlots
 pub mod Weak
 pub mod WeakDenoted
 mod WeakExamples

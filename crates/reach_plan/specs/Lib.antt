@@ -1,9 +1,9 @@
 pub mod Bounds
 pub mod Classes
-pub mod Layers
-pub mod LayerSets
-pub mod Printed
 pub mod Found
+pub mod LayerSets
+pub mod Layers
+pub mod Printed
 pub mod Searches
 pub mod SetRules
-pub mod Working
+pub mod Takers

@@ -3,9 +3,10 @@
 //!
 //! `plan_weak` and `plan_strong` go back from the goal over sets of states on diagrams,
 //! layer by layer (Cimatti, Pistore, Roveri and Traverso, "Weak, strong, and strong cyclic planning
-//! via symbolic model checking", Artificial Intelligence 147, 2003), in two passes: `search` has
-//! the layers alone at first, and then, where there is a plan, what each action takes; `set_rules`
-//! reads the rules off these sets, and `slots` changes sets in place.
+//! via symbolic model checking", Artificial Intelligence 147, 2003): `search` has the layers, on the
+//! slots of a board; `find_takers` makes two passes of them, first for the layers alone, and then,
+//! where there is a plan, for the set in which each action is taken, and hands these sets out;
+//! `set_rules` reads the rules off them.
 //!
 //! Which plan is found is said in `specs/`: `Layers` (the states from which the goal is reached in
 //! so many steps) and `Printed` (the rules, from the least-numbered action of each state); `Found`
@@ -17,10 +18,12 @@ mod laws;
 mod planner;
 mod search;
 mod set_rules;
-mod slots;
+mod takers;
 
 pub use laws::{
     layers_grow, layers_stand_still, no_plan_once_stable, no_plan_without_cover,
     printed_plan_is_shortest, printed_plan_solves, strong_plans_end,
 };
 pub use planner::{Found, plan_strong, plan_weak};
+pub use set_rules::add_rules;
+pub use takers::{Takers, find_takers};
