@@ -5,8 +5,8 @@ use Rattle.plan_rules.specs.Denoted.{denoted, IsExecutable}
 use Rattle.plan_rules.specs.Plans.{IsRuleOf}
 use Rattle.plan_rules.specs.Rules.{rules_of}
 use Rattle.plan_rules.specs.declared.rules.TablePlan.{TablePlan}
-use Rattle.reach_plan.specs.declared.planner.Found.{Found}
-use Rattle.reach_plan.specs.declared.planner.Found.TheVariants.{NoPlan, Plan}
+use Rattle.plan_theory.specs.declared.answers.Found.{Found}
+use Rattle.plan_theory.specs.declared.answers.Found.TheVariants.{NoPlan, Plan}
 use Rattle.task_core.specs.Solutions.{HasNoSolution, IsSolution}
 use Rattle.task_core.specs.Tables.{IsTable}
 use Rattle.task_core.specs.Tasks.{action_count, fluent_count, system_of}

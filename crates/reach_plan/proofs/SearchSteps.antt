@@ -22,16 +22,16 @@ use Rattle.task_core.specs.declared.classes.Class.{Class}
 use Rattle.task_core.specs.declared.conditions.Cond.{Cond}
 use Rattle.task_core.specs.declared.tasks.Task.{Task}
 use Rattle.task_core.proofs.TaskSystem.{is_system}
-use Rattle.reach_plan.specs.Classes.{IsFoundByLayers}
-use Rattle.reach_plan.specs.Layers.{covers, layer}
+use Rattle.plan_theory.specs.Classes.{IsFoundByLayers}
+use Rattle.plan_theory.specs.Layers.{covers, layer}
 use Rattle.reach_plan.specs.LayerSets.{AreTakers, IsLayerSet, IsRound, class_preimage, grown, taken_by}
 use Rattle.reach_plan.specs.Searches.{FoundLast, FoundNone, HasGrown, HasHits, HasLayer, HasNext, HasRound, IsCovered, IsMore, IsStill, RoundLeft, SearchLeft, with_set}
 use Rattle.reach_plan.specs.declared.search.Round.{Round}
 use Rattle.reach_plan.specs.declared.search.Round.TheVariants.{Covered, Stable, More}
-use Rattle.reach_plan.proofs.LeastBounds.{none_once_stable}
-use Rattle.reach_plan.proofs.Ranges.{range-more}
+use Rattle.plan_theory.proofs.LeastBounds.{none_once_stable}
+use Rattle.plan_theory.proofs.Ranges.{range-more}
 use Rattle.reach_plan.proofs.SetLayers.{fewer_next, goal_set, missed, next_layer_set, next_takers, none_take, stable_same}
-use Rattle.reach_plan.proofs.WeakLists.{list_all-agree}
+use Rattle.plan_theory.proofs.WeakLists.{list_all-agree}
 
 -- what is left of an answer, and of a refusal that is passed on
 pub found_of : {T : Type 0} (start : Start) (now : Encoded) (slots : List SetId) (P : T → Type 0) (result : Result T SetErr) (x : T) → result ≡ Ok x → Ends start now slots P result → P x

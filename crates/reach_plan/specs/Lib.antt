@@ -1,9 +1,4 @@
-pub mod Bounds
-pub mod Classes
-pub mod Found
 pub mod LayerSets
-pub mod Layers
-pub mod Printed
 pub mod Searches
 pub mod SetRules
 pub mod Takers

@@ -11,8 +11,8 @@ use Rattle.slot_board.specs.Board.{At, Start, set_at}
 use Rattle.task_core.specs.Solutions.{HasNoSolution}
 use Rattle.task_core.specs.Tasks.{system_of}
 use Rattle.task_core.specs.declared.classes.Class.{Class}
-use Rattle.reach_plan.specs.Classes.{IsStable}
-use Rattle.reach_plan.specs.Layers.{IsLastLayer, covers}
+use Rattle.plan_theory.specs.Classes.{IsStable}
+use Rattle.plan_theory.specs.Layers.{IsLastLayer, covers}
 use Rattle.reach_plan.specs.LayerSets.{AreTakers, IsRound, grown, taken_by}
 use Rattle.reach_plan.specs.declared.search.Round.{Round}
 use Rattle.reach_plan.specs.declared.search.Round.TheVariants.{Covered, Stable, More}

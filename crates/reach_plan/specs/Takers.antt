@@ -9,8 +9,8 @@ use Rattle.task_core.specs.Tasks.{action_count, system_of}
 use Rattle.task_core.specs.Vectors.{Vector, value_of}
 use Rattle.task_core.specs.declared.classes.Class.{Class}
 use Rattle.task_core.specs.declared.tasks.Task.{Task}
-use Rattle.reach_plan.specs.Layers.{IsLastLayer}
-use Rattle.reach_plan.specs.Printed.{takers}
+use Rattle.plan_theory.specs.Layers.{IsLastLayer}
+use Rattle.plan_theory.specs.LayerPlans.{takers}
 use Rattle.reach_plan.specs.declared.takers.Takers.{Takers}
 use Rattle.reach_plan.specs.declared.takers.Takers.TheVariants.{Board, NoPlan}
 

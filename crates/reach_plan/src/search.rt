@@ -4,7 +4,7 @@ ghost use Rattle.std.specs.Prelude.{◌≡◌, ℕ, ◌+◌, ◌<◌, ◌↔◌,
 ghost use Rattle.dd_nodes.specs.Subfunctions.{Function};
 ghost use Rattle.dd_ops.specs.Operations.{minus_of, or_of};
 ghost use Rattle.slot_board.specs.Board.{At, Ends, HasNothing, Left, Start, led, set_at};
-ghost use Rattle.reach_plan.specs.Classes.{IsFoundByLayers};
+ghost use Rattle.plan_theory.specs.Classes.{IsFoundByLayers};
 ghost use Rattle.reach_plan.specs.LayerSets.{class_preimage};
 ghost use Rattle.reach_plan.specs.Searches.{HasGrown, HasHits, HasLayer, HasRound, RoundLeft};
 ghost use Rattle.reach_plan.specs.Searches.{SearchLeft, with_set};

@@ -8,8 +8,8 @@ ghost use Rattle.preimage.specs.Preimages.{OfSomeTask};
 ghost use Rattle.slot_board.specs.Board.{Working};
 ghost use Rattle.task_core.specs.Tasks.{action_count, system_of};
 ghost use Rattle.task_core.specs.declared.tasks.Task.{Task as TaskOf};
-ghost use Rattle.reach_plan.specs.Classes.{IsFoundByLayers};
-ghost use Rattle.reach_plan.specs.Layers.{IsLastLayer};
+ghost use Rattle.plan_theory.specs.Classes.{IsFoundByLayers};
+ghost use Rattle.plan_theory.specs.Layers.{IsLastLayer};
 ghost use Rattle.reach_plan.specs.Takers.{AreFound, HoldTakers, IsDecided, slots_of};
 
 use crate::search::search_back;
