@@ -5,13 +5,12 @@ use Rattle.std.proofs.lemmas.Bool.{both_ways, or_parts, or_from, or_left, or_rig
 use Rattle.std.proofs.lemmas.List.Folds.{list_any-append}
 use Rattle.dd_nodes.specs.Subfunctions.{Function}
 use Rattle.dd_sets.specs.Calls.{KeepsSets, Adds, AddsNone, Releases}
-use Rattle.dd_sets.specs.Frames.{Slots, has_slot, AreNew, Owns, OwnsAnswer}
+use Rattle.dd_sets.specs.Frames.{Slots, has_slot, AreNew, Owns, OwnsAnswer, OwnsBoth, AreTwo}
 use Rattle.dd_sets.specs.LiveSets.{LiveSets, is_live, set_of, live_count, IsLive}
 use Rattle.dd_sets.specs.declared.errors.SetErr.{SetErr}
 use Rattle.dd_sets.specs.declared.slots.SetId.{SetId}
 use Rattle.dd_sets.proofs.FrameLemmas.{kept_chain}
 use Rattle.dd_sets.proofs.OwnLemmas.{own_none, own_live, own_same, own_add, own_end, own_one, own_nothing}
-use Rattle.encode_task.specs.Owned.{OwnsBoth, AreTwo}
 
 -- what a call on the sets answers
 pub answered : (before after : LiveSets) (set : Function) (result : Result SetId SetErr) → IfOk result (λ slot. Adds before after slot.0 set) → KeepsSets before after
