@@ -10,14 +10,14 @@ use Rattle.dd_sets.specs.declared.errors.SetErr.{SetErr}
 use Rattle.dd_sets.specs.declared.errors.SetErr.TheVariants.{Full}
 use Rattle.dd_sets.specs.declared.slots.SetId.{SetId}
 use Rattle.dd_sets.proofs.FrameLemmas.{kept_chain, not_before}
-use Rattle.dd_sets.specs.Rooms.{IsTightFor}
-use Rattle.encode_task.proofs.TightLemmas.{tight_before}
+use Rattle.dd_sets.specs.Rooms.{AnySet, NoRoom}
+use Rattle.dd_sets.proofs.RoomSteps.{room_before}
 use Rattle.encode_task.specs.Made.{HoldsGoal, MadeOf}
 use Rattle.encode_task.specs.Slots.{Encoded}
 use Rattle.plan_rules.specs.Denoted.{denoted, IsExecutable}
 use Rattle.plan_rules.specs.Plans.{IsRuleOf}
 use Rattle.plan_rules.specs.Rules.{PlanRule}
-use Rattle.slot_board.specs.Board.{At, Ends, IsTightAt, Start, Working, set_at, slot_at}
+use Rattle.slot_board.specs.Board.{At, Ends, HasNoRoom, Start, Working, set_at, slot_at}
 use Rattle.task_core.specs.Cubes.{cubes_of}
 use Rattle.task_core.specs.Solutions.{HasNoSolution, IsSolution}
 use Rattle.task_core.specs.Systems.{System}
@@ -106,7 +106,7 @@ decided_by class start now slots n (Ok covered) ends = is_decided class start no
 decided_by class start now slots n (Err e) ends = tt
 
 -- a refusal for want of room
-pub full_at : {T : Type 0} (start : Start) (now : Encoded) (slots : List SetId) (P : T → Type 0) (result : Result T SetErr) → Ends start now slots P result → IsErrOf result Full → IsTightAt start
+pub full_at : {T : Type 0} (start : Start) (now : Encoded) (slots : List SetId) (P : T → Type 0) (result : Result T SetErr) → Ends start now slots P result → IsErrOf result Full → HasNoRoom start now
 full_at start now slots P (Ok x) ends full = absurd (let h : Ok x ≡ Err Full = full in cc)
 full_at start now slots P (Err e) ends full = ends.1 (let h : Err e ≡ Err Full = full in cc)
 
@@ -173,8 +173,8 @@ owns_working a b own = record {
   count = own.count;
 }
 
--- a limit that is tight after other slots were ended was so before
-pub tight_after : (a b : LiveSets) (many : ℕ) → Owns a b [] → IsTightFor many b → IsTightFor many a
-tight_after a b many own tight =
+-- a call that found no room after other slots were ended
+pub room_after : (a b c : LiveSets) (many : ℕ) → Owns a b [] → NoRoom AnySet many b c → NoRoom AnySet many a c
+room_after a b c many own none =
     let count : live_count b ≡ live_count a + 0 = own.count in
-    tight_before a b own.kept.vars own.kept.limit many many (omega arith) tight
+    room_before a b own.kept many many (omega arith) none

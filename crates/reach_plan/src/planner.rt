@@ -2,7 +2,7 @@
 
 ghost use Rattle.std.specs.Prelude.{◌≡◌, ℕ, ◌+◌, [], All, IfOk, IsErrOf, IsSome};
 ghost use Rattle.dd_sets.specs.Frames.{Owns};
-ghost use Rattle.dd_sets.specs.Rooms.{IsTightFor};
+ghost use Rattle.dd_sets.specs.Rooms.{AnySet, NoRoom};
 ghost use Rattle.encode_task.specs.Made.{MadeOf};
 ghost use Rattle.plan_rules.specs.Denoted.{denoted, IsExecutable};
 ghost use Rattle.plan_rules.specs.Plans.{IsRuleOf};
@@ -35,7 +35,8 @@ use task_core::Task;
 /// layer before it; a state in which the goal holds takes none. What each action takes is found in
 /// a second pass, where there is a plan. On every exit the slots of entry are live, with their
 /// sets, and no others; at most as many slots more as there are actions and 24 are live in between.
-/// `Full` says that the table's limit is tight for so many, and `Memory` that memory ran out.
+/// `Full` says that the table holds as many nodes as it may and its limit is tight for the sets of
+/// such slots, and `Memory` that memory ran out.
 pub fn plan_weak(alloc: Global, task: &Task, enc: &mut Enc) -> Result<Found, SetErr>
     requires made { MadeOf task.now enc.old }
     requires goal { IsSome task.now.goal }
@@ -56,7 +57,7 @@ pub fn plan_weak(alloc: Global, task: &Task, enc: &mut Enc) -> Result<Found, Set
     ensures no_plan { IfOk result
         (λ found. IfNoPlan found (HasNoSolution Weak (system_of task.now))) }
     ensures full { IsErrOf result SetErr.Full
-        → IsTightFor (action_count task.now + 24) enc.old.sets }
+        → NoRoom AnySet (action_count task.now + 24) enc.old.sets enc.new.sets }
     ensures slots { Owns enc.old.sets enc.new.sets [] }
     ensures same_slots { enc.new ≡ record enc.old { sets = enc.new.sets } }
     ensures made { (task : Task) → MadeOf task enc.old → MadeOf task enc.new }
@@ -73,7 +74,8 @@ pub fn plan_weak(alloc: Global, task: &Task, enc: &mut Enc) -> Result<Found, Set
 /// the layer before it; a state in which the goal holds takes none. What each action takes is found
 /// in a second pass, where there is a plan. On every exit the slots of entry are live, with their
 /// sets, and no others; at most as many slots more as there are actions and 24 are live in between.
-/// `Full` says that the table's limit is tight for so many, and `Memory` that memory ran out.
+/// `Full` says that the table holds as many nodes as it may and its limit is tight for the sets of
+/// such slots, and `Memory` that memory ran out.
 pub fn plan_strong(alloc: Global, task: &Task, enc: &mut Enc) -> Result<Found, SetErr>
     requires made { MadeOf task.now enc.old }
     requires goal { IsSome task.now.goal }
@@ -94,7 +96,7 @@ pub fn plan_strong(alloc: Global, task: &Task, enc: &mut Enc) -> Result<Found, S
     ensures no_plan { IfOk result
         (λ found. IfNoPlan found (HasNoSolution Strong (system_of task.now))) }
     ensures full { IsErrOf result SetErr.Full
-        → IsTightFor (action_count task.now + 24) enc.old.sets }
+        → NoRoom AnySet (action_count task.now + 24) enc.old.sets enc.new.sets }
     ensures slots { Owns enc.old.sets enc.new.sets [] }
     ensures same_slots { enc.new ≡ record enc.old { sets = enc.new.sets } }
     ensures made { (task : Task) → MadeOf task enc.old → MadeOf task enc.new }
@@ -124,7 +126,7 @@ fn plan(alloc: Global, task: &Task, enc: &mut Enc, class: Class) -> Result<Found
     ensures no_plan { IfOk result
         (λ found. IfNoPlan found (HasNoSolution class (system_of task.now))) }
     ensures full { IsErrOf result SetErr.Full
-        → IsTightFor (action_count task.now + 24) enc.old.sets }
+        → NoRoom AnySet (action_count task.now + 24) enc.old.sets enc.new.sets }
     ensures slots { Owns enc.old.sets enc.new.sets [] }
     ensures same_slots { enc.new ≡ record enc.old { sets = enc.new.sets } }
     ensures made { (task : Task) → MadeOf task enc.old → MadeOf task enc.new }

@@ -2,7 +2,7 @@
 
 ghost use Rattle.std.specs.Prelude.{◌≡◌, ℕ, ◌+◌, [], IfOk, IsErrOf, IsSome, OnErr, length};
 ghost use Rattle.dd_sets.specs.Frames.{Owns};
-ghost use Rattle.dd_sets.specs.Rooms.{IsTightFor};
+ghost use Rattle.dd_sets.specs.Rooms.{AnySet, NoRoom};
 ghost use Rattle.encode_task.specs.Made.{MadeOf};
 ghost use Rattle.preimage.specs.Preimages.{OfSomeTask};
 ghost use Rattle.slot_board.specs.Board.{Working};
@@ -36,7 +36,8 @@ fn is_covered(alloc: Global, enc: &mut Enc, class: Class, actions: u32) -> Resul
     requires made { OfSomeTask enc.old }
     requires actions { actions ≡ length enc.old.actions }
     ensures answer { (task : TaskOf) → MadeOf task enc.old → IfOk result (IsDecided class task) }
-    ensures full { IsErrOf result SetErr.Full → IsTightFor (actions + 24) enc.old.sets }
+    ensures full { IsErrOf result SetErr.Full
+        → NoRoom AnySet (actions + 24) enc.old.sets enc.new.sets }
     ensures slots { Owns enc.old.sets enc.new.sets [] }
     ensures same_slots { enc.new ≡ record enc.old { sets = enc.new.sets } }
 {
@@ -56,7 +57,8 @@ fn take_all(alloc: Global, enc: &mut Enc, class: Class, actions: u32) -> Result<
     ensures answer { (task : TaskOf) → MadeOf task enc.old
         → (layers : ℕ) → IsLastLayer class (system_of task) layers
         → IfOk result (λ board. HoldTakers class task enc.new.sets board.slots.items) }
-    ensures full { IsErrOf result SetErr.Full → IsTightFor (actions + 24) enc.old.sets }
+    ensures full { IsErrOf result SetErr.Full
+        → NoRoom AnySet (actions + 24) enc.old.sets enc.new.sets }
     ensures slots { IfOk result (λ board. Working enc.old.sets enc.new.sets board.slots.items) }
     ensures refused { OnErr result (Owns enc.old.sets enc.new.sets []) }
     ensures same_slots { enc.new ≡ record enc.old { sets = enc.new.sets } }
@@ -95,7 +97,7 @@ pub fn find_takers(
     requires goal { IsSome task.now.goal }
     ensures found { IfOk result (AreFound class task.now enc.new.sets) }
     ensures full { IsErrOf result SetErr.Full
-        → IsTightFor (action_count task.now + 24) enc.old.sets }
+        → NoRoom AnySet (action_count task.now + 24) enc.old.sets enc.new.sets }
     ensures slots { IfOk result (λ found. Working enc.old.sets enc.new.sets (slots_of found)) }
     ensures refused { OnErr result (Owns enc.old.sets enc.new.sets []) }
     ensures same_slots { enc.new ≡ record enc.old { sets = enc.new.sets } }

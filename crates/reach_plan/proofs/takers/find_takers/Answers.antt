@@ -2,14 +2,14 @@
 use Rattle.std.proofs.Common.{◌+◌, ◌≡◌, ◌∙◌, Bool, Err, arith, ap, length, sym, subst}
 use Rattle.std.specs.Prelude.{IsSome}
 use Rattle.std.proofs.lemmas.Result.{err_from_is_err_and}
-use Rattle.dd_sets.specs.Rooms.{IsTightFor}
+use Rattle.dd_sets.specs.Rooms.{AnySet, NoRoom}
 use Rattle.dd_sets.specs.declared.errors.SetErr.TheVariants.{Full}
 use Rattle.encode_task.specs.Slots.{Encoded}
 use Rattle.slot_board.proofs.BoardSlots.{same_chain}
 use Rattle.preimage.proofs.FrameSteps.{made_now}
 use Rattle.task_core.specs.Tasks.{action_count}
 use Rattle.reach_plan.specs.Takers.{IsDecided}
-use Rattle.reach_plan.proofs.PlanSteps.{goal_there, on_err, owns_after, owns_working, tight_after, working_after}
+use Rattle.reach_plan.proofs.PlanSteps.{goal_there, on_err, owns_after, owns_working, room_after, working_after}
 use Rattle.reach_plan.proofs.takers.find_takers.Goals as goal
 
 pub is_covered-requires-clause-goal : goal.is_covered-requires-clause-goal
@@ -20,7 +20,7 @@ returns-in_err-is_covered-clause-full c full =
     let count : length c.args.enc.now.actions ≡ action_count c.args.task.now = c.requires.made.actions in
     let p = err_from_is_err_and c.from_residual.result c.from_residual.ensures.1 in
     let same : p.0 ≡ Full = cc in
-    subst (λ n. IsTightFor (n + 24) c.args.enc.now.sets) (omega arith) (c.in_err-is_covered.ensures.full (ap Err (sym p.2 ∙ same)))
+    subst (λ n. NoRoom AnySet (n + 24) c.args.enc.now.sets c.is_covered.new.enc.sets) (omega arith) (c.in_err-is_covered.ensures.full (ap Err (sym p.2 ∙ same)))
 
 pub returns-in_err-is_covered-clause-made : goal.returns-in_err-is_covered-clause-made
 returns-in_err-is_covered-clause-made c task made = made_now task c.args.enc.now c.is_covered.new.enc c.is_covered.ensures.same_slots c.is_covered.ensures.slots.kept made
@@ -55,7 +55,7 @@ returns-in_err-board-clause-full c full =
     let count : length c.args.enc.now.actions ≡ action_count c.args.task.now = c.requires.made.actions in
     let p = err_from_is_err_and c.from_residual-in_err-board.result c.from_residual-in_err-board.ensures.1 in
     let same : p.0 ≡ Full = cc in
-    subst (λ n. IsTightFor (n + 24) c.args.enc.now.sets) (omega arith) (tight_after c.args.enc.now.sets c.is_covered.new.enc.sets _ c.is_covered.ensures.slots (c.in_err-board.ensures.full (ap Err (sym p.2 ∙ same))))
+    subst (λ n. NoRoom AnySet (n + 24) c.args.enc.now.sets c.take_all.new.enc.sets) (omega arith) (room_after c.args.enc.now.sets c.is_covered.new.enc.sets c.take_all.new.enc.sets _ c.is_covered.ensures.slots (c.in_err-board.ensures.full (ap Err (sym p.2 ∙ same))))
 
 pub returns-in_err-board-clause-refused : goal.returns-in_err-board-clause-refused
 returns-in_err-board-clause-refused c =

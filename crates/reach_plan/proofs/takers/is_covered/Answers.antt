@@ -1,7 +1,7 @@
 -- What the pass found, and no slot of it stays.
 use Rattle.std.proofs.Common.{◌+◌, ◌≡◌, ◌∙◌, ◌<◌, arith, ap, length, sym, subst}
 use Rattle.std.specs.Prelude.{IsSome}
-use Rattle.dd_sets.specs.Rooms.{IsTightFor}
+use Rattle.dd_sets.specs.Rooms.{AnySet, NoRoom}
 use Rattle.encode_task.specs.Slots.{Encoded}
 use Rattle.slot_board.proofs.BoardSlots.{same_chain}
 use Rattle.reach_plan.proofs.PlanSteps.{decided_by, full_at, left_at, start_of}
@@ -44,8 +44,8 @@ pub returns-clause-full : goal.returns-clause-full
 returns-clause-full c full =
     let m = c.requires.made in
     let start = start_of m.0 c.args.enc.now m.1 4 (c.args.actions + 12) in
-    subst (λ n. IsTightFor n c.args.enc.now.sets) (omega arith)
-    (full_at start c.search_back-covered.new.enc c.search_back-covered.new.board.slots.items _ c.search_back-covered.result (c.search_back-covered.ensures start (c.in_ok-board.ensures.opened m.0 m.1 (c.args.actions + 12))) full)
+    subst (λ n. NoRoom AnySet n c.args.enc.now.sets c.close.new.enc.sets) (omega arith)
+    (c.close.ensures.room c.args.enc.now.sets _ (full_at start c.search_back-covered.new.enc c.search_back-covered.new.board.slots.items _ c.search_back-covered.result (c.search_back-covered.ensures start (c.in_ok-board.ensures.opened m.0 m.1 (c.args.actions + 12))) full))
 
 pub returns-clause-slots : goal.returns-clause-slots
 returns-clause-slots c =

@@ -1,7 +1,7 @@
 -- What the pass found, and the slots of the actions stay.
 use Rattle.std.proofs.Common.{◌+◌, ◌≡◌, ◌∙◌, ◌<◌, Err, arith, ap, length, sym, subst}
 use Rattle.std.specs.Prelude.{IsSome}
-use Rattle.dd_sets.specs.Rooms.{IsTightFor}
+use Rattle.dd_sets.specs.Rooms.{AnySet, NoRoom}
 use Rattle.dd_sets.specs.declared.errors.SetErr.TheVariants.{Full}
 use Rattle.encode_task.specs.Slots.{Encoded}
 use Rattle.slot_board.proofs.BoardSlots.{made_at, same_chain}
@@ -65,8 +65,8 @@ close-requires c =
 pub returns-in-Err-clause-full : goal.returns-in-Err-clause-full
 returns-in-Err-clause-full c full =
     let m = c.requires.last in
-    subst (λ n. IsTightFor n c.args.enc.now.sets) (omega arith)
-    ((c.in-Err.ensures (start_of m.0 c.args.enc.now m.1 (c.args.actions + 4) 12) (c.in_ok-board.ensures.opened m.0 m.1 12)).1 (let h : Err c.in-Err.refusal ≡ Err Full = full in cc))
+    subst (λ n. NoRoom AnySet n c.args.enc.now.sets c.close.new.enc.sets) (omega arith)
+    (c.close.ensures.room c.args.enc.now.sets _ ((c.in-Err.ensures (start_of m.0 c.args.enc.now m.1 (c.args.actions + 4) 12) (c.in_ok-board.ensures.opened m.0 m.1 12)).1 (let h : Err c.in-Err.refusal ≡ Err Full = full in cc)))
 
 pub returns-in-Err-clause-refused : goal.returns-in-Err-clause-refused
 returns-in-Err-clause-refused c =
