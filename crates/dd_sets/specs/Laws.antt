@@ -1,10 +1,13 @@
 -- What layers above cite.
-use Rattle.std.specs.Prelude.{◌≡◌, ℕ, ◌+◌, ◌≤◌, List, length, [], ◌∷◌, Contains}
+use Rattle.std.specs.Prelude.{◌≡◌, ℕ, ◌+◌, ◌≤◌, List, length, [], ◌∷◌, ◌++◌, Contains}
+use Rattle.std.specs.Prelude.{Result, true, false}
 use Rattle.dd_nodes.specs.Subfunctions.{DependsOnly, Function}
-use Rattle.dd_sets.specs.LiveSets.{LiveSets, IsSets, set_of, live_count, live_sets}
-use Rattle.dd_sets.specs.Calls.{Releases}
-use Rattle.dd_sets.specs.Frames.{Slots, Owns}
-use Rattle.dd_sets.specs.Rooms.{Tight, IsFull, IsTightFor, IsOneCall, NoRoom, sets_in}
+use Rattle.dd_sets.specs.LiveSets.{LiveSets, IsLive, IsSets, is_live, set_of, live_count, live_sets}
+use Rattle.dd_sets.specs.Calls.{Adds, KeepsSets, Releases}
+use Rattle.dd_sets.specs.Frames.{Slots, has_slot, Owns, OwnsAnswer}
+use Rattle.dd_sets.specs.Rooms.{AnySet, Tight, IsFull, IsTightFor, IsOneCall, NoRoom, sets_in}
+use Rattle.dd_sets.specs.declared.errors.SetErr.{SetErr}
+use Rattle.dd_sets.specs.declared.slots.SetId.{SetId}
 
 -- a limit that is tight for so many nodes is tight for more
 abbrev pub TightIsMonotone : Type 0
@@ -64,3 +67,55 @@ NoRoomAfterRelease P =
 abbrev pub NoRoomIsTight : (Function → Type 0) → Type 0
 NoRoomIsTight P =
     (before after : LiveSets) (most : ℕ) → NoRoom P most before after → IsTightFor most before
+
+-- where a call found no room, so did the caller, which kept every live slot and had no more slots
+-- live at the call than so many more than at its entry
+abbrev pub NoRoomBefore : Type 0
+NoRoomBefore =
+    (before middle after : LiveSets) (few many : ℕ) → KeepsSets before middle
+    → live_count middle + few ≤ live_count before + many → NoRoom AnySet few middle after
+    → NoRoom AnySet many before after
+
+-- what keeps the live slots with their sets: nothing, one call after another, and the end of a slot
+-- that was not live before
+abbrev pub KeepsItself : Type 0
+KeepsItself = (sets : LiveSets) → KeepsSets sets sets
+
+abbrev pub KeepsInTurn : Type 0
+KeepsInTurn =
+    (before middle after : LiveSets) → KeepsSets before middle → KeepsSets middle after
+    → KeepsSets before after
+
+abbrev pub KeepsPastEnd : Type 0
+KeepsPastEnd =
+    (before middle after : LiveSets) (slot : ℕ) → KeepsSets before middle
+    → Releases middle after slot → is_live before slot ≡ false → KeepsSets before after
+
+-- the slots of a caller: those of two steps together, those left after the end of one, each is
+-- live, and a single one is what a call adds
+abbrev pub OwnsInTurn : Type 0
+OwnsInTurn =
+    (before middle after : LiveSets) (first second : Slots) → Owns before middle first
+    → Owns middle after second → Owns before after (second ++ first)
+
+abbrev pub OwnsPastEnd : Type 0
+OwnsPastEnd =
+    (before middle after : LiveSets) (front : Slots) (slot : ℕ) (set : Function) (back : Slots)
+    → Owns before middle (front ++ (slot, set) ∷ back) → Releases middle after slot
+    → Owns before after (front ++ back)
+
+abbrev pub OwnSlotsAreLive : Type 0
+OwnSlotsAreLive =
+    (before now : LiveSets) (own : Slots) → Owns before now own
+    → (slot : ℕ) → has_slot own slot ≡ true → IsLive now slot
+
+abbrev pub OwnSlotIsAdded : Type 0
+OwnSlotIsAdded =
+    (before now : LiveSets) (slot : ℕ) (set : Function) → Owns before now ((slot, set) ∷ [])
+    → Adds before now slot set
+
+-- a call that answers a slot, or refuses, keeps the live slots with their sets
+abbrev pub AnswerKeeps : Type 0
+AnswerKeeps =
+    (before after : LiveSets) (set : Function) (result : Result SetId SetErr)
+    → OwnsAnswer before after set result → KeepsSets before after

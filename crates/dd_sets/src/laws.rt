@@ -3,6 +3,9 @@
 ghost use Rattle.dd_sets.specs.Laws.{TightIsMonotone, SetsDependOnFluents, OneSetPerSlot};
 ghost use Rattle.dd_sets.specs.Laws.{FullIsTight, FullIsNoRoom, PieceIsNoRoom, NoRoomWithin};
 ghost use Rattle.dd_sets.specs.Laws.{NoRoomOfFewer, NoRoomAfterRelease, NoRoomIsTight};
+ghost use Rattle.dd_sets.specs.Laws.{NoRoomBefore, KeepsItself, KeepsInTurn, KeepsPastEnd};
+ghost use Rattle.dd_sets.specs.Laws.{OwnsInTurn, OwnsPastEnd, OwnSlotsAreLive, OwnSlotIsAdded};
+ghost use Rattle.dd_sets.specs.Laws.{AnswerKeeps};
 ghost use Rattle.dd_sets.specs.Rooms.{AnySet};
 
 /// A limit that is tight for so many nodes is tight for more.
@@ -54,4 +57,25 @@ pub fn no_room_after_release()
 /// Where a call found no room, the limit is tight by slots.
 pub fn no_room_is_tight()
     ensures { NoRoomIsTight AnySet }
+{}
+
+/// Where a call found no room, so did its caller, which kept every live slot.
+pub fn no_room_before()
+    ensures { NoRoomBefore }
+{}
+
+/// What keeps the live slots with their sets.
+pub fn live_slots_are_kept()
+    ensures itself { KeepsItself }
+    ensures in_turn { KeepsInTurn }
+    ensures past_end { KeepsPastEnd }
+{}
+
+/// What becomes of a caller's slots.
+pub fn own_slots_follow_calls()
+    ensures in_turn { OwnsInTurn }
+    ensures past_end { OwnsPastEnd }
+    ensures live { OwnSlotsAreLive }
+    ensures added { OwnSlotIsAdded }
+    ensures answer { AnswerKeeps }
 {}

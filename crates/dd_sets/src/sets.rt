@@ -30,10 +30,13 @@ use task_core::{FluentId, State};
 ///
 /// A contract sees it as the number of fluents (`vars`), the largest number of nodes (`limit`), the
 /// nodes, and for each live slot its set. A slot is live from the call that answers it up to its
-/// release. Each call but `release` leaves every live slot with its set, whether it answers or
-/// refuses, and an operation's answer is a slot that was not live before. It refuses with `Full`
-/// only where the table holds `limit` nodes and the limit is tight for the live sets and the
-/// functions whose nodes it may have to make, and with `Memory` where memory runs out.
+/// end: `release` ends a slot, and so do the operations in the place of slots (`outside`,
+/// `in_both`, `in_some`, `without`, `rest_of`), which end the slots that they take over whether
+/// they answer or refuse. Each call leaves every other live slot with its set, and an operation's
+/// answer is a slot that was not live before. A call makes no nodes but those of the functions that
+/// its contract names (`MakesOnly`). It refuses with `Full` only where the table holds `limit` nodes
+/// and the limit is tight for the live sets and the functions whose nodes it may have to make, and
+/// with `Memory` where memory runs out.
 #[derive(Drop)]
 pub struct Sets {
     ops: Ops,
