@@ -1,9 +1,9 @@
 -- The parts of an action, one key more at a time.
-use Rattle.std.proofs.Common.{◌≡◌, ℕ, List, [], ◌∷◌, ◌++◌, refl, sym, ◌∙◌, ap}
+use Rattle.std.proofs.Common.{◌≡◌, ℕ, List, [], ◌++◌, refl, sym, ◌∙◌, ap}
 use Rattle.sexpr_text.specs.declared.forms.Span.{Span}
 use Rattle.sexpr_text.specs.declared.parts.View.{View}
 use Rattle.sexpr_text.specs.declared.parts.View.TheVariants.{Word, Group}
-use Rattle.sexpr_text.specs.Forest.{Forest, nothing, word, group}
+use Rattle.sexpr_text.specs.Forest.{Forest, nothing, word}
 use Rattle.sexpr_text.specs.Heads.{view_then}
 use Rattle.pddl_domain.specs.declared.actions.Key.{Key}
 use Rattle.pddl_domain.specs.Actions.{Parts, key_of, key_flaws, keys_flaws, with_part, parts_after}

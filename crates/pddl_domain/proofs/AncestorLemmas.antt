@@ -1,5 +1,5 @@
 -- Ancestors many steps up.
-use Rattle.std.proofs.Common.{◌≡◌, ℕ, zero, suc, ◌+◌, ◌*◌, ◌<◌, ◌≤◌, ◌-◌, suc-mul, mul-suc, ◌||◌, ◌⊎◌, inl, inr, replicate, refl, sym, ◌∙◌, ap, arith, Bool, true, false, List, [], ◌∷◌, map, length, get_or, take, All, ◌==◌, zero-mul}
+use Rattle.std.proofs.Common.{◌≡◌, ℕ, zero, suc, ◌+◌, ◌*◌, ◌<◌, ◌≤◌, ◌-◌, suc-mul, mul-suc, ◌||◌, inl, inr, replicate, refl, sym, ◌∙◌, ap, arith, Bool, true, false, List, [], ◌∷◌, map, length, get_or, take, All, ◌==◌, zero-mul}
 use Rattle.std.specs.List.{list_any, range_with_len}
 use Rattle.std.proofs.Math.ListN.{set}
 use Rattle.std.proofs.lemmas.List.{get_or-map, length-map, length-set, same_lists, get_or-set_other}
@@ -10,7 +10,7 @@ use Rattle.pddl_domain.specs.Ancestors.{is_own_ancestor, ancestors, which_of}
 use Rattle.std.proofs.lemmas.Grind.{get_or-set_at}
 use Rattle.std.proofs.lemmas.Simd.{splat_is_map}
 use Rattle.std.proofs.lemmas.Bool.Decides.{nat_tests}
-use Rattle.pddl_domain.proofs.Pigeonhole.{Repeats, repeats, same_or_not}
+use Rattle.pddl_domain.proofs.Pigeonhole.{repeats, same_or_not}
 
 -- two functions that agree below n
 pub map_range_agree : {X : Type 0} (f g : ℕ → X) (a n : ℕ) → ((k : ℕ) → a ≤ k → k < a + n → f k ≡ g k) → map f (range_with_len a n) ≡ map g (range_with_len a n)

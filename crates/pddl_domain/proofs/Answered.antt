@@ -1,5 +1,5 @@
 -- Every text spells exactly one domain or has exactly one fault, and the reader gives it.
-use Rattle.std.proofs.Common.{◌≡◌, ℕ, ◌⊎◌, inl, inr, List, [], refl, sym, ◌∙◌, ap, Some, None}
+use Rattle.std.proofs.Common.{◌≡◌, ℕ, ◌⊎◌, inl, inr, List, [], refl, sym, ◌∙◌, ap, Some}
 use Rattle.std.specs.Prelude.{Result, Ok, Err, IfOk, IfErr, OnOk}
 use Rattle.sexpr_text.specs.declared.faults.InputFault.{InputFault}
 use Rattle.sexpr_text.specs.declared.faults.ReadErr.{ReadErr}
@@ -18,7 +18,6 @@ use Rattle.pddl_domain.specs.Domains.{domain_passes, domain_tree, ReadsAsDomain,
 use Rattle.pddl_domain.specs.Reading.{domain_flaws, tree_of}
 use Rattle.pddl_domain.specs.Sections.{defined_name, sections_of}
 use Rattle.pddl_domain.proofs.PassLemmas.{fault_in_turn, domain_in_turn, tree_is}
-use Rattle.pddl_domain.proofs.Risen.{Risen}
 use Rattle.pddl_domain.proofs.Orders.{Laws, domain-ordered}
 
 pub spelled_or_faulty : (b : List ℕ) → ((d : DomainTree) × SpellsDomain b d) ⊎ ((f : InputFault) × HasDomainFault b f)

@@ -1,5 +1,5 @@
 -- The actions of a domain that is read fit.
-use Rattle.std.proofs.Common.{◌≡◌, ℕ, suc, ◌+◌, ◌<◌, ◌≤◌, max, Bool, true, false, not, ◌&&◌, List, [], ◌∷◌, ◌++◌, map, length, refl, sym, ◌∙◌, ap, subst, arith, All, Option, Some, None, append_assoc, if◌then◌else◌}
+use Rattle.std.proofs.Common.{◌≡◌, ℕ, ◌+◌, ◌<◌, ◌≤◌, Bool, true, false, not, List, [], ◌∷◌, ◌++◌, map, length, refl, sym, ◌∙◌, ap, subst, arith, All, Option, Some, None, append_assoc, if◌then◌else◌}
 use Rattle.std.specs.List.{list_any}
 use Rattle.std.specs.Str.{bytes_eq}
 use Rattle.std.specs.Option.{option_map, option_map_or, option_and_then}
@@ -9,21 +9,20 @@ use Rattle.sexpr_text.specs.declared.forms.Span.{Span}
 use Rattle.sexpr_text.specs.declared.faults.FaultKind.TheVariants.{BadForm, DoubleName}
 use Rattle.sexpr_text.specs.Forest.{Forest, nothing, word, group}
 use Rattle.sexpr_text.specs.Formed.{nesting_of}
-use Rattle.sexpr_text.specs.Flaws.{Flaw, flaw_at}
+use Rattle.sexpr_text.specs.Flaws.{flaw_at}
 use Rattle.sexpr_text.specs.Parts.{is_name, first_group_with, after_first}
 use Rattle.pddl_ast.specs.Known.{Known}
 use Rattle.pddl_ast.specs.Trees.{SchemaTree}
 use Rattle.pddl_ast.specs.Depth.{formula_depth, effect_depth}
 use Rattle.pddl_ast.specs.Fits.{AreDistinct, AreTypes, IsKnown, FitsFormula, FitsEffect, FitsSchema}
-use Rattle.pddl_ast.specs.TypedLists.{names_of, types_of, typed_groups}
+use Rattle.pddl_ast.specs.TypedLists.{typed_groups}
 use Rattle.pddl_ast.specs.Formulas.{formulas_flaws, formulas_of, first_formula}
 use Rattle.pddl_ast.specs.Effects.{effects_flaws, effects_of, first_effect}
 use Rattle.pddl_ast.proofs.Fitting.{no_first, no_second, where_false, types-within, types-length}
 use Rattle.pddl_domain.specs.declared.actions.Key.{Key}
 use Rattle.pddl_domain.specs.declared.actions.Key.TheVariants.{Parameters, Precondition, Effect, Other}
-use Rattle.pddl_domain.specs.declared.sections.Section.{Section}
 use Rattle.pddl_ast.specs.Definitions.{title_of}
-use Rattle.pddl_domain.specs.Sections.{name_and_sections, definition, sections_of, section_kind}
+use Rattle.pddl_domain.specs.Sections.{name_and_sections, section_kind}
 use Rattle.pddl_domain.specs.Constants.{with_first_word}
 use Rattle.pddl_domain.specs.ActionParts.{in_turn}
 use Rattle.pddl_domain.specs.Actions as act

@@ -1,11 +1,11 @@
 -- Where no name on the left of the types is its own ancestor, every chain of parents comes to
 -- `object`.
-use Rattle.std.proofs.Common.{◌≡◌, ℕ, zero, suc, ◌+◌, ◌-◌, ◌<◌, ◌≤◌, ◌⊎◌, inl, inr, ◌==◌, Bool, true, false, not, ◌||◌, ◌&&◌, List, [], ◌∷◌, ◌++◌, map, length, get_or, take, replicate, refl, sym, ◌∙◌, ap, subst, arith, All, append_assoc, length-append, if◌then◌else◌, codes, cond, nat_lt, Option, Some, None, add-suc, add-zero, add-one}
-use Rattle.std.specs.List.{list_any, position, position_or_len, range_with_len}
+use Rattle.std.proofs.Common.{◌≡◌, ℕ, zero, suc, ◌-◌, ◌<◌, ◌≤◌, inl, inr, ◌==◌, Bool, true, false, not, ◌&&◌, List, [], ◌∷◌, ◌++◌, length, get_or, take, replicate, refl, sym, ◌∙◌, ap, subst, arith, All, length-append, if◌then◌else◌, cond, nat_lt, Some, None}
+use Rattle.std.specs.List.{list_any, position_or_len, range_with_len}
 use Rattle.std.specs.Str.{bytes_eq}
 use Rattle.std.specs.Option.{unwrap_or}
 use Rattle.std.proofs.lemmas.Bool.Decides.{nat_tests}
-use Rattle.std.proofs.lemmas.Bool.{cases_lt, cond-true, lt-ltb}
+use Rattle.std.proofs.lemmas.Bool.{cases_lt, lt-ltb}
 use Rattle.std.proofs.lemmas.Slice.Eq.{bytes_eq-Decides}
 use Rattle.std.proofs.lemmas.List.{get_or-take, append-nil, length-take-le}
 use Rattle.std.proofs.Math.Seq.{get_or-append_right}
@@ -13,16 +13,14 @@ use Rattle.std.proofs.Math.ListN.{get_or-append}
 use Rattle.std.proofs.lemmas.List.Sums.{position_or_len_is}
 use Rattle.std.proofs.lemmas.List.Elements.{All-nil, All-cons, All-append}
 use Rattle.std.proofs.lemmas.List.Folds.{list_any_at, Any-from_list_any}
-use Rattle.std.proofs.lemmas.List.FromFn.{length-range_with_len, get_or-range_with_len}
 use Rattle.sexpr_text.specs.declared.forms.Span.{Span}
 use Rattle.sexpr_text.specs.declared.faults.FaultKind.TheVariants.{TypeLoop}
 use Rattle.sexpr_text.specs.Forest.{Forest, nothing, word, group}
-use Rattle.sexpr_text.specs.Flaws.{Flaw, flaw_at}
+use Rattle.sexpr_text.specs.Flaws.{flaw_at}
 use Rattle.pddl_ast.specs.declared.typed_lists.Declares.TheVariants.{Types}
 use Rattle.pddl_ast.specs.Words.{is_dash}
-use Rattle.pddl_ast.specs.Known.{number_in}
 use Rattle.pddl_ast.specs.Fits.{AreDistinct}
-use Rattle.pddl_ast.specs.TypedLists.{Group, names_of, type_number, typed_groups, names_flaws, type_flaws, name_flaws, word_flaws, dash_flaws, seen_after, groups_after, typed_after, last_group, all_seen}
+use Rattle.pddl_ast.specs.TypedLists.{Group, names_of, type_number, names_flaws, type_flaws, name_flaws, word_flaws, dash_flaws, seen_after, groups_after, typed_after, last_group, all_seen}
 use Rattle.pddl_ast.proofs.Distinct.{none_before}
 use Rattle.pddl_ast.proofs.Fitting.{no_first, no_second, where_false}
 use Rattle.pddl_ast.specs.Fits.{ancestor}

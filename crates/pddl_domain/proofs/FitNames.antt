@@ -1,25 +1,23 @@
 -- The name, the constants and the predicates of a domain that is read fit.
-use Rattle.std.proofs.Common.{◌≡◌, ℕ, suc, ◌+◌, ◌<◌, ◌≤◌, Bool, true, false, not, ◌&&◌, List, [], ◌∷◌, ◌++◌, map, length, refl, sym, ◌∙◌, ap, subst, arith, All, Option, Some, None, append_assoc, if◌then◌else◌, codes}
+use Rattle.std.proofs.Common.{◌≡◌, ℕ, Bool, true, false, ◌&&◌, List, [], ◌∷◌, ◌++◌, map, length, refl, sym, ◌∙◌, ap, subst, All, Option, Some, None, append_assoc, if◌then◌else◌, codes}
 use Rattle.std.specs.List.{list_any}
 use Rattle.std.specs.Str.{bytes_eq}
 use Rattle.std.specs.Option.{option_map, option_map_or, option_and_then}
-use Rattle.std.proofs.lemmas.List.{map-append, append-nil}
+use Rattle.std.proofs.lemmas.List.{append-nil}
 use Rattle.std.proofs.lemmas.List.Elements.{All-nil, All-cons, All-append}
 use Rattle.sexpr_text.specs.declared.forms.Span.{Span}
 use Rattle.sexpr_text.specs.declared.faults.FaultKind.TheVariants.{BadForm, DoubleName, ReservedName}
 use Rattle.sexpr_text.specs.Forest.{Forest, nothing, word, group}
-use Rattle.sexpr_text.specs.Flaws.{Flaw, flaw_at}
+use Rattle.sexpr_text.specs.Flaws.{flaw_at}
 use Rattle.sexpr_text.specs.Parts.{is_name, is_nothing, is_titled, is_definition, first_group_with}
 use Rattle.pddl_ast.specs.declared.trees.Predicate.{Predicate}
-use Rattle.pddl_ast.specs.declared.trees.Named.{Named}
 use Rattle.pddl_ast.specs.Words.{is_reserved}
 use Rattle.pddl_ast.specs.Fits.{AreDistinct}
-use Rattle.pddl_ast.specs.TypedLists.{Group, names_of, type_number, typed_groups}
+use Rattle.pddl_ast.specs.TypedLists.{names_of, typed_groups}
 use Rattle.pddl_ast.proofs.Fitting.{no_first, no_second, where_true, where_false}
 use Rattle.pddl_ast.specs.Definitions.{title_of}
 use Rattle.pddl_domain.specs.Sections.{name_and_sections, definition, defined_name}
 use Rattle.pddl_domain.specs.Constants as specs
-use Rattle.pddl_domain.proofs.TypeLemmas.{type_number_below}
 use Rattle.pddl_domain.proofs.FitTypes.{distinct-push}
 
 -- the name

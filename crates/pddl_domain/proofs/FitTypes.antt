@@ -1,6 +1,6 @@
 -- The types of a domain that is read fit: their names are words and differ, each has one parent,
 -- and the chain of parents of each comes to `object`.
-use Rattle.std.proofs.Common.{◌≡◌, ℕ, zero, suc, ◌+◌, ◌-◌, ◌<◌, ◌≤◌, Bool, true, false, not, ◌||◌, ◌&&◌, List, [], ◌∷◌, ◌++◌, map, length, get_or, replicate, refl, sym, ◌∙◌, ap, subst, arith, All, append_assoc, length-append, if◌then◌else◌, codes, add-suc, add-zero}
+use Rattle.std.proofs.Common.{◌≡◌, ℕ, suc, ◌+◌, Bool, true, false, not, ◌||◌, List, [], ◌∷◌, ◌++◌, map, length, refl, sym, ◌∙◌, ap, subst, arith, All, append_assoc, length-append, if◌then◌else◌, codes}
 use Rattle.std.specs.List.{list_any, list_all, filter, fold}
 use Rattle.std.specs.Str.{bytes_eq}
 use Rattle.std.proofs.lemmas.List.{length-map, append-nil}
@@ -8,19 +8,16 @@ use Rattle.std.proofs.lemmas.List.Elements.{All-nil, All-cons, All-append}
 use Rattle.std.proofs.lemmas.List.Folds.{list_any-append}
 use Rattle.std.proofs.lemmas.List.Sums.{fold-append}
 use Rattle.sexpr_text.specs.declared.forms.Span.{Span}
-use Rattle.sexpr_text.specs.declared.faults.FaultKind.TheVariants.{TypeLoop}
 use Rattle.sexpr_text.specs.Forest.{Forest, nothing, word, group}
-use Rattle.sexpr_text.specs.Flaws.{Flaw, flaw_at}
+use Rattle.sexpr_text.specs.Flaws.{Flaw}
 use Rattle.pddl_ast.specs.declared.typed_lists.Declares.TheVariants.{Types}
 use Rattle.pddl_ast.specs.Words.{is_dash}
 use Rattle.pddl_ast.specs.Fits.{AreDistinct}
-use Rattle.pddl_ast.specs.TypedLists.{Group, names_of, type_number, typed_groups, names_flaws, type_flaws, name_flaws, word_flaws, dash_flaws, begins_type, seen_after, groups_after, typed_after, last_group, all_seen}
+use Rattle.pddl_ast.specs.TypedLists.{Group, names_of, type_number, typed_groups, names_flaws, type_flaws, name_flaws, word_flaws, dash_flaws, seen_after, groups_after, typed_after, last_group, all_seen}
 use Rattle.pddl_ast.proofs.Distinct.{or-first, or-both, other_way}
-use Rattle.pddl_ast.proofs.Fitting.{no_first, no_second}
-use Rattle.pddl_ast.specs.Fits.{ancestor}
-use Rattle.pddl_domain.specs.Ancestors.{is_own_ancestor}
+use Rattle.pddl_ast.proofs.Fitting.{no_second}
 use Rattle.pddl_domain.specs.Types as specs
-use Rattle.pddl_domain.proofs.TypeLemmas.{length-with_zeros, some_type}
+use Rattle.pddl_domain.proofs.TypeLemmas.{length-with_zeros}
 
 or-second : (a b : Bool) → (a || b) ≡ false → b ≡ false
 or-second true b h = absurd (cc)

@@ -1,15 +1,13 @@
 -- A domain that is read fits.
-use Rattle.std.proofs.Common.{◌≡◌, ℕ, ◌<◌, ◌≤◌, Bool, true, false, not, ◌&&◌, List, [], ◌∷◌, ◌++◌, map, length, refl, sym, ◌∙◌, ap, subst, All, codes}
+use Rattle.std.proofs.Common.{◌≡◌, ℕ, ◌≤◌, Bool, true, false, not, ◌&&◌, List, [], ◌++◌, refl, sym, ◌∙◌, ap, subst, All, codes}
 use Rattle.std.specs.Prelude.{Result, Ok, Err, IfOk, OnOk}
 use Rattle.std.proofs.lemmas.List.{append-nil, length-map}
 use Rattle.std.proofs.lemmas.List.Elements.{All-nil}
 use Rattle.sexpr_text.specs.declared.faults.ReadErr.{ReadErr}
 use Rattle.sexpr_text.specs.Forest.{Forest}
 use Rattle.sexpr_text.specs.Formed.{nesting_of}
-use Rattle.sexpr_text.specs.Flaws.{Flaw}
 use Rattle.sexpr_text.specs.Parts.{is_name, is_definition}
 use Rattle.pddl_ast.specs.declared.trees.Domain.{Domain}
-use Rattle.pddl_ast.specs.declared.trees.Named.{Named}
 use Rattle.pddl_ast.specs.declared.trees.Predicate.{Predicate}
 use Rattle.pddl_ast.specs.declared.typed_lists.Declares.{Declares}
 use Rattle.pddl_ast.specs.declared.typed_lists.Declares.TheVariants.{Types, Objects}
@@ -23,8 +21,8 @@ use Rattle.pddl_ast.proofs.Objects.{names-objects, objects-fit}
 use Rattle.pddl_domain.specs.Sections.{defined_name, sections_of, definition_flaws, sections_flaws, none_came}
 use Rattle.pddl_domain.specs.Types.{type_names, type_parents, types_flaws, loop_flaws}
 use Rattle.pddl_domain.specs.Constants.{constants_flaws, constants_of, predicates_flaws, predicates_of}
-use Rattle.pddl_domain.specs.Actions.{actions_passes, schemas_of}
-use Rattle.pddl_domain.specs.ActionParts.{in_turn, actions_flaws}
+use Rattle.pddl_domain.specs.Actions.{schemas_of}
+use Rattle.pddl_domain.specs.ActionParts.{actions_flaws}
 use Rattle.pddl_domain.specs.Domains.{domain_tree, types_section, constants_section, predicates_section, types_in, known_of}
 use Rattle.pddl_domain.specs.Reading.{typed_flaws, declared_flaws, vocabulary_flaws, contents_flaws, all_section_flaws, domain_flaws, tree_of}
 use Rattle.pddl_domain.proofs.ListLemmas.{all_objects}

@@ -1,16 +1,16 @@
 -- Each pass over a domain's text lists its flaws in the order of the text.
-use Rattle.std.proofs.Common.{◌≡◌, ℕ, suc, ◌+◌, ◌-◌, ◌<◌, ◌≤◌, Bool, true, false, not, ◌&&◌, List, [], ◌∷◌, ◌++◌, Option, Some, None, arith}
+use Rattle.std.proofs.Common.{ℕ, suc, ◌+◌, ◌-◌, ◌<◌, ◌≤◌, Bool, true, false, not, ◌&&◌, List, [], ◌∷◌, ◌++◌, Option, Some, None, arith}
 use Rattle.std.specs.Prelude.{if◌then◌else◌, codes}
 use Rattle.std.specs.List.{list_any}
 use Rattle.std.specs.Str.{bytes_eq}
 use Rattle.std.specs.Option.{option_map_or}
 use Rattle.sexpr_text.specs.declared.forms.Span.{Span}
 use Rattle.sexpr_text.specs.declared.faults.FaultKind.{FaultKind}
-use Rattle.sexpr_text.specs.declared.faults.FaultKind.TheVariants.{BadForm, DoubleName, ReservedName, TypeLoop, LeftOut}
+use Rattle.sexpr_text.specs.declared.faults.FaultKind.TheVariants.{BadForm, DoubleName, ReservedName, TypeLoop}
 use Rattle.sexpr_text.specs.Forest.{Forest, nothing, word, group}
 use Rattle.sexpr_text.specs.Formed.{IsRising}
 use Rattle.sexpr_text.specs.Flaws.{Flaw, flaw_at, IsInOrder}
-use Rattle.sexpr_text.specs.Parts.{is_name, after_first}
+use Rattle.sexpr_text.specs.Parts.{is_name}
 use Rattle.sexpr_text.proofs.FlawLaws.{in_order-from, in_order-up_to, in_order-append}
 use Rattle.pddl_ast.specs.declared.typed_lists.Declares.{Declares}
 use Rattle.pddl_ast.specs.declared.typed_lists.Declares.TheVariants.{Types, Objects, Variables, PredicateVariables}
@@ -25,13 +25,13 @@ use Rattle.pddl_domain.specs.declared.sections.Seen.{Seen}
 use Rattle.pddl_domain.specs.declared.actions.Key.{Key}
 use Rattle.pddl_domain.specs.declared.actions.Key.TheVariants.{Parameters, Precondition, Effect, Other as OtherKey}
 use Rattle.pddl_ast.specs.Definitions.{no_define}
-use Rattle.pddl_domain.specs.Sections.{definition, definition_flaws, section_kind, came, seen_after, kind_flaws, sections_flaws, none_came, sections_of}
-use Rattle.pddl_domain.specs.Types.{types_flaws, type_names, type_parents, is_looping, word_loop_flaws, loop_flaws_from, loop_flaws}
-use Rattle.pddl_domain.specs.Constants.{constants_flaws, predicate_name_flaws, variables_flaws, predicate_flaws, with_first_word, predicates_flaws}
+use Rattle.pddl_domain.specs.Sections.{definition, section_kind, seen_after, kind_flaws, sections_flaws, none_came, sections_of}
+use Rattle.pddl_domain.specs.Types.{type_names, type_parents, is_looping, word_loop_flaws, loop_flaws_from}
+use Rattle.pddl_domain.specs.Constants.{predicate_name_flaws, variables_flaws, predicate_flaws, with_first_word, predicates_flaws}
 use Rattle.pddl_domain.specs.Actions as act
 use Rattle.pddl_domain.specs.Domains.{domain_passes, types_section, constants_section, predicates_section, types_in, known_of}
 use Rattle.pddl_domain.proofs.PassLemmas.{IsOrdered, AreOrdered, ordered-append}
-use Rattle.pddl_domain.proofs.Risen.{Risen, risen-nothing, risen-section, risen-sections_of, PartsRisen, risen-parts_of, ActionRisen, risen-action_in}
+use Rattle.pddl_domain.proofs.Risen.{Risen, risen-section, risen-sections_of, risen-parts_of, ActionRisen, risen-action_in}
 
 -- what is known of typed lists, formulas and effects
 pub record Laws : Type 0 where

@@ -1,13 +1,12 @@
 -- Passes in turn: the first flaw of the first pass that has one.
-use Rattle.std.proofs.Common.{◌≡◌, ℕ, suc, ◌+◌, ◌-◌, ◌<◌, ◌≤◌, List, [], ◌∷◌, ◌++◌, refl, sym, ◌∙◌, ap, append_assoc}
-use Rattle.std.proofs.lemmas.List.{append-nil}
+use Rattle.std.proofs.Common.{◌≡◌, ℕ, List, [], ◌∷◌, ◌++◌, refl, sym, ◌∙◌, ap, append_assoc}
 use Rattle.sexpr_text.specs.Forest.{Forest, nothing, word, group}
-use Rattle.sexpr_text.specs.Flaws.{Flaw, first_of, fault_of_passes, first_listed, IsInOrder}
+use Rattle.sexpr_text.specs.Flaws.{Flaw, fault_of_passes, first_listed, IsInOrder}
 use Rattle.sexpr_text.proofs.FlawLaws.{in_order-first_of}
 use Rattle.pddl_ast.specs.Known.{Known}
 use Rattle.pddl_domain.specs.Actions.{action_in, actions_passes, schemas_of, section_passes, names_after, section_schemas}
 use Rattle.pddl_domain.specs.ActionParts.{in_turn, section_flaws, section_names, section_actions, actions_flaws, all_actions}
-use Rattle.pddl_domain.specs.Domains.{domain_passes, domain_tree, section_passes as all_section_passes, types_section, constants_section, predicates_section, types_in, known_of}
+use Rattle.pddl_domain.specs.Domains.{domain_passes, domain_tree, types_section, constants_section, predicates_section, types_in, known_of}
 use Rattle.pddl_domain.specs.Reading.{typed_flaws, declared_flaws, vocabulary_flaws, contents_flaws, all_section_flaws, domain_flaws, tree_of}
 use Rattle.pddl_domain.specs.Sections.{definition_flaws, defined_name, sections_of, sections_flaws, none_came}
 use Rattle.pddl_domain.specs.Types.{types_flaws, loop_flaws}

@@ -1,6 +1,6 @@
 -- The numbers of types and of their parents.
-use Rattle.std.proofs.Common.{◌≡◌, ℕ, suc, ◌+◌, ◌-◌, ◌<◌, ◌≤◌, Bool, true, false, not, List, [], ◌∷◌, ◌++◌, map, length, get_or, refl, sym, ◌∙◌, ap, arith, cond, length-append, replicate, All, Option, Some, None, codes, position, drop, drop-cons, add-one, append_assoc}
-use Rattle.std.specs.List.{list_any, list_all, filter, fold, range_with_len}
+use Rattle.std.proofs.Common.{◌≡◌, ℕ, suc, ◌+◌, ◌-◌, ◌<◌, ◌≤◌, Bool, true, false, not, List, [], ◌∷◌, ◌++◌, map, length, get_or, refl, sym, ◌∙◌, ap, arith, length-append, replicate, All, Option, Some, None, codes, drop, drop-cons, add-one, append_assoc}
+use Rattle.std.specs.List.{list_any, filter, fold, range_with_len}
 use Rattle.std.specs.Option.{unwrap_or}
 use Rattle.std.specs.Str.{bytes_eq}
 use Rattle.std.proofs.lemmas.List.{length-replicate}

@@ -1,5 +1,5 @@
 -- The names of a domain that is read are words.
-use Rattle.std.proofs.Common.{◌≡◌, ℕ, suc, ◌<◌, ◌≤◌, Bool, true, false, List, [], ◌∷◌, ◌++◌, map, sym, ◌∙◌, subst, arith, All, Option, Some, None, if◌then◌else◌, codes}
+use Rattle.std.proofs.Common.{◌≡◌, ℕ, suc, Bool, true, false, List, [], ◌∷◌, ◌++◌, map, sym, ◌∙◌, subst, arith, All, Option, Some, None, if◌then◌else◌, codes}
 use Rattle.std.specs.Prelude.{Result, Ok, Err, IfOk, OnOk}
 use Rattle.std.specs.Option.{option_map, option_map_or, option_and_then}
 use Rattle.std.proofs.lemmas.List.Elements.{All-nil, All-cons, All-append}
@@ -13,7 +13,7 @@ use Rattle.pddl_ast.specs.declared.trees.Named.{Named}
 use Rattle.pddl_ast.specs.declared.trees.Predicate.{Predicate}
 use Rattle.pddl_ast.specs.Known.{Known}
 use Rattle.pddl_ast.specs.Trees.{SchemaTree}
-use Rattle.pddl_ast.specs.TypedLists.{Group, names_of, typed_groups}
+use Rattle.pddl_ast.specs.TypedLists.{typed_groups}
 use Rattle.pddl_ast.specs.Values.{domain_value}
 use Rattle.pddl_ast.specs.WordTexts.{HasWordTexts, IsWordText}
 use Rattle.pddl_ast.proofs.Fitting.{no_first, no_second}

@@ -1,5 +1,5 @@
 -- The sixth and the seventh pass over a domain's text: its constants, and its predicates.
-use Rattle.std.specs.Prelude.{ℕ, ◌+◌, Bool, true, false, not, if◌then◌else◌, List, [], ◌∷◌, ◌++◌}
+use Rattle.std.specs.Prelude.{ℕ, if◌then◌else◌, List, [], ◌∷◌, ◌++◌}
 use Rattle.std.specs.Prelude.{length}
 use Rattle.std.specs.List.{list_any}
 use Rattle.std.specs.Str.{bytes_eq}
@@ -8,7 +8,7 @@ use Rattle.sexpr_text.specs.declared.faults.FaultKind.TheVariants.{BadForm, Doub
 use Rattle.sexpr_text.specs.declared.faults.FaultKind.TheVariants.{ReservedName}
 use Rattle.sexpr_text.specs.Forest.{Forest, nothing, word, group}
 use Rattle.sexpr_text.specs.Flaws.{Flaw, flaw_at}
-use Rattle.sexpr_text.specs.Parts.{is_name, flaws_of_groups}
+use Rattle.sexpr_text.specs.Parts.{is_name}
 use Rattle.pddl_ast.specs.declared.trees.Named.{Named}
 use Rattle.pddl_ast.specs.declared.trees.Predicate.{Predicate}
 use Rattle.pddl_ast.specs.declared.typed_lists.Declares.TheVariants.{Objects, PredicateVariables}

@@ -1,11 +1,11 @@
 -- Private: the flaws of a domain's passes in the order in which the reader meets them, part by
 -- part, and what it reads.
-use Rattle.std.specs.Prelude.{ℕ, List, [], ◌∷◌, ◌++◌}
+use Rattle.std.specs.Prelude.{ℕ, List, [], ◌++◌}
 use Rattle.sexpr_text.specs.Forest.{Forest}
 use Rattle.sexpr_text.specs.Flaws.{Flaw}
 use Rattle.pddl_ast.specs.Trees.{DomainTree}
 use Rattle.pddl_ast.specs.TypedLists.{typed_groups}
-use Rattle.pddl_domain.specs.Sections.{definition_flaws, defined_name, sections_of, sections_flaws}
+use Rattle.pddl_domain.specs.Sections.{definition_flaws, sections_of, sections_flaws}
 use Rattle.pddl_domain.specs.Sections.{none_came}
 use Rattle.pddl_domain.specs.Types.{types_flaws, loop_flaws, type_parents}
 use Rattle.pddl_domain.specs.Constants.{constants_flaws, constants_of, predicates_flaws}

@@ -6,7 +6,7 @@
 -- is the type word of its group; that of every other type is `object`, which is its own parent too.
 -- `object` on the left is left out, and so is the type word of a group that has nothing else on the
 -- left.
-use Rattle.std.specs.Prelude.{ℕ, ◌-◌, Bool, true, false, ◌&&◌, not, if◌then◌else◌, List, [], ◌∷◌}
+use Rattle.std.specs.Prelude.{ℕ, ◌-◌, Bool, false, ◌&&◌, not, if◌then◌else◌, List, [], ◌∷◌}
 use Rattle.std.specs.Prelude.{◌++◌, length, map, codes, replicate}
 use Rattle.std.specs.List.{list_any, list_all, filter, fold}
 use Rattle.std.specs.Str.{bytes_eq}

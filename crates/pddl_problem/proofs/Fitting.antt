@@ -1,7 +1,7 @@
 -- A problem whose passes list no flaw fits its domain.
 use Rattle.std.proofs.Common.{◌≡◌, ℕ, ◌+◌, ◌<◌, ◌≤◌, Bool, true, false, List, [], ◌∷◌, ◌++◌, length, ap, sym, refl, subst, ◌∙◌, arith, codes, Some, None}
 use Rattle.std.proofs.lemmas.List.{append-nil, map-append, length-map}
-use Rattle.std.proofs.lemmas.List.Elements.{All-nil, All-cons, All-append, All-head, All-tail}
+use Rattle.std.proofs.lemmas.List.Elements.{All-nil, All-cons, All-append}
 use Rattle.std.specs.Prelude.{All, Option, if◌then◌else◌, ◌&&◌, max, IfSome}
 use Rattle.std.specs.Option.{option_map, option_map_or, option_and_then, is_some, unwrap_or}
 use Rattle.std.specs.Str.{bytes_eq}
@@ -18,7 +18,7 @@ use Rattle.pddl_ast.specs.declared.trees.Predicate.{Predicate}
 use Rattle.pddl_ast.specs.declared.typed_lists.Declares.TheVariants.{Objects}
 use Rattle.pddl_ast.specs.Atoms.{ground_atom}
 use Rattle.pddl_ast.specs.Depth.{formula_depth, temporal_depth}
-use Rattle.pddl_ast.specs.Fits.{AreDistinct, AreObjects, FitsDomain, FitsEntry, FitsFormula, FitsGroundAtom, FitsLiterals, FitsProblem, FitsTemporal, IsKnown, deepest, known_in, known_with, names_of_objects}
+use Rattle.pddl_ast.specs.Fits.{AreDistinct, FitsDomain, FitsEntry, FitsFormula, FitsGroundAtom, FitsLiterals, FitsProblem, FitsTemporal, IsKnown, deepest, known_in, known_with, names_of_objects}
 use Rattle.pddl_ast.specs.Known.{Known}
 use Rattle.pddl_ast.specs.Trees.{AtomTree, LiteralTree, DomainTree}
 use Rattle.pddl_ast.specs.TypedLists.{is_wanted, names_of, objects_of, typed_groups, typed_list_flaws}

@@ -1,4 +1,4 @@
-use Rattle.std.proofs.Common.{◌*◌, map, get_or, sym, ◌∙◌, ap, arith}
+use Rattle.std.proofs.Common.{map, get_or, ◌∙◌, ap, arith}
 use Rattle.pddl_domain.proofs.AncestorLemmas.{one_step, ancestors_below, twice_as_far}
 use Rattle.pddl_domain.proofs.loops.far_ancestors.Goals as goal
 

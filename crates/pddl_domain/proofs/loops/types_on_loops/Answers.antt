@@ -1,4 +1,3 @@
-use Rattle.std.proofs.Common.{sym}
 use Rattle.pddl_domain.proofs.AncestorLemmas.{ancestors_below, found_on_loops}
 use Rattle.pddl_domain.proofs.loops.types_on_loops.Goals as goal
 

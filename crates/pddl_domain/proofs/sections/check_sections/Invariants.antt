@@ -1,6 +1,5 @@
 use Rattle.std.proofs.Common.{◌≡◌, drop}
 use Rattle.sexpr_text.specs.Forest.{forest_of}
-use Rattle.sexpr_text.specs.Flaws.{first_listed}
 use Rattle.pddl_domain.specs.Sections as specs
 use Rattle.pddl_domain.proofs.sections.check_sections.Given as goal
 

@@ -1,4 +1,4 @@
-use Rattle.std.proofs.Common.{Bool, not, false, ◌&&◌, get_or, length, ◌∙◌, ap, arith}
+use Rattle.std.proofs.Common.{not, false, ◌&&◌, get_or, length, ◌∙◌, ap, arith}
 use Rattle.std.proofs.lemmas.List.FromFn.{length-map-range_with_len}
 use Rattle.pddl_ast.specs.TypedLists.{type_number}
 use Rattle.pddl_domain.specs.Ancestors.{is_own_ancestor}
