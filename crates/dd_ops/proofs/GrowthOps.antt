@@ -11,7 +11,7 @@ use Rattle.dd_nodes.specs.Table.{NodeTable, IsNodeTable}
 use Rattle.dd_ops.specs.Answers.{Keeps, IsFullFor}
 use Rattle.dd_ops.specs.Operations.{variable}
 use Rattle.dd_nodes.specs.declared.node.DdErr.TheVariants.{Full}
-use Rattle.dd_ops.specs.Growth.{Grows, AddsParts, AddsAtMost, IsFullBeyond}
+use Rattle.dd_ops.specs.Growth.{Grows, AddsParts, AddsAtMost, IsFullBeyond, LacksPart}
 use Rattle.dd_ops.proofs.GrowthAnswers.{growth_of, full_of}
 use Rattle.dd_nodes.proofs.Dependence.{sub_self}
 use Rattle.dd_ops.proofs.GrowthParts.{part_only}
@@ -27,10 +27,14 @@ module _ (pieces : NodeTable → List Function) (inside now after : NodeTable) (
 
   pub full_beyond : Keeps inside after → IsFullFor (pieces inside) after → IsFullBeyond (pieces now) now after
   full_beyond kept full = subst (λ (t : NodeTable). IsFullBeyond (pieces t) t after) is
-      (let found = full_of (pieces inside) inside after kept.vars table.reduced adds full in record { at_limit = found.0; beyond = found.1 })
+      (let found = full_of (pieces inside) inside after kept.vars table.reduced adds full in
+      record { at_limit = found.0; lacks = subst (λ v. LacksPart v (pieces inside) after.nodes) kept.vars full.lacks; beyond = found.1 })
 
   pub grows : (r : Result Ref DdErr) → Keeps inside after → (IsErrOf r Full → IsFullFor (pieces inside) after) → Grows (pieces now) now after r
-  grows r kept full = record { most = adds_at_most; full = λ is_full. full_beyond kept (full is_full) }
+  grows r kept full = record {
+    adds = subst (λ (t : NodeTable). AddsParts t.vars (pieces t) t.nodes after.nodes) is adds;
+    most = adds_at_most; full = λ is_full. full_beyond kept (full is_full);
+  }
 
 -- one node more at most, for one piece
 module _ (before after : NodeTable) (table : IsNodeTable before) (reduced : IsReduced before.vars after.nodes) (node : Node) (piece : Function)

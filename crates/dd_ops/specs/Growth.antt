@@ -61,15 +61,17 @@ abbrev pub AddsAtMost : List Function → NodeTable → NodeTable → Type 0
 AddsAtMost pieces before after =
     length after.nodes ≤ length before.nodes + grow before.vars before.nodes pieces
 
--- a call with these pieces found the table full: it holds `limit` nodes, and held more than `limit`
--- less `grow` before the call
+-- a call with these pieces found the table full: it holds `limit` nodes, it still lacks a part of
+-- the pieces, and it held more than `limit` less `grow` before the call
 pub record IsFullBeyond (pieces : List Function) (before after : NodeTable) : Type 0 where
   pub at_limit : length after.nodes ≡ after.limit
+  pub lacks : LacksPart before.vars pieces after.nodes
   pub beyond : after.limit < length before.nodes + grow before.vars before.nodes pieces
 
--- what a call with these pieces says of the table's growth: the bound, and that `Full` comes only
--- beyond it
+-- what a call with these pieces says of the table's growth: the nodes that it adds are those of
+-- parts of the pieces, so `grow` bounds their number, and `Full` comes only beyond it
 pub record Grows (pieces : List Function) (before after : NodeTable)
     (result : Result Ref DdErr) : Type 0 where
+  pub adds : AddsParts before.vars pieces before.nodes after.nodes
   pub most : AddsAtMost pieces before after
   pub full : IsErrOf result Full → IsFullBeyond pieces before after

@@ -1,7 +1,11 @@
 pub mod CubeLemmas
 pub mod FrameLemmas
+pub mod MadeLemmas
+pub mod NoRoomLemmas
 pub mod OwnLemmas
+pub mod OwnedLemmas
 pub mod RoomLemmas
+pub mod RoomSteps
 pub mod SetLemmas
 pub mod SlotLemmas
 pub mod TightLemmas

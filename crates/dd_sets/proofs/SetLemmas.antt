@@ -185,6 +185,7 @@ unfolding is_live set_of live_count
 released {t} {l0} {l} opens slot ended others count = subst (λ s. Releases s (view_of t l) slot) opens (record {
   vars = refl;
   limit = refl;
+  nodes = refl;
   ended = ap is_some ended;
   live = λ other differs. ap is_some (others other differs);
   sets = λ other differs. ap (λ o. option_map_or (λ (n : Ref). function t.nodes n.0) o nothing) (others other differs);

@@ -18,7 +18,7 @@ no_nodes : functions [] ≡ constants
 unfolding functions_below
 no_nodes = λ i. (λ values. function_false [] values i) ∷ (λ values. function_true [] values i) ∷ []
 
-nodes_grow : (vars : ℕ) (sets : List Function) → nodes vars sets ≡ grow vars [] sets
+pub nodes_grow : (vars : ℕ) (sets : List Function) → nodes vars sets ≡ grow vars [] sets
 nodes_grow vars sets = ap (λ known. nodes_beside vars known sets) (sym no_nodes)
 
 -- each set has fewer nodes than there are lists of truth values
@@ -33,7 +33,7 @@ nodes_within vars sets = let e : nodes vars sets ≡ grow vars [] sets = nodes_g
         let rest : grow vars [] sets ≤ length sets * 2 ^ vars = bound sets in
         omega arith
 
-power_within : (n : ℕ) → 2 ^ n ≤ 4 ^ n
+pub power_within : (n : ℕ) → 2 ^ n ≤ 4 ^ n
 power_within n = pow-le-pow_left {n = 2} {m = 4} (omega arith) n
 
 pub tight_for : (before after : LiveSets) (piece : Function) → IsFull before after (piece ∷ []) → after.vars ≡ before.vars → after.limit ≡ before.limit → (more : ℕ) → IsTightFor more before

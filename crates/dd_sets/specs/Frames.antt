@@ -1,11 +1,11 @@
 -- What a caller says of slots of its own: the live slots are those that were live before, with
 -- their sets, and the caller's.
-use Rattle.std.specs.Prelude.{◌≡◌, ℕ, ◌+◌, ◌==◌, Bool, false, ◌||◌, List, [], ◌∷◌, length, ⊤}
+use Rattle.std.specs.Prelude.{◌≡◌, ◌≢◌, ℕ, ◌+◌, ◌==◌, Bool, false, ◌||◌, List, [], ◌∷◌, length, ⊤}
 use Rattle.std.specs.Prelude.{Result, Ok, Err}
 use Rattle.std.specs.List.{list_any}
 use Rattle.dd_nodes.specs.Subfunctions.{Function}
 use Rattle.dd_sets.specs.Calls.{KeepsSets}
-use Rattle.dd_sets.specs.LiveSets.{LiveSets, is_live, set_of, live_count}
+use Rattle.dd_sets.specs.LiveSets.{LiveSets, IsLive, is_live, set_of, live_count}
 use Rattle.dd_sets.specs.declared.slots.SetId.{SetId}
 use Rattle.dd_sets.specs.declared.errors.SetErr.{SetErr}
 
@@ -35,3 +35,21 @@ pub record Owns (before after : LiveSets) (own : Slots) : Type 0 where
 abbrev pub OwnsAnswer : LiveSets → LiveSets → Function → Result SetId SetErr → Type 0
 OwnsAnswer before after set (Ok slot) = Owns before after ((slot.0, set) ∷ [])
 OwnsAnswer before after set (Err e) = Owns before after []
+
+-- a slot and what a call answered are the slots of a caller: the answer is one more slot, or a
+-- refusal, which is none
+abbrev pub OwnsBoth : LiveSets → LiveSets → SetId → Function → Result SetId SetErr → Function
+    → Type 0
+OwnsBoth before now a f (Ok b) g = Owns before now ((b.0, g) ∷ (a.0, f) ∷ [])
+OwnsBoth before now a f (Err e) g = Owns before now ((a.0, f) ∷ [])
+
+-- a slot is live, and so is the answer of a call, if it is one, which is another slot
+abbrev pub AreTwo : LiveSets → SetId → Result SetId SetErr → Type 0
+AreTwo now a (Ok b) = IsLive now a.0 × IsLive now b.0 × (b.0 ≢ a.0)
+AreTwo now a (Err e) = IsLive now a.0
+
+-- the one piece of an operation on the sets of a slot and of an answer; none where that is a refusal
+abbrev pub piece_of : (Function → Function → Function) → LiveSets → SetId → Result SetId SetErr
+    → List Function
+piece_of operation now a (Ok b) = operation (set_of now a.0) (set_of now b.0) ∷ []
+piece_of operation now a (Err e) = []

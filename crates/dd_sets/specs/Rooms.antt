@@ -1,6 +1,10 @@
 -- When a table may have no room for a call.
-use Rattle.std.specs.Prelude.{◌≡◌, ℕ, ◌+◌, ◌*◌, ◌^◌, ◌<◌, List, ◌++◌, length}
-use Rattle.dd_nodes.specs.Subfunctions.{Function, nodes}
+use Rattle.std.specs.Prelude.{◌≡◌, ℕ, ◌+◌, ◌*◌, ◌^◌, ◌<◌, ◌≤◌, Bool, List, [], ◌∷◌, ◌++◌, length}
+use Rattle.std.specs.Prelude.{Contains, ◌⊎◌, ⊤, map}
+use Rattle.dd_nodes.specs.NodeList.{Values}
+use Rattle.dd_nodes.specs.Subfunctions.{DependsOnly, Function, nodes}
+use Rattle.dd_ops.specs.Growth.{subst_pieces}
+use Rattle.dd_sets.specs.Frames.{Slots}
 use Rattle.dd_sets.specs.LiveSets.{LiveSets, live_count, live_sets}
 
 -- a limit on nodes is tight for sets over so many fluents that have so many nodes: it is less than
@@ -29,3 +33,38 @@ nodes_of_slots slots fluents = slots * 2 ^ fluents + 4 ^ fluents
 abbrev pub IsTightFor : ℕ → LiveSets → Type 0
 IsTightFor more sets =
     Tight sets.limit sets.vars (nodes_of_slots (live_count sets + more) sets.vars)
+
+-- the pieces of one substitution in a set over so many fluents
+pub record IsSubstitution (vars : ℕ) (pieces : List Function) : Type 0 where
+  pub set : Function
+  pub fluents : DependsOnly 0 vars set
+  pub is_listed : ℕ → Bool
+  pub replaced : Values → Values
+  pub are : pieces ≡ subst_pieces vars set is_listed replaced
+
+-- the pieces of one operation: one function, or those of one substitution
+abbrev pub IsOneCall : ℕ → List Function → Type 0
+IsOneCall vars pieces =
+    ((piece : Function) × (pieces ≡ piece ∷ [])) ⊎ IsSubstitution vars pieces
+
+-- any set
+abbrev pub AnySet : Function → Type 0
+AnySet set = ⊤
+
+-- a call found no room. It had, besides the slots that were live at entry, at most so many of its
+-- own, each with a set of which P holds; the limit is tight for the nodes of the sets that were live
+-- at entry, these sets, and the pieces of the operation that was refused; and the table holds as
+-- many nodes as it may
+pub record NoRoom (P : Function → Type 0) (most : ℕ) (before after : LiveSets) : Type 0 where
+  pub at_limit : IsAtLimit after
+  pub own : List Function
+  pub few : length own ≤ most
+  pub each : (set : Function) → Contains own set → P set
+  pub pieces : List Function
+  pub one_call : IsOneCall before.vars pieces
+  pub tight : Tight before.limit before.vars
+      (nodes before.vars (live_sets before ++ own ++ pieces))
+
+-- the sets that slots hold
+abbrev pub sets_in : Slots → List Function
+sets_in slots = map (λ entry. entry.1) slots

@@ -14,6 +14,9 @@ mod slots;
 
 pub use cubes::Cube;
 pub use errors::SetErr;
-pub use laws::{full_is_tight, one_set_per_slot, sets_depend_on_fluents, tight_is_monotone};
+pub use laws::{
+    full_is_no_room, full_is_tight, no_room_after_release, no_room_is_tight, no_room_of_fewer,
+    no_room_within, one_set_per_slot, piece_is_no_room, sets_depend_on_fluents, tight_is_monotone,
+};
 pub use sets::Sets;
 pub use slots::SetId;

@@ -1,17 +1,19 @@
 //! The sets of a table, each in a slot.
 ghost use Rattle.std.specs.Prelude.{◌≡◌, ℕ, ◌<◌, ◌≤◌, ◌↔◌, Some, Bool, true, false, [], ◌∷◌, map};
-ghost use Rattle.std.specs.Prelude.{is_some, IsTrue, IfOk, IfErr, OnErr, IsErrOf};
+ghost use Rattle.std.specs.Prelude.{is_some, IsTrue, IfOk, IfErr, OnErr, IsErrOf, ◌⊎◌};
 ghost use Rattle.dd_nodes.specs.NodeList.{Values, IsNumber};
+ghost use Rattle.dd_nodes.specs.Subfunctions.{Function};
 ghost use Rattle.dd_ops.specs.Growth.{subst_pieces};
 ghost use Rattle.dd_ops.specs.Operations.{variable, not_of, and_of, or_of, minus_of, cofactor_of};
 ghost use Rattle.task_core.specs.Cubes.{cubes_of};
 ghost use Rattle.task_core.specs.States.{truth};
 ghost use Rattle.task_core.specs.Vectors.{value_of};
-ghost use Rattle.dd_sets.specs.Calls.{KeepsSets, Adds, AddsNone, Releases};
-ghost use Rattle.dd_sets.specs.LiveSets.{IsSets, IsLive, AllLive, is_live, set_of, live_count};
+ghost use Rattle.dd_sets.specs.Calls.{KeepsSets, Adds, AddsNone, Releases, MakesOnly};
+ghost use Rattle.dd_sets.specs.Frames.{Owns, OwnsAnswer, OwnsBoth, AreTwo, piece_of};
+ghost use Rattle.dd_sets.specs.LiveSets.{LiveSets, IsSets, IsLive, AllLive, is_live, set_of, live_count};
 ghost use Rattle.dd_sets.specs.LiveSets.{nothing, everything, number_at, listed_set};
 ghost use Rattle.dd_sets.specs.LiveSets.{values_by_sets, subst_set};
-ghost use Rattle.dd_sets.specs.Rooms.{IsFull};
+ghost use Rattle.dd_sets.specs.Rooms.{IsFull, AnySet, NoRoom};
 ghost use Rattle.dd_sets.specs.Stores.{ref_at, refs_of};
 
 use crate::cubes::{Cube, walk};
@@ -67,6 +69,7 @@ impl Sets {
         requires small_limit { limit ≤ 16777216 }
         ensures vars { IfOk result (λ sets. sets.vars ≡ vars) }
         ensures limit { IfOk result (λ sets. sets.limit ≡ limit) }
+        ensures no_nodes { IfOk result (λ sets. sets.nodes ≡ []) }
         ensures none_live { IfOk result (λ sets. (slot : ℕ) → is_live sets slot ≡ false) }
         ensures count { IfOk result (λ sets. live_count sets ≡ 0) }
         ensures sound { IfOk result IsSets }
@@ -76,6 +79,13 @@ impl Sets {
             slots: Slab::new(alloc),
             alloc,
         })
+    }
+
+    /// Nothing: the contract says what is true of the sets of every table, for callers to cite.
+    pub fn sound(&self)
+        ensures { IsSets self.now }
+    {
+        let _ = &self.ops;
     }
 
     /// The number of the set that a live slot holds.
@@ -96,6 +106,7 @@ impl Sets {
         ensures kept { KeepsSets self.old self.new }
         ensures refused { OnErr result (AddsNone self.old self.new) }
         ensures never_full { IfErr result (λ e. e ≡ SetErr.Memory) }
+        ensures made { MakesOnly [] self.old self.new }
         ensures sound { IsSets self.new }
     {
         store(&mut self.slots, Ok(Ref(1)))
@@ -108,6 +119,7 @@ impl Sets {
         ensures kept { KeepsSets self.old self.new }
         ensures refused { OnErr result (AddsNone self.old self.new) }
         ensures never_full { IfErr result (λ e. e ≡ SetErr.Memory) }
+        ensures made { MakesOnly [] self.old self.new }
         ensures sound { IsSets self.new }
     {
         store(&mut self.slots, Ok(Ref(0)))
@@ -121,6 +133,7 @@ impl Sets {
         ensures kept { KeepsSets self.old self.new }
         ensures refused { OnErr result (AddsNone self.old self.new) }
         ensures never_full { IfErr result (λ e. e ≡ SetErr.Memory) }
+        ensures made { MakesOnly [] self.old self.new }
         ensures sound { IsSets self.new }
     {
         let number = self.number(a);
@@ -136,6 +149,7 @@ impl Sets {
         ensures refused { OnErr result (AddsNone self.old self.new) }
         ensures full { IsErrOf result SetErr.Full → IsFull self.old self.new
             (variable f.0 ∷ []) }
+        ensures made { MakesOnly (variable f.0 ∷ []) self.old self.new }
         ensures sound { IsSets self.new }
     {
         let answer = self.ops.var(f.0);
@@ -151,6 +165,8 @@ impl Sets {
         ensures refused { OnErr result (AddsNone self.old self.new) }
         ensures full { IsErrOf result SetErr.Full → IsFull self.old self.new
             (not_of (set_of self.old a.0) ∷ []) }
+        ensures made { MakesOnly (not_of (set_of self.old a.0) ∷ [])
+            self.old self.new }
         ensures sound { IsSets self.new }
     {
         let f = self.number(a);
@@ -168,6 +184,8 @@ impl Sets {
         ensures refused { OnErr result (AddsNone self.old self.new) }
         ensures full { IsErrOf result SetErr.Full → IsFull self.old self.new
             (and_of (set_of self.old a.0) (set_of self.old b.0) ∷ []) }
+        ensures made { MakesOnly (and_of (set_of self.old a.0) (set_of self.old b.0) ∷ [])
+            self.old self.new }
         ensures sound { IsSets self.new }
     {
         let f = self.number(a);
@@ -186,6 +204,8 @@ impl Sets {
         ensures refused { OnErr result (AddsNone self.old self.new) }
         ensures full { IsErrOf result SetErr.Full → IsFull self.old self.new
             (or_of (set_of self.old a.0) (set_of self.old b.0) ∷ []) }
+        ensures made { MakesOnly (or_of (set_of self.old a.0) (set_of self.old b.0) ∷ [])
+            self.old self.new }
         ensures sound { IsSets self.new }
     {
         let f = self.number(a);
@@ -204,6 +224,8 @@ impl Sets {
         ensures refused { OnErr result (AddsNone self.old self.new) }
         ensures full { IsErrOf result SetErr.Full → IsFull self.old self.new
             (minus_of (set_of self.old a.0) (set_of self.old b.0) ∷ []) }
+        ensures made { MakesOnly (minus_of (set_of self.old a.0) (set_of self.old b.0) ∷ [])
+            self.old self.new }
         ensures sound { IsSets self.new }
     {
         let f = self.number(a);
@@ -222,6 +244,8 @@ impl Sets {
         ensures refused { OnErr result (AddsNone self.old self.new) }
         ensures full { IsErrOf result SetErr.Full → IsFull self.old self.new
             (cofactor_of (set_of self.old a.0) f.0 value ∷ []) }
+        ensures made { MakesOnly (cofactor_of (set_of self.old a.0) f.0 value ∷ [])
+            self.old self.new }
         ensures sound { IsSets self.new }
     {
         let number = self.number(a);
@@ -242,6 +266,9 @@ impl Sets {
         ensures full { IsErrOf result SetErr.Full → IsFull self.old self.new
             (subst_pieces self.old.vars (set_of self.old a.0) (λ v. is_some (listed_set map.now v))
             (values_by_sets self.old map.now)) }
+        ensures made { MakesOnly (subst_pieces self.old.vars (set_of self.old a.0)
+            (λ v. is_some (listed_set map.now v)) (values_by_sets self.old map.now))
+            self.old self.new }
         ensures sound { IsSets self.new }
     {
         let number = self.number(a);
@@ -272,6 +299,8 @@ impl Sets {
         ensures same_slots { AddsNone self.old self.new }
         ensures full { IsErrOf result SetErr.Full → IsFull self.old self.new
             (minus_of (set_of self.old a.0) (set_of self.old b.0) ∷ []) }
+        ensures made { MakesOnly (minus_of (set_of self.old a.0) (set_of self.old b.0) ∷ [])
+            self.old self.new }
         ensures sound { IsSets self.new }
     {
         let f = self.number(a);
@@ -284,7 +313,8 @@ impl Sets {
     pub fn same(&self, a: SetId, b: SetId) -> bool
         requires a_live { IsLive self.now a.0 }
         requires b_live { IsLive self.now b.0 }
-        ensures { IsTrue result ↔ (set_of self.now a.0 ≡ set_of self.now b.0) }
+        ensures answer { IsTrue result ↔ (set_of self.now a.0 ≡ set_of self.now b.0) }
+        ensures sound { IsSets self.now }
     {
         self.number(a) == self.number(b)
     }
@@ -292,7 +322,8 @@ impl Sets {
     /// Whether a slot holds the empty set.
     pub fn is_none(&self, a: SetId) -> bool
         requires { IsLive self.now a.0 }
-        ensures { IsTrue result ↔ (set_of self.now a.0 ≡ nothing) }
+        ensures answer { IsTrue result ↔ (set_of self.now a.0 ≡ nothing) }
+        ensures sound { IsSets self.now }
     {
         self.number(a) == Ref(0)
     }
@@ -300,7 +331,8 @@ impl Sets {
     /// Whether a state is in a set.
     pub fn holds(&self, a: SetId, s: &State) -> bool
         requires { IsLive self.now a.0 }
-        ensures { result ≡ set_of self.now a.0 (truth s.now) }
+        ensures answer { result ≡ set_of self.now a.0 (truth s.now) }
+        ensures sound { IsSets self.now }
     {
         self.ops.table().eval(self.number(a), s.bits())
     }
@@ -310,9 +342,118 @@ impl Sets {
         requires { IsLive self.old a.0 }
         ensures released { Releases self.old self.new a.0 }
         ensures nodes { self.new.nodes ≡ self.old.nodes }
+        ensures made { MakesOnly [] self.old self.new }
         ensures sound { IsSets self.new }
     {
         self.slots.remove(a.0);
+    }
+
+    /// The complement of a set, in the place of its slot.
+    pub fn outside(&mut self, a: SetId) -> Result<SetId, SetErr>
+        requires { IsLive self.old a.0 }
+        ensures answer { (before : LiveSets) (f : Function)
+            → Owns before self.old ((a.0, f) ∷ []) → OwnsAnswer before self.new (not_of f) result }
+        ensures full { IsErrOf result SetErr.Full → NoRoom AnySet 0 self.old self.new }
+        ensures made { MakesOnly (not_of (set_of self.old a.0) ∷ []) self.old self.new }
+        ensures sound { IsSets self.new }
+    {
+        let complement = self.complement(a);
+        self.release(a);
+        complement
+    }
+
+    /// The meet of a set and an answer, in the place of their slots; a refusal where one was
+    /// answered.
+    pub fn in_both(&mut self, a: SetId, b: Result<SetId, SetErr>) -> Result<SetId, SetErr>
+        requires { AreTwo self.old a b }
+        ensures answer { (before : LiveSets) (f g : Function)
+            → OwnsBoth before self.old a f b g → OwnsAnswer before self.new (and_of f g) result }
+        ensures full { IsErrOf result SetErr.Full
+            → (IsErrOf b SetErr.Full × Releases self.old self.new a.0)
+            ⊎ NoRoom AnySet 0 self.old self.new }
+        ensures made { MakesOnly (piece_of and_of self.old a b) self.old self.new }
+        ensures sound { IsSets self.new }
+    {
+        match b {
+            Ok(b) => {
+                let met = self.meet(a, b);
+                self.release(a);
+                self.release(b);
+                met
+            }
+            Err(refusal) => {
+                self.release(a);
+                Err(refusal)
+            }
+        }
+    }
+
+    /// The join of a set and an answer, in the place of their slots; a refusal where one was
+    /// answered.
+    pub fn in_some(&mut self, a: SetId, b: Result<SetId, SetErr>) -> Result<SetId, SetErr>
+        requires { AreTwo self.old a b }
+        ensures answer { (before : LiveSets) (f g : Function)
+            → OwnsBoth before self.old a f b g → OwnsAnswer before self.new (or_of f g) result }
+        ensures full { IsErrOf result SetErr.Full
+            → (IsErrOf b SetErr.Full × Releases self.old self.new a.0)
+            ⊎ NoRoom AnySet 0 self.old self.new }
+        ensures made { MakesOnly (piece_of or_of self.old a b) self.old self.new }
+        ensures sound { IsSets self.new }
+    {
+        match b {
+            Ok(b) => {
+                let joined = self.join(a, b);
+                self.release(a);
+                self.release(b);
+                joined
+            }
+            Err(refusal) => {
+                self.release(a);
+                Err(refusal)
+            }
+        }
+    }
+
+    /// The lists of a set that are not in an answer, in the place of their slots; a refusal where one was
+    /// answered.
+    pub fn without(&mut self, a: SetId, b: Result<SetId, SetErr>) -> Result<SetId, SetErr>
+        requires { AreTwo self.old a b }
+        ensures answer { (before : LiveSets) (f g : Function)
+            → OwnsBoth before self.old a f b g → OwnsAnswer before self.new (minus_of f g) result }
+        ensures full { IsErrOf result SetErr.Full
+            → (IsErrOf b SetErr.Full × Releases self.old self.new a.0)
+            ⊎ NoRoom AnySet 0 self.old self.new }
+        ensures made { MakesOnly (piece_of minus_of self.old a b) self.old self.new }
+        ensures sound { IsSets self.new }
+    {
+        match b {
+            Ok(b) => {
+                let left = self.minus(a, b);
+                self.release(a);
+                self.release(b);
+                left
+            }
+            Err(refusal) => {
+                self.release(a);
+                Err(refusal)
+            }
+        }
+    }
+
+    /// The lists of `a` that are not in `b`, in the place of the slot of `b`.
+    pub fn rest_of(&mut self, a: SetId, b: SetId) -> Result<SetId, SetErr>
+        requires a_live { IsLive self.old a.0 }
+        requires b_live { IsLive self.old b.0 }
+        ensures answer { (before : LiveSets) (f : Function) → Owns before self.old ((b.0, f) ∷ [])
+            → OwnsAnswer before self.new (minus_of (set_of self.old a.0) f) result }
+        ensures full { IsErrOf result SetErr.Full → NoRoom AnySet 0 self.old self.new }
+        ensures made { MakesOnly (minus_of (set_of self.old a.0) (set_of self.old b.0) ∷ [])
+            self.old self.new }
+        ensures sound { IsSets self.new }
+    {
+        let rest = self.minus(a, b);
+        self.release(b);
+        rest
     }
 
     /// The cubes of a set, in the order of `task_core`'s definition: the empty set has none, the
@@ -323,8 +464,9 @@ impl Sets {
     /// The time grows with the literals that it gives.
     pub fn cubes(&self, a: SetId) -> Result<Vec<Cube>, AllocError>
         requires { IsLive self.now a.0 }
-        ensures { IfOk result (λ cubes. map (λ cube. cube.items) cubes.items
+        ensures answer { IfOk result (λ cubes. map (λ cube. cube.items) cubes.items
             ≡ cubes_of self.now.vars (λ state. set_of self.now a.0 (value_of state))) }
+        ensures sound { IsSets self.now }
     {
         let mut path = Vec::new(self.alloc);
         let mut cubes = Vec::new(self.alloc);

@@ -7,7 +7,6 @@ pub mod InitialLemmas
 pub mod LedLemmas
 pub mod MadeLemmas
 pub mod OnlyLemmas
-pub mod OwnedLemmas
 pub mod PartLemmas
 pub mod ShallowLemmas
 pub mod ShareLemmas
@@ -15,5 +14,4 @@ pub mod ShownLemmas
 pub mod StateLemmas
 pub mod StepLemmas
 pub mod TableLemmas
-pub mod TightLemmas
 pub mod WholeLemmas

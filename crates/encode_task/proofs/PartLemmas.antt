@@ -7,10 +7,11 @@ use Rattle.std.proofs.lemmas.List.Folds.{list_all_more, list_any_more, list_all-
 use Rattle.std.proofs.lemmas.Bool.{and_parts}
 use Rattle.dd_nodes.specs.Subfunctions.{Function}
 use Rattle.dd_ops.specs.Operations.{not_of, and_of, or_of}
-use Rattle.dd_sets.specs.Calls.{KeepsSets, Adds, AddsNone}
-use Rattle.dd_sets.specs.Frames.{Owns, OwnsAnswer}
+use Rattle.dd_sets.specs.Calls.{KeepsSets, Adds, AddsNone, Releases}
+use Rattle.dd_sets.specs.Frames.{AreTwo, Owns, OwnsAnswer}
 use Rattle.dd_sets.specs.LiveSets.{LiveSets}
-use Rattle.dd_sets.specs.Rooms.{IsTightFor}
+use Rattle.dd_sets.specs.Rooms.{AnySet, NoRoom}
+use Rattle.dd_sets.proofs.RoomSteps.{room_join}
 use Rattle.dd_sets.specs.declared.errors.SetErr.{SetErr}
 use Rattle.dd_sets.specs.declared.errors.SetErr.TheVariants.{Full}
 use Rattle.dd_sets.specs.declared.slots.SetId.{SetId}
@@ -20,9 +21,7 @@ use Rattle.task_core.specs.declared.conditions.Cond.TheFolds.{fold-roll-Cond}
 use Rattle.task_core.specs.declared.conditions.Cond.TheOpen as Open
 use Rattle.task_core.specs.declared.conditions.Cond.TheVariants.{Not, All, Any, rolls-Not, rolls-All, rolls-Any}
 use Rattle.task_core.proofs.Holds.{holds_Not, holds_All, holds_Any, ids_below_All, ids_below_Any}
-use Rattle.encode_task.proofs.OwnedLemmas.{answered, both, are_two}
-use Rattle.encode_task.proofs.TightLemmas.{tight_owned}
-use Rattle.encode_task.specs.Owned.{AreTwo}
+use Rattle.dd_sets.proofs.OwnedLemmas.{answered, both, are_two}
 
 -- where all, or some, of the parts hold
 abbrev pub all_hold : List Cond → Function
@@ -118,29 +117,10 @@ answer_slot start after set result slot is answered = subst (OwnsAnswer start af
 pub answer_refusal : (start after : LiveSets) (f g : Function) (result other : Result SetId SetErr) (e d : SetErr) → result ≡ Err e → other ≡ Err d → OwnsAnswer start after f result → OwnsAnswer start after g other
 answer_refusal start after f g result other e d is was answered = subst (OwnsAnswer start after g) (sym was) (subst (OwnsAnswer start after f) is answered)
 
--- a limit that is tight for a part, or for the join, is tight for the whole
-pub tight_part : (start now mid : LiveSets) (slot : SetId) (f g : Function) (answer : Result SetId SetErr) (k m : ℕ) → Owns start now ((slot.0, f) ∷ []) → OwnsAnswer now mid g answer
-    → (IsErrOf answer Full → IsTightFor (k + 4) now) → k + 1 ≤ m → IsErrOf answer Full ⊎ IsTightFor 0 mid → IsTightFor (m + 4) start
-tight_part start now mid slot f g answer k m owns answered full deeper cause = ⊎_elim
-    (λ (refused : IsErrOf answer Full). tight_owned start now ((slot.0, f) ∷ []) owns (k + 4) (m + 4) (omega arith) (full refused))
-    (λ (tight : IsTightFor 0 mid). of_answer answer answered tight)
-    cause
-  where
-    of_answer : (answer : Result SetId SetErr) → OwnsAnswer now mid g answer → IsTightFor 0 mid → IsTightFor (m + 4) start
-    of_answer (Ok other) answered tight = tight_owned start mid ((other.0, g) ∷ (slot.0, f) ∷ []) (both start now mid slot f g (Ok other) owns answered) 0 (m + 4) (omega arith) tight
-    of_answer (Err e) answered tight = tight_owned start mid ((slot.0, f) ∷ []) (both start now mid slot f g (Err e) owns answered) 0 (m + 4) (omega arith) tight
-
--- a limit that is tight for an answer, or for its join with a slot, is tight for both
-pub tight_join : (start now mid : LiveSets) (slot : SetId) (f g : Function) (answer : Result SetId SetErr) (k m : ℕ) → Owns start now ((slot.0, f) ∷ []) → OwnsAnswer now mid g answer
-    → (IsErrOf answer Full → IsTightFor k now) → k + 1 ≤ m → 2 ≤ m → IsErrOf answer Full ⊎ IsTightFor 0 mid → IsTightFor m start
-tight_join start now mid slot f g answer k m owns answered full room two cause = ⊎_elim
-    (λ (refused : IsErrOf answer Full). tight_owned start now ((slot.0, f) ∷ []) owns k m (omega arith) (full refused))
-    (λ (tight : IsTightFor 0 mid). of_answer answer answered tight)
-    cause
-  where
-    of_answer : (answer : Result SetId SetErr) → OwnsAnswer now mid g answer → IsTightFor 0 mid → IsTightFor m start
-    of_answer (Ok other) answered tight = tight_owned start mid ((other.0, g) ∷ (slot.0, f) ∷ []) (both start now mid slot f g (Ok other) owns answered) 0 m (omega arith) tight
-    of_answer (Err e) answered tight = tight_owned start mid ((slot.0, f) ∷ []) (both start now mid slot f g (Err e) owns answered) 0 m (omega arith) tight
+-- where a part, or its join, found no room, so did the whole
+pub room_part : (start now mid : LiveSets) (slot : SetId) (f g : Function) (answer : Result SetId SetErr) (k m : ℕ) {after : LiveSets} → Owns start now ((slot.0, f) ∷ []) → OwnsAnswer now mid g answer
+    → (IsErrOf answer Full → NoRoom AnySet (k + 4) now mid) → k + 1 ≤ m → (IsErrOf answer Full × Releases mid after slot.0) ⊎ NoRoom AnySet 0 mid after → NoRoom AnySet (m + 4) start after
+room_part start now mid slot f g answer k m owns answered full deeper cause = room_join start now mid slot f g answer (k + 4) (m + 4) owns answered full (omega arith) (omega arith) cause
 
 -- the slot that a call on the sets answered
 pub call_slot : (before after : LiveSets) (set : Function) (result : Result SetId SetErr) (slot : SetId) → result ≡ Ok slot → IfOk result (λ slot. Adds before after slot.0 set) → KeepsSets before after
@@ -165,8 +145,3 @@ item_passes {X = X} p n m xs i x all same within at = ap (λ k. p k x) same ∙ 
     at_index [] i all within = absurd (omega arith)
     at_index (y ∷ xs) zero all within = (and_parts (p n y) (list_all (p n) xs) all).0
     at_index (y ∷ xs) (suc i) all within = at_index xs i (and_parts (p n y) (list_all (p n) xs) all).1 (omega arith)
-
--- a limit that is tight after an answer is tight before it, with one slot more
-pub tight_answer : (now mid : LiveSets) (g : Function) (answer : Result SetId SetErr) (k m : ℕ) → OwnsAnswer now mid g answer → k + 1 ≤ m → IsTightFor k mid → IsTightFor m now
-tight_answer now mid g (Ok slot) k m answered room tight = tight_owned now mid ((slot.0, g) ∷ []) answered k m (omega arith) tight
-tight_answer now mid g (Err e) k m answered room tight = tight_owned now mid [] answered k m (omega arith) tight

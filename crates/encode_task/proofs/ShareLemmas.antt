@@ -12,7 +12,7 @@ use Rattle.encode_task.specs.Made.{Holds}
 use Rattle.encode_task.specs.Slots.{ActionSlots}
 use Rattle.encode_task.specs.Tables.{IsShared, IsSharedSlot, SharesLeft}
 use Rattle.encode_task.proofs.MadeLemmas.{holds_kept}
-use Rattle.encode_task.proofs.OwnedLemmas.{one_live, own_set}
+use Rattle.dd_sets.proofs.OwnedLemmas.{one_live, own_set}
 
 -- the elements of a list with one more
 at_front : (shared : List (Option SetId)) (slot : Option SetId) (g : ℕ) → g < length shared → slice_index_or (shared ++ slot ∷ []) g None ≡ slice_index_or shared g None

@@ -4,7 +4,6 @@ pub mod Images
 pub mod Laws
 pub mod Made
 pub mod Names
-pub mod Owned
 pub mod Seen
 pub mod Slots
 pub mod Tables

@@ -20,7 +20,7 @@ ghost use Rattle.std.specs.Prelude.{
 ghost use Rattle.std.specs.List.{list_all, list_any};
 ghost use Rattle.dd_sets.specs.Calls.{KeepsSets};
 ghost use Rattle.dd_sets.specs.LiveSets.{LiveSets, live_count};
-ghost use Rattle.dd_sets.specs.Rooms.{IsTightFor};
+ghost use Rattle.dd_sets.specs.Rooms.{AnySet, NoRoom};
 ghost use Rattle.task_core.specs.Actions.{action_is_shallow, action_within, outcome_within};
 ghost use Rattle.task_core.specs.declared.actions.Change.{Change};
 ghost use Rattle.encode_task.specs.Counts.{left_by, left_in_actions, left_in_outcomes};
@@ -59,7 +59,8 @@ pub fn encode_actions(
         ≤ live_count sets.old + length actions.now * (most * sets.old.vars + 1)) }
     ensures full { IsErrOf result SetErr.Full
         → (most : ℕ) → list_all (has_outcomes_within most) actions.now ≡ true
-        → IsTightFor (length actions.now * (most * sets.old.vars + 1) + 210) sets.old }
+        → NoRoom AnySet (length actions.now * (most * sets.old.vars + 1) + 210)
+        sets.old sets.new }
 {
     let mut made = Vec::new(alloc);
     for action in actions {
@@ -85,7 +86,8 @@ fn encode_action(
         live_count sets.new + left_in_outcomes sets.old.vars (slots_of made).outcomes
         ≤ live_count sets.old + (length action.now.outcomes.items * sets.old.vars + 1)) }
     ensures full { IsErrOf result SetErr.Full
-        → IsTightFor (length action.now.outcomes.items * sets.old.vars + 210) sets.old }
+        → NoRoom AnySet (length action.now.outcomes.items * sets.old.vars + 210)
+        sets.old sets.new }
 {
     let exec = set_where(sets, &action.exec)?;
     let outcomes = encode_outcomes(alloc, sets, &action.outcomes)?;
@@ -109,7 +111,8 @@ fn encode_outcomes(
         + left_in_outcomes sets.old.vars (map (λ changed. changed.items) made.items)
         ≤ live_count sets.old + length outcomes.now * sets.old.vars) }
     ensures full { IsErrOf result SetErr.Full
-        → IsTightFor (length outcomes.now * sets.old.vars + 209) sets.old }
+        → NoRoom AnySet (length outcomes.now * sets.old.vars + 209)
+        sets.old sets.new }
 {
     let mut made = Vec::new(alloc);
     for outcome in outcomes {
@@ -129,7 +132,7 @@ fn encode_outcome(alloc: Global, sets: &mut Sets, outcome: &Outcome) -> Result<C
         AddsOnly sets.old sets.new (λ slot. is_listed slot changed.items)) }
     ensures few { IfOk result (λ changed. live_count sets.new + left_by sets.old.vars changed.items
         ≤ live_count sets.old + sets.old.vars) }
-    ensures full { IsErrOf result SetErr.Full → IsTightFor (sets.old.vars + 208) sets.old }
+    ensures full { IsErrOf result SetErr.Full → NoRoom AnySet (sets.old.vars + 208) sets.old sets.new }
 {
     let mut changed = Vec::new(alloc);
     for change in &outcome.changes {
@@ -157,7 +160,7 @@ fn encode_fluent(
         → AddsOnly before sets.new (λ slot. is_listed slot changed.new.items)) }
     ensures few { OnOk result (live_count sets.new + left_by sets.old.vars changed.new.items
         ≤ live_count sets.old + left_by sets.old.vars changed.old.items) }
-    ensures full { IsErrOf result SetErr.Full → IsTightFor 208 sets.old }
+    ensures full { IsErrOf result SetErr.Full → NoRoom AnySet 208 sets.old sets.new }
 {
     if slot_for(changed, f).is_some() {
         return Ok(());

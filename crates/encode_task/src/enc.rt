@@ -16,8 +16,8 @@ ghost use Rattle.std.specs.Prelude.{
 };
 ghost use Rattle.std.specs.Borrow.{Lends, sem};
 ghost use Rattle.dd_sets.specs.Calls.{KeepsSets, Adds, AddsNone};
-ghost use Rattle.dd_sets.specs.LiveSets.{IsLive, set_of, live_count};
-ghost use Rattle.dd_sets.specs.Rooms.{IsAtLimit, IsTightFor, Tight, nodes_of_slots};
+ghost use Rattle.dd_sets.specs.LiveSets.{IsLive, IsSets, set_of, live_count};
+ghost use Rattle.dd_sets.specs.Rooms.{AnySet, NoRoom, Tight, nodes_of_slots};
 ghost use Rattle.dd_sets.specs.contracts.sets.Sets as SetsRow;
 ghost use Rattle.task_core.specs.Actions.{goal_is_shallow, goal_within};
 ghost use Rattle.task_core.specs.Conditions.{holds, ids_below, is_shallow};
@@ -87,6 +87,7 @@ pub fn encode(alloc: Global, task: &Task, limit: u32) -> Result<Enc, SetErr>
     requires small_limit { limit ≤ 16777216 }
     ensures made { IfOk result (λ enc. MadeOf task.now enc) }
     ensures limit { IfOk result (λ enc. enc.sets.limit ≡ limit) }
+    ensures sound { IfOk result (λ enc. IsSets enc.sets) }
     ensures few { IfOk result (λ enc. live_count enc.sets ≤ kept_slots task.now) }
     ensures only_kept { IfOk result (λ enc.
         (slot : ℕ) → IsLive enc.sets slot → is_kept enc slot ≡ true) }
@@ -96,6 +97,7 @@ pub fn encode(alloc: Global, task: &Task, limit: u32) -> Result<Enc, SetErr>
     let fluents = task.fluents.len() as u32;
     let mut sets = Sets::new(alloc, fluents, limit)?;
     let kept = encode_sets(alloc, &mut sets, task)?;
+    sets.sound();
     Ok(Enc {
         sets,
         fluents,
@@ -137,7 +139,8 @@ fn encode_sets(alloc: Global, sets: &mut Sets, task: &Task) -> Result<KeptSlots,
     }))) }
     ensures few { OnOk result (live_count sets.new
         ≤ live_count sets.old + action_slots task.now + 2) }
-    ensures full { IsErrOf result SetErr.Full → IsTightFor (action_slots task.now + 212) sets.old }
+    ensures full { IsErrOf result SetErr.Full
+        → NoRoom AnySet (action_slots task.now + 212) sets.old sets.new }
 {
     let initial = initial_states(sets, task)?;
     let goal = goal_states(sets, &task.goal)?;
@@ -160,7 +163,7 @@ fn goal_states(sets: &mut Sets, goal: &Option<Cond>) -> Result<Option<SetId>, Se
     ensures only { IfOk result (λ slot.
         AddsOnly sets.old sets.new (λ other. is_slot other slot)) }
     ensures few { OnOk result (live_count sets.new ≤ live_count sets.old + 1) }
-    ensures full { IsErrOf result SetErr.Full → IsTightFor 204 sets.old }
+    ensures full { IsErrOf result SetErr.Full → NoRoom AnySet 204 sets.old sets.new }
 {
     match goal {
         Some(goal) => {
@@ -252,13 +255,15 @@ impl Enc {
         ensures kept { KeepsSets self.old.sets self.new.sets }
         ensures refused { OnErr result (AddsNone self.old.sets self.new.sets) }
         ensures full { IsErrOf result SetErr.Full → is_shallow cond.now ≡ true
-            → IsTightFor 204 self.old.sets }
-        ensures at_limit { IsErrOf result SetErr.Full → IsAtLimit self.new.sets }
+            → NoRoom AnySet 204 self.old.sets self.new.sets }
+        ensures sound { IsSets self.new.sets }
         ensures same_slots { self.new ≡ record self.old { sets = self.new.sets } }
         ensures made { (task : Task) → MadeOf task self.old → MadeOf task self.new }
         ensures ready { IsReady self.old → IsReady self.new }
     {
-        set_where(&mut self.sets, cond)
+        let answer = set_where(&mut self.sets, cond);
+        self.sets.sound();
+        answer
     }
 
     /// The lists of truth values that an outcome leads into a set, in a new slot: those whose
@@ -273,8 +278,9 @@ impl Enc {
             (led_into task a.0 outcome (set_of self.old.sets x.0))) }
         ensures kept { KeepsSets self.old.sets self.new.sets }
         ensures refused { OnErr result (AddsNone self.old.sets self.new.sets) }
-        ensures full { IsErrOf result SetErr.Full → IsTightFor 0 self.old.sets }
-        ensures at_limit { IsErrOf result SetErr.Full → IsAtLimit self.new.sets }
+        ensures full { IsErrOf result SetErr.Full
+            → NoRoom AnySet 0 self.old.sets self.new.sets }
+        ensures sound { IsSets self.new.sets }
         ensures same_slots { self.new ≡ record self.old { sets = self.new.sets } }
         ensures made { (task : Task) → MadeOf task self.old → MadeOf task self.new }
         ensures ready { IsReady self.old → IsReady self.new }

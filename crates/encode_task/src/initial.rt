@@ -4,7 +4,7 @@ ghost use Rattle.std.specs.List.{list_all};
 ghost use Rattle.dd_ops.specs.Operations.{and_of, cofactor_of, or_of};
 ghost use Rattle.dd_sets.specs.Frames.{OwnsAnswer};
 ghost use Rattle.dd_sets.specs.LiveSets.{IsLive, set_of};
-ghost use Rattle.dd_sets.specs.Rooms.{IsTightFor};
+ghost use Rattle.dd_sets.specs.Rooms.{AnySet, NoRoom};
 ghost use Rattle.task_core.specs.Initial.{entry_of, lit_within};
 ghost use Rattle.task_core.specs.States.{vector};
 ghost use Rattle.task_core.specs.Tasks.{fluent_count};
@@ -18,7 +18,6 @@ ghost use Rattle.encode_task.specs.Images.{
 };
 ghost use Rattle.encode_task.specs.TaskSets.{initial_set, set_of_states};
 
-use crate::conditions::in_some;
 use dd_sets::{SetErr, SetId, Sets};
 use task_core::{Alternative, FluentId, Lit, State, Task};
 
@@ -26,7 +25,7 @@ use task_core::{Alternative, FluentId, Lit, State, Task};
 pub fn initial_states(sets: &mut Sets, task: &Task) -> Result<SetId, SetErr>
     requires { sets.old.vars ≡ fluent_count task.now }
     ensures answer { OwnsAnswer sets.old sets.new (initial_set task.now) result }
-    ensures full { IsErrOf result SetErr.Full → IsTightFor 8 sets.old }
+    ensures full { IsErrOf result SetErr.Full → NoRoom AnySet 8 sets.old sets.new }
 {
     let mut states = one_state(sets, &task.init.facts, task.fluents.len() as u32)?;
     for entry in &task.init.entries {
@@ -45,7 +44,7 @@ fn one_state(sets: &mut Sets, state: &State, fluents: u32) -> Result<SetId, SetE
     requires few { fluents ≤ 256 }
     ensures answer { OwnsAnswer sets.old sets.new
         (set_of_states fluents (vector fluents state.now ∷ [])) result }
-    ensures full { IsErrOf result SetErr.Full → IsTightFor 4 sets.old }
+    ensures full { IsErrOf result SetErr.Full → NoRoom AnySet 4 sets.old sets.new }
 {
     let mut all = sets.whole()?;
     for f in (0..fluents).rev() {
@@ -63,7 +62,7 @@ fn where_value(sets: &mut Sets, a: SetId, f: FluentId, value: bool) -> Result<Se
     requires fluent { f.0 < sets.old.vars }
     ensures answer { OwnsAnswer sets.old sets.new
         (and_of (set_of sets.old a.0) (has_value f.0 value)) result }
-    ensures full { IsErrOf result SetErr.Full → IsTightFor 1 sets.old }
+    ensures full { IsErrOf result SetErr.Full → NoRoom AnySet 1 sets.old sets.new }
 {
     let is_true = sets.of_fluent(f)?;
     if value {
@@ -84,11 +83,11 @@ fn for_some_value(sets: &mut Sets, a: SetId, f: FluentId) -> Result<SetId, SetEr
     ensures answer { OwnsAnswer sets.old sets.new
         (or_of (cofactor_of (set_of sets.old a.0) f.0 false)
         (cofactor_of (set_of sets.old a.0) f.0 true)) result }
-    ensures full { IsErrOf result SetErr.Full → IsTightFor 2 sets.old }
+    ensures full { IsErrOf result SetErr.Full → NoRoom AnySet 2 sets.old sets.new }
 {
     let low = sets.cofactor(a, f, false)?;
     let high = sets.cofactor(a, f, true);
-    in_some(sets, low, high)
+    sets.in_some(low, high)
 }
 
 /// The states of a set with a value assigned, in a new slot.
@@ -97,7 +96,7 @@ fn value_assigned(sets: &mut Sets, a: SetId, f: FluentId, value: bool) -> Result
     requires fluent { f.0 < sets.old.vars }
     ensures answer { OwnsAnswer sets.old sets.new
         (assigned f.0 value (set_of sets.old a.0)) result }
-    ensures full { IsErrOf result SetErr.Full → IsTightFor 2 sets.old }
+    ensures full { IsErrOf result SetErr.Full → NoRoom AnySet 2 sets.old sets.new }
 {
     let free = for_some_value(sets, a, f)?;
     let answer = where_value(sets, free, f, value);
@@ -111,7 +110,7 @@ fn with_literal(sets: &mut Sets, a: SetId, lit: &Lit, positive: bool) -> Result<
     requires fluent { lit_within sets.old.vars lit.now ≡ true }
     ensures answer { OwnsAnswer sets.old sets.new
         (assigned_literal positive (set_of sets.old a.0) lit.now) result }
-    ensures full { IsErrOf result SetErr.Full → IsTightFor 2 sets.old }
+    ensures full { IsErrOf result SetErr.Full → NoRoom AnySet 2 sets.old sets.new }
 {
     if lit.positive == positive {
         value_assigned(sets, a, lit.fluent, positive)
@@ -126,7 +125,7 @@ fn with_signed(sets: &mut Sets, a: SetId, lits: &[Lit], positive: bool) -> Resul
     requires fluents { list_all (lit_within sets.old.vars) lits.now ≡ true }
     ensures answer { OwnsAnswer sets.old sets.new
         (assigned_signed positive lits.now (set_of sets.old a.0)) result }
-    ensures full { IsErrOf result SetErr.Full → IsTightFor 3 sets.old }
+    ensures full { IsErrOf result SetErr.Full → NoRoom AnySet 3 sets.old sets.new }
 {
     let mut states = sets.copy(a)?;
     for lit in lits {
@@ -143,7 +142,7 @@ fn with_literals(sets: &mut Sets, a: SetId, lits: &[Lit]) -> Result<SetId, SetEr
     requires live { IsLive sets.old a.0 }
     requires fluents { list_all (lit_within sets.old.vars) lits.now ≡ true }
     ensures answer { OwnsAnswer sets.old sets.new (image lits.now (set_of sets.old a.0)) result }
-    ensures full { IsErrOf result SetErr.Full → IsTightFor 4 sets.old }
+    ensures full { IsErrOf result SetErr.Full → NoRoom AnySet 4 sets.old sets.new }
 {
     let deleted = with_signed(sets, a, lits, false)?;
     let answer = with_signed(sets, deleted, lits, true);
@@ -157,12 +156,12 @@ fn after_entry(sets: &mut Sets, a: SetId, entry: &[Alternative]) -> Result<SetId
     requires fluents { list_all (list_all (lit_within sets.old.vars)) (entry_of entry.now) ≡ true }
     ensures answer { OwnsAnswer sets.old sets.new
         (entry_image (set_of sets.old a.0) (entry_of entry.now)) result }
-    ensures full { IsErrOf result SetErr.Full → IsTightFor 6 sets.old }
+    ensures full { IsErrOf result SetErr.Full → NoRoom AnySet 6 sets.old sets.new }
 {
     let mut after = sets.none()?;
     for alternative in entry {
         let image = with_literals(sets, a, &alternative.lits);
-        after = in_some(sets, after, image)?;
+        after = sets.in_some(after, image)?;
     }
     Ok(after)
 }

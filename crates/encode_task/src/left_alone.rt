@@ -3,7 +3,7 @@ ghost use Rattle.std.specs.Prelude.{◌≡◌, ◌+◌, ◌<◌, ◌≤◌, map,
 ghost use Rattle.std.specs.List.{list_any};
 ghost use Rattle.dd_sets.specs.Calls.{KeepsSets};
 ghost use Rattle.dd_sets.specs.LiveSets.{live_count};
-ghost use Rattle.dd_sets.specs.Rooms.{IsTightFor};
+ghost use Rattle.dd_sets.specs.Rooms.{AnySet, NoRoom};
 ghost use Rattle.encode_task.specs.Counts.{
   leaves as is_left_by_outcome,
   left_in_actions,
@@ -42,7 +42,8 @@ pub fn share(
     ensures few { IfOk result (λ _. live_count sets.new
         ≤ live_count sets.old + left_in_actions sets.old.vars (map slots_of actions.now)) }
     ensures full { IsErrOf result SetErr.Full
-        → IsTightFor (left_in_actions sets.old.vars (map slots_of actions.now)) sets.old }
+        → NoRoom AnySet (left_in_actions sets.old.vars (map slots_of actions.now))
+        sets.old sets.new }
 {
     let mut shared = Vec::new(alloc);
     for f in 0..fluents {
@@ -62,7 +63,7 @@ fn share_fluent(
     ensures answer { IfOk result (λ slot.
         IsSharedSlot sets.old sets.new (is_left (map slots_of actions.now) f.0) f.0 slot) }
     ensures kept { KeepsSets sets.old sets.new }
-    ensures full { IsErrOf result SetErr.Full → IsTightFor 0 sets.old }
+    ensures full { IsErrOf result SetErr.Full → NoRoom AnySet 0 sets.old sets.new }
 {
     if some_leaves(actions, f) {
         Ok(Some(sets.of_fluent(f)?))

@@ -4,13 +4,13 @@ ghost use Rattle.std.specs.List.{list_any};
 ghost use Rattle.dd_nodes.specs.Subfunctions.{Function};
 ghost use Rattle.dd_sets.specs.Frames.{Owns, OwnsAnswer};
 ghost use Rattle.dd_sets.specs.LiveSets.{LiveSets, IsLive};
-ghost use Rattle.dd_sets.specs.Rooms.{IsTightFor};
+ghost use Rattle.dd_sets.specs.Rooms.{AnySet, NoRoom};
 ghost use Rattle.task_core.specs.Actions.{after_value, change_makes, change_within, outcome_within};
 ghost use Rattle.task_core.specs.Conditions.{is_shallow};
 ghost use Rattle.task_core.specs.Vectors.{same_value};
 ghost use Rattle.encode_task.specs.Names.{outcome_is_shallow};
 
-use crate::conditions::{in_some, set_where, without};
+use crate::conditions::set_where;
 use dd_sets::{SetErr, SetId, Sets};
 use task_core::{Change, FluentId, Outcome};
 
@@ -22,13 +22,13 @@ pub fn next_value(sets: &mut Sets, outcome: &Outcome, f: FluentId) -> Result<Set
     requires shallow { outcome_is_shallow outcome.now ≡ true }
     ensures answer { OwnsAnswer sets.old sets.new (λ values. after_value outcome.now values f.0)
         result }
-    ensures full { IsErrOf result SetErr.Full → IsTightFor 208 sets.old }
+    ensures full { IsErrOf result SetErr.Full → NoRoom AnySet 208 sets.old sets.new }
 {
     let value = sets.of_fluent(f)?;
     let deleted = made_so(sets, outcome, f, false);
-    let kept = without(sets, value, deleted)?;
+    let kept = sets.without(value, deleted)?;
     let added = made_so(sets, outcome, f, true);
-    in_some(sets, kept, added)
+    sets.in_some(kept, added)
 }
 
 /// The lists of truth values at which some change of an outcome makes a fluent true (positive) or
@@ -38,7 +38,7 @@ fn made_so(sets: &mut Sets, outcome: &Outcome, f: FluentId, positive: bool) -> R
     requires shallow { outcome_is_shallow outcome.now ≡ true }
     ensures answer { OwnsAnswer sets.old sets.new
         (λ values. list_any (change_makes positive values f.0) outcome.now.changes.items) result }
-    ensures full { IsErrOf result SetErr.Full → IsTightFor 206 sets.old }
+    ensures full { IsErrOf result SetErr.Full → NoRoom AnySet 206 sets.old sets.new }
 {
     let mut some = sets.none()?;
     for change in &outcome.changes {
@@ -62,11 +62,11 @@ fn with_change(
     ensures answer { (before : LiveSets) (set : Function)
         → Owns before sets.old ((some.0, set) ∷ []) → OwnsAnswer before sets.new
         (λ values. set values || change_makes positive values f.0 change.now) result }
-    ensures full { IsErrOf result SetErr.Full → IsTightFor 205 sets.old }
+    ensures full { IsErrOf result SetErr.Full → NoRoom AnySet 205 sets.old sets.new }
 {
     if is_about(change, f, positive) {
         let answer = set_where(sets, &change.cond);
-        in_some(sets, some, answer)
+        sets.in_some(some, answer)
     } else {
         Ok(some)
     }

@@ -17,9 +17,8 @@ use Rattle.plan_rules.specs.Denoted.{advises, denoted, IsExecutable}
 use Rattle.plan_theory.specs.Layers.{layer, covers, leads_by, may_lead, action_numbers, rank_within, IsLastLayer}
 use Rattle.plan_theory.specs.LayerPlans.{chosen_action, action_of_rank, takers, rules_of_action, printed_rules}
 use Rattle.plan_theory.proofs.Cubes.{cubes_match}
-use Rattle.plan_theory.proofs.Weak.{HasOutcome-Exec, same_vector-itself, same_vector-true}
+use Rattle.plan_theory.proofs.Tests.{HasOutcome-Exec, is_action-Some, is_action-from, same_vector-itself, same_vector-true}
 use Rattle.plan_theory.proofs.WeakDenoted.{denoted-from, denoted-pair, can_execute-outcome}
-use Rattle.plan_theory.proofs.WeakPrinted.{is_action-Some, is_action-from}
 use Rattle.plan_theory.proofs.WeakLists.{range_with_len-last, list_any-agree, list_all-agree, list_all-at, list_all-from, list_any-from, list_any-none, list_any-witness, find-None, find-Some, find-found, Contains-map, Contains-map-witness, Contains-flat_map, Contains-flat_map-witness, Contains-range_with_len, Contains-range_with_len-below}
 
 -- sets that agree on an action's outcomes are led to alike

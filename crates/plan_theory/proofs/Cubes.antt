@@ -8,7 +8,7 @@ use Rattle.task_core.specs.Vectors.{Vector, all_vectors, same_value, value_of}
 use Rattle.task_core.specs.Cubes.{Cube, SetOfVectors, matches, literal, half, is_empty_set, is_whole_set, ignores_first, cubes_from}
 use Rattle.std.proofs.lemmas.List.Elements.{Contains-append_left, Contains-append_right, Contains-append_cases}
 use Rattle.plan_theory.proofs.WeakLists.{Contains-nil, Contains-head, Contains-cases, Contains-map, Contains-map-witness, list_any-false, list_all-at, list_any-agree, list_any-none, list_any-map, map-agree}
-use Rattle.plan_theory.proofs.Weak.{same_value-true}
+use Rattle.plan_theory.proofs.Tests.{same_value-true}
 
 -- a vector of n values is one of them, and each of them has n values
 pub all_vectors-holds : (n : ℕ) (v : Vector) → length v ≡ n → Contains (all_vectors n) v

@@ -6,7 +6,8 @@ use Rattle.std.specs.List.{Contains}
 use Rattle.std.proofs.lemmas.Bool.{or_cases}
 use Rattle.task_core.specs.Vectors.{Vector}
 use Rattle.task_core.specs.Systems.{System, IsState, IsSystem, goal_states}
-use Rattle.task_core.specs.Tables.{IsPath, IsTerminal, Table, last_state}
+use Rattle.task_core.specs.Tables.{IsTerminal, Table, Leads}
+use Rattle.task_core.specs.Paths.{IsPath, last_of}
 use Rattle.task_core.specs.Solutions.{IsReached, IsStrongCyclicSolution, MayReachGoal}
 use Rattle.task_core.specs.declared.classes.Class.TheVariants.{Weak}
 use Rattle.plan_rules.specs.Denoted.{IsExecutable, denoted}
@@ -53,7 +54,7 @@ module _ (sys : System) (pairs : Pairs) where
       let t = some_element (sub.next v a) (can_execute-Exec sub v a d.executable) in
       denoted-from sys (cyclic_rules sys pairs) v a (record { state = d.state; below = d.below; advised = d.advised; executable = can_execute-outcome sys v a t.0 (outcome_of_pair sys pairs v a t.0 t.1).1 })
 
-  path_from_sub : (v : Vector) (rest : List Vector) → IsPath sub printed_below v rest → IsPath sys printed v rest
+  path_from_sub : (v : Vector) (rest : List Vector) → IsPath (Leads sub printed_below) v rest → IsPath (Leads sys printed) v rest
   path_from_sub v [] path = tt
   path_from_sub v (t ∷ rest) path =
       let lead = path.0 in
@@ -85,7 +86,7 @@ module _ (sys : System) (pairs : Pairs) where
       state : IsState sys v
       connects : connected sys pairs v ≡ true
 
-    near_along : (v : Vector) (rest : List Vector) → IsNear v → IsPath sys printed v rest → IsNear (last_state v rest)
+    near_along : (v : Vector) (rest : List Vector) → IsNear v → IsPath (Leads sys printed) v rest → IsNear (last_of v rest)
     near_along v [] n path = n
     near_along v (t ∷ rest) n path =
         let lead = path.0 in
@@ -103,7 +104,7 @@ module _ (sys : System) (pairs : Pairs) where
           subst IsNear reached.path.ends
           (near_along reached.start reached.path.rest (record { state = s; connects = near reached.start s (list_all-at (goal_or_pair sys pairs) sys.initial reached.start covered reached.initial) }) reached.path.path)
 
-      at_end : (v : Vector) (rest : List Vector) → IsPath sys printed v rest → IsTerminal printed v → last_state v rest ≡ v
+      at_end : (v : Vector) (rest : List Vector) → IsPath (Leads sys printed) v rest → IsTerminal printed v → last_of v rest ≡ v
       at_end v [] path terminal = refl
       at_end v (t ∷ rest) path terminal = absurd (terminal path.0.action path.0.pair)
 

@@ -1,13 +1,11 @@
 pub mod WeakLists
 pub mod Ranges
-pub mod Layers
-pub mod LayersStable
-pub mod LayersChosen
-pub mod Weak
+pub mod Tests
 pub mod Cubes
 pub mod WeakDenoted
-pub mod WeakPrinted
 pub mod ClassLayers
+pub mod Weak
+pub mod WeakPrinted
 pub mod NoStrong
 pub mod StrongPrinted
 pub mod LeastBounds
@@ -24,6 +22,7 @@ pub mod SafeSets
 pub mod StageSets
 pub mod Towards
 pub mod RuleParts
+pub mod FiniteContexts
 pub mod PlanRuns
 pub mod Sound
 pub mod NoChain

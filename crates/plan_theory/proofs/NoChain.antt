@@ -2,10 +2,11 @@
 use Rattle.std.proofs.Common.{◌≡◌, ℕ, zero, suc, ◌^◌, Bool, true, false, List, [], ◌∷◌, length, refl, sym, ◌∙◌, ap, subst, arith, ⊎_elim, inr}
 use Rattle.std.proofs.lemmas.Bool.{and_from, or_right, true≢false}
 use Rattle.ctl_syntax.specs.Goals.{plain, all, goal_row}
-use Rattle.ctl_syntax.specs.Paths.{IsPathFrom, Keeps, Meets, MeetsOrKeeps}
+use Rattle.ctl_syntax.specs.Paths.{Keeps, Meets, MeetsOrKeeps}
 use Rattle.ctl_syntax.specs.Truth.{Anything, Nothing, Satisfies}
 use Rattle.ctl_syntax.proofs.Meeting.{keeps_first, keeps_rest, meets_cases, meets_nothing}
 use Rattle.task_core.specs.ContextPlans.{Configuration, ContextPlan, Follows, IsComplete, IsInitial, IsReachable}
+use Rattle.task_core.specs.Paths.{IsPath}
 use Rattle.task_core.specs.Cubes.{SetOfVectors}
 use Rattle.task_core.specs.Systems.{System, IsSystem}
 use Rattle.plan_theory.proofs.WeakLists.{list_all-from}
@@ -60,7 +61,7 @@ module _ (sys : System) (ok : IsSystem sys) (keep : SetOfVectors) (plan : Contex
     met_at x reached h = and_from (p x.state) (win sys keep rest x.state) h.0 (later x reached h.1.0)
 
     abbrev MeetsIn : ℕ → Configuration → Type 0
-    MeetsIn n x = (path : List Configuration) → length path ≡ n → IsPathFrom Step x path → Meets Anything IsMet (x ∷ path)
+    MeetsIn n x = (path : List Configuration) → length path ≡ n → IsPath Step x path → Meets Anything IsMet (x ∷ path)
 
     -- where it isn't met yet, one step less is left to each configuration that follows
     meets_next : (n : ℕ) (x y : Configuration) → Reached x → met x.state ≡ false → MeetsIn (suc n) x → Step x y → MeetsIn n y

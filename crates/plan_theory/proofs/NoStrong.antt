@@ -7,7 +7,9 @@ use Rattle.std.proofs.lemmas.Bool.{false≢true, true≢false, and_from, and_par
 use Rattle.std.proofs.lemmas.List.{length-append}
 use Rattle.task_core.specs.Vectors.{Vector, all_vectors, same_vector}
 use Rattle.task_core.specs.Systems.{System, Exec, HasOutcome, IsSystem, IsState}
-use Rattle.task_core.specs.Tables.{Table, IsTable, IsPath, IsTerminal, Leads, Reaches, last_state}
+use Rattle.task_core.specs.Tables.{Table, IsTable, IsTerminal, Leads, Reaches}
+use Rattle.task_core.specs.Paths.{IsPath}
+use Rattle.task_core.proofs.Paths.{last_onward, path_onward}
 use Rattle.task_core.specs.Solutions.{HasNoSolution, IsReached, IsStrongSolution}
 use Rattle.task_core.specs.declared.classes.Class.TheVariants.{Strong}
 use Rattle.task_core.proofs.Vectors.{length-all_vectors}
@@ -66,20 +68,12 @@ Apart-few (x ∷ xs) ys apart there =
     let others = length-append at.front at.back in
     omega arith
 
--- one step more at the end of a path
-step_more : (sys : System) (table : Table) (x : Vector) (rest : List Vector) (t : Vector) → IsPath sys table x rest → Leads sys table (last_state x rest) t → IsPath sys table x (rest ++ t ∷ [])
-step_more sys table x [] t path lead = (lead, tt)
-step_more sys table x (y ∷ rest) t path lead = (path.0, step_more sys table y rest t path.1 lead)
-
-last_more : (x : Vector) (rest : List Vector) (t : Vector) → last_state x (rest ++ t ∷ []) ≡ t
-last_more x [] t = refl
-last_more x (y ∷ rest) t = last_more y rest t
-
+-- one step more
 pub reach_more : (sys : System) (table : Table) (x s t : Vector) → Reaches sys table x s → Leads sys table s t → Reaches sys table x t
 reach_more sys table x s t r lead = record {
   rest = r.rest ++ t ∷ [];
-  path = step_more sys table x r.rest t r.path (subst (λ v. Leads sys table v t) (sym r.ends) lead);
-  ends = last_more x r.rest t;
+  path = path_onward (Leads sys table) x r.rest t r.path (subst (λ v. Leads sys table v t) (sym r.ends) lead);
+  ends = last_onward x r.rest t;
 }
 
 here : (sys : System) (table : Table) (s : Vector) → Reaches sys table s s
@@ -187,14 +181,14 @@ stable_no_strong sys k ok stable short table is_table solves =
 -- the paths of a strong solution pass no state twice, so that they are no longer than there are
 -- states
 module _ (sys : System) (ok : IsSystem sys) (table : Table) (solves : IsStrongSolution sys table) where
-  reach_from : (x t : Vector) (rest : List Vector) → IsPath sys table t rest → Contains (t ∷ rest) x → Reaches sys table t x
+  reach_from : (x t : Vector) (rest : List Vector) → IsPath (Leads sys table) t rest → Contains (t ∷ rest) x → Reaches sys table t x
   reach_from x t [] path h = ⊎_elim (λ e. subst (Reaches sys table t) e (here sys table t)) (λ c. absurd (Contains-nil x c)) (Contains-cases t [] x h)
   reach_from x t (u ∷ rest) path h =
       ⊎_elim (λ e. subst (Reaches sys table t) e (here sys table t))
       (λ c. let r = reach_from x u rest path.1 c in record { rest = u ∷ r.rest; path = (path.0, r.path); ends = r.ends })
       (Contains-cases t (u ∷ rest) x h)
 
-  never_twice : (s : Vector) (rest : List Vector) → IsReached sys table s → IsPath sys table s rest → Apart (s ∷ rest)
+  never_twice : (s : Vector) (rest : List Vector) → IsReached sys table s → IsPath (Leads sys table) s rest → Apart (s ∷ rest)
   unfolding Apart
   never_twice s [] reached path = ((λ h. Contains-nil s h), tt)
   never_twice s (t ∷ rest) reached path = (
@@ -202,7 +196,7 @@ module _ (sys : System) (ok : IsSystem sys) (table : Table) (solves : IsStrongSo
     never_twice t rest (record { start = reached.start; initial = reached.initial; path = reach_more sys table reached.start s t reached.path path.0 }) path.1,
   )
 
-  all_states : (s : Vector) (rest : List Vector) → IsState sys s → IsPath sys table s rest → (x : Vector) → Contains (s ∷ rest) x → IsState sys x
+  all_states : (s : Vector) (rest : List Vector) → IsState sys s → IsPath (Leads sys table) s rest → (x : Vector) → Contains (s ∷ rest) x → IsState sys x
   all_states s [] is path x h = ⊎_elim (λ e. subst (IsState sys) e is) (λ c. absurd (Contains-nil x c)) (Contains-cases s [] x h)
   all_states s (t ∷ rest) is path x h =
       ⊎_elim (λ e. subst (IsState sys) e is)

@@ -2,7 +2,8 @@
 use Rattle.std.proofs.Common.{◌≡◌, List, [], ◌∷◌, ◌++◌, Option, None, Some, refl, sym, subst}
 use Rattle.std.specs.Prelude.{IsSome}
 use Rattle.std.proofs.lemmas.Bool.{false≢true}
-use Rattle.task_core.specs.ContextPlans.{Configuration, ContextPlan, Follows, GoesOn, IsInitial, IsReachable, IsRun, last_configuration}
+use Rattle.task_core.specs.ContextPlans.{Configuration, ContextPlan, Follows, GoesOn, IsInitial, IsReachable}
+use Rattle.task_core.proofs.Paths.{last_onward, path_keeps, path_onward}
 use Rattle.task_core.specs.Systems.{System, HasOutcome, IsState, IsSystem}
 use Rattle.task_core.specs.Vectors.{Vector}
 
@@ -14,14 +15,6 @@ pub has_value : {T : Type 0} (o : Option T) (x : T) → o ≡ Some x → IsSome 
 has_value o x e = subst (λ p. IsSome p) (sym e) refl
 
 module _ (sys : System) (plan : ContextPlan) where
-  run_onward : (x : Configuration) (rest : List Configuration) (y : Configuration) → IsRun sys plan x rest → Follows sys plan (last_configuration x rest) y → IsRun sys plan x (rest ++ y ∷ [])
-  run_onward x [] y run follows = (follows, tt)
-  run_onward x (z ∷ rest) y run follows = (run.0, run_onward z rest y run.1 follows)
-
-  run_ends : (x : Configuration) (rest : List Configuration) (y : Configuration) → last_configuration x (rest ++ y ∷ []) ≡ y
-  run_ends x [] y = refl
-  run_ends x (z ∷ rest) y = run_ends z rest y
-
   pub reached_first : (x : Configuration) → IsInitial sys x → IsReachable sys plan x
   reached_first x initial = record { start = x; initial = initial; rest = []; path = tt; ends = refl }
 
@@ -30,18 +23,14 @@ module _ (sys : System) (plan : ContextPlan) where
     start = r.start;
     initial = r.initial;
     rest = r.rest ++ y ∷ [];
-    path = run_onward r.start r.rest y r.path (subst (λ z. Follows sys plan z y) (sym r.ends) follows);
-    ends = run_ends r.start r.rest y;
+    path = path_onward (Follows sys plan) r.start r.rest y r.path (subst (λ z. Follows sys plan z y) (sym r.ends) follows);
+    ends = last_onward r.start r.rest y;
   }
 
   -- what holds where executions begin, and stays along a step, holds wherever the plan may come
   module _ (P : Configuration → Type 0) (next : (x y : Configuration) → P x → Follows sys plan x y → P y) where
-    run_keeps : (x : Configuration) (rest : List Configuration) → P x → IsRun sys plan x rest → P (last_configuration x rest)
-    run_keeps x [] here run = here
-    run_keeps x (y ∷ rest) here run = run_keeps y rest (next x y here run.0) run.1
-
     pub reached_keeps : ((x : Configuration) → IsInitial sys x → P x) → (x : Configuration) → IsReachable sys plan x → P x
-    reached_keeps first x r = subst P r.ends (run_keeps r.start r.rest (first r.start r.initial) r.path)
+    reached_keeps first x r = subst P r.ends (path_keeps (Follows sys plan) P next r.start r.rest (first r.start r.initial) r.path)
 
   pub reached_state : IsSystem sys → (x : Configuration) → IsReachable sys plan x → IsState sys x.state
   reached_state ok = reached_keeps (λ x. IsState sys x.state) (λ x y is follows. ok.next x.state follows.action y.state follows.outcome) (λ x initial. ok.initial x.state initial.state)

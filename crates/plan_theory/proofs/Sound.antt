@@ -5,10 +5,11 @@ use Rattle.std.proofs.lemmas.Bool.{and_parts}
 use Rattle.std.proofs.lemmas.List.{length-drop}
 use Rattle.std.proofs.lemmas.Option.{same_Some}
 use Rattle.ctl_syntax.specs.Goals.{plain, all, goal_row}
-use Rattle.ctl_syntax.specs.Paths.{IsPathFrom, Keeps, Meets}
+use Rattle.ctl_syntax.specs.Paths.{Keeps, Meets}
 use Rattle.ctl_syntax.specs.Truth.{Anything, Satisfies}
 use Rattle.ctl_syntax.proofs.Meeting.{keeps_more, keeps_nothing, meets_here, meets_later}
 use Rattle.task_core.specs.ContextPlans.{Configuration, ContextPlan, Follows, GoesOn, IsInitial}
+use Rattle.task_core.specs.Paths.{IsPath}
 use Rattle.task_core.specs.Cubes.{SetOfVectors}
 use Rattle.task_core.specs.Systems.{System, HasOutcome, IsState, IsSystem}
 use Rattle.plan_theory.proofs.WeakLists.{list_all-at}
@@ -93,7 +94,7 @@ module _ (sys : System) (ok : IsSystem sys) (chain : Chained) (plan : ContextPla
       let there = e.ends in
       record { inside = i; ends = omega arith }
 
-  end_keeps : (x : Configuration) (rest : List Configuration) → AtEnd x → IsPathFrom (Follows sys plan) x rest → Keeps (StateIsIn chain.keep) (x ∷ rest)
+  end_keeps : (x : Configuration) (rest : List Configuration) → AtEnd x → IsPath (Follows sys plan) x rest → Keeps (StateIsIn chain.keep) (x ∷ rest)
   end_keeps x [] e path = keeps_more (StateIsIn chain.keep) x [] (end_kept x e) (keeps_nothing (StateIsIn chain.keep))
   end_keeps x (y ∷ rest) e path = keeps_more (StateIsIn chain.keep) x (y ∷ rest) (end_kept x e) (end_keeps y rest (end_next x y e path.0) path.1)
 
@@ -162,13 +163,13 @@ module _ (sys : System) (ok : IsSystem sys) (chain : Chained) (plan : ContextPla
         let same : f.action ≡ a.0 = same_Some f.action a.0 (sym f.acts ∙ (printed.acts x.state x.context i.state i.first i.last i.wins ∙ (ap (λ s. action_towards sys chain.keep s x.state) (towards x for e) ∙ a.1.chosen))) in
         leads_at sys (near sys met m) x.state a.0 (a.1.leads m h) y.state (subst (λ b. HasOutcome sys x.state b y.state) same f.outcome)
 
-    meets_within : (m : ℕ) (x : Configuration) → IsFor (p ∷ rest) x → near sys met m x.state ≡ true → (path : List Configuration) → length path ≡ m → IsPathFrom (Follows sys plan) x path → Meets Anything IsMet (x ∷ path)
+    meets_within : (m : ℕ) (x : Configuration) → IsFor (p ∷ rest) x → near sys met m x.state ≡ true → (path : List Configuration) → length path ≡ m → IsPath (Follows sys plan) x path → Meets Anything IsMet (x ∷ path)
     meets_within zero x for h path long run = meets_here Anything IsMet x path (met_here x for h)
     meets_within (suc m) x for h [] long run = absurd (omega arith)
     meets_within (suc m) x for h (y ∷ path) long run = go (met x.state) refl (meets_within m y)
       where
         go : (b : Bool) → met x.state ≡ b
-            → (IsFor (p ∷ rest) y → near sys met m y.state ≡ true → (path : List Configuration) → length path ≡ m → IsPathFrom (Follows sys plan) y path → Meets Anything IsMet (y ∷ path))
+            → (IsFor (p ∷ rest) y → near sys met m y.state ≡ true → (path : List Configuration) → length path ≡ m → IsPath (Follows sys plan) y path → Meets Anything IsMet (y ∷ path))
             → Meets Anything IsMet (x ∷ y ∷ path)
         go true e further = meets_here Anything IsMet x (y ∷ path) (met_here x for e)
         go false e further = meets_later Anything IsMet x (y ∷ path) tt (further (still_for x y for e run.0) (nearer x y for e run.0 m h) path (omega arith) run.1)

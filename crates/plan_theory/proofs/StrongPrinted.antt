@@ -4,7 +4,8 @@ use Rattle.std.specs.List.{list_all}
 use Rattle.std.proofs.lemmas.Bool.{false≢true, true≢false, and_parts, cases_lt}
 use Rattle.task_core.specs.Vectors.{Vector}
 use Rattle.task_core.specs.Systems.{System, IsSystem, IsState}
-use Rattle.task_core.specs.Tables.{Table, IsPath, Leads, last_state}
+use Rattle.task_core.specs.Tables.{Table, Leads}
+use Rattle.task_core.specs.Paths.{IsPath, last_of}
 use Rattle.task_core.specs.Solutions.{EndsInGoal, HasNoCycle, IsReached, IsStrongSolution}
 use Rattle.task_core.specs.declared.classes.Class.TheVariants.{Strong, Weak}
 use Rattle.plan_rules.specs.Denoted.{denoted}
@@ -42,7 +43,7 @@ module _ (sys : System) (ok : IsSystem sys) (K : ℕ) where
       (cases_lt j k)
 
   -- no path leaves a layer
-  stays : (k : ℕ) (s : Vector) (rest : List Vector) → layer Strong sys k s ≡ true → IsPath sys printed s rest → layer Strong sys k (last_state s rest) ≡ true
+  stays : (k : ℕ) (s : Vector) (rest : List Vector) → layer Strong sys k s ≡ true → IsPath (Leads sys printed) s rest → layer Strong sys k (last_of s rest) ≡ true
   stays k s [] h path = h
   stays k s (t ∷ rest) h path =
       let d = step_descends s t path.0 in
@@ -65,7 +66,7 @@ module _ (sys : System) (ok : IsSystem sys) (K : ℕ) where
       false≢true (sym d.outside ∙ (ap (layer Strong sys d.rank) (sym ends) ∙ again))
 
   -- every state that is reached is a state
-  end_is_state : (s : Vector) (rest : List Vector) → IsState sys s → IsPath sys printed s rest → IsState sys (last_state s rest)
+  end_is_state : (s : Vector) (rest : List Vector) → IsState sys s → IsPath (Leads sys printed) s rest → IsState sys (last_of s rest)
   end_is_state s [] is path = is
   end_is_state s (t ∷ rest) is path = end_is_state t rest (ok.next s path.0.action t path.0.outcome) path.1
 

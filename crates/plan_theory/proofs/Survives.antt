@@ -7,7 +7,8 @@ use Rattle.std.proofs.lemmas.Bool.{true≢false, or_cases, or_left, or_right}
 use Rattle.task_core.specs.Cubes.{SetOfVectors}
 use Rattle.task_core.specs.Vectors.{Vector}
 use Rattle.task_core.specs.Systems.{System, Exec, HasOutcome, IsState, IsSystem}
-use Rattle.task_core.specs.Tables.{IsPath, IsTable, IsTerminal, Leads, Table, last_state}
+use Rattle.task_core.specs.Tables.{IsTable, IsTerminal, Leads, Table}
+use Rattle.task_core.specs.Paths.{IsPath, last_of}
 use Rattle.task_core.specs.Solutions.{HasNoSolution, IsReached, IsStrongCyclicSolution}
 use Rattle.task_core.specs.declared.classes.Class.TheVariants.{Cyclic, Weak}
 use Rattle.plan_theory.specs.Layers.{action_numbers, may_lead}
@@ -131,11 +132,11 @@ module _ (sys : System) (ok : IsSystem sys) (table : Table) (is_table : IsTable 
   onward : (s t : Vector) → IsReached sys table s → Leads sys table s t → IsReached sys table t
   onward s t reached lead = record { start = reached.start; initial = reached.initial; path = reach_more sys table reached.start s t reached.path lead }
 
-  reached_along : (v : Vector) (rest : List Vector) → IsReached sys table v → IsPath sys table v rest → IsReached sys table (last_state v rest)
+  reached_along : (v : Vector) (rest : List Vector) → IsReached sys table v → IsPath (Leads sys table) v rest → IsReached sys table (last_of v rest)
   reached_along v [] reached path = reached
   reached_along v (t ∷ rest) reached path = reached_along t rest (onward v t reached path.0) path.1
 
-  state_along : (v : Vector) (rest : List Vector) → IsState sys v → IsPath sys table v rest → IsState sys (last_state v rest)
+  state_along : (v : Vector) (rest : List Vector) → IsState sys v → IsPath (Leads sys table) v rest → IsState sys (last_of v rest)
   state_along v [] is path = is
   state_along v (t ∷ rest) is path = state_along t rest (ok.next v path.0.action t path.0.outcome) path.1
 
@@ -143,7 +144,7 @@ module _ (sys : System) (ok : IsSystem sys) (table : Table) (is_table : IsTable 
   is_state v reached = subst (IsState sys) reached.path.ends (state_along reached.start reached.path.rest (ok.initial reached.start reached.initial) reached.path.path)
 
   -- a path from a reached state to the goal
-  way_along : (v : Vector) (rest : List Vector) → IsReached sys table v → IsPath sys table v rest → is_goal sys (last_state v rest) ≡ true → Way sys Reachable (length rest) v
+  way_along : (v : Vector) (rest : List Vector) → IsReached sys table v → IsPath (Leads sys table) v rest → is_goal sys (last_of v rest) ≡ true → Way sys Reachable (length rest) v
   way_along v [] reached path g = g
   way_along v (t ∷ rest) reached path g = go (is_goal sys v) refl (way_along t rest (onward v t reached path.0) path.1 g)
     where
@@ -185,7 +186,7 @@ module _ (sys : System) (ok : IsSystem sys) (table : Table) (is_table : IsTable 
             let p = is.largest (kept sys (round sys last.0)) (last_is_largest sys ok last.0 last.2).proper v a (is_state v reached) k in
             list_any-from (pairs v) (action_numbers sys) a (Contains-range_with_len sys.actions a (ok.actions v a (is_table v a pair).1)) p
 
-        first : (rest : List Vector) → IsPath sys table v rest → IsTerminal table (last_state v rest) → is_goal sys v ≡ false → has_pair sys pairs v ≡ true
+        first : (rest : List Vector) → IsPath (Leads sys table) v rest → IsTerminal table (last_of v rest) → is_goal sys v ≡ false → has_pair sys pairs v ≡ true
         first [] path terminal e = absurd (true≢false (sym (layer-zero Weak sys v (solves.ends_in_goal v reached terminal)) ∙ e))
         first (t ∷ rest) path terminal e = taken path.0.action path.0.pair e
 

@@ -5,53 +5,22 @@ use Rattle.std.specs.List.{Contains, list_all}
 use Rattle.std.proofs.lemmas.Bool.{false≢true, true≢false, or_right, and_from, and_parts}
 use Rattle.task_core.specs.Vectors.{Vector, same_vector, same_value}
 use Rattle.task_core.specs.Systems.{System, IsSystem, IsState, Exec, HasOutcome, goal_states}
-use Rattle.task_core.specs.Tables.{Table, IsTable, IsPath, last_state}
+use Rattle.task_core.specs.Tables.{Table, IsTable, Leads}
+use Rattle.task_core.specs.Paths.{IsPath, last_of}
 use Rattle.task_core.specs.Solutions.{IsWeakSolution, MayReachGoal}
 use Rattle.plan_theory.specs.Layers.{layer, covers, may_lead, action_numbers}
-use Rattle.plan_theory.proofs.Layers.{layer-grows}
-use Rattle.plan_theory.proofs.LayersStable.{stable_no_cover}
+use Rattle.plan_theory.proofs.ClassLayers.{layer-grows, layer-zero, stable_no_cover}
+pub use Rattle.plan_theory.proofs.Tests.{HasOutcome-Exec, same_value-true, same_vector-itself, same_vector-true}
 use Rattle.plan_theory.proofs.WeakLists.{Contains-nil, Contains-head, Contains-cons, Contains-range_with_len, list_any-from, list_any-witness, list_all-at, list_all-from}
 use Rattle.task_core.specs.declared.classes.Class.TheVariants.{Weak}
-
-same_value-itself : (b : Bool) → same_value b b ≡ true
-same_value-itself true = refl
-same_value-itself false = refl
-
--- vectors are the same exactly where the test says so
-pub same_vector-itself : (v : Vector) → same_vector v v ≡ true
-same_vector-itself [] = refl
-same_vector-itself (x ∷ xs) = and_from (same_value x x) (same_vector xs xs) (same_value-itself x) (same_vector-itself xs)
-
-pub same_value-true : (a b : Bool) → same_value a b ≡ true → a ≡ b
-same_value-true true true h = refl
-same_value-true true false h = absurd (false≢true h)
-same_value-true false true h = absurd (false≢true h)
-same_value-true false false h = refl
-
-pub same_vector-true : (v w : Vector) → same_vector v w ≡ true → v ≡ w
-same_vector-true [] [] h = refl
-same_vector-true [] (y ∷ ys) h = absurd (false≢true h)
-same_vector-true (x ∷ xs) [] h = absurd (false≢true h)
-same_vector-true (x ∷ xs) (y ∷ ys) h = let p = and_parts (same_value x y) (same_vector xs ys) h in let a = same_value-true x y p.0 in let b = same_vector-true xs ys p.1 in cc
-
--- layer 0 is the set of the goal states
-pub layer-zero : (sys : System) (v : Vector) → Contains (goal_states sys) v → layer Weak sys zero v ≡ true
-layer-zero sys v c = list_any-from (same_vector v) (goal_states sys) v c (same_vector-itself v)
-
-pub layer-zero_goal : (sys : System) (v : Vector) → layer Weak sys zero v ≡ true → Contains (goal_states sys) v
-layer-zero_goal sys v h = let w = list_any-witness (same_vector v) (goal_states sys) h in subst (λ t. Contains (goal_states sys) t) (sym (same_vector-true v w.0 w.2)) w.1
-
--- an action with an outcome can be executed
-pub HasOutcome-Exec : (sys : System) (s : Vector) (a : ℕ) (t : Vector) → HasOutcome sys s a t → Exec sys s a
-HasOutcome-Exec sys s a t o e = Contains-nil t (subst (λ ts. Contains ts t) e o)
 
 -- a state with an outcome in a layer is in the next one
 pub layer-suc : (sys : System) → IsSystem sys → (k : ℕ) (s : Vector) (a : ℕ) (t : Vector) → HasOutcome sys s a t → layer Weak sys k t ≡ true → layer Weak sys (suc k) s ≡ true
 layer-suc sys ok k s a t o h = or_right (layer Weak sys k s) _ (list_any-from (may_lead sys (layer Weak sys k) s) (action_numbers sys) a (Contains-range_with_len sys.actions a (ok.actions s a (HasOutcome-Exec sys s a t o))) (list_any-from (layer Weak sys k) (sys.next s a) t o h))
 
 -- a path of n steps to a goal state begins in layer n
-pub path_in_layer : (sys : System) → IsSystem sys → (table : Table) (s : Vector) (rest : List Vector) → IsPath sys table s rest → Contains (goal_states sys) (last_state s rest) → layer Weak sys (length rest) s ≡ true
-path_in_layer sys ok table s [] p g = layer-zero sys s g
+pub path_in_layer : (sys : System) → IsSystem sys → (table : Table) (s : Vector) (rest : List Vector) → IsPath (Leads sys table) s rest → Contains (goal_states sys) (last_of s rest) → layer Weak sys (length rest) s ≡ true
+path_in_layer sys ok table s [] p g = layer-zero Weak sys s g
 path_in_layer sys ok table s (t ∷ rest) p g = layer-suc sys ok (length rest) s p.0.action t p.0.outcome (path_in_layer sys ok table t rest p.1 g)
 
 -- from which a terminal goal state is reached lies in some layer
@@ -64,7 +33,7 @@ common_layer sys [] each = (0, refl)
 common_layer sys (s ∷ states) each =
     let first = each s (Contains-head s states) in
     let others = common_layer sys states (λ t c. each t (Contains-cons s states t c)) in
-    (first.0 + others.0, and_from (layer Weak sys (first.0 + others.0) s) (list_all (layer Weak sys (first.0 + others.0)) states) (layer-grows sys s first.0 (first.0 + others.0) (omega arith) first.1) (list_all-from (layer Weak sys (first.0 + others.0)) states (λ t c. layer-grows sys t others.0 (first.0 + others.0) (omega arith) (list_all-at (layer Weak sys others.0) states t others.1 c))))
+    (first.0 + others.0, and_from (layer Weak sys (first.0 + others.0) s) (list_all (layer Weak sys (first.0 + others.0)) states) (layer-grows Weak sys s first.0 (first.0 + others.0) (omega arith) first.1) (list_all-from (layer Weak sys (first.0 + others.0)) states (λ t c. layer-grows Weak sys t others.0 (first.0 + others.0) (omega arith) (list_all-at (layer Weak sys others.0) states t others.1 c))))
 
 -- where a table is a weak solution, some layer holds every initial state
 pub solution_covers : (sys : System) → IsSystem sys → (table : Table) → IsWeakSolution sys table → (k : ℕ) × (covers Weak sys k ≡ true)
@@ -76,4 +45,4 @@ no_cover_no_solution sys ok none table is solves = let w = solution_covers sys o
 
 -- and so where a layer that doesn't hold every initial state is as the next one
 pub stable_no_solution : (sys : System) → IsSystem sys → (k : ℕ) → ((v : Vector) → IsState sys v → layer Weak sys (suc k) v ≡ layer Weak sys k v) → covers Weak sys k ≡ false → (table : Table) → IsTable sys table → IsWeakSolution sys table → ⊥
-stable_no_solution sys ok k stable short = no_cover_no_solution sys ok (stable_no_cover sys ok k stable short)
+stable_no_solution sys ok k stable short = no_cover_no_solution sys ok (stable_no_cover Weak sys ok k stable short)

@@ -26,7 +26,9 @@ pub use chain_laws::{
     chain_actions_lead_on, no_chain_plan_without_cover, printed_plan_has_chain,
     safe_set_is_largest, stage_actions_lead_nearer, stage_set_is_least,
 };
-pub use chain_rules::{printed_rules_act, printed_rules_in_task};
+pub use chain_rules::{
+    printed_rules_act, printed_rules_in_task, rules_have_finitely_many_contexts,
+};
 pub use cyclic_laws::{
     cyclic_plan_solves, last_round_is_largest, no_cyclic_plan_without_cover, rounds_shrink,
     rounds_stand_still, solutions_outlast_rounds,

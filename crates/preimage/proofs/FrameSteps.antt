@@ -13,8 +13,8 @@ use Rattle.encode_task.specs.Made.{Holds, IsReady, MadeOf}
 use Rattle.encode_task.specs.Slots.{Encoded, exec_slot, outcome_slots}
 use Rattle.encode_task.specs.TaskSets.{exec_set, led_into}
 use Rattle.encode_task.proofs.MadeLemmas.{made_kept}
-use Rattle.encode_task.proofs.OwnedLemmas.{answered, both}
-use Rattle.encode_task.specs.Owned.{OwnsBoth}
+use Rattle.dd_sets.proofs.OwnedLemmas.{answered, both}
+use Rattle.dd_sets.specs.Frames.{OwnsBoth}
 
 pub same_chain : (a b c : Encoded) → b ≡ record a { sets = b.sets } → c ≡ record b { sets = c.sets } → c ≡ record a { sets = c.sets }
 same_chain a b c first second = second ∙ ap (λ (e : Encoded). record e { sets = c.sets }) first

@@ -1,8 +1,8 @@
 //! The weak and the strong preimage.
 ghost use Rattle.std.specs.Prelude.{◌≡◌, ◌<◌, length, IsErrOf};
 ghost use Rattle.dd_sets.specs.Frames.{OwnsAnswer};
-ghost use Rattle.dd_sets.specs.LiveSets.{IsLive, set_of};
-ghost use Rattle.dd_sets.specs.Rooms.{IsAtLimit, IsTightFor};
+ghost use Rattle.dd_sets.specs.LiveSets.{IsLive, IsSets, set_of};
+ghost use Rattle.dd_sets.specs.Rooms.{AnySet, NoRoom};
 ghost use Rattle.encode_task.specs.Made.{MadeOf};
 ghost use Rattle.task_core.specs.declared.tasks.Task.{Task};
 ghost use Rattle.preimage.specs.Preimages.{OfSomeTask, strong_preimage, weak_preimage};
@@ -22,8 +22,8 @@ pub fn weak_pre(enc: &mut Enc, a: ActionId, x: SetId) -> Result<SetId, SetErr>
     requires live { IsLive enc.old.sets x.0 }
     ensures answer { (task : Task) → MadeOf task enc.old → OwnsAnswer enc.old.sets enc.new.sets
         (weak_preimage task a.0 (set_of enc.old.sets x.0)) result }
-    ensures full { IsErrOf result SetErr.Full → IsTightFor 8 enc.old.sets }
-    ensures at_limit { IsErrOf result SetErr.Full → IsAtLimit enc.new.sets }
+    ensures full { IsErrOf result SetErr.Full → NoRoom AnySet 8 enc.old.sets enc.new.sets }
+    ensures sound { IsSets enc.new.sets }
     ensures same_slots { enc.new ≡ record enc.old { sets = enc.new.sets } }
     ensures made { (task : Task) → MadeOf task enc.old → MadeOf task enc.new }
 {
@@ -47,8 +47,8 @@ pub fn strong_pre(enc: &mut Enc, a: ActionId, x: SetId) -> Result<SetId, SetErr>
     requires live { IsLive enc.old.sets x.0 }
     ensures answer { (task : Task) → MadeOf task enc.old → OwnsAnswer enc.old.sets enc.new.sets
         (strong_preimage task a.0 (set_of enc.old.sets x.0)) result }
-    ensures full { IsErrOf result SetErr.Full → IsTightFor 8 enc.old.sets }
-    ensures at_limit { IsErrOf result SetErr.Full → IsAtLimit enc.new.sets }
+    ensures full { IsErrOf result SetErr.Full → NoRoom AnySet 8 enc.old.sets enc.new.sets }
+    ensures sound { IsSets enc.new.sets }
     ensures same_slots { enc.new ≡ record enc.old { sets = enc.new.sets } }
     ensures made { (task : Task) → MadeOf task enc.old → MadeOf task enc.new }
 {

@@ -2,12 +2,12 @@
 ghost use Rattle.std.specs.Prelude.{◌≡◌, ◌⊎◌, [], ◌∷◌, IfErr, IsErrOf};
 ghost use Rattle.dd_nodes.specs.Subfunctions.{Function};
 ghost use Rattle.dd_ops.specs.Operations.{and_of, minus_of};
-ghost use Rattle.dd_sets.specs.Frames.{Owns, OwnsAnswer};
-ghost use Rattle.dd_sets.specs.LiveSets.{LiveSets, IsLive, set_of};
-ghost use Rattle.dd_sets.specs.Rooms.{IsAtLimit, IsTightFor};
-ghost use Rattle.encode_task.specs.Owned.{AreTwo, OwnsBoth};
+ghost use Rattle.dd_sets.specs.Calls.{Releases};
+ghost use Rattle.dd_sets.specs.Frames.{AreTwo, Owns, OwnsAnswer, OwnsBoth};
+ghost use Rattle.dd_sets.specs.LiveSets.{IsSets, LiveSets, IsLive, set_of};
+ghost use Rattle.dd_sets.specs.Rooms.{AnySet, NoRoom};
 
-use dd_sets::{SetErr, SetId, Sets};
+use dd_sets::{SetErr, SetId};
 use encode_task::Enc;
 
 /// The same set in a new slot.
@@ -16,6 +16,7 @@ pub fn copied(enc: &mut Enc, a: SetId) -> Result<SetId, SetErr>
     ensures answer { OwnsAnswer enc.old.sets enc.new.sets (set_of enc.old.sets a.0) result }
     ensures same_slots { enc.new ≡ record enc.old { sets = enc.new.sets } }
     ensures never_full { IfErr result (λ e. e ≡ SetErr.Memory) }
+    ensures sound { IsSets enc.new.sets }
 {
     enc.sets_mut().copy(a)
 }
@@ -28,34 +29,11 @@ pub fn in_both(enc: &mut Enc, a: SetId, b: Result<SetId, SetErr>) -> Result<SetI
         → OwnsAnswer before enc.new.sets (and_of f g) result }
     ensures same_slots { enc.new ≡ record enc.old { sets = enc.new.sets } }
     ensures full { IsErrOf result SetErr.Full
-        → IsErrOf b SetErr.Full ⊎ IsTightFor 0 enc.old.sets }
-    ensures at_limit { IsErrOf result SetErr.Full
-        → (IsErrOf b SetErr.Full → IsAtLimit enc.old.sets) → IsAtLimit enc.new.sets }
+        → (IsErrOf b SetErr.Full × Releases enc.old.sets enc.new.sets a.0)
+        ⊎ NoRoom AnySet 0 enc.old.sets enc.new.sets }
+    ensures sound { IsSets enc.new.sets }
 {
-    meet(enc.sets_mut(), a, b)
-}
-
-fn meet(sets: &mut Sets, a: SetId, b: Result<SetId, SetErr>) -> Result<SetId, SetErr>
-    requires { AreTwo sets.old a b }
-    ensures answer { (before : LiveSets) (f g : Function)
-        → OwnsBoth before sets.old a f b g → OwnsAnswer before sets.new (and_of f g) result }
-    ensures full { IsErrOf result SetErr.Full
-        → IsErrOf b SetErr.Full ⊎ IsTightFor 0 sets.old }
-    ensures at_limit { IsErrOf result SetErr.Full
-        → (IsErrOf b SetErr.Full → IsAtLimit sets.old) → IsAtLimit sets.new }
-{
-    match b {
-        Ok(b) => {
-            let met = sets.meet(a, b);
-            sets.release(a);
-            sets.release(b);
-            met
-        }
-        Err(refusal) => {
-            sets.release(a);
-            Err(refusal)
-        }
-    }
+    enc.sets_mut().in_both(a, b)
 }
 
 /// The lists of a set that are not in an answer, in the place of their slots; a refusal where one
@@ -67,34 +45,11 @@ pub fn without(enc: &mut Enc, a: SetId, b: Result<SetId, SetErr>) -> Result<SetI
         → OwnsAnswer before enc.new.sets (minus_of f g) result }
     ensures same_slots { enc.new ≡ record enc.old { sets = enc.new.sets } }
     ensures full { IsErrOf result SetErr.Full
-        → IsErrOf b SetErr.Full ⊎ IsTightFor 0 enc.old.sets }
-    ensures at_limit { IsErrOf result SetErr.Full
-        → (IsErrOf b SetErr.Full → IsAtLimit enc.old.sets) → IsAtLimit enc.new.sets }
+        → (IsErrOf b SetErr.Full × Releases enc.old.sets enc.new.sets a.0)
+        ⊎ NoRoom AnySet 0 enc.old.sets enc.new.sets }
+    ensures sound { IsSets enc.new.sets }
 {
-    minus(enc.sets_mut(), a, b)
-}
-
-fn minus(sets: &mut Sets, a: SetId, b: Result<SetId, SetErr>) -> Result<SetId, SetErr>
-    requires { AreTwo sets.old a b }
-    ensures answer { (before : LiveSets) (f g : Function)
-        → OwnsBoth before sets.old a f b g → OwnsAnswer before sets.new (minus_of f g) result }
-    ensures full { IsErrOf result SetErr.Full
-        → IsErrOf b SetErr.Full ⊎ IsTightFor 0 sets.old }
-    ensures at_limit { IsErrOf result SetErr.Full
-        → (IsErrOf b SetErr.Full → IsAtLimit sets.old) → IsAtLimit sets.new }
-{
-    match b {
-        Ok(b) => {
-            let left = sets.minus(a, b);
-            sets.release(a);
-            sets.release(b);
-            left
-        }
-        Err(refusal) => {
-            sets.release(a);
-            Err(refusal)
-        }
-    }
+    enc.sets_mut().without(a, b)
 }
 
 /// The lists of a set `a` that are not in `b`, in the place of the slot of `b`.
@@ -105,21 +60,8 @@ pub fn rest_of(enc: &mut Enc, a: SetId, b: SetId) -> Result<SetId, SetErr>
         → Owns before enc.old.sets ((b.0, f) ∷ [])
         → OwnsAnswer before enc.new.sets (minus_of (set_of enc.old.sets a.0) f) result }
     ensures same_slots { enc.new ≡ record enc.old { sets = enc.new.sets } }
-    ensures full { IsErrOf result SetErr.Full → IsTightFor 0 enc.old.sets }
-    ensures at_limit { IsErrOf result SetErr.Full → IsAtLimit enc.new.sets }
+    ensures full { IsErrOf result SetErr.Full → NoRoom AnySet 0 enc.old.sets enc.new.sets }
+    ensures sound { IsSets enc.new.sets }
 {
-    difference(enc.sets_mut(), a, b)
-}
-
-fn difference(sets: &mut Sets, a: SetId, b: SetId) -> Result<SetId, SetErr>
-    requires a_live { IsLive sets.old a.0 }
-    requires b_live { IsLive sets.old b.0 }
-    ensures answer { (before : LiveSets) (f : Function) → Owns before sets.old ((b.0, f) ∷ [])
-        → OwnsAnswer before sets.new (minus_of (set_of sets.old a.0) f) result }
-    ensures full { IsErrOf result SetErr.Full → IsTightFor 0 sets.old }
-    ensures at_limit { IsErrOf result SetErr.Full → IsAtLimit sets.new }
-{
-    let rest = sets.minus(a, b);
-    sets.release(b);
-    rest
+    enc.sets_mut().rest_of(a, b)
 }

@@ -1,4 +1,3 @@
 pub mod PlanSteps
 pub mod SearchSteps
 pub mod SetLayers
-pub mod WorkingSlots

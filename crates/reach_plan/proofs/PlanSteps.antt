@@ -1,48 +1,46 @@
 -- The rules of the plan, from what the actions take.
-use Rattle.std.proofs.Common.{◌≡◌, ℕ, ◌+◌, ◌<◌, List, [], ◌∷◌, ◌++◌, map, length, get_or, refl, sym, ap, subst, ◌∙◌, arith, append-nil, All, Bool, true, false, Result, Ok, Err, IfOk, Vec, Option, Some, None}
-use Rattle.std.specs.Prelude.{IfErr}
-use Rattle.dd_sets.specs.declared.errors.SetErr.{SetErr}
-use Rattle.dd_sets.specs.declared.errors.SetErr.TheVariants.{Full, Memory}
+use Rattle.std.proofs.Common.{◌≡◌, ℕ, ◌+◌, ◌<◌, List, [], ◌∷◌, ◌++◌, map, length, refl, sym, ap, subst, ◌∙◌, arith, append-nil, All, Bool, true, false, Result, Ok, Err, IfOk, IsErrOf, Option, None, Some}
+use Rattle.std.specs.Prelude.{IsSome, OnErr}
 use Rattle.std.specs.List.{Contains, flat_map, range_with_len}
 use Rattle.std.proofs.lemmas.List.Concat.{flat_map-append}
 use Rattle.dd_nodes.specs.Subfunctions.{Function}
-use Rattle.dd_sets.specs.LiveSets.{nothing, set_of}
-use Rattle.dd_sets.specs.Frames.{Owns, Slots}
-use Rattle.dd_sets.specs.Rooms.{IsTightFor}
-use Rattle.encode_task.specs.Made.{MadeOf}
-use Rattle.std.specs.declared.alloc.Global.{Global}
-use Rattle.plan_rules.specs.declared.rules.Rule.{Rule}
+use Rattle.dd_sets.specs.Frames.{Owns}
+use Rattle.dd_sets.specs.LiveSets.{LiveSets, live_count}
+use Rattle.dd_sets.specs.declared.errors.SetErr.{SetErr}
+use Rattle.dd_sets.specs.declared.errors.SetErr.TheVariants.{Full}
 use Rattle.dd_sets.specs.declared.slots.SetId.{SetId}
-use Rattle.encode_task.specs.Laws.{KeptSetsStayMade}
+use Rattle.dd_sets.proofs.FrameLemmas.{kept_chain, not_before}
+use Rattle.dd_sets.specs.Rooms.{IsTightFor}
+use Rattle.encode_task.proofs.TightLemmas.{tight_before}
+use Rattle.encode_task.specs.Made.{HoldsGoal, MadeOf}
 use Rattle.encode_task.specs.Slots.{Encoded}
 use Rattle.plan_rules.specs.Denoted.{denoted, IsExecutable}
 use Rattle.plan_rules.specs.Plans.{IsRuleOf}
-use Rattle.plan_rules.specs.Rules.{PlanRule, rule_of}
-use Rattle.task_core.specs.Cubes.{Cube, cubes_of}
+use Rattle.plan_rules.specs.Rules.{PlanRule}
+use Rattle.slot_board.specs.Board.{At, Ends, IsTightAt, Start, Working, set_at, slot_at}
+use Rattle.task_core.specs.Cubes.{cubes_of}
 use Rattle.task_core.specs.Solutions.{HasNoSolution, IsSolution}
 use Rattle.task_core.specs.Systems.{System}
 use Rattle.task_core.specs.Tables.{IsTable}
 use Rattle.task_core.specs.Tasks.{action_count, fluent_count, system_of}
 use Rattle.task_core.specs.Vectors.{value_of}
 use Rattle.task_core.specs.declared.classes.Class.{Class}
+use Rattle.task_core.specs.declared.conditions.Cond.{Cond}
 use Rattle.task_core.specs.declared.tasks.Task.{Task}
 use Rattle.task_core.proofs.TaskSystem.{is_system}
 use Rattle.plan_theory.specs.Classes.{IsFoundByLayers}
-use Rattle.reach_plan.specs.LayerSets.{AreTakers}
 use Rattle.plan_theory.specs.Layers.{IsLastLayer}
 use Rattle.plan_theory.specs.LayerPlans.{printed_rules, rules_of_action, takers}
-use Rattle.reach_plan.specs.SetRules.{rules_of_slot}
-use Rattle.reach_plan.specs.Searches.{FoundLast, HasPlan, IsNoPlan, IsPlan, PlanLeft, SearchLeft, StillTaken}
-use Rattle.reach_plan.specs.Working.{At, Left, Start, Working, entries}
+use Rattle.reach_plan.specs.Searches.{FoundLast, SearchLeft}
+use Rattle.reach_plan.specs.SetRules.{rule_for, rules_of_place}
+use Rattle.reach_plan.specs.Takers.{HoldTakers, IsDecided}
 use Rattle.plan_theory.proofs.ClassLayers.{printed_executable}
-use Rattle.plan_theory.proofs.Ranges.{range-more}
 use Rattle.plan_theory.proofs.LeastBounds.{solves_by_class}
 use Rattle.plan_theory.proofs.PrintedWithin.{printed_within}
-use Rattle.reach_plan.proofs.SearchSteps.{at_made}
+use Rattle.plan_theory.proofs.Ranges.{range-more}
 use Rattle.reach_plan.proofs.SetLayers.{cubes_agree}
 use Rattle.plan_theory.proofs.WeakDenoted.{denoted-table}
 use Rattle.plan_theory.proofs.WeakLists.{Contains-cons, Contains-head, Contains-range_with_len-below}
-use Rattle.reach_plan.proofs.WorkingSlots.{set_at, work_none, work_owns}
 
 -- the rules of one number more
 pub rules_more : (f : ℕ → List PlanRule) (a : ℕ) (old new : List PlanRule) → old ≡ flat_map f (range_with_len 0 a) → new ≡ old ++ f a → new ≡ flat_map f (range_with_len 0 (a + 1))
@@ -53,36 +51,6 @@ rules_more f a old new before more =
 flat_map_agree : (f g : ℕ → List PlanRule) (xs : List ℕ) → ((a : ℕ) → Contains xs a → f a ≡ g a) → flat_map f xs ≡ flat_map g xs
 flat_map_agree f g [] same = refl
 flat_map_agree f g (x ∷ xs) same = (λ j. same x (Contains-head x xs) j ++ flat_map_agree f g xs (λ a among. same a (Contains-cons x xs a among)) j)
-
--- the rules of the slots' sets are the printed rules
-pub printed_by_slots : KeptSetsStayMade → (class : Class) (start : Start) (enc : Encoded) (slots : List SetId) (h : ℕ → Function) (K : ℕ) → At start enc (entries slots 0 h) → length slots ≡ action_count start.task → AreTakers class start.task K h
-    → flat_map (rules_of_slot enc.sets slots) (range_with_len 0 (length slots)) ≡ printed_rules class (system_of start.task) K
-printed_by_slots law class start enc slots h K at long taken =
-    ap (λ (n : ℕ). flat_map (rules_of_slot enc.sets slots) (range_with_len 0 n)) long
-    ∙ flat_map_agree (rules_of_slot enc.sets slots) (rules_of_action class (system_of start.task) K) (range_with_len 0 (action_count start.task)) same
-  where
-    n : ℕ
-    n = fluent_count start.task
-
-    work : Working start.enc.sets enc.sets (entries slots 0 h ++ [])
-    work = subst (λ own. Working start.enc.sets enc.sets own) (sym (append-nil (entries slots 0 h))) at.working
-
-    vars : enc.sets.vars ≡ n
-    vars = let made = at_made law start enc (entries slots 0 h) at in made.ready.vars ∙ made.fluents
-
-    same : (a : ℕ) → Contains (range_with_len 0 (action_count start.task)) a → rules_of_slot enc.sets slots a ≡ rules_of_action class (system_of start.task) K a
-    same a among =
-        let below : a < action_count start.task = Contains-range_with_len-below (action_count start.task) a among in
-        let slot = (get_or slots a (record { 0 = 0 })).0 in
-        let holds : set_of enc.sets slot ≡ h a = set_at start.enc.sets enc.sets slots h [] a (record { 0 = 0 }) work (omega arith) in
-        ap (λ (m : ℕ). map (λ (cube : Cube). record { cube = cube; action = a }) (cubes_of m (λ state. set_of enc.sets slot (value_of state)))) vars
-        ∙ ap (λ (cubes : List Cube). map (λ (cube : Cube). record { cube = cube; action = a }) cubes)
-        (cubes_agree 0 n (λ state. set_of enc.sets slot (value_of state)) (takers class (system_of start.task) K a)
-        (λ v is. ap (λ (set : Function). set (value_of v)) holds ∙ taken.takes a v below is))
-
--- the slots are a function's own
-pub slots_live : (start : Start) (enc : Encoded) (slots : List SetId) (h : ℕ → Function) → At start enc (entries slots 0 h) → Working start.enc.sets enc.sets (entries slots 0 h ++ [])
-slots_live start enc slots h at = subst (λ own. Working start.enc.sets enc.sets own) (sym (append-nil (entries slots 0 h))) at.working
 
 -- where some layer is the last one there is a solution
 pub not_none : (class : Class) → IsFoundByLayers class → (task : Task) (K : ℕ) → IsLastLayer class (system_of task) K → HasNoSolution class (system_of task) → ⊥
@@ -107,86 +75,106 @@ solved class by_layers task K rules last is =
       within = printed_within class sys K (IsRuleOf sys.fluents sys.actions) (λ cube a below lt. record { cube = below; action = lt });
     })
 
--- whatever the search found, the slots are there; where some layer is the last one, it found it
-pub search_still : (class : Class) (start : Start) (enc : Encoded) (taken : List SetId) (found : Bool) → SearchLeft class start enc taken found → StillTaken start enc taken
-search_still class start enc taken true left = record { h = left.h; at = left.at }
-search_still class start enc taken false left = record { h = left.h; at = left.at }
+-- the rules of the places' sets are the printed rules
+pub printed_by_places : (class : Class) (task : Task) (enc : Encoded) (slots : List SetId) → MadeOf task enc → (has : HoldTakers class task enc.sets slots) → flat_map (rules_of_place enc.sets slots) (range_with_len 0 (action_count task)) ≡ printed_rules class (system_of task) has.layers
+printed_by_places class task enc slots made has = flat_map_agree (rules_of_place enc.sets slots) (rules_of_action class (system_of task) has.layers) (range_with_len 0 (action_count task)) same
+  where
+    vars : enc.sets.vars ≡ fluent_count task
+    vars = made.ready.vars ∙ made.fluents
 
-pub search_last : (class : Class) → IsFoundByLayers class → (start : Start) (enc : Encoded) (taken : List SetId) (K : ℕ) → IsLastLayer class (system_of start.task) K → (found : Bool) → SearchLeft class start enc taken found → FoundLast class start enc taken
-search_last class by_layers start enc taken K last true left = left
-search_last class by_layers start enc taken K last false left = absurd (not_none class by_layers start.task K last left.none)
+    same : (a : ℕ) → Contains (range_with_len 0 (action_count task)) a → rules_of_place enc.sets slots a ≡ rules_of_action class (system_of task) has.layers a
+    same a among =
+        let below : a < action_count task = Contains-range_with_len-below (action_count task) a among in
+        ap (λ (m : ℕ). map (rule_for a) (cubes_of m (λ state. set_at enc.sets slots a (value_of state)))) vars
+        ∙ ap (map (rule_for a)) (cubes_agree 0 (fluent_count task) (λ state. set_at enc.sets slots a (value_of state)) (takers class (system_of task) has.layers a) (λ v is. has.takes a v below is))
 
--- an answer that is never a refusal for want of room
-pub left_by : {T : Type 0} (A P : T → Type 0) (refused tight : Type 0) (result : Result T SetErr) → IfOk result A → IfErr result (λ e. e ≡ Memory) → ((x : T) → A x → P x) → refused → Left P refused tight result
-left_by A P refused tight (Ok x) answer never gives left = gives x answer
-left_by A P refused tight (Err e) answer never gives left = (left, λ full. let memory : e ≡ Memory = never in let no_room : e ≡ Full = full in absurd (cc))
+-- what a pass found
+pub is_decided : (class : Class) (start : Start) (now : Encoded) (slots : List SetId) (n : ℕ) (covered : Bool) → SearchLeft class start now slots n covered → IsDecided class start.task covered
+is_decided class start now slots n true left = (left.layers, left.last)
+is_decided class start now slots n false left = left.none
 
--- an empty list of slots
-no_slots : (taken : List SetId) → length taken ≡ 0 → taken ≡ []
-no_slots [] none = refl
-no_slots (x ∷ taken) none = absurd (omega arith)
+pub left_at : (class : Class) (start : Start) (now : Encoded) (slots : List SetId) (n : ℕ) (covered : Bool) → SearchLeft class start now slots n covered → At start now slots
+left_at class start now slots n true left = left.at
+left_at class start now slots n false left = left.at
 
-pub at_none : (start : Start) (enc : Encoded) (taken : List SetId) (h : ℕ → Function) → length taken ≡ 0 → At start enc (entries taken 0 h) → At start enc []
-at_none start enc taken h none at = subst (λ (slots : List SetId). At start enc (entries slots 0 h)) (no_slots taken none) at
+pub search_last : (class : Class) → IsFoundByLayers class → (start : Start) (now : Encoded) (slots : List SetId) (n layers : ℕ) → IsLastLayer class (system_of start.task) layers → (found : Bool) → SearchLeft class start now slots n found → FoundLast class start now slots n
+search_last class by_layers start now slots n layers last true left = left
+search_last class by_layers start now slots n layers last false left = absurd (not_none class by_layers start.task layers last left.none)
 
-pub begun_none : (class : Class) (start : Start) (enc : Encoded) (taken : List SetId) → taken ≡ [] → At start enc [] → At start enc (entries taken 0 (λ place. nothing))
-begun_none class start enc taken none at = subst (λ (slots : List SetId). At start enc (entries slots 0 (λ place. nothing))) (sym none) at
+pub decided_by : (class : Class) (start : Start) (now : Encoded) (slots : List SetId) (n : ℕ) (result : Result Bool SetErr) → Ends start now slots (SearchLeft class start now slots n) result → IfOk result (IsDecided class start.task)
+decided_by class start now slots n (Ok covered) ends = is_decided class start now slots n covered ends
+decided_by class start now slots n (Err e) ends = tt
 
--- what two searches leave alone
-pub same_between : (start : Start) (now next : Encoded) (own other : Slots) → At start now own → At start next other → next ≡ record now { sets = next.sets }
-same_between start now next own other at later = later.same ∙ sym (ap (λ (e : Encoded). record e { sets = next.sets }) at.same)
+-- a refusal for want of room
+pub full_at : {T : Type 0} (start : Start) (now : Encoded) (slots : List SetId) (P : T → Type 0) (result : Result T SetErr) → Ends start now slots P result → IsErrOf result Full → IsTightAt start
+full_at start now slots P (Ok x) ends full = absurd (let h : Ok x ≡ Err Full = full in cc)
+full_at start now slots P (Err e) ends full = ends.1 (let h : Err e ≡ Err Full = full in cc)
 
--- after the rules are found, or not, the slots are there
-pub plan_still : (class : Class) (start : Start) (enc : Encoded) (taken : List SetId) (result : Result (Vec Rule Global) SetErr) (tight : Type 0) → Left (HasPlan class start enc taken) (StillTaken start enc taken) tight result → StillTaken start enc taken
-plan_still class start enc taken (Ok rules) tight left = left.still
-plan_still class start enc taken (Err e) tight left = left.0
+-- where a search with so many places begins
+abbrev pub start_of : (task : Task) (enc : Encoded) → MadeOf task enc → ℕ → ℕ → Start
+start_of task enc made places spare = record { task = task; enc = enc; made = made; places = places; spare = spare }
 
--- the work of a whole planner
-pub start_of : (task : Task) (enc : Encoded) → MadeOf task enc → Start
-start_of task enc made = record { task = task; enc = enc; made = made; room = action_count task + 24; wide = omega arith }
+-- slots that were taken after others were ended
+pub working_after : (a b c : LiveSets) (slots : List SetId) → Owns a b [] → Working b c slots → Working a c slots
+working_after a b c slots first second =
+    let count : live_count b ≡ live_count a + 0 = first.count in
+    let more : live_count c ≡ live_count b + length slots = second.count in
+    record {
+      kept = kept_chain a b c first.kept second.kept;
+      live = second.live;
+      free = λ i l. not_before a b first.kept (slot_at slots i) (second.free i l);
+      apart = second.apart;
+      others = λ slot none. second.others slot none ∙ first.live slot;
+      count = omega arith;
+    }
 
-pub at_start : (task : Task) (enc : Encoded) (made : MadeOf task enc) → At (start_of task enc made) enc []
-unfolding start_of
-at_start task enc made = record { same = refl; working = work_none enc.sets }
+pub owns_after : (a b c : LiveSets) → Owns a b [] → Owns b c [] → Owns a c []
+owns_after a b c first second =
+    let count : live_count b ≡ live_count a + 0 = first.count in
+    let more : live_count c ≡ live_count b + 0 = second.count in
+    record {
+      kept = kept_chain a b c first.kept second.kept;
+      new = tt;
+      live = λ slot. second.live slot ∙ first.live slot;
+      count = omega arith;
+    }
 
--- what it leaves of the slots of entry
-pub record Kept (before after : Encoded) : Type 0 where
-  pub slots : Owns before.sets after.sets []
-  pub same : after ≡ record before { sets = after.sets }
-  pub made : (task : Task) → MadeOf task before → MadeOf task after
-
-pub kept : KeptSetsStayMade → (task : Task) (enc after : Encoded) (made : MadeOf task enc) → At (start_of task enc made) after [] → Kept enc after
-unfolding start_of
-kept law task enc after made at = record {
-  slots = work_owns enc.sets after.sets at.working;
-  same = at.same;
-  made = λ other was. subst (MadeOf other) (sym at.same) (law other enc after.sets at.working.kept was);
+-- the slots of the last layer
+pub takers_held : (class : Class) (start : Start) (x now : Encoded) (old new : List SetId) (n : ℕ) → FoundLast class start x old n → n ≡ action_count start.task → length new ≡ n → ((a : ℕ) → a < n → set_at now.sets new a ≡ set_at x.sets old a) → HoldTakers class start.task now.sets new
+takers_held class start x now old new n found all long same = record {
+  layers = found.layers;
+  last = found.last;
+  long = long ∙ all;
+  takes = λ a v below is. ap (λ (f : Function). f (value_of v)) (same a (omega arith) ∙ found.holds_taken a (omega arith)) ∙ found.are_takers.takes a v below is;
 }
 
-pub plan_at : (class : Class) (start : Start) (enc : Encoded) (found : Option (Vec Rule Global)) → PlanLeft class start enc found → At start enc []
-plan_at class start enc None left = left.at
-plan_at class start enc (Some rules) left = left.at
+-- what is so after every refusal
+pub on_err : {T E : Type 0} (result : Result T E) (P : Type 0) → P → OnErr result P
+on_err (Ok x) P is = tt
+on_err (Err e) P is = is
 
-pub tight_start : (task : Task) (enc : Encoded) (made : MadeOf task enc) → IsTightFor (start_of task enc made).room (start_of task enc made).enc.sets → IsTightFor (action_count task + 24) enc.sets
-unfolding start_of
-tight_start task enc made tight = tight
+-- the task's goal has a slot
+pub goal_there : (task : Task) (enc : Encoded) → MadeOf task enc → IsSome task.goal → IsSome enc.goal
+goal_there task enc made some = go enc.goal task.goal made.goal some
+  where
+    go : (own : Option SetId) (goal : Option Cond) → HoldsGoal enc.sets own goal → IsSome goal → IsSome own
+    go None None holds is = is
+    go (Some slot) goal holds is = refl
+    go None (Some cond) holds is = absurd holds
 
-pub task_of : (task : Task) (enc : Encoded) (made : MadeOf task enc) → (start_of task enc made).task ≡ task
-unfolding start_of
-task_of task enc made = refl
+-- no slot of a function's own
+pub owns_working : (a b : LiveSets) → Owns a b [] → Working a b []
+owns_working a b own = record {
+  kept = own.kept;
+  live = λ i l. absurd (omega arith);
+  free = λ i l. absurd (omega arith);
+  apart = λ i j l. absurd (omega arith);
+  others = λ slot none. own.live slot;
+  count = own.count;
+}
 
-pub no_plan_of : (class : Class) (task : Task) (enc after : Encoded) (made : MadeOf task enc) → IsNoPlan class (start_of task enc made) after → HasNoSolution class (system_of task)
-unfolding start_of
-no_plan_of class task enc after made none = none.none
-
-pub record IsPrinted (class : Class) (task : Task) (rules : List PlanRule) : Type 0 where
-  pub K : ℕ
-  pub last : IsLastLayer class (system_of task) K
-  pub printed : rules ≡ printed_rules class (system_of task) K
-
-pub plan_of : (class : Class) (task : Task) (enc after : Encoded) (made : MadeOf task enc) (rules : Vec Rule Global) → IsPlan class (start_of task enc made) after rules → IsPrinted class task (map rule_of rules.items)
-unfolding start_of
-plan_of class task enc after made rules plan = record { K = plan.K; last = plan.last; printed = plan.printed }
-
-pub solved_plan : (class : Class) → IsFoundByLayers class → (task : Task) (rules : List PlanRule) → IsPrinted class task rules → Solved class (system_of task) rules
-solved_plan class by_layers task rules is = solved class by_layers task is.K rules is.last is.printed
+-- a limit that is tight after other slots were ended was so before
+pub tight_after : (a b : LiveSets) (many : ℕ) → Owns a b [] → IsTightFor many b → IsTightFor many a
+tight_after a b many own tight =
+    let count : live_count b ≡ live_count a + 0 = own.count in
+    tight_before a b own.kept.vars own.kept.limit many many (omega arith) tight

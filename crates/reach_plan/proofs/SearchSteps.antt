@@ -1,48 +1,54 @@
--- One step of the search: what it leaves in the slots of the task and its own.
-use Rattle.std.proofs.Common.{cond, IsTrue, ◌↔◌, Option, Some, None, append-nil, ◌≡◌, ◌≢◌, ℕ, suc, ◌+◌, ◌<◌, ◌≤◌, ◌==◌, Bool, true, false, ◌||◌, List, [], ◌∷◌, ◌++◌, length, nat_lt, refl, sym, ap, subst, ◌∙◌, ⊎_elim, arith}
-use Rattle.std.specs.List.{list_any, range_with_len}
+-- One step of the search: what it leaves on the board.
+use Rattle.std.proofs.Common.{◌≡◌, ◌≢◌, ℕ, zero, suc, ◌+◌, ◌<◌, ◌≤◌, ◌==◌, Bool, true, false, ◌||◌, List, [], ◌∷◌, ◌++◌, length, nat_lt, Option, Some, None, Result, Ok, Err, refl, sym, ap, subst, ◌∙◌, ⊎_elim, arith}
+use Rattle.std.specs.List.{list_all, list_any, range_with_len}
 use Rattle.std.proofs.Math.Path.{fun_ext}
 use Rattle.std.proofs.lemmas.Bool.{cases_eq, cases_lt, cond-false, cond-true, eq-eqb, lt-ltb, ltb-true, ne_eqb, false_from_ne_true}
 use Rattle.std.proofs.lemmas.List.Folds.{list_any-append}
 use Rattle.dd_nodes.specs.Subfunctions.{DependsOnly, Function}
 use Rattle.dd_ops.specs.Operations.{minus_of, or_of}
-use Rattle.dd_nodes.specs.NodeList.{Values}
-use Rattle.dd_sets.specs.Calls.{Adds, AddsNone, KeepsSets, Releases}
-use Rattle.dd_sets.specs.Laws.{SetsDependOnFluents}
-use Rattle.dd_sets.specs.LiveSets.{IsLive, IsSets, set_of}
-use Rattle.task_core.specs.Tasks.{action_count, fluent_count, system_of}
+use Rattle.dd_sets.specs.LiveSets.{IsLive, LiveSets, nothing, set_of}
+use Rattle.dd_sets.specs.declared.errors.SetErr.{SetErr}
 use Rattle.dd_sets.specs.declared.slots.SetId.{SetId}
-use Rattle.encode_task.specs.Laws.{KeptSetsStayMade}
 use Rattle.encode_task.specs.Made.{Holds, HoldsGoal, MadeOf}
 use Rattle.encode_task.specs.Slots.{Encoded}
-use Rattle.dd_sets.specs.Frames.{Slots}
-use Rattle.task_core.specs.declared.classes.Class.{Class}
-use Rattle.task_core.specs.declared.tasks.Task.{Task}
-use Rattle.task_core.specs.Conditions.{holds}
-use Rattle.task_core.specs.declared.conditions.Cond.{Cond}
 use Rattle.preimage.specs.Laws.{StrongLeadsToAll, WeakLeadsToSome}
+use Rattle.slot_board.specs.Board.{At, Ends, HasNothing, Left, Moved, Start, Stayed, set_at}
+use Rattle.slot_board.proofs.BoardSlots.{depends, made_at}
+use Rattle.task_core.specs.Conditions.{holds}
+use Rattle.task_core.specs.Systems.{IsState}
+use Rattle.task_core.specs.Tasks.{action_count, fluent_count, initial_states, system_of}
+use Rattle.task_core.specs.Vectors.{Vector, all_vectors, value_of}
+use Rattle.task_core.specs.declared.classes.Class.{Class}
+use Rattle.task_core.specs.declared.conditions.Cond.{Cond}
+use Rattle.task_core.specs.declared.tasks.Task.{Task}
+use Rattle.task_core.proofs.TaskSystem.{is_system}
+use Rattle.plan_theory.specs.Classes.{IsFoundByLayers}
+use Rattle.plan_theory.specs.Layers.{covers, layer}
+use Rattle.reach_plan.specs.LayerSets.{AreTakers, IsLayerSet, IsRound, class_preimage, grown, taken_by}
+use Rattle.reach_plan.specs.Searches.{FoundLast, FoundNone, HasGrown, HasHits, HasLayer, HasNext, HasRound, IsCovered, IsMore, IsStill, RoundLeft, SearchLeft, with_set}
 use Rattle.reach_plan.specs.declared.search.Round.{Round}
 use Rattle.reach_plan.specs.declared.search.Round.TheVariants.{Covered, Stable, More}
-use Rattle.plan_theory.specs.Layers.{covers}
-use Rattle.reach_plan.specs.LayerSets.{AreTakers, IsLayerSet, IsRound, class_preimage, grown, taken_by}
-use Rattle.reach_plan.specs.Searches.{FoundLast, FoundNone, IsCovered, IsMore, IsStill, RoundLeft, with_one, with_two}
-use Rattle.plan_theory.specs.Classes.{IsFoundByLayers}
-use Rattle.task_core.specs.Vectors.{all_vectors}
-use Rattle.task_core.proofs.TaskSystem.{is_system}
 use Rattle.plan_theory.proofs.LeastBounds.{none_once_stable}
-use Rattle.reach_plan.specs.Working.{AreOwned, At, Start, Working, entries, with_set}
 use Rattle.plan_theory.proofs.Ranges.{range-more}
-use Rattle.reach_plan.proofs.SetLayers.{covers_is, fewer_next, goal_set, missed, next_layer_set, next_takers}
-use Rattle.reach_plan.proofs.WorkingSlots.{behind_live, behind_set, length_behind, second_front, second_live, second_set, work_back, work_front, work_less, work_more, work_same}
+use Rattle.reach_plan.proofs.SetLayers.{fewer_next, goal_set, missed, next_layer_set, next_takers, none_take, stable_same}
+use Rattle.plan_theory.proofs.WeakLists.{list_all-agree}
 
-pub same_chain : (a b c : Encoded) → b ≡ record a { sets = b.sets } → c ≡ record b { sets = c.sets } → c ≡ record a { sets = c.sets }
-same_chain a b c first second = second ∙ ap (λ (e : Encoded). record e { sets = c.sets }) first
+-- what is left of an answer, and of a refusal that is passed on
+pub found_of : {T : Type 0} (start : Start) (now : Encoded) (slots : List SetId) (P : T → Type 0) (result : Result T SetErr) (x : T) → result ≡ Ok x → Ends start now slots P result → P x
+found_of start now slots P result x is ends = subst (Ends start now slots P) is ends
 
-pub at_next : (start : Start) (now next : Encoded) (own other : Slots) → At start now own → next ≡ record now { sets = next.sets } → Working start.enc.sets next.sets other → At start next other
-at_next start now next own other at same work = record { same = same_chain start.enc now next at.same same; working = work }
+pub passed_on : {S T : Type 0} (start : Start) (now : Encoded) (slots : List SetId) (P : S → Type 0) (Q : T → Type 0) (inner : Result S SetErr) (outer : Result T SetErr) (e : SetErr) → inner ≡ Err e → (x : SetErr) × (outer ≡ Err x) × (x ≡ e) → Ends start now slots P inner → Ends start now slots Q outer
+passed_on start now slots P Q inner outer e was p ends =
+    subst (Ends start now slots Q) (sym p.1) (let kept = subst (Ends start now slots P) was ends in (kept.0, λ full. kept.1 (sym p.2 ∙ full)))
 
-pub at_made : KeptSetsStayMade → (start : Start) (now : Encoded) (own : Slots) → At start now own → MadeOf start.task now
-at_made law start now own at = subst (MadeOf start.task) (sym at.same) (law start.task start.enc now.sets at.working.kept start.made)
+pub ends_with : {T : Type 0} (start : Start) (now : Encoded) (slots : List SetId) (P Q : T → Type 0) (result : Result T SetErr) → ((x : T) → P x → Q x) → Ends start now slots P result → Ends start now slots Q result
+ends_with start now slots P Q (Ok x) f ends = f x ends
+ends_with start now slots P Q (Err e) f ends = ends
+
+-- whatever it is, the board is there
+pub ends_at : {T : Type 0} (start : Start) (now : Encoded) (slots : List SetId) (P : T → Type 0) (result : Result T SetErr) → ((x : T) → P x → At start now slots) → Ends start now slots P result → At start now slots
+ends_at start now slots P (Ok x) f ends = f x ends
+ends_at start now slots P (Err e) f ends = ends.0
 
 -- at first no action is done
 or_false : (b : Bool) → b ≡ (b || false)
@@ -52,10 +58,10 @@ or_false false = refl
 not_below_zero : (a : ℕ) → nat_lt a 0 ≡ false
 not_below_zero a = false_from_ne_true (nat_lt a 0) (λ lt. let l : a < 0 = ltb-true a 0 lt in absurd (omega arith))
 
-pub grown_none : (class : Class) (task : Task) (f : Function) → f ≡ grown class task f 0
+grown_none : (class : Class) (task : Task) (f : Function) → f ≡ grown class task f 0
 grown_none class task f = fun_ext (λ values. or_false (f values))
 
-pub taken_none : (class : Class) (task : Task) (f : Function) (h : ℕ → Function) → h ≡ taken_by class task f h 0
+taken_none : (class : Class) (task : Task) (f : Function) (h : ℕ → Function) → h ≡ taken_by class task f h 0
 taken_none class task f h = fun_ext (λ a. sym (cond-false (nat_lt a 0) (or_of (h a) (minus_of (class_preimage class task a f) (grown class task f a))) (h a) (not_below_zero a)))
 
 -- one action more
@@ -64,7 +70,7 @@ or_last true l p = refl
 or_last false true p = refl
 or_last false false p = or_false p
 
-pub grown_more : (class : Class) (task : Task) (f : Function) (a : ℕ) → or_of (grown class task f a) (class_preimage class task a f) ≡ grown class task f (a + 1)
+grown_more : (class : Class) (task : Task) (f : Function) (a : ℕ) → or_of (grown class task f a) (class_preimage class task a f) ≡ grown class task f (a + 1)
 grown_more class task f a = fun_ext step
   where
     step : (values : ℕ → Bool) → (grown class task f a values || class_preimage class task a f values) ≡ grown class task f (a + 1) values
@@ -73,7 +79,7 @@ grown_more class task f a = fun_ext step
         or_last (f values) (list_any p (range_with_len 0 a)) (p a)
         ∙ ap (λ l. f values || l) (sym (ap (list_any p) (range-more a) ∙ list_any-append p (range_with_len 0 a) (a ∷ [])))
 
-pub taken_more : (class : Class) (task : Task) (f : Function) (h : ℕ → Function) (a : ℕ)
+taken_more : (class : Class) (task : Task) (f : Function) (h : ℕ → Function) (a : ℕ)
     → with_set (taken_by class task f h a) a (or_of (taken_by class task f h a a) (minus_of (class_preimage class task a f) (grown class task f a))) ≡ taken_by class task f h (a + 1)
 taken_more class task f h a = fun_ext (λ k. ⊎_elim (here k) (other k) (cases_eq k a))
   where
@@ -97,125 +103,120 @@ taken_more class task f h a = fun_ext (λ k. ⊎_elim (here k) (other k) (cases_
         cond-false (k == a) (or_of (taken_by class task f h a a) (minus_of (class_preimage class task a f) (grown class task f a))) (taken_by class task f h a k) (ne_eqb k a differs)
         ∙ ⊎_elim (λ (l : k < a). new_is k a l ∙ sym (new_is k (a + 1) (omega arith))) (λ (l : a ≤ k). old_is k a l ∙ sym (old_is k (a + 1) (omega arith))) (cases_lt k a)
 
--- there is room for the slots of all actions, and some more
-pub room_for : KeptSetsStayMade → (start : Start) (now : Encoded) (own : Slots) → At start now own → (actions many : ℕ) → actions ≡ length now.actions → many ≤ actions → many + 16 ≤ start.room
-room_for law start now own at actions many is few =
-    let all : length now.actions ≡ action_count start.task = (at_made law start now own at).actions in
-    let wide : action_count start.task + 16 ≤ start.room = start.wide in
-    omega arith
+-- a place behind the layer is written
+module _ (start : Start) (x now : Encoded) (old new : List SetId) (n p : ℕ) (set : Function) (long : length old ≡ n + 4) (at : At start x old) (m : Moved start x.sets old now new p set) where
+  within : (k : ℕ) → k < n + 4 → k < length new
+  within k l = let a : length old ≡ start.places = at.long in let b : length new ≡ start.places = m.at.long in omega arith
 
-pub same_actions : KeptSetsStayMade → (start : Start) (now next : Encoded) (own other : Slots) → At start now own → At start next other → length next.actions ≡ length now.actions
-same_actions law start now next own other at later = (at_made law start next other later).actions ∙ sym ((at_made law start now own at).actions)
+  pub layer_still : n < p → (f : Function) (h : ℕ → Function) → HasLayer start x old n f h → HasLayer start now new n f h
+  layer_still behind f h has = record {
+    at = m.at;
+    sound = m.sound;
+    holds_layer = m.others n (within n (omega arith)) (λ e. absurd (omega arith)) ∙ has.holds_layer;
+    holds_taken = λ a l. m.others a (within a (omega arith)) (λ e. absurd (omega arith)) ∙ has.holds_taken a l;
+  }
 
--- the hits of an action join the slots
-pub with_hits : (start : Start) (now next : Encoded) (taken : List SetId) (h : ℕ → Function) (layer : SetId) (g : Function) (last : SetId) (f : Function) (class : Class) (a hits : ℕ) → At start now (with_two taken h layer g last f)
-    → KeepsSets now.sets next.sets → Adds now.sets next.sets hits (class_preimage class start.task a (set_of now.sets last.0))
-    → Working start.enc.sets next.sets (entries taken 0 h ++ (hits, class_preimage class start.task a f) ∷ (layer.0, g) ∷ (last.0, f) ∷ [])
-with_hits start now next taken h layer g last f class a hits at kept adds =
-    let xs = entries taken 0 h in
-    let is : set_of now.sets last.0 ≡ f = second_set start.enc.sets now.sets xs (layer.0, g) last.0 f [] at.working in
-    work_back start.enc.sets next.sets xs hits (class_preimage class start.task a f) ((layer.0, g) ∷ (last.0, f) ∷ [])
-    (work_more start.enc.sets now.sets next.sets (with_two taken h layer g last f) hits (class_preimage class start.task a f) at.working kept (subst (λ (set : Function). Adds now.sets next.sets hits (class_preimage class start.task a set)) is adds))
+  pub next_still : n + 1 < p → (f : Function) (h : ℕ → Function) (g : Function) → HasNext start x old n f h g → HasNext start now new n f h g
+  next_still behind f h g has = record {
+    by_layer = layer_still (omega arith) f h has.by_layer;
+    holds_next = m.others (n + 1) (within (n + 1) (omega arith)) (λ e. absurd (omega arith)) ∙ has.holds_next;
+  }
 
-pub hits_owned : (start : Start) (now next : Encoded) (taken : List SetId) (h : ℕ → Function) (layer : SetId) (g : Function) (last : SetId) (f : Function) (class : Class) (a : ℕ) (hits : SetId) → At start now (with_two taken h layer g last f)
-    → KeepsSets now.sets next.sets → Adds now.sets next.sets hits.0 (class_preimage class start.task a (set_of now.sets last.0)) → AreOwned next.sets taken (hits ∷ layer ∷ [])
-hits_owned start now next taken h layer g last f class a hits at kept adds = record {
-  before = start.enc.sets;
-  sets = h;
-  other_sets = λ i. cond (i == 0) (class_preimage class start.task a f) g;
-  own = (last.0, f) ∷ [];
-  working = with_hits start now next taken h layer g last f class a hits.0 at kept adds;
+  pub hits_still : n + 2 < p → (f : Function) (h : ℕ → Function) (g hits : Function) → HasHits start x old n f h g hits → HasHits start now new n f h g hits
+  hits_still behind f h g hits has = record {
+    by_next = next_still (omega arith) f h g has.by_next;
+    holds_hits = m.others (n + 2) (within (n + 2) (omega arith)) (λ e. absurd (omega arith)) ∙ has.holds_hits;
+  }
+
+-- the hits of an action
+pub hits_found : (start : Start) (x now : Encoded) (old new : List SetId) (n : ℕ) (class : Class) (a : ℕ) (f : Function) (h : ℕ → Function) (g : Function) (lead : Function → Function) → length old ≡ n + 4 → HasNext start x old n f h g → ((s : Function) → lead s ≡ class_preimage class start.task a s)
+    → Moved start x.sets old now new (n + 2) (lead (set_at x.sets old n)) → HasHits start now new n f h g (class_preimage class start.task a f)
+hits_found start x now old new n class a f h g lead long has is m = record {
+  by_next = next_still start x now old new n (n + 2) _ long has.by_layer.at m (omega arith) f h g has;
+  holds_hits = m.here ∙ is (set_at x.sets old n) ∙ ap (class_preimage class start.task a) has.by_layer.holds_layer;
 }
 
-pub length_two : (taken : List SetId) (h : ℕ → Function) (layer : SetId) (g : Function) (last : SetId) (f : Function) → length (with_two taken h layer g last f) ≡ length taken + 2
-length_two taken h layer g last f = let e : length (entries taken 0 h ++ (layer.0, g) ∷ ((last.0, f) ∷ [])) ≡ length taken + 1 + 1 = length_behind taken h (layer.0, g) ((last.0, f) ∷ []) in omega arith
+-- what an action takes: where it has no place, and where it has one
+pub take_none : (start : Start) (now : Encoded) (slots : List SetId) (n a : ℕ) (f : Function) (h : ℕ → Function) (g hits set : Function) → n ≤ a → HasHits start now slots n f h g hits → HasHits start now slots n f (with_set h a set) g hits
+take_none start now slots n a f h g hits set out has = record {
+  by_next = record {
+    by_layer = record {
+      at = has.by_next.by_layer.at;
+      sound = has.by_next.by_layer.sound;
+      holds_layer = has.by_next.by_layer.holds_layer;
+      holds_taken = λ b l. has.by_next.by_layer.holds_taken b l ∙ sym (cond-false (b == a) set (h b) (ne_eqb b a (λ e. absurd (omega arith))));
+    };
+    holds_next = has.by_next.holds_next;
+  };
+  holds_hits = has.holds_hits;
+}
 
-pub length_one : (taken : List SetId) (h : ℕ → Function) (last : SetId) (f : Function) → length (with_one taken h last f) ≡ length taken + 1
-length_one taken h last f = let e : length (entries taken 0 h ++ (last.0, f) ∷ []) ≡ length taken + 0 + 1 = length_behind taken h (last.0, f) [] in omega arith
+pub take_one : (start : Start) (x mid now : Encoded) (old half new : List SetId) (n a : ℕ) (f : Function) (h : ℕ → Function) (g hits : Function) → length old ≡ n + 4 → a < n → HasHits start x old n f h g hits
+    → Moved start x.sets old mid half (n + 3) (minus_of (set_at x.sets old (n + 2)) (set_at x.sets old (n + 1))) → Moved start mid.sets half now new a (or_of (set_at mid.sets half a) (set_at mid.sets half (n + 3)))
+    → HasHits start now new n f (with_set h a (or_of (h a) (minus_of hits g))) g hits
+take_one start x mid now old half new n a f h g hits long low has first second =
+    let begun = hits_still start x mid old half n (n + 3) _ long has.by_next.by_layer.at first (omega arith) f h g hits has in
+    let at = begun.by_next.by_layer.at in
+    let half_long : length half ≡ n + 4 = let b : length half ≡ start.places = first.at.long in let d : length old ≡ start.places = has.by_next.by_layer.at.long in omega arith in
+    let there : (k : ℕ) → k < n + 4 → k < length new = within start mid now half new n a _ half_long at second in
+    let fresh : set_at mid.sets half (n + 3) ≡ minus_of hits g = first.here ∙ ap (λ (s : Function). minus_of s (set_at x.sets old (n + 1))) has.holds_hits ∙ ap (minus_of hits) has.by_next.holds_next in
+    let here : set_at now.sets new a ≡ or_of (h a) (minus_of hits g) = second.here ∙ ap (λ (s : Function). or_of s (set_at mid.sets half (n + 3))) (begun.by_next.by_layer.holds_taken a low) ∙ ap (or_of (h a)) fresh in
+    record {
+      by_next = record {
+        by_layer = record {
+          at = second.at;
+          sound = second.sound;
+          holds_layer = second.others n (there n (omega arith)) (λ e. absurd (omega arith)) ∙ begun.by_next.by_layer.holds_layer;
+          holds_taken = λ b l.
+              ⊎_elim
+              (λ (same : b ≡ a). ap (set_at now.sets new) same ∙ here ∙ sym (cond-true (b == a) (or_of (h a) (minus_of hits g)) (h b) (eq-eqb b a same)))
+              (λ (differs : b ≢ a). second.others b (there b (omega arith)) differs ∙ begun.by_next.by_layer.holds_taken b l ∙ sym (cond-false (b == a) (or_of (h a) (minus_of hits g)) (h b) (ne_eqb b a differs)))
+              (cases_eq b a);
+        };
+        holds_next = second.others (n + 1) (there (n + 1) (omega arith)) (λ e. absurd (omega arith)) ∙ begun.by_next.holds_next;
+      };
+      holds_hits = second.others (n + 2) (there (n + 2) (omega arith)) (λ e. absurd (omega arith)) ∙ begun.holds_hits;
+    }
 
--- what is left after an action, in the words of the next one
-pub one_more : (start : Start) (now : Encoded) (taken : List SetId) (h : ℕ → Function) (layer last : SetId) (f : Function) (class : Class) (a : ℕ)
-    → Working start.enc.sets now.sets (entries taken 0 (with_set (taken_by class start.task f h a) a (or_of (taken_by class start.task f h a a) (minus_of (class_preimage class start.task a f) (grown class start.task f a)))) ++ (layer.0, or_of (grown class start.task f a) (class_preimage class start.task a f)) ∷ (last.0, f) ∷ [])
-    → Working start.enc.sets now.sets (with_two taken (taken_by class start.task f h (a + 1)) layer (grown class start.task f (a + 1)) last f)
-one_more start now taken h layer last f class a work =
-    subst (λ (g : Function). Working start.enc.sets now.sets (with_two taken (taken_by class start.task f h (a + 1)) layer g last f)) (grown_more class start.task f a)
-    (subst (λ (t : ℕ → Function). Working start.enc.sets now.sets (with_two taken t layer (or_of (grown class start.task f a) (class_preimage class start.task a f)) last f)) (taken_more class start.task f h a) work)
+-- one action more
+pub grown_by : (start : Start) (x now : Encoded) (old new : List SetId) (n : ℕ) (class : Class) (a : ℕ) (f : Function) (h : ℕ → Function) → length old ≡ n + 4
+    → HasHits start x old n f (with_set (taken_by class start.task f h a) a (or_of (taken_by class start.task f h a a) (minus_of (class_preimage class start.task a f) (grown class start.task f a)))) (grown class start.task f a) (class_preimage class start.task a f)
+    → Moved start x.sets old now new (n + 1) (or_of (set_at x.sets old (n + 1)) (set_at x.sets old (n + 2))) → HasGrown class start now new n f h (a + 1)
+grown_by start x now old new n class a f h long has m =
+    let kept = layer_still start x now old new n (n + 1) _ long has.by_next.by_layer.at m (omega arith) f _ has.by_next.by_layer in
+    subst (λ (t : ℕ → Function). HasNext start now new n f t (grown class start.task f (a + 1))) (taken_more class start.task f h a)
+    (record {
+      by_layer = kept;
+      holds_next =
+          m.here ∙ ap (λ (s : Function). or_of s (set_at x.sets old (n + 2))) has.by_next.holds_next ∙ ap (or_of (grown class start.task f a)) has.holds_hits
+          ∙ grown_more class start.task f a;
+    })
 
-pub at_first : (start : Start) (now : Encoded) (taken : List SetId) (h : ℕ → Function) (layer last : SetId) (f : Function) (class : Class) → At start now (with_two taken h layer f last f)
-    → At start now (with_two taken (taken_by class start.task f h 0) layer (grown class start.task f 0) last f)
-at_first start now taken h layer last f class at =
-    subst (λ (g : Function). At start now (with_two taken (taken_by class start.task f h 0) layer g last f)) (grown_none class start.task f)
-    (subst (λ (t : ℕ → Function). At start now (with_two taken t layer f last f)) (taken_none class start.task f h) at)
+pub grown_first : (start : Start) (x now : Encoded) (old new : List SetId) (n : ℕ) (class : Class) (f : Function) (h : ℕ → Function) → length old ≡ n + 4 → HasLayer start x old n f h → Moved start x.sets old now new (n + 1) (set_at x.sets old n) → HasGrown class start now new n f h 0
+grown_first start x now old new n class f h long has m =
+    subst (λ (t : ℕ → Function). HasNext start now new n f t (grown class start.task f 0)) (taken_none class start.task f h)
+    (record {
+      by_layer = layer_still start x now old new n (n + 1) _ long has.at m (omega arith) f h has;
+      holds_next = m.here ∙ has.holds_layer ∙ grown_none class start.task f;
+    })
 
--- a copy of the layer joins the slots, and a layer's slot leaves them
-pub with_copy : (start : Start) (now next : Encoded) (taken : List SetId) (h : ℕ → Function) (last : SetId) (f : Function) (copy : SetId) → At start now (with_one taken h last f) → next ≡ record now { sets = next.sets }
-    → KeepsSets now.sets next.sets → Adds now.sets next.sets copy.0 (set_of now.sets last.0) → At start next (with_two taken h copy f last f)
-with_copy start now next taken h last f copy at same kept adds =
-    let xs = entries taken 0 h in
-    let is : set_of now.sets last.0 ≡ f = behind_set start.enc.sets now.sets xs last.0 f [] at.working in
-    at_next start now next (with_one taken h last f) (with_two taken h copy f last f) at same
-    (work_back start.enc.sets next.sets xs copy.0 f ((last.0, f) ∷ [])
-    (work_more start.enc.sets now.sets next.sets (with_one taken h last f) copy.0 f at.working kept (subst (λ (set : Function). Adds now.sets next.sets copy.0 set) is adds)))
+-- the test of the initial states leaves the layer
+pub layer_stays : (start : Start) (x now : Encoded) (slots : List SetId) (n : ℕ) (f : Function) (h : ℕ → Function) → length slots ≡ n + 4 → Stayed start x.sets now slots → HasLayer start x slots n f h → HasLayer start now slots n f h
+layer_stays start x now slots n f h long stayed has = record {
+  at = stayed.at;
+  sound = stayed.sound;
+  holds_layer = stayed.each n (omega arith) ∙ has.holds_layer;
+  holds_taken = λ a l. stayed.each a (omega arith) ∙ has.holds_taken a l;
+}
 
-pub end_next : (start : Start) (now next : Encoded) (taken : List SetId) (h : ℕ → Function) (layer : SetId) (g : Function) (last : SetId) (f : Function) → At start now (with_two taken h layer g last f) → next ≡ record now { sets = next.sets }
-    → Releases now.sets next.sets layer.0 → At start next (with_one taken h last f)
-end_next start now next taken h layer g last f at same ends =
-    at_next start now next (with_two taken h layer g last f) (with_one taken h last f) at same
-    (work_less start.enc.sets now.sets next.sets layer.0 g (with_one taken h last f) (work_front start.enc.sets now.sets (entries taken 0 h) layer.0 g ((last.0, f) ∷ []) at.working) ends)
+pub covered_at : (class : Class) (start : Start) (x : Encoded) (slots : List SetId) (n k : ℕ) (covered : Bool) → HasRound class start x slots n k → covered ≡ list_all (λ state. set_at x.sets slots n (value_of state)) (initial_states start.task) → covered ≡ covers class (system_of start.task) k
+covered_at class start x slots n k covered has is =
+    is
+    ∙ list_all-agree (λ state. set_at x.sets slots n (value_of state)) (layer class (system_of start.task) k) (initial_states start.task)
+    (λ s c. ap (λ (f : Function). f (value_of s)) has.has.holds_layer ∙ has.round.is_layer.agrees s ((is_system start.task).initial s c))
 
-pub end_last : (start : Start) (now next : Encoded) (taken : List SetId) (h : ℕ → Function) (last : SetId) (f : Function) → At start now (with_one taken h last f) → next ≡ record now { sets = next.sets }
-    → Releases now.sets next.sets last.0 → At start next (entries taken 0 h)
-end_last start now next taken h last f at same ends =
-    at_next start now next (with_one taken h last f) (entries taken 0 h) at same
-    (subst (λ (own : Slots). Working start.enc.sets next.sets own) (append-nil (entries taken 0 h))
-    (work_less start.enc.sets now.sets next.sets last.0 f (entries taken 0 h ++ []) (work_front start.enc.sets now.sets (entries taken 0 h) last.0 f [] at.working) ends))
-
-pub end_second : (start : Start) (now next : Encoded) (taken : List SetId) (h : ℕ → Function) (layer : SetId) (g : Function) (last : SetId) (f : Function) → At start now (with_two taken h layer g last f) → next ≡ record now { sets = next.sets }
-    → Releases now.sets next.sets last.0 → At start next (with_one taken h layer g)
-end_second start now next taken h layer g last f at same ends =
-    at_next start now next (with_two taken h layer g last f) (with_one taken h layer g) at same
-    (work_less start.enc.sets now.sets next.sets last.0 f (with_one taken h layer g) (second_front start.enc.sets now.sets (entries taken 0 h) (layer.0, g) last.0 f [] at.working) ends)
-
--- the slots are live
-pub one_live : (start : Start) (now : Encoded) (taken : List SetId) (h : ℕ → Function) (last : SetId) (f : Function) → At start now (with_one taken h last f) → IsLive now.sets last.0
-one_live start now taken h last f at = behind_live start.enc.sets now.sets (entries taken 0 h) last.0 f [] at.working
-
-pub one_holds : (start : Start) (now : Encoded) (taken : List SetId) (h : ℕ → Function) (last : SetId) (f : Function) → At start now (with_one taken h last f) → set_of now.sets last.0 ≡ f
-one_holds start now taken h last f at = behind_set start.enc.sets now.sets (entries taken 0 h) last.0 f [] at.working
-
-pub next_live : (start : Start) (now : Encoded) (taken : List SetId) (h : ℕ → Function) (layer : SetId) (g : Function) (last : SetId) (f : Function) → At start now (with_two taken h layer g last f) → IsLive now.sets layer.0
-next_live start now taken h layer g last f at = behind_live start.enc.sets now.sets (entries taken 0 h) layer.0 g ((last.0, f) ∷ []) at.working
-
-pub next_holds : (start : Start) (now : Encoded) (taken : List SetId) (h : ℕ → Function) (layer : SetId) (g : Function) (last : SetId) (f : Function) → At start now (with_two taken h layer g last f) → set_of now.sets layer.0 ≡ g
-next_holds start now taken h layer g last f at = behind_set start.enc.sets now.sets (entries taken 0 h) layer.0 g ((last.0, f) ∷ []) at.working
-
-pub last_live : (start : Start) (now : Encoded) (taken : List SetId) (h : ℕ → Function) (layer : SetId) (g : Function) (last : SetId) (f : Function) → At start now (with_two taken h layer g last f) → IsLive now.sets last.0
-last_live start now taken h layer g last f at = second_live start.enc.sets now.sets (entries taken 0 h) (layer.0, g) last.0 f [] at.working
-
-pub last_holds : (start : Start) (now : Encoded) (taken : List SetId) (h : ℕ → Function) (layer : SetId) (g : Function) (last : SetId) (f : Function) → At start now (with_two taken h layer g last f) → set_of now.sets last.0 ≡ f
-last_holds start now taken h layer g last f at = second_set start.enc.sets now.sets (entries taken 0 h) (layer.0, g) last.0 f [] at.working
-
--- a call that adds no slot
-pub at_same : (start : Start) (now next : Encoded) (own : Slots) → At start now own → next ≡ record now { sets = next.sets } → KeepsSets now.sets next.sets → AddsNone now.sets next.sets → At start next own
-at_same start now next own at same kept none = at_next start now next own own at same (work_same start.enc.sets now.sets next.sets own at.working kept none)
-
--- a set that depends on the fluents alone, by the table that it stands in
-pub depends_by : SetsDependOnFluents → KeptSetsStayMade → (start : Start) (now : Encoded) (own : Slots) (slot : ℕ) (f : Function) → At start now own → IsSets now.sets → set_of now.sets slot ≡ f → DependsOnly 0 (fluent_count start.task) f
-depends_by depends law start now own slot f at sound is =
-    let made = at_made law start now own at in
-    let vars : now.sets.vars ≡ fluent_count start.task = made.ready.vars ∙ made.fluents in
-    subst (λ (n : ℕ). DependsOnly 0 n f) vars (subst (λ (g : Function). DependsOnly 0 now.sets.vars g) is (depends now.sets sound slot))
-
--- whether the layer holds every initial state
-pub covered_is : KeptSetsStayMade → (start : Start) (now : Encoded) (taken : List SetId) (h : ℕ → Function) (last : SetId) (f : Function) (class : Class) (k : ℕ) (inside : Bool) → At start now (with_one taken h last f) → IsLayerSet class start.task k f
-    → IsTrue inside ↔ ((values : Values) → set_of now.sets now.initial.0 values ≡ true → set_of now.sets last.0 values ≡ true) → inside ≡ covers class (system_of start.task) k
-covered_is law start now taken h last f class k inside at is iff =
-    covers_is class start.task k f is inside
-    (subst (λ (g : Function). IsTrue inside ↔ ((values : Values) → g values ≡ true → f values ≡ true)) (at_made law start now (with_one taken h last f) at).initial.holds
-    (subst (λ (g : Function). IsTrue inside ↔ ((values : Values) → set_of now.sets now.initial.0 values ≡ true → g values ≡ true)) (one_holds start now taken h last f at) iff))
-
--- one round more
-pub next_round : WeakLeadsToSome → StrongLeadsToAll → (class : Class) (task : Task) (k : ℕ) (f : Function) (h : ℕ → Function) (actions : ℕ) → IsRound class task k f h → covers class (system_of task) k ≡ false → actions ≡ action_count task
+-- one layer more
+next_round : WeakLeadsToSome → StrongLeadsToAll → (class : Class) (task : Task) (k : ℕ) (f : Function) (h : ℕ → Function) (actions : ℕ) → IsRound class task k f h → covers class (system_of task) k ≡ false → actions ≡ action_count task
     → DependsOnly 0 (fluent_count task) (grown class task f actions) → IsRound class task (suc k) (grown class task f actions) (taken_by class task f h actions)
 next_round weak strong class task k f h actions round short all depends = record {
   is_layer = next_layer_set weak strong task k f class round.is_layer (grown class task f actions) (ap (grown class task f) all) depends;
@@ -223,85 +224,92 @@ next_round weak strong class task k f h actions round short all depends = record
   before = λ j low. ⊎_elim (λ (l : j < k). round.before j l) (λ (l : k ≤ j). let e : k ≡ j = omega arith in subst (λ (n : ℕ). covers class (system_of task) n ≡ false) e short) (cases_lt j k);
 }
 
+module _ (weak : WeakLeadsToSome) (strong : StrongLeadsToAll) (class : Class) (start : Start) (x : Encoded) (slots : List SetId) (n k actions : ℕ) (f : Function) (h : ℕ → Function) (round : IsRound class start.task k f h) (short : covers class (system_of start.task) k ≡ false) (all : actions ≡ action_count start.task)
+    (has : HasGrown class start x slots n f h actions) where
+  next : IsRound class start.task (suc k) (grown class start.task f actions) (taken_by class start.task f h actions)
+  next =
+      next_round weak strong class start.task k f h actions round short all
+      (subst (DependsOnly 0 (fluent_count start.task)) has.holds_next (depends start x slots has.by_layer.at has.by_layer.sound (n + 1)))
+
+  pub is_still : set_at x.sets slots (n + 1) ≡ set_at x.sets slots n → IsStill class start x slots k
+  is_still same = record {
+    at = has.by_layer.at;
+    stable = stable_same class start.task k f (grown class start.task f actions) round.is_layer next.is_layer (sym has.holds_next ∙ same ∙ has.by_layer.holds_layer);
+    short = short;
+  }
+
+  pub is_more : (now : Encoded) (new : List SetId) (before : Function) → length slots ≡ n + 4 → before ≡ f → (set_at x.sets slots (n + 1) ≡ set_at x.sets slots n → ⊥) → Moved start x.sets slots now new n (set_at x.sets slots (n + 1)) → IsMore class start before now new n k
+  is_more now new before long was differ m = record {
+    has = record {
+      f = grown class start.task f actions;
+      h = taken_by class start.task f h actions;
+      has = record {
+        at = m.at;
+        sound = m.sound;
+        holds_layer = m.here ∙ has.holds_next;
+        holds_taken = λ a l. m.others a (there a (omega arith)) (λ e. absurd (omega arith)) ∙ has.by_layer.holds_taken a l;
+      };
+      round = next;
+    };
+    differs = λ same. differ (sym m.here ∙ same ∙ was ∙ sym has.by_layer.holds_layer);
+  }
+    where
+      there : (a : ℕ) → a < n + 4 → a < length new
+      there a l = let b : length new ≡ start.places = m.at.long in let d : length slots ≡ start.places = has.by_layer.at.long in omega arith
+
 -- the goal, where the search begins
-pub goal_slot : (task : Task) (enc : Encoded) (slot : SetId) → MadeOf task enc → enc.goal ≡ Some slot → (goal : Cond) × (task.goal ≡ Some goal) × Holds enc.sets slot (holds goal)
+goal_slot : (task : Task) (enc : Encoded) (slot : SetId) → MadeOf task enc → enc.goal ≡ Some slot → (goal : Cond) × (task.goal ≡ Some goal) × Holds enc.sets slot (holds goal)
 goal_slot task enc slot made is = at task.goal refl (subst (λ (o : Option SetId). HoldsGoal enc.sets o task.goal) is made.goal)
   where
     at : (goal : Option Cond) → task.goal ≡ goal → HoldsGoal enc.sets (Some slot) goal → (goal : Cond) × (task.goal ≡ Some goal) × Holds enc.sets slot (holds goal)
     at None e holds = absurd holds
     at (Some goal) e holds = (goal, e, holds)
 
-pub first_round : (class : Class) (task : Task) (goal : Cond) (h : ℕ → Function) → task.goal ≡ Some goal → DependsOnly 0 (fluent_count task) (holds goal) → AreTakers class task 0 h → IsRound class task 0 (holds goal) h
-first_round class task goal h is depends takers = record { is_layer = goal_set class task goal is depends; are_takers = takers; before = λ j low. absurd (omega arith) }
+pub goal_live : (start : Start) (enc : Encoded) (slots : List SetId) (slot : SetId) → At start enc slots → enc.goal ≡ Some slot → IsLive enc.sets slot.0
+goal_live start enc slots slot at is = (goal_slot start.task enc slot (made_at start enc slots at) is).2.live
 
--- after a round the last slot is still there
-pub round_live : (class : Class) (start : Start) (enc : Encoded) (taken : List SetId) (last : SetId) (f : Function) (k : ℕ) (round : Round) → RoundLeft class start enc taken last f k round → IsLive enc.sets last.0
-round_live class start enc taken last f k Covered left = one_live start enc taken left.h last f left.at
-round_live class start enc taken last f k Stable left = one_live start enc taken left.h last f left.at
-round_live class start enc taken last f k (More next) left = last_live start enc taken left.h next left.g last f left.at
-
--- the last slot holds layer k, and no layer before it holds every initial state
-pub record Going (class : Class) (start : Start) (enc : Encoded) (taken : List SetId) (last : SetId) : Type 0 where
-  pub k : ℕ
-  pub f : Function
-  pub h : ℕ → Function
-  pub at : At start enc (with_one taken h last f)
-  pub round : IsRound class start.task k f h
-
-pub going_first : SetsDependOnFluents → KeptSetsStayMade → (class : Class) (start : Start) (now next : Encoded) (taken : List SetId) (h : ℕ → Function) (slot last : SetId) → At start now (entries taken 0 h) → AreTakers class start.task 0 h → now.goal ≡ Some slot
-    → next ≡ record now { sets = next.sets } → KeepsSets now.sets next.sets → Adds now.sets next.sets last.0 (set_of now.sets slot.0) → IsSets next.sets → Going class start next taken last
-going_first depends law class start now next taken h slot last at takers is same kept adds sound =
-    let goal = goal_slot start.task now slot (at_made law start now (entries taken 0 h) at) is in
-    let f = holds goal.0 in
-    let begun : At start next (with_one taken h last f) = at_next start now next (entries taken 0 h) (with_one taken h last f) at same
-    (work_back start.enc.sets next.sets (entries taken 0 h) last.0 f []
-    (subst (λ (own : Slots). Working start.enc.sets next.sets ((last.0, f) ∷ own)) (sym (append-nil (entries taken 0 h)))
-    (work_more start.enc.sets now.sets next.sets (entries taken 0 h) last.0 f at.working kept (subst (λ (set : Function). Adds now.sets next.sets last.0 set) goal.2.holds adds)))) in
+pub first_round : (class : Class) (start : Start) (x now : Encoded) (old new : List SetId) (n : ℕ) (slot : SetId) → length old ≡ n + 4 → HasNothing start x old → x.goal ≡ Some slot → Moved start x.sets old now new n (set_of x.sets slot.0) → HasRound class start now new n 0
+first_round class start x now old new n slot long has is m =
+    let goal = goal_slot start.task x slot (made_at start x old has.at) is in
+    let held : set_at now.sets new n ≡ holds goal.0 = m.here ∙ goal.2.holds in
     record {
-      k = 0;
-      f = f;
-      h = h;
-      at = begun;
-      round = first_round class start.task goal.0 h goal.1 (depends_by depends law start next (with_one taken h last f) last.0 f begun sound (one_holds start next taken h last f begun)) takers;
+      f = holds goal.0;
+      h = λ a. nothing;
+      has = record {
+        at = m.at;
+        sound = m.sound;
+        holds_layer = held;
+        holds_taken = λ a l. m.others a (let b : length new ≡ start.places = m.at.long in let d : length old ≡ start.places = has.at.long in omega arith) (λ e. absurd (omega arith)) ∙ has.holds_nothing a (omega arith);
+      };
+      round = record {
+        is_layer = goal_set class start.task goal.0 goal.1 (subst (DependsOnly 0 (fluent_count start.task)) held (depends start now new m.at m.sound n));
+        are_takers = none_take class start.task;
+        before = λ j low. absurd (omega arith);
+      };
     }
 
 -- the layer after it misses fewer states
-pub going_fewer : KeptSetsStayMade → (class : Class) (start : Start) (now middle next : Encoded) (taken later : List SetId) (last layer : SetId) (going : Going class start now taken last) (more : IsMore class start middle later layer last going.f going.k)
-    → next ≡ record middle { sets = next.sets } → Releases middle.sets next.sets last.0 → missed (set_of next.sets layer.0) (all_vectors next.fluents) < missed (set_of now.sets last.0) (all_vectors now.fluents)
-going_fewer law class start now middle next taken later last layer going more same ends =
-    let at = end_second start middle next later more.h layer more.g last going.f more.at same ends in
-    let n = fluent_count start.task in
-    let less : missed more.g (all_vectors n) < missed going.f (all_vectors n) = fewer_next class start.task going.k going.f more.g going.round.is_layer more.round.is_layer more.differs in
-    let now_is : missed (set_of now.sets last.0) (all_vectors now.fluents) ≡ missed going.f (all_vectors n) =
-    ap (λ (g : Function). missed g (all_vectors now.fluents)) (one_holds start now taken going.h last going.f going.at) ∙ ap (λ (m : ℕ). missed going.f (all_vectors m)) ((at_made law start now (with_one taken going.h last going.f) going.at).fluents) in
-    let next_is : missed (set_of next.sets layer.0) (all_vectors next.fluents) ≡ missed more.g (all_vectors n) =
-    ap (λ (g : Function). missed g (all_vectors next.fluents)) (one_holds start next later more.h layer more.g at) ∙ ap (λ (m : ℕ). missed more.g (all_vectors m)) ((at_made law start next (with_one later more.h layer more.g) at).fluents) in
+pub fewer_after : (class : Class) (start : Start) (x now : Encoded) (old new : List SetId) (n k : ℕ) → HasRound class start x old n k → IsMore class start (set_at x.sets old n) now new n k
+    → missed (set_at now.sets new n) (all_vectors now.fluents) < missed (set_at x.sets old n) (all_vectors x.fluents)
+fewer_after class start x now old new n k has more =
+    let m = fluent_count start.task in
+    let less : missed more.has.f (all_vectors m) < missed has.f (all_vectors m) =
+    fewer_next class start.task k has.f more.has.f has.round.is_layer more.has.round.is_layer (λ same. more.differs (more.has.has.holds_layer ∙ same ∙ sym has.has.holds_layer)) in
+    let was : missed (set_at x.sets old n) (all_vectors x.fluents) ≡ missed has.f (all_vectors m) =
+    ap (λ (g : Function). missed g (all_vectors x.fluents)) has.has.holds_layer ∙ ap (λ (i : ℕ). missed has.f (all_vectors i)) (made_at start x old has.has.at).fluents in
+    let is : missed (set_at now.sets new n) (all_vectors now.fluents) ≡ missed more.has.f (all_vectors m) =
+    ap (λ (g : Function). missed g (all_vectors now.fluents)) more.has.has.holds_layer ∙ ap (λ (i : ℕ). missed more.has.f (all_vectors i)) (made_at start now new more.has.has.at).fluents in
     omega arith
 
-pub going_on : (class : Class) (start : Start) (middle next : Encoded) (later : List SetId) (last layer : SetId) (f : Function) (k : ℕ) → IsMore class start middle later layer last f k → next ≡ record middle { sets = next.sets } → Releases middle.sets next.sets last.0
-    → Going class start next later layer
-going_on class start middle next later last layer f k more same ends = record {
-  k = suc k;
-  f = more.g;
-  h = more.h;
-  at = end_second start middle next later more.h layer more.g last f more.at same ends;
-  round = more.round;
+pub found_last : (class : Class) (start : Start) (now : Encoded) (slots : List SetId) (n k : ℕ) → IsCovered class start now slots n k → FoundLast class start now slots n
+found_last class start now slots n k is = record {
+  at = is.has.has.at;
+  layers = k;
+  last = record { covered = is.covered; first = is.has.round.before };
+  h = is.has.h;
+  are_takers = is.has.round.are_takers;
+  holds_taken = is.has.has.holds_taken;
 }
 
-pub found_last : (class : Class) (start : Start) (now middle next : Encoded) (taken later : List SetId) (last : SetId) (going : Going class start now taken last) → IsCovered class start middle later last going.f going.k → next ≡ record middle { sets = next.sets }
-    → Releases middle.sets next.sets last.0 → FoundLast class start next later
-found_last class start now middle next taken later last going covered same ends = record {
-  h = covered.h;
-  at = end_last start middle next later covered.h last going.f covered.at same ends;
-  K = going.k;
-  last = record { covered = covered.covered; first = going.round.before };
-  takers = covered.takers;
-}
-
-pub found_none : (class : Class) → IsFoundByLayers class → (start : Start) (middle next : Encoded) (later : List SetId) (last : SetId) (f : Function) (k : ℕ) → IsStill class start middle later last f k → next ≡ record middle { sets = next.sets }
-    → Releases middle.sets next.sets last.0 → FoundNone class start next later
-found_none class by_layers start middle next later last f k still same ends = record {
-  h = still.h;
-  at = end_last start middle next later still.h last f still.at same ends;
-  none = none_once_stable class by_layers (system_of start.task) k (is_system start.task) still.stable still.short;
-}
+pub found_none : (class : Class) → IsFoundByLayers class → (start : Start) (now : Encoded) (slots : List SetId) (k : ℕ) → IsStill class start now slots k → FoundNone class start now slots
+found_none class by_layers start now slots k still = record { at = still.at; none = none_once_stable class by_layers (system_of start.task) k (is_system start.task) still.stable still.short }

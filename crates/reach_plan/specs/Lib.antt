@@ -1,4 +1,4 @@
 pub mod LayerSets
 pub mod Searches
 pub mod SetRules
-pub mod Working
+pub mod Takers

@@ -1,140 +1,100 @@
--- Private: how far a search back from the goal has come, and with which slots.
-use Rattle.std.specs.Prelude.{◌≡◌, ℕ, suc, Bool, true, false, List, [], ◌∷◌, ◌++◌, map, Option}
-use Rattle.std.specs.Prelude.{Some, None, Vec}
-use Rattle.std.specs.declared.alloc.Global.{Global}
+-- Private: what the board of a search has. There is a place for what each of the first n actions
+-- takes; behind these stand this layer, the next one, where an action leads into this one, and what
+-- is new of that.
+use Rattle.std.specs.Prelude.{◌≡◌, ◌≢◌, ℕ, suc, ◌+◌, ◌<◌, ◌==◌, Bool, true, false}
+use Rattle.std.specs.Prelude.{if◌then◌else◌, List}
 use Rattle.dd_nodes.specs.Subfunctions.{Function}
+use Rattle.dd_sets.specs.LiveSets.{IsSets}
 use Rattle.dd_sets.specs.declared.slots.SetId.{SetId}
 use Rattle.encode_task.specs.Slots.{Encoded}
+use Rattle.slot_board.specs.Board.{At, Start, set_at}
 use Rattle.task_core.specs.Solutions.{HasNoSolution}
 use Rattle.task_core.specs.Tasks.{system_of}
 use Rattle.task_core.specs.declared.classes.Class.{Class}
-use Rattle.plan_rules.specs.Rules.{rule_of}
-use Rattle.plan_rules.specs.declared.rules.Rule.{Rule}
-use Rattle.plan_theory.specs.LayerPlans.{printed_rules}
 use Rattle.plan_theory.specs.Classes.{IsStable}
 use Rattle.plan_theory.specs.Layers.{IsLastLayer, covers}
-use Rattle.reach_plan.specs.LayerSets.{AreTakers, IsRound}
-use Rattle.reach_plan.specs.Working.{At, Start, entries}
+use Rattle.reach_plan.specs.LayerSets.{AreTakers, IsRound, grown, taken_by}
 use Rattle.reach_plan.specs.declared.search.Round.{Round}
 use Rattle.reach_plan.specs.declared.search.Round.TheVariants.{Covered, Stable, More}
 
--- a function's own slots: for each action what it takes, and one that holds a set, or two
-abbrev pub with_one : List SetId → (ℕ → Function) → SetId → Function → List (ℕ × Function)
-with_one taken h last f = entries taken 0 h ++ (last.0, f) ∷ []
+-- the same sets, but for one action
+abbrev pub with_set : (ℕ → Function) → ℕ → Function → ℕ → Function
+with_set sets a set b = if b == a then set else sets b
 
-abbrev pub with_two : List SetId → (ℕ → Function) → SetId → Function → SetId → Function
-    → List (ℕ × Function)
-with_two taken h next g last f = entries taken 0 h ++ (next.0, g) ∷ (last.0, f) ∷ []
+-- this layer is f, and the actions take h
+pub record HasLayer (start : Start) (now : Encoded) (slots : List SetId) (n : ℕ) (f : Function)
+    (h : ℕ → Function) : Type 0 where
+  pub at : At start now slots
+  pub sound : IsSets now.sets
+  pub holds_layer : set_at now.sets slots n ≡ f
+  pub holds_taken : (a : ℕ) → a < n → set_at now.sets slots a ≡ h a
 
--- work is going on, with slots for what the actions take, and none, one or two more, of which the
--- last is for a layer
-pub record IsBegun (class : Class) (enc : Encoded) (taken : List SetId) : Type 0 where
-  pub start : Start
-  pub h : ℕ → Function
-  pub at : At start enc (entries taken 0 h)
-  pub takers : AreTakers class start.task 0 h
+-- and the next one is g
+pub record HasNext (start : Start) (now : Encoded) (slots : List SetId) (n : ℕ) (f : Function)
+    (h : ℕ → Function) (g : Function) : Type 0 where
+  pub by_layer : HasLayer start now slots n f h
+  pub holds_next : set_at now.sets slots (n + 1) ≡ g
 
-pub record IsSearching (enc : Encoded) (taken : List SetId) (last : SetId) : Type 0 where
-  pub start : Start
-  pub h : ℕ → Function
+-- and an action leads into this one from hits
+pub record HasHits (start : Start) (now : Encoded) (slots : List SetId) (n : ℕ) (f : Function)
+    (h : ℕ → Function) (g hits : Function) : Type 0 where
+  pub by_next : HasNext start now slots n f h g
+  pub holds_hits : set_at now.sets slots (n + 2) ≡ hits
+
+-- the next layer has what the first m actions lead into this one
+abbrev pub HasGrown : Class → Start → Encoded → List SetId → ℕ → Function → (ℕ → Function) → ℕ
+    → Type 0
+HasGrown class start now slots n f h m =
+    HasNext start now slots n f (taken_by class start.task f h m) (grown class start.task f m)
+
+-- this layer is layer k, and no layer before it holds every initial state
+pub record HasRound (class : Class) (start : Start) (now : Encoded) (slots : List SetId) (n k : ℕ)
+    : Type 0 where
   pub f : Function
-  pub at : At start enc (with_one taken h last f)
-
-pub record IsGrowing (enc : Encoded) (taken : List SetId) (next last : SetId) : Type 0 where
-  pub start : Start
   pub h : ℕ → Function
-  pub f : Function
-  pub at : At start enc (with_two taken h next f last f)
+  pub has : HasLayer start now slots n f h
+  pub round : IsRound class start.task k f h
 
--- after a refusal: the slots are there, whatever they hold
-pub record StillOne (start : Start) (enc : Encoded) (taken : List SetId) (last : SetId)
-    (f : Function) : Type 0 where
-  pub h : ℕ → Function
-  pub at : At start enc (with_one taken h last f)
-
-pub record StillTwo (start : Start) (enc : Encoded) (taken : List SetId) (next last : SetId)
-    (f : Function) : Type 0 where
-  pub h : ℕ → Function
-  pub g : Function
-  pub at : At start enc (with_two taken h next g last f)
-
-pub record StillTaken (start : Start) (enc : Encoded) (taken : List SetId) : Type 0 where
-  pub h : ℕ → Function
-  pub at : At start enc (entries taken 0 h)
-
--- a round found that layer k holds every initial state, that the next layer is the same set, or the
--- next layer, another set
-pub record IsCovered (class : Class) (start : Start) (enc : Encoded) (taken : List SetId)
-    (last : SetId) (f : Function) (k : ℕ) : Type 0 where
-  pub h : ℕ → Function
-  pub at : At start enc (with_one taken h last f)
-  pub takers : AreTakers class start.task k h
+-- layer k holds every initial state
+pub record IsCovered (class : Class) (start : Start) (now : Encoded) (slots : List SetId)
+    (n k : ℕ) : Type 0 where
+  pub has : HasRound class start now slots n k
   pub covered : covers class (system_of start.task) k ≡ true
 
-pub record IsStill (class : Class) (start : Start) (enc : Encoded) (taken : List SetId)
-    (last : SetId) (f : Function) (k : ℕ) : Type 0 where
-  pub h : ℕ → Function
-  pub at : At start enc (with_one taken h last f)
+-- it doesn't, and the next layer is the same set
+pub record IsStill (class : Class) (start : Start) (now : Encoded) (slots : List SetId) (k : ℕ)
+    : Type 0 where
+  pub at : At start now slots
   pub stable : IsStable class (system_of start.task) k
   pub short : covers class (system_of start.task) k ≡ false
 
-pub record IsMore (class : Class) (start : Start) (enc : Encoded) (taken : List SetId)
-    (next last : SetId) (f : Function) (k : ℕ) : Type 0 where
-  pub h : ℕ → Function
-  pub g : Function
-  pub at : At start enc (with_two taken h next g last f)
-  pub round : IsRound class start.task (suc k) g h
-  pub differs : g ≡ f → ⊥
+-- it doesn't, and the next layer is another set, which stands in its place
+pub record IsMore (class : Class) (start : Start) (before : Function) (now : Encoded)
+    (slots : List SetId) (n k : ℕ) : Type 0 where
+  pub has : HasRound class start now slots n (suc k)
+  pub differs : set_at now.sets slots n ≢ before
 
-abbrev pub RoundLeft : Class → Start → Encoded → List SetId → SetId → Function → ℕ → Round → Type 0
-RoundLeft class start enc taken last f k Covered = IsCovered class start enc taken last f k
-RoundLeft class start enc taken last f k Stable = IsStill class start enc taken last f k
-RoundLeft class start enc taken last f k (More next) = IsMore class start enc taken next last f k
+-- what a round leaves, where the layer was this set before it
+abbrev pub RoundLeft : Class → Start → Function → Encoded → List SetId → ℕ → ℕ → Round → Type 0
+RoundLeft class start before now slots n k Covered = IsCovered class start now slots n k
+RoundLeft class start before now slots n k Stable = IsStill class start now slots k
+RoundLeft class start before now slots n k More = IsMore class start before now slots n k
 
 -- a search found the last layer and what the actions take, or that there is no solution
-pub record FoundLast (class : Class) (start : Start) (enc : Encoded) (taken : List SetId)
+pub record FoundLast (class : Class) (start : Start) (now : Encoded) (slots : List SetId) (n : ℕ)
     : Type 0 where
+  pub at : At start now slots
+  pub layers : ℕ
+  pub last : IsLastLayer class (system_of start.task) layers
   pub h : ℕ → Function
-  pub at : At start enc (entries taken 0 h)
-  pub K : ℕ
-  pub last : IsLastLayer class (system_of start.task) K
-  pub takers : AreTakers class start.task K h
+  pub are_takers : AreTakers class start.task layers h
+  pub holds_taken : (a : ℕ) → a < n → set_at now.sets slots a ≡ h a
 
-pub record FoundNone (class : Class) (start : Start) (enc : Encoded) (taken : List SetId)
+pub record FoundNone (class : Class) (start : Start) (now : Encoded) (slots : List SetId)
     : Type 0 where
-  pub h : ℕ → Function
-  pub at : At start enc (entries taken 0 h)
+  pub at : At start now slots
   pub none : HasNoSolution class (system_of start.task)
 
-abbrev pub SearchLeft : Class → Start → Encoded → List SetId → Bool → Type 0
-SearchLeft class start enc taken true = FoundLast class start enc taken
-SearchLeft class start enc taken false = FoundNone class start enc taken
-
--- work on a task begins, with no slot of its own
-pub record IsReady (enc : Encoded) : Type 0 where
-  pub start : Start
-  pub at : At start enc []
-
--- the rules are those of the printed plan of the class, and the slots are there
-pub record HasPlan (class : Class) (start : Start) (enc : Encoded) (taken : List SetId)
-    (rules : Vec Rule Global) : Type 0 where
-  pub still : StillTaken start enc taken
-  pub K : ℕ
-  pub last : IsLastLayer class (system_of start.task) K
-  pub printed : map rule_of rules.items ≡ printed_rules class (system_of start.task) K
-
--- the rules of the printed plan of the class, or none where there is no solution
-pub record IsPlan (class : Class) (start : Start) (enc : Encoded) (rules : Vec Rule Global)
-    : Type 0 where
-  pub at : At start enc []
-  pub K : ℕ
-  pub last : IsLastLayer class (system_of start.task) K
-  pub printed : map rule_of rules.items ≡ printed_rules class (system_of start.task) K
-
-pub record IsNoPlan (class : Class) (start : Start) (enc : Encoded) : Type 0 where
-  pub at : At start enc []
-  pub none : HasNoSolution class (system_of start.task)
-
-abbrev pub PlanLeft : Class → Start → Encoded → Option (Vec Rule Global) → Type 0
-PlanLeft class start enc None = IsNoPlan class start enc
-PlanLeft class start enc (Some rules) = IsPlan class start enc rules
+abbrev pub SearchLeft : Class → Start → Encoded → List SetId → ℕ → Bool → Type 0
+SearchLeft class start now slots n true = FoundLast class start now slots n
+SearchLeft class start now slots n false = FoundNone class start now slots

@@ -1,16 +1,17 @@
--- Private: the rules of the actions, from the sets that slots hold.
-use Rattle.std.specs.Prelude.{ℕ, List, map, slice_index_or}
-use Rattle.dd_sets.specs.LiveSets.{LiveSets, set_of}
+-- The rules of the actions, from the sets at their places.
+use Rattle.std.specs.Prelude.{ℕ, List, map}
+use Rattle.dd_sets.specs.LiveSets.{LiveSets}
 use Rattle.dd_sets.specs.declared.slots.SetId.{SetId}
 use Rattle.plan_rules.specs.Rules.{PlanRule}
-use Rattle.task_core.specs.Cubes.{cubes_of}
+use Rattle.slot_board.specs.Board.{set_at}
+use Rattle.task_core.specs.Cubes.{Cube, cubes_of}
 use Rattle.task_core.specs.Vectors.{value_of}
 
--- the rules that take an action in the states of a slot's set, and those of a place in a list
-abbrev pub rules_of_set : LiveSets → ℕ → SetId → List PlanRule
-rules_of_set sets a slot =
-    map (λ cube. record { cube = cube; action = a })
-    (cubes_of sets.vars (λ state. set_of sets slot.0 (value_of state)))
+-- the rule that takes an action where a cube matches
+abbrev pub rule_for : ℕ → Cube → PlanRule
+rule_for a cube = record { cube = cube; action = a }
 
-abbrev pub rules_of_slot : LiveSets → List SetId → ℕ → List PlanRule
-rules_of_slot sets slots a = rules_of_set sets a (slice_index_or slots a (record { 0 = 0 }))
+-- the rules that take an action in the states of its place
+abbrev pub rules_of_place : LiveSets → List SetId → ℕ → List PlanRule
+rules_of_place sets slots a =
+    map (rule_for a) (cubes_of sets.vars (λ state. set_at sets slots a (value_of state)))

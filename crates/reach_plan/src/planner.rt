@@ -1,15 +1,12 @@
 //! The weak and the strong planner, on sets of states.
 
-ghost use Rattle.std.specs.Prelude.{◌≡◌, ℕ, ◌+◌, ◌<◌, ◌^◌, [], All, IfErr, IfOk, IsErrOf, IsSome};
-ghost use Rattle.std.specs.Prelude.{length, map};
-ghost use Rattle.std.specs.List.{flat_map, range_with_len};
+ghost use Rattle.std.specs.Prelude.{◌≡◌, ℕ, ◌+◌, [], All, IfOk, IsErrOf, IsSome};
 ghost use Rattle.dd_sets.specs.Frames.{Owns};
-ghost use Rattle.dd_sets.specs.LiveSets.{IsLive};
 ghost use Rattle.dd_sets.specs.Rooms.{IsTightFor};
 ghost use Rattle.encode_task.specs.Made.{MadeOf};
 ghost use Rattle.plan_rules.specs.Denoted.{denoted, IsExecutable};
 ghost use Rattle.plan_rules.specs.Plans.{IsRuleOf};
-ghost use Rattle.plan_rules.specs.Rules.{rule_of, rules_of};
+ghost use Rattle.plan_rules.specs.Rules.{rules_of};
 ghost use Rattle.task_core.specs.Solutions.{HasNoSolution, IsSolution};
 ghost use Rattle.task_core.specs.Tables.{IsTable};
 ghost use Rattle.task_core.specs.Tasks.{action_count, fluent_count, system_of};
@@ -19,15 +16,12 @@ ghost use Rattle.plan_theory.specs.Classes.{IsFoundByLayers};
 ghost use Rattle.plan_theory.specs.Found.{IfNoPlan, IfPlan};
 ghost use Rattle.plan_theory.specs.Layers.{IsLastLayer};
 ghost use Rattle.plan_theory.specs.LayerPlans.{printed_rules};
-ghost use Rattle.reach_plan.specs.Searches.{HasPlan, IsReady, PlanLeft, StillTaken};
-ghost use Rattle.reach_plan.specs.SetRules.{rules_of_slot};
-ghost use Rattle.reach_plan.specs.Working.{At, Left, Start};
 
-use crate::search::{end_all, push_one, search_back};
-use crate::set_rules::rules_of_sets;
-use dd_sets::{SetErr, SetId};
+use crate::set_rules::write_rules;
+use crate::takers::{Takers, find_takers};
+use dd_sets::SetErr;
 use encode_task::{Enc, made_is_kept};
-use plan_rules::{Class, Rule, TablePlan};
+use plan_rules::{Class, TablePlan};
 use plan_theory::Found;
 use std::alloc::Global;
 use task_core::Task;
@@ -136,72 +130,11 @@ fn plan(alloc: Global, task: &Task, enc: &mut Enc, class: Class) -> Result<Found
     ensures made { (task : Task) → MadeOf task enc.old → MadeOf task enc.new }
 {
     made_is_kept();
-    match find_rules(alloc, enc, class, task.actions.len() as u32)? {
-        None => Ok(Found::NoPlan),
-        Some(rules) => Ok(Found::Plan(TablePlan { class, rules })),
+    match find_takers(alloc, task, enc, class)? {
+        Takers::NoPlan => Ok(Found::NoPlan),
+        Takers::Board(board) => {
+            let rules = write_rules(alloc, enc, board, task.actions.len() as u32)?;
+            Ok(Found::Plan(TablePlan { class, rules }))
+        },
     }
-}
-
-/// The rules of the plan of a class, if there is one.
-fn find_rules(
-    alloc: Global,
-    enc: &mut Enc,
-    class: Class,
-    actions: u32,
-) -> Result<Option<Vec<Rule>>, SetErr>
-    requires class { IsFoundByLayers class }
-    requires goal { IsSome enc.old.goal }
-    requires actions { actions ≡ length enc.old.actions }
-    requires work { IsReady enc.old }
-    ensures { (start : Start) → At start enc.old [] → Left (PlanLeft class start enc.new)
-        (At start enc.new []) (IsTightFor start.room start.enc.sets) result }
-{
-    made_is_kept();
-    let mut none = Vec::new(alloc);
-    let covered = search_back(enc, class, actions, &mut none)?;
-    if !covered {
-        return Ok(None);
-    }
-    let mut taken = Vec::new(alloc);
-    let rules = rules_by_sets(alloc, enc, class, actions, &mut taken);
-    end_all(enc, &taken);
-    Ok(Some(rules?))
-}
-
-/// The rules of the plan of a class, where there is one, with a slot for what each action takes.
-fn rules_by_sets(
-    alloc: Global,
-    enc: &mut Enc,
-    class: Class,
-    actions: u32,
-    taken: &mut Vec<SetId>,
-) -> Result<Vec<Rule>, SetErr>
-    requires class { IsFoundByLayers class }
-    requires goal { IsSome enc.old.goal }
-    requires actions { actions ≡ length enc.old.actions }
-    requires none { taken.old.items ≡ [] }
-    requires work { IsReady enc.old }
-    ensures { (start : Start) (K : ℕ) → At start enc.old []
-        → IsLastLayer class (system_of start.task) K
-        → Left (HasPlan class start enc.new taken.new.items)
-        (StillTaken start enc.new taken.new.items)
-        (IsTightFor start.room start.enc.sets) result }
-{
-    made_is_kept();
-    while taken.len() < actions as usize {
-        push_one(enc, taken)?;
-    }
-    search_back(enc, class, actions, taken)?;
-    rules_now(alloc, enc, taken)
-}
-
-/// The rules by which each action is taken in its set.
-fn rules_now(alloc: Global, enc: &Enc, taken: &[SetId]) -> Result<Vec<Rule>, SetErr>
-    requires few { length taken.now < 2 ^ 32 }
-    requires live { All (λ slot. IsLive enc.now.sets slot.0) taken.now }
-    ensures rules { IfOk result (λ rules. map rule_of rules.items
-        ≡ flat_map (rules_of_slot enc.now.sets taken.now) (range_with_len 0 (length taken.now))) }
-    ensures never_full { IfErr result (λ e. e ≡ SetErr.Memory) }
-{
-    Ok(rules_of_sets(alloc, enc.sets(), taken)?)
 }

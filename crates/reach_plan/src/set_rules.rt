@@ -1,47 +1,75 @@
 //! The rules of a plan, from the sets in which the actions are taken.
 
-ghost use Rattle.std.specs.Prelude.{◌≡◌, ◌<◌, ◌^◌, ◌++◌, All, IfOk, OnOk, length, map};
+ghost use Rattle.std.specs.Prelude.{◌≡◌, ◌++◌, [], IfErr, IfOk, OnOk, length, map};
 ghost use Rattle.std.specs.List.{flat_map, range_with_len};
-ghost use Rattle.dd_sets.specs.LiveSets.{IsLive};
+ghost use Rattle.dd_sets.specs.Frames.{Owns};
+ghost use Rattle.dd_sets.specs.LiveSets.{LiveSets};
 ghost use Rattle.plan_rules.specs.Rules.{rule_of};
-ghost use Rattle.reach_plan.specs.SetRules.{rules_of_set, rules_of_slot};
+ghost use Rattle.slot_board.specs.Board.{IsWorking, Working};
+ghost use Rattle.reach_plan.specs.SetRules.{rule_for, rules_of_place};
 
-use dd_sets::{SetId, Sets};
+use dd_sets::SetErr;
+use encode_task::Enc;
 use plan_rules::Rule;
+use slot_board::Board;
 use std::alloc::{AllocError, Global};
-use task_core::ActionId;
+use task_core::{ActionId, Lit};
 
-/// The actions in rising number, and for each the cubes of its set.
-pub(crate) fn rules_of_sets(
+/// Adds the rule that takes an action where a cube matches, for each cube.
+pub fn add_rules(
+    rules: &mut Vec<Rule>,
+    action: ActionId,
+    cubes: Vec<Vec<Lit>>,
+) -> Result<(), AllocError>
+    ensures { OnOk result (map rule_of rules.new.items ≡ map rule_of rules.old.items
+        ++ map (rule_for action.0) (map (λ cube. cube.items) cubes.items)) }
+{
+    for cube in cubes {
+        rules.push(Rule { cube, action })?;
+    }
+    Ok(())
+}
+
+/// The actions in rising number, and for each the cubes of the set at its place.
+fn rules_of_board(
     alloc: Global,
-    sets: &Sets,
-    taken: &[SetId],
+    enc: &Enc,
+    board: &Board,
+    actions: u32,
 ) -> Result<Vec<Rule>, AllocError>
-    requires few { length taken.now < 2 ^ 32 }
-    requires live { All (λ slot. IsLive sets.now slot.0) taken.now }
+    requires working { IsWorking enc.now board.now.slots.items }
+    requires places { length board.now.slots.items ≡ actions }
     ensures { IfOk result (λ rules. map rule_of rules.items
-        ≡ flat_map (rules_of_slot sets.now taken.now) (range_with_len 0 (length taken.now))) }
+        ≡ flat_map (rules_of_place enc.now.sets board.now.slots.items)
+        (range_with_len 0 (length board.now.slots.items))) }
 {
     let mut rules = Vec::new(alloc);
-    for a in 0..taken.len() as u32 {
-        add_rules(sets, taken[a as usize], ActionId(a), &mut rules)?;
+    for a in 0..actions {
+        let cubes = board.cubes(enc, a as usize)?;
+        add_rules(&mut rules, ActionId(a), cubes)?;
     }
     Ok(rules)
 }
 
-/// Adds a rule for each cube of a set.
-fn add_rules(
-    sets: &Sets,
-    set: SetId,
-    action: ActionId,
-    rules: &mut Vec<Rule>,
-) -> Result<(), AllocError>
-    requires { IsLive sets.now set.0 }
-    ensures { OnOk result (map rule_of rules.new.items
-        ≡ map rule_of rules.old.items ++ rules_of_set sets.now action.0 set) }
+/// The rules for the sets of a board, whose slots are ended.
+pub(crate) fn write_rules(
+    alloc: Global,
+    enc: &mut Enc,
+    board: Board,
+    actions: u32,
+) -> Result<Vec<Rule>, SetErr>
+    requires working { IsWorking enc.old board.slots.items }
+    requires places { length board.slots.items ≡ actions }
+    ensures rules { IfOk result (λ rules. map rule_of rules.items
+        ≡ flat_map (rules_of_place enc.old.sets board.slots.items)
+        (range_with_len 0 (length board.slots.items))) }
+    ensures slots { (before : LiveSets) → Working before enc.old.sets board.slots.items
+        → Owns before enc.new.sets [] }
+    ensures never_full { IfErr result (λ e. e ≡ SetErr.Memory) }
+    ensures same_slots { enc.new ≡ record enc.old { sets = enc.new.sets } }
 {
-    for cube in sets.cubes(set)? {
-        rules.push(Rule { cube, action })?;
-    }
-    Ok(())
+    let mut board = board;
+    let rules = rules_of_board(alloc, enc, &board, actions);
+    board.close(enc);
+    Ok(rules?)
 }

@@ -1,19 +1,22 @@
 -- How the slots of a search change by each call.
-use Rattle.std.proofs.Common.{◌≡◌, ◌≢◌, ℕ, zero, suc, ◌+◌, ◌<◌, ◌≤◌, false, List, [], ◌∷◌, ◌++◌, length, slice_set, IsErrOf, Result, Ok, Err, OnOk, refl, sym, ap, subst, ◌∙◌, ⊎_elim, inl, inr, ◌⊎◌, arith, length-append}
+use Rattle.std.proofs.Common.{◌≡◌, ◌≢◌, ◌↔◌, IsTrue, Bool, true, ℕ, zero, suc, ◌+◌, ◌<◌, ◌≤◌, false, List, [], ◌∷◌, ◌++◌, length, slice_set, IfOk, IsErrOf, Result, Ok, Err, OnErr, OnOk, refl, sym, ap, subst, ◌∙◌, ⊎_elim, inl, inr, ◌⊎◌, arith, length-append}
 use Rattle.std.proofs.lemmas.Bool.{both_ways, cases_eq, cases_lt}
 use Rattle.std.proofs.Math.Seq.{get_or-append_seam}
 use Rattle.std.proofs.lemmas.List.{get_or_append_left, get_or-set_same, get_or-set_other}
 use Rattle.dd_nodes.specs.Subfunctions.{Function}
-use Rattle.dd_sets.specs.Calls.{Adds, Releases}
+use Rattle.dd_nodes.specs.NodeList.{Values}
+use Rattle.dd_sets.specs.Calls.{Adds, AddsNone, KeepsSets, Releases}
 use Rattle.dd_sets.specs.Frames.{Owns, OwnsAnswer}
 use Rattle.dd_sets.specs.LiveSets.{LiveSets, IsLive, IsSets, is_live, live_count, nothing, set_of}
-use Rattle.dd_sets.specs.Rooms.{IsTightFor}
+use Rattle.dd_sets.specs.Rooms.{AnySet, NoRoom}
+use Rattle.dd_sets.proofs.RoomSteps.{room_before}
 use Rattle.dd_sets.specs.declared.errors.SetErr.TheVariants.{Full}
 use Rattle.encode_task.specs.Slots.{Encoded}
-use Rattle.encode_task.proofs.TightLemmas.{tight_before}
 use Rattle.encode_task.specs.Made.{MadeOf}
 use Rattle.preimage.proofs.FrameSteps.{made_now}
-use Rattle.task_core.specs.Tasks.{action_count, fluent_count}
+use Rattle.task_core.specs.Tasks.{action_count, fluent_count, initial_states}
+use Rattle.task_core.specs.Vectors.{value_of}
+use Rattle.std.specs.List.{list_all}
 use Rattle.dd_sets.specs.declared.errors.SetErr.{SetErr}
 use Rattle.dd_sets.specs.declared.slots.SetId.{SetId}
 use Rattle.dd_sets.proofs.FrameLemmas.{kept_chain, kept_release, kept_same, not_before}
@@ -21,7 +24,8 @@ use Rattle.dd_sets.proofs.OwnLemmas.{own_one}
 use Rattle.dd_nodes.specs.Subfunctions.{DependsOnly}
 use Rattle.dd_sets.proofs.SetLemmas.{set_depends}
 use Rattle.encode_task.specs.TaskSets.{initial_set}
-use Rattle.slot_board.specs.Board.{AllNothing, At, IsTightAt, Left, Moved, Start, Working, set_at, slot_at}
+use Rattle.slot_board.specs.Board.{AllNothing, At, HasNoRoom, Left, Moved, Start, Stayed, Working, set_at, slot_at}
+use Rattle.slot_board.proofs.InitialStates.{inside_is}
 
 length_set : (slots : List SetId) (at : ℕ) (new : SetId) → length (slice_set slots at new) ≡ length slots
 length_set [] at new = refl
@@ -113,12 +117,12 @@ module _ (before mid now after : LiveSets) (slots : List SetId) (place : ℕ) (n
       ∙ ends.sets (slot_at slots other) (work.apart other place l within differs)
       ∙ answer.kept.sets (slot_at slots other) (work.live other l)
 
--- a limit that is tight with the slots of the board is tight for the search
-pub tight_at : (start : Start) (enc : Encoded) (slots : List SetId) → At start enc slots → (few : ℕ) → few ≤ start.spare + 8 → IsTightFor few enc.sets → IsTightAt start
-tight_at start enc slots here few within tight =
+-- a call that found no room beside the slots of the board
+pub room_at : (start : Start) (enc now : Encoded) (slots : List SetId) → At start enc slots → (few : ℕ) → few ≤ start.spare + 8 → NoRoom AnySet few enc.sets now.sets → HasNoRoom start now
+room_at start enc now slots here few within none =
     let count : live_count enc.sets ≡ live_count start.enc.sets + length slots = here.working.count in
     let long : length slots ≡ start.places = here.long in
-    tight_before start.enc.sets enc.sets here.working.kept.vars here.working.kept.limit few (start.places + start.spare + 8) (omega arith) tight
+    room_before start.enc.sets enc.sets here.working.kept few (start.places + start.spare + 8) (omega arith) none
 
 pub same_chain : (a b c : Encoded) → b ≡ record a { sets = b.sets } → c ≡ record b { sets = c.sets } → c ≡ record a { sets = c.sets }
 same_chain a b c first second = second ∙ ap (λ (e : Encoded). record e { sets = c.sets }) first
@@ -129,21 +133,21 @@ made_at start enc slots here = made_now start.task start.enc enc here.same here.
 
 -- an answer was put at a place
 pub placed : (start : Start) (enc mid now : Encoded) (old new : List SetId) (place : ℕ) (set : Function) (answer : Result SetId SetErr) (result : Result Unit SetErr)
-    → At start enc old → mid ≡ record enc { sets = mid.sets } → now ≡ record mid { sets = now.sets } → OwnsAnswer enc.sets mid.sets set answer → (few : ℕ) → few ≤ start.spare + 8 → (IsErrOf answer Full → IsTightFor few enc.sets)
+    → At start enc old → mid ≡ record enc { sets = mid.sets } → now ≡ record mid { sets = now.sets } → OwnsAnswer enc.sets mid.sets set answer → (few : ℕ) → few ≤ start.spare + 8 → (IsErrOf answer Full → NoRoom AnySet few enc.sets mid.sets)
     → ((before other : LiveSets) (g : Function) → Working before other old → OwnsAnswer other mid.sets g answer → Working before now.sets new)
     → ((before other : LiveSets) (g : Function) → Working before other old → OwnsAnswer other mid.sets g answer → OnOk result (set_at now.sets new place ≡ g))
     → ((before other : LiveSets) (g : Function) → Working before other old → OwnsAnswer other mid.sets g answer → OnOk result ((k : ℕ) → k < length old → k ≢ place → set_at now.sets new k ≡ set_at other old k))
-    → length new ≡ length old → (IsErrOf result Full → IsErrOf answer Full) → OnOk result (IsSets now.sets)
+    → length new ≡ length old → (IsErrOf result Full → IsErrOf answer Full) → OnOk result (IsSets now.sets) → OnErr result (now ≡ mid)
     → Left start now new (Moved start enc.sets old now new place set) result
-placed start enc mid now old new place set answer (Ok x) here first second owns few within tight frame at others long full sound = record {
+placed start enc mid now old new place set answer (Ok x) here first second owns few within tight frame at others long full sound refused = record {
   at = record { same = same_chain start.enc enc now here.same (same_chain enc mid now first second); working = frame start.enc.sets enc.sets set here.working owns; long = long ∙ here.long };
   sound = sound;
   here = at start.enc.sets enc.sets set here.working owns;
   others = λ k l differs. others start.enc.sets enc.sets set here.working owns k (omega arith) differs;
 }
-placed start enc mid now old new place set answer (Err e) here first second owns few within tight frame at others long full sound = (
+placed start enc mid now old new place set answer (Err e) here first second owns few within tight frame at others long full sound refused = (
   record { same = same_chain start.enc enc now here.same (same_chain enc mid now first second); working = frame start.enc.sets enc.sets set here.working owns; long = long ∙ here.long },
-  λ is. tight_at start enc old here few within (tight (full (ap Err is))),
+  λ is. subst (λ (e : Encoded). HasNoRoom start e) (sym refused) (room_at start enc mid old here few within (tight (full (ap Err is)))),
 )
 
 -- what is left of an answer, and of what is made of it
@@ -324,3 +328,60 @@ on_ok result P x is h = subst (λ (r : Result _ _). OnOk r P) is h
 
 pub nothing_none : (sets : LiveSets) → AllNothing sets []
 nothing_none sets k l = absurd (omega arith)
+
+-- a call that changes no slot
+pub working_same : (before now after : LiveSets) (slots : List SetId) → Working before now slots → KeepsSets now after → AddsNone now after → Working before after slots
+working_same before now after slots work kept none = record {
+  kept = kept_chain before now after work.kept kept;
+  live = λ i l. kept.live (slot_at slots i) (work.live i l);
+  free = work.free;
+  apart = work.apart;
+  others = λ slot out. none.others slot ∙ work.others slot out;
+  count = none.count ∙ work.count;
+}
+
+pub at_same : (start : Start) (enc now : Encoded) (slots : List SetId) → At start enc slots → now ≡ record enc { sets = now.sets } → KeepsSets enc.sets now.sets → AddsNone enc.sets now.sets → At start now slots
+at_same start enc now slots here same kept none = record {
+  same = same_chain start.enc enc now here.same same;
+  working = working_same start.enc.sets enc.sets now.sets slots here.working kept none;
+  long = here.long;
+}
+
+-- the test of the initial states
+pub tested : (start : Start) (enc now : Encoded) (slots : List SetId) (result : Result Bool SetErr) → At start enc slots → now ≡ record enc { sets = now.sets } → KeepsSets enc.sets now.sets → AddsNone enc.sets now.sets → IsSets now.sets → (IsErrOf result Full → NoRoom AnySet 8 enc.sets now.sets)
+    → Left start now slots (Stayed start enc.sets now slots) result
+tested start enc now slots (Ok covered) here same kept none sound full = record {
+  at = at_same start enc now slots here same kept none;
+  sound = sound;
+  each = λ place l. kept.sets (slot_at slots place) (here.working.live place l);
+}
+tested start enc now slots (Err e) here same kept none sound full = (
+  at_same start enc now slots here same kept none,
+  λ is. room_at start enc now slots here 8 (omega arith) (full (ap Err is)),
+)
+
+pub covered_is : (start : Start) (enc now : Encoded) (slots : List SetId) (place : ℕ) (covered : Bool) → At start enc slots → place < length slots → now ≡ record enc { sets = now.sets } → KeepsSets enc.sets now.sets → AddsNone enc.sets now.sets → IsSets now.sets
+    → IsTrue covered ↔ ((values : Values) → set_of enc.sets enc.initial.0 values ≡ true → set_at enc.sets slots place values ≡ true) → covered ≡ list_all (λ state. set_at enc.sets slots place (value_of state)) (initial_states start.task)
+covered_is start enc now slots place covered here within same kept none sound is =
+    let stays : set_at now.sets slots place ≡ set_at enc.sets slots place = kept.sets (slot_at slots place) (here.working.live place within) in
+    inside_is start.task (set_at enc.sets slots place)
+    (subst (DependsOnly 0 (fluent_count start.task)) stays (depends start now slots (at_same start enc now slots here same kept none) sound place))
+    covered
+    (subst (λ (f : Function). IsTrue covered ↔ ((values : Values) → f values ≡ true → set_at enc.sets slots place values ≡ true)) (initial_is start enc slots here) is)
+
+pub covered_answer : (start : Start) (enc now : Encoded) (slots : List SetId) (place : ℕ) (result : Result Bool SetErr) → At start enc slots → place < length slots → now ≡ record enc { sets = now.sets } → KeepsSets enc.sets now.sets → AddsNone enc.sets now.sets → IsSets now.sets
+    → IfOk result (λ inside. IsTrue inside ↔ ((values : Values) → set_of enc.sets enc.initial.0 values ≡ true → set_at enc.sets slots place values ≡ true)) → IfOk result (λ covered. covered ≡ list_all (λ state. set_at enc.sets slots place (value_of state)) (initial_states start.task))
+covered_answer start enc now slots place (Ok covered) here within same kept none sound is = covered_is start enc now slots place covered here within same kept none sound is
+covered_answer start enc now slots place (Err e) here within same kept none sound is = tt
+
+-- where the last slot is ended, the others hold their sets
+pub sets_popped : (before now after : LiveSets) (slots : List SetId) (last : SetId) → Working before now (slots ++ last ∷ []) → Releases now after last.0 → (place : ℕ) → place < length slots → set_at after slots place ≡ set_at now (slots ++ last ∷ []) place
+sets_popped before now after slots last work ends place l =
+    let long : length (slots ++ last ∷ []) ≡ length slots + 1 = one_longer slots last in
+    let other : place ≢ length slots = λ h. absurd (omega arith) in
+    ends.sets (slot_at slots place) (λ e. work.apart place (length slots) (omega arith) (omega arith) other (at_front slots last place l ∙ e ∙ sym (at_end slots last)))
+    ∙ ap (set_of now) (sym (at_front slots last place l))
+
+pub working_ended : (before now : LiveSets) (slots : List SetId) → length slots ≡ 0 → Working before now slots → Owns before now []
+working_ended before now [] none work = working_owns before now work
+working_ended before now (x ∷ slots) none work = absurd (omega arith)

@@ -1,1 +1,2 @@
 pub mod BoardSlots
+mod InitialStates

@@ -5,7 +5,7 @@ use Rattle.dd_nodes.specs.Subfunctions.{Function}
 use Rattle.dd_ops.specs.Operations.{and_of, minus_of, or_of}
 use Rattle.dd_sets.specs.Calls.{KeepsSets}
 use Rattle.dd_sets.specs.LiveSets.{LiveSets, IsLive, IsSets, is_live, live_count, nothing, set_of}
-use Rattle.dd_sets.specs.Rooms.{IsTightFor}
+use Rattle.dd_sets.specs.Rooms.{AnySet, NoRoom}
 use Rattle.dd_sets.specs.declared.errors.SetErr.{SetErr}
 use Rattle.dd_sets.specs.declared.errors.SetErr.TheVariants.{Full}
 use Rattle.dd_sets.specs.declared.slots.SetId.{SetId}
@@ -45,25 +45,39 @@ pub record Start : Type 0 where
   pub places : ℕ
   pub spare : ℕ
 
--- the limit is tight for all slots that the search may need
-abbrev pub IsTightAt : Start → Type 0
-IsTightAt start = IsTightFor (start.places + start.spare + 8) start.enc.sets
-
 -- the task's slots are as at the start, and there is a slot at each place
 pub record At (start : Start) (now : Encoded) (slots : List SetId) : Type 0 where
   pub same : now ≡ record start.enc { sets = now.sets }
   pub working : Working start.enc.sets now.sets slots
   pub long : length slots ≡ start.places
 
+-- a call of the search found no room, with no more slots of the search's own than it may need
+abbrev pub HasNoRoom : Start → Encoded → Type 0
+HasNoRoom start now =
+    NoRoom AnySet (start.places + start.spare + 8) start.enc.sets now.sets
+
 -- there was such a start
 abbrev pub IsWorking : Encoded → List SetId → Type 0
 IsWorking now slots = (start : Start) × At start now slots
 
--- what an answer leaves; and after a refusal there is a slot at each place, and the limit was tight
--- where there was no room
+-- what an answer leaves, by what it is; and after a refusal there is a slot at each place, and a
+-- call found no room where the refusal says so
+abbrev pub Ends : {T : Type 0} → Start → Encoded → List SetId → (T → Type 0) → Result T SetErr
+    → Type 0
+Ends start now slots answered (Ok x) = answered x
+Ends start now slots answered (Err e) = At start now slots × (e ≡ Full → HasNoRoom start now)
+
+-- what any answer leaves
 abbrev pub Left : {T : Type 0} → Start → Encoded → List SetId → Type 0 → Result T SetErr → Type 0
-Left start now slots answered (Ok x) = answered
-Left start now slots answered (Err e) = At start now slots × (e ≡ Full → IsTightAt start)
+Left start now slots answered = Ends start now slots (λ x. answered)
+
+-- each place has its set still
+pub record Stayed (start : Start) (before : LiveSets) (now : Encoded) (slots : List SetId)
+    : Type 0 where
+  pub at : At start now slots
+  pub sound : IsSets now.sets
+  pub each : (place : ℕ) → place < length slots → set_at now.sets slots place
+      ≡ set_at before slots place
 
 -- one place has another set, and the others have theirs
 pub record Moved (start : Start) (before : LiveSets) (old : List SetId) (now : Encoded)

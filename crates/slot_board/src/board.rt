@@ -2,21 +2,24 @@
 
 ghost use Rattle.std.specs.Prelude.{◌≡◌, ◌≢◌, ℕ, ◌+◌, ◌<◌, ◌≤◌, ◌↔◌, [], IsTrue, length};
 ghost use Rattle.std.specs.Prelude.{map, IfErr, IfOk, OnErr, OnOk, IsErrOf, true};
+ghost use Rattle.std.specs.List.{list_all};
+ghost use Rattle.dd_nodes.specs.NodeList.{Values};
 ghost use Rattle.dd_nodes.specs.Subfunctions.{Function};
-ghost use Rattle.dd_sets.specs.Calls.{Releases};
+ghost use Rattle.dd_sets.specs.Calls.{AddsNone, KeepsSets, Releases};
 ghost use Rattle.dd_sets.specs.Frames.{Owns, OwnsAnswer};
 ghost use Rattle.dd_sets.specs.LiveSets.{LiveSets, IsLive, IsSets, everything, nothing, set_of};
-ghost use Rattle.dd_sets.specs.Rooms.{IsTightFor};
+ghost use Rattle.dd_sets.specs.Rooms.{AnySet, NoRoom};
 ghost use Rattle.encode_task.specs.Made.{MadeOf};
 ghost use Rattle.preimage.specs.Preimages.{OfSomeTask};
 ghost use Rattle.task_core.specs.Conditions.{holds, ids_below, is_shallow};
 ghost use Rattle.task_core.specs.Cubes.{cubes_of};
+ghost use Rattle.task_core.specs.Tasks.{initial_states};
 ghost use Rattle.task_core.specs.Vectors.{value_of};
 ghost use Rattle.task_core.specs.declared.tasks.Task.{Task};
 ghost use Rattle.slot_board.specs.Board.{AllNothing, At, HasNothing, IsWorking, Left, Moved};
-ghost use Rattle.slot_board.specs.Board.{Start, Working, combined, led, set_at, slot_at};
+ghost use Rattle.slot_board.specs.Board.{Start, Stayed, Working, combined, led, set_at, slot_at};
 
-use dd_sets::{SetErr, SetId, Sets, full_is_tight};
+use dd_sets::{SetErr, SetId, Sets};
 use encode_task::Enc;
 use preimage::{strong_pre, weak_pre};
 use std::alloc::{AllocError, Global};
@@ -48,7 +51,8 @@ pub enum Outcomes {
 /// The contracts speak of the start of a search: the task and its sets as they were before the
 /// board was made, the number of places, and how many slots the search allows itself besides. A
 /// call leaves the board and the sets at such a start wherever they were at it, also where it
-/// refuses; and it refuses for want of room only where the table's limit is tight for that start.
+/// refuses; and it refuses for want of room only where the table holds as many nodes as it may, and
+/// its limit is tight for the sets of that start, and of the search's own slots.
 #[derive(Drop)]
 pub struct Board {
     /// The slots, in the order of the places.
@@ -126,16 +130,54 @@ impl Board {
         }
     }
 
+    /// Ends the slots from a place on.
+    pub fn cut(&mut self, enc: &mut Enc, places: usize)
+        requires working { (before : LiveSets) × Working before enc.old.sets self.old.slots.items }
+        requires places { places ≤ length self.old.slots.items }
+        ensures frame { (before : LiveSets) → Working before enc.old.sets self.old.slots.items
+            → Working before enc.new.sets self.new.slots.items }
+        ensures sets { (place : ℕ) → place < places
+            → set_at enc.new.sets self.new.slots.items place
+            ≡ set_at enc.old.sets self.old.slots.items place }
+        ensures long { length self.new.slots.items ≡ places }
+        ensures room { (before : LiveSets) (most : ℕ) → NoRoom AnySet most before enc.old.sets
+            → NoRoom AnySet most before enc.new.sets }
+        ensures same_slots { enc.new ≡ record enc.old { sets = enc.new.sets } }
+    {
+        while self.slots.len() > places {
+            self.drop_last(enc);
+        }
+    }
+
+    /// Ends the last slot.
+    fn drop_last(&mut self, enc: &mut Enc)
+        requires working { (before : LiveSets) × Working before enc.old.sets self.old.slots.items }
+        requires some { 0 < length self.old.slots.items }
+        ensures frame { (before : LiveSets) → Working before enc.old.sets self.old.slots.items
+            → Working before enc.new.sets self.new.slots.items }
+        ensures sets { (place : ℕ) → place < length self.new.slots.items
+            → set_at enc.new.sets self.new.slots.items place
+            ≡ set_at enc.old.sets self.old.slots.items place }
+        ensures long { length self.new.slots.items + 1 ≡ length self.old.slots.items }
+        ensures room { (before : LiveSets) (most : ℕ) → NoRoom AnySet most before enc.old.sets
+            → NoRoom AnySet most before enc.new.sets }
+        ensures same_slots { enc.new ≡ record enc.old { sets = enc.new.sets } }
+    {
+        if let Some(slot) = self.slots.pop() {
+            end(enc, slot);
+        }
+    }
+
     /// Ends all slots.
     pub fn close(&mut self, enc: &mut Enc)
         requires { (before : LiveSets) × Working before enc.old.sets self.old.slots.items }
         ensures frame { (before : LiveSets) → Working before enc.old.sets self.old.slots.items
             → Owns before enc.new.sets [] }
+        ensures room { (before : LiveSets) (most : ℕ) → NoRoom AnySet most before enc.old.sets
+            → NoRoom AnySet most before enc.new.sets }
         ensures same_slots { enc.new ≡ record enc.old { sets = enc.new.sets } }
     {
-        while let Some(slot) = self.slots.pop() {
-            end(enc, slot);
-        }
+        self.cut(enc, 0);
     }
 
     /// The slot at a place.
@@ -168,6 +210,7 @@ impl Board {
             ≡ set_at mid self.old.slots.items other) }
         ensures long { length self.new.slots.items ≡ length self.old.slots.items }
         ensures full { IsErrOf result SetErr.Full → IsErrOf answer SetErr.Full }
+        ensures refused { OnErr result (enc.new ≡ enc.old) }
         ensures sound { OnOk result (IsSets enc.new.sets) }
         ensures same_slots { enc.new ≡ record enc.old { sets = enc.new.sets } }
     {
@@ -227,6 +270,22 @@ impl Board {
     {
         let set = self.at(place);
         enc.sets().is_none(set)
+    }
+
+    /// Whether each initial state is in the set at a place.
+    pub fn covers_initial(&self, enc: &mut Enc, place: usize) -> Result<bool, SetErr>
+        requires working { IsWorking enc.old self.now.slots.items }
+        requires place { place < length self.now.slots.items }
+        ensures left { (start : Start) → At start enc.old self.now.slots.items
+            → Left start enc.new self.now.slots.items
+            (Stayed start enc.old.sets enc.new self.now.slots.items) result }
+        ensures answer { (start : Start) → At start enc.old self.now.slots.items
+            → IfOk result (λ covered. covered
+            ≡ list_all (λ state. set_at enc.old.sets self.now.slots.items place (value_of state))
+            (initial_states start.task)) }
+    {
+        let set = self.at(place);
+        holds_initial(enc, set)
     }
 
     /// The cubes of the set at a place.
@@ -327,12 +386,30 @@ fn end(enc: &mut Enc, slot: SetId)
     enc.sets_mut().release(slot);
 }
 
+/// Whether the set of a slot has all initial states.
+#[tactic(auto, using(dd_sets::proofs::RoomSteps::room_for))]
+fn holds_initial(enc: &mut Enc, set: SetId) -> Result<bool, SetErr>
+    requires initial { IsLive enc.old.sets enc.old.initial.0 }
+    requires live { IsLive enc.old.sets set.0 }
+    ensures answer { IfOk result (λ inside. IsTrue inside ↔ ((values : Values)
+        → set_of enc.old.sets enc.old.initial.0 values ≡ true
+        → set_of enc.old.sets set.0 values ≡ true)) }
+    ensures kept { KeepsSets enc.old.sets enc.new.sets }
+    ensures none { AddsNone enc.old.sets enc.new.sets }
+    ensures full { IsErrOf result SetErr.Full → NoRoom AnySet 8 enc.old.sets enc.new.sets }
+    ensures same_slots { enc.new ≡ record enc.old { sets = enc.new.sets } }
+    ensures sound { IsSets enc.new.sets }
+{
+    let initial = enc.initial();
+    enc.sets_mut().inside(initial, set)
+}
+
 /// The same set in a new slot.
 fn copied(enc: &mut Enc, set: SetId) -> Result<SetId, SetErr>
     requires { IsLive enc.old.sets set.0 }
     ensures answer { OwnsAnswer enc.old.sets enc.new.sets (set_of enc.old.sets set.0) result }
     ensures same_slots { enc.new ≡ record enc.old { sets = enc.new.sets } }
-    ensures full { IsErrOf result SetErr.Full → IsTightFor 8 enc.old.sets }
+    ensures full { IsErrOf result SetErr.Full → NoRoom AnySet 8 enc.old.sets enc.new.sets }
 {
     enc.sets_mut().copy(set)
 }
@@ -343,7 +420,7 @@ fn where_holds(enc: &mut Enc, cond: &Cond) -> Result<SetId, SetErr>
     requires shallow { is_shallow cond.now ≡ true }
     ensures answer { OwnsAnswer enc.old.sets enc.new.sets (holds cond.now) result }
     ensures same_slots { enc.new ≡ record enc.old { sets = enc.new.sets } }
-    ensures full { IsErrOf result SetErr.Full → IsTightFor 204 enc.old.sets }
+    ensures full { IsErrOf result SetErr.Full → NoRoom AnySet 204 enc.old.sets enc.new.sets }
 {
     enc.set_of(cond)
 }
@@ -361,7 +438,7 @@ fn no_lists(enc: &mut Enc) -> Result<SetId, SetErr>
 fn all_lists(enc: &mut Enc) -> Result<SetId, SetErr>
     ensures answer { OwnsAnswer enc.old.sets enc.new.sets everything result }
     ensures same_slots { enc.new ≡ record enc.old { sets = enc.new.sets } }
-    ensures full { IsErrOf result SetErr.Full → IsTightFor 8 enc.old.sets }
+    ensures full { IsErrOf result SetErr.Full → NoRoom AnySet 8 enc.old.sets enc.new.sets }
 {
     enc.sets_mut().whole()
 }
@@ -373,19 +450,19 @@ fn put_together(enc: &mut Enc, operation: Operation, a: SetId, b: SetId) -> Resu
     ensures answer { OwnsAnswer enc.old.sets enc.new.sets
         (combined operation (set_of enc.old.sets a.0) (set_of enc.old.sets b.0)) result }
     ensures same_slots { enc.new ≡ record enc.old { sets = enc.new.sets } }
-    ensures full { IsErrOf result SetErr.Full → IsTightFor 8 enc.old.sets }
+    ensures full { IsErrOf result SetErr.Full → NoRoom AnySet 8 enc.old.sets enc.new.sets }
 {
     operate(enc.sets_mut(), operation, a, b)
 }
 
+#[tactic(auto, using(dd_sets::proofs::RoomSteps::room_for))]
 fn operate(sets: &mut Sets, operation: Operation, a: SetId, b: SetId) -> Result<SetId, SetErr>
     requires a_live { IsLive sets.old a.0 }
     requires b_live { IsLive sets.old b.0 }
     ensures answer { OwnsAnswer sets.old sets.new
         (combined operation (set_of sets.old a.0) (set_of sets.old b.0)) result }
-    ensures full { IsErrOf result SetErr.Full → IsTightFor 8 sets.old }
+    ensures full { IsErrOf result SetErr.Full → NoRoom AnySet 8 sets.old sets.new }
 {
-    full_is_tight();
     match operation {
         Operation::Meet => sets.meet(a, b),
         Operation::Join => sets.join(a, b),
@@ -406,7 +483,7 @@ fn leading(
     ensures answer { (task : Task) → MadeOf task enc.old → OwnsAnswer enc.old.sets enc.new.sets
         (led outcomes task action.0 (set_of enc.old.sets into.0)) result }
     ensures same_slots { enc.new ≡ record enc.old { sets = enc.new.sets } }
-    ensures full { IsErrOf result SetErr.Full → IsTightFor 8 enc.old.sets }
+    ensures full { IsErrOf result SetErr.Full → NoRoom AnySet 8 enc.old.sets enc.new.sets }
 {
     match outcomes {
         Outcomes::Some => weak_pre(enc, action, into),

@@ -9,7 +9,8 @@ use Rattle.std.specs.List.{Contains}
 use Rattle.std.proofs.lemmas.Bool.{false≢true}
 use Rattle.task_core.specs.Vectors.{Vector, value_of, all_vectors, same_value}
 use Rattle.task_core.specs.Systems.{System, goal_states}
-use Rattle.task_core.specs.Tables.{Table, Leads, IsPath, IsTerminal, Reaches, last_state}
+use Rattle.task_core.specs.Tables.{Table, Leads, IsTerminal, Reaches}
+use Rattle.task_core.specs.Paths.{IsPath, last_of}
 use Rattle.task_core.specs.Solutions.{IsWeakSolution, IsStrongSolution}
 use Rattle.task_core.specs.Initial.{Entry, after_entries}
 use Rattle.task_core.specs.Cubes.{literal, cubes_of}
@@ -187,7 +188,7 @@ nothing_may_win weak =
     let may = weak (false ∷ []) (0, omega arith, refl) in
     stuck may.end may.reached.rest may.reached.path may.reached.ends may.goal
   where
-    stuck : (end : Vector) (rest : List Vector) → IsPath coin_system [] (false ∷ []) rest → last_state (false ∷ []) rest ≡ end → Contains ((true ∷ []) ∷ []) end → ⊥
+    stuck : (end : Vector) (rest : List Vector) → IsPath (Leads coin_system []) (false ∷ []) rest → last_of (false ∷ []) rest ≡ end → Contains ((true ∷ []) ∷ []) end → ⊥
     stuck end [] path ends (zero, h, is) = false≢true (ap (λ v. value_of v 0) (ends ∙ sym is))
     stuck end [] path ends (suc k, h, is) = absurd (omega arith)
     stuck end (t ∷ rest) path ends goal = absurd (omega (arith, path.0.pair.1))

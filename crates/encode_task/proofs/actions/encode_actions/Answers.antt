@@ -5,6 +5,7 @@ use Rattle.std.proofs.lemmas.List.{map-append}
 use Rattle.std.proofs.lemmas.Result.{err_from_is_err_and}
 use Rattle.dd_sets.specs.LiveSets.{live_count}
 use Rattle.dd_sets.proofs.FrameLemmas.{kept_chain}
+use Rattle.dd_sets.proofs.RoomSteps.{room_before}
 use Rattle.encode_task.specs.Counts.{left_in_actions, left_in_outcomes}
 use Rattle.encode_task.specs.Names.{has_outcomes_within}
 use Rattle.encode_task.specs.Seen.{slots_of}
@@ -13,7 +14,6 @@ use Rattle.encode_task.proofs.CountLemmas.{left_more_actions}
 use Rattle.encode_task.proofs.OnlyLemmas.{only_more}
 use Rattle.encode_task.proofs.PartLemmas.{item_passes, same_refusal_of}
 use Rattle.encode_task.proofs.TableLemmas.{action_stays, made_more}
-use Rattle.encode_task.proofs.TightLemmas.{tight_before}
 use Rattle.encode_task.proofs.actions.encode_actions.Goals as goal
 
 pub returns-in_err-slots-clause-full : goal.returns-in_err-slots-clause-full
@@ -25,7 +25,7 @@ returns-in_err-slots-clause-full c full most all =
     let outcomes : length c.action-item.result.outcomes.items * c.args.sets.now.vars ≤ most * c.args.sets.now.vars = mul-le-mul_right c.args.sets.now.vars few in
     let same : length c.action-item.result.outcomes.items * c.loop-action.sets.vars ≡ length c.action-item.result.outcomes.items * c.args.sets.now.vars = ap (λ v. length c.action-item.result.outcomes.items * v) vars in
     let room : (c.loop-action.action-index + 1) * (most * c.args.sets.now.vars + 1) ≤ length c.args.actions.now * (most * c.args.sets.now.vars + 1) = mul-le-mul_right (most * c.args.sets.now.vars + 1) (omega arith) in
-    tight_before _ _ c.loop-action.invariant.kept.vars c.loop-action.invariant.kept.limit (length c.action-item.result.outcomes.items * c.loop-action.sets.vars + 210) _ (omega (arith, c.loop-action.invariant.few most all))
+    room_before _ _ c.loop-action.invariant.kept (length c.action-item.result.outcomes.items * c.loop-action.sets.vars + 210) _ (omega (arith, c.loop-action.invariant.few most all))
     (c.encode_action.ensures.full (same_refusal_of c.encode_action.result c.from_residual.result _ c.in_err-slots.was p full))
 
 pub loop-action-preserved : goal.loop-action-preserved

@@ -6,7 +6,7 @@ use Rattle.dd_sets.specs.declared.slots.SetId.{SetId}
 use Rattle.encode_task.specs.Counts.{left_by}
 use Rattle.encode_task.specs.Tables.{IsDone}
 use Rattle.encode_task.proofs.CountLemmas.{left_less}
-use Rattle.encode_task.proofs.OwnedLemmas.{one_live, own_set}
+use Rattle.dd_sets.proofs.OwnedLemmas.{one_live, own_set}
 use Rattle.encode_task.proofs.PartLemmas.{answer_slot}
 use Rattle.encode_task.proofs.StepLemmas.{step_changed}
 use Rattle.encode_task.proofs.actions.encode_fluent.Goals as goal

@@ -5,6 +5,7 @@ use Rattle.std.proofs.lemmas.Result.{err_from_is_err_and}
 use Rattle.dd_sets.specs.LiveSets.{live_count}
 use Rattle.dd_sets.proofs.FrameLemmas.{kept_chain, kept_same}
 use Rattle.task_core.specs.declared.actions.Change.{Change}
+use Rattle.dd_sets.proofs.RoomSteps.{room_before}
 use Rattle.encode_task.specs.Counts.{left_by}
 use Rattle.encode_task.specs.Slots.{is_listed}
 use Rattle.encode_task.specs.Tables.{IsDone}
@@ -12,7 +13,6 @@ use Rattle.encode_task.proofs.CountLemmas.{left_all}
 use Rattle.encode_task.proofs.OnlyLemmas.{only_same}
 use Rattle.encode_task.proofs.PartLemmas.{same_refusal_of}
 use Rattle.encode_task.proofs.StepLemmas.{all_done, nothing_done}
-use Rattle.encode_task.proofs.TightLemmas.{tight_before}
 use Rattle.encode_task.proofs.actions.encode_outcome.Goals as goal
 
 pub loop-change-init : goal.loop-change-init
@@ -26,7 +26,7 @@ loop-change-init c = record {
 pub returns-in_err-encode_fluent-clause-full : goal.returns-in_err-encode_fluent-clause-full
 returns-in_err-encode_fluent-clause-full c full =
     let p = err_from_is_err_and c.from_residual.result c.from_residual.ensures.1 in
-    tight_before _ _ c.loop-change.invariant.kept.vars c.loop-change.invariant.kept.limit 208 _ (omega (arith, c.loop-change.invariant.few))
+    room_before _ _ c.loop-change.invariant.kept 208 _ (omega (arith, c.loop-change.invariant.few))
     (c.encode_fluent.ensures.full (same_refusal_of c.encode_fluent.result c.from_residual.result _ c.in_err-encode_fluent.was p full))
 
 pub loop-change-preserved : goal.loop-change-preserved

@@ -4,13 +4,13 @@ use Rattle.std.proofs.lemmas.List.{map-append}
 use Rattle.std.proofs.lemmas.Result.{err_from_is_err_and}
 use Rattle.dd_sets.specs.LiveSets.{live_count}
 use Rattle.dd_sets.proofs.FrameLemmas.{kept_chain}
+use Rattle.dd_sets.proofs.RoomSteps.{room_before}
 use Rattle.encode_task.specs.Counts.{left_by, left_in_outcomes}
 use Rattle.encode_task.specs.Slots.{is_listed}
 use Rattle.encode_task.proofs.CountLemmas.{left_more_outcomes}
 use Rattle.encode_task.proofs.OnlyLemmas.{only_more}
 use Rattle.encode_task.proofs.PartLemmas.{same_refusal_of}
 use Rattle.encode_task.proofs.TableLemmas.{made_more, outcome_stays}
-use Rattle.encode_task.proofs.TightLemmas.{tight_before}
 use Rattle.encode_task.proofs.actions.encode_outcomes.Goals as goal
 
 pub returns-in_err-changed-clause-full : goal.returns-in_err-changed-clause-full
@@ -18,7 +18,7 @@ returns-in_err-changed-clause-full c full =
     let p = err_from_is_err_and c.from_residual.result c.from_residual.ensures.1 in
     let room : (c.loop-outcome.outcome-index + 1) * c.args.sets.now.vars ≤ length c.args.outcomes.now * c.args.sets.now.vars = mul-le-mul_right c.args.sets.now.vars (omega arith) in
     let vars : c.loop-outcome.sets.vars ≡ c.args.sets.now.vars = c.loop-outcome.invariant.kept.vars in
-    tight_before _ _ c.loop-outcome.invariant.kept.vars c.loop-outcome.invariant.kept.limit (c.loop-outcome.sets.vars + 208) _ (omega (arith, c.loop-outcome.invariant.few))
+    room_before _ _ c.loop-outcome.invariant.kept (c.loop-outcome.sets.vars + 208) _ (omega (arith, c.loop-outcome.invariant.few))
     (c.encode_outcome.ensures.full (same_refusal_of c.encode_outcome.result c.from_residual.result _ c.in_err-changed.was p full))
 
 pub loop-outcome-preserved : goal.loop-outcome-preserved

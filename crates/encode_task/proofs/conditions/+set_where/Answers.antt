@@ -6,16 +6,15 @@ use Rattle.dd_ops.specs.Operations.{not_of}
 use Rattle.dd_sets.specs.LiveSets.{everything, nothing}
 use Rattle.task_core.specs.Conditions.{holds}
 use Rattle.dd_nodes.specs.Subfunctions.{Function}
-use Rattle.dd_sets.proofs.TightLemmas.{tight_for}
-use Rattle.encode_task.proofs.OwnedLemmas.{answered, both}
-use Rattle.encode_task.proofs.PartLemmas.{all_more, some_more, all_parts, some_parts, all_deeper, some_deeper, not_part, all_hold, some_hold, rest_below, all_begin_below, some_begin_below, answer_slot, answer_refusal, tight_part}
-use Rattle.encode_task.proofs.TightLemmas.{tight_owned}
+use Rattle.dd_sets.proofs.RoomSteps.{room_for, room_owned}
+use Rattle.dd_sets.proofs.OwnedLemmas.{answered, both}
+use Rattle.encode_task.proofs.PartLemmas.{all_more, some_more, all_parts, some_parts, all_deeper, some_deeper, not_part, all_hold, some_hold, rest_below, all_begin_below, some_begin_below, answer_slot, answer_refusal, room_part}
 use Rattle.encode_task.proofs.conditions.+set_where.Goals as goal
 
 pub loop-part-preserved : goal.loop-part-preserved
 loop-part-preserved t c =
-    let owns : Owns c.args.sets.now c.in_both.new.sets ((c.in_ok-all-in-All-2.all.0, all_hold (take (c.loop-part.part-index + 1) c.deref-part-items.result.now)) ∷ []) =
-    subst (λ (f : Function). Owns c.args.sets.now c.in_both.new.sets ((c.in_ok-all-in-All-2.all.0, f) ∷ [])) (all_more _ c.loop-part.part-index c.part-item.result c.loop-part-test.true c.part-item.is)
+    let owns : Owns c.args.sets.now c.in_both.new.self ((c.in_ok-all-in-All-2.all.0, all_hold (take (c.loop-part.part-index + 1) c.deref-part-items.result.now)) ∷ []) =
+    subst (λ (f : Function). Owns c.args.sets.now c.in_both.new.self ((c.in_ok-all-in-All-2.all.0, f) ∷ [])) (all_more _ c.loop-part.part-index c.part-item.result c.loop-part-test.true c.part-item.is)
     (answer_slot _ _ _ c.in_both.result _ c.in_ok-all-in-All-2.was
     (c.in_both.ensures.answer _ _ _ (both _ _ _ c.loop-part.all _ _ c.set_where-answer.result c.loop-part.invariant.owns c.set_where-answer.ensures.answer))) in
     record {
@@ -32,7 +31,7 @@ returns-in_err-all-in-All-2-clause-answer t c =
 pub returns-in_err-all-in-All-2-clause-full : goal.returns-in_err-all-in-All-2-clause-full
 returns-in_err-all-in-All-2-clause-full t c full =
     let p = err_from_is_err_and c.from_residual-in_err-all-in-All-2.result c.from_residual-in_err-all-in-All-2.ensures.1 in
-    tight_part _ _ _ c.loop-part.all _ _ c.set_where-answer.result _ _ c.loop-part.invariant.owns c.set_where-answer.ensures.answer c.set_where-answer.ensures.full
+    room_part _ _ _ c.loop-part.all _ _ c.set_where-answer.result _ _ c.loop-part.invariant.owns c.set_where-answer.ensures.answer c.set_where-answer.ensures.full
     (all_deeper _ _ _ c.loop-part.part-index c.part-item.result c.in-All.is c.deref-part-items.ensures.value c.loop-part-test.true c.part-item.is)
     (c.in_both.ensures.full (c.in_err-all-in-All-2.was ∙ ap Err (sym p.2) ∙ sym p.1 ∙ full))
 
@@ -43,8 +42,8 @@ returns-after-loop-part-clause-answer t c =
 
 pub loop-part-2-preserved : goal.loop-part-2-preserved
 loop-part-2-preserved t c =
-    let owns : Owns c.args.sets.now c.in_some.new.sets ((c.in_ok-any-in-Any-2.any.0, some_hold (take (c.loop-part-2.part-index + 1) c.deref-part-items-in-Any.result.now)) ∷ []) =
-    subst (λ (f : Function). Owns c.args.sets.now c.in_some.new.sets ((c.in_ok-any-in-Any-2.any.0, f) ∷ [])) (some_more _ c.loop-part-2.part-index c.part-item-in-loop-part-2.result c.loop-part-2-test.true c.part-item-in-loop-part-2.is)
+    let owns : Owns c.args.sets.now c.in_some.new.self ((c.in_ok-any-in-Any-2.any.0, some_hold (take (c.loop-part-2.part-index + 1) c.deref-part-items-in-Any.result.now)) ∷ []) =
+    subst (λ (f : Function). Owns c.args.sets.now c.in_some.new.self ((c.in_ok-any-in-Any-2.any.0, f) ∷ [])) (some_more _ c.loop-part-2.part-index c.part-item-in-loop-part-2.result c.loop-part-2-test.true c.part-item-in-loop-part-2.is)
     (answer_slot _ _ _ c.in_some.result _ c.in_ok-any-in-Any-2.was
     (c.in_some.ensures.answer _ _ _ (both _ _ _ c.loop-part-2.any _ _ c.set_where-answer-in-loop-part-2.result c.loop-part-2.invariant.owns c.set_where-answer-in-loop-part-2.ensures.answer))) in
     record {
@@ -61,7 +60,7 @@ returns-in_err-any-in-Any-2-clause-answer t c =
 pub returns-in_err-any-in-Any-2-clause-full : goal.returns-in_err-any-in-Any-2-clause-full
 returns-in_err-any-in-Any-2-clause-full t c full =
     let p = err_from_is_err_and c.from_residual-in_err-any-in-Any-2.result c.from_residual-in_err-any-in-Any-2.ensures.1 in
-    tight_part _ _ _ c.loop-part-2.any _ _ c.set_where-answer-in-loop-part-2.result _ _ c.loop-part-2.invariant.owns c.set_where-answer-in-loop-part-2.ensures.answer c.set_where-answer-in-loop-part-2.ensures.full
+    room_part _ _ _ c.loop-part-2.any _ _ c.set_where-answer-in-loop-part-2.result _ _ c.loop-part-2.invariant.owns c.set_where-answer-in-loop-part-2.ensures.answer c.set_where-answer-in-loop-part-2.ensures.full
     (some_deeper _ _ _ c.loop-part-2.part-index c.part-item-in-loop-part-2.result c.in-Any.is c.deref-part-items-in-Any.ensures.value c.loop-part-2-test.true c.part-item-in-loop-part-2.is)
     (c.in_some.ensures.full (c.in_err-any-in-Any-2.was ∙ ap Err (sym p.2) ∙ sym p.1 ∙ full))
 
@@ -71,17 +70,17 @@ returns-after-loop-part-2-clause-answer t c =
     (some_parts c.args.cond.now _ _ c.loop-part-2.part-index c.in-Any.is c.deref-part-items-in-Any.ensures.value c.loop-part-2-test.false) c.loop-part-2.invariant.owns
 
 pub returns-in-Is-clause-full : goal.returns-in-Is-clause-full
-returns-in-Is-clause-full t c full = tight_for _ _ _ (c.of_fluent.ensures.full full) c.of_fluent.ensures.kept.vars c.of_fluent.ensures.kept.limit _
+returns-in-Is-clause-full t c full = room_for _ _ _ (c.of_fluent.ensures.full full) c.of_fluent.ensures.kept.vars c.of_fluent.ensures.kept.limit _
 
 pub returns-in_ok-inside-in-Not-clause-answer : goal.returns-in_ok-inside-in-Not-clause-answer
 returns-in_ok-inside-in-Not-clause-answer t c =
-    subst (λ (f : Function). OwnsAnswer c.args.sets.now c.outside.new.sets f c.outside.result)
+    subst (λ (f : Function). OwnsAnswer c.args.sets.now c.outside.new.self f c.outside.result)
     (ap (λ part. not_of (holds part)) c.deref.ensures ∙ not_part c.args.cond.now c.in-Not.part c.in-Not.is)
     (c.outside.ensures.answer _ _ (answer_slot _ _ _ c.set_where.result _ c.in_ok-inside-in-Not.was c.set_where.ensures.answer))
 
 pub returns-in_ok-inside-in-Not-clause-full : goal.returns-in_ok-inside-in-Not-clause-full
 returns-in_ok-inside-in-Not-clause-full t c full =
-    tight_owned _ _ _ (answer_slot _ _ _ c.set_where.result _ c.in_ok-inside-in-Not.was c.set_where.ensures.answer) 0 _ (omega arith) (c.outside.ensures.full full)
+    room_owned _ _ _ (answer_slot _ _ _ c.set_where.result _ c.in_ok-inside-in-Not.was c.set_where.ensures.answer) 0 _ (omega arith) (c.outside.ensures.full full)
 
 pub loop-part-init : goal.loop-part-init
 loop-part-init t c = record {

@@ -6,6 +6,7 @@ use Rattle.task_core.specs.Tasks.{action_count, fluent_count}
 use Rattle.task_core.specs.declared.actions.GroundAction.{GroundAction}
 use Rattle.dd_sets.specs.LiveSets.{live_count}
 use Rattle.dd_sets.proofs.FrameLemmas.{kept_chain}
+use Rattle.dd_sets.proofs.RoomSteps.{room_before, room_owned, room_wider}
 use Rattle.encode_task.specs.Bounds.{action_slots, most_outcomes}
 use Rattle.encode_task.specs.Counts.{left_in_actions}
 use Rattle.encode_task.specs.Names.{has_outcomes_within}
@@ -14,23 +15,22 @@ use Rattle.encode_task.specs.Tables.{ActionMade, AllPaired, SharesLeft}
 use Rattle.encode_task.specs.declared.action_sets.ActionSets.{ActionSets}
 use Rattle.encode_task.proofs.MadeLemmas.{goal_kept, holds_kept}
 use Rattle.encode_task.proofs.OnlyLemmas.{only_owned, only_whole}
-use Rattle.encode_task.proofs.OwnedLemmas.{one_live, own_set}
+use Rattle.dd_sets.proofs.OwnedLemmas.{one_live, own_set}
 use Rattle.encode_task.proofs.PartLemmas.{answer_slot, same_refusal_of}
 use Rattle.encode_task.proofs.TableLemmas.{action_stays, paired_weaker}
-use Rattle.encode_task.proofs.TightLemmas.{tight_before, tight_owned, tight_wider}
 use Rattle.encode_task.proofs.WholeLemmas.{made_of_pieces, outcomes_few, slots_within}
 use Rattle.encode_task.proofs.enc.encode_sets.Goals as goal
 
 pub returns-in_err-initial-clause-full : goal.returns-in_err-initial-clause-full
 returns-in_err-initial-clause-full c full =
     let p = err_from_is_err_and c.from_residual.result c.from_residual.ensures.1 in
-    tight_wider _ 8 (action_slots c.args.task.now + 212) (omega arith) (c.initial_states.ensures.full (same_refusal_of c.initial_states.result c.from_residual.result _ c.in_err-initial.was p full))
+    room_wider _ 8 (action_slots c.args.task.now + 212) (omega arith) (c.initial_states.ensures.full (same_refusal_of c.initial_states.result c.from_residual.result _ c.in_err-initial.was p full))
 
 pub returns-in_err-goal-clause-full : goal.returns-in_err-goal-clause-full
 returns-in_err-goal-clause-full c full =
     let p = err_from_is_err_and c.from_residual-in_err-goal.result c.from_residual-in_err-goal.ensures.1 in
     let initial = answer_slot _ _ _ c.initial_states.result _ c.in_ok-initial.was c.initial_states.ensures.answer in
-    tight_owned _ _ _ initial 204 (action_slots c.args.task.now + 212) (omega arith) (c.goal_states.ensures.full (same_refusal_of c.goal_states.result c.from_residual-in_err-goal.result _ c.in_err-goal.was p full))
+    room_owned _ _ _ initial 204 (action_slots c.args.task.now + 212) (omega arith) (c.goal_states.ensures.full (same_refusal_of c.goal_states.result c.from_residual-in_err-goal.result _ c.in_err-goal.was p full))
 
 pub returns-in_err-actions-clause-full : goal.returns-in_err-actions-clause-full
 returns-in_err-actions-clause-full c full =
@@ -44,7 +44,7 @@ returns-in_err-actions-clause-full c full =
     let slots : length c.deref.result.now * (most * c.goal_states.new.sets.vars + 1) ≡ action_count c.args.task.now * (most * fluent_count c.args.task.now + 1) =
     (λ i. length (c.deref.ensures.value i) * (most * vars i + 1)) in
     let within : action_count c.args.task.now * (most * fluent_count c.args.task.now + 1) ≤ action_slots c.args.task.now = slots_within (action_count c.args.task.now) most (fluent_count c.args.task.now) in
-    tight_before _ _ kept.vars kept.limit (length c.deref.result.now * (most * c.goal_states.new.sets.vars + 1) + 210) (action_slots c.args.task.now + 212) (omega (arith, c.in_ok-goal.ensures.few))
+    room_before _ _ kept (length c.deref.result.now * (most * c.goal_states.new.sets.vars + 1) + 210) (action_slots c.args.task.now + 212) (omega (arith, c.in_ok-goal.ensures.few))
     (c.encode_actions.ensures.full (same_refusal_of c.encode_actions.result c.from_residual-in_err-actions.result _ c.in_err-actions.was p full) most few)
 
 pub returns-in_err-shared-clause-full : goal.returns-in_err-shared-clause-full
@@ -62,7 +62,7 @@ returns-in_err-shared-clause-full c full =
     let left : left_in_actions c.encode_actions.new.sets.vars (map slots_of c.deref-2.result.now) ≡ left_in_actions c.goal_states.new.sets.vars (map slots_of c.in_ok-actions.actions.items) =
     (λ i. left_in_actions (c.encode_actions.ensures.kept.vars i) (map slots_of (c.deref-2.ensures.value i))) in
     let whole = kept_chain _ _ _ kept c.encode_actions.ensures.kept in
-    tight_before _ _ whole.vars whole.limit (left_in_actions c.encode_actions.new.sets.vars (map slots_of c.deref-2.result.now)) (action_slots c.args.task.now + 212)
+    room_before _ _ whole (left_in_actions c.encode_actions.new.sets.vars (map slots_of c.deref-2.result.now)) (action_slots c.args.task.now + 212)
     (omega (arith, c.in_ok-goal.ensures.few, c.in_ok-actions.ensures.few most few))
     (c.share.ensures.full (same_refusal_of c.share.result c.from_residual-in_err-shared.result _ c.in_err-shared.was p full))
 

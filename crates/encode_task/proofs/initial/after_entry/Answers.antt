@@ -3,9 +3,10 @@ use Rattle.std.proofs.Common.{[], ◌∷◌, arith, subst}
 use Rattle.std.proofs.lemmas.Result.{err_from_is_err_and}
 use Rattle.dd_nodes.specs.Subfunctions.{Function}
 use Rattle.dd_sets.specs.Frames.{Owns}
+use Rattle.dd_sets.proofs.RoomSteps.{room_join}
 use Rattle.encode_task.proofs.EntryLemmas.{entry_more, alternative_within}
-use Rattle.encode_task.proofs.OwnedLemmas.{both}
-use Rattle.encode_task.proofs.PartLemmas.{answer_slot, answer_refusal, same_refusal, tight_join}
+use Rattle.dd_sets.proofs.OwnedLemmas.{both}
+use Rattle.encode_task.proofs.PartLemmas.{answer_slot, answer_refusal, same_refusal}
 use Rattle.encode_task.proofs.initial.after_entry.Goals as goal
 
 pub with_literals-image-requires-clause-fluents : goal.with_literals-image-requires-clause-fluents
@@ -22,12 +23,12 @@ returns-in_err-after-2-clause-answer c =
 pub returns-in_err-after-2-clause-full : goal.returns-in_err-after-2-clause-full
 returns-in_err-after-2-clause-full c full =
     let p = err_from_is_err_and c.from_residual-in_err-after-2.result c.from_residual-in_err-after-2.ensures.1 in
-    tight_join _ _ _ c.loop-alternative.after _ _ c.with_literals-image.result 4 6 c.loop-alternative.invariant c.with_literals-image.ensures.answer c.with_literals-image.ensures.full (omega arith) (omega arith)
+    room_join _ _ _ c.loop-alternative.after _ _ c.with_literals-image.result 4 6 c.loop-alternative.invariant c.with_literals-image.ensures.answer c.with_literals-image.ensures.full (omega arith) (omega arith)
     (c.in_some.ensures.full (same_refusal c.in_some.result c.from_residual-in_err-after-2.result _ c.in_err-after-2.was p full))
 
 pub loop-alternative-preserved : goal.loop-alternative-preserved
 loop-alternative-preserved c =
-    subst (λ (f : Function). Owns c.args.sets.now c.in_some.new.sets ((c.in_ok-after-2.after.0, f) ∷ []))
+    subst (λ (f : Function). Owns c.args.sets.now c.in_some.new.self ((c.in_ok-after-2.after.0, f) ∷ []))
     (entry_more _ _ c.args.entry.now c.loop-alternative.alternative-index c.alternative-item.result _ (c.loop-alternative.invariant.kept.sets c.args.a.0 c.requires.live) c.deref.ensures.value c.loop-alternative-test.true
     c.alternative-item.is)
     (answer_slot _ _ _ c.in_some.result _ c.in_ok-after-2.was

@@ -4,16 +4,16 @@ use Rattle.std.proofs.lemmas.Result.{err_from_is_err_and}
 use Rattle.dd_nodes.specs.Subfunctions.{Function}
 use Rattle.dd_sets.specs.Frames.{Owns}
 use Rattle.task_core.specs.Tasks.{fluent_count}
+use Rattle.dd_sets.proofs.RoomSteps.{room_owned, room_wider, room_released}
 use Rattle.encode_task.proofs.InitialLemmas.{entry_fluents, initial_more}
-use Rattle.encode_task.proofs.OwnedLemmas.{handed, own_set}
+use Rattle.dd_sets.proofs.OwnedLemmas.{handed, own_set}
 use Rattle.encode_task.proofs.PartLemmas.{answer_slot, same_refusal}
-use Rattle.encode_task.proofs.TightLemmas.{tight_owned, tight_wider}
 use Rattle.encode_task.proofs.initial.initial_states.Goals as goal
 
 pub returns-in_err-states-clause-full : goal.returns-in_err-states-clause-full
 returns-in_err-states-clause-full c full =
     let p = err_from_is_err_and c.from_residual.result c.from_residual.ensures.1 in
-    tight_wider _ 4 8 (omega arith) (c.one_state.ensures.full (same_refusal c.one_state.result c.from_residual.result _ c.in_err-states.was p full))
+    room_wider _ 4 8 (omega arith) (c.one_state.ensures.full (same_refusal c.one_state.result c.from_residual.result _ c.in_err-states.was p full))
 
 pub after_entry-next-requires-clause-fluents : goal.after_entry-next-requires-clause-fluents
 after_entry-next-requires-clause-fluents c =
@@ -23,8 +23,8 @@ after_entry-next-requires-clause-fluents c =
 pub returns-in_err-states-2-clause-full : goal.returns-in_err-states-2-clause-full
 returns-in_err-states-2-clause-full c full =
     let p = err_from_is_err_and c.from_residual-in_err-states-2.result c.from_residual-in_err-states-2.ensures.1 in
-    tight_owned _ _ _ c.loop-entry.invariant 6 8 (omega arith)
-    (c.after_entry-next.ensures.full (same_refusal c.after_entry-next.result c.from_residual-in_err-states-2.result _ c.in_err-states-2.was p full))
+    room_owned _ _ _ c.loop-entry.invariant 6 8 (omega arith)
+    (room_released _ (c.after_entry-next.ensures.full (same_refusal c.after_entry-next.result c.from_residual-in_err-states-2.result _ c.in_err-states-2.was p full)) c.release.ensures.released)
 
 pub loop-entry-preserved : goal.loop-entry-preserved
 loop-entry-preserved c =

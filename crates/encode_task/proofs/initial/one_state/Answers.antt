@@ -4,17 +4,17 @@ use Rattle.std.proofs.lemmas.Result.{err_from_is_err_and}
 use Rattle.dd_nodes.specs.Subfunctions.{Function}
 use Rattle.dd_ops.specs.Operations.{and_of}
 use Rattle.dd_sets.specs.Frames.{Owns}
+use Rattle.dd_sets.proofs.RoomSteps.{room_owned, room_released}
 use Rattle.encode_task.specs.Images.{has_value}
-use Rattle.encode_task.proofs.OwnedLemmas.{handed, own_set}
+use Rattle.dd_sets.proofs.OwnedLemmas.{handed, own_set}
 use Rattle.encode_task.proofs.PartLemmas.{answer_slot, same_refusal}
 use Rattle.encode_task.proofs.StateLemmas.{one_earlier, same_from, whole_state}
-use Rattle.encode_task.proofs.TightLemmas.{tight_owned}
 use Rattle.encode_task.proofs.initial.one_state.Goals as goal
 
 pub returns-in_err-all-2-clause-full : goal.returns-in_err-all-2-clause-full
 returns-in_err-all-2-clause-full c full =
     let p = err_from_is_err_and c.from_residual-in_err-all-2.result c.from_residual-in_err-all-2.ensures.1 in
-    tight_owned _ _ _ c.loop-f.invariant 1 4 (omega arith) (c.where_value-next.ensures.full (same_refusal c.where_value-next.result c.from_residual-in_err-all-2.result _ c.in_err-all-2.was p full))
+    room_owned _ _ _ c.loop-f.invariant 1 4 (omega arith) (room_released _ (c.where_value-next.ensures.full (same_refusal c.where_value-next.result c.from_residual-in_err-all-2.result _ c.in_err-all-2.was p full)) c.release.ensures.released)
 
 pub loop-f-preserved : goal.loop-f-preserved
 loop-f-preserved c =

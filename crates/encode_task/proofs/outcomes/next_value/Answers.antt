@@ -3,17 +3,17 @@ use Rattle.std.proofs.Common.{◌∙◌, arith, ap, subst}
 use Rattle.std.proofs.lemmas.Result.{err_from_is_err_and}
 use Rattle.dd_nodes.specs.Subfunctions.{Function}
 use Rattle.dd_sets.specs.Frames.{OwnsAnswer}
-use Rattle.dd_sets.proofs.TightLemmas.{tight_for}
+use Rattle.dd_sets.proofs.RoomSteps.{room_for, room_join}
 use Rattle.task_core.specs.Actions.{outcome_within}
 use Rattle.encode_task.proofs.ChangeLemmas.{next_from}
-use Rattle.encode_task.proofs.OwnedLemmas.{answer_kept, both}
-use Rattle.encode_task.proofs.PartLemmas.{answer_ready, answer_slot, answer_refusal, call_slot, same_refusal, tight_join}
+use Rattle.dd_sets.proofs.OwnedLemmas.{answer_kept, both}
+use Rattle.encode_task.proofs.PartLemmas.{answer_ready, answer_slot, answer_refusal, call_slot, same_refusal}
 use Rattle.encode_task.proofs.outcomes.next_value.Goals as goal
 
 pub returns-in_err-value-clause-full : goal.returns-in_err-value-clause-full
 returns-in_err-value-clause-full c full =
     let p = err_from_is_err_and c.from_residual.result c.from_residual.ensures.1 in
-    tight_for _ _ _ (c.of_fluent.ensures.full (same_refusal c.of_fluent.result c.from_residual.result _ c.in_err-value.was p full)) c.of_fluent.ensures.kept.vars c.of_fluent.ensures.kept.limit 208
+    room_for _ _ _ (c.of_fluent.ensures.full (same_refusal c.of_fluent.result c.from_residual.result _ c.in_err-value.was p full)) c.of_fluent.ensures.kept.vars c.of_fluent.ensures.kept.limit 208
 
 pub returns-in_err-kept-clause-answer : goal.returns-in_err-kept-clause-answer
 returns-in_err-kept-clause-answer c =
@@ -26,7 +26,7 @@ pub returns-in_err-kept-clause-full : goal.returns-in_err-kept-clause-full
 returns-in_err-kept-clause-full c full =
     let p = err_from_is_err_and c.from_residual-in_err-kept.result c.from_residual-in_err-kept.ensures.1 in
     let value = call_slot _ _ _ c.of_fluent.result _ c.in_ok-value.was c.of_fluent.ensures.added c.of_fluent.ensures.kept c.of_fluent.ensures.refused in
-    tight_join _ _ _ c.in_ok-value.value _ _ c.made_so-deleted.result 206 208 value c.made_so-deleted.ensures.answer c.made_so-deleted.ensures.full (omega arith) (omega arith)
+    room_join _ _ _ c.in_ok-value.value _ _ c.made_so-deleted.result 206 208 value c.made_so-deleted.ensures.answer c.made_so-deleted.ensures.full (omega arith) (omega arith)
     (c.without.ensures.full (same_refusal c.without.result c.from_residual-in_err-kept.result _ c.in_err-kept.was p full))
 
 pub made_so-added-requires-clause-fluents : goal.made_so-added-requires-clause-fluents
@@ -45,11 +45,11 @@ pub returns-clause-answer : goal.returns-clause-answer
 returns-clause-answer c =
     let value = call_slot _ _ _ c.of_fluent.result _ c.in_ok-value.was c.of_fluent.ensures.added c.of_fluent.ensures.kept c.of_fluent.ensures.refused in
     let kept = answer_slot _ _ _ c.without.result _ c.in_ok-kept.was (c.without.ensures.answer _ _ _ (both _ _ _ c.in_ok-value.value _ _ c.made_so-deleted.result value c.made_so-deleted.ensures.answer)) in
-    subst (λ (f : Function). OwnsAnswer c.args.sets.now c.in_some.new.sets f c.in_some.result) (next_from c.args.outcome.now c.args.f.0)
+    subst (λ (f : Function). OwnsAnswer c.args.sets.now c.in_some.new.self f c.in_some.result) (next_from c.args.outcome.now c.args.f.0)
     (c.in_some.ensures.answer _ _ _ (both _ _ _ c.in_ok-kept.kept _ _ c.made_so-added.result kept c.made_so-added.ensures.answer))
 
 pub returns-clause-full : goal.returns-clause-full
 returns-clause-full c full =
     let value = call_slot _ _ _ c.of_fluent.result _ c.in_ok-value.was c.of_fluent.ensures.added c.of_fluent.ensures.kept c.of_fluent.ensures.refused in
     let kept = answer_slot _ _ _ c.without.result _ c.in_ok-kept.was (c.without.ensures.answer _ _ _ (both _ _ _ c.in_ok-value.value _ _ c.made_so-deleted.result value c.made_so-deleted.ensures.answer)) in
-    tight_join _ _ _ c.in_ok-kept.kept _ _ c.made_so-added.result 206 208 kept c.made_so-added.ensures.answer c.made_so-added.ensures.full (omega arith) (omega arith) (c.in_some.ensures.full full)
+    room_join _ _ _ c.in_ok-kept.kept _ _ c.made_so-added.result 206 208 kept c.made_so-added.ensures.answer c.made_so-added.ensures.full (omega arith) (omega arith) (c.in_some.ensures.full full)

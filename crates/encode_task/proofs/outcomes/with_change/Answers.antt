@@ -4,21 +4,20 @@ use Rattle.std.proofs.lemmas.Bool.{leb-true}
 use Rattle.dd_nodes.specs.Subfunctions.{Function}
 use Rattle.dd_sets.specs.Frames.{Owns, OwnsAnswer}
 use Rattle.task_core.specs.Conditions.{depth}
+use Rattle.dd_sets.proofs.RoomSteps.{room_answer, room_wider, room_released}
 use Rattle.encode_task.proofs.ChangeLemmas.{about, not_about}
-use Rattle.encode_task.proofs.OwnedLemmas.{both}
-use Rattle.encode_task.proofs.PartLemmas.{tight_answer}
-use Rattle.encode_task.proofs.TightLemmas.{tight_wider}
+use Rattle.dd_sets.proofs.OwnedLemmas.{both}
 use Rattle.encode_task.proofs.outcomes.with_change.Goals as goal
 
 pub returns-then-is_about-clause-answer : goal.returns-then-is_about-clause-answer
 returns-then-is_about-clause-answer c before set owns =
-    subst (λ (f : Function). OwnsAnswer before c.in_some.new.sets f c.in_some.result) (about c.args.change.now c.args.f.0 c.args.positive set (sym c.is_about.ensures ∙ c.if-is_about.true))
+    subst (λ (f : Function). OwnsAnswer before c.in_some.new.self f c.in_some.result) (about c.args.change.now c.args.f.0 c.args.positive set (sym c.is_about.ensures ∙ c.if-is_about.true))
     (c.in_some.ensures.answer before set _ (both _ _ _ c.args.some _ _ c.set_where-answer.result owns c.set_where-answer.ensures.answer))
 
 pub returns-then-is_about-clause-full : goal.returns-then-is_about-clause-full
 returns-then-is_about-clause-full c full = ⊎_elim
-    (λ refused. tight_wider _ (depth c.args.change.now.cond + 4) 205 (omega (arith, leb-true (depth c.args.change.now.cond) 200 c.requires.shallow)) (c.set_where-answer.ensures.full refused))
-    (λ tight. tight_answer _ _ _ c.set_where-answer.result 0 205 c.set_where-answer.ensures.answer (omega arith) tight)
+    (λ refused. room_wider _ (depth c.args.change.now.cond + 4) 205 (omega (arith, leb-true (depth c.args.change.now.cond) 200 c.requires.shallow)) (room_released _ (c.set_where-answer.ensures.full refused.0) refused.1))
+    (λ tight. room_answer _ _ _ c.set_where-answer.result 0 205 c.set_where-answer.ensures.answer (omega arith) tight)
     (c.in_some.ensures.full full)
 
 pub returns-else-is_about-clause-answer : goal.returns-else-is_about-clause-answer

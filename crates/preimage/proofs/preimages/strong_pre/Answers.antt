@@ -9,9 +9,9 @@ use Rattle.dd_sets.specs.declared.errors.SetErr.TheVariants.{Full, Memory}
 use Rattle.task_core.specs.Tasks.{outcomes_at}
 use Rattle.encode_task.specs.Slots.{Encoded, outcome_slots}
 use Rattle.encode_task.specs.TaskSets.{led_into}
-use Rattle.encode_task.proofs.OwnedLemmas.{answer_kept, both, one_live}
-use Rattle.encode_task.proofs.PartLemmas.{answer_ready, answer_refusal, answer_slot, same_refusal, tight_join}
-use Rattle.encode_task.proofs.TightLemmas.{tight_owned}
+use Rattle.dd_sets.proofs.OwnedLemmas.{answer_kept, both, one_live}
+use Rattle.dd_sets.proofs.RoomSteps.{room_join, room_owned}
+use Rattle.encode_task.proofs.PartLemmas.{answer_ready, answer_refusal, answer_slot, same_refusal}
 use Rattle.preimage.proofs.FrameSteps.{exec_holds, led_answer, made_now, same_chain}
 use Rattle.preimage.proofs.OutcomeLemmas.{all_after, all_more, exec_all, strong_whole}
 use Rattle.preimage.proofs.preimages.strong_pre.Goals as goal
@@ -44,6 +44,7 @@ outcomes-o-end-requires c = subst (λ (e : Encoded). c.args.a.0 < length e.actio
 
 pub loop-o-init : goal.loop-o-init
 loop-o-init c = record {
+  sound = c.copied.ensures.sound;
   same = c.copied.ensures.same_slots;
   owns = λ task made.
       subst (λ (f : Function). Owns c.args.enc.now.sets c.copied.new.enc.sets ((c.in_ok-all.all.0, f) ∷ []))
@@ -88,7 +89,7 @@ returns-in_err-all-2-clause-full c full =
     let owns = c.loop-o.invariant.owns c.requires.made.0 c.requires.made.1 in
     let led = led_answer c.requires.made.0 c.args.enc.now c.loop-o.enc _ c.args.x.0 c.args.a.0 c.loop-o.o c.led_into-led.result c.loop-o.invariant.same owns.kept c.requires.live c.requires.made.1 c.led_into-led.ensures.added
     c.led_into-led.ensures.kept c.led_into-led.ensures.refused in
-    tight_join _ _ _ c.loop-o.all _ _ c.led_into-led.result 0 8 owns led c.led_into-led.ensures.full (omega arith) (omega arith)
+    room_join _ _ _ c.loop-o.all _ _ c.led_into-led.result 0 8 owns led c.led_into-led.ensures.full (omega arith) (omega arith)
     (c.in_both.ensures.full (same_refusal c.in_both.result c.from_residual-in_err-all-2.result _ c.in_err-all-2.was p full))
 
 pub returns-in_err-all-2-clause-same_slots : goal.returns-in_err-all-2-clause-same_slots
@@ -106,6 +107,7 @@ returns-in_err-all-2-clause-made c task made =
 
 pub loop-o-preserved : goal.loop-o-preserved
 loop-o-preserved c = record {
+  sound = c.in_both.ensures.sound;
   same = same_chain c.args.enc.now c.led_into-led.new.self c.in_both.new.enc (same_chain c.args.enc.now c.loop-o.enc c.led_into-led.new.self c.loop-o.invariant.same c.led_into-led.ensures.same_slots) c.in_both.ensures.same_slots;
   owns = λ task made.
       let owns = c.loop-o.invariant.owns task made in
@@ -131,3 +133,6 @@ returns-clause-same_slots c = c.loop-o.invariant.same
 
 pub returns-clause-made : goal.returns-clause-made
 returns-clause-made c task made = made_now task c.args.enc.now c.loop-o.enc c.loop-o.invariant.same (c.loop-o.invariant.owns task made).kept made
+
+pub returns-clause-sound : goal.returns-clause-sound
+returns-clause-sound c = c.loop-o.invariant.sound

@@ -10,9 +10,9 @@ use Rattle.dd_sets.specs.declared.errors.SetErr.TheVariants.{Full, Memory}
 use Rattle.task_core.specs.Tasks.{outcomes_at}
 use Rattle.encode_task.specs.Slots.{Encoded, outcome_slots}
 use Rattle.encode_task.specs.TaskSets.{led_into}
-use Rattle.encode_task.proofs.OwnedLemmas.{answer_kept, both, one_live}
-use Rattle.encode_task.proofs.PartLemmas.{answer_ready, answer_refusal, answer_slot, same_refusal, tight_join}
-use Rattle.encode_task.proofs.TightLemmas.{tight_owned}
+use Rattle.dd_sets.proofs.OwnedLemmas.{answer_kept, both, one_live}
+use Rattle.dd_sets.proofs.RoomSteps.{room_join, room_owned}
+use Rattle.encode_task.proofs.PartLemmas.{answer_ready, answer_refusal, answer_slot, same_refusal}
 use Rattle.preimage.proofs.FrameSteps.{exec_holds, led_answer, made_now, same_chain}
 use Rattle.preimage.proofs.OutcomeLemmas.{left_after, left_more, exec_left, weak_whole}
 use Rattle.preimage.proofs.preimages.weak_pre.Goals as goal
@@ -89,7 +89,7 @@ returns-in_err-left-2-clause-full c full =
     let owns = c.loop-o.invariant.owns c.requires.made.0 c.requires.made.1 in
     let led = led_answer c.requires.made.0 c.args.enc.now c.loop-o.enc _ c.args.x.0 c.args.a.0 c.loop-o.o c.led_into-led.result c.loop-o.invariant.same owns.kept c.requires.live c.requires.made.1 c.led_into-led.ensures.added
     c.led_into-led.ensures.kept c.led_into-led.ensures.refused in
-    tight_join _ _ _ c.loop-o.left _ _ c.led_into-led.result 0 8 owns led c.led_into-led.ensures.full (omega arith) (omega arith)
+    room_join _ _ _ c.loop-o.left _ _ c.led_into-led.result 0 8 owns led c.led_into-led.ensures.full (omega arith) (omega arith)
     (c.without.ensures.full (same_refusal c.without.result c.from_residual-in_err-left-2.result _ c.in_err-left-2.was p full))
 
 pub returns-in_err-left-2-clause-same_slots : goal.returns-in_err-left-2-clause-same_slots
@@ -137,7 +137,7 @@ returns-clause-answer c task made =
     (c.rest_of.ensures.answer _ _ owns)
 
 pub returns-clause-full : goal.returns-clause-full
-returns-clause-full c full = tight_owned _ _ _ (c.loop-o.invariant.owns c.requires.made.0 c.requires.made.1) 0 8 (omega arith) (c.rest_of.ensures.full full)
+returns-clause-full c full = room_owned _ _ _ (c.loop-o.invariant.owns c.requires.made.0 c.requires.made.1) 0 8 (omega arith) (c.rest_of.ensures.full full)
 
 pub returns-clause-same_slots : goal.returns-clause-same_slots
 returns-clause-same_slots c = same_chain c.args.enc.now c.loop-o.enc c.rest_of.new.enc c.loop-o.invariant.same c.rest_of.ensures.same_slots

@@ -1,97 +1,94 @@
 -- What the rules do, and what is left.
-use Rattle.std.proofs.Common.{◌≡◌, Option, Vec, map, subst, sym, ◌∙◌}
-use Rattle.std.specs.declared.alloc.Global.{Global}
-use Rattle.std.proofs.lemmas.Result.{err_from_is_err_and}
-use Rattle.dd_sets.specs.declared.errors.SetErr.TheVariants.{Full}
+use Rattle.std.proofs.Common.{◌≡◌, ◌∙◌, ◌+◌, ℕ, List, [], arith, ap, map, length, sym, subst}
+use Rattle.std.specs.List.{flat_map, range_with_len}
+use Rattle.dd_sets.specs.LiveSets.{LiveSets}
 use Rattle.plan_rules.specs.Rules.{rule_of}
-use Rattle.plan_rules.specs.declared.rules.Rule.{Rule}
-use Rattle.reach_plan.specs.Searches.{PlanLeft}
-use Rattle.reach_plan.proofs.PlanSteps.{at_start, kept, no_plan_of, plan_at, plan_of, solved_plan, start_of, tight_start}
+use Rattle.preimage.proofs.FrameSteps.{made_now}
+use Rattle.slot_board.specs.Board.{Working}
+use Rattle.slot_board.proofs.BoardSlots.{same_chain, working_owns}
+use Rattle.task_core.specs.Tasks.{action_count}
+use Rattle.reach_plan.specs.SetRules.{rules_of_place}
+use Rattle.reach_plan.specs.Takers.{AreFound, slots_of}
+use Rattle.reach_plan.specs.declared.takers.Takers.{Takers}
+use Rattle.reach_plan.proofs.PlanSteps.{printed_by_places, solved, start_of}
 use Rattle.reach_plan.proofs.planner.plan.Goals as goal
 
-pub find_rules-requires-clause-work : goal.find_rules-requires-clause-work
-find_rules-requires-clause-work c = record { start = start_of c.args.task.now c.args.enc.now c.requires.made; at = at_start c.args.task.now c.args.enc.now c.requires.made }
+pub returns-in-NoPlan-clause-no_plan : goal.returns-in-NoPlan-clause-no_plan
+returns-in-NoPlan-clause-no_plan c = subst (AreFound c.args.class c.args.task.now c.find_takers.new.enc.sets) c.in-NoPlan.is c.in_ok-find_takers.ensures.found
 
-pub returns-in_err-find_rules-clause-full : goal.returns-in_err-find_rules-clause-full
-returns-in_err-find_rules-clause-full c full =
-    let p = err_from_is_err_and c.from_residual.result c.from_residual.ensures.1 in
-    let left = c.in_err-find_rules.ensures (start_of c.args.task.now c.args.enc.now c.requires.made) (at_start c.args.task.now c.args.enc.now c.requires.made) in
-    let same : p.0 ≡ Full = cc in
-    tight_start c.args.task.now c.args.enc.now c.requires.made (left.1 (sym p.2 ∙ same))
+pub returns-in-NoPlan-clause-slots : goal.returns-in-NoPlan-clause-slots
+returns-in-NoPlan-clause-slots c =
+    working_owns c.args.enc.now.sets c.find_takers.new.enc.sets
+    (subst (λ (f : Takers). Working c.args.enc.now.sets c.find_takers.new.enc.sets (slots_of f)) c.in-NoPlan.is c.in_ok-find_takers.ensures.slots)
 
-pub returns-in_err-find_rules-clause-slots : goal.returns-in_err-find_rules-clause-slots
-returns-in_err-find_rules-clause-slots c =
-    (kept c.made_is_kept.ensures.made c.args.task.now c.args.enc.now c.find_rules.new.enc c.requires.made (c.in_err-find_rules.ensures (start_of c.args.task.now c.args.enc.now c.requires.made) (at_start c.args.task.now c.args.enc.now c.requires.made)).0).slots
+pub write_rules-requires-clause-working : goal.write_rules-requires-clause-working
+write_rules-requires-clause-working c =
+    let mid = c.find_takers.new.enc in
+    let task = c.args.task.now in
+    let made = c.find_takers.ensures.made task c.requires.made in
+    let slots = c.in-Board.board.slots.items in
+    let found = subst (AreFound c.args.class task mid.sets) c.in-Board.is c.in_ok-find_takers.ensures.found in
+    let work = subst (λ (f : Takers). Working c.args.enc.now.sets c.find_takers.new.enc.sets (slots_of f)) c.in-Board.is c.in_ok-find_takers.ensures.slots in
+    (start_of task c.args.enc.now c.requires.made (action_count task) 0, record { same = c.find_takers.ensures.same_slots; working = work; long = found.long })
 
-pub returns-in_err-find_rules-clause-same_slots : goal.returns-in_err-find_rules-clause-same_slots
-returns-in_err-find_rules-clause-same_slots c =
-    (kept c.made_is_kept.ensures.made c.args.task.now c.args.enc.now c.find_rules.new.enc c.requires.made (c.in_err-find_rules.ensures (start_of c.args.task.now c.args.enc.now c.requires.made) (at_start c.args.task.now c.args.enc.now c.requires.made)).0).same
+pub returns-in_err-rules-in-Board-clause-made : goal.returns-in_err-rules-in-Board-clause-made
+returns-in_err-rules-in-Board-clause-made c task made =
+    let work = subst (λ (f : Takers). Working c.args.enc.now.sets c.find_takers.new.enc.sets (slots_of f)) c.in-Board.is c.in_ok-find_takers.ensures.slots in
+    made_now task c.args.enc.now c.write_rules.new.enc (same_chain c.args.enc.now c.find_takers.new.enc c.write_rules.new.enc c.find_takers.ensures.same_slots c.write_rules.ensures.same_slots)
+    (c.write_rules.ensures.slots c.args.enc.now.sets work).kept made
 
-pub returns-in_err-find_rules-clause-made : goal.returns-in_err-find_rules-clause-made
-returns-in_err-find_rules-clause-made c =
-    (kept c.made_is_kept.ensures.made c.args.task.now c.args.enc.now c.find_rules.new.enc c.requires.made (c.in_err-find_rules.ensures (start_of c.args.task.now c.args.enc.now c.requires.made) (at_start c.args.task.now c.args.enc.now c.requires.made)).0).made
+pub returns-in_ok-rules-in-Board-clause-made : goal.returns-in_ok-rules-in-Board-clause-made
+returns-in_ok-rules-in-Board-clause-made c task made =
+    let work = subst (λ (f : Takers). Working c.args.enc.now.sets c.find_takers.new.enc.sets (slots_of f)) c.in-Board.is c.in_ok-find_takers.ensures.slots in
+    made_now task c.args.enc.now c.write_rules.new.enc (same_chain c.args.enc.now c.find_takers.new.enc c.write_rules.new.enc c.find_takers.ensures.same_slots c.write_rules.ensures.same_slots)
+    (c.write_rules.ensures.slots c.args.enc.now.sets work).kept made
 
-pub returns-in-None-clause-no_plan : goal.returns-in-None-clause-no_plan
-returns-in-None-clause-no_plan c =
-    no_plan_of c.args.class c.args.task.now c.args.enc.now c.find_rules.new.enc c.requires.made
-    (subst (λ (found : Option (Vec Rule Global)). PlanLeft c.args.class (start_of c.args.task.now c.args.enc.now c.requires.made) c.find_rules.new.enc found) c.in-None.is (c.in_ok-find_rules.ensures (start_of c.args.task.now c.args.enc.now c.requires.made) (at_start c.args.task.now c.args.enc.now c.requires.made)))
+pub returns-in_ok-rules-in-Board-clause-printed : goal.returns-in_ok-rules-in-Board-clause-printed
+returns-in_ok-rules-in-Board-clause-printed c =
+    let mid = c.find_takers.new.enc in
+    let task = c.args.task.now in
+    let made = c.find_takers.ensures.made task c.requires.made in
+    let slots = c.in-Board.board.slots.items in
+    let found = subst (AreFound c.args.class task mid.sets) c.in-Board.is c.in_ok-find_takers.ensures.found in
+    let is = c.in_ok-rules-in-Board.ensures.rules ∙ ap (λ n. flat_map (rules_of_place mid.sets slots) (range_with_len 0 n)) found.long ∙ printed_by_places c.args.class task mid slots made found in
+    (found.layers, found.last, is)
 
-pub returns-in-None-clause-slots : goal.returns-in-None-clause-slots
-returns-in-None-clause-slots c =
-    (kept c.made_is_kept.ensures.made c.args.task.now c.args.enc.now c.find_rules.new.enc c.requires.made
-    (plan_at c.args.class (start_of c.args.task.now c.args.enc.now c.requires.made) c.find_rules.new.enc c.in_ok-find_rules.field-0 (c.in_ok-find_rules.ensures (start_of c.args.task.now c.args.enc.now c.requires.made) (at_start c.args.task.now c.args.enc.now c.requires.made)))).slots
+pub returns-in_ok-rules-in-Board-clause-in_task : goal.returns-in_ok-rules-in-Board-clause-in_task
+returns-in_ok-rules-in-Board-clause-in_task c =
+    let mid = c.find_takers.new.enc in
+    let task = c.args.task.now in
+    let made = c.find_takers.ensures.made task c.requires.made in
+    let slots = c.in-Board.board.slots.items in
+    let found = subst (AreFound c.args.class task mid.sets) c.in-Board.is c.in_ok-find_takers.ensures.found in
+    let is = c.in_ok-rules-in-Board.ensures.rules ∙ ap (λ n. flat_map (rules_of_place mid.sets slots) (range_with_len 0 n)) found.long ∙ printed_by_places c.args.class task mid slots made found in
+    (solved c.args.class c.requires.class task found.layers _ found.last is).within
 
-pub returns-in-None-clause-same_slots : goal.returns-in-None-clause-same_slots
-returns-in-None-clause-same_slots c =
-    (kept c.made_is_kept.ensures.made c.args.task.now c.args.enc.now c.find_rules.new.enc c.requires.made
-    (plan_at c.args.class (start_of c.args.task.now c.args.enc.now c.requires.made) c.find_rules.new.enc c.in_ok-find_rules.field-0 (c.in_ok-find_rules.ensures (start_of c.args.task.now c.args.enc.now c.requires.made) (at_start c.args.task.now c.args.enc.now c.requires.made)))).same
+pub returns-in_ok-rules-in-Board-clause-table : goal.returns-in_ok-rules-in-Board-clause-table
+returns-in_ok-rules-in-Board-clause-table c =
+    let mid = c.find_takers.new.enc in
+    let task = c.args.task.now in
+    let made = c.find_takers.ensures.made task c.requires.made in
+    let slots = c.in-Board.board.slots.items in
+    let found = subst (AreFound c.args.class task mid.sets) c.in-Board.is c.in_ok-find_takers.ensures.found in
+    let is = c.in_ok-rules-in-Board.ensures.rules ∙ ap (λ n. flat_map (rules_of_place mid.sets slots) (range_with_len 0 n)) found.long ∙ printed_by_places c.args.class task mid slots made found in
+    (solved c.args.class c.requires.class task found.layers _ found.last is).table
 
-pub returns-in-None-clause-made : goal.returns-in-None-clause-made
-returns-in-None-clause-made c =
-    (kept c.made_is_kept.ensures.made c.args.task.now c.args.enc.now c.find_rules.new.enc c.requires.made
-    (plan_at c.args.class (start_of c.args.task.now c.args.enc.now c.requires.made) c.find_rules.new.enc c.in_ok-find_rules.field-0 (c.in_ok-find_rules.ensures (start_of c.args.task.now c.args.enc.now c.requires.made) (at_start c.args.task.now c.args.enc.now c.requires.made)))).made
+pub returns-in_ok-rules-in-Board-clause-solves : goal.returns-in_ok-rules-in-Board-clause-solves
+returns-in_ok-rules-in-Board-clause-solves c =
+    let mid = c.find_takers.new.enc in
+    let task = c.args.task.now in
+    let made = c.find_takers.ensures.made task c.requires.made in
+    let slots = c.in-Board.board.slots.items in
+    let found = subst (AreFound c.args.class task mid.sets) c.in-Board.is c.in_ok-find_takers.ensures.found in
+    let is = c.in_ok-rules-in-Board.ensures.rules ∙ ap (λ n. flat_map (rules_of_place mid.sets slots) (range_with_len 0 n)) found.long ∙ printed_by_places c.args.class task mid slots made found in
+    (solved c.args.class c.requires.class task found.layers _ found.last is).solves
 
-pub returns-in-Some-clause-slots : goal.returns-in-Some-clause-slots
-returns-in-Some-clause-slots c =
-    (kept c.made_is_kept.ensures.made c.args.task.now c.args.enc.now c.find_rules.new.enc c.requires.made
-    (plan_at c.args.class (start_of c.args.task.now c.args.enc.now c.requires.made) c.find_rules.new.enc c.in_ok-find_rules.field-0 (c.in_ok-find_rules.ensures (start_of c.args.task.now c.args.enc.now c.requires.made) (at_start c.args.task.now c.args.enc.now c.requires.made)))).slots
-
-pub returns-in-Some-clause-same_slots : goal.returns-in-Some-clause-same_slots
-returns-in-Some-clause-same_slots c =
-    (kept c.made_is_kept.ensures.made c.args.task.now c.args.enc.now c.find_rules.new.enc c.requires.made
-    (plan_at c.args.class (start_of c.args.task.now c.args.enc.now c.requires.made) c.find_rules.new.enc c.in_ok-find_rules.field-0 (c.in_ok-find_rules.ensures (start_of c.args.task.now c.args.enc.now c.requires.made) (at_start c.args.task.now c.args.enc.now c.requires.made)))).same
-
-pub returns-in-Some-clause-made : goal.returns-in-Some-clause-made
-returns-in-Some-clause-made c =
-    (kept c.made_is_kept.ensures.made c.args.task.now c.args.enc.now c.find_rules.new.enc c.requires.made
-    (plan_at c.args.class (start_of c.args.task.now c.args.enc.now c.requires.made) c.find_rules.new.enc c.in_ok-find_rules.field-0 (c.in_ok-find_rules.ensures (start_of c.args.task.now c.args.enc.now c.requires.made) (at_start c.args.task.now c.args.enc.now c.requires.made)))).made
-
-pub returns-in-Some-clause-printed : goal.returns-in-Some-clause-printed
-returns-in-Some-clause-printed c =
-    let is = plan_of c.args.class c.args.task.now c.args.enc.now c.find_rules.new.enc c.requires.made c.in-Some.rules
-    (subst (λ (found : Option (Vec Rule Global)). PlanLeft c.args.class (start_of c.args.task.now c.args.enc.now c.requires.made) c.find_rules.new.enc found) c.in-Some.is (c.in_ok-find_rules.ensures (start_of c.args.task.now c.args.enc.now c.requires.made) (at_start c.args.task.now c.args.enc.now c.requires.made))) in
-    (is.K, is.last, is.printed)
-
-pub returns-in-Some-clause-in_task : goal.returns-in-Some-clause-in_task
-returns-in-Some-clause-in_task c =
-    let is = plan_of c.args.class c.args.task.now c.args.enc.now c.find_rules.new.enc c.requires.made c.in-Some.rules
-    (subst (λ (found : Option (Vec Rule Global)). PlanLeft c.args.class (start_of c.args.task.now c.args.enc.now c.requires.made) c.find_rules.new.enc found) c.in-Some.is (c.in_ok-find_rules.ensures (start_of c.args.task.now c.args.enc.now c.requires.made) (at_start c.args.task.now c.args.enc.now c.requires.made))) in
-    (solved_plan c.args.class c.requires.class c.args.task.now (map rule_of c.in-Some.rules.items) is).within
-
-pub returns-in-Some-clause-table : goal.returns-in-Some-clause-table
-returns-in-Some-clause-table c =
-    let is = plan_of c.args.class c.args.task.now c.args.enc.now c.find_rules.new.enc c.requires.made c.in-Some.rules
-    (subst (λ (found : Option (Vec Rule Global)). PlanLeft c.args.class (start_of c.args.task.now c.args.enc.now c.requires.made) c.find_rules.new.enc found) c.in-Some.is (c.in_ok-find_rules.ensures (start_of c.args.task.now c.args.enc.now c.requires.made) (at_start c.args.task.now c.args.enc.now c.requires.made))) in
-    (solved_plan c.args.class c.requires.class c.args.task.now (map rule_of c.in-Some.rules.items) is).table
-
-pub returns-in-Some-clause-solves : goal.returns-in-Some-clause-solves
-returns-in-Some-clause-solves c =
-    let is = plan_of c.args.class c.args.task.now c.args.enc.now c.find_rules.new.enc c.requires.made c.in-Some.rules
-    (subst (λ (found : Option (Vec Rule Global)). PlanLeft c.args.class (start_of c.args.task.now c.args.enc.now c.requires.made) c.find_rules.new.enc found) c.in-Some.is (c.in_ok-find_rules.ensures (start_of c.args.task.now c.args.enc.now c.requires.made) (at_start c.args.task.now c.args.enc.now c.requires.made))) in
-    (solved_plan c.args.class c.requires.class c.args.task.now (map rule_of c.in-Some.rules.items) is).solves
-
-pub returns-in-Some-clause-executable : goal.returns-in-Some-clause-executable
-returns-in-Some-clause-executable c =
-    let is = plan_of c.args.class c.args.task.now c.args.enc.now c.find_rules.new.enc c.requires.made c.in-Some.rules
-    (subst (λ (found : Option (Vec Rule Global)). PlanLeft c.args.class (start_of c.args.task.now c.args.enc.now c.requires.made) c.find_rules.new.enc found) c.in-Some.is (c.in_ok-find_rules.ensures (start_of c.args.task.now c.args.enc.now c.requires.made) (at_start c.args.task.now c.args.enc.now c.requires.made))) in
-    (solved_plan c.args.class c.requires.class c.args.task.now (map rule_of c.in-Some.rules.items) is).executable
+pub returns-in_ok-rules-in-Board-clause-executable : goal.returns-in_ok-rules-in-Board-clause-executable
+returns-in_ok-rules-in-Board-clause-executable c =
+    let mid = c.find_takers.new.enc in
+    let task = c.args.task.now in
+    let made = c.find_takers.ensures.made task c.requires.made in
+    let slots = c.in-Board.board.slots.items in
+    let found = subst (AreFound c.args.class task mid.sets) c.in-Board.is c.in_ok-find_takers.ensures.found in
+    let is = c.in_ok-rules-in-Board.ensures.rules ∙ ap (λ n. flat_map (rules_of_place mid.sets slots) (range_with_len 0 n)) found.long ∙ printed_by_places c.args.class task mid slots made found in
+    (solved c.args.class c.requires.class task found.layers _ found.last is).executable

@@ -1,120 +1,143 @@
--- The layer is the last one, or the next one follows.
-use Rattle.std.proofs.Common.{◌≡◌, ◌∙◌, ◌+◌, ◌≤◌, false, arith, ap, length, subst, sym}
+-- The test, the next layer, and whether it is the same set.
+use Rattle.std.proofs.Common.{◌≡◌, ◌∙◌, ◌+◌, ℕ, suc, arith, length, sym}
 use Rattle.std.proofs.lemmas.Bool.{both_ways}
 use Rattle.std.proofs.lemmas.Result.{err_from_is_err_and}
-use Rattle.dd_nodes.specs.Subfunctions.{DependsOnly}
-use Rattle.dd_sets.specs.LiveSets.{IsLive, IsSets, LiveSets, set_of}
-use Rattle.dd_sets.specs.Rooms.{IsTightFor}
-use Rattle.task_core.specs.Tasks.{action_count, fluent_count, system_of}
-use Rattle.encode_task.specs.Slots.{Encoded}
-use Rattle.plan_theory.specs.Layers.{covers}
-use Rattle.reach_plan.specs.LayerSets.{grown, taken_by}
-use Rattle.reach_plan.specs.Searches.{StillOne, with_one}
-use Rattle.reach_plan.proofs.SearchSteps.{at_made, at_same, covered_is, depends_by, end_next, last_holds, last_live, next_holds, next_live, next_round, one_live, length_one, room_for}
-use Rattle.reach_plan.proofs.SetLayers.{stable_same}
-use Rattle.reach_plan.proofs.WorkingSlots.{left_again, left_err, work_tight}
+use Rattle.slot_board.proofs.BoardSlots.{made_at, same_actions, went}
+use Rattle.task_core.specs.Tasks.{action_count}
+use Rattle.reach_plan.proofs.SearchSteps.{covered_at, is_more, is_still, layer_stays, passed_on}
 use Rattle.reach_plan.proofs.search.one_round.Goals as goal
 
-pub holds_initial-requires-clause-initial : goal.holds_initial-requires-clause-initial
-holds_initial-requires-clause-initial c = let w = c.requires.work in (at_made c.made_is_kept.ensures.made w.start c.args.enc.now _ w.at).initial.live
+pub covers_initial-requires-clause-working : goal.covers_initial-requires-clause-working
+covers_initial-requires-clause-working c = let r = c.requires.ready in (r.0, r.2.has.at)
 
-pub holds_initial-requires-clause-live : goal.holds_initial-requires-clause-live
-holds_initial-requires-clause-live c = let w = c.requires.work in one_live w.start c.args.enc.now c.args.taken.now.items w.h c.args.last w.f w.at
-
-pub returns-in_err-covered-clause-left : goal.returns-in_err-covered-clause-left
-returns-in_err-covered-clause-left c start f h k begun round =
+pub returns-in_err-covered : goal.returns-in_err-covered
+returns-in_err-covered c start k ready =
     let p = err_from_is_err_and c.from_residual.result c.from_residual.ensures.1 in
-    let room : length c.args.taken.now.items + 16 ≤ start.room = room_for c.made_is_kept.ensures.made start c.args.enc.now _ begun c.args.actions (length c.args.taken.now.items) c.requires.actions c.requires.few in
-    let long : length (with_one c.args.taken.now.items h c.args.last f) ≡ length c.args.taken.now.items + 1 = length_one c.args.taken.now.items h c.args.last f in
-    left_err _ (StillOne start c.holds_initial.new.enc c.args.taken.now.items c.args.last f) (IsTightFor start.room start.enc.sets) c.holds_initial.result c.from_residual.result _ c.in_err-covered.was p
-    (record { h = h; at = at_same start c.args.enc.now c.holds_initial.new.enc _ begun c.holds_initial.ensures.same_slots c.holds_initial.ensures.kept c.holds_initial.ensures.none })
-    (λ full. work_tight c.tight_is_monotone.ensures start.enc.sets c.args.enc.now.sets (with_one c.args.taken.now.items h c.args.last f) begun.working 0 start.room (omega arith) (c.holds_initial.ensures.full full))
+    passed_on start c.covers_initial.new.enc c.args.board.now.slots.items _ _ c.covers_initial.result c.from_residual.result _ c.in_err-covered.was p (c.covers_initial.ensures.left start ready.has.at)
 
-pub returns-then-covered-clause-left : goal.returns-then-covered-clause-left
-returns-then-covered-clause-left c start f h k begun round = record {
-  h = h;
-  at = at_same start c.args.enc.now c.holds_initial.new.enc _ begun c.holds_initial.ensures.same_slots c.holds_initial.ensures.kept c.holds_initial.ensures.none;
-  takers = round.are_takers;
-  covered = sym (covered_is c.made_is_kept.ensures.made start c.args.enc.now c.args.taken.now.items h c.args.last f c.args.class k c.in_ok-covered.covered begun round.is_layer c.in_ok-covered.ensures.answer) ∙ c.if-covered.true;
+pub returns-then-covered : goal.returns-then-covered
+returns-then-covered c start k ready = record {
+  has = record {
+    f = ready.f;
+    h = ready.h;
+    has = layer_stays start c.args.enc.now c.covers_initial.new.enc c.args.board.now.slots.items c.args.takers ready.f ready.h c.requires.places (c.in_ok-covered.ensures.left start ready.has.at) ready.has;
+    round = ready.round;
+  };
+  covered = sym (covered_at c.args.class start c.args.enc.now c.args.board.now.slots.items c.args.takers k c.in_ok-covered.covered ready (c.in_ok-covered.ensures.answer start ready.has.at)) ∙ c.if-covered.true;
 }
 
-pub next_layer-requires-clause-actions : goal.next_layer-requires-clause-actions
-next_layer-requires-clause-actions c = c.requires.actions ∙ sym (ap (λ (e : Encoded). length e.actions) c.holds_initial.ensures.same_slots)
+pub grow-requires-clause-ready : goal.grow-requires-clause-ready
+grow-requires-clause-ready c =
+    let r = c.requires.ready in
+    (r.0, r.2.f, r.2.h, layer_stays r.0 c.args.enc.now c.covers_initial.new.enc c.args.board.now.slots.items c.args.takers r.2.f r.2.h c.requires.places (c.in_ok-covered.ensures.left r.0 r.2.has.at) r.2.has)
 
-pub next_layer-requires-clause-work : goal.next_layer-requires-clause-work
-next_layer-requires-clause-work c =
-    let w = c.requires.work in
-    record { start = w.start; h = w.h; f = w.f; at = at_same w.start c.args.enc.now c.holds_initial.new.enc _ w.at c.holds_initial.ensures.same_slots c.holds_initial.ensures.kept c.holds_initial.ensures.none }
+pub grow-requires-clause-actions : goal.grow-requires-clause-actions
+grow-requires-clause-actions c =
+    let r = c.requires.ready in
+    let e : length c.covers_initial.new.enc.actions ≡ length c.args.enc.now.actions = same_actions r.0 c.args.enc.now c.covers_initial.new.enc c.args.board.now.slots.items c.args.board.now.slots.items r.2.has.at (c.in_ok-covered.ensures.left r.0 r.2.has.at).at in
+    omega (arith, c.requires.actions)
 
-pub returns-in_err-next-clause-left : goal.returns-in_err-next-clause-left
-returns-in_err-next-clause-left c start f h k begun round =
-    let p = err_from_is_err_and c.from_residual-in_err-next.result c.from_residual-in_err-next.ensures.1 in
-    let at = at_same start c.args.enc.now c.holds_initial.new.enc _ begun c.holds_initial.ensures.same_slots c.holds_initial.ensures.kept c.holds_initial.ensures.none in
-    let left = c.in_err-next.ensures.left start f h at in
-    left_again _ (StillOne start c.next_layer.new.enc c.next_layer.new.taken.items c.args.last f) (IsTightFor start.room start.enc.sets) c.from_residual-in_err-next.result _ p left.0 left.1
+pub returns-in_err-grow : goal.returns-in_err-grow
+returns-in_err-grow c start k ready =
+    let p = err_from_is_err_and c.from_residual-in_err-grow.result c.from_residual-in_err-grow.ensures.1 in
+    let mid = c.covers_initial.new.enc in
+    let old = c.args.board.now.slots.items in
+    let stays = layer_stays start c.args.enc.now mid old c.args.takers ready.f ready.h c.requires.places (c.in_ok-covered.ensures.left start ready.has.at) ready.has in
+    passed_on start c.grow.new.enc c.grow.new.board.slots.items _ _ c.grow.result c.from_residual-in_err-grow.result _ c.in_err-grow.was p (c.grow.ensures start ready.f ready.h stays)
 
-pub is_same-requires-clause-a_live : goal.is_same-requires-clause-a_live
-is_same-requires-clause-a_live c =
-    let w = c.requires.work in
-    let at = at_same w.start c.args.enc.now c.holds_initial.new.enc _ w.at c.holds_initial.ensures.same_slots c.holds_initial.ensures.kept c.holds_initial.ensures.none in
-    subst (λ (sets : LiveSets). IsLive sets c.in_ok-next.next.0) (sym c.sets.ensures) (next_live w.start c.next_layer.new.enc c.next_layer.new.taken.items _ c.in_ok-next.next _ c.args.last w.f (c.in_ok-next.ensures.left w.start w.f w.h at))
+pub is_same-requires-clause-working : goal.is_same-requires-clause-working
+is_same-requires-clause-working c =
+    let r = c.requires.ready in
+    let mid = c.covers_initial.new.enc in
+    let old = c.args.board.now.slots.items in
+    let stays = layer_stays r.0 c.args.enc.now mid old c.args.takers r.2.f r.2.h c.requires.places (c.in_ok-covered.ensures.left r.0 r.2.has.at) r.2.has in
+    let grown = went r.0 c.grow.new.enc c.grow.new.board.slots.items _ c.grow.result _ c.in_ok-grow.was (c.grow.ensures r.0 r.2.f r.2.h stays) in
+    (r.0, grown.by_layer.at)
 
-pub is_same-requires-clause-b_live : goal.is_same-requires-clause-b_live
-is_same-requires-clause-b_live c =
-    let w = c.requires.work in
-    let at = at_same w.start c.args.enc.now c.holds_initial.new.enc _ w.at c.holds_initial.ensures.same_slots c.holds_initial.ensures.kept c.holds_initial.ensures.none in
-    subst (λ (sets : LiveSets). IsLive sets c.args.last.0) (sym c.sets.ensures) (last_live w.start c.next_layer.new.enc c.next_layer.new.taken.items _ c.in_ok-next.next _ c.args.last w.f (c.in_ok-next.ensures.left w.start w.f w.h at))
+pub is_same-requires-clause-a : goal.is_same-requires-clause-a
+is_same-requires-clause-a c =
+    let r = c.requires.ready in
+    let mid = c.covers_initial.new.enc in
+    let old = c.args.board.now.slots.items in
+    let stays = layer_stays r.0 c.args.enc.now mid old c.args.takers r.2.f r.2.h c.requires.places (c.in_ok-covered.ensures.left r.0 r.2.has.at) r.2.has in
+    let grown = went r.0 c.grow.new.enc c.grow.new.board.slots.items _ c.grow.result _ c.in_ok-grow.was (c.grow.ensures r.0 r.2.f r.2.h stays) in
+    let now : length c.grow.new.board.slots.items ≡ r.0.places = grown.by_layer.at.long in
+    let was : length c.args.board.now.slots.items ≡ r.0.places = r.2.has.at.long in
+    omega (arith, c.requires.places)
 
-pub release-requires : goal.release-requires
-release-requires c =
-    let w = c.requires.work in
-    let at = at_same w.start c.args.enc.now c.holds_initial.new.enc _ w.at c.holds_initial.ensures.same_slots c.holds_initial.ensures.kept c.holds_initial.ensures.none in
-    next_live w.start c.next_layer.new.enc c.next_layer.new.taken.items _ c.in_ok-next.next _ c.args.last w.f (c.in_ok-next.ensures.left w.start w.f w.h at)
+pub is_same-requires-clause-b : goal.is_same-requires-clause-b
+is_same-requires-clause-b c =
+    let r = c.requires.ready in
+    let mid = c.covers_initial.new.enc in
+    let old = c.args.board.now.slots.items in
+    let stays = layer_stays r.0 c.args.enc.now mid old c.args.takers r.2.f r.2.h c.requires.places (c.in_ok-covered.ensures.left r.0 r.2.has.at) r.2.has in
+    let grown = went r.0 c.grow.new.enc c.grow.new.board.slots.items _ c.grow.result _ c.in_ok-grow.was (c.grow.ensures r.0 r.2.f r.2.h stays) in
+    let now : length c.grow.new.board.slots.items ≡ r.0.places = grown.by_layer.at.long in
+    let was : length c.args.board.now.slots.items ≡ r.0.places = r.2.has.at.long in
+    omega (arith, c.requires.places)
 
-pub returns-then-is_same-clause-left : goal.returns-then-is_same-clause-left
-returns-then-is_same-clause-left c start f h k begun round =
-    let law = c.made_is_kept.ensures.made in
-    let begun2 = at_same start c.args.enc.now c.holds_initial.new.enc _ begun c.holds_initial.ensures.same_slots c.holds_initial.ensures.kept c.holds_initial.ensures.none in
-    let at = c.in_ok-next.ensures.left start f h begun2 in
-    let taken = c.next_layer.new.taken.items in
-    let next = c.in_ok-next.next in
-    let t = taken_by c.args.class start.task f h c.args.actions in
-    let g = grown c.args.class start.task f c.args.actions in
-    let enc = c.next_layer.new.enc in
-    let short : covers c.args.class (system_of start.task) k ≡ false = sym (covered_is law start c.args.enc.now c.args.taken.now.items h c.args.last f c.args.class k c.in_ok-covered.covered begun round.is_layer c.in_ok-covered.ensures.answer) ∙ c.if-covered.false in
-    let all : c.args.actions ≡ action_count start.task = c.requires.actions ∙ (at_made law start c.args.enc.now _ begun).actions in
-    let sound : IsSets enc.sets = c.in_ok-next.ensures.sound in
-    let depends : DependsOnly 0 (fluent_count start.task) g = depends_by c.sets_depend_on_fluents.ensures law start enc _ next.0 g at sound (next_holds start enc taken t next g c.args.last f at) in
-    let later = next_round c.preimages_lead_into_their_sets.ensures.weak c.preimages_lead_into_their_sets.ensures.strong c.args.class start.task k f h c.args.actions round short all depends in
-    let same : g ≡ f = sym (next_holds start enc taken t next g c.args.last f at) ∙ ap (λ (sets : LiveSets). set_of sets next.0) (sym c.sets.ensures) ∙ c.is_same.ensures.0 c.if-is_same.true
-    ∙ ap (λ (sets : LiveSets). set_of sets c.args.last.0) c.sets.ensures ∙ last_holds start enc taken t next g c.args.last f at in
-    record {
-      h = t;
-      at = end_next start enc c.release.new.enc taken t next g c.args.last f at c.release.ensures.same_slots c.release.ensures.released;
-      stable = stable_same c.args.class start.task k f g round.is_layer later.is_layer same;
-      short = short;
-    }
+pub copy_of-requires-clause-working : goal.copy_of-requires-clause-working
+copy_of-requires-clause-working c =
+    let r = c.requires.ready in
+    let mid = c.covers_initial.new.enc in
+    let old = c.args.board.now.slots.items in
+    let stays = layer_stays r.0 c.args.enc.now mid old c.args.takers r.2.f r.2.h c.requires.places (c.in_ok-covered.ensures.left r.0 r.2.has.at) r.2.has in
+    let grown = went r.0 c.grow.new.enc c.grow.new.board.slots.items _ c.grow.result _ c.in_ok-grow.was (c.grow.ensures r.0 r.2.f r.2.h stays) in
+    (r.0, grown.by_layer.at)
 
-pub returns-clause-left : goal.returns-clause-left
-returns-clause-left c start f h k begun round =
-    let law = c.made_is_kept.ensures.made in
-    let begun2 = at_same start c.args.enc.now c.holds_initial.new.enc _ begun c.holds_initial.ensures.same_slots c.holds_initial.ensures.kept c.holds_initial.ensures.none in
-    let at = c.in_ok-next.ensures.left start f h begun2 in
-    let taken = c.next_layer.new.taken.items in
-    let next = c.in_ok-next.next in
-    let t = taken_by c.args.class start.task f h c.args.actions in
-    let g = grown c.args.class start.task f c.args.actions in
-    let enc = c.next_layer.new.enc in
-    let short : covers c.args.class (system_of start.task) k ≡ false = sym (covered_is law start c.args.enc.now c.args.taken.now.items h c.args.last f c.args.class k c.in_ok-covered.covered begun round.is_layer c.in_ok-covered.ensures.answer) ∙ c.if-covered.false in
-    let all : c.args.actions ≡ action_count start.task = c.requires.actions ∙ (at_made law start c.args.enc.now _ begun).actions in
-    let sound : IsSets enc.sets = c.in_ok-next.ensures.sound in
-    let depends : DependsOnly 0 (fluent_count start.task) g = depends_by c.sets_depend_on_fluents.ensures law start enc _ next.0 g at sound (next_holds start enc taken t next g c.args.last f at) in
-    record {
-      h = t;
-      g = g;
-      at = at;
-      round = next_round c.preimages_lead_into_their_sets.ensures.weak c.preimages_lead_into_their_sets.ensures.strong c.args.class start.task k f h c.args.actions round short all depends;
-      differs = λ same. both_ways c.is_same.result c.if-is_same.false (c.is_same.ensures.1
-          (ap (λ (sets : LiveSets). set_of sets next.0) c.sets.ensures ∙ next_holds start enc taken t next g c.args.last f at ∙ same ∙ sym (last_holds start enc taken t next g c.args.last f at)
-          ∙ ap (λ (sets : LiveSets). set_of sets c.args.last.0) (sym c.sets.ensures)));
-    }
+pub copy_of-requires-clause-place : goal.copy_of-requires-clause-place
+copy_of-requires-clause-place c =
+    let r = c.requires.ready in
+    let mid = c.covers_initial.new.enc in
+    let old = c.args.board.now.slots.items in
+    let stays = layer_stays r.0 c.args.enc.now mid old c.args.takers r.2.f r.2.h c.requires.places (c.in_ok-covered.ensures.left r.0 r.2.has.at) r.2.has in
+    let grown = went r.0 c.grow.new.enc c.grow.new.board.slots.items _ c.grow.result _ c.in_ok-grow.was (c.grow.ensures r.0 r.2.f r.2.h stays) in
+    let now : length c.grow.new.board.slots.items ≡ r.0.places = grown.by_layer.at.long in
+    let was : length c.args.board.now.slots.items ≡ r.0.places = r.2.has.at.long in
+    omega (arith, c.requires.places)
+
+pub copy_of-requires-clause-from : goal.copy_of-requires-clause-from
+copy_of-requires-clause-from c =
+    let r = c.requires.ready in
+    let mid = c.covers_initial.new.enc in
+    let old = c.args.board.now.slots.items in
+    let stays = layer_stays r.0 c.args.enc.now mid old c.args.takers r.2.f r.2.h c.requires.places (c.in_ok-covered.ensures.left r.0 r.2.has.at) r.2.has in
+    let grown = went r.0 c.grow.new.enc c.grow.new.board.slots.items _ c.grow.result _ c.in_ok-grow.was (c.grow.ensures r.0 r.2.f r.2.h stays) in
+    let now : length c.grow.new.board.slots.items ≡ r.0.places = grown.by_layer.at.long in
+    let was : length c.args.board.now.slots.items ≡ r.0.places = r.2.has.at.long in
+    omega (arith, c.requires.places)
+
+pub returns-then-is_same : goal.returns-then-is_same
+returns-then-is_same c start k ready =
+    let mid = c.covers_initial.new.enc in
+    let old = c.args.board.now.slots.items in
+    let stays = layer_stays start c.args.enc.now mid old c.args.takers ready.f ready.h c.requires.places (c.in_ok-covered.ensures.left start ready.has.at) ready.has in
+    let grown = went start c.grow.new.enc c.grow.new.board.slots.items _ c.grow.result _ c.in_ok-grow.was (c.grow.ensures start ready.f ready.h stays) in
+    let short = sym (covered_at c.args.class start c.args.enc.now old c.args.takers k c.in_ok-covered.covered ready (c.in_ok-covered.ensures.answer start ready.has.at)) ∙ c.if-covered.false in
+    let all : c.args.actions ≡ action_count start.task = c.requires.actions ∙ (made_at start c.args.enc.now old ready.has.at).actions in
+    is_still c.preimages_lead_into_their_sets.ensures.weak c.preimages_lead_into_their_sets.ensures.strong c.args.class start c.grow.new.enc c.grow.new.board.slots.items c.args.takers k c.args.actions ready.f ready.h ready.round short all grown
+    (c.is_same.ensures.0 c.if-is_same.true)
+
+pub returns-in_err-copy_of : goal.returns-in_err-copy_of
+returns-in_err-copy_of c start k ready =
+    let p = err_from_is_err_and c.from_residual-in_err-copy_of.result c.from_residual-in_err-copy_of.ensures.1 in
+    let mid = c.covers_initial.new.enc in
+    let old = c.args.board.now.slots.items in
+    let stays = layer_stays start c.args.enc.now mid old c.args.takers ready.f ready.h c.requires.places (c.in_ok-covered.ensures.left start ready.has.at) ready.has in
+    let grown = went start c.grow.new.enc c.grow.new.board.slots.items _ c.grow.result _ c.in_ok-grow.was (c.grow.ensures start ready.f ready.h stays) in
+    passed_on start c.copy_of.new.enc c.copy_of.new.self.slots.items _ _ c.copy_of.result c.from_residual-in_err-copy_of.result _ c.in_err-copy_of.was p (c.copy_of.ensures start grown.by_layer.at)
+
+pub returns : goal.returns
+returns c start k ready =
+    let mid = c.covers_initial.new.enc in
+    let old = c.args.board.now.slots.items in
+    let stays = layer_stays start c.args.enc.now mid old c.args.takers ready.f ready.h c.requires.places (c.in_ok-covered.ensures.left start ready.has.at) ready.has in
+    let grown = went start c.grow.new.enc c.grow.new.board.slots.items _ c.grow.result _ c.in_ok-grow.was (c.grow.ensures start ready.f ready.h stays) in
+    let short = sym (covered_at c.args.class start c.args.enc.now old c.args.takers k c.in_ok-covered.covered ready (c.in_ok-covered.ensures.answer start ready.has.at)) ∙ c.if-covered.false in
+    let all : c.args.actions ≡ action_count start.task = c.requires.actions ∙ (made_at start c.args.enc.now old ready.has.at).actions in
+    let now : length c.grow.new.board.slots.items ≡ start.places = grown.by_layer.at.long in
+    let was : length c.args.board.now.slots.items ≡ start.places = ready.has.at.long in
+    is_more c.preimages_lead_into_their_sets.ensures.weak c.preimages_lead_into_their_sets.ensures.strong c.args.class start c.grow.new.enc c.grow.new.board.slots.items c.args.takers k c.args.actions ready.f ready.h ready.round short all grown
+    c.copy_of.new.enc c.copy_of.new.self.slots.items _ (omega (arith, c.requires.places)) ready.has.holds_layer
+    (λ same. both_ways c.is_same.result c.if-is_same.false (c.is_same.ensures.1 same))
+    (went start c.copy_of.new.enc c.copy_of.new.self.slots.items _ c.copy_of.result _ c.in_ok-copy_of.was (c.copy_of.ensures start grown.by_layer.at))

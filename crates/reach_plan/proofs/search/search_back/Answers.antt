@@ -1,100 +1,82 @@
--- One round more.
-use Rattle.std.proofs.Common.{ℕ, ◌∙◌, ap, length, refl, sym, subst}
+-- The goal first, then round by round.
+use Rattle.std.proofs.Common.{◌≡◌, ◌∙◌, ◌+◌, ℕ, suc, arith, length, sym, subst}
 use Rattle.std.proofs.lemmas.Result.{err_from_is_err_and}
-use Rattle.dd_nodes.specs.Subfunctions.{Function}
-use Rattle.dd_sets.specs.LiveSets.{IsLive}
-use Rattle.dd_sets.specs.Rooms.{IsTightFor}
-use Rattle.encode_task.specs.Slots.{Encoded}
-use Rattle.reach_plan.specs.LayerSets.{AreTakers}
+use Rattle.slot_board.specs.Board.{set_at}
+use Rattle.slot_board.proofs.BoardSlots.{passed, same_actions, went}
+use Rattle.reach_plan.specs.Searches.{RoundLeft}
 use Rattle.reach_plan.specs.declared.search.Round.{Round}
-use Rattle.reach_plan.specs.Searches.{StillOne, StillTaken, RoundLeft}
-use Rattle.reach_plan.specs.Working.{At, Start, entries}
-use Rattle.reach_plan.proofs.SearchSteps.{at_same, end_last, found_last, found_none, going_fewer, going_first, going_on, one_live, round_live, same_actions, Going}
-use Rattle.reach_plan.proofs.WorkingSlots.{left_again, left_either}
+use Rattle.reach_plan.proofs.SearchSteps.{fewer_after, first_round, found_last, found_none, goal_live, passed_on}
 use Rattle.reach_plan.proofs.search.search_back.Goals as goal
 
-pub returns-in_err-last-clause-left : goal.returns-in_err-last-clause-left
-returns-in_err-last-clause-left c start h at takers =
+pub copy-requires-clause-working : goal.copy-requires-clause-working
+copy-requires-clause-working c = let r = c.requires.ready in (r.0, r.1.at)
+
+pub copy-requires-clause-live : goal.copy-requires-clause-live
+copy-requires-clause-live c = let r = c.requires.ready in goal_live r.0 c.args.enc.now c.args.board.now.slots.items c.unwrap-goal.result r.1.at (sym c.goal.ensures ∙ c.unwrap-goal.ensures)
+
+pub returns-in_err-copy : goal.returns-in_err-copy
+returns-in_err-copy c start ready =
     let p = err_from_is_err_and c.from_residual.result c.from_residual.ensures.1 in
-    left_again _ (StillTaken start c.copied.new.enc c.args.taken.now.items) (IsTightFor start.room start.enc.sets) c.from_residual.result _ p
-    (record { h = h; at = at_same start c.args.enc.now c.copied.new.enc _ at c.copied.ensures.same_slots c.copied.ensures.kept c.in_err-last.ensures.refused })
-    (λ full. let memory = c.in_err-last.ensures.never_full in absurd (cc))
+    passed_on start c.copy.new.enc c.copy.new.self.slots.items _ _ c.copy.result c.from_residual.result _ c.in_err-copy.was p (c.copy.ensures start ready.at)
 
-pub loop-next-init : goal.loop-next-init
-loop-next-init c = record {
-  long = refl;
-  same = ap (λ (e : Encoded). length e.actions) c.copied.ensures.same_slots;
-  held = λ start h at takers.
-      going_first c.sets_depend_on_fluents.ensures c.made_is_kept.ensures.made c.args.class start c.args.enc.now c.copied.new.enc c.args.taken.now.items h c.unwrap-goal.result c.in_ok-last.last at takers
-      (sym c.goal.ensures ∙ c.unwrap-goal.ensures) c.copied.ensures.same_slots c.copied.ensures.kept c.in_ok-last.ensures.added c.copied.ensures.sound;
-}
+pub loop-round-init : goal.loop-round-init
+loop-round-init c start ready = (
+  0,
+  first_round c.args.class start c.args.enc.now c.copy.new.enc c.args.board.now.slots.items c.copy.new.self.slots.items c.args.takers c.unwrap-goal.result c.requires.places ready (sym c.goal.ensures ∙ c.unwrap-goal.ensures)
+      (went start c.copy.new.enc c.copy.new.self.slots.items _ c.copy.result _ c.in_ok-copy.was (c.copy.ensures start ready.at)),
+)
 
-pub one_round-round-requires-clause-work : goal.one_round-round-requires-clause-work
-one_round-round-requires-clause-work c =
-    let w = c.requires.work in
-    let going = c.loop-next.invariant.held w.start w.h w.at w.takers in
-    record { start = w.start; h = going.h; f = going.f; at = going.at }
+pub one_round-requires-clause-ready : goal.one_round-requires-clause-ready
+one_round-requires-clause-ready c = let r = c.requires.ready in let k = c.loop-round.invariant r.0 r.1 in (r.0, k.0, k.1)
 
-pub release-requires : goal.release-requires
-release-requires c =
-    let w = c.requires.work in
-    let going = c.loop-next.invariant.held w.start w.h w.at w.takers in
-    let enc = c.one_round-round.new.enc in
-    let taken = c.one_round-round.new.taken.items in
-    left_either (RoundLeft c.args.class w.start enc taken c.loop-next.last going.f going.k) (StillOne w.start enc taken c.loop-next.last going.f) (IsTightFor w.start.room w.start.enc.sets) (IsLive enc.sets c.loop-next.last.0) c.one_round-round.result
-    (λ round left. round_live c.args.class w.start enc taken c.loop-next.last going.f going.k round left)
-    (λ still. one_live w.start enc taken still.h c.loop-next.last going.f still.at)
-    (c.one_round-round.ensures.left w.start going.f going.h going.k going.at going.round)
+pub one_round-requires-clause-places : goal.one_round-requires-clause-places
+one_round-requires-clause-places c =
+    let r = c.requires.ready in
+    let now : length c.loop-round.board.slots.items ≡ r.0.places = (c.loop-round.invariant r.0 r.1).1.has.at.long in
+    let was : length c.args.board.now.slots.items ≡ r.0.places = r.1.at.long in
+    omega (arith, c.requires.places)
 
-pub returns-in_err-round-clause-left : goal.returns-in_err-round-clause-left
-returns-in_err-round-clause-left c start h at takers =
+pub one_round-requires-clause-actions : goal.one_round-requires-clause-actions
+one_round-requires-clause-actions c =
+    let r = c.requires.ready in
+    let e : length c.loop-round.enc.actions ≡ length c.args.enc.now.actions = same_actions r.0 c.args.enc.now c.loop-round.enc c.args.board.now.slots.items c.loop-round.board.slots.items r.1.at (c.loop-round.invariant r.0 r.1).1.has.at in
+    omega (arith, c.requires.actions)
+
+pub returns-in_err-round : goal.returns-in_err-round
+returns-in_err-round c start ready =
     let p = err_from_is_err_and c.from_residual-in_err-round.result c.from_residual-in_err-round.ensures.1 in
-    let going = c.loop-next.invariant.held start h at takers in
-    let left = c.in_err-round.ensures.left start going.f going.h going.k going.at going.round in
-    left_again _ (StillTaken start c.release.new.enc c.one_round-round.new.taken.items) (IsTightFor start.room start.enc.sets) c.from_residual-in_err-round.result _ p
-    (record { h = left.0.h; at = end_last start c.one_round-round.new.enc c.release.new.enc c.one_round-round.new.taken.items left.0.h c.loop-next.last going.f left.0.at c.release.ensures.same_slots c.release.ensures.released })
-    left.1
+    let k = c.loop-round.invariant start ready in
+    passed_on start c.one_round.new.enc c.one_round.new.board.slots.items _ _ c.one_round.result c.from_residual-in_err-round.result _ c.in_err-round.was p (c.one_round.ensures start k.0 k.1)
 
-pub returns-in-Covered-clause-left : goal.returns-in-Covered-clause-left
-returns-in-Covered-clause-left c start h at takers =
-    let going = c.loop-next.invariant.held start h at takers in
-    let enc = c.one_round-round.new.enc in
-    let taken = c.one_round-round.new.taken.items in
-    found_last c.args.class start c.loop-next.enc enc c.release.new.enc c.loop-next.taken.items taken c.loop-next.last going
-    (subst (λ (round : Round). RoundLeft c.args.class start enc taken c.loop-next.last going.f going.k round) c.in-Covered.is (c.in_ok-round.ensures.left start going.f going.h going.k going.at going.round))
-    c.release.ensures.same_slots c.release.ensures.released
+pub returns-in-Covered : goal.returns-in-Covered
+returns-in-Covered c start ready =
+    let k = c.loop-round.invariant start ready in
+    let now = c.one_round.new.enc in
+    let slots = c.one_round.new.board.slots.items in
+    found_last c.args.class start now slots c.args.takers k.0
+    (subst (λ (round : Round). RoundLeft c.args.class start (set_at c.loop-round.enc.sets c.loop-round.board.slots.items c.args.takers) now slots c.args.takers k.0 round) c.in-Covered.is (c.in_ok-round.ensures start k.0 k.1))
 
-pub returns-in-Stable-clause-left : goal.returns-in-Stable-clause-left
-returns-in-Stable-clause-left c start h at takers =
-    let going = c.loop-next.invariant.held start h at takers in
-    let enc = c.one_round-round.new.enc in
-    let taken = c.one_round-round.new.taken.items in
-    found_none c.args.class c.requires.class start enc c.release.new.enc taken c.loop-next.last going.f going.k
-    (subst (λ (round : Round). RoundLeft c.args.class start enc taken c.loop-next.last going.f going.k round) c.in-Stable.is (c.in_ok-round.ensures.left start going.f going.h going.k going.at going.round))
-    c.release.ensures.same_slots c.release.ensures.released
+pub returns-in-Stable : goal.returns-in-Stable
+returns-in-Stable c start ready =
+    let k = c.loop-round.invariant start ready in
+    let now = c.one_round.new.enc in
+    let slots = c.one_round.new.board.slots.items in
+    found_none c.args.class c.requires.class start now slots k.0
+    (subst (λ (round : Round). RoundLeft c.args.class start (set_at c.loop-round.enc.sets c.loop-round.board.slots.items c.args.takers) now slots c.args.takers k.0 round) c.in-Stable.is (c.in_ok-round.ensures start k.0 k.1))
 
-pub loop-next-smaller : goal.loop-next-smaller
-loop-next-smaller c =
-    let w = c.requires.work in
-    let going = c.loop-next.invariant.held w.start w.h w.at w.takers in
-    let enc = c.one_round-round.new.enc in
-    let taken = c.one_round-round.new.taken.items in
-    going_fewer c.made_is_kept.ensures.made c.args.class w.start c.loop-next.enc enc c.release.new.enc c.loop-next.taken.items taken c.loop-next.last c.in-More.next going
-    (subst (λ (round : Round). RoundLeft c.args.class w.start enc taken c.loop-next.last going.f going.k round) c.in-More.is (c.in_ok-round.ensures.left w.start going.f going.h going.k going.at going.round))
-    c.release.ensures.same_slots c.release.ensures.released
+pub loop-round-smaller : goal.loop-round-smaller
+loop-round-smaller c =
+    let r = c.requires.ready in
+    let k = c.loop-round.invariant r.0 r.1 in
+    let now = c.one_round.new.enc in
+    let slots = c.one_round.new.board.slots.items in
+    fewer_after c.args.class r.0 c.loop-round.enc now c.loop-round.board.slots.items slots c.args.takers k.0 k.1
+    (subst (λ (round : Round). RoundLeft c.args.class r.0 (set_at c.loop-round.enc.sets c.loop-round.board.slots.items c.args.takers) now slots c.args.takers k.0 round) c.in-More.is (c.in_ok-round.ensures r.0 k.0 k.1))
 
-pub loop-next-preserved : goal.loop-next-preserved
-loop-next-preserved c =
-    let enc = c.one_round-round.new.enc in
-    let taken = c.one_round-round.new.taken.items in
-    let on : (start : Start) (h : ℕ → Function) → At start c.args.enc.now (entries c.args.taken.now.items 0 h) → AreTakers c.args.class start.task 0 h → Going c.args.class start c.release.new.enc taken c.in-More.next = λ start h at takers.
-    let going = c.loop-next.invariant.held start h at takers in
-    going_on c.args.class start enc c.release.new.enc taken c.loop-next.last c.in-More.next going.f going.k
-    (subst (λ (round : Round). RoundLeft c.args.class start enc taken c.loop-next.last going.f going.k round) c.in-More.is (c.in_ok-round.ensures.left start going.f going.h going.k going.at going.round))
-    c.release.ensures.same_slots c.release.ensures.released in
-    let w = c.requires.work in
-    record {
-      long = c.one_round-round.ensures.long ∙ c.loop-next.invariant.long;
-      same = same_actions c.made_is_kept.ensures.made w.start c.args.enc.now c.release.new.enc _ _ w.at (on w.start w.h w.at w.takers).at;
-      held = on;
-    }
+pub loop-round-preserved : goal.loop-round-preserved
+loop-round-preserved c start ready =
+    let k = c.loop-round.invariant start ready in
+    let now = c.one_round.new.enc in
+    let slots = c.one_round.new.board.slots.items in
+    let more = subst (λ (round : Round). RoundLeft c.args.class start (set_at c.loop-round.enc.sets c.loop-round.board.slots.items c.args.takers) now slots c.args.takers k.0 round) c.in-More.is (c.in_ok-round.ensures start k.0 k.1) in
+    (suc k.0, more.has)

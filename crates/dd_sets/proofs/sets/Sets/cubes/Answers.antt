@@ -10,8 +10,8 @@ use Rattle.dd_sets.proofs.CubeLemmas.{all_cubes}
 use Rattle.dd_sets.proofs.SlotLemmas.{number_set}
 use Rattle.dd_sets.proofs.sets.Sets.cubes.Goals as goal
 
-pub returns : goal.returns
-returns c =
+pub returns-clause-answer : goal.returns-clause-answer
+returns-clause-answer c =
     all_cubes c.table.result.now.vars c.table.result.now.nodes c.number.result.0 (set_of c.args.self.now c.args.a.0)
     (ap (λ (t : NodeTable). function t.nodes c.number.result.0) c.table.ensures.value ∙ number_set c.self.view_is c.args.a.0 c.number.result c.number.ensures.number)
     c.new-path.result.items (map (λ (cube : Vec Lit Global). cube.items) c.new-cubes.result.items) (map (λ (cube : Vec Lit Global). cube.items) c.walk.new.cubes.items)

@@ -6,8 +6,8 @@ use Rattle.task_core.specs.States.{truth}
 use Rattle.dd_sets.proofs.SlotLemmas.{number_set}
 use Rattle.dd_sets.proofs.sets.Sets.holds.Goals as goal
 
-pub returns : goal.returns
-returns c =
+pub returns-clause-answer : goal.returns-clause-answer
+returns-clause-answer c =
     c.eval.ensures
     ∙ ap (λ (t : NodeTable). function t.nodes c.number.result.0 (values_of_bits c.bits.result.now)) c.table.ensures.value
     ∙ ap (λ (words : List ℕ). function c.self.inside.ops.nodes c.number.result.0 (values_of_bits words)) c.bits.ensures.value

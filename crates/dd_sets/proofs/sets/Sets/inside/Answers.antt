@@ -1,5 +1,7 @@
 -- The difference is the empty set exactly where each list of the first is in the second.
+use Rattle.std.proofs.Common.{[], ◌∷◌}
 use Rattle.dd_ops.specs.Operations.{minus_of}
+use Rattle.dd_sets.proofs.MadeLemmas.{makes_only}
 use Rattle.dd_sets.proofs.SetLemmas.{inside_answer, inside_kept, inside_same, inside_sound, inside_full}
 use Rattle.dd_sets.proofs.SlotLemmas.{number_set}
 use Rattle.dd_sets.proofs.sets.Sets.inside.Goals as goal
@@ -22,3 +24,7 @@ returns-clause-full c is = inside_full c.minus-outside.ensures.answers c.minus-o
 
 pub returns-clause-sound : goal.returns-clause-sound
 returns-clause-sound c = inside_sound c.minus-outside.ensures.answers c.self.invariant
+
+pub returns-clause-made : goal.returns-clause-made
+returns-clause-made c = makes_only c.minus-outside.ensures.answers c.minus-outside.ensures.grows c.self.view_is
+    (λ i. minus_of ((number_set c.self.view_is c.args.a.0 c.number-f.result c.number-f.ensures.number) i) ((number_set c.self.view_is c.args.b.0 c.number-g.result c.number-g.ensures.number) i) ∷ [])

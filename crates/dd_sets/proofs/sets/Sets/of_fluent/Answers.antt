@@ -1,5 +1,6 @@
 -- What the operation answers, and what became of the slots, put together.
 use Rattle.std.proofs.Common.{refl}
+use Rattle.dd_sets.proofs.MadeLemmas.{makes_only}
 use Rattle.dd_sets.proofs.SlotLemmas.{operated, full_room}
 use Rattle.dd_sets.proofs.sets.Sets.of_fluent.Goals as goal
 
@@ -20,3 +21,6 @@ returns-clause-full c = full_room c.var-answer.ensures.answers c.var-answer.ensu
 
 pub returns-clause-sound : goal.returns-clause-sound
 returns-clause-sound c = (operated c.var-answer.ensures.answers c.store.ensures c.self.view_is c.self.invariant refl).sound
+
+pub returns-clause-made : goal.returns-clause-made
+returns-clause-made c = makes_only c.var-answer.ensures.answers c.var-answer.ensures.grows c.self.view_is refl

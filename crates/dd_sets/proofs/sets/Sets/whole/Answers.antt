@@ -1,6 +1,8 @@
 -- A constant's number is in every table.
-use Rattle.std.proofs.Common.{arith}
+use Rattle.std.proofs.Common.{arith, [], ap}
 use Rattle.dd_nodes.proofs.NodeLemmas.{function_true}
+use Rattle.dd_sets.specs.LiveSets.{LiveSets}
+use Rattle.dd_sets.proofs.MadeLemmas.{makes_none}
 use Rattle.dd_sets.proofs.SlotLemmas.{placed}
 use Rattle.dd_sets.proofs.sets.Sets.whole.Goals as goal
 
@@ -18,3 +20,6 @@ returns-clause-refused c = (placed c.store.ensures c.self.view_is c.self.invaria
 
 pub returns-clause-sound : goal.returns-clause-sound
 returns-clause-sound c = (placed c.store.ensures c.self.view_is c.self.invariant (λ i values. function_true c.self.inside.ops.nodes values i) (omega arith)).sound
+
+pub returns-clause-made : goal.returns-clause-made
+returns-clause-made c = makes_none _ _ [] (ap (λ (s : LiveSets). s.nodes) c.self.view_is)

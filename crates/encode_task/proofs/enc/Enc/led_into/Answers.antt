@@ -5,13 +5,13 @@ use Rattle.dd_nodes.specs.Subfunctions.{Function}
 use Rattle.task_core.specs.Tasks.{action_count, outcomes_at}
 use Rattle.dd_sets.specs.Calls.{Adds}
 use Rattle.dd_sets.specs.LiveSets.{IsLive, set_of}
+use Rattle.dd_sets.proofs.RoomSteps.{room_same}
 use Rattle.encode_task.specs.Made.{MadeOf, HoldsOutcome}
 use Rattle.encode_task.specs.Seen.{slots_of}
 use Rattle.encode_task.specs.Slots.{Encoded, changed_in}
 use Rattle.encode_task.specs.TaskSets.{after_values, led_into}
-use Rattle.encode_task.proofs.LedLemmas.{led_by_sets, tight_subst}
+use Rattle.encode_task.proofs.LedLemmas.{led_by_sets, room_subst}
 use Rattle.encode_task.proofs.MadeLemmas.{made_kept}
-use Rattle.encode_task.proofs.TightLemmas.{tight_same}
 use Rattle.encode_task.proofs.enc.Enc.led_into.Goals as goal
 
 pub returns-clause-added : goal.returns-clause-added
@@ -31,8 +31,8 @@ returns-clause-added c task made =
 pub returns-clause-full : goal.returns-clause-full
 returns-clause-full c full =
     let live : IsLive c.self.inside.sets c.args.x.0 = subst (λ (enc : Encoded). IsLive enc.sets c.args.x.0) (sym c.self.view_is) c.requires.live in
-    tight_same _ _ (ap (λ (enc : Encoded). enc.sets) c.self.view_is) 0 0 (omega arith)
-    (tight_subst c.self.inside.sets c.subst.new.self c.args.x.0 _ _ c.subst.ensures.sound c.subst.ensures.kept live (c.subst.ensures.full full))
+    room_same _ _ (ap (λ (enc : Encoded). enc.sets) c.self.view_is) 0 0 (omega arith)
+    (room_subst c.self.inside.sets c.subst.new.self c.args.x.0 _ _ c.subst.ensures.sound c.subst.ensures.kept live (c.subst.ensures.full full))
 
 pub returns-clause-made : goal.returns-clause-made
 returns-clause-made c task made = made_kept task _ c.subst.new.self c.subst.ensures.kept (subst (MadeOf task) (sym c.self.view_is) made)

@@ -14,4 +14,4 @@ returns c start here =
     ap (λ s. combined c.args.operation (set_of sets s) (set_of sets c.at-2.result.0)) c.at.ensures ∙ ap (λ s. combined c.args.operation (set_at sets slots c.args.a) (set_of sets s)) c.at-2.ensures in
     placed start c.args.enc.now c.put_together-answer.new.enc c.put.new.enc c.args.self.now.slots.items c.put.new.self.slots.items c.args.place _ c.put_together-answer.result c.put.result here c.put_together-answer.ensures.same_slots c.put.ensures.same_slots
     (subst (λ (f : Function). OwnsAnswer sets c.put_together-answer.new.enc.sets f c.put_together-answer.result) e c.put_together-answer.ensures.answer) 8 (omega arith) c.put_together-answer.ensures.full
-    c.put.ensures.frame c.put.ensures.here c.put.ensures.others c.put.ensures.long c.put.ensures.full c.put.ensures.sound
+    c.put.ensures.frame c.put.ensures.here c.put.ensures.others c.put.ensures.long c.put.ensures.full c.put.ensures.sound c.put.ensures.refused

@@ -6,4 +6,4 @@ pub returns : goal.returns
 returns c start here =
     placed start c.args.enc.now c.copied-answer.new.enc c.put.new.enc c.args.self.now.slots.items c.put.new.self.slots.items c.args.place _ c.copied-answer.result c.put.result here c.copied-answer.ensures.same_slots c.put.ensures.same_slots
     c.copied-answer.ensures.answer 8 (omega arith) c.copied-answer.ensures.full
-    c.put.ensures.frame c.put.ensures.here c.put.ensures.others c.put.ensures.long c.put.ensures.full c.put.ensures.sound
+    c.put.ensures.frame c.put.ensures.here c.put.ensures.others c.put.ensures.long c.put.ensures.full c.put.ensures.sound c.put.ensures.refused

@@ -2,7 +2,7 @@ use Rattle.std.proofs.Common.{arith, subst, ap, ◌≡◌}
 use Rattle.dd_nodes.specs.Subfunctions.{Function}
 use Rattle.dd_sets.specs.Frames.{OwnsAnswer}
 use Rattle.dd_sets.specs.LiveSets.{set_of}
-use Rattle.encode_task.proofs.OwnedLemmas.{answer_kept}
+use Rattle.dd_sets.proofs.OwnedLemmas.{answer_kept}
 use Rattle.slot_board.specs.Board.{led, set_at}
 use Rattle.slot_board.proofs.BoardSlots.{made_at, placed}
 use Rattle.slot_board.proofs.board.Board.lead.Goals as goal
@@ -26,4 +26,4 @@ returns c start here =
     ap (λ s. led c.args.outcomes start.task c.args.action.0 (set_of sets s)) c.at.ensures in
     placed start c.args.enc.now c.leading-answer.new.enc c.put.new.enc c.args.self.now.slots.items c.put.new.self.slots.items c.args.place _ c.leading-answer.result c.put.result here c.leading-answer.ensures.same_slots c.put.ensures.same_slots
     (subst (λ (f : Function). OwnsAnswer sets c.leading-answer.new.enc.sets f c.leading-answer.result) e (c.leading-answer.ensures.answer start.task made)) 8 (omega arith) c.leading-answer.ensures.full
-    c.put.ensures.frame c.put.ensures.here c.put.ensures.others c.put.ensures.long c.put.ensures.full c.put.ensures.sound
+    c.put.ensures.frame c.put.ensures.here c.put.ensures.others c.put.ensures.long c.put.ensures.full c.put.ensures.sound c.put.ensures.refused

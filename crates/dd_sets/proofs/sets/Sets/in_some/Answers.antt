@@ -1,0 +1,18 @@
+-- The answer takes the place of both slots.
+use Rattle.std.proofs.Common.{inr, Result, sym, subst}
+use Rattle.dd_ops.specs.Operations.{or_of}
+use Rattle.dd_sets.specs.Calls.{MakesOnly}
+use Rattle.dd_sets.specs.Frames.{piece_of}
+use Rattle.dd_sets.specs.declared.errors.SetErr.{SetErr}
+use Rattle.dd_sets.specs.declared.slots.SetId.{SetId}
+use Rattle.dd_sets.proofs.MadeLemmas.{makes_then}
+use Rattle.dd_sets.proofs.NoRoomLemmas.{no_room_two}
+use Rattle.dd_sets.proofs.sets.Sets.in_some.Goals as goal
+
+pub returns-in-Ok-clause-full : goal.returns-in-Ok-clause-full
+returns-in-Ok-clause-full c full = inr (no_room_two _ _ _ _ _ _ _ (c.join-joined.ensures.full full) c.join-joined.ensures.kept c.release.ensures.released c.release-in-Ok.ensures.released)
+
+pub returns-in-Ok-clause-made : goal.returns-in-Ok-clause-made
+returns-in-Ok-clause-made c =
+    subst (λ (answer : Result SetId SetErr). MakesOnly (piece_of or_of c.args.self.now c.args.a answer) c.args.self.now c.release-in-Ok.new.self) (sym c.in-Ok.is)
+    (makes_then _ _ _ _ (makes_then c.args.self.now c.join-joined.new.self c.release.new.self _ c.join-joined.ensures.made c.release.ensures.nodes) c.release-in-Ok.ensures.nodes)

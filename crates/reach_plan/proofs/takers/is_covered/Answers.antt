@@ -1,0 +1,67 @@
+-- What the pass found, and no slot of it stays.
+use Rattle.std.proofs.Common.{◌+◌, ◌≡◌, ◌∙◌, ◌<◌, arith, ap, length, sym, subst}
+use Rattle.std.specs.Prelude.{IsSome}
+use Rattle.dd_sets.specs.Rooms.{IsTightFor}
+use Rattle.encode_task.specs.Slots.{Encoded}
+use Rattle.slot_board.proofs.BoardSlots.{same_chain}
+use Rattle.reach_plan.proofs.PlanSteps.{decided_by, full_at, left_at, start_of}
+use Rattle.reach_plan.proofs.SearchSteps.{ends_at}
+use Rattle.reach_plan.proofs.takers.is_covered.Goals as goal
+
+pub search_back-covered-requires-clause-goal : goal.search_back-covered-requires-clause-goal
+search_back-covered-requires-clause-goal c = subst (λ (e : Encoded). IsSome e.goal) (sym c.new.ensures.same_slots) c.requires.goal
+
+pub search_back-covered-requires-clause-ready : goal.search_back-covered-requires-clause-ready
+search_back-covered-requires-clause-ready c =
+    let m = c.requires.made in
+    (start_of m.0 c.args.enc.now m.1 4 (c.args.actions + 12), c.in_ok-board.ensures.opened m.0 m.1 (c.args.actions + 12))
+
+pub search_back-covered-requires-clause-places : goal.search_back-covered-requires-clause-places
+search_back-covered-requires-clause-places c =
+    let m = c.requires.made in
+    let long : length c.in_ok-board.board.slots.items ≡ 4 = (c.in_ok-board.ensures.opened m.0 m.1 (c.args.actions + 12)).at.long in
+    omega arith
+
+pub search_back-covered-requires-clause-actions : goal.search_back-covered-requires-clause-actions
+search_back-covered-requires-clause-actions c = c.requires.actions ∙ sym (ap (λ (e : Encoded). length e.actions) c.new.ensures.same_slots)
+
+pub close-requires : goal.close-requires
+close-requires c =
+    let m = c.requires.made in
+    let start = start_of m.0 c.args.enc.now m.1 4 (c.args.actions + 12) in
+    let now = c.search_back-covered.new.enc in
+    let slots = c.search_back-covered.new.board.slots.items in (
+      c.args.enc.now.sets,
+      (ends_at start now slots _ c.search_back-covered.result (λ b left. left_at c.args.class start now slots 0 b left) (c.search_back-covered.ensures start (c.in_ok-board.ensures.opened m.0 m.1 (c.args.actions + 12)))).working,
+    )
+
+pub returns-clause-answer : goal.returns-clause-answer
+returns-clause-answer c task made =
+    let start = start_of task c.args.enc.now made 4 (c.args.actions + 12) in
+    decided_by c.args.class start c.search_back-covered.new.enc c.search_back-covered.new.board.slots.items 0 c.search_back-covered.result (c.search_back-covered.ensures start (c.in_ok-board.ensures.opened task made (c.args.actions + 12)))
+
+pub returns-clause-full : goal.returns-clause-full
+returns-clause-full c full =
+    let m = c.requires.made in
+    let start = start_of m.0 c.args.enc.now m.1 4 (c.args.actions + 12) in
+    subst (λ n. IsTightFor n c.args.enc.now.sets) (omega arith)
+    (full_at start c.search_back-covered.new.enc c.search_back-covered.new.board.slots.items _ c.search_back-covered.result (c.search_back-covered.ensures start (c.in_ok-board.ensures.opened m.0 m.1 (c.args.actions + 12))) full)
+
+pub returns-clause-slots : goal.returns-clause-slots
+returns-clause-slots c =
+    let m = c.requires.made in
+    let start = start_of m.0 c.args.enc.now m.1 4 (c.args.actions + 12) in
+    let now = c.search_back-covered.new.enc in
+    let slots = c.search_back-covered.new.board.slots.items in
+    c.close.ensures.frame c.args.enc.now.sets
+    (ends_at start now slots _ c.search_back-covered.result (λ b left. left_at c.args.class start now slots 0 b left) (c.search_back-covered.ensures start (c.in_ok-board.ensures.opened m.0 m.1 (c.args.actions + 12)))).working
+
+pub returns-clause-same_slots : goal.returns-clause-same_slots
+returns-clause-same_slots c =
+    let m = c.requires.made in
+    let start = start_of m.0 c.args.enc.now m.1 4 (c.args.actions + 12) in
+    let now = c.search_back-covered.new.enc in
+    let slots = c.search_back-covered.new.board.slots.items in
+    same_chain c.args.enc.now now c.close.new.enc
+    (ends_at start now slots _ c.search_back-covered.result (λ b left. left_at c.args.class start now slots 0 b left) (c.search_back-covered.ensures start (c.in_ok-board.ensures.opened m.0 m.1 (c.args.actions + 12)))).same
+    c.close.ensures.same_slots

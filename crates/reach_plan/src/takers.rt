@@ -1,0 +1,111 @@
+//! For each action the set in which it is taken.
+
+ghost use Rattle.std.specs.Prelude.{◌≡◌, ℕ, ◌+◌, [], IfOk, IsErrOf, IsSome, OnErr, length};
+ghost use Rattle.dd_sets.specs.Frames.{Owns};
+ghost use Rattle.dd_sets.specs.Rooms.{IsTightFor};
+ghost use Rattle.encode_task.specs.Made.{MadeOf};
+ghost use Rattle.preimage.specs.Preimages.{OfSomeTask};
+ghost use Rattle.slot_board.specs.Board.{Working};
+ghost use Rattle.task_core.specs.Tasks.{action_count, system_of};
+ghost use Rattle.task_core.specs.declared.tasks.Task.{Task as TaskOf};
+ghost use Rattle.plan_theory.specs.Classes.{IsFoundByLayers};
+ghost use Rattle.plan_theory.specs.Layers.{IsLastLayer};
+ghost use Rattle.reach_plan.specs.Takers.{AreFound, HoldTakers, IsDecided, slots_of};
+
+use crate::search::search_back;
+use dd_sets::SetErr;
+use encode_task::{Enc, made_is_kept};
+use plan_rules::Class;
+use slot_board::Board;
+use std::alloc::Global;
+use task_core::Task;
+
+/// What a search for the sets of a plan's actions found.
+#[derive(Drop)]
+pub enum Takers {
+    /// A slot for each action, in the order of their numbers, with the set in which it is taken.
+    Board(Board),
+    /// The task has no solution.
+    NoPlan,
+}
+
+/// Whether some layer holds every initial state.
+fn is_covered(alloc: Global, enc: &mut Enc, class: Class, actions: u32) -> Result<bool, SetErr>
+    requires class { IsFoundByLayers class }
+    requires goal { IsSome enc.old.goal }
+    requires made { OfSomeTask enc.old }
+    requires actions { actions ≡ length enc.old.actions }
+    ensures answer { (task : TaskOf) → MadeOf task enc.old → IfOk result (IsDecided class task) }
+    ensures full { IsErrOf result SetErr.Full → IsTightFor (actions + 24) enc.old.sets }
+    ensures slots { Owns enc.old.sets enc.new.sets [] }
+    ensures same_slots { enc.new ≡ record enc.old { sets = enc.new.sets } }
+{
+    let mut board = Board::new(alloc, enc, 4)?;
+    let covered = search_back(enc, &mut board, class, 0, actions);
+    board.close(enc);
+    covered
+}
+
+/// What each action takes, where some layer holds every initial state.
+fn take_all(alloc: Global, enc: &mut Enc, class: Class, actions: u32) -> Result<Board, SetErr>
+    requires class { IsFoundByLayers class }
+    requires goal { IsSome enc.old.goal }
+    requires last { (task : TaskOf) × MadeOf task enc.old
+        × (layers : ℕ) × IsLastLayer class (system_of task) layers }
+    requires actions { actions ≡ length enc.old.actions }
+    ensures answer { (task : TaskOf) → MadeOf task enc.old
+        → (layers : ℕ) → IsLastLayer class (system_of task) layers
+        → IfOk result (λ board. HoldTakers class task enc.new.sets board.slots.items) }
+    ensures full { IsErrOf result SetErr.Full → IsTightFor (actions + 24) enc.old.sets }
+    ensures slots { IfOk result (λ board. Working enc.old.sets enc.new.sets board.slots.items) }
+    ensures refused { OnErr result (Owns enc.old.sets enc.new.sets []) }
+    ensures same_slots { enc.new ≡ record enc.old { sets = enc.new.sets } }
+{
+    let takers = actions as usize;
+    let mut board = Board::new(alloc, enc, takers + 4)?;
+    match search_back(enc, &mut board, class, takers, actions) {
+        Ok(_) => {
+            board.cut(enc, takers);
+            Ok(board)
+        },
+        Err(refusal) => {
+            board.close(enc);
+            Err(refusal)
+        },
+    }
+}
+
+/// For each action the set in which the plan of a class takes it, weak or strong, in a slot; or that
+/// there is no plan: no state-action table is a solution. The slots are the caller's to end.
+///
+/// It goes back from the goal layer by layer, each with the states from which some action leads into
+/// the layer before as the class wants it, until a layer holds every initial state (Cimatti,
+/// Pistore, Roveri and Traverso 2003). Each state of a layer takes the least-numbered action that
+/// leads so into the layer before it; a state in which the goal holds takes none. What each action
+/// takes is found in a second pass, where there is a plan. At most as many slots as there are
+/// actions and 24 are live in between.
+pub fn find_takers(
+    alloc: Global,
+    task: &Task,
+    enc: &mut Enc,
+    class: Class,
+) -> Result<Takers, SetErr>
+    requires class { IsFoundByLayers class }
+    requires made { MadeOf task.now enc.old }
+    requires goal { IsSome task.now.goal }
+    ensures found { IfOk result (AreFound class task.now enc.new.sets) }
+    ensures full { IsErrOf result SetErr.Full
+        → IsTightFor (action_count task.now + 24) enc.old.sets }
+    ensures slots { IfOk result (λ found. Working enc.old.sets enc.new.sets (slots_of found)) }
+    ensures refused { OnErr result (Owns enc.old.sets enc.new.sets []) }
+    ensures same_slots { enc.new ≡ record enc.old { sets = enc.new.sets } }
+    ensures made { (task : TaskOf) → MadeOf task enc.old → MadeOf task enc.new }
+{
+    made_is_kept();
+    let actions = task.actions.len() as u32;
+    if !is_covered(alloc, enc, class, actions)? {
+        return Ok(Takers::NoPlan);
+    }
+    let board = take_all(alloc, enc, class, actions)?;
+    Ok(Takers::Board(board))
+}
