@@ -5,14 +5,14 @@ use Rattle.std.proofs.lemmas.List.{length-map}
 use Rattle.dd_nodes.specs.Subfunctions.{Function}
 use Rattle.dd_ops.specs.Operations.{minus_of}
 use Rattle.dd_sets.specs.LiveSets.{nothing, set_of}
-use Rattle.dd_sets.specs.Rooms.{IsTightFor}
+use Rattle.dd_sets.specs.Rooms.{AnySet, NoRoom}
 use Rattle.dd_sets.specs.declared.errors.SetErr.{SetErr}
 use Rattle.dd_sets.specs.declared.errors.SetErr.TheVariants.{Full}
 use Rattle.encode_task.specs.Made.{MadeOf}
 use Rattle.encode_task.specs.Slots.{Encoded}
 use Rattle.encode_task.specs.TaskSets.{initial_set}
 use Rattle.slot_board.specs.Board as board
-use Rattle.slot_board.specs.Board.{IsTightAt}
+use Rattle.slot_board.specs.Board.{HasNoRoom}
 use Rattle.slot_board.proofs.BoardSlots.{initial_is}
 use Rattle.cyclic_plan.proofs.PlanMade.{covers_is}
 use Rattle.plan_theory.specs.Chains.{Chained, context_count}
@@ -111,11 +111,11 @@ ends_found start x chain result is ends = subst (Ends start x chain) is ends
 pub ends_none : (start : Start) (x : Scene) (chain : Chained) (result : Result Bool SetErr) → result ≡ Ok false → Ends start x chain result → IsAt start x × HasNoContextPlan (system_of start.task) chain
 ends_none start x chain result is ends = subst (Ends start x chain) is ends
 
-pub ends_refusal : (start : Start) (x : Scene) (chain : Chained) (result : Result Bool SetErr) (e : SetErr) → result ≡ Err e → Ends start x chain result → IsAt start x × (e ≡ Full → IsTightAt (board_of start))
+pub ends_refusal : (start : Start) (x : Scene) (chain : Chained) (result : Result Bool SetErr) (e : SetErr) → result ≡ Err e → Ends start x chain result → IsAt start x × (e ≡ Full → HasNoRoom (board_of start) x.0)
 ends_refusal start x chain result e is ends = subst (Ends start x chain) is ends
 
-pub room_of : (start : Start) → IsTightAt (board_of start) → IsTightFor (action_count start.task * (start.stages + 3) + 8 * start.stages + 236) start.enc.sets
-room_of start tight = subst (λ more. IsTightFor more start.enc.sets) (room (action_count start.task) start.stages) tight
+pub room_of : (start : Start) (now : Encoded) → HasNoRoom (board_of start) now → NoRoom AnySet (action_count start.task * (start.stages + 3) + 8 * start.stages + 236) start.enc.sets now.sets
+room_of start now full = subst (λ most. NoRoom AnySet most start.enc.sets now.sets) (room (action_count start.task) start.stages) full
   where
     room : (a n : ℕ) → place_count a n + (a + 6 * n + 218) + 8 ≡ a * (n + 3) + 8 * n + 236
     room a n = omega arith
@@ -125,7 +125,7 @@ pub left_at : {T : Type 0} (start : Start) (x : Scene) (result : Result T SetErr
 left_at start x (Ok t) left = left
 left_at start x (Err e) left = left.0
 
-pub left_full : {T : Type 0} (start : Start) (x : Scene) (P : Type 0) (result : Result T SetErr) → Left start x P result → IsErrOf result Full → IsTightAt (board_of start)
+pub left_full : {T : Type 0} (start : Start) (x : Scene) (P : Type 0) (result : Result T SetErr) → Left start x P result → IsErrOf result Full → HasNoRoom (board_of start) x.0
 left_full start x P (Ok t) left full = absurd (let h : Ok t ≡ Err Full = full in cc)
 left_full start x P (Err e) left full = left.1 (let h : Err e ≡ Err Full = full in cc)
 

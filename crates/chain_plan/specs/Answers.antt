@@ -9,7 +9,7 @@ use Rattle.plan_rules.specs.Denoted.{denoted_contexts}
 use Rattle.plan_rules.specs.Plans.{IsAutomatonOf}
 use Rattle.plan_rules.specs.Rules.{context_rules_of}
 use Rattle.plan_rules.specs.declared.rules.AutoPlan.{AutoPlan}
-use Rattle.slot_board.specs.Board.{IsTightAt}
+use Rattle.slot_board.specs.Board.{HasNoRoom}
 use Rattle.task_core.specs.Tasks.{action_count, fluent_count, system_of}
 use Rattle.task_core.specs.declared.tasks.Task.{Task}
 use Rattle.chain_plan.specs.Scenes.{IsAt, Scene, Start, board_of}
@@ -33,4 +33,4 @@ IsAnswer task chain NoPlan = HasNoContextPlan (system_of task) chain
 abbrev pub Ends : Start → Scene → Chained → Result Bool SetErr → Type 0
 Ends start x chain (Ok true) = HasTable start x chain
 Ends start x chain (Ok false) = IsAt start x × HasNoContextPlan (system_of start.task) chain
-Ends start x chain (Err e) = IsAt start x × (e ≡ Full → IsTightAt (board_of start))
+Ends start x chain (Err e) = IsAt start x × (e ≡ Full → HasNoRoom (board_of start) x.0)

@@ -7,12 +7,12 @@ ghost use Rattle.plan_theory.specs.Chains.{Chained, HasChain};
 ghost use Rattle.plan_theory.specs.ChainPlans.{HasNoContextPlan};
 ghost use Rattle.plan_theory.specs.ChainPrinted.{chain_rules};
 ghost use Rattle.dd_sets.specs.Frames.{Owns};
-ghost use Rattle.dd_sets.specs.Rooms.{IsTightFor};
+ghost use Rattle.dd_sets.specs.Rooms.{AnySet, NoRoom};
 ghost use Rattle.encode_task.specs.Made.{MadeOf};
 ghost use Rattle.plan_rules.specs.Denoted.{denoted_contexts};
 ghost use Rattle.plan_rules.specs.Plans.{IsAutomatonOf};
 ghost use Rattle.plan_rules.specs.Rules.{context_rules_of};
-ghost use Rattle.slot_board.specs.Board.{IsTightAt};
+ghost use Rattle.slot_board.specs.Board.{HasNoRoom};
 ghost use Rattle.task_core.specs.ContextPlans.{Configuration, IsComplete, IsInitial};
 ghost use Rattle.task_core.specs.Tasks.{action_count, fluent_count, system_of};
 ghost use Rattle.task_core.specs.declared.tasks.Task.{Task as TaskOf};
@@ -98,9 +98,10 @@ fn search(enc: &mut Enc, board: &mut Board, actions: u32, chain: &Chain) -> Resu
 /// The time grows with the rounds, the stages and the actions, and not with the number of states.
 ///
 /// A chain has at most 32 stages, and each of its conditions names the task's fluents alone and is
-/// at most 200 deep. `Full` comes only where the table's limit is tight for three slots an action,
-/// one more for each action and stage, eight a stage and 236 more. Where no board is answered, all
-/// slots of the search are ended.
+/// at most 200 deep. `Full` comes only where the table holds as many nodes as it may, and its limit
+/// is tight with at most so many sets of the search's own: three for each action, one for each
+/// action and stage, eight for each stage and 236 more. Where no board is answered, all slots of the
+/// search are ended.
 pub fn chain_takers(
     alloc: Global,
     task: &Task,
@@ -114,9 +115,9 @@ pub fn chain_takers(
         (enc.new, board.slots.items) (chain_sets chain.now))) }
     ensures no_plan { IfOk result (λ found. IfNone found (HasNoContextPlan
         (system_of task.now) (chain_sets chain.now))) }
-    ensures full { IsErrOf result SetErr.Full → IsTightFor (action_count task.now
+    ensures full { IsErrOf result SetErr.Full → NoRoom AnySet (action_count task.now
         * (length chain.now.stages.items + 3) + 8 * length chain.now.stages.items + 236)
-        enc.old.sets }
+        enc.old.sets enc.new.sets }
     ensures closed { IfOk result (λ found. IfNone found (Owns enc.old.sets enc.new.sets [])) }
     ensures refused { OnErr result (Owns enc.old.sets enc.new.sets []) }
     ensures same_slots { enc.new ≡ record enc.old { sets = enc.new.sets } }
@@ -181,7 +182,7 @@ fn close_as_plan(
         → IfOk result (IsPlanOf start.task chain) }
     ensures full { (start : Start) (chain : Chained) → start.stages ≡ stages
         → HasTable start (enc.old, board.slots.items) chain
-        → IsErrOf result SetErr.Full → IsTightAt (board_of start) }
+        → IsErrOf result SetErr.Full → HasNoRoom (board_of start) enc.new }
     ensures slots { (start : Start) (chain : Chained) → start.stages ≡ stages
         → HasTable start (enc.old, board.slots.items) chain
         → Owns start.enc.sets enc.new.sets [] }
@@ -200,9 +201,9 @@ fn find_plan(alloc: Global, task: &Task, enc: &mut Enc, chain: &Chain) -> Result
     requires made { MadeOf task.now enc.old }
     requires chain { IsChainOver (fluent_count task.now) chain.now }
     ensures answer { IfOk result (IsAnswer task.now (chain_sets chain.now)) }
-    ensures full { IsErrOf result SetErr.Full → IsTightFor (action_count task.now
+    ensures full { IsErrOf result SetErr.Full → NoRoom AnySet (action_count task.now
         * (length chain.now.stages.items + 3) + 8 * length chain.now.stages.items + 236)
-        enc.old.sets }
+        enc.old.sets enc.new.sets }
     ensures slots { Owns enc.old.sets enc.new.sets [] }
     ensures same_slots { enc.new ≡ record enc.old { sets = enc.new.sets } }
 {
@@ -244,9 +245,9 @@ pub fn plan_chain(
         → HasChain sys (denoted_contexts (context_rules_of plan)) (chain_sets chain.now) x)) }
     ensures no_plan { IfOk result (λ found. IfNoPlan found (HasNoContextPlan
         (system_of task.now) (chain_sets chain.now))) }
-    ensures full { IsErrOf result SetErr.Full → IsTightFor (action_count task.now
+    ensures full { IsErrOf result SetErr.Full → NoRoom AnySet (action_count task.now
         * (length chain.now.stages.items + 3) + 8 * length chain.now.stages.items + 236)
-        enc.old.sets }
+        enc.old.sets enc.new.sets }
     ensures slots { Owns enc.old.sets enc.new.sets [] }
     ensures same_slots { enc.new ≡ record enc.old { sets = enc.new.sets } }
     ensures made { (task : TaskOf) → MadeOf task enc.old → MadeOf task enc.new }

@@ -26,9 +26,10 @@ use Rattle.task_core.specs.Cubes.{SetOfVectors}
 use Rattle.cyclic_plan.specs.Answers.{Ends, IsAnswer, IsPlanOf}
 use Rattle.cyclic_plan.specs.Stages.{HasNear, kept_system, takers_within}
 use Rattle.cyclic_plan.specs.Takers.{HasTable, start_of}
-use Rattle.dd_sets.specs.Rooms.{IsTightFor}
+use Rattle.dd_sets.specs.LiveSets.{LiveSets}
+use Rattle.dd_sets.specs.Rooms.{AnySet, NoRoom}
 use Rattle.slot_board.specs.Board as board
-use Rattle.slot_board.specs.Board.{At, IsTightAt, Left, Start}
+use Rattle.slot_board.specs.Board.{At, HasNoRoom, Left, Start}
 use Rattle.cyclic_plan.specs.Stages.{HasNothing, place_count}
 use Rattle.plan_theory.specs.LargestSets.{covers, goal_or_pair}
 use Rattle.plan_theory.specs.Pairs.{restricted}
@@ -102,11 +103,11 @@ ends_found start now slots result is ends = subst (Ends start now slots) is ends
 pub ends_none : (start : Start) (now : Encoded) (slots : List SetId) (result : Result Bool SetErr) → result ≡ Ok false → Ends start now slots result → At start now slots × HasNoSolution Cyclic (system_of start.task)
 ends_none start now slots result is ends = subst (Ends start now slots) is ends
 
-pub ends_refusal : (start : Start) (now : Encoded) (slots : List SetId) (result : Result Bool SetErr) (e : SetErr) → result ≡ Err e → Ends start now slots result → At start now slots × (e ≡ Full → IsTightAt start)
+pub ends_refusal : (start : Start) (now : Encoded) (slots : List SetId) (result : Result Bool SetErr) (e : SetErr) → result ≡ Err e → Ends start now slots result → At start now slots × (e ≡ Full → HasNoRoom start now)
 ends_refusal start now slots result e is ends = subst (Ends start now slots) is ends
 
-pub room_of : (task : Task) (enc : Encoded) (made : MadeOf task enc) → IsTightAt (start_of task enc made) → IsTightFor (3 * action_count task + 32) enc.sets
-room_of task enc made tight = subst (λ more. IsTightFor more enc.sets) (omega arith) tight
+pub room_of : (task : Task) (enc : Encoded) (after : LiveSets) → NoRoom AnySet (place_count (action_count task) + (action_count task + 17) + 8) enc.sets after → NoRoom AnySet (3 * action_count task + 32) enc.sets after
+room_of task enc after full = subst (λ most. NoRoom AnySet most enc.sets after) (omega arith) full
 
 -- what is said of a value that is there
 pub some_has : {T : Type 0} (o : Option T) (P : T → Type 0) (x : T) → o ≡ Some x → IfSome o P → P x

@@ -16,7 +16,7 @@ use Rattle.dd_sets.specs.declared.errors.SetErr.{SetErr}
 use Rattle.dd_sets.specs.declared.errors.SetErr.TheVariants.{Full}
 use Rattle.dd_sets.specs.declared.slots.SetId.{SetId}
 use Rattle.encode_task.specs.Slots.{Encoded}
-use Rattle.slot_board.specs.Board.{At, IsTightAt, Start}
+use Rattle.slot_board.specs.Board.{At, HasNoRoom, Start}
 use Rattle.plan_theory.specs.LargestSets.{IsLargestSet}
 use Rattle.plan_theory.specs.Pairs.{Pairs}
 use Rattle.plan_theory.specs.CyclicPlans.{cyclic_rules}
@@ -45,4 +45,4 @@ abbrev pub Ends : Start → Encoded → List SetId → Result Bool SetErr → Ty
 Ends start now slots (Ok true) = HasTable start now slots
 Ends start now slots (Ok false) =
     At start now slots × HasNoSolution Cyclic (system_of start.task)
-Ends start now slots (Err e) = At start now slots × (e ≡ Full → IsTightAt start)
+Ends start now slots (Err e) = At start now slots × (e ≡ Full → HasNoRoom start now)

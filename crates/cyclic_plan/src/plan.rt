@@ -4,7 +4,7 @@ ghost use Rattle.std.specs.Prelude.{◌≡◌, ℕ, ◌+◌, ◌*◌, ◌<◌, �
 ghost use Rattle.std.specs.Prelude.{IsSome, IfErr, IfNone, IfOk, IfSome, OnErr, OnOk, IsErrOf};
 ghost use Rattle.std.specs.List.{list_all};
 ghost use Rattle.dd_sets.specs.Frames.{Owns};
-ghost use Rattle.dd_sets.specs.Rooms.{IsTightFor};
+ghost use Rattle.dd_sets.specs.Rooms.{AnySet, NoRoom};
 ghost use Rattle.encode_task.specs.Made.{MadeOf};
 ghost use Rattle.task_core.specs.Cubes.{Cube, SetOfVectors};
 ghost use Rattle.task_core.specs.Solutions.{HasNoSolution, IsSolution};
@@ -133,9 +133,9 @@ fn search(enc: &mut Enc, board: &mut Board, goal: SetId, actions: u32) -> Result
 /// pairs that makes a step towards the goal. The time grows with the rounds, their steps and the
 /// actions, and not with the number of states.
 ///
-/// `takers_of` tells the place of an action's states. `Full` comes only where the table's limit is
-/// tight for three slots an action and 32 more. Where no board is answered, all slots of the search
-/// are ended.
+/// `takers_of` tells the place of an action's states. `Full` comes only where the table holds as many
+/// nodes as it may, and its limit is tight with at most three sets of the search's own for each
+/// action and 32 more. Where no board is answered, all slots of the search are ended.
 pub fn cyclic_takers(alloc: Global, task: &Task, enc: &mut Enc) -> Result<Option<Board>, SetErr>
     requires made { MadeOf task.now enc.old }
     requires goal { IsSome task.now.goal }
@@ -144,7 +144,7 @@ pub fn cyclic_takers(alloc: Global, task: &Task, enc: &mut Enc) -> Result<Option
     ensures no_plan { IfOk result
         (λ found. IfNone found (HasNoSolution Cyclic (system_of task.now))) }
     ensures full { IsErrOf result SetErr.Full
-        → IsTightFor (3 * action_count task.now + 32) enc.old.sets }
+        → NoRoom AnySet (3 * action_count task.now + 32) enc.old.sets enc.new.sets }
     ensures closed { IfOk result (λ found. IfNone found (Owns enc.old.sets enc.new.sets [])) }
     ensures refused { OnErr result (Owns enc.old.sets enc.new.sets []) }
     ensures same_slots { enc.new ≡ record enc.old { sets = enc.new.sets } }
@@ -199,7 +199,7 @@ fn find_plan(alloc: Global, task: &Task, enc: &mut Enc) -> Result<Found, SetErr>
     requires goal { IsSome task.now.goal }
     ensures answer { IfOk result (IsAnswer task.now) }
     ensures full { IsErrOf result SetErr.Full
-        → IsTightFor (3 * action_count task.now + 32) enc.old.sets }
+        → NoRoom AnySet (3 * action_count task.now + 32) enc.old.sets enc.new.sets }
     ensures slots { Owns enc.old.sets enc.new.sets [] }
     ensures same_slots { enc.new ≡ record enc.old { sets = enc.new.sets } }
 {
@@ -217,8 +217,7 @@ fn find_plan(alloc: Global, task: &Task, enc: &mut Enc) -> Result<Found, SetErr>
 /// actions for a state, is a strong cyclic solution.
 ///
 /// Its rules are the cubes of the sets that `cyclic_takers` finds, the actions in rising number.
-/// `Full` comes only where the table's limit is tight for three slots an action and 32 more. All
-/// slots of the search are ended on every exit.
+/// Of `Full` the same holds as there. All slots of the search are ended on every exit.
 pub fn plan_cyclic(alloc: Global, task: &Task, enc: &mut Enc) -> Result<Found, SetErr>
     requires made { MadeOf task.now enc.old }
     requires goal { IsSome task.now.goal }
@@ -239,7 +238,7 @@ pub fn plan_cyclic(alloc: Global, task: &Task, enc: &mut Enc) -> Result<Found, S
     ensures no_plan { IfOk result
         (λ found. IfNoPlan found (HasNoSolution Cyclic (system_of task.now))) }
     ensures full { IsErrOf result SetErr.Full
-        → IsTightFor (3 * action_count task.now + 32) enc.old.sets }
+        → NoRoom AnySet (3 * action_count task.now + 32) enc.old.sets enc.new.sets }
     ensures slots { Owns enc.old.sets enc.new.sets [] }
     ensures same_slots { enc.new ≡ record enc.old { sets = enc.new.sets } }
     ensures made { (task : TaskOf) → MadeOf task enc.old → MadeOf task enc.new }

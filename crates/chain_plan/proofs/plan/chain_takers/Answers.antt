@@ -79,7 +79,7 @@ returns-in-Err-clause-full c full =
     let first = first_places c.args.task.now c.args.enc.now c.new.new.enc c.requires.made (length c.args.chain.now.stages.items) c.places.result _ _ (c.places.ensures ∙ ap (λ k. place_count k c.len.result) (let e : c.len-actions.result ≡ action_count c.args.task.now = omega (arith, c.len-actions.ensures) in e) ∙ ap (place_count (action_count c.args.task.now)) (let e : c.len.result ≡ length c.args.chain.now.stages.items = omega (arith, c.len.ensures) in e)) refl (c.in_ok-board.ensures.opened c.args.task.now c.requires.made (action_count c.args.task.now + 6 * length c.args.chain.now.stages.items + 218)) in
     let ends = c.search.ensures start refl first in
     let left = ends_refusal start (c.search.new.enc, c.search.new.board.slots.items) (chain_sets c.args.chain.now) c.search.result _ c.in-Err.is ends in
-    room_of start (left.1 (let e = full in cc))
+    room_of start c.close-in-Err.new.enc (c.close-in-Err.ensures.room c.args.enc.now.sets _ (left.1 (let e = full in cc)))
 
 pub returns-in-Err-clause-refused : goal.returns-in-Err-clause-refused
 returns-in-Err-clause-refused c =

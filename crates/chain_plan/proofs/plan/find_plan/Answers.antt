@@ -53,4 +53,4 @@ returns-in_err-plan-in-Some-clause-full c full =
     let table = some_has _ _ c.in-Some.board c.in-Some.is (c.in_ok-board.ensures.table c.requires.made) in
     let n : length c.args.chain.now.stages.items ≡ c.len-stages.result = omega (arith, c.len-stages.ensures) in
     let p = err_from_is_err_and c.from_residual-in_err-plan-in-Some.result c.from_residual-in_err-plan-in-Some.ensures.1 in
-    room_of start (c.close_as_plan.ensures.full start (chain_sets c.args.chain.now) n table (let a = c.in_err-plan-in-Some.was in let b = p.1 in let d = p.2 in let f = full in cc))
+    room_of start c.close_as_plan.new.enc (c.close_as_plan.ensures.full start (chain_sets c.args.chain.now) n table (let a = c.in_err-plan-in-Some.was in let b = p.1 in let d = p.2 in let f = full in cc))

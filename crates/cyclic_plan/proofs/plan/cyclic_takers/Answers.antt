@@ -59,7 +59,7 @@ returns-in-Err-clause-full c full =
     let start = start_of c.args.task.now c.args.enc.now c.requires.made in
     let ends = c.search.ensures start (first_places c.args.task.now c.args.enc.now c.new.new.enc c.requires.made c.places.result _ (omega (arith, c.places.ensures)) (c.in_ok-board.ensures.opened c.args.task.now c.requires.made (action_count c.args.task.now + 17))) in
     let left = ends_refusal start c.search.new.enc c.search.new.board.slots.items c.search.result _ c.in-Err.is ends in
-    room_of c.args.task.now c.args.enc.now c.requires.made (left.1 (let e = full in cc))
+    room_of c.args.task.now c.args.enc.now c.close-in-Err.new.enc.sets (c.close-in-Err.ensures.room c.args.enc.now.sets _ (left.1 (let e = full in cc)))
 
 pub returns-in-Err-clause-refused : goal.returns-in-Err-clause-refused
 returns-in-Err-clause-refused c =
