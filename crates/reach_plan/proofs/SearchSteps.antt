@@ -1,33 +1,30 @@
 -- One step of the search: what it leaves on the board.
-use Rattle.std.proofs.Common.{◌≡◌, ◌≢◌, ℕ, zero, suc, ◌+◌, ◌<◌, ◌≤◌, ◌==◌, Bool, true, false, ◌||◌, List, [], ◌∷◌, ◌++◌, length, nat_lt, Option, Some, None, Result, Ok, Err, refl, sym, ap, subst, ◌∙◌, ⊎_elim, arith}
+use Rattle.std.proofs.Common.{◌≡◌, ◌≢◌, ℕ, suc, ◌+◌, ◌<◌, ◌≤◌, ◌==◌, Bool, true, false, ◌||◌, List, [], ◌∷◌, length, nat_lt, Option, Some, None, Result, Ok, Err, refl, sym, ap, subst, ◌∙◌, ⊎_elim, arith}
 use Rattle.std.specs.List.{list_all, list_any, range_with_len}
 use Rattle.std.proofs.Math.Path.{fun_ext}
 use Rattle.std.proofs.lemmas.Bool.{cases_eq, cases_lt, cond-false, cond-true, eq-eqb, lt-ltb, ltb-true, ne_eqb, false_from_ne_true}
 use Rattle.std.proofs.lemmas.List.Folds.{list_any-append}
 use Rattle.dd_nodes.specs.Subfunctions.{DependsOnly, Function}
 use Rattle.dd_ops.specs.Operations.{minus_of, or_of}
-use Rattle.dd_sets.specs.LiveSets.{IsLive, LiveSets, nothing, set_of}
+use Rattle.dd_sets.specs.LiveSets.{IsLive, nothing, set_of}
 use Rattle.dd_sets.specs.declared.errors.SetErr.{SetErr}
 use Rattle.dd_sets.specs.declared.slots.SetId.{SetId}
 use Rattle.encode_task.specs.Made.{Holds, HoldsGoal, MadeOf}
 use Rattle.encode_task.specs.Slots.{Encoded}
 use Rattle.preimage.specs.Laws.{StrongLeadsToAll, WeakLeadsToSome}
-use Rattle.slot_board.specs.Board.{At, Ends, HasNothing, Left, Moved, Start, Stayed, set_at}
+use Rattle.slot_board.specs.Board.{At, Ends, HasNothing, Moved, Start, Stayed, set_at}
 use Rattle.slot_board.proofs.BoardSlots.{depends, made_at}
 use Rattle.task_core.specs.Conditions.{holds}
-use Rattle.task_core.specs.Systems.{IsState}
 use Rattle.task_core.specs.Tasks.{action_count, fluent_count, initial_states, system_of}
-use Rattle.task_core.specs.Vectors.{Vector, all_vectors, value_of}
+use Rattle.task_core.specs.Vectors.{all_vectors, value_of}
 use Rattle.task_core.specs.declared.classes.Class.{Class}
 use Rattle.task_core.specs.declared.conditions.Cond.{Cond}
 use Rattle.task_core.specs.declared.tasks.Task.{Task}
 use Rattle.task_core.proofs.TaskSystem.{is_system}
 use Rattle.plan_theory.specs.Classes.{IsFoundByLayers}
 use Rattle.plan_theory.specs.Layers.{covers, layer}
-use Rattle.reach_plan.specs.LayerSets.{AreTakers, IsLayerSet, IsRound, class_preimage, grown, taken_by}
-use Rattle.reach_plan.specs.Searches.{FoundLast, FoundNone, HasGrown, HasHits, HasLayer, HasNext, HasRound, IsCovered, IsMore, IsStill, RoundLeft, SearchLeft, with_set}
-use Rattle.reach_plan.specs.declared.search.Round.{Round}
-use Rattle.reach_plan.specs.declared.search.Round.TheVariants.{Covered, Stable, More}
+use Rattle.reach_plan.specs.LayerSets.{AreTakers, IsRound, class_preimage, grown, taken_by}
+use Rattle.reach_plan.specs.Searches.{FoundLast, FoundNone, HasGrown, HasHits, HasLayer, HasNext, HasRound, IsCovered, IsMore, IsStill, with_set}
 use Rattle.plan_theory.proofs.LeastBounds.{none_once_stable}
 use Rattle.plan_theory.proofs.Ranges.{range-more}
 use Rattle.reach_plan.proofs.SetLayers.{fewer_next, goal_set, missed, next_layer_set, next_takers, none_take, stable_same}

@@ -77,11 +77,11 @@ fn take_all(alloc: Global, enc: &mut Enc, class: Class, actions: u32) -> Result<
     }
 }
 
-/// For each action the set in which the plan of a class takes it, weak or strong, in a slot; or that
-/// there is no plan: no state-action table is a solution. The slots are the caller's to end.
+/// For each action the set in which the plan of a class takes it, weak or strong, in a slot; or
+/// that there is no plan: no state-action table is a solution. The slots are the caller's to end.
 ///
-/// It goes back from the goal layer by layer, each with the states from which some action leads into
-/// the layer before as the class wants it, until a layer holds every initial state (Cimatti,
+/// It goes back from the goal layer by layer, each with the states from which some action leads
+/// into the layer before as the class wants it, until a layer holds every initial state (Cimatti,
 /// Pistore, Roveri and Traverso 2003). Each state of a layer takes the least-numbered action that
 /// leads so into the layer before it; a state in which the goal holds takes none. What each action
 /// takes is found in a second pass, where there is a plan. At most as many slots as there are

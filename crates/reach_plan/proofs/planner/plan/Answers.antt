@@ -1,8 +1,6 @@
 -- What the rules do, and what is left.
-use Rattle.std.proofs.Common.{◌≡◌, ◌∙◌, ◌+◌, ℕ, List, [], arith, ap, map, length, sym, subst}
+use Rattle.std.proofs.Common.{◌∙◌, ap, subst}
 use Rattle.std.specs.List.{flat_map, range_with_len}
-use Rattle.dd_sets.specs.LiveSets.{LiveSets}
-use Rattle.plan_rules.specs.Rules.{rule_of}
 use Rattle.preimage.proofs.FrameSteps.{made_now}
 use Rattle.slot_board.specs.Board.{Working}
 use Rattle.slot_board.proofs.BoardSlots.{same_chain, working_owns}

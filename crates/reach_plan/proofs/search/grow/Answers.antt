@@ -1,5 +1,5 @@
 -- A copy of the layer first, then each action.
-use Rattle.std.proofs.Common.{◌≡◌, ◌+◌, arith, length, subst}
+use Rattle.std.proofs.Common.{◌≡◌, arith, length, subst}
 use Rattle.std.proofs.lemmas.Result.{err_from_is_err_and}
 use Rattle.slot_board.proofs.BoardSlots.{passed, same_actions, went}
 use Rattle.reach_plan.specs.Searches.{HasGrown}

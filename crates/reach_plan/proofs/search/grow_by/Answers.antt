@@ -1,5 +1,5 @@
 -- Where the action leads into the layer, what it takes, and the next layer with that.
-use Rattle.std.proofs.Common.{◌≡◌, ◌+◌, ℕ, arith, length, ap}
+use Rattle.std.proofs.Common.{◌≡◌, ℕ, arith, length, ap}
 use Rattle.std.proofs.lemmas.Result.{err_from_is_err_and}
 use Rattle.dd_nodes.specs.Subfunctions.{Function}
 use Rattle.slot_board.specs.Board.{led}

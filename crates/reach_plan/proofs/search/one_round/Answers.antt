@@ -1,5 +1,5 @@
 -- The test, the next layer, and whether it is the same set.
-use Rattle.std.proofs.Common.{◌≡◌, ◌∙◌, ◌+◌, ℕ, suc, arith, length, sym}
+use Rattle.std.proofs.Common.{◌≡◌, ◌∙◌, arith, length, sym}
 use Rattle.std.proofs.lemmas.Bool.{both_ways}
 use Rattle.std.proofs.lemmas.Result.{err_from_is_err_and}
 use Rattle.slot_board.proofs.BoardSlots.{made_at, same_actions, went}

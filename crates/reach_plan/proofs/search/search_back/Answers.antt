@@ -1,8 +1,8 @@
 -- The goal first, then round by round.
-use Rattle.std.proofs.Common.{◌≡◌, ◌∙◌, ◌+◌, ℕ, suc, arith, length, sym, subst}
+use Rattle.std.proofs.Common.{◌≡◌, ◌∙◌, suc, arith, length, sym, subst}
 use Rattle.std.proofs.lemmas.Result.{err_from_is_err_and}
 use Rattle.slot_board.specs.Board.{set_at}
-use Rattle.slot_board.proofs.BoardSlots.{passed, same_actions, went}
+use Rattle.slot_board.proofs.BoardSlots.{same_actions, went}
 use Rattle.reach_plan.specs.Searches.{RoundLeft}
 use Rattle.reach_plan.specs.declared.search.Round.{Round}
 use Rattle.reach_plan.proofs.SearchSteps.{fewer_after, first_round, found_last, found_none, goal_live, passed_on}

@@ -1,8 +1,8 @@
 -- What is new first, then the place with it.
-use Rattle.std.proofs.Common.{◌≡◌, ◌+◌, ◌≤◌, arith, length}
+use Rattle.std.proofs.Common.{◌≡◌, arith, length}
 use Rattle.std.proofs.lemmas.Result.{err_from_is_err_and}
 use Rattle.slot_board.proofs.BoardSlots.{left_with, passed, went}
-use Rattle.reach_plan.proofs.SearchSteps.{take_none, take_one}
+use Rattle.reach_plan.proofs.SearchSteps.{take_one}
 use Rattle.reach_plan.proofs.search.take.Goals as goal
 
 pub combine-requires-clause-working : goal.combine-requires-clause-working

@@ -1,5 +1,5 @@
 -- The first pass, then the second one.
-use Rattle.std.proofs.Common.{◌+◌, ◌≡◌, ◌∙◌, Bool, Err, arith, ap, length, sym, subst}
+use Rattle.std.proofs.Common.{◌+◌, ◌≡◌, ◌∙◌, Err, arith, ap, length, sym, subst}
 use Rattle.std.specs.Prelude.{IsSome}
 use Rattle.std.proofs.lemmas.Result.{err_from_is_err_and}
 use Rattle.dd_sets.specs.Rooms.{AnySet, NoRoom}

@@ -1,5 +1,5 @@
 -- What the pass found, and no slot of it stays.
-use Rattle.std.proofs.Common.{◌+◌, ◌≡◌, ◌∙◌, ◌<◌, arith, ap, length, sym, subst}
+use Rattle.std.proofs.Common.{◌+◌, ◌≡◌, ◌∙◌, arith, ap, length, sym, subst}
 use Rattle.std.specs.Prelude.{IsSome}
 use Rattle.dd_sets.specs.Rooms.{AnySet, NoRoom}
 use Rattle.encode_task.specs.Slots.{Encoded}

@@ -1,11 +1,10 @@
 -- What the pass found, and the slots of the actions stay.
-use Rattle.std.proofs.Common.{◌+◌, ◌≡◌, ◌∙◌, ◌<◌, Err, arith, ap, length, sym, subst}
+use Rattle.std.proofs.Common.{◌+◌, ◌≡◌, ◌∙◌, Err, arith, ap, length, sym, subst}
 use Rattle.std.specs.Prelude.{IsSome}
 use Rattle.dd_sets.specs.Rooms.{AnySet, NoRoom}
 use Rattle.dd_sets.specs.declared.errors.SetErr.TheVariants.{Full}
 use Rattle.encode_task.specs.Slots.{Encoded}
-use Rattle.slot_board.proofs.BoardSlots.{made_at, same_chain}
-use Rattle.task_core.specs.Tasks.{action_count}
+use Rattle.slot_board.proofs.BoardSlots.{same_chain}
 use Rattle.reach_plan.proofs.PlanSteps.{left_at, search_last, start_of, takers_held}
 use Rattle.reach_plan.proofs.takers.take_all.Goals as goal
 
