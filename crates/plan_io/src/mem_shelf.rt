@@ -13,6 +13,8 @@ ghost use Rattle.std.specs.Prelude.{
   OnOk,
   OnErr,
   IsErrOf,
+  None,
+  string_bytes,
   vec_len,
 };
 ghost use Rattle.std.specs.FinMap as finite;
@@ -26,6 +28,7 @@ ghost use Rattle.plan_io.specs.MemShelf.{
   files_of,
   FetchFails,
   IsFetched,
+  IsLast,
   counted,
   struck,
 };
@@ -37,15 +40,19 @@ use std::collections::BTreeMap;
 use std::marker::Model;
 
 /// Files in memory, each under a name. Contracts see it as a `MemShelfState`: the files, how many
-/// fetches were made, the numbers of those that fail, and how many failed by their number.
+/// fetches were made, the numbers of those that fail, how many failed by their number, and the name
+/// that was fetched last.
 #[derive(Drop)]
 pub struct MemShelf {
     stored: BTreeMap<String, Vec<u8>>,
     schedule: Schedule,
+    last: Option<String>,
 }
 
 impl Model for MemShelf {
     ghost use Rattle.plan_io.specs.MemShelf.{MemShelfState, state_code, files_of};
+    ghost use Rattle.std.specs.Option.{option_map};
+    ghost use Rattle.std.specs.Prelude.{string_bytes};
 
     ghost Value = { MemShelfState };
 
@@ -56,17 +63,25 @@ impl Model for MemShelf {
       calls = s.schedule.calls;
       failing = s.schedule.failing.items;
       faults = s.schedule.faults;
+      last = option_map string_bytes s.last;
     } };
 }
 
 impl MemShelf {
     /// A shelf that holds no file and fails at no fetch.
     pub fn new(alloc: Global) -> MemShelf
-        ensures { result ≡ record { files = finite.empty; calls = 0; failing = []; faults = 0 } }
+        ensures { result ≡ record {
+          files = finite.empty;
+          calls = 0;
+          failing = [];
+          faults = 0;
+          last = None;
+        } }
     {
         MemShelf {
             stored: BTreeMap::new(alloc),
             schedule: Schedule::new(alloc),
+            last: None,
         }
     }
 
@@ -102,7 +117,7 @@ impl Shelf for MemShelf {
 
     ghost faults = { λ s. s.faults };
 
-    ghost fetched = { λ before _ after. IsFetched before after };
+    ghost fetched = { IsFetched };
 
     /// Fails exactly at the numbers that were given and for a name that isn't held.
     fn fetch(&mut self, alloc: Global, name: &str, limit: usize) -> Result<Vec<u8>, FetchErr>
@@ -120,7 +135,7 @@ impl Shelf for MemShelf {
             ⊎ (IsErrOf result FetchErr.TooLong ⊎ IsErrOf result FetchErr.Memory) }
         ensures given { OnOk result (self.new.faults ≡ self.old.faults) }
         ensures measured { IsErrOf result FetchErr.TooLong → self.new.faults ≡ self.old.faults }
-        ensures fetch { IsFetched self.old self.new }
+        ensures fetch { IsFetched self.old name.now self.new }
         ensures kept { (file : List ℕ) → held_in self.new file ≡ held_in self.old file }
         ensures later { self.old.faults ≤ self.new.faults }
 
@@ -130,15 +145,27 @@ impl Shelf for MemShelf {
         ensures too_long_exactly { IsErrOf result FetchErr.TooLong
             ↔ ((¬ FetchFails self.old) × Exceeds limit (held_in self.old name.now)) }
 
-        // What a fetch changes: the counts alone.
-        ensures struck { FetchFails self.old → self.new ≡ struck self.old }
-        ensures counted { (¬ FetchFails self.old) → self.new ≡ counted self.old }
+        // What a fetch changes: the counts alone, and the name that is kept of it.
+        ensures struck { FetchFails self.old → self.new ≡ struck self.old self.new.last }
+        ensures counted { (¬ FetchFails self.old) → self.new ≡ counted self.old self.new.last }
+        ensures named { IsLast name.now self.new.last }
     {
+        self.last = kept_name(alloc, name);
         if self.schedule.begin() {
             self.schedule.raise();
             return Err(FetchErr::Failed);
         }
         copy_of(&self.stored, alloc, name, limit)
+    }
+}
+
+/// The name, where there is memory for it.
+fn kept_name(alloc: Global, name: &str) -> Option<String>
+    ensures { IsLast name.now (option_map string_bytes result) }
+{
+    match String::from_str(alloc, name) {
+        Ok(kept) => Some(kept),
+        Err(AllocError) => None,
     }
 }
 
