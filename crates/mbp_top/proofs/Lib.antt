@@ -1,6 +1,7 @@
 pub mod Deciding
 pub mod PddlDecides
 pub mod PlanDecides
+pub mod Meetings
 pub mod OneCyclicPlan
 pub mod GroundDecides
 pub mod CheckDecides

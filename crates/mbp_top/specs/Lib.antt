@@ -6,6 +6,7 @@ pub mod Grounding
 pub mod GroundCommand
 pub mod Enough
 pub mod TemporalGoals
+pub mod Meets
 pub mod ChainGoals
 pub mod PlanCommand
 pub mod PlanFiles

@@ -7,7 +7,6 @@ ghost use Rattle.mbp_top.specs.CheckCommand.{
   HasBound,
   HasTooManyStates,
   IsFirstAgainst,
-  IsMet,
   most_followed,
   verdict_answer,
 };
@@ -25,6 +24,7 @@ ghost use Rattle.mbp_top.specs.PlanCommand.{
   stages_for,
 };
 ghost use Rattle.mbp_top.specs.Grounding.{has_goal_for};
+ghost use Rattle.mbp_top.specs.Meets.{PlanMeets};
 ghost use Rattle.mbp_top.specs.PddlTexts.{HoldBoth};
 ghost use Rattle.mbp_top.specs.PlanFiles.{HoldsPlan, is_of_kind};
 ghost use Rattle.mbp_top.specs.ReplayCommand.{
@@ -192,8 +192,8 @@ pub fn run<S: Shelf, O: Sink, E: Sink>(
         (seen (E.written err.old) (E.faults err.old))
         (seen (E.written err.new) (E.faults err.new)) }
 
-    // `plan`, status 0: the text that was written spells a plan that solves the problem that the
-    // two files spell: a table that is a solution of the class, or a plan with contexts that is
+    // `plan`, status 0: the text that was written spells a plan whose meaning meets the problem that
+    // the two files spell: a table that is a solution of the class, or a plan with contexts that is
     // complete and has the goal in computation tree logic at each initial configuration.
     ensures plan_solves { (asked : PlanWords) → SaysPlan (map string_bytes words.now) asked
         → result ≡ 0
@@ -202,8 +202,8 @@ pub fn run<S: Shelf, O: Sink, E: Sink>(
         × IsGoodText asked.kind domain problem text
         × (O.written out.new ≡ append_known (O.written out.old) text) }
 
-    // And no solution of its class is shorter; of strong cyclic plans, and of plans with contexts,
-    // nothing is said here.
+    // And it is as short as any: a weak one as any table, a strong one as any strong solution; of
+    // strong cyclic plans, and of plans with contexts, nothing is said here.
     ensures plan_shortest { (asked : PlanWords) → SaysPlan (map string_bytes words.now) asked
         → result ≡ 0
         → (domain : DomainTree) × (problem : ProblemTree) × (text : Bytes)
@@ -219,8 +219,8 @@ pub fn run<S: Shelf, O: Sink, E: Sink>(
         × IsTextPrinted asked.kind domain problem text
         × (O.written out.new ≡ append_known (O.written out.old) text) }
 
-    // `plan`, status 1: no table at all is a solution of the problem that the two files spell, or
-    // no plan with contexts at all meets its goal, whatever its contexts are and however many.
+    // `plan`, status 1: nothing that a plan can mean meets the problem that the two files spell: no
+    // table at all, and no plan with contexts, whatever its contexts are and however many.
     ensures no_plan { (asked : PlanWords) → SaysPlan (map string_bytes words.now) asked → result ≡ 1
         → (domain : DomainTree) × (problem : ProblemTree)
         × HoldBoth (S.held shelf.old) asked.domain asked.problem domain problem
@@ -281,7 +281,7 @@ pub fn run<S: Shelf, O: Sink, E: Sink>(
         × HoldBoth (S.held shelf.old) asked.domain asked.problem domain problem
         × HoldsPlan (S.held shelf.old) (fluent_names domain problem)
         (action_names domain problem) asked.plan plan
-        × IsMet asked.kind domain problem plan
+        × PlanMeets asked.kind domain problem plan
         × HasBound asked.kind domain problem plan bound
         × (O.written out.new ≡ append_known (O.written out.old)
         (text_of (verdict_answer (Verdict.Yes bound)))) }
@@ -315,8 +315,8 @@ pub fn run<S: Shelf, O: Sink, E: Sink>(
         → NoFault (S.faults shelf.old) (S.faults shelf.new)
         → NoFault (O.faults out.old) (O.faults out.new)
         → NoFault (E.faults err.old) (E.faults err.new)
-        → ((result ≡ 0) × IsMet asked.kind domain problem plan)
-        ⊎ ((result ≡ 1) × (IsMet asked.kind domain problem plan → ⊥))
+        → ((result ≡ 0) × PlanMeets asked.kind domain problem plan)
+        ⊎ ((result ≡ 1) × (PlanMeets asked.kind domain problem plan → ⊥))
         ⊎ (result ≡ 8) }
 
     // `replay`, status 0: the text that was written is that of the trace of the plan in the third
