@@ -13,7 +13,7 @@ use Rattle.mbp_top.specs.Words.{Bytes, Command, PlanKind, kind_word, of_class, w
 use Rattle.plan_rules.specs.Texts.{class_word}
 use Rattle.mbp_top.proofs.CheckDecides.{check_decides}
 use Rattle.mbp_top.proofs.GroundDecides.{ground_command_decides}
-use Rattle.mbp_top.proofs.PddlDecides.{OneReading}
+use Rattle.mbp_top.specs.OneReading.{OneReading}
 use Rattle.mbp_top.proofs.PlanDecides.{plan_decides}
 use Rattle.mbp_top.proofs.ReplayDecides.{replay_decides}
 

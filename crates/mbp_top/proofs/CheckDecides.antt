@@ -22,7 +22,8 @@ use Rattle.mbp_top.specs.PlanFiles.{IsFaultyPlan, KindThen, PlacedPlan, SpellsPl
 use Rattle.mbp_top.specs.TemporalGoals.{HasGoal}
 use Rattle.mbp_top.specs.Words.{Bytes, CheckWords, PlanKind, of_class, with_contexts}
 use Rattle.mbp_top.proofs.Deciding.{Decides, IsGrammar, read_decides}
-use Rattle.mbp_top.proofs.PddlDecides.{OneReading, both_decides, goal_decides, ground_decides}
+use Rattle.mbp_top.specs.OneReading.{OneReading}
+use Rattle.mbp_top.proofs.PddlDecides.{both_decides, goal_decides, ground_decides}
 
 -- no text spells two plans, nor one at two places
 one_pair : (x y : PlainPlan × Place) → Some x ≡ Some y → x ≡ y

@@ -33,7 +33,8 @@ use Rattle.mbp_top.proofs.ByCommand.{of_command}
 use Rattle.mbp_top.proofs.CheckDecides.{plan_grammar}
 use Rattle.mbp_top.proofs.Deciding.{read_as}
 use Rattle.mbp_top.proofs.Meetings.{contexts_meet, meaning_meets, table_meets, table_solves}
-use Rattle.mbp_top.proofs.PddlDecides.{OneReading, ReadFor, both_as, not_refused, shown_both, shown_goal, shown_grounded, with_goal, within_limits}
+use Rattle.mbp_top.specs.OneReading.{OneReading}
+use Rattle.mbp_top.proofs.PddlDecides.{ReadFor, both_as, not_refused, shown_both, shown_goal, shown_grounded, with_goal, within_limits}
 use Rattle.mbp_top.proofs.Statuses.{Done, shown_at, undisturbed, whole_delivery, written_shown}
 
 -- what is known of verdicts

@@ -17,6 +17,7 @@ pub mod ReplayRuns
 pub mod ReplayWritten
 pub mod ByCommand
 pub mod Statuses
+pub mod RunLaws
 pub mod Listings
 pub mod PlanAnswers
 pub mod EnoughNodes

@@ -24,7 +24,8 @@ use Rattle.mbp_top.specs.PlanCommand.{ArePrintedRules, AreRulesOfLayers, IsPrint
 use Rattle.mbp_top.specs.Words.{Bytes, PlanKind, PlanWords, of_class, with_contexts}
 use Rattle.mbp_top.proofs.Deciding.{Decides}
 use Rattle.mbp_top.proofs.OneCyclicPlan.{one_cyclic}
-use Rattle.mbp_top.proofs.PddlDecides.{OneReading, both_decides, goal_decides, ground_decides}
+use Rattle.mbp_top.specs.OneReading.{OneReading}
+use Rattle.mbp_top.proofs.PddlDecides.{both_decides, goal_decides, ground_decides}
 
 -- there is one last layer at most
 no_later_last : (class : Class) (sys : System) (K L : ℕ) → IsLastLayer class sys K → IsLastLayer class sys L → K < L → ⊥

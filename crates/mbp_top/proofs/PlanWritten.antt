@@ -22,7 +22,8 @@ use Rattle.mbp_top.specs.Told.{AreFilesTold, NoFault}
 use Rattle.mbp_top.specs.ReplayCommand.{Tallies}
 use Rattle.mbp_top.specs.Words.{Bytes, PlanKind, PlanWords, plan, SaysPlan, of_class, with_contexts}
 use Rattle.mbp_top.proofs.ByCommand.{of_command}
-use Rattle.mbp_top.proofs.PddlDecides.{OneReading, ReadFor, both_as, not_refused, shown_both, shown_goal, shown_grounded, with_goal, within_limits}
+use Rattle.mbp_top.specs.OneReading.{OneReading}
+use Rattle.mbp_top.proofs.PddlDecides.{ReadFor, both_as, not_refused, shown_both, shown_goal, shown_grounded, with_goal, within_limits}
 use Rattle.mbp_top.proofs.Statuses.{Done, shown_at, undisturbed, whole_delivery, written_shown}
 
 -- the trees that the files spell, and the answer for them

@@ -13,7 +13,7 @@ use Rattle.mbp_top.specs.ReplayCommand.{Tallies}
 use Rattle.mbp_top.specs.Told.{AreFilesTold, IsDue, MayStandIn, NoFault}
 use Rattle.mbp_top.specs.Words.{Bytes, PlanWords, SaysPlan}
 use Rattle.mbp_top.proofs.ByCommand.{due_answer, memory_instead}
-use Rattle.mbp_top.proofs.PddlDecides.{OneReading}
+use Rattle.mbp_top.specs.OneReading.{OneReading}
 
 -- an answer that has its cause, and what became of it
 pub record Done (held : Bytes → Held) (failed : Bytes → Type 0) (tallies : Tallies) (words : List Bytes) (before after : ℕ) (out out' err err' : Seen) (status : ℕ) (answer : Answer) : Type 0 where

@@ -20,3 +20,6 @@ pub mod FoundPlans
 pub mod Grounded
 pub mod FoundChains
 pub mod Judged
+pub mod Runs
+pub mod OneReading
+pub mod Laws
