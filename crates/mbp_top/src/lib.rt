@@ -29,6 +29,8 @@ mod words;
 
 pub use answers::NO_MEMORY;
 pub use laws::{
-    answers_are_cut, answers_are_whole, due_answers_come, due_statuses_come, full_tables_are_tight, listings_are_written, plans_are_replayed, plans_meet_at_yes, problems_are_listed, reasons_come_at_no, shelves_stay_quiet, sinks_stay_quiet, statuses_are_ten, traces_are_written,
+    answers_are_cut, answers_are_whole, due_answers_come, due_statuses_come, full_tables_are_tight,
+    listings_are_written, plans_are_replayed, plans_meet_at_yes, problems_are_listed,
+    reasons_come_at_no, shelves_stay_quiet, sinks_stay_quiet, statuses_are_ten, traces_are_written,
 };
 pub use top::run;
