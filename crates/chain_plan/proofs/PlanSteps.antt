@@ -14,19 +14,19 @@ use Rattle.encode_task.specs.TaskSets.{initial_set}
 use Rattle.slot_board.specs.Board as board
 use Rattle.slot_board.proofs.BoardSlots.{initial_is}
 use Rattle.cyclic_plan.proofs.PlanMade.{covers_is}
-use Rattle.chain_goals.specs.Chains.{Chained, context_count}
-use Rattle.chain_goals.specs.Plans.{HasNoContextPlan, IsChainPlan}
-use Rattle.chain_goals.specs.Printed.{chain_rules}
-use Rattle.chain_goals.specs.Wins.{covers_chain, win, win_at}
-use Rattle.chain_goals.proofs.RuleParts.{acts_as_printed, rules_within}
-use Rattle.chain_goals.proofs.Sound.{plan_solves}
+use Rattle.plan_theory.specs.Chains.{Chained, context_count}
+use Rattle.plan_theory.specs.ChainPlans.{HasNoContextPlan, IsChainPlan}
+use Rattle.plan_theory.specs.ChainPrinted.{chain_rules}
+use Rattle.plan_theory.specs.Wins.{covers_chain, win, win_at}
+use Rattle.plan_theory.proofs.RuleParts.{acts_as_printed, rules_within}
+use Rattle.plan_theory.proofs.Sound.{plan_solves}
 use Rattle.ctl_syntax.specs.ChainValues.{states_of}
 use Rattle.ctl_syntax.specs.declared.chains.Chain.{Chain}
 use Rattle.plan_rules.specs.Denoted.{denoted_contexts}
 use Rattle.plan_rules.specs.Plans.{IsContextRuleOf}
 use Rattle.plan_rules.specs.Rules.{ContextRule, context_rules_of}
 use Rattle.plan_rules.specs.declared.rules.AutoPlan.{AutoPlan}
-use Rattle.reach_plan.proofs.WeakLists.{list_all-agree}
+use Rattle.plan_theory.proofs.WeakLists.{list_all-agree}
 use Rattle.task_core.specs.Tasks.{action_count, fluent_count, system_of}
 use Rattle.task_core.specs.Vectors.{value_of}
 use Rattle.task_core.specs.declared.tasks.Task.{Task}

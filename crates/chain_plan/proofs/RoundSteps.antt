@@ -7,13 +7,13 @@ use Rattle.dd_ops.specs.Operations.{and_of, minus_of, or_of}
 use Rattle.slot_board.specs.Board.{led, set_at}
 use Rattle.slot_board.specs.declared.board.Outcomes.TheVariants as Outcomes
 use Rattle.cyclic_plan.proofs.Growth.{same_functions}
-use Rattle.cyclic_plan.proofs.RoundSteps.{held, holds_fewer}
-use Rattle.chain_goals.specs.Safe.{some_must_lead}
-use Rattle.chain_goals.proofs.SafeSets.{last_round}
-use Rattle.chain_goals.proofs.StageSets.{last_near}
-use Rattle.reach_plan.specs.Layers.{must_lead}
-use Rattle.reach_plan.proofs.Cubes.{all_vectors-agree, all_vectors-length}
-use Rattle.reach_plan.proofs.Ranges.{range-more}
+use Rattle.plan_theory.proofs.RoundSteps.{held, holds_fewer}
+use Rattle.plan_theory.specs.Safe.{some_must_lead}
+use Rattle.plan_theory.proofs.SafeSets.{last_round}
+use Rattle.plan_theory.proofs.StageSets.{last_near}
+use Rattle.plan_theory.specs.Layers.{must_lead}
+use Rattle.plan_theory.proofs.Cubes.{all_vectors-agree, all_vectors-length}
+use Rattle.plan_theory.proofs.Ranges.{range-more}
 use Rattle.task_core.specs.Cubes.{SetOfVectors}
 use Rattle.task_core.specs.Systems.{IsState, System}
 use Rattle.task_core.specs.Tasks.{action_count, fluent_count}

@@ -11,13 +11,13 @@ use Rattle.dd_sets.specs.declared.errors.SetErr.{SetErr}
 use Rattle.dd_sets.specs.declared.errors.SetErr.TheVariants.{Full, Memory}
 use Rattle.slot_board.specs.Board.{set_at}
 use Rattle.cyclic_plan.proofs.PlanMade.{cubes_agree}
-use Rattle.chain_goals.specs.Chains.{Chained, stages_from}
-use Rattle.chain_goals.specs.Printed.{action_towards, chain_rules, rule_states, rules_of_action, rules_of_context, rules_of_next}
-use Rattle.chain_goals.specs.Wins.{advance, met_count, win, win_at}
-use Rattle.chain_goals.proofs.Shrinking.{same_truth}
+use Rattle.plan_theory.specs.Chains.{Chained, stages_from}
+use Rattle.plan_theory.specs.ChainPrinted.{action_towards, chain_rules, rule_states, rules_of_action, rules_of_context, rules_of_next}
+use Rattle.plan_theory.specs.Wins.{advance, met_count, win, win_at}
+use Rattle.plan_theory.proofs.Shrinking.{same_truth}
 use Rattle.plan_rules.specs.Rules.{ContextRule}
-use Rattle.reach_plan.specs.Printed.{is_action}
-use Rattle.reach_plan.proofs.WeakLists.{Contains-cons, Contains-head, Contains-range_with_len-below}
+use Rattle.plan_theory.specs.LayerPlans.{is_action}
+use Rattle.plan_theory.proofs.WeakLists.{Contains-cons, Contains-head, Contains-range_with_len-below}
 use Rattle.task_core.specs.Cubes.{SetOfVectors}
 use Rattle.task_core.specs.Systems.{System}
 use Rattle.task_core.specs.Tasks.{action_count, fluent_count}

@@ -8,9 +8,9 @@ use Rattle.slot_board.specs.declared.board.Outcomes.TheVariants as Outcomes
 use Rattle.slot_board.proofs.BoardSlots.{depends}
 use Rattle.cyclic_plan.specs.Begun as cyclic
 use Rattle.cyclic_plan.proofs.StageSteps.{strong_agrees}
-use Rattle.chain_goals.specs.Safe.{some_must_lead}
-use Rattle.reach_plan.specs.Layers.{action_numbers, must_lead}
-use Rattle.reach_plan.proofs.WeakLists.{list_all-agree, list_any-agree}
+use Rattle.plan_theory.specs.Safe.{some_must_lead}
+use Rattle.plan_theory.specs.Layers.{action_numbers, must_lead}
+use Rattle.plan_theory.proofs.WeakLists.{list_all-agree, list_any-agree}
 use Rattle.task_core.specs.Cubes.{SetOfVectors}
 use Rattle.task_core.specs.Systems.{IsState}
 use Rattle.task_core.specs.Tasks.{action_count, fluent_count, next_states}

@@ -5,11 +5,11 @@ use Rattle.std.specs.List.{find, range_with_len}
 use Rattle.std.specs.Option.{option_and_then}
 use Rattle.std.proofs.Math.Path.{fun_ext}
 use Rattle.std.proofs.lemmas.Bool.{or_left, true≢false}
-use Rattle.chain_goals.specs.Safe.{some_must_lead}
-use Rattle.chain_goals.specs.Stages.{action_at_rank, near, stage_action, stage_rank, stage_set}
-use Rattle.chain_goals.proofs.StageSets.{action-next, no_action-met}
-use Rattle.reach_plan.specs.Layers.{action_numbers, must_lead}
-use Rattle.reach_plan.specs.Printed.{is_action}
+use Rattle.plan_theory.specs.Safe.{some_must_lead}
+use Rattle.plan_theory.specs.StageSets.{action_at_rank, near, stage_action, stage_rank, stage_set}
+use Rattle.plan_theory.proofs.StageSets.{action-next, no_action-met}
+use Rattle.plan_theory.specs.Layers.{action_numbers, must_lead}
+use Rattle.plan_theory.specs.LayerPlans.{is_action}
 use Rattle.task_core.specs.Cubes.{SetOfVectors}
 use Rattle.task_core.specs.Systems.{IsState, IsSystem, System}
 use Rattle.task_core.specs.Vectors.{Vector}

@@ -3,10 +3,10 @@ use Rattle.std.proofs.Common.{◌≡◌, ℕ, zero, suc, ◌+◌, ◌-◌, ◌<�
 use Rattle.std.specs.Prelude.{nat_le}
 use Rattle.std.proofs.Math.Seq.{drop-drop}
 use Rattle.std.proofs.lemmas.Bool.{and_from, and_parts, eq-eqb, eqb-true, false≢true, false_from_ne_true, le-leb, leb-true, cases_lt}
-use Rattle.chain_goals.specs.Chains.{Chained}
-use Rattle.chain_goals.specs.Wins.{met_count, win}
-use Rattle.chain_goals.proofs.Shrinking.{same_truth}
-use Rattle.chain_goals.proofs.Towards.{earlier-met, met_count-few, met_count-more, win-unmet}
+use Rattle.plan_theory.specs.Chains.{Chained}
+use Rattle.plan_theory.specs.Wins.{met_count, win}
+use Rattle.plan_theory.proofs.Shrinking.{same_truth}
+use Rattle.plan_theory.proofs.Towards.{earlier-met, met_count-few, met_count-more, win-unmet}
 use Rattle.task_core.specs.Cubes.{SetOfVectors}
 use Rattle.task_core.specs.Systems.{System}
 use Rattle.task_core.specs.Vectors.{Vector}

@@ -2,12 +2,12 @@
 use Rattle.std.proofs.Common.{◌≡◌, ◌≢◌, ℕ, suc, ◌+◌, ◌*◌, ◌<◌, ◌≤◌, false, ◌&&◌, ◌||◌, List, [], ◌∷◌, drop, length, sym, ap, subst, ◌∙◌, inl, inr, ◌⊎◌, ⊎_elim, arith, mul-le-mul_right}
 use Rattle.std.proofs.lemmas.Bool.{cases_eq, cases_lt}
 use Rattle.std.specs.List.{find}
-use Rattle.chain_goals.specs.Chains.{Chained}
-use Rattle.chain_goals.specs.Safe.{safe_set}
-use Rattle.chain_goals.specs.Stages.{stage_action, stage_set}
-use Rattle.chain_goals.specs.Wins.{met_set, win}
-use Rattle.reach_plan.specs.Layers.{action_numbers, must_lead}
-use Rattle.reach_plan.specs.Printed.{is_action}
+use Rattle.plan_theory.specs.Chains.{Chained}
+use Rattle.plan_theory.specs.Safe.{safe_set}
+use Rattle.plan_theory.specs.StageSets.{stage_action, stage_set}
+use Rattle.plan_theory.specs.Wins.{met_set, win}
+use Rattle.plan_theory.specs.Layers.{action_numbers, must_lead}
+use Rattle.plan_theory.specs.LayerPlans.{is_action}
 use Rattle.task_core.specs.Cubes.{SetOfVectors}
 use Rattle.task_core.specs.Tasks.{action_count}
 use Rattle.chain_plan.specs.Scenes.{Changed, IsAt, SameStates, Scene, Start, met_place, states_at, sys_of, takers_place, win_place}

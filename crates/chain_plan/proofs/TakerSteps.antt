@@ -6,10 +6,10 @@ use Rattle.dd_ops.specs.Operations.{and_of, minus_of, or_of}
 use Rattle.slot_board.specs.Board.{led, set_at}
 use Rattle.slot_board.specs.declared.board.Outcomes.TheVariants as Outcomes
 use Rattle.cyclic_plan.proofs.Growth.{first_is}
-use Rattle.chain_goals.specs.Stages.{near, stage_action}
-use Rattle.chain_goals.proofs.StageSets.{last_near}
-use Rattle.reach_plan.specs.Layers.{action_numbers, must_lead}
-use Rattle.reach_plan.specs.Printed.{is_action}
+use Rattle.plan_theory.specs.StageSets.{near, stage_action}
+use Rattle.plan_theory.proofs.StageSets.{last_near}
+use Rattle.plan_theory.specs.Layers.{action_numbers, must_lead}
+use Rattle.plan_theory.specs.LayerPlans.{is_action}
 use Rattle.task_core.specs.Cubes.{SetOfVectors}
 use Rattle.task_core.specs.Tasks.{action_count, fluent_count}
 use Rattle.task_core.specs.Vectors.{Vector, value_of}

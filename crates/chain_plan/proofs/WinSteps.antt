@@ -3,10 +3,10 @@ use Rattle.std.proofs.Common.{◌≡◌, ◌≢◌, ℕ, zero, suc, ◌+◌, ◌
 use Rattle.std.proofs.lemmas.Bool.{cases_eq}
 use Rattle.dd_ops.specs.Operations.{and_of}
 use Rattle.slot_board.specs.Board.{set_at}
-use Rattle.chain_goals.specs.Chains.{Chained}
-use Rattle.chain_goals.specs.Safe.{safe_set}
-use Rattle.chain_goals.specs.Stages.{stage_set}
-use Rattle.chain_goals.specs.Wins.{met_set, win}
+use Rattle.plan_theory.specs.Chains.{Chained}
+use Rattle.plan_theory.specs.Safe.{safe_set}
+use Rattle.plan_theory.specs.StageSets.{stage_set}
+use Rattle.plan_theory.specs.Wins.{met_set, win}
 use Rattle.task_core.specs.Conditions.{holds}
 use Rattle.task_core.specs.Cubes.{SetOfVectors}
 use Rattle.task_core.specs.Vectors.{Vector}

@@ -1,8 +1,8 @@
 -- Private: what a search answers.
 use Rattle.std.specs.Prelude.{◌≡◌, Result, Ok, Err}
-use Rattle.chain_goals.specs.Chains.{Chained, context_count}
-use Rattle.chain_goals.specs.Plans.{HasNoContextPlan, IsChainPlan}
-use Rattle.chain_goals.specs.Printed.{chain_rules}
+use Rattle.plan_theory.specs.Chains.{Chained, context_count}
+use Rattle.plan_theory.specs.ChainPlans.{HasNoContextPlan, IsChainPlan}
+use Rattle.plan_theory.specs.ChainPrinted.{chain_rules}
 use Rattle.dd_sets.specs.declared.errors.SetErr.{SetErr}
 use Rattle.dd_sets.specs.declared.errors.SetErr.TheVariants.{Full}
 use Rattle.plan_rules.specs.Denoted.{denoted_contexts}

@@ -1,6 +1,6 @@
 -- A chain of conditions: the sets of states that it speaks of, and which chains a search takes.
 use Rattle.std.specs.Prelude.{◌≡◌, ℕ, ◌≤◌, true, map, length}
-use Rattle.chain_goals.specs.Chains.{Chained}
+use Rattle.plan_theory.specs.Chains.{Chained}
 use Rattle.ctl_syntax.specs.ChainValues.{ChainNamesBelow, EachInChain, states_of}
 use Rattle.ctl_syntax.specs.declared.chains.Chain.{Chain}
 use Rattle.task_core.specs.Conditions.{ids_below, is_shallow}

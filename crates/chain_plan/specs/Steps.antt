@@ -4,14 +4,14 @@
 use Rattle.std.specs.Prelude.{◌≡◌, ℕ, suc, ◌+◌, ◌*◌, ◌<◌, ◌≤◌, false, not, ◌&&◌, ◌||◌}
 use Rattle.std.specs.Prelude.{List, [], ◌∷◌, ◌++◌, ◌-◌, drop, map, nat_le}
 use Rattle.std.specs.List.{find, flat_map, list_any, range_with_len}
-use Rattle.chain_goals.specs.Chains.{Chained}
-use Rattle.chain_goals.specs.Printed.{action_towards, rules_of_next}
-use Rattle.chain_goals.specs.Safe.{safe_round, safe_set, some_must_lead}
-use Rattle.chain_goals.specs.Stages.{near as near_within, stage_action, stage_set}
-use Rattle.chain_goals.specs.Wins.{met_count, met_set, win}
+use Rattle.plan_theory.specs.Chains.{Chained}
+use Rattle.plan_theory.specs.ChainPrinted.{action_towards, rules_of_next}
+use Rattle.plan_theory.specs.Safe.{safe_round, safe_set, some_must_lead}
+use Rattle.plan_theory.specs.StageSets.{near as near_within, stage_action, stage_set}
+use Rattle.plan_theory.specs.Wins.{met_count, met_set, win}
 use Rattle.plan_rules.specs.Rules.{ContextRule, always}
-use Rattle.reach_plan.specs.Layers.{action_numbers, must_lead}
-use Rattle.reach_plan.specs.Printed.{is_action}
+use Rattle.plan_theory.specs.Layers.{action_numbers, must_lead}
+use Rattle.plan_theory.specs.LayerPlans.{is_action}
 use Rattle.task_core.specs.Cubes.{Cube, SetOfVectors, cubes_of}
 use Rattle.task_core.specs.Systems.{System}
 use Rattle.task_core.specs.Tasks.{action_count, fluent_count}

@@ -2,7 +2,7 @@
 //! are, and then keep a condition for ever.
 //!
 //! `plan_chain` searches for them on sets of states. Which plan it gives is said in the `specs/` of
-//! `chain_goals`; `specs/Chains.antt` here says which sets of states a chain of conditions speaks
+//! `plan_theory`; `specs/Chains.antt` here says which sets of states a chain of conditions speaks
 //! of. `Scenes`, `Steps` and `Answers` have the words of the contracts inside.
 #![tactic(auto)]
 

@@ -2,9 +2,9 @@
 
 ghost use Rattle.std.specs.Prelude.{◌≡◌, suc, ◌+◌, ◌*◌, ◌<◌, ◌≤◌, [], length, IfOk, IsErrOf};
 ghost use Rattle.std.specs.List.{list_all};
-ghost use Rattle.chain_goals.specs.Chains.{Chained, HasChain};
-ghost use Rattle.chain_goals.specs.Plans.{HasNoContextPlan};
-ghost use Rattle.chain_goals.specs.Printed.{chain_rules};
+ghost use Rattle.plan_theory.specs.Chains.{Chained, HasChain};
+ghost use Rattle.plan_theory.specs.ChainPlans.{HasNoContextPlan};
+ghost use Rattle.plan_theory.specs.ChainPrinted.{chain_rules};
 ghost use Rattle.dd_sets.specs.Frames.{Owns};
 ghost use Rattle.dd_sets.specs.Rooms.{IsTightFor};
 ghost use Rattle.encode_task.specs.Made.{MadeOf};

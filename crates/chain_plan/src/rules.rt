@@ -2,8 +2,8 @@
 
 ghost use Rattle.std.specs.Prelude.{◌≡◌, ℕ, suc, ◌≤◌, ◌+◌, ◌<◌, ◌++◌, List, map, length, IfErr};
 ghost use Rattle.std.specs.Prelude.{OnOk};
-ghost use Rattle.chain_goals.specs.Chains.{Chained};
-ghost use Rattle.chain_goals.specs.Printed.{chain_rules, rules_of_context};
+ghost use Rattle.plan_theory.specs.Chains.{Chained};
+ghost use Rattle.plan_theory.specs.ChainPrinted.{chain_rules, rules_of_context};
 ghost use Rattle.plan_rules.specs.Rules.{ContextRule, context_rule_of};
 ghost use Rattle.task_core.specs.Tasks.{fluent_count};
 ghost use Rattle.chain_plan.specs.Chains.{most_stages};

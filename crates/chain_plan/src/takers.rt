@@ -1,7 +1,7 @@
 //! Which states take which action, in each context.
 
 ghost use Rattle.std.specs.Prelude.{◌≡◌, ℕ, suc, ◌≤◌, ◌+◌, ◌<◌, length};
-ghost use Rattle.chain_goals.specs.Chains.{Chained};
+ghost use Rattle.plan_theory.specs.Chains.{Chained};
 ghost use Rattle.task_core.specs.Tasks.{action_count};
 ghost use Rattle.chain_plan.specs.Chains.{most_stages};
 ghost use Rattle.chain_plan.specs.Scenes.{IsReady, Left, Scene, Start};

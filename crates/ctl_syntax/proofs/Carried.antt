@@ -3,7 +3,8 @@
 use Rattle.std.proofs.Common.{◌≡◌, ◌↔◌, List, [], ◌∷◌, length, map, refl, sym, ap, ◌∙◌, subst, inl, inr, ⊎_elim}
 use Rattle.std.proofs.lemmas.List.{length-map}
 use Rattle.ctl_syntax.specs.Goals.{CtlTree, CtlTrees, EachPlain, EachPlainOf, plain, negation, all, any, implication, ax, ex, af, ef, ag, eg, au, eu, aw, ew, no_goal, goal_then}
-use Rattle.ctl_syntax.specs.Paths.{IsPathFrom, Meets, Keeps, MeetsOrKeeps, SomeNext, EveryPathMeets, SomePathMeets, EveryPathKeeps, SomePathKeeps}
+use Rattle.ctl_syntax.specs.Paths.{Meets, Keeps, MeetsOrKeeps, SomeNext, EveryPathMeets, SomePathMeets, EveryPathKeeps, SomePathKeeps}
+use Rattle.task_core.specs.Paths.{IsPath}
 use Rattle.ctl_syntax.specs.Truth.{Anything, Nothing, Satisfies, SatisfiesAll, SatisfiesAny}
 use Rattle.ctl_syntax.proofs.Meeting.{meets_here, meets_later, meets_cases, meets_nothing, keeps_nothing, keeps_more, keeps_first, keeps_rest}
 
@@ -17,20 +18,20 @@ module _ {X Y : Type 0} (StepX : X → X → Type 0) (StepY : Y → Y → Type 0
     (stays : (x z : X) → Within x → StepX x z → Within z)
     (forth : (x z : X) → Within x → StepX x z → StepY (image x) (image z))
     (back : (x : X) (y : Y) → Within x → StepY (image x) y → Lifted StepX image x y) where
-  path_forth : (x : X) (rest : List X) → Within x → IsPathFrom StepX x rest → IsPathFrom StepY (image x) (map image rest)
+  path_forth : (x : X) (rest : List X) → Within x → IsPath StepX x rest → IsPath StepY (image x) (map image rest)
   path_forth x [] w p = tt
   path_forth x (z ∷ rest) w p = (forth x z w p.0, path_forth z rest (stays x z w p.0) p.1)
 
   record PathLifted (x : X) (ys : List Y) : Type 0 where
     rest : List X
-    path : IsPathFrom StepX x rest
+    path : IsPath StepX x rest
     is : map image rest ≡ ys
 
-  path_back : (x : X) (ys : List Y) → Within x → IsPathFrom StepY (image x) ys → PathLifted x ys
+  path_back : (x : X) (ys : List Y) → Within x → IsPath StepY (image x) ys → PathLifted x ys
   path_back x [] w p = record { rest = []; path = tt; is = refl }
   path_back x (y ∷ ys) w p =
       let l = back x y w p.0 in
-      let more = path_back l.node ys (stays x l.node w l.follows) (subst (λ z. IsPathFrom StepY z ys) (sym l.is) p.1) in
+      let more = path_back l.node ys (stays x l.node w l.follows) (subst (λ z. IsPath StepY z ys) (sym l.is) p.1) in
       record { rest = l.node ∷ more.rest; path = (l.follows, more.path); is = ap (λ z. z ∷ map image more.rest) l.is ∙ ap (λ zs. y ∷ zs) more.is }
 
   next_forth : (G : X → Type 0) (I : Y → Type 0) → ((x : X) → Within x → G x ↔ I (image x)) → (x : X) → Within x → SomeNext StepX G x ↔ SomeNext StepY I (image x)
@@ -41,7 +42,7 @@ module _ {X Y : Type 0} (StepX : X → X → Type 0) (StepY : Y → Y → Type 0
   )
 
   module _ (G H : X → Type 0) (I J : Y → Type 0) (first : (x : X) → Within x → G x ↔ I (image x)) (second : (x : X) → Within x → H x ↔ J (image x)) where
-    meets_forth : (x : X) (rest : List X) → Within x → IsPathFrom StepX x rest → Meets G H (x ∷ rest) → Meets I J (image x ∷ map image rest)
+    meets_forth : (x : X) (rest : List X) → Within x → IsPath StepX x rest → Meets G H (x ∷ rest) → Meets I J (image x ∷ map image rest)
     meets_forth x [] w p m =
         ⊎_elim (λ h. meets_here I J (image x) [] ((second x w).0 h)) (λ later. absurd (meets_nothing G H later.1)) (meets_cases G H x [] m)
     meets_forth x (z ∷ rest) w p m =
@@ -50,7 +51,7 @@ module _ {X Y : Type 0} (StepX : X → X → Type 0) (StepY : Y → Y → Type 0
         (λ later. meets_later I J (image x) (map image (z ∷ rest)) ((first x w).0 later.0) (meets_forth z rest (stays x z w p.0) p.1 later.1))
         (meets_cases G H x (z ∷ rest) m)
 
-    meets_back : (x : X) (rest : List X) → Within x → IsPathFrom StepX x rest → Meets I J (image x ∷ map image rest) → Meets G H (x ∷ rest)
+    meets_back : (x : X) (rest : List X) → Within x → IsPath StepX x rest → Meets I J (image x ∷ map image rest) → Meets G H (x ∷ rest)
     meets_back x [] w p m =
         ⊎_elim (λ h. meets_here G H x [] ((second x w).1 h)) (λ later. absurd (meets_nothing I J later.1)) (meets_cases I J (image x) [] m)
     meets_back x (z ∷ rest) w p m =
@@ -59,20 +60,20 @@ module _ {X Y : Type 0} (StepX : X → X → Type 0) (StepY : Y → Y → Type 0
         (λ later. meets_later G H x (z ∷ rest) ((first x w).1 later.0) (meets_back z rest (stays x z w p.0) p.1 later.1))
         (meets_cases I J (image x) (map image (z ∷ rest)) m)
 
-    keeps_forth : (x : X) (rest : List X) → Within x → IsPathFrom StepX x rest → Keeps G (x ∷ rest) → Keeps I (image x ∷ map image rest)
+    keeps_forth : (x : X) (rest : List X) → Within x → IsPath StepX x rest → Keeps G (x ∷ rest) → Keeps I (image x ∷ map image rest)
     keeps_forth x [] w p k = keeps_more I (image x) [] ((first x w).0 (keeps_first G x [] k)) (keeps_nothing I)
     keeps_forth x (z ∷ rest) w p k =
         keeps_more I (image x) (map image (z ∷ rest)) ((first x w).0 (keeps_first G x (z ∷ rest) k)) (keeps_forth z rest (stays x z w p.0) p.1 (keeps_rest G x (z ∷ rest) k))
 
-    keeps_back : (x : X) (rest : List X) → Within x → IsPathFrom StepX x rest → Keeps I (image x ∷ map image rest) → Keeps G (x ∷ rest)
+    keeps_back : (x : X) (rest : List X) → Within x → IsPath StepX x rest → Keeps I (image x ∷ map image rest) → Keeps G (x ∷ rest)
     keeps_back x [] w p k = keeps_more G x [] ((first x w).1 (keeps_first I (image x) [] k)) (keeps_nothing G)
     keeps_back x (z ∷ rest) w p k =
         keeps_more G x (z ∷ rest) ((first x w).1 (keeps_first I (image x) (map image (z ∷ rest)) k)) (keeps_back z rest (stays x z w p.0) p.1 (keeps_rest I (image x) (map image (z ∷ rest)) k))
 
-    both_forth : (x : X) (rest : List X) → Within x → IsPathFrom StepX x rest → MeetsOrKeeps G H (x ∷ rest) → MeetsOrKeeps I J (image x ∷ map image rest)
+    both_forth : (x : X) (rest : List X) → Within x → IsPath StepX x rest → MeetsOrKeeps G H (x ∷ rest) → MeetsOrKeeps I J (image x ∷ map image rest)
     both_forth x rest w p m = ⊎_elim (λ m. inl (meets_forth x rest w p m)) (λ k. inr (keeps_forth x rest w p k)) m
 
-    both_back : (x : X) (rest : List X) → Within x → IsPathFrom StepX x rest → MeetsOrKeeps I J (image x ∷ map image rest) → MeetsOrKeeps G H (x ∷ rest)
+    both_back : (x : X) (rest : List X) → Within x → IsPath StepX x rest → MeetsOrKeeps I J (image x ∷ map image rest) → MeetsOrKeeps G H (x ∷ rest)
     both_back x rest w p m = ⊎_elim (λ m. inl (meets_back x rest w p m)) (λ k. inr (keeps_back x rest w p k)) m
 
     lifted_length : (x : X) (ys : List Y) (l : PathLifted x ys) → length l.rest ≡ length ys

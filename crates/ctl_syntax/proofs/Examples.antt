@@ -3,7 +3,8 @@
 use Rattle.std.proofs.Common.{◌≡◌, ◌⊎◌, ℕ, zero, suc, ◌<◌, List, [], ◌∷◌, length, Some, None, refl, arith, inl, inr}
 use Rattle.ctl_syntax.specs.Goals.{CtlTree, plain, negation, all, af, ef, ag, eg, au, EachPlain, goal_row, map_plain}
 use Rattle.ctl_syntax.specs.Chains.{chain_of, chain_tree}
-use Rattle.ctl_syntax.specs.Paths.{IsPathFrom, Meets}
+use Rattle.ctl_syntax.specs.Paths.{Meets}
+use Rattle.task_core.specs.Paths.{IsPath}
 use Rattle.ctl_syntax.specs.Truth.{Anything, Satisfies}
 use Rattle.ctl_syntax.proofs.Meeting.{meets_cases, meets_nothing}
 
@@ -33,7 +34,7 @@ unfolding stay
 stays_long zero = refl
 stays_long (suc n) = let h = stays_long n in omega (arith, h)
 
-stays_path : (n : ℕ) → IsPathFrom Leads 0 (stay n)
+stays_path : (n : ℕ) → IsPath Leads 0 (stay n)
 unfolding stay
 stays_path zero = tt
 stays_path (suc n) = (inl refl, stays_path n)

@@ -1,12 +1,7 @@
--- Paths, and what the operators of computation tree logic ask of them (Pistore, Traverso 2001). The
--- nodes are of any kind X; `Step x y` says that y follows x. A path is a list of nodes in which
--- each follows the one before; it has one step fewer than nodes.
-use Rattle.std.specs.Prelude.{◌≡◌, ◌⊎◌, ◌<◌, ℕ, List, [], ◌∷◌, length, slice_get, Some, ⊤}
-
--- x and then the nodes of the list are a path
-abbrev pub IsPathFrom : {X : Type 0} → (X → X → Type 0) → X → List X → Type 0
-IsPathFrom Step x [] = ⊤
-IsPathFrom Step x (y ∷ rest) = Step x y × IsPathFrom Step y rest
+-- What the operators of computation tree logic ask of paths (Pistore, Traverso 2001). The nodes are
+-- of any kind X; `Step x y` says that y follows x. A path has one step fewer than nodes.
+use Rattle.std.specs.Prelude.{◌≡◌, ◌⊎◌, ◌<◌, ℕ, List, ◌∷◌, length, slice_get, Some}
+use Rattle.task_core.specs.Paths.{IsPath}
 
 -- some place of the path has H, and each earlier place has G
 pub record Meets {X : Type 0} (G H : X → Type 0) (path : List X) : Type 0 where
@@ -30,13 +25,13 @@ pub record SomeNext {X : Type 0} (Step : X → X → Type 0) (G : X → Type 0) 
 pub record EveryPathMeets {X : Type 0} (Step : X → X → Type 0) (G H : X → Type 0)
     (x : X) : Type 0 where
   pub steps : ℕ
-  pub meets : (rest : List X) → length rest ≡ steps → IsPathFrom Step x rest → Meets G H (x ∷ rest)
+  pub meets : (rest : List X) → length rest ≡ steps → IsPath Step x rest → Meets G H (x ∷ rest)
 
 -- some path from x meets G until H
 pub record SomePathMeets {X : Type 0} (Step : X → X → Type 0) (G H : X → Type 0)
     (x : X) : Type 0 where
   pub rest : List X
-  pub path : IsPathFrom Step x rest
+  pub path : IsPath Step x rest
   pub meets : Meets G H (x ∷ rest)
 
 -- the path meets G until H, or keeps G
@@ -47,14 +42,14 @@ MeetsOrKeeps G H path = Meets G H path ⊎ Keeps G path
 abbrev pub EveryPathKeeps : {X : Type 0} → (X → X → Type 0) → (X → Type 0) → (X → Type 0) → X
     → Type 0
 EveryPathKeeps {X} Step G H x =
-    (n : ℕ) (rest : List X) → length rest ≡ n → IsPathFrom Step x rest → MeetsOrKeeps G H (x ∷ rest)
+    (n : ℕ) (rest : List X) → length rest ≡ n → IsPath Step x rest → MeetsOrKeeps G H (x ∷ rest)
 
 -- a path of n steps from x meets G until H or keeps G
 pub record PathKeeps {X : Type 0} (Step : X → X → Type 0) (G H : X → Type 0) (x : X)
     (n : ℕ) : Type 0 where
   pub rest : List X
   pub long : length rest ≡ n
-  pub path : IsPathFrom Step x rest
+  pub path : IsPath Step x rest
   pub keeps : MeetsOrKeeps G H (x ∷ rest)
 
 -- for every n some path of n steps from x meets G until H or keeps G

@@ -15,23 +15,23 @@ use Rattle.plan_rules.specs.Denoted.{IsExecutable, denoted}
 use Rattle.plan_rules.specs.Plans.{IsRuleOf}
 use Rattle.plan_rules.specs.Rules.{PlanRule, rules_of}
 use Rattle.plan_rules.specs.declared.rules.TablePlan.{TablePlan}
-use Rattle.reach_plan.specs.declared.planner.Found.{Found}
-use Rattle.reach_plan.specs.declared.planner.Found.TheVariants.{NoPlan, Plan}
-use Rattle.reach_plan.specs.Found.{IfNoPlan, IfPlan}
+use Rattle.plan_theory.specs.declared.answers.Found.{Found}
+use Rattle.plan_theory.specs.declared.answers.Found.TheVariants.{NoPlan, Plan}
+use Rattle.plan_theory.specs.Found.{IfNoPlan, IfPlan}
 use Rattle.encode_task.specs.Made.{MadeOf}
-use Rattle.reach_plan.proofs.PrintedWithin.{printed_within}
-use Rattle.reach_plan.proofs.WeakDenoted.{denoted-table}
-use Rattle.reach_plan.proofs.WeakLists.{list_all-at, list_all-from}
+use Rattle.plan_theory.proofs.PrintedWithin.{printed_within}
+use Rattle.plan_theory.proofs.WeakDenoted.{denoted-table}
+use Rattle.plan_theory.proofs.WeakLists.{list_all-at, list_all-from}
 use Rattle.cyclic_plan.specs.Answers.{Ends, IsPlanOf}
 use Rattle.dd_sets.specs.Rooms.{IsTightFor}
 use Rattle.slot_board.specs.Board as board
 use Rattle.cyclic_plan.specs.Begun.{HasNothing, place_count, At, Left, Start}
-use Rattle.cyclic_plan.specs.Largest.{covers, goal_or_pair}
-use Rattle.cyclic_plan.specs.Pairs.{restricted}
-use Rattle.cyclic_plan.specs.Printed.{cyclic_rules}
-use Rattle.cyclic_plan.specs.Rounds.{IsLastRound, kept, round}
-use Rattle.cyclic_plan.proofs.CyclicPrinted.{cyclic_executable, cyclic_solves, near}
-use Rattle.cyclic_plan.proofs.Survives.{last_is_largest, left_state, none_without_cover}
+use Rattle.plan_theory.specs.LargestSets.{covers, goal_or_pair}
+use Rattle.plan_theory.specs.Pairs.{restricted}
+use Rattle.plan_theory.specs.CyclicPlans.{cyclic_rules}
+use Rattle.plan_theory.specs.PairRounds.{IsLastRound, kept, round}
+use Rattle.plan_theory.proofs.CyclicPrinted.{cyclic_executable, cyclic_solves, near}
+use Rattle.plan_theory.proofs.Survives.{last_is_largest, left_state, none_without_cover}
 
 module _ (task : Task) (r : ℕ) (last : IsLastRound (system_of task) r) where
   -- the states that the last round leaves are the goal states and those of its pairs

@@ -16,22 +16,22 @@ use Rattle.task_core.specs.Systems.{IsState, IsSystem, System}
 use Rattle.task_core.specs.Tasks.{action_count, fluent_count, system_of}
 use Rattle.task_core.specs.Vectors.{Vector, all_vectors, value_of}
 use Rattle.task_core.specs.declared.classes.Class.TheVariants.{Weak}
-use Rattle.reach_plan.specs.Classes.{IsStable}
-use Rattle.reach_plan.specs.Layers.{action_numbers, layer, may_lead}
-use Rattle.reach_plan.specs.Printed.{action_of_rank, chosen_action, is_action, takers}
-use Rattle.reach_plan.proofs.ClassLayers.{chosen_kept, chosen_zero, layer-stable, rank_within-None, step_choice}
-use Rattle.reach_plan.proofs.Ranges.{find-first, range-more}
-use Rattle.reach_plan.proofs.LeastBounds.{stands_still}
-use Rattle.reach_plan.proofs.WeakLists.{find-None, find-Some, find-found, Contains-range_with_len-below}
-use Rattle.reach_plan.proofs.WeakPrinted.{is_action-Some, is_action-from}
+use Rattle.plan_theory.specs.Classes.{IsStable}
+use Rattle.plan_theory.specs.Layers.{action_numbers, layer, may_lead}
+use Rattle.plan_theory.specs.LayerPlans.{action_of_rank, chosen_action, is_action, takers}
+use Rattle.plan_theory.proofs.ClassLayers.{chosen_kept, chosen_zero, layer-stable, rank_within-None, step_choice}
+use Rattle.plan_theory.proofs.Ranges.{find-first, range-more}
+use Rattle.plan_theory.proofs.LeastBounds.{stands_still}
+use Rattle.plan_theory.proofs.WeakLists.{find-None, find-Some, find-found, Contains-range_with_len-below}
+use Rattle.plan_theory.proofs.WeakPrinted.{is_action-Some, is_action-from}
 use Rattle.task_core.proofs.TaskSystem.{is_system}
-use Rattle.reach_plan.proofs.Cubes.{all_vectors-agree, all_vectors-length}
-use Rattle.cyclic_plan.proofs.Restricted.{restricted_system}
-use Rattle.cyclic_plan.proofs.RoundSteps.{held, holds_fewer}
+use Rattle.plan_theory.proofs.Cubes.{all_vectors-agree, all_vectors-length}
+use Rattle.plan_theory.proofs.Restricted.{restricted_system}
+use Rattle.plan_theory.proofs.RoundSteps.{held, holds_fewer}
 use Rattle.slot_board.proofs.BoardSlots.{depends}
 use Rattle.slot_board.specs.Board.{set_at}
 use Rattle.cyclic_plan.specs.Begun.{board_of, Start}
-use Rattle.cyclic_plan.specs.Rounds.{connected, kept}
+use Rattle.plan_theory.specs.PairRounds.{connected, kept}
 use Rattle.cyclic_plan.specs.Stages.{HasNear, HasNext, HasRound, Takings, kept_system, next_by, taken_also, taken_by, taken_if, takers_within}
 
 -- the same states by another name

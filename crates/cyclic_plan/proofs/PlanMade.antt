@@ -7,7 +7,7 @@ use Rattle.std.proofs.lemmas.Bool.{true≢false}
 use Rattle.std.proofs.lemmas.Grind.{flat_map-append}
 use Rattle.std.proofs.lemmas.List.{append-nil}
 use Rattle.plan_rules.specs.Rules.{PlanRule}
-use Rattle.reach_plan.proofs.Ranges.{range-more}
+use Rattle.plan_theory.proofs.Ranges.{range-more}
 use Rattle.cyclic_plan.specs.Answers.{rule_for, rules_at}
 use Rattle.dd_nodes.specs.NodeList.{Values}
 use Rattle.dd_nodes.specs.Subfunctions.{DependsOnly, Function}
@@ -24,14 +24,14 @@ use Rattle.task_core.specs.Tasks.{action_count, fluent_count, initial_states, st
 use Rattle.task_core.specs.Vectors.{Vector, all_vectors, same_value, same_vector, value_of}
 use Rattle.task_core.specs.declared.conditions.Cond.{Cond}
 use Rattle.task_core.proofs.TaskSystem.{is_system, states_where_has, states_where_holds}
-use Rattle.reach_plan.proofs.Cubes.{all_vectors-length}
-use Rattle.reach_plan.proofs.Weak.{same_vector-itself, same_vector-true}
-use Rattle.reach_plan.proofs.WeakLists.{list_all-agree, list_all-at, list_all-from, list_any-agree, list_any-from, list_any-witness}
+use Rattle.plan_theory.proofs.Cubes.{all_vectors-length}
+use Rattle.plan_theory.proofs.Weak.{same_vector-itself, same_vector-true}
+use Rattle.plan_theory.proofs.WeakLists.{list_all-agree, list_all-at, list_all-from, list_any-agree, list_any-from, list_any-witness}
 use Rattle.slot_board.proofs.BoardSlots.{depends, initial_is}
 use Rattle.slot_board.specs.Board.{set_at}
 use Rattle.cyclic_plan.specs.Begun.{board_of, At, HasNothing, Moved, Start}
-use Rattle.cyclic_plan.specs.Pairs.{is_goal}
-use Rattle.cyclic_plan.specs.Rounds.{round}
+use Rattle.plan_theory.specs.Pairs.{is_goal}
+use Rattle.plan_theory.specs.PairRounds.{round}
 use Rattle.cyclic_plan.specs.Stages.{Agrees, HasNear, HasRound, Takings, none_taken}
 use Rattle.cyclic_plan.proofs.StageSteps.{here, near_still, still}
 

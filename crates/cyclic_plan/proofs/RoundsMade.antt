@@ -7,14 +7,14 @@ use Rattle.encode_task.specs.Slots.{Encoded}
 use Rattle.task_core.specs.Cubes.{SetOfVectors}
 use Rattle.task_core.specs.Tasks.{action_count, fluent_count, system_of}
 use Rattle.task_core.specs.Vectors.{Vector, all_vectors, value_of}
-use Rattle.reach_plan.proofs.Cubes.{all_vectors-agree, all_vectors-length}
+use Rattle.plan_theory.proofs.Cubes.{all_vectors-agree, all_vectors-length}
 use Rattle.slot_board.proofs.BoardSlots.{depends}
 use Rattle.slot_board.specs.Board.{set_at}
 use Rattle.cyclic_plan.specs.Begun.{board_of, Moved, Start}
-use Rattle.cyclic_plan.specs.Rounds.{round}
+use Rattle.plan_theory.specs.PairRounds.{round}
 use Rattle.cyclic_plan.specs.Stages.{HasLastRound, HasNear, HasPairs, HasRound, HasRounds, Takings}
 use Rattle.cyclic_plan.proofs.Growth.{same_functions}
-use Rattle.cyclic_plan.proofs.RoundSteps.{held, holds_fewer, round_shrinks}
+use Rattle.plan_theory.proofs.RoundSteps.{held, holds_fewer, round_shrinks}
 use Rattle.cyclic_plan.proofs.StageSteps.{here, still}
 
 -- whatever stands at the near states' place

@@ -13,14 +13,14 @@ use Rattle.task_core.specs.Systems.{System}
 use Rattle.task_core.specs.Tasks.{action_count, fluent_count, is_executable, next_states, states_after, system_of}
 use Rattle.task_core.specs.Vectors.{Vector, value_of}
 use Rattle.task_core.proofs.TaskSystem.{executable_exec, is_system}
-use Rattle.reach_plan.specs.Layers.{may_lead, must_lead}
-use Rattle.reach_plan.proofs.WeakLists.{Contains-head, list_all-agree, list_any-agree, list_any-from, list_all-at}
+use Rattle.plan_theory.specs.Layers.{may_lead, must_lead}
+use Rattle.plan_theory.proofs.WeakLists.{Contains-head, list_all-agree, list_any-agree, list_any-from, list_all-at}
 use Rattle.slot_board.proofs.BoardSlots.{depends}
 use Rattle.slot_board.specs.Board.{led, set_at}
 use Rattle.cyclic_plan.specs.Begun.{board_of, Moved, Start}
 use Rattle.slot_board.specs.declared.board.Outcomes.TheVariants as Outcomes
-use Rattle.cyclic_plan.specs.Pairs.{Pairs, is_goal, restricted}
-use Rattle.cyclic_plan.specs.Rounds.{kept}
+use Rattle.plan_theory.specs.Pairs.{Pairs, is_goal, restricted}
+use Rattle.plan_theory.specs.PairRounds.{kept}
 use Rattle.cyclic_plan.specs.Stages.{Agrees, HasHits, HasNear, HasNext, HasPairs, HasRound, Takings, kept_system, taken_also}
 
 -- a place that isn't written keeps its set

@@ -10,16 +10,16 @@ use Rattle.plan_rules.specs.Denoted.{denoted, IsExecutable}
 use Rattle.plan_rules.specs.Plans.{IsRuleOf}
 use Rattle.plan_rules.specs.Rules.{PlanRule, rules_of}
 use Rattle.plan_rules.specs.declared.rules.TablePlan.{TablePlan}
-use Rattle.reach_plan.specs.declared.planner.Found.{Found}
-use Rattle.reach_plan.specs.declared.planner.Found.TheVariants.{NoPlan, Plan}
+use Rattle.plan_theory.specs.declared.answers.Found.{Found}
+use Rattle.plan_theory.specs.declared.answers.Found.TheVariants.{NoPlan, Plan}
 use Rattle.dd_sets.specs.declared.errors.SetErr.{SetErr}
 use Rattle.dd_sets.specs.declared.errors.SetErr.TheVariants.{Full}
 use Rattle.dd_sets.specs.declared.slots.SetId.{SetId}
 use Rattle.encode_task.specs.Slots.{Encoded}
 use Rattle.cyclic_plan.specs.Begun.{At, IsTightAt, Start}
-use Rattle.cyclic_plan.specs.Largest.{IsLargestSet}
-use Rattle.cyclic_plan.specs.Pairs.{Pairs}
-use Rattle.cyclic_plan.specs.Printed.{cyclic_rules}
+use Rattle.plan_theory.specs.LargestSets.{IsLargestSet}
+use Rattle.plan_theory.specs.Pairs.{Pairs}
+use Rattle.plan_theory.specs.CyclicPlans.{cyclic_rules}
 use Rattle.cyclic_plan.specs.Stages.{Takings}
 
 -- the rule that takes an action where a cube matches

@@ -1,7 +1,3 @@
-pub mod Pairs
-pub mod Largest
-pub mod Rounds
-pub mod Printed
 pub mod Begun
 pub mod Stages
 pub mod Answers

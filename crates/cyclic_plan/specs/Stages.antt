@@ -15,12 +15,12 @@ use Rattle.task_core.specs.Systems.{IsState, System}
 use Rattle.task_core.specs.Tasks.{action_count, system_of}
 use Rattle.task_core.specs.Vectors.{Vector, value_of}
 use Rattle.task_core.specs.declared.classes.Class.TheVariants.{Weak}
-use Rattle.reach_plan.specs.Layers.{layer, may_lead}
-use Rattle.reach_plan.specs.Printed.{takers}
+use Rattle.plan_theory.specs.Layers.{layer, may_lead}
+use Rattle.plan_theory.specs.LayerPlans.{takers}
 use Rattle.slot_board.specs.Board.{set_at}
 use Rattle.cyclic_plan.specs.Begun.{At, Start}
-use Rattle.cyclic_plan.specs.Pairs.{is_goal, restricted}
-use Rattle.cyclic_plan.specs.Rounds.{IsLastRound, kept, round}
+use Rattle.plan_theory.specs.Pairs.{is_goal, restricted}
+use Rattle.plan_theory.specs.PairRounds.{IsLastRound, kept, round}
 
 -- a set on diagrams has the states of a set
 abbrev pub Agrees : Start → Function → SetOfVectors → Type 0

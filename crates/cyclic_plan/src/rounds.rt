@@ -4,10 +4,10 @@ ghost use Rattle.std.specs.Prelude.{◌≡◌, ℕ, suc, ◌+◌, ◌<◌, ◌^�
 ghost use Rattle.dd_sets.specs.LiveSets.{IsLive, set_of};
 ghost use Rattle.task_core.specs.Cubes.{SetOfVectors};
 ghost use Rattle.task_core.specs.Tasks.{system_of, action_count, fluent_count};
-ghost use Rattle.reach_plan.specs.Layers.{may_lead};
+ghost use Rattle.plan_theory.specs.Layers.{may_lead};
 ghost use Rattle.slot_board.specs.Board.{IsWorking};
 ghost use Rattle.cyclic_plan.specs.Begun.{At, Left, Start};
-ghost use Rattle.cyclic_plan.specs.Rounds.{IsLastRound, connected, kept, round as round_of};
+ghost use Rattle.plan_theory.specs.PairRounds.{IsLastRound, connected, kept, round as round_of};
 ghost use Rattle.cyclic_plan.specs.Stages.{HasHits, HasLastRound, HasNear, HasNext, HasPairs};
 ghost use Rattle.cyclic_plan.specs.Stages.{HasRound, HasStep, Takings, kept_system, next_by};
 ghost use Rattle.cyclic_plan.specs.Stages.{none_taken, taken_also, taken_by, taken_if};

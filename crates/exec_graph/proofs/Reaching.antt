@@ -2,28 +2,29 @@
 use Rattle.std.proofs.Common.{◌≡◌, List, [], ◌∷◌, ◌++◌, refl, sym, subst}
 use Rattle.task_core.specs.Vectors.{Vector}
 use Rattle.task_core.specs.Systems.{System, IsState, IsSystem}
-use Rattle.task_core.specs.Tables.{IsPath, Leads, Table, last_state}
-use Rattle.task_core.specs.ContextPlans.{Configuration, ContextPlan, Follows, IsInitial, IsRun, first_context, last_configuration}
+use Rattle.task_core.specs.Tables.{Leads, Table}
+use Rattle.task_core.specs.Paths.{IsPath, last_of}
+use Rattle.task_core.specs.ContextPlans.{Configuration, ContextPlan, Follows, IsInitial, first_context}
 use Rattle.plan_rules.specs.Denoted.{denoted, denoted_contexts}
 use Rattle.plan_rules.specs.Rules.{PlainPlan, table, automaton}
 use Rattle.exec_graph.specs.Executions.{GoesTo, IsReachedBy}
 
 -- a path goes on by one step
-path_onward : (sys : System) (pairs : Table) (s : Vector) (rest : List Vector) (t : Vector) → IsPath sys pairs s rest → Leads sys pairs (last_state s rest) t
-    → IsPath sys pairs s (rest ++ t ∷ [])
+path_onward : (sys : System) (pairs : Table) (s : Vector) (rest : List Vector) (t : Vector) → IsPath (Leads sys pairs) s rest → Leads sys pairs (last_of s rest) t
+    → IsPath (Leads sys pairs) s (rest ++ t ∷ [])
 path_onward sys pairs s [] t path leads = (leads, tt)
 path_onward sys pairs s (u ∷ rest) t path leads = (path.0, path_onward sys pairs u rest t path.1 leads)
 
-path_ends : (s : Vector) (rest : List Vector) (t : Vector) → last_state s (rest ++ t ∷ []) ≡ t
+path_ends : (s : Vector) (rest : List Vector) (t : Vector) → last_of s (rest ++ t ∷ []) ≡ t
 path_ends s [] t = refl
 path_ends s (u ∷ rest) t = path_ends u rest t
 
-run_onward : (sys : System) (plan : ContextPlan) (x : Configuration) (rest : List Configuration) (y : Configuration) → IsRun sys plan x rest
-    → Follows sys plan (last_configuration x rest) y → IsRun sys plan x (rest ++ y ∷ [])
+run_onward : (sys : System) (plan : ContextPlan) (x : Configuration) (rest : List Configuration) (y : Configuration) → IsPath (Follows sys plan) x rest
+    → Follows sys plan (last_of x rest) y → IsPath (Follows sys plan) x (rest ++ y ∷ [])
 run_onward sys plan x [] y run follows = (follows, tt)
 run_onward sys plan x (z ∷ rest) y run follows = (run.0, run_onward sys plan z rest y run.1 follows)
 
-run_ends : (x : Configuration) (rest : List Configuration) (y : Configuration) → last_configuration x (rest ++ y ∷ []) ≡ y
+run_ends : (x : Configuration) (rest : List Configuration) (y : Configuration) → last_of x (rest ++ y ∷ []) ≡ y
 run_ends x [] y = refl
 run_ends x (z ∷ rest) y = run_ends z rest y
 
@@ -60,13 +61,13 @@ reached_next sys (automaton contexts rules) x y r g = record {
 -- what holds where executions begin, and stays along a step, holds wherever the plan may come
 module _ (sys : System) (P : Configuration → Type 0) where
   path_keeps : (pairs : Table) → ((s t : Vector) → P (record { state = s; context = first_context }) → Leads sys pairs s t → P (record { state = t; context = first_context }))
-      → (s : Vector) (rest : List Vector) → P (record { state = s; context = first_context }) → IsPath sys pairs s rest
-      → P (record { state = last_state s rest; context = first_context })
+      → (s : Vector) (rest : List Vector) → P (record { state = s; context = first_context }) → IsPath (Leads sys pairs) s rest
+      → P (record { state = last_of s rest; context = first_context })
   path_keeps pairs step s [] here path = here
   path_keeps pairs step s (t ∷ rest) here path = path_keeps pairs step t rest (step s t here path.0) path.1
 
   run_keeps : (plan : ContextPlan) → ((x y : Configuration) → P x → Follows sys plan x y → P y)
-      → (x : Configuration) (rest : List Configuration) → P x → IsRun sys plan x rest → P (last_configuration x rest)
+      → (x : Configuration) (rest : List Configuration) → P x → IsPath (Follows sys plan) x rest → P (last_of x rest)
   run_keeps plan step x [] here run = here
   run_keeps plan step x (y ∷ rest) here run = run_keeps plan step y rest (step x y here run.0) run.1
 
@@ -76,7 +77,7 @@ module _ (sys : System) (P : Configuration → Type 0) where
       let at : Vector → Configuration = λ s. record { state = s; context = first_context } in
       let kept = path_keeps (denoted sys rules) (λ s t here leads. step (at s) (at t) here (leads, refl)) r.0.start r.0.path.rest
       (first (at r.0.start) (record { state = r.0.initial; context = refl })) r.0.path.path in
-      let same : at (last_state r.0.start r.0.path.rest) ≡ x = λ i. record { state = r.0.path.ends i; context = sym r.1 i } in
+      let same : at (last_of r.0.start r.0.path.rest) ≡ x = λ i. record { state = r.0.path.ends i; context = sym r.1 i } in
       subst P same kept
   reached_keeps (automaton contexts rules) first step x r =
       subst P r.ends (run_keeps (denoted_contexts rules) step r.start r.rest (first r.start r.initial) r.path)

@@ -5,9 +5,9 @@ use Rattle.std.specs.Prelude.{nat_le}
 use Rattle.std.proofs.lemmas.Bool.{le-leb}
 use Rattle.std.proofs.lemmas.List.{length-map}
 use Rattle.std.proofs.lemmas.List.Elements.{All-weaker}
-use Rattle.chain_goals.specs.Chains.{Chained, HasChain, context_count}
-use Rattle.chain_goals.specs.Plans.{HasNoContextPlan, IsChainPlan}
-use Rattle.chain_goals.specs.Printed.{chain_rules}
+use Rattle.plan_theory.specs.Chains.{Chained, HasChain, context_count}
+use Rattle.plan_theory.specs.ChainPlans.{HasNoContextPlan, IsChainPlan}
+use Rattle.plan_theory.specs.ChainPrinted.{chain_rules}
 use Rattle.chain_plan.specs.Chains.{IsChainOver, chain_sets}
 use Rattle.ctl_syntax.specs.ChainValues.{ChainIsAtMostDeep, ChainNamesBelow, ChainTree, IsTrueAlike, chain_conditions, chain_value, states_of}
 use Rattle.ctl_syntax.specs.Chains.{PlainChain, chain_of, map_chain}

@@ -4,7 +4,7 @@ use Rattle.std.specs.List.{list_all}
 use Rattle.std.specs.Option.{option_map, option_map_or}
 use Rattle.std.specs.Prelude.{option_to_list}
 use Rattle.std.proofs.lemmas.List.{length-map}
-use Rattle.chain_goals.specs.Chains.{Chained}
+use Rattle.plan_theory.specs.Chains.{Chained}
 use Rattle.chain_plan.specs.Chains.{chain_sets}
 use Rattle.ctl_syntax.specs.ChainValues.{ChainTree, all_conditions, chain_conditions, chain_value, states_of}
 use Rattle.ctl_syntax.specs.Chains.{PlainChain, map_chain}

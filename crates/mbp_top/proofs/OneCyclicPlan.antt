@@ -8,15 +8,15 @@ use Rattle.task_core.specs.Systems.{IsState, IsSystem, System}
 use Rattle.task_core.specs.Vectors.{Vector}
 use Rattle.task_core.specs.declared.classes.Class.TheVariants.{Weak}
 use Rattle.plan_rules.specs.Rules.{PlanRule}
-use Rattle.reach_plan.specs.Layers.{action_numbers, may_lead, rank_within}
-use Rattle.reach_plan.specs.Printed.{action_of_rank, chosen_action, is_action, rules_of_action, takers}
-use Rattle.reach_plan.proofs.WeakLists.{list_any-from, list_any-witness}
-use Rattle.cyclic_plan.specs.Largest.{IsLargestSet}
-use Rattle.cyclic_plan.specs.Pairs.{Pairs, restricted}
-use Rattle.cyclic_plan.specs.Printed.{cyclic_rules}
-use Rattle.cyclic_plan.specs.Rounds.{progress}
+use Rattle.plan_theory.specs.Layers.{action_numbers, may_lead, rank_within}
+use Rattle.plan_theory.specs.LayerPlans.{action_of_rank, chosen_action, is_action, rules_of_action, takers}
+use Rattle.plan_theory.proofs.WeakLists.{list_any-from, list_any-witness}
+use Rattle.plan_theory.specs.LargestSets.{IsLargestSet}
+use Rattle.plan_theory.specs.Pairs.{Pairs, restricted}
+use Rattle.plan_theory.specs.CyclicPlans.{cyclic_rules}
+use Rattle.plan_theory.specs.PairRounds.{progress}
 use Rattle.cyclic_plan.proofs.PlanMade.{cubes_agree, same_truth}
-use Rattle.cyclic_plan.proofs.Restricted.{more_pairs, outcome_of_pair, pair_outcome}
+use Rattle.plan_theory.proofs.Restricted.{more_pairs, outcome_of_pair, pair_outcome}
 
 -- each pair of a state in the one set is in the other
 abbrev AreWithin : System → Pairs → Pairs → Type 0

@@ -3,9 +3,9 @@
 use Rattle.std.proofs.Common.{◌≡◌, ◌⊎◌, ℕ, List, Contains, subst, sym, ap, ◌∙◌, inl, inr, refl, None, IsSome, All, true}
 use Rattle.std.specs.Prelude.{IfOk, Result, Ok, Err}
 use Rattle.dd_sets.specs.declared.errors.SetErr.{SetErr}
-use Rattle.reach_plan.specs.Found.{IfNoPlan, IfPlan}
-use Rattle.reach_plan.specs.declared.planner.Found.{Found}
-use Rattle.reach_plan.specs.declared.planner.Found.TheVariants.{NoPlan, Plan}
+use Rattle.plan_theory.specs.Found.{IfNoPlan, IfPlan}
+use Rattle.plan_theory.specs.declared.answers.Found.{Found}
+use Rattle.plan_theory.specs.declared.answers.Found.TheVariants.{NoPlan, Plan}
 use Rattle.plan_rules.specs.Plans.{IsRuleOf}
 use Rattle.pddl_ast.specs.Trees.{DomainTree, ProblemTree}
 use Rattle.pddl_system.specs.Systems.{action_names, fluent_names, system}
@@ -25,9 +25,9 @@ use Rattle.task_core.specs.Names.{Name}
 use Rattle.task_core.specs.declared.classes.Class.{Class}
 use Rattle.task_core.specs.declared.classes.Class.TheVariants.{Strong, Weak}
 use Rattle.plan_rules.specs.declared.rules.TablePlan.{TablePlan}
-use Rattle.reach_plan.specs.Bounds.{PathsAreWithin, ReachesGoalWithin}
-use Rattle.reach_plan.specs.Layers.{IsLastLayer}
-use Rattle.reach_plan.specs.Printed.{printed_rules}
+use Rattle.plan_theory.specs.Bounds.{PathsAreWithin, ReachesGoalWithin}
+use Rattle.plan_theory.specs.Layers.{IsLastLayer}
+use Rattle.plan_theory.specs.LayerPlans.{printed_rules}
 use Rattle.mbp_top.specs.Answers.{Answer, affirmed, full, no_memory, refused}
 use Rattle.mbp_top.specs.Enough.{IsTightLimit}
 use Rattle.mbp_top.specs.FoundPlans.{IsFoundPlan, IsSearched, IsTableResult}

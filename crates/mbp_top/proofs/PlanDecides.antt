@@ -1,7 +1,7 @@
 -- The two files and the class decide the answer of `plan`, unless the table of nodes is full.
 use Rattle.std.proofs.Common.{◌≡◌, ◌≢◌, ℕ, true, false, ◌<◌, List, length, inl, inr, sym, subst, ap, ◌∙◌, arith, Some}
-use Rattle.chain_goals.specs.Chains.{context_count}
-use Rattle.chain_goals.specs.Printed.{chain_rules}
+use Rattle.plan_theory.specs.Chains.{context_count}
+use Rattle.plan_theory.specs.ChainPrinted.{chain_rules}
 use Rattle.ctl_syntax.specs.Chains.{PlainChain}
 use Rattle.pddl_ast.specs.Trees.{DomainTree, FormulaTree, ProblemTree}
 use Rattle.plan_io.specs.Held.{Held, Untold}
@@ -14,8 +14,8 @@ use Rattle.plan_rules.specs.Texts.{automaton_text, table_text}
 use Rattle.task_core.specs.Names.{Name}
 use Rattle.task_core.specs.declared.classes.Class.{Class}
 use Rattle.task_core.specs.declared.classes.Class.TheVariants.{Weak, Strong, Cyclic}
-use Rattle.reach_plan.specs.Layers.{IsLastLayer}
-use Rattle.reach_plan.specs.Printed.{printed_rules}
+use Rattle.plan_theory.specs.Layers.{IsLastLayer}
+use Rattle.plan_theory.specs.LayerPlans.{printed_rules}
 use Rattle.mbp_top.specs.Answers.{Answer, affirmed}
 use Rattle.mbp_top.specs.ChainGoals.{ChainThen, chained_of, most_stages}
 use Rattle.mbp_top.specs.Grounding.{GroundThen}

@@ -6,8 +6,8 @@ use Rattle.pddl_ast.specs.Trees.{DomainTree, ProblemTree, add, all, atom, both, 
 use Rattle.pddl_system.specs.Systems.{system, fluent_names, action_names}
 use Rattle.plan_rules.specs.Denoted.{denoted}
 use Rattle.plan_rules.specs.Texts.{table_text, line_feed}
-use Rattle.reach_plan.specs.Layers.{covers}
-use Rattle.reach_plan.specs.Printed.{printed_rules}
+use Rattle.plan_theory.specs.Layers.{covers}
+use Rattle.plan_theory.specs.LayerPlans.{printed_rules}
 use Rattle.mbp_top.specs.GroundCommand.{listing, listing_of}
 use Rattle.mbp_top.specs.Words.{Bytes}
 

@@ -4,7 +4,7 @@ use Rattle.std.specs.Prelude.{◌≡◌, ◌<◌, ◌≤◌, ◌⊎◌, ℕ, Boo
 use Rattle.std.specs.Prelude.{None, Some, codes, nat_le, option_to_list}
 use Rattle.std.specs.List.{list_all}
 use Rattle.std.specs.Option.{option_and_then, option_map_or}
-use Rattle.chain_goals.specs.Chains.{Chained}
+use Rattle.plan_theory.specs.Chains.{Chained}
 use Rattle.ctl_syntax.specs.Chains.{PlainChain, chain_of}
 use Rattle.pddl_ast.specs.Trees.{DomainTree, FormulaTree, ProblemTree}
 use Rattle.pddl_system.specs.CtlGoals.{ctl_tree}

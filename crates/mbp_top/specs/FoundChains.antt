@@ -1,8 +1,8 @@
 -- Private: what is known of what a search for a plan with contexts of a task found.
 use Rattle.std.specs.Prelude.{◌≡◌, ◌↔◌, ◌⊎◌, ⊤, ℕ, suc, All, length, List, Result, Ok, Err, Some}
-use Rattle.chain_goals.specs.Chains.{HasChain}
-use Rattle.chain_goals.specs.Plans.{HasNoContextPlan, IsChainPlan}
-use Rattle.chain_goals.specs.Printed.{chain_rules}
+use Rattle.plan_theory.specs.Chains.{HasChain}
+use Rattle.plan_theory.specs.ChainPlans.{HasNoContextPlan, IsChainPlan}
+use Rattle.plan_theory.specs.ChainPrinted.{chain_rules}
 use Rattle.chain_plan.specs.Chains.{chain_sets}
 use Rattle.chain_plan.specs.declared.plan.FoundAuto.{FoundAuto}
 use Rattle.chain_plan.specs.declared.plan.FoundAuto.TheVariants.{NoPlan, Plan}

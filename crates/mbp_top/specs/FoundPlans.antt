@@ -8,8 +8,8 @@ use Rattle.plan_rules.specs.Readings.{SpellsTable}
 use Rattle.plan_rules.specs.Rules.{PlanRule, rules_of}
 use Rattle.plan_rules.specs.Texts.{table_text}
 use Rattle.plan_rules.specs.declared.rules.TablePlan.{TablePlan}
-use Rattle.reach_plan.specs.declared.planner.Found.{Found}
-use Rattle.reach_plan.specs.declared.planner.Found.TheVariants.{NoPlan, Plan}
+use Rattle.plan_theory.specs.declared.answers.Found.{Found}
+use Rattle.plan_theory.specs.declared.answers.Found.TheVariants.{NoPlan, Plan}
 use Rattle.task_core.specs.Names.{Name}
 use Rattle.task_core.specs.Solutions.{HasNoSolution, IsSolution}
 use Rattle.task_core.specs.Systems.{System}

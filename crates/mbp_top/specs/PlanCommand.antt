@@ -3,8 +3,8 @@
 -- those of the system's fluents and actions, by their numbers.
 use Rattle.std.specs.Prelude.{◌≡◌, ℕ, ◌⊎◌, ⊤, List, Contains, ◌++◌, codes, None, Some, is_some}
 use Rattle.std.specs.Prelude.{Bool, true}
-use Rattle.chain_goals.specs.Chains.{context_count}
-use Rattle.chain_goals.specs.Printed.{chain_rules}
+use Rattle.plan_theory.specs.Chains.{context_count}
+use Rattle.plan_theory.specs.ChainPrinted.{chain_rules}
 use Rattle.ctl_syntax.specs.Chains.{PlainChain}
 use Rattle.pddl_ast.specs.Trees.{DomainTree, FormulaTree, ProblemTree}
 use Rattle.pddl_system.specs.Sizes.{first_passed}
@@ -17,12 +17,12 @@ use Rattle.plan_rules.specs.Texts.{automaton_text, table_text, line_feed}
 use Rattle.task_core.specs.Names.{Name}
 use Rattle.task_core.specs.declared.classes.Class.{Class}
 use Rattle.task_core.specs.declared.classes.Class.TheVariants.{Weak, Strong, Cyclic}
-use Rattle.reach_plan.specs.Bounds.{PathsAreWithin, ReachesGoalWithin}
-use Rattle.reach_plan.specs.Layers.{IsLastLayer}
-use Rattle.reach_plan.specs.Printed.{printed_rules}
-use Rattle.cyclic_plan.specs.Largest.{IsLargestSet}
-use Rattle.cyclic_plan.specs.Pairs.{Pairs}
-use Rattle.cyclic_plan.specs.Printed.{cyclic_rules}
+use Rattle.plan_theory.specs.Bounds.{PathsAreWithin, ReachesGoalWithin}
+use Rattle.plan_theory.specs.Layers.{IsLastLayer}
+use Rattle.plan_theory.specs.LayerPlans.{printed_rules}
+use Rattle.plan_theory.specs.LargestSets.{IsLargestSet}
+use Rattle.plan_theory.specs.Pairs.{Pairs}
+use Rattle.plan_theory.specs.CyclicPlans.{cyclic_rules}
 use Rattle.task_core.specs.Solutions.{IsStrongSolution}
 use Rattle.task_core.specs.Systems.{System}
 use Rattle.task_core.specs.Tables.{IsTable, Table}

@@ -48,7 +48,8 @@ use ground_task::Grounded;
 use pddl_ast::{Domain, Problem};
 use plan_io::Shelf;
 use plan_rules::{Class, Plan, write_plan};
-use reach_plan::{Found, plan_strong, plan_weak, printed_plan_is_shortest};
+use plan_theory::{Found, printed_plan_is_shortest};
+use reach_plan::{plan_strong, plan_weak};
 use std::alloc::{AllocError, Global};
 use task_core::{Task, tasks_have_systems};
 

@@ -7,7 +7,8 @@ use Rattle.std.proofs.lemmas.List.{length-append, length-map}
 use Rattle.std.proofs.lemmas.List.Elements.{Contains-append_cases}
 use Rattle.task_core.specs.Vectors.{Vector, all_vectors}
 use Rattle.task_core.specs.Systems.{System, HasOutcome}
-use Rattle.task_core.specs.Tables.{IsPath, IsTerminal, Leads, Table, last_state}
+use Rattle.task_core.specs.Tables.{IsTerminal, Leads, Table}
+use Rattle.task_core.specs.Paths.{IsPath, last_of}
 use Rattle.task_core.specs.Solutions.{HasNoCycle, IsReached}
 use Rattle.task_core.specs.ContextPlans.{Configuration, first_context}
 use Rattle.task_core.specs.declared.classes.Class.{Class}
@@ -19,11 +20,11 @@ use Rattle.plan_check.specs.Walks.{ComesRound, HasWalk, IsLongestWalk, IsWalk, l
 use Rattle.plan_check.specs.Verdicts.{HasExecution, IsLongest, MayComeRound}
 
 -- paths put together
-path_append : (sys : System) (pairs : Table) (s : Vector) (xs ys : List Vector) → IsPath sys pairs s xs → IsPath sys pairs (last_state s xs) ys → IsPath sys pairs s (xs ++ ys)
+path_append : (sys : System) (pairs : Table) (s : Vector) (xs ys : List Vector) → IsPath (Leads sys pairs) s xs → IsPath (Leads sys pairs) (last_of s xs) ys → IsPath (Leads sys pairs) s (xs ++ ys)
 path_append sys pairs s [] ys a b = b
 path_append sys pairs s (x ∷ xs) ys a b = (a.0, path_append sys pairs x xs ys a.1 b)
 
-last_append : (s : Vector) (xs ys : List Vector) → last_state s (xs ++ ys) ≡ last_state (last_state s xs) ys
+last_append : (s : Vector) (xs ys : List Vector) → last_of s (xs ++ ys) ≡ last_of (last_of s xs) ys
 last_append s [] ys = refl
 last_append s (x ∷ xs) ys = last_append x xs ys
 
@@ -94,11 +95,11 @@ module _ (sys : System) (word : Class) (rules : List PlanRule) (graph : PlainGra
       (j, at.1, (h.next i j l at.1.below).1 (subst (Leads sys (denoted sys rules) (state i)) (sym is) leads, (h.reached j at.1.below).1))
 
   -- walks are paths
-  pub path_of : (i : ℕ) (rest : List ℕ) → i < graph.size → IsWalk graph.next i rest → IsPath sys (denoted sys rules) (state i) (map state rest)
+  pub path_of : (i : ℕ) (rest : List ℕ) → i < graph.size → IsWalk graph.next i rest → IsPath (Leads sys (denoted sys rules)) (state i) (map state rest)
   path_of i [] l w = tt
   path_of i (j ∷ rest) l w = (step_leads i j l w.0, path_of j rest (h.next_below i j l w.0) w.1)
 
-  pub last_of_path : (i : ℕ) (rest : List ℕ) → last_state (state i) (map state rest) ≡ state (last_number i rest)
+  pub last_of_path : (i : ℕ) (rest : List ℕ) → last_of (state i) (map state rest) ≡ state (last_number i rest)
   last_of_path i [] = refl
   last_of_path i (j ∷ rest) = last_of_path j rest
 
@@ -112,21 +113,21 @@ module _ (sys : System) (word : Class) (rules : List PlanRule) (graph : PlainGra
     pub walk : IsWalk graph.next i numbers
     pub states : map state numbers ≡ rest
 
-  pub walk_of : (i : ℕ) (rest : List Vector) → i < graph.size → IsPath sys (denoted sys rules) (state i) rest → IsWalkOf i rest
+  pub walk_of : (i : ℕ) (rest : List Vector) → i < graph.size → IsPath (Leads sys (denoted sys rules)) (state i) rest → IsWalkOf i rest
   walk_of i [] l p = record { numbers = []; walk = tt; states = refl }
   walk_of i (t ∷ rest) l p =
       let at = step_of i t l p.0 in
       let j = at.0 in
       let is = at.1.is in
-      let more = walk_of j rest at.1.below (subst (λ s. IsPath sys (denoted sys rules) s rest) (sym is) p.1) in
+      let more = walk_of j rest at.1.below (subst (λ s. IsPath (Leads sys (denoted sys rules)) s rest) (sym is) p.1) in
       record { numbers = j ∷ more.numbers; walk = (at.2, more.walk); states = ap (λ s. s ∷ map state more.numbers) is ∙ ap (λ ss. t ∷ ss) more.states }
 
   pub length_walk : (i : ℕ) (rest : List Vector) (w : IsWalkOf i rest) → length w.numbers ≡ length rest
   length_walk i rest w = sym (length-map w.numbers state) ∙ ap length w.states
 
   -- where that walk ends
-  pub end_of_walk : (i : ℕ) (rest : List Vector) (w : IsWalkOf i rest) → state (last_number i w.numbers) ≡ last_state (state i) rest
-  end_of_walk i rest w = sym (last_of_path i w.numbers) ∙ ap (last_state (state i)) w.states
+  pub end_of_walk : (i : ℕ) (rest : List Vector) (w : IsWalkOf i rest) → state (last_number i w.numbers) ≡ last_of (state i) rest
+  end_of_walk i rest w = sym (last_of_path i w.numbers) ∙ ap (last_of (state i)) w.states
 
   -- a number without a follower is that of a terminal state
   pub end_terminal : (i : ℕ) → i < graph.size → graph.next i ≡ [] → IsTerminal (denoted sys rules) (state i)
@@ -170,9 +171,9 @@ module _ (sys : System) (word : Class) (rules : List PlanRule) (graph : PlainGra
       let j = step.0 in
       let lj = step.1.below in
       let ts = step.1.is in
-      let more = walk_of j rest lj (subst (λ u. IsPath sys (denoted sys rules) u rest) (sym ts) path.1) in
+      let more = walk_of j rest lj (subst (λ u. IsPath (Leads sys (denoted sys rules)) u rest) (sym ts) path.1) in
       let l = last_number j more.numbers in
-      let ends : state l ≡ state i = end_of_walk j rest more ∙ ap (λ u. last_state u rest) ts ∙ e ∙ sym is in
+      let ends : state l ≡ state i = end_of_walk j rest more ∙ ap (λ u. last_of u rest) ts ∙ e ∙ sym is in
       never (record {
         number = i;
         below = li;
@@ -187,7 +188,7 @@ module _ (sys : System) (word : Class) (rules : List PlanRule) (graph : PlainGra
   execution_walk n x =
       let at = node_of x.start (record { start = x.start; initial = x.initial; path = record { rest = []; path = tt; ends = refl } }) in
       let is = at.1.is in
-      let w = walk_of at.0 x.rest at.1.below (subst (λ u. IsPath sys (denoted sys rules) u x.rest) (sym is) x.path) in
+      let w = walk_of at.0 x.rest at.1.below (subst (λ u. IsPath (Leads sys (denoted sys rules)) u x.rest) (sym is) x.path) in
       record { start = at.0; below = at.1.below; rest = w.numbers; walk = w.walk; long = length_walk at.0 x.rest w ∙ x.long }
 
   -- what comes before a walk, from an initial state on
@@ -208,7 +209,7 @@ module _ (sys : System) (word : Class) (rules : List PlanRule) (graph : PlainGra
           start = r.start;
           initial = r.initial;
           rest = r.path.rest ++ map state w.rest;
-          path = path_append sys (denoted sys rules) r.start r.path.rest (map state w.rest) r.path.path (subst (λ u. IsPath sys (denoted sys rules) u (map state w.rest)) (sym r.path.ends) path);
+          path = path_append sys (denoted sys rules) r.start r.path.rest (map state w.rest) r.path.path (subst (λ u. IsPath (Leads sys (denoted sys rules)) u (map state w.rest)) (sym r.path.ends) path);
           long = refl;
         };
       }

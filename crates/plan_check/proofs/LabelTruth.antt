@@ -4,7 +4,8 @@
 use Rattle.std.proofs.Common.{◌≡◌, ◌⊎◌, ℕ, zero, suc, ◌<◌, Bool, true, false, not, ◌&&◌, ◌||◌, List, [], ◌∷◌, length, refl, sym, ap, ◌∙◌, arith, ⊎_elim, inl, inr}
 use Rattle.std.specs.List.{Contains}
 use Rattle.std.proofs.lemmas.Bool.{false≢true}
-use Rattle.ctl_syntax.specs.Paths.{IsPathFrom, Meets, MeetsOrKeeps, SomeNext, EveryPathMeets, SomePathMeets, EveryPathKeeps, SomePathKeeps}
+use Rattle.ctl_syntax.specs.Paths.{Meets, MeetsOrKeeps, SomeNext, EveryPathMeets, SomePathMeets, EveryPathKeeps, SomePathKeeps}
+use Rattle.task_core.specs.Paths.{IsPath}
 use Rattle.ctl_syntax.proofs.Meeting.{meets_here, meets_later, meets_cases, meets_nothing, keeps_nothing, keeps_more, holds_here, holds_later, opposite}
 use Rattle.plan_check.specs.Labels.{IsJoined, IsLeast, IsNegated, IsNext, IsWeakest, Shows, in_round, is_led, mark_at}
 use Rattle.plan_check.specs.Walks.{StaysBelow}
@@ -134,7 +135,7 @@ module _ (n : ℕ) (next : ℕ → List ℕ) (inside : StaysBelow n next) where
   record Walk (i k : ℕ) : Type 0 where
     rest : List ℕ
     long : length rest ≡ k
-    path : IsPathFrom Follows i rest
+    path : IsPath Follows i rest
 
   any_walk : ((i : ℕ) → i < n → (j : ℕ) × Contains (next i) j) → (k i : ℕ) → i < n → Walk i k
   any_walk full zero i l = record { rest = []; long = refl; path = tt }
@@ -145,7 +146,7 @@ module _ (n : ℕ) (next : ℕ → List ℕ) (inside : StaysBelow n next) where
 
   module _ (G H : ℕ → Type 0) (guard target : List Bool) (first : Shows n G guard) (second : Shows n H target) where
     -- what a round reaches
-    meets_in : (k i : ℕ) → i < n → in_round Each next (mark_at guard) (mark_at target) k i ≡ true → (rest : List ℕ) → length rest ≡ k → IsPathFrom Follows i rest → Meets G H (i ∷ rest)
+    meets_in : (k i : ℕ) → i < n → in_round Each next (mark_at guard) (mark_at target) k i ≡ true → (rest : List ℕ) → length rest ≡ k → IsPath Follows i rest → Meets G H (i ∷ rest)
     meets_in zero i l e rest len p = meets_here G H i rest (is_so n H target second i l e)
     meets_in (suc k) i l e [] len p = absurd (omega arith)
     meets_in (suc k) i l e (j ∷ rest) len p =
@@ -169,7 +170,7 @@ module _ (n : ℕ) (next : ℕ → List ℕ) (inside : StaysBelow n next) where
         (or_cases (mark_at target i) (mark_at guard i && led) e)
 
     -- a path meets G until H or keeps G, or it meets the end of both before H
-    either : (rest : List ℕ) (i : ℕ) → i < n → IsPathFrom Follows i rest → MeetsOrKeeps G H (i ∷ rest) ⊎ Meets (λ j. H j → ⊥) (λ j. (G j → ⊥) × (H j → ⊥)) (i ∷ rest)
+    either : (rest : List ℕ) (i : ℕ) → i < n → IsPath Follows i rest → MeetsOrKeeps G H (i ∷ rest) ⊎ Meets (λ j. H j → ⊥) (λ j. (G j → ⊥) × (H j → ⊥)) (i ∷ rest)
     either [] i l p =
         ⊎_elim
         (λ h. inl (holds_here G H i [] h))
@@ -192,7 +193,7 @@ module _ (n : ℕ) (next : ℕ → List ℕ) (inside : StaysBelow n next) where
 
     -- an until on some path
     module _ (marks : List Bool) (least : IsLeast n One next guard target marks) where
-      never_meets : (rest : List ℕ) (i : ℕ) → i < n → mark_at marks i ≡ false → IsPathFrom Follows i rest → Meets G H (i ∷ rest) → ⊥
+      never_meets : (rest : List ℕ) (i : ℕ) → i < n → mark_at marks i ≡ false → IsPath Follows i rest → Meets G H (i ∷ rest) → ⊥
       never_meets [] i l f p m =
           ⊎_elim
           (λ h. false≢true (sym f ∙ least.targets i (is_marked n H target second i l h)))
@@ -222,7 +223,7 @@ module _ (n : ℕ) (next : ℕ → List ℕ) (inside : StaysBelow n next) where
       record Avoiding (i k : ℕ) : Type 0 where
         rest : List ℕ
         long : length rest ≡ k
-        path : IsPathFrom Follows i rest
+        path : IsPath Follows i rest
         avoids : Meets G H (i ∷ rest) → ⊥
 
       no_target : (i : ℕ) → i < n → mark_at marks i ≡ false → H i → ⊥

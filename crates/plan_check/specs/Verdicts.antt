@@ -4,7 +4,8 @@ use Rattle.std.specs.Prelude.{◌≡◌, ◌⊎◌, ◌<◌, ◌≤◌, ℕ, tru
 use Rattle.std.specs.List.{Contains}
 use Rattle.task_core.specs.Vectors.{Vector}
 use Rattle.task_core.specs.Systems.{System, Exec, goal_states}
-use Rattle.task_core.specs.Tables.{Table, IsPath, IsTerminal, last_state}
+use Rattle.task_core.specs.Tables.{Table, IsTerminal, Leads}
+use Rattle.task_core.specs.Paths.{IsPath, last_of}
 use Rattle.task_core.specs.Solutions.{EndsInGoal, HasNoCycle, IsReached, IsWeakSolution}
 use Rattle.task_core.specs.Solutions.{MayEnd, MayReachGoal}
 use Rattle.task_core.specs.Cubes.{matches}
@@ -43,8 +44,8 @@ pub record MayComeRound (sys : System) (table : Table) : Type 0 where
   pub reached : IsReached sys table state
   pub next : Vector
   pub rest : List Vector
-  pub path : IsPath sys table state (next ∷ rest)
-  pub round : last_state next rest ≡ state
+  pub path : IsPath (Leads sys table) state (next ∷ rest)
+  pub round : last_of next rest ≡ state
 
 -- no path leads from some initial state to a terminal goal state
 pub record MayMissGoal (sys : System) (table : Table) : Type 0 where
@@ -116,7 +117,7 @@ pub record HasExecution (sys : System) (table : Table) (steps : ℕ) : Type 0 wh
   pub start : Vector
   pub initial : Contains sys.initial start
   pub rest : List Vector
-  pub path : IsPath sys table start rest
+  pub path : IsPath (Leads sys table) start rest
   pub long : length rest ≡ steps
 
 -- the largest number of steps of a path that begins in an initial state; 0 where there is no

@@ -6,7 +6,7 @@ use cyclic_plan::plan_cyclic;
 use dd_sets::SetErr;
 use encode_task::encode;
 use plan_rules::{Rule, TablePlan};
-use reach_plan::Found;
+use plan_theory::Found;
 use std::alloc::{AllocError, Global};
 use std::test::Fail;
 use task_core::{

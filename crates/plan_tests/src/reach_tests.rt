@@ -6,7 +6,8 @@ ghost use Rattle.std.specs.Prelude.{IfOk, IsSome};
 use dd_sets::SetErr;
 use encode_task::encode;
 use plan_rules::{Plan, write_plan};
-use reach_plan::{Found, plan_strong, plan_weak};
+use plan_theory::Found;
+use reach_plan::{plan_strong, plan_weak};
 use std::alloc::{AllocError, Global};
 use std::test::Fail;
 use task_core::{

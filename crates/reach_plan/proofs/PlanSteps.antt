@@ -27,21 +27,21 @@ use Rattle.task_core.specs.Vectors.{value_of}
 use Rattle.task_core.specs.declared.classes.Class.{Class}
 use Rattle.task_core.specs.declared.tasks.Task.{Task}
 use Rattle.task_core.proofs.TaskSystem.{is_system}
-use Rattle.reach_plan.specs.Classes.{IsFoundByLayers}
+use Rattle.plan_theory.specs.Classes.{IsFoundByLayers}
 use Rattle.reach_plan.specs.LayerSets.{AreTakers}
-use Rattle.reach_plan.specs.Layers.{IsLastLayer}
-use Rattle.reach_plan.specs.Printed.{printed_rules, rules_of_action, takers}
+use Rattle.plan_theory.specs.Layers.{IsLastLayer}
+use Rattle.plan_theory.specs.LayerPlans.{printed_rules, rules_of_action, takers}
 use Rattle.reach_plan.specs.SetRules.{rules_of_slot}
 use Rattle.reach_plan.specs.Searches.{FoundLast, HasPlan, IsNoPlan, IsPlan, PlanLeft, SearchLeft, StillTaken}
 use Rattle.reach_plan.specs.Working.{At, Left, Start, Working, entries}
-use Rattle.reach_plan.proofs.ClassLayers.{printed_executable}
-use Rattle.reach_plan.proofs.Ranges.{range-more}
-use Rattle.reach_plan.proofs.LeastBounds.{solves_by_class}
-use Rattle.reach_plan.proofs.PrintedWithin.{printed_within}
+use Rattle.plan_theory.proofs.ClassLayers.{printed_executable}
+use Rattle.plan_theory.proofs.Ranges.{range-more}
+use Rattle.plan_theory.proofs.LeastBounds.{solves_by_class}
+use Rattle.plan_theory.proofs.PrintedWithin.{printed_within}
 use Rattle.reach_plan.proofs.SearchSteps.{at_made}
 use Rattle.reach_plan.proofs.SetLayers.{cubes_agree}
-use Rattle.reach_plan.proofs.WeakDenoted.{denoted-table}
-use Rattle.reach_plan.proofs.WeakLists.{Contains-cons, Contains-head, Contains-range_with_len-below}
+use Rattle.plan_theory.proofs.WeakDenoted.{denoted-table}
+use Rattle.plan_theory.proofs.WeakLists.{Contains-cons, Contains-head, Contains-range_with_len-below}
 use Rattle.reach_plan.proofs.WorkingSlots.{set_at, work_none, work_owns}
 
 -- the rules of one number more

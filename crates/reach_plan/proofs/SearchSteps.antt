@@ -23,15 +23,15 @@ use Rattle.task_core.specs.declared.conditions.Cond.{Cond}
 use Rattle.preimage.specs.Laws.{StrongLeadsToAll, WeakLeadsToSome}
 use Rattle.reach_plan.specs.declared.search.Round.{Round}
 use Rattle.reach_plan.specs.declared.search.Round.TheVariants.{Covered, Stable, More}
-use Rattle.reach_plan.specs.Layers.{covers}
+use Rattle.plan_theory.specs.Layers.{covers}
 use Rattle.reach_plan.specs.LayerSets.{AreTakers, IsLayerSet, IsRound, class_preimage, grown, taken_by}
 use Rattle.reach_plan.specs.Searches.{FoundLast, FoundNone, IsCovered, IsMore, IsStill, RoundLeft, with_one, with_two}
-use Rattle.reach_plan.specs.Classes.{IsFoundByLayers}
+use Rattle.plan_theory.specs.Classes.{IsFoundByLayers}
 use Rattle.task_core.specs.Vectors.{all_vectors}
 use Rattle.task_core.proofs.TaskSystem.{is_system}
-use Rattle.reach_plan.proofs.LeastBounds.{none_once_stable}
+use Rattle.plan_theory.proofs.LeastBounds.{none_once_stable}
 use Rattle.reach_plan.specs.Working.{AreOwned, At, Start, Working, entries, with_set}
-use Rattle.reach_plan.proofs.Ranges.{range-more}
+use Rattle.plan_theory.proofs.Ranges.{range-more}
 use Rattle.reach_plan.proofs.SetLayers.{covers_is, fewer_next, goal_set, missed, next_layer_set, next_takers}
 use Rattle.reach_plan.proofs.WorkingSlots.{behind_live, behind_set, length_behind, second_front, second_live, second_set, work_back, work_front, work_less, work_more, work_same}
 

@@ -21,16 +21,16 @@ use Rattle.task_core.specs.declared.tasks.Task.{Task}
 use Rattle.task_core.proofs.TaskSystem.{executable_exec, is_system, states_where_has, states_where_holds}
 use Rattle.encode_task.specs.TaskSets.{first_values, initial_set}
 use Rattle.preimage.specs.Laws.{StrongLeadsToAll, WeakLeadsToSome}
-use Rattle.reach_plan.specs.Classes.{IsStable}
-use Rattle.reach_plan.specs.Layers.{action_numbers, covers, layer, leads_by}
+use Rattle.plan_theory.specs.Classes.{IsStable}
+use Rattle.plan_theory.specs.Layers.{action_numbers, covers, layer, leads_by}
 use Rattle.reach_plan.specs.LayerSets.{AreTakers, IsLayerSet, class_preimage, grown, taken_by}
-use Rattle.reach_plan.specs.Printed.{action_of_rank, chosen_action, is_action, takers}
-use Rattle.reach_plan.proofs.ClassLayers.{chosen_zero, layer-zero, layer-zero_goal, rank_within-None, step_choice}
-use Rattle.reach_plan.proofs.Cubes.{all_vectors-holds, all_vectors-length}
-use Rattle.reach_plan.proofs.Ranges.{find-first, range_split}
-use Rattle.reach_plan.proofs.Weak.{same_vector-itself, same_vector-true}
-use Rattle.reach_plan.proofs.WeakLists.{Contains-cons, Contains-head, Contains-range_with_len-below, find-None, find-Some, find-found, list_all-agree, list_all-at, list_all-from, list_any-agree, list_any-from, list_any-witness}
-use Rattle.reach_plan.proofs.WeakPrinted.{is_action-Some}
+use Rattle.plan_theory.specs.LayerPlans.{action_of_rank, chosen_action, is_action, takers}
+use Rattle.plan_theory.proofs.ClassLayers.{chosen_zero, layer-zero, layer-zero_goal, rank_within-None, step_choice}
+use Rattle.plan_theory.proofs.Cubes.{all_vectors-holds, all_vectors-length}
+use Rattle.plan_theory.proofs.Ranges.{find-first, range_split}
+use Rattle.plan_theory.proofs.Weak.{same_vector-itself, same_vector-true}
+use Rattle.plan_theory.proofs.WeakLists.{Contains-cons, Contains-head, Contains-range_with_len-below, find-None, find-Some, find-found, list_all-agree, list_all-at, list_all-from, list_any-agree, list_any-from, list_any-witness}
+use Rattle.plan_theory.proofs.WeakPrinted.{is_action-Some}
 
 -- a state's values are its own
 values_are : (p : ℕ → Bool) (first n : ℕ) (v : Vector) → length v ≡ n → ((g : ℕ) → g < n → p (first + g) ≡ value_of v g) → map p (range_with_len first n) ≡ v

@@ -10,8 +10,8 @@ use Rattle.task_core.specs.Vectors.{Vector, value_of}
 use Rattle.task_core.specs.declared.classes.Class.{Class}
 use Rattle.task_core.specs.declared.classes.Class.TheVariants.{Weak, Strong, Cyclic}
 use Rattle.task_core.specs.declared.tasks.Task.{Task}
-use Rattle.reach_plan.specs.Layers.{covers, layer}
-use Rattle.reach_plan.specs.Printed.{takers}
+use Rattle.plan_theory.specs.Layers.{covers, layer}
+use Rattle.plan_theory.specs.LayerPlans.{takers}
 
 -- where an action leads into a set as the class wants it
 abbrev pub class_preimage : Class → Task → ℕ → Function → Function

@@ -1,9 +1,4 @@
-pub mod Bounds
-pub mod Classes
-pub mod Layers
 pub mod LayerSets
-pub mod Printed
-pub mod Found
 pub mod Searches
 pub mod SetRules
 pub mod Working

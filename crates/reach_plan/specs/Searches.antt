@@ -10,9 +10,9 @@ use Rattle.task_core.specs.Tasks.{system_of}
 use Rattle.task_core.specs.declared.classes.Class.{Class}
 use Rattle.plan_rules.specs.Rules.{rule_of}
 use Rattle.plan_rules.specs.declared.rules.Rule.{Rule}
-use Rattle.reach_plan.specs.Printed.{printed_rules}
-use Rattle.reach_plan.specs.Classes.{IsStable}
-use Rattle.reach_plan.specs.Layers.{IsLastLayer, covers}
+use Rattle.plan_theory.specs.LayerPlans.{printed_rules}
+use Rattle.plan_theory.specs.Classes.{IsStable}
+use Rattle.plan_theory.specs.Layers.{IsLastLayer, covers}
 use Rattle.reach_plan.specs.LayerSets.{AreTakers, IsRound}
 use Rattle.reach_plan.specs.Working.{At, Start, entries}
 use Rattle.reach_plan.specs.declared.search.Round.{Round}

@@ -7,20 +7,14 @@
 //! the layers alone at first, and then, where there is a plan, what each action takes; `set_rules`
 //! reads the rules off these sets, and `slots` changes sets in place.
 //!
-//! Which plan is found is said in `specs/`: `Layers` (the states from which the goal is reached in
-//! so many steps) and `Printed` (the rules, from the least-numbered action of each state); `Found`
-//! has words of the contracts. The laws of planning by layers that the planners rest on are the
-//! contracts of functions that do nothing.
+//! Which plan is found is said in `plan_theory`, whose laws of planning by layers the planners rest
+//! on. `specs/` has the words of the contracts inside: `LayerSets` (the layers as sets on
+//! diagrams), `Searches` and `Working` (what slots hold), `SetRules`.
 #![tactic(auto)]
 
-mod laws;
 mod planner;
 mod search;
 mod set_rules;
 mod slots;
 
-pub use laws::{
-    layers_grow, layers_stand_still, no_plan_once_stable, no_plan_without_cover,
-    printed_plan_is_shortest, printed_plan_solves, strong_plans_end,
-};
-pub use planner::{Found, plan_strong, plan_weak};
+pub use planner::{plan_strong, plan_weak};

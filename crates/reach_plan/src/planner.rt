@@ -15,10 +15,10 @@ ghost use Rattle.task_core.specs.Tables.{IsTable};
 ghost use Rattle.task_core.specs.Tasks.{action_count, fluent_count, system_of};
 ghost use Rattle.task_core.specs.declared.classes.Class.TheVariants.{Strong, Weak};
 ghost use Rattle.task_core.specs.declared.tasks.Task.{Task};
-ghost use Rattle.reach_plan.specs.Classes.{IsFoundByLayers};
-ghost use Rattle.reach_plan.specs.Found.{IfNoPlan, IfPlan};
-ghost use Rattle.reach_plan.specs.Layers.{IsLastLayer};
-ghost use Rattle.reach_plan.specs.Printed.{printed_rules};
+ghost use Rattle.plan_theory.specs.Classes.{IsFoundByLayers};
+ghost use Rattle.plan_theory.specs.Found.{IfNoPlan, IfPlan};
+ghost use Rattle.plan_theory.specs.Layers.{IsLastLayer};
+ghost use Rattle.plan_theory.specs.LayerPlans.{printed_rules};
 ghost use Rattle.reach_plan.specs.Searches.{HasPlan, IsReady, PlanLeft, StillTaken};
 ghost use Rattle.reach_plan.specs.SetRules.{rules_of_slot};
 ghost use Rattle.reach_plan.specs.Working.{At, Left, Start};
@@ -28,17 +28,9 @@ use crate::set_rules::rules_of_sets;
 use dd_sets::{SetErr, SetId};
 use encode_task::{Enc, made_is_kept};
 use plan_rules::{Class, Rule, TablePlan};
+use plan_theory::Found;
 use std::alloc::Global;
 use task_core::Task;
-
-/// What a search for a plan found.
-#[derive(Debug, Drop)]
-pub enum Found {
-    /// A plan that solves the task.
-    Plan(TablePlan),
-    /// The task has no solution.
-    NoPlan,
-}
 
 /// A weak plan for a task, or that there is none: no state-action table, not even one with several
 /// actions for a state, is a weak solution.

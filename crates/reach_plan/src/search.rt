@@ -10,7 +10,7 @@ ghost use Rattle.dd_sets.specs.Rooms.{IsTightFor};
 ghost use Rattle.encode_task.specs.Made.{MadeOf};
 ghost use Rattle.preimage.specs.Preimages.{OfSomeTask};
 ghost use Rattle.task_core.specs.declared.tasks.Task.{Task};
-ghost use Rattle.reach_plan.specs.Classes.{IsFoundByLayers};
+ghost use Rattle.plan_theory.specs.Classes.{IsFoundByLayers};
 ghost use Rattle.reach_plan.specs.LayerSets.{AreTakers, IsRound, class_preimage, grown, taken_by};
 ghost use Rattle.reach_plan.specs.Searches.{IsBegun, IsGrowing, IsSearching, RoundLeft, SearchLeft};
 ghost use Rattle.reach_plan.specs.Searches.{StillOne, StillTaken, StillTwo, with_one, with_two};

@@ -1,13 +1,12 @@
 -- The initial states: each list of states after entries is a list of states over the task's
 -- fluents.
-use Rattle.std.proofs.Common.{◌≡◌, ◌≢◌, ℕ, zero, suc, ◌+◌, ◌<◌, ◌≤◌, Bool, true, false, cond, List, [], ◌∷◌, ◌++◌, map, length, get_or, refl, sym, ◌∙◌, ap, subst, ⊎_elim, arith}
-use Rattle.std.specs.List.{AllPairs, Contains, flat_map, fold, list_any, range_with_len}
+use Rattle.std.proofs.Common.{◌≡◌, ◌≢◌, ℕ, zero, suc, true, false, cond, List, [], ◌∷◌, ◌++◌, map, length, get_or, refl, sym, ◌∙◌, ap, ⊎_elim, arith}
+use Rattle.std.specs.List.{AllPairs, Contains, flat_map, fold, list_any}
 use Rattle.std.proofs.lemmas.List.Elements.{Contains-append_cases, Contains-get_or}
 use Rattle.std.proofs.lemmas.List.Quantifiers.{all_pairs_push}
 use Rattle.std.proofs.lemmas.Bool.{false≢true}
 use Rattle.std.proofs.lemmas.List.FromFn.{length-map-range_with_len}
 use Rattle.task_core.specs.Vectors.{Vector, value_of, same_vector}
-use Rattle.task_core.specs.Cubes.{Cube}
 use Rattle.task_core.specs.Initial.{Entry, add_state, after_entry, after_entries, applied, applied_value}
 use Rattle.task_core.proofs.Vectors.{Contains-map_image, list_any_contains, same_vector_refl}
 

@@ -1,15 +1,14 @@
 -- Worked examples of the definitions.
-use Rattle.std.proofs.Common.{◌≡◌, ℕ, zero, suc, ◌/◌, ◌%◌, eqb, get_or, ◌<◌, ◌≤◌, ◌^◌, Bool, true, false, not, ◌||◌, List, [], ◌∷◌, length, Some, None, cond, refl, sym, ◌∙◌, ap, subst, arith, if◌then◌else◌, ◌==◌}
-use Rattle.std.specs.Prelude.{Vec, String}
+use Rattle.std.proofs.Common.{◌≡◌, ℕ, zero, suc, ◌≤◌, Bool, true, false, not, ◌||◌, List, [], ◌∷◌, length, Some, refl, sym, ◌∙◌, ap, subst, arith, if◌then◌else◌, ◌==◌}
+use Rattle.std.specs.Prelude.{Vec}
 use Rattle.std.specs.declared.alloc.Global.{Global}
-use Rattle.std.specs.Int.{bit_at}
-use Rattle.std.proofs.lemmas.Nat.Bits.{bit_at_above, bit_at-zero}
 use denote.RawPtr.{null_ptr}
 use Rattle.std.specs.List.{Contains}
 use Rattle.std.proofs.lemmas.Bool.{false≢true}
 use Rattle.task_core.specs.Vectors.{Vector, value_of, all_vectors, same_value}
 use Rattle.task_core.specs.Systems.{System, goal_states}
-use Rattle.task_core.specs.Tables.{Table, Leads, IsPath, IsTerminal, Reaches, last_state}
+use Rattle.task_core.specs.Tables.{Table, Leads, IsTerminal, Reaches}
+use Rattle.task_core.specs.Paths.{IsPath, last_of}
 use Rattle.task_core.specs.Solutions.{IsWeakSolution, IsStrongSolution}
 use Rattle.task_core.specs.Initial.{Entry, after_entries}
 use Rattle.task_core.specs.Cubes.{literal, cubes_of}
@@ -23,7 +22,7 @@ use Rattle.task_core.specs.declared.actions.Change.{Change}
 use Rattle.task_core.specs.declared.actions.Outcome.{Outcome}
 use Rattle.task_core.specs.declared.actions.GroundAction.{GroundAction}
 use Rattle.task_core.specs.declared.tasks.Task.{Task}
-use Rattle.task_core.proofs.Holds.{holds_Yes, holds_Is, ids_below_Yes, ids_below_Is}
+use Rattle.task_core.proofs.Holds.{holds_Yes, holds_Is}
 
 -- the vectors of two fluents, in order
 vectors_of_two : all_vectors 2 ≡ (false ∷ false ∷ []) ∷ (false ∷ true ∷ []) ∷ (true ∷ false ∷ []) ∷ (true ∷ true ∷ []) ∷ []
@@ -187,7 +186,7 @@ nothing_may_win weak =
     let may = weak (false ∷ []) (0, omega arith, refl) in
     stuck may.end may.reached.rest may.reached.path may.reached.ends may.goal
   where
-    stuck : (end : Vector) (rest : List Vector) → IsPath coin_system [] (false ∷ []) rest → last_state (false ∷ []) rest ≡ end → Contains ((true ∷ []) ∷ []) end → ⊥
+    stuck : (end : Vector) (rest : List Vector) → IsPath (Leads coin_system []) (false ∷ []) rest → last_of (false ∷ []) rest ≡ end → Contains ((true ∷ []) ∷ []) end → ⊥
     stuck end [] path ends (zero, h, is) = false≢true (ap (λ v. value_of v 0) (ends ∙ sym is))
     stuck end [] path ends (suc k, h, is) = absurd (omega arith)
     stuck end (t ∷ rest) path ends goal = absurd (omega (arith, path.0.pair.1))

@@ -6,6 +6,8 @@ pub mod Bits
 pub mod Agreement
 pub mod Changes
 pub mod TaskSystem
+pub mod Outcomes
+pub mod Paths
 pub mod Holds
 pub mod NameChecks
 pub mod Examples

@@ -1,9 +1,9 @@
 -- Lists of states, and the lists of their vectors.
-use Rattle.std.proofs.Common.{rules, ◌≡◌, ℕ, zero, suc, ◌+◌, ◌*◌, ◌/◌, ◌%◌, ◌<◌, ◌≤◌, ◌^◌, Bool, true, false, cond, ◌||◌, ◌&&◌, eqb, ltb, List, [], ◌∷◌, ◌++◌, map, length, take, drop, get_or, refl, sym, ◌∙◌, ap, subst, ⊎_elim, arith}
+use Rattle.std.proofs.Common.{rules, ◌≡◌, ℕ, zero, suc, ◌+◌, ◌*◌, ◌/◌, ◌%◌, ◌<◌, ◌≤◌, Bool, true, false, cond, ◌||◌, ◌&&◌, eqb, ltb, List, [], ◌∷◌, ◌++◌, map, length, take, drop, get_or, refl, sym, ◌∙◌, ap, subst, ⊎_elim, arith}
 use Rattle.std.specs.List.{All, flat_map, fold, list_any, list_all, range_with_len}
 use Rattle.std.specs.Int.{bit_at}
 use Rattle.std.proofs.Math.Path.{fun_ext}
-use Rattle.std.proofs.lemmas.Bool.{and_parts, and_left, and_right, and_from, eq-eqb, ne_eqb, cases_eq, ltb-true, lt-ltb, or_from, cases_lt, false≢true}
+use Rattle.std.proofs.lemmas.Bool.{and_parts, and_left, and_right, and_from, eq-eqb, ne_eqb, cases_eq, ltb-true, lt-ltb, or_from, false≢true}
 use Rattle.std.proofs.lemmas.Nat.Bits.{same_from_bits_below, bit_at-lt}
 use Rattle.std.proofs.lemmas.List.{length-append, length-map, map-append, ext_get_or, get_or-map, take-append-drop, take-map, append-nil, take_more}
 use Rattle.std.proofs.lemmas.List.Concat.{flat_map-append}
@@ -26,7 +26,7 @@ use Rattle.task_core.specs.Initial.{entry_of, entry_within, entries_of, entries_
 use Rattle.task_core.specs.declared.actions.InitSpec.{InitSpec}
 use Rattle.task_core.specs.declared.literals.Lit.{Lit}
 use Rattle.task_core.specs.declared.actions.Alternative.{Alternative}
-use Rattle.task_core.proofs.TaskSystem.{element_passes, value_of-vector, value_of-vector_within}
+use Rattle.task_core.proofs.TaskSystem.{element_passes, value_of-vector_within}
 
 -- the derived `==` of states
 abbrev pub state_eq : State → State → Bool

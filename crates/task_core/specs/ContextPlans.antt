@@ -1,7 +1,8 @@
 -- Plans with contexts, and how they are executed (Pistore, Traverso, "Planning as model checking
 -- for extended goals in non-deterministic domains", IJCAI 2001).
-use Rattle.std.specs.Prelude.{◌≡◌, ℕ, ◌≤◌, List, [], ◌∷◌, Option, Some, None, IsSome, ⊤}
+use Rattle.std.specs.Prelude.{◌≡◌, ℕ, ◌≤◌, List, Option, Some, None, IsSome}
 use Rattle.std.specs.List.{Contains}
+use Rattle.task_core.specs.Paths.{IsPath, last_of}
 use Rattle.task_core.specs.Vectors.{Vector}
 use Rattle.task_core.specs.Systems.{System, Exec, HasOutcome}
 
@@ -30,30 +31,21 @@ pub record IsInitial (sys : System) (x : Configuration) : Type 0 where
   pub context : x.context ≡ first_context
 
 -- y follows x: the plan has an action at x, which can be executed there, and y has the state of an
--- outcome of it with the context that the plan goes on in
+-- outcome of it with the context that the plan goes on in. So the paths of the plan are those of
+-- this relation
 pub record Follows (sys : System) (plan : ContextPlan) (x y : Configuration) : Type 0 where
   pub action : ℕ
   pub acts : plan.act x.state x.context ≡ Some action
   pub outcome : HasOutcome sys x.state action y.state
   pub context : plan.ctxt x.state x.context y.state ≡ Some y.context
 
--- x and then the configurations of the list are a path: each follows the one before
-abbrev pub IsRun : System → ContextPlan → Configuration → List Configuration → Type 0
-IsRun sys plan x [] = ⊤
-IsRun sys plan x (y ∷ rest) = Follows sys plan x y × IsRun sys plan y rest
-
--- the last configuration of that path
-abbrev pub last_configuration : Configuration → List Configuration → Configuration
-last_configuration x [] = x
-last_configuration x (y ∷ rest) = last_configuration y rest
-
 -- some path leads to x from an initial configuration
 pub record IsReachable (sys : System) (plan : ContextPlan) (x : Configuration) : Type 0 where
   pub start : Configuration
   pub initial : IsInitial sys start
   pub rest : List Configuration
-  pub path : IsRun sys plan start rest
-  pub ends : last_configuration start rest ≡ x
+  pub path : IsPath (Follows sys plan) start rest
+  pub ends : last_of start rest ≡ x
 
 -- the plan goes on at x: it has an action, which can be executed there, and a next context for each
 -- outcome

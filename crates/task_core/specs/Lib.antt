@@ -1,5 +1,6 @@
 pub mod Vectors
 pub mod Systems
+pub mod Paths
 pub mod Tables
 pub mod Solutions
 pub mod ContextPlans

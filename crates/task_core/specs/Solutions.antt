@@ -4,7 +4,8 @@ use Rattle.std.specs.Prelude.{◌≢◌, List, ◌∷◌}
 use Rattle.std.specs.List.{Contains}
 use Rattle.task_core.specs.Vectors.{Vector}
 use Rattle.task_core.specs.Systems.{System, goal_states}
-use Rattle.task_core.specs.Tables.{Table, IsTable, IsPath, IsTerminal, Reaches, last_state}
+use Rattle.task_core.specs.Tables.{Table, IsTable, IsTerminal, Reaches, Leads}
+use Rattle.task_core.specs.Paths.{IsPath, last_of}
 use Rattle.task_core.specs.declared.classes.Class.{Class}
 use Rattle.task_core.specs.declared.classes.Class.TheVariants.{Weak, Strong, Cyclic}
 
@@ -35,7 +36,7 @@ EndsInGoal sys table =
 -- no path of one step or more from a state of the execution structure ends where it began
 abbrev pub HasNoCycle : System → Table → Type 0
 HasNoCycle sys table = (s t : Vector) (rest : List Vector) → IsReached sys table s
-    → IsPath sys table s (t ∷ rest) → last_state t rest ≢ s
+    → IsPath (Leads sys table) s (t ∷ rest) → last_of t rest ≢ s
 
 -- a weak solution: it may reach the goal from each initial state
 abbrev pub IsWeakSolution : System → Table → Type 0

@@ -1,8 +1,9 @@
 -- A planning system as plain data: finitely many states and actions, each action with several
 -- outcomes (Cimatti, Pistore, Roveri, Traverso 2003: a planning domain with the initial states and
 -- the goal states of a planning problem).
-use Rattle.std.specs.Prelude.{◌≡◌, ◌≢◌, ℕ, ◌<◌, List, [], Option, unwrap_or, length}
-use Rattle.std.specs.List.{Contains}
+use Rattle.std.specs.Prelude.{◌≡◌, ◌≢◌, ℕ, ◌<◌, List, [], Option, unwrap_or, length, map}
+use Rattle.std.specs.List.{Contains, range_with_len}
+use Rattle.task_core.specs.Conditions.{greatest}
 use Rattle.task_core.specs.Vectors.{Vector}
 
 pub record System : Type 0 where
@@ -19,6 +20,10 @@ pub record System : Type 0 where
   -- the states to which an action leads from a state, in the order of its outcomes; none exactly
   -- where the action can't be executed there
   pub next : Vector → ℕ → List Vector
+
+-- the most outcomes of one action; 0 without actions
+abbrev pub most_outcomes : System → ℕ
+most_outcomes sys = greatest (map sys.outcomes (range_with_len 0 sys.actions))
 
 -- action a can be executed in state s
 abbrev pub Exec : System → Vector → ℕ → Type 0

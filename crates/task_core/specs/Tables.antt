@@ -1,7 +1,8 @@
 -- State-action tables and their paths (Cimatti, Pistore, Roveri, Traverso 2003: a state-action
 -- table and its execution structure).
-use Rattle.std.specs.Prelude.{◌≡◌, ℕ, List, [], ◌∷◌, ⊤}
+use Rattle.std.specs.Prelude.{◌≡◌, ℕ, List}
 use Rattle.std.specs.List.{Contains}
+use Rattle.task_core.specs.Paths.{IsPath, last_of}
 use Rattle.task_core.specs.Vectors.{Vector}
 use Rattle.task_core.specs.Systems.{System, Exec, HasOutcome, IsState}
 
@@ -13,28 +14,17 @@ Table = List (Vector × ℕ)
 abbrev pub IsTable : System → Table → Type 0
 IsTable sys table = (s : Vector) (a : ℕ) → Contains table (s, a) → IsState sys s × Exec sys s a
 
--- t is an outcome of a pair of s
+-- t is an outcome of a pair of s; so the paths of the table are those of this relation
 pub record Leads (sys : System) (table : Table) (s t : Vector) : Type 0 where
   pub action : ℕ
   pub pair : Contains table (s, action)
   pub outcome : HasOutcome sys s action t
 
--- s and then the states of the list are a path: each next state is an outcome of a pair of the one
--- before
-abbrev pub IsPath : System → Table → Vector → List Vector → Type 0
-IsPath sys table s [] = ⊤
-IsPath sys table s (t ∷ rest) = Leads sys table s t × IsPath sys table t rest
-
--- the last state of that path
-abbrev pub last_state : Vector → List Vector → Vector
-last_state s [] = s
-last_state s (t ∷ rest) = last_state t rest
-
 -- some path of the table leads from s to t
 pub record Reaches (sys : System) (table : Table) (s t : Vector) : Type 0 where
   pub rest : List Vector
-  pub path : IsPath sys table s rest
-  pub ends : last_state s rest ≡ t
+  pub path : IsPath (Leads sys table) s rest
+  pub ends : last_of s rest ≡ t
 
 -- a state that has no pair
 abbrev pub IsTerminal : Table → Vector → Type 0

@@ -1,6 +1,6 @@
 use Rattle.std.proofs.Common.{◌≡◌, ◌+◌, ◌*◌, ap, arith, length, refl, subst, suc, sym, ◌∙◌}
-use Rattle.chain_goals.specs.Chains.{HasChain}
-use Rattle.chain_goals.specs.Printed.{chain_rules}
+use Rattle.plan_theory.specs.Chains.{HasChain}
+use Rattle.plan_theory.specs.ChainPrinted.{chain_rules}
 use Rattle.plan_rules.specs.Denoted.{denoted_contexts}
 use Rattle.plan_rules.specs.Plans.{IsAutomatonOf}
 use Rattle.plan_rules.specs.Rules.{context_rules_of}

@@ -1,5 +1,5 @@
-use Rattle.chain_goals.proofs.NoChain.{none_without_cover}
-use Rattle.chain_goals.specs.Wins.{covers_chain}
+use Rattle.plan_theory.proofs.NoChain.{none_without_cover}
+use Rattle.plan_theory.specs.Wins.{covers_chain}
 use Rattle.chain_plan.proofs.PlanSteps.{blank, covered_is, ends_refused, stage_count, plan_is}
 use Rattle.chain_plan.proofs.RuleSteps.{has_still}
 use Rattle.chain_plan.proofs.SceneSteps.{same_length, long_enough}

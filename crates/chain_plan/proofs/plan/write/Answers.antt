@@ -1,4 +1,4 @@
-use Rattle.chain_goals.specs.Printed.{chain_rules}
+use Rattle.plan_theory.specs.ChainPrinted.{chain_rules}
 use Rattle.chain_plan.specs.Scenes.{board_of, sys_of}
 use Rattle.plan_rules.specs.Rules.{context_rule_of}
 use Rattle.slot_board.proofs.BoardSlots.{went, passed, same_actions}

@@ -1,7 +1,7 @@
 use Rattle.std.proofs.Common.{◌≡◌, length, map, suc}
 use Rattle.std.specs.List.{flat_map, range_with_len}
-use Rattle.chain_goals.specs.Chains.{Chained}
-use Rattle.chain_goals.specs.Printed.{rules_of_context}
+use Rattle.plan_theory.specs.Chains.{Chained}
+use Rattle.plan_theory.specs.ChainPrinted.{rules_of_context}
 use Rattle.plan_rules.specs.Rules.{context_rule_of}
 use Rattle.chain_plan.specs.Scenes.{Start, sys_of}
 use Rattle.chain_plan.specs.Steps.{HasTakers, Lists}

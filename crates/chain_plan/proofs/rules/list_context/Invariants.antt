@@ -1,5 +1,5 @@
 use Rattle.std.proofs.Common.{◌≡◌, length, map, suc}
-use Rattle.chain_goals.specs.Chains.{Chained}
+use Rattle.plan_theory.specs.Chains.{Chained}
 use Rattle.plan_rules.specs.Rules.{context_rule_of}
 use Rattle.chain_plan.specs.Scenes.{Start}
 use Rattle.chain_plan.specs.Steps.{HasTakers, ListsStages}

@@ -1,5 +1,5 @@
 use Rattle.std.proofs.Common.{◌≡◌, length}
-use Rattle.chain_goals.specs.Chains.{Chained}
+use Rattle.plan_theory.specs.Chains.{Chained}
 use Rattle.chain_plan.specs.Scenes.{Start}
 use Rattle.chain_plan.specs.Steps.{HasTakers}
 use Rattle.chain_plan.proofs.takers.take_all.Given as goal

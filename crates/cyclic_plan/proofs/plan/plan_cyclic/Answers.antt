@@ -8,9 +8,9 @@ use Rattle.plan_rules.specs.Denoted.{denoted, IsExecutable}
 use Rattle.plan_rules.specs.Plans.{IsRuleOf}
 use Rattle.plan_rules.specs.Rules.{rules_of}
 use Rattle.preimage.proofs.FrameSteps.{made_now}
-use Rattle.cyclic_plan.specs.Largest.{IsLargestSet}
-use Rattle.cyclic_plan.specs.Pairs.{Pairs}
-use Rattle.cyclic_plan.specs.Printed.{cyclic_rules}
+use Rattle.plan_theory.specs.LargestSets.{IsLargestSet}
+use Rattle.plan_theory.specs.Pairs.{Pairs}
+use Rattle.plan_theory.specs.CyclicPlans.{cyclic_rules}
 use Rattle.cyclic_plan.proofs.Answered.{ends_at, ends_full, ends_no_plan, ends_plan, first_places, start_of}
 use Rattle.slot_board.proofs.BoardSlots.{same_chain}
 use Rattle.cyclic_plan.proofs.plan.plan_cyclic.Goals as goal

@@ -1,7 +1,7 @@
 use Rattle.std.proofs.Common.{◌≡◌, ◌+◌, arith, length}
 use Rattle.std.proofs.lemmas.Result.{err_from_is_err_and}
 use Rattle.task_core.specs.Tasks.{action_count}
-use Rattle.reach_plan.specs.Layers.{may_lead}
+use Rattle.plan_theory.specs.Layers.{may_lead}
 use Rattle.cyclic_plan.specs.Stages.{kept_system}
 use Rattle.cyclic_plan.specs.Begun.{board_of}
 use Rattle.slot_board.proofs.BoardSlots.{left_with, passed, same_actions, went}

@@ -2,8 +2,8 @@ use Rattle.std.proofs.lemmas.Result.{err_from_is_err_and}
 use Rattle.std.proofs.Common.{◌≡◌, arith, length, refl}
 use Rattle.task_core.specs.Tasks.{system_of}
 use Rattle.task_core.specs.declared.classes.Class.TheVariants.{Weak}
-use Rattle.reach_plan.specs.Layers.{layer}
-use Rattle.cyclic_plan.specs.Pairs.{is_goal}
+use Rattle.plan_theory.specs.Layers.{layer}
+use Rattle.plan_theory.specs.Pairs.{is_goal}
 use Rattle.cyclic_plan.specs.Stages.{HasNear, kept_system, none_taken, takers_within}
 use Rattle.cyclic_plan.specs.Begun.{board_of}
 use Rattle.slot_board.proofs.BoardSlots.{left_with, same_actions, went, passed}

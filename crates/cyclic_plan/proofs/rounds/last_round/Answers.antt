@@ -1,7 +1,7 @@
 use Rattle.std.proofs.Common.{suc, ◌≡◌, ◌+◌, arith, length}
 use Rattle.std.proofs.lemmas.Result.{err_from_is_err_and}
 use Rattle.task_core.specs.Tasks.{action_count, system_of}
-use Rattle.cyclic_plan.specs.Rounds.{round}
+use Rattle.plan_theory.specs.PairRounds.{round}
 use Rattle.cyclic_plan.specs.Begun.{board_of}
 use Rattle.slot_board.proofs.BoardSlots.{passed, same_actions, same_fluents, went}
 use Rattle.cyclic_plan.proofs.RoundsMade.{round_done, round_less}

@@ -3,9 +3,9 @@ use Rattle.task_core.specs.Tasks.{system_of}
 use Rattle.task_core.specs.Vectors.{all_vectors, value_of}
 use Rattle.slot_board.specs.Board.{set_at}
 use Rattle.cyclic_plan.specs.Begun.{Start}
-use Rattle.cyclic_plan.specs.Rounds.{round}
+use Rattle.plan_theory.specs.PairRounds.{round}
 use Rattle.cyclic_plan.specs.Stages.{HasRound, HasRounds, none_taken}
-use Rattle.cyclic_plan.proofs.RoundSteps.{held}
+use Rattle.plan_theory.proofs.RoundSteps.{held}
 use Rattle.cyclic_plan.proofs.rounds.last_round.Given as goal
 
 abbrev pub invariant-loop-enc : goal.invariant-loop-enc

@@ -2,7 +2,7 @@ use Rattle.std.proofs.lemmas.Result.{err_from_is_err_and}
 use Rattle.std.proofs.Common.{suc, ◌≡◌, ◌+◌, arith, length}
 use Rattle.task_core.specs.Tasks.{action_count}
 use Rattle.task_core.specs.declared.classes.Class.TheVariants.{Weak}
-use Rattle.reach_plan.specs.Layers.{layer}
+use Rattle.plan_theory.specs.Layers.{layer}
 use Rattle.cyclic_plan.specs.Stages.{HasNear, kept_system, takers_within}
 use Rattle.cyclic_plan.specs.Begun.{board_of}
 use Rattle.slot_board.proofs.BoardSlots.{left_with, same_actions, went, passed}

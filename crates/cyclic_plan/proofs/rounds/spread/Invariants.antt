@@ -4,7 +4,7 @@ use Rattle.task_core.specs.Vectors.{all_vectors, value_of}
 use Rattle.slot_board.specs.Board.{set_at}
 use Rattle.cyclic_plan.specs.Begun.{Start}
 use Rattle.cyclic_plan.specs.Stages.{HasNear, HasStep, none_taken}
-use Rattle.cyclic_plan.proofs.RoundSteps.{held}
+use Rattle.plan_theory.proofs.RoundSteps.{held}
 use Rattle.cyclic_plan.proofs.rounds.spread.Given as goal
 
 abbrev pub invariant-loop-enc : goal.invariant-loop-enc

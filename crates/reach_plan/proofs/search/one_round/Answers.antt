@@ -7,7 +7,7 @@ use Rattle.dd_sets.specs.LiveSets.{IsLive, IsSets, LiveSets, set_of}
 use Rattle.dd_sets.specs.Rooms.{IsTightFor}
 use Rattle.task_core.specs.Tasks.{action_count, fluent_count, system_of}
 use Rattle.encode_task.specs.Slots.{Encoded}
-use Rattle.reach_plan.specs.Layers.{covers}
+use Rattle.plan_theory.specs.Layers.{covers}
 use Rattle.reach_plan.specs.LayerSets.{grown, taken_by}
 use Rattle.reach_plan.specs.Searches.{StillOne, with_one}
 use Rattle.reach_plan.proofs.SearchSteps.{at_made, at_same, covered_is, depends_by, end_next, last_holds, last_live, next_holds, next_live, next_round, one_live, length_one, room_for}

@@ -1,9 +1,8 @@
-use Rattle.std.proofs.Common.{arith, sym, ◌≡◌, ◌∙◌, ℕ, Bool, List, true, subst, ap, length, map, take, take_all, ◌+◌, ◌<◌, ◌≤◌}
-use Rattle.std.specs.List.{fold, list_all}
+use Rattle.std.proofs.Common.{arith, sym, ◌≡◌, ◌∙◌, ℕ, subst, ap, length, map, take, take_all, ◌+◌, ◌<◌, ◌≤◌}
+use Rattle.std.specs.List.{fold}
 use Rattle.std.proofs.lemmas.Result.{err_from_is_err_and}
-use Rattle.task_core.specs.Vectors.{Vector}
-use Rattle.task_core.specs.States.{IsWithin, ShowsVectors, truth, vector}
-use Rattle.task_core.specs.Initial.{add_state, applied, applied_value, entry_of, lit_within}
+use Rattle.task_core.specs.States.{ShowsVectors, truth, vector}
+use Rattle.task_core.specs.Initial.{add_state, applied, applied_value, entry_of}
 use Rattle.task_core.proofs.StateLists.{lits_within, alternative_at, length-entry_of, one_alternative, applied_vector, applied_within, alternatives_grow}
 use Rattle.task_core.proofs.initial.add_alternatives.Goals as goal
 

@@ -1,4 +1,4 @@
-use Rattle.std.proofs.Common.{arith, true, sym, ◌≡◌, ◌∙◌, ℕ, get_or, suc, subst, ap, length, ⊎_elim, ◌+◌, ◌<◌, ◌≤◌}
+use Rattle.std.proofs.Common.{arith, true, sym, ◌≡◌, get_or, subst, length, ⊎_elim, ◌+◌, ◌<◌, ◌≤◌}
 use Rattle.std.proofs.lemmas.Result.{err_from_is_err_and}
 use Rattle.std.proofs.lemmas.Bool.{cases_lt}
 use Rattle.task_core.specs.States.{ShowsVectors}

@@ -1,7 +1,6 @@
-use Rattle.std.proofs.Common.{arith, sym, ◌≡◌, ◌∙◌, ℕ, List, [], subst, ap, length, map, take, take_all, ◌+◌, ◌<◌, ◌≤◌}
+use Rattle.std.proofs.Common.{arith, sym, [], subst, length, map, take, take_all, ◌+◌, ◌<◌, ◌≤◌}
 use Rattle.std.specs.List.{fold}
 use Rattle.std.proofs.lemmas.Result.{err_from_is_err_and}
-use Rattle.task_core.specs.Vectors.{Vector}
 use Rattle.task_core.specs.States.{ShowsVectors, vector}
 use Rattle.task_core.specs.Initial.{add_state, applied, after_entry, entry_of}
 use Rattle.task_core.proofs.StateLists.{made, one_state, states_grow, same_error, shown_at, length_shown, alternatives_within}

@@ -1,5 +1,0 @@
-use Rattle.cyclic_plan.proofs.Survives.{solution_outlasts}
-use Rattle.cyclic_plan.proofs.laws.solutions_outlast_rounds.Goals as goal
-
-pub returns : goal.returns
-returns c = record { kept = λ sys table r v a ok is_table solves. solution_outlasts sys ok table is_table solves r v a }

@@ -1,0 +1,29 @@
+pub mod WeakLists
+pub mod Ranges
+pub mod Tests
+pub mod Cubes
+pub mod WeakDenoted
+pub mod ClassLayers
+pub mod Weak
+pub mod WeakPrinted
+pub mod NoStrong
+pub mod StrongPrinted
+pub mod LeastBounds
+pub mod PrintedWithin
+mod WeakExamples
+pub mod Restricted
+pub mod RoundSteps
+pub mod Survives
+pub mod CyclicPrinted
+mod CyclicExamples
+pub mod Shrinking
+pub mod Leading
+pub mod SafeSets
+pub mod StageSets
+pub mod Towards
+pub mod RuleParts
+pub mod FiniteContexts
+pub mod PlanRuns
+pub mod Sound
+pub mod NoChain
+mod ChainExamples

@@ -1,0 +1,46 @@
+-- The table that rules denote, pair by pair.
+use Rattle.std.proofs.Common.{◌≡◌, ℕ, ◌<◌, true, List, refl, sym, ap, ◌∙◌, subst}
+use Rattle.std.specs.Prelude.{◌&&◌}
+use Rattle.std.specs.List.{Contains, list_any, filter, range_with_len}
+use Rattle.std.proofs.lemmas.Bool.{false≢true, and_parts, and_from}
+use Rattle.task_core.specs.Vectors.{Vector, all_vectors}
+use Rattle.task_core.specs.Systems.{System, IsState, Exec, HasOutcome}
+use Rattle.task_core.specs.Tables.{IsTable}
+use Rattle.plan_rules.specs.Rules.{PlanRule}
+use Rattle.plan_rules.specs.Denoted.{can_execute, advises, denoted_at, denoted}
+use Rattle.plan_theory.proofs.Cubes.{all_vectors-holds, all_vectors-length}
+use Rattle.plan_theory.proofs.WeakLists.{Contains-map, Contains-map-witness, Contains-filter, Contains-filter-witness, Contains-flat_map, Contains-flat_map-witness, Contains-range_with_len, Contains-range_with_len-below, list_any-from}
+
+pub can_execute-Exec : (sys : System) (s : Vector) (a : ℕ) → can_execute sys s a ≡ true → Exec sys s a
+can_execute-Exec sys s a h e = false≢true (ap (λ ts. list_any (λ (t : Vector). true) ts) (sym e) ∙ h)
+
+pub can_execute-outcome : (sys : System) (s : Vector) (a : ℕ) (t : Vector) → HasOutcome sys s a t → can_execute sys s a ≡ true
+can_execute-outcome sys s a t o = list_any-from (λ (t : Vector). true) (sys.next s a) t o refl
+
+-- what makes (s, a) a pair of the table
+pub record IsDenoted (sys : System) (rules : List PlanRule) (s : Vector) (a : ℕ) : Type 0 where
+  pub state : IsState sys s
+  pub below : a < sys.actions
+  pub advised : advises rules s a ≡ true
+  pub executable : can_execute sys s a ≡ true
+
+pub denoted-from : (sys : System) (rules : List PlanRule) (s : Vector) (a : ℕ) → IsDenoted sys rules s a → Contains (denoted sys rules) (s, a)
+denoted-from sys rules s a d = Contains-flat_map (denoted_at sys rules) (all_vectors sys.fluents) s (s, a) (all_vectors-holds sys.fluents s d.state)
+    (Contains-map (λ b. (s, b)) (filter (λ b. advises rules s b && can_execute sys s b) (range_with_len 0 sys.actions)) a
+    (Contains-filter (λ b. advises rules s b && can_execute sys s b) (range_with_len 0 sys.actions) a (Contains-range_with_len sys.actions a d.below) (and_from (advises rules s a) (can_execute sys s a) d.advised d.executable)))
+
+pub denoted-pair : (sys : System) (rules : List PlanRule) (s : Vector) (a : ℕ) → Contains (denoted sys rules) (s, a) → IsDenoted sys rules s a
+denoted-pair sys rules s a c =
+    let at = Contains-flat_map-witness (denoted_at sys rules) (all_vectors sys.fluents) (s, a) c in
+    let v = at.0 in
+    let test = λ (b : ℕ). advises rules v b && can_execute sys v b in
+    let pair = Contains-map-witness (λ b. (v, b)) (filter test (range_with_len 0 sys.actions)) (s, a) at.2 in
+    let b = pair.0 in
+    let passes = Contains-filter-witness test (range_with_len 0 sys.actions) b pair.1 in
+    let both = and_parts (advises rules v b) (can_execute sys v b) passes.1 in
+    let here : IsDenoted sys rules v b = record { state = all_vectors-length sys.fluents v at.1; below = Contains-range_with_len-below sys.actions b passes.0; advised = both.0; executable = both.1 } in
+    subst (λ (p : Vector × ℕ). IsDenoted sys rules p.0 p.1) pair.2 here
+
+-- whatever the rules, what they denote is a table
+pub denoted-table : (sys : System) (rules : List PlanRule) → IsTable sys (denoted sys rules)
+denoted-table sys rules s a c = let d = denoted-pair sys rules s a c in (d.state, can_execute-Exec sys s a d.executable)

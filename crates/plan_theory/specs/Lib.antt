@@ -1,0 +1,15 @@
+pub mod Layers
+pub mod Classes
+pub mod LayerPlans
+pub mod Bounds
+pub mod Found
+pub mod Pairs
+pub mod LargestSets
+pub mod PairRounds
+pub mod CyclicPlans
+pub mod Chains
+pub mod Safe
+pub mod StageSets
+pub mod Wins
+pub mod ChainPrinted
+pub mod ChainPlans
