@@ -1,4 +1,3 @@
-pub mod SameValues
 pub mod PlanCubes
 pub mod Places
 pub mod Executes

@@ -12,7 +12,8 @@ use Rattle.task_core.specs.ContextPlans.{Configuration, Follows, first_context}
 use Rattle.task_core.specs.Cubes.{matches}
 use Rattle.plan_rules.specs.Denoted.{advises, can_execute, denoted, denoted_contexts, next_context, rule_at}
 use Rattle.plan_rules.specs.Rules.{PlanRule, PlanNext, ContextRule, PlainPlan, always, table, automaton}
-use Rattle.exec_graph.specs.Counting.{Advised, Moved, advised_by, advised_in_table, moves_by, moves_from, no_moves, onward_to, with_outcome, with_rule, with_table_rule}
+use Rattle.exec_graph.specs.Counting.{Moved, advised_in_table, moves_by, moves_from, no_moves, onward_to, with_outcome, with_rule, with_table_rule}
+use Rattle.plan_rules.specs.Advices.{Advised, advised_by}
 use Rattle.exec_graph.specs.Executions.{GoesTo, HasBadAction, HasBadRule, HasLostOutcome, IsStuckAt, IsUnexecutableAt}
 use Rattle.exec_graph.proofs.Lists.{Contains-head, Contains-cons, Contains-nil, Contains-cases, list_any-from, list_any-witness}
 use Rattle.exec_graph.proofs.Listed.{AreDifferent, all_added_has, all_added_only, all_added_differ, none_differ}

@@ -9,45 +9,15 @@ use Rattle.task_core.specs.Vectors.{Vector, same_vector}
 use Rattle.task_core.specs.Systems.{System}
 use Rattle.task_core.specs.ContextPlans.{Configuration, first_context}
 use Rattle.task_core.specs.Cubes.{matches}
+use Rattle.plan_rules.specs.Advices.{Advised, AreCasesOf, advised_by}
 use Rattle.plan_rules.specs.Denoted.{can_execute, next_context, rule_at}
 use Rattle.plan_rules.specs.Plans.{IsCubeOf}
 use Rattle.plan_rules.specs.Rules.{PlanRule, PlanCase, PlanNext, ContextRule, PlainPlan, always}
 use Rattle.plan_rules.specs.Rules.{by_cases, case_of, table, automaton}
-use Rattle.exec_graph.specs.declared.matching.Onward.{Onward}
-use Rattle.exec_graph.specs.declared.matching.Onward.TheVariants.{Always, ByCases}
-use Rattle.exec_graph.specs.declared.rules.Advice.{Advice}
-
--- Private: what a rule says where it counts: an action, and the next context
-pub record Advised : Type 0 where
-  pub action : ℕ
-  pub next : PlanNext
 
 -- Private: what a rule of a table says; it keeps the first context
 abbrev pub advised_in_table : PlanRule → Advised
 advised_in_table rule = record { action = rule.action; next = always first_context }
-
--- Private: what a rule of an automaton says
-abbrev pub advised_by : ContextRule → Advised
-advised_by rule = record { action = rule.action; next = rule.next }
-
--- Private: the next context, as the code holds it
-abbrev pub onward_value : Onward → PlanNext
-onward_value (Always context) = always context
-onward_value (ByCases cases) = by_cases (map case_of cases.now)
-
--- Private: a rule, as the code holds it
-abbrev pub advice_value : Advice → Advised
-advice_value a = record { action = a.action.0; next = onward_value a.onward }
-
--- Private: the cases name fluents below n alone
-abbrev pub AreCasesOf : ℕ → PlanNext → Type 0
-AreCasesOf n (always context) = ⊤
-AreCasesOf n (by_cases cases) = All (λ (case : PlanCase). IsCubeOf n case.cube) cases
-
--- Private: the action is one of m, and the cases name fluents below n alone
-pub record IsAdviceOf (n m : ℕ) (a : Advice) : Type 0 where
-  pub action : a.action.0 < m
-  pub cases : AreCasesOf n (onward_value a.onward)
 
 -- Private: the configuration of an outcome; none where there is no next context
 abbrev pub onward_to : PlanNext → Vector → List Configuration

@@ -42,10 +42,10 @@ ghost use Rattle.exec_graph.specs.Moves.{IsPlaceWithin, configuration_of};
 ghost use Rattle.exec_graph.specs.Values.{IsWithinFluents, plain_graph};
 
 use crate::graphs::{Graph, Place};
-use crate::moves::{FIRST_CONTEXT, moves_of, number_of};
+use crate::moves::{moves_of, number_of};
 use crate::rules::{ByContext, by_context};
 use indexmap::IndexSet;
-use plan_rules::Plan;
+use plan_rules::{FIRST_CONTEXT, Plan};
 use std::alloc::{AllocError, Global};
 use task_core::{InitErr, State, Task, init_states};
 use thiserror::Error;

@@ -9,7 +9,6 @@
 
 mod exploration;
 mod graphs;
-mod matching;
 mod moves;
 mod rules;
 #[cfg(test)]

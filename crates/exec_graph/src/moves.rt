@@ -33,32 +33,16 @@ ghost use Rattle.plan_rules.specs.Denoted.{can_execute};
 ghost use Rattle.plan_rules.specs.Plans.{IsPlanOf, IsRuleOf};
 ghost use Rattle.plan_rules.specs.Rules.{plain_of, rule_of};
 ghost use Rattle.exec_graph.specs.ByContext.{IsIndexOf};
-ghost use Rattle.exec_graph.specs.Counting.{
-  AreCasesOf,
-  IsAdviceOf,
-  add_configuration,
-  advice_value,
-  moves_by,
-  moves_from,
-  moves_in_table,
-  no_moves,
-  onward_value,
-  with_outcome,
-  with_rule,
-  with_table_rule,
-};
+ghost use Rattle.exec_graph.specs.Counting.{add_configuration, moves_by, moves_from, moves_in_table, no_moves, with_outcome, with_rule, with_table_rule};
+ghost use Rattle.plan_rules.specs.Advices.{AreCasesOf, IsAdviceOf, advice_value, onward_value};
 ghost use Rattle.exec_graph.specs.Moves.{AreWithin, IsPlaceWithin, configuration_of, moves_value};
 
 use crate::graphs::Place;
-use crate::matching::{Onward, context_in, has_all};
-use crate::rules::{Advice, ByContext};
+use crate::rules::ByContext;
 use indexmap::IndexSet;
-use plan_rules::{Plan, Rule};
+use plan_rules::{Advice, FIRST_CONTEXT, Onward, Plan, Rule, context_in, has_all};
 use std::alloc::{AllocError, Global};
 use task_core::{ActionId, State, Task, is_exec, step};
-
-/// The context in which every plan begins, and in which a table stays.
-pub(crate) const FIRST_CONTEXT: u32 = 1;
 
 /// The moves from a configuration: those that follow it, each once, whether a rule that counts has
 /// an action that can't be executed, and whether the plan doesn't go on.

@@ -7,27 +7,14 @@ ghost use Rattle.plan_rules.specs.Denoted.{rule_at};
 ghost use Rattle.plan_rules.specs.Plans.{IsContextRuleOf};
 ghost use Rattle.plan_rules.specs.Rules.{context_rule_of};
 ghost use Rattle.exec_graph.specs.ByContext.{rules_in};
-ghost use Rattle.exec_graph.specs.Counting.{
-  IsAdviceOf,
-  IsRuleWithin,
-  advice_value,
-  advised_by,
-  first_matching,
-};
+ghost use Rattle.exec_graph.specs.Counting.{IsRuleWithin, first_matching};
+ghost use Rattle.plan_rules.specs.Advices.{IsAdviceOf, advice_value, advised_by};
 ghost use Rattle.task_core.specs.States.{vector};
 ghost use Rattle.task_core.specs.Tasks.{action_count, fluent_count};
 
-use crate::matching::{Onward, has_all, onward_of};
-use plan_rules::AutoRule;
+use plan_rules::{Advice, AutoRule, has_all, onward_of};
 use std::alloc::{AllocError, Global};
-use task_core::{ActionId, State, Task};
-
-/// A rule that counts: its action, and how the plan goes on.
-#[derive(Clone, Copy)]
-pub(crate) struct Advice<'a> {
-    pub(crate) action: ActionId,
-    pub(crate) onward: Onward<'a>,
-}
+use task_core::{State, Task};
 
 /// The rules of an automaton, those of each context in a list of their own, in their order. The
 /// list of context `c` has the place `c`.

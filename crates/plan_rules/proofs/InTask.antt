@@ -54,30 +54,30 @@ in_known : (P : ℕ → Type 0) (o : Option ℕ) (span : Span) (kind : FaultKind
 in_known P None span kind each h = a_flaw (flaw_at span kind) h
 in_known P (Some n) span kind each h = each n refl
 
-number_below : (names : List Name) (name : Name) (n : ℕ) → read.number_of names name ≡ Some n → n < length names
+number_below : (names : List Name) (name : Name) (n : ℕ) → read.number_of_name names name ≡ Some n → n < length names
 number_below names name n e = (position-Some (pointwise bytes_eq name) names n [] e).0
 
-atom : (fluents : List Name) (outer span : Span) (row : Forest) → read.atom_flaws fluents outer span row ≡ [] → read.named fluents row < length fluents
+atom : (fluents : List Name) (outer span : Span) (row : Forest) → read.atom_flaws fluents outer span row ≡ [] → read.number_of_words fluents row < length fluents
 atom fluents outer span row h = by_tests (not (are_words row)) (begins_with (codes "not") row) h
   where
-    by_tests : (v w : Bool) → (if v then flaw_at outer BadForm ∷ [] else if w then flaw_at span BadForm ∷ [] else read.flaw_unless (read.is_known fluents row) span UnknownName) ≡ [] → read.named fluents row < length fluents
+    by_tests : (v w : Bool) → (if v then flaw_at outer BadForm ∷ [] else if w then flaw_at span BadForm ∷ [] else read.flaw_unless (read.is_known fluents row) span UnknownName) ≡ [] → read.number_of_words fluents row < length fluents
     by_tests true w e = a_flaw (flaw_at outer BadForm) e
     by_tests false true e = a_flaw (flaw_at span BadForm) e
-    by_tests false false e = in_known (λ n. n < length fluents) (read.number_of fluents (texts_of row)) span UnknownName (number_below fluents (texts_of row)) e
+    by_tests false false e = in_known (λ n. n < length fluents) (read.number_of_name fluents (texts_of row)) span UnknownName (number_below fluents (texts_of row)) e
 
 literal : (fluents : List Name) (span : Span) (parts : Forest) → read.literal_flaws fluents span parts ≡ [] → (read.literal_tree fluents parts).fluent.0 < length fluents
 literal fluents span parts h =
     in_option (λ (lit : Lit). lit.fluent.0 < length fluents)
-    (λ (found : Span × Forest). read.atom_flaws fluents span found.0 found.1) (λ (found : Span × Forest). cubes.literal (read.named fluents found.1) false)
-    (read.atom_flaws fluents span span parts) (cubes.literal (read.named fluents parts) true) (group_after (codes "not") parts)
+    (λ (found : Span × Forest). read.atom_flaws fluents span found.0 found.1) (λ (found : Span × Forest). cubes.literal (read.number_of_words fluents found.1) false)
+    (read.atom_flaws fluents span span parts) (cubes.literal (read.number_of_words fluents parts) true) (group_after (codes "not") parts)
     (λ found e. atom fluents span found.0 found.1 e) (λ e. atom fluents span span parts e) h
 
 cube : (fluents : List Name) (row : Forest) → read.cube_flaws fluents row ≡ [] → IsCubeOf (length fluents) (read.cube_tree fluents row)
 cube fluents row h =
     in_groups (λ (lit : Lit). lit.fluent.0 < length fluents) (read.literal_flaws fluents) (read.literal_tree fluents) (literal fluents) row h
 
-action : (actions : List Name) (span : Span) (row : Forest) → read.action_flaws actions span row ≡ [] → read.named actions row < length actions
-action actions span row h = in_known (λ n. n < length actions) (read.number_of actions (texts_of row)) span UnknownAction (number_below actions (texts_of row)) h
+action : (actions : List Name) (span : Span) (row : Forest) → read.action_flaws actions span row ≡ [] → read.number_of_words actions row < length actions
+action actions span row h = in_known (λ n. n < length actions) (read.number_of_name actions (texts_of row)) span UnknownAction (number_below actions (texts_of row)) h
 
 within : (most : ℕ) (text : List ℕ) (n : ℕ) → read.number_within most text ≡ Some n → IsContextOf most n
 within most text n e = by_numeral (numeral text) e
@@ -102,7 +102,7 @@ table_rule : (fluents actions : List Name) (span : Span) (parts : Forest) → re
 table_rule fluents actions span parts h =
     in_option (IsRuleOf (length fluents) (length actions))
     (λ (p : read.TableRuleParts). read.cube_flaws fluents p.cube ++ read.action_flaws actions p.action_span p.action)
-    (λ (p : read.TableRuleParts). record { cube = read.cube_tree fluents p.cube; action = read.named actions p.action })
+    (λ (p : read.TableRuleParts). record { cube = read.cube_tree fluents p.cube; action = read.number_of_words actions p.action })
     (flaw_at span BadForm ∷ []) read.no_rule (read.table_rule_parts parts)
     (λ p e. record {
       cube = cube fluents p.cube (nil-first (read.cube_flaws fluents p.cube) (read.action_flaws actions p.action_span p.action) e);
@@ -134,7 +134,7 @@ context_rule fluents actions contexts span parts h =
     (λ (p : read.ContextRuleParts). record {
       context = read.number_tree contexts p.context;
       cube = read.cube_tree fluents p.cube;
-      action = read.named actions p.action;
+      action = read.number_of_words actions p.action;
       next = read.next_tree fluents contexts p.next;
     })
     (flaw_at span BadForm ∷ []) read.no_context_rule (read.context_rule_parts parts)

@@ -5,6 +5,8 @@ pub mod InTask
 pub mod Whole
 pub mod FromForms
 pub mod MappedItems
+pub mod CaseCubes
+pub mod SameValues
 pub mod Spaced
 pub mod Pieces
 pub mod Printed

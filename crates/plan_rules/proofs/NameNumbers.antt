@@ -11,7 +11,7 @@ use Rattle.std.proofs.lemmas.List.Folds.{list_any_none}
 use Rattle.std.proofs.lemmas.List.Quantifiers.{position-Some}
 use Rattle.std.proofs.lemmas.List.{get_or-take, get_or-map, length-take-le, length-map, take-map}
 use Rattle.task_core.specs.Names.{Name, AreDistinct}
-use Rattle.plan_rules.specs.Readings.{number_of}
+use Rattle.plan_rules.specs.Readings.{number_of_name}
 
 same_name : (v w : Name) → Decides (pointwise bytes_eq v w) (v ≡ w)
 same_name v w = slice_eq-Decides bytes_eq-Decides v w (pointwise bytes_eq v w) refl
@@ -61,15 +61,15 @@ same-number names i j distinct in_i in_j e = elim (trichotomy i j) [
 ]
 
 -- the number of a name, where all are different
-known-at : (names : List Name) (n : ℕ) → AreDistinct names → n < length names → (o : Option ℕ) → number_of names (get_or names n []) ≡ o → o ≡ Some n
+known-at : (names : List Name) (n : ℕ) → AreDistinct names → n < length names → (o : Option ℕ) → number_of_name names (get_or names n []) ≡ o → o ≡ Some n
 known-at names n distinct within None e =
     let test : Name → Bool = pointwise bytes_eq (get_or names n []) in
-    let found : number_of names (get_or names n []) ≡ Some (position_or_len test names) =
+    let found : number_of_name names (get_or names n []) ≡ Some (position_or_len test names) =
     found-before test names n [] within ((same_name (get_or names n []) (get_or names n [])).1 refl) in
     absurd (let none : ⊥ = cc in none)
 known-at names n distinct within (Some m) e =
     let at = position-Some (pointwise bytes_eq (get_or names n [])) names m [] e in
     ap Some (same-number names m n distinct at.0 within (sym ((same_name (get_or names n []) (get_or names m [])).0 at.1)))
 
-pub number-known : (names : List Name) (n : ℕ) → AreDistinct names → n < length names → number_of names (get_or names n []) ≡ Some n
-number-known names n distinct within = known-at names n distinct within (number_of names (get_or names n [])) refl
+pub number-known : (names : List Name) (n : ℕ) → AreDistinct names → n < length names → number_of_name names (get_or names n []) ≡ Some n
+number-known names n distinct within = known-at names n distinct within (number_of_name names (get_or names n [])) refl

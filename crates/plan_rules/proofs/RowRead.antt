@@ -87,11 +87,11 @@ known None n span kind e = absurd (let none : ⊥ = cc in none)
 known (Some m) n span kind e = record { none = refl; same = cc }
 
 named-read : (names : List Name) (n : ℕ) (f : Forest) (span : Span) (kind : FaultKind) → AreDistinct names → n < length names → row_of f ≡ words (name_at names n)
-    → IsRead (read.flaw_unless (read.is_known names f) span kind) (read.named names f) n
+    → IsRead (read.flaw_unless (read.is_known names f) span kind) (read.number_of_words names f) n
 named-read names n f span kind distinct inside e =
     let w = words-read (name_at names n) f e in
-    subst (λ (name : Name). IsRead (read.flaw_unless (is_some (read.number_of names name)) span kind) (unwrap_or (read.number_of names name) 0) n) (sym w.texts)
-    (known (read.number_of names (name_at names n)) n span kind (number-known names n distinct inside))
+    subst (λ (name : Name). IsRead (read.flaw_unless (is_some (read.number_of_name names name)) span kind) (unwrap_or (read.number_of_name names name) 0) n) (sym w.texts)
+    (known (read.number_of_name names (name_at names n)) n span kind (number-known names n distinct inside))
 
 begins-other : (w : List ℕ) (name : Name) (f : Forest) → row_of f ≡ words name → first_word name ≢ w → begins_with w f ≡ false
 begins-other w [] f e apart = subst (λ (g : Forest). begins_with w g ≡ false) (sym (no-form f e)) refl
@@ -105,7 +105,7 @@ atom-tests true true outer span rest e f g = absurd (let none : ⊥ = cc in none
 atom-tests false w outer span rest e f g = absurd (let none : ⊥ = cc in none)
 
 atom-read : (fluents : List Name) (n : ℕ) (f : Forest) (outer span : Span) → AreFluentNames fluents → n < length fluents → row_of f ≡ words (name_at fluents n)
-    → IsRead (read.atom_flaws fluents outer span f) (read.named fluents f) n
+    → IsRead (read.atom_flaws fluents outer span f) (read.number_of_words fluents f) n
 atom-read fluents n f outer span names inside e =
     let w = words-read (name_at fluents n) f e in
     let is = named-read fluents n f span UnknownName names.distinct inside e in
@@ -128,7 +128,7 @@ literal-read fluents names l inside span parts e = by_sign l.positive refl e
         let none : group_after (codes "not") parts ≡ None = ap (λ b. option_and_then only_group (if b then Some (after_first parts) else None)) plain in
         record {
           none = ap (λ o. option_map_or (λ (atom : Span × Forest). read.atom_flaws fluents span atom.0 atom.1) o (read.atom_flaws fluents span span parts)) none ∙ is.none;
-          same = ap (λ o. option_map_or (λ (atom : Span × Forest). literal (read.named fluents atom.1) false) o (literal (read.named fluents parts) true)) none
+          same = ap (λ o. option_map_or (λ (atom : Span × Forest). literal (read.number_of_words fluents atom.1) false) o (literal (read.number_of_words fluents parts) true)) none
               ∙ (ap (λ m. literal m true) is.same ∙ ap (λ b. literal n b) (sym v));
         }
     by_sign false v e =
@@ -185,11 +185,11 @@ rule-read fluents actions names anames rule is span parts e =
     ∙ ap (λ (t : Forest). word a.span (codes "rule") (group b.span b.parts (group c.span c.parts t))) last)) in
     subst (λ (f : Forest). IsRead (read.table_rule_flaws fluents actions span f) (read.table_rule_tree fluents actions f) rule) (sym shape)
     (when (λ (p : read.TableRuleParts). read.cube_flaws fluents p.cube ++ read.action_flaws actions p.action_span p.action)
-    (λ (p : read.TableRuleParts). rule_from (read.cube_tree fluents p.cube) (read.named actions p.action))
+    (λ (p : read.TableRuleParts). rule_from (read.cube_tree fluents p.cube) (read.number_of_words actions p.action))
     (flaw_at span BadForm ∷ []) read.no_rule (are_words c.parts) (record { cube = b.parts; action_span = c.span; action = c.parts }) rule all.all
     (record {
       none = joined (read.cube_flaws fluents b.parts) (read.action_flaws actions c.span c.parts) cube.none act.none;
-      same = ap (λ (q : Cube). rule_from q (read.named actions c.parts)) cube.same ∙ ap (λ m. rule_from rule.cube m) act.same;
+      same = ap (λ (q : Cube). rule_from q (read.number_of_words actions c.parts)) cube.same ∙ ap (λ m. rule_from rule.cube m) act.same;
     }))
 
 -- a number from 1 up to the number of contexts
@@ -253,7 +253,7 @@ flaws_of_parts fluents actions contexts p =
 
 abbrev tree_of_parts : List Name → List Name → ℕ → read.ContextRuleParts → ContextRule
 tree_of_parts fluents actions contexts p =
-    context_rule_from (read.number_tree contexts p.context) (read.cube_tree fluents p.cube) (read.named actions p.action) (read.next_tree fluents contexts p.next)
+    context_rule_from (read.number_tree contexts p.context) (read.cube_tree fluents p.cube) (read.number_of_words actions p.action) (read.next_tree fluents contexts p.next)
 
 abbrev made : ContextRule → Span → Forest → Span → Forest → Item × Forest → Option read.ContextRuleParts
 made rule s cube t action next =
@@ -288,8 +288,8 @@ context_rule-read fluents actions contexts names anames small rule is span parts
     (record { context = of_word n.span (decimal rule.context); cube = b.parts; action_span = c.span; action = c.parts; next = next.item }) rule all.all
     (record {
       none = joined (x ++ y ++ z) w (joined (x ++ y) z (joined x y number.none cube.none) act.none) next.read.none;
-      same = ap (λ m. context_rule_from m (read.cube_tree fluents b.parts) (read.named actions c.parts) (read.next_tree fluents contexts next.item)) number.same
-          ∙ (ap (λ (q : Cube). context_rule_from rule.context q (read.named actions c.parts) (read.next_tree fluents contexts next.item)) cube.same
+      same = ap (λ m. context_rule_from m (read.cube_tree fluents b.parts) (read.number_of_words actions c.parts) (read.next_tree fluents contexts next.item)) number.same
+          ∙ (ap (λ (q : Cube). context_rule_from rule.context q (read.number_of_words actions c.parts) (read.next_tree fluents contexts next.item)) cube.same
           ∙ (ap (λ m. context_rule_from rule.context rule.cube m (read.next_tree fluents contexts next.item)) act.same
           ∙ ap (λ (q : PlanNext). context_rule_from rule.context rule.cube rule.action q) next.read.same));
     })))

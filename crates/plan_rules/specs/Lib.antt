@@ -1,5 +1,6 @@
 pub mod Rules
 pub mod Denoted
+pub mod Advices
 pub mod Texts
 pub mod Plans
 pub mod Items

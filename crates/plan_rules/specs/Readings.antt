@@ -37,15 +37,16 @@ abbrev pub flaw_unless : Bool → Span → FaultKind → List Flaw
 flaw_unless holds span kind = if holds then [] else flaw_at span kind ∷ []
 
 -- the number of the first name that has these words
-abbrev pub number_of : List Name → Name → Option ℕ
-number_of names name = position (pointwise bytes_eq name) names
+abbrev pub number_of_name : List Name → Name → Option ℕ
+number_of_name names name = position (pointwise bytes_eq name) names
 
 -- whether some name has the words of the row
 abbrev pub is_known : List Name → Forest → Bool
-is_known names row = is_some (number_of names (texts_of row))
+is_known names row = is_some (number_of_name names (texts_of row))
 
-abbrev pub named : List Name → Forest → ℕ
-named names row = unwrap_or (number_of names (texts_of row)) 0
+-- the number of the name that the words of a row spell; 0 where there is none
+abbrev pub number_of_words : List Name → Forest → ℕ
+number_of_words names row = unwrap_or (number_of_name names (texts_of row)) 0
 
 -- a fluent's words, in the list at `span`, where a list of words is wanted in the literal at
 -- `outer`
@@ -64,9 +65,9 @@ literal_flaws fluents span parts =
 
 abbrev pub literal_tree : List Name → Forest → Lit
 literal_tree fluents parts =
-    option_map_or (λ (atom : Span × Forest). literal (named fluents atom.1) false)
+    option_map_or (λ (atom : Span × Forest). literal (number_of_words fluents atom.1) false)
     (group_after (codes "not") parts)
-    (literal (named fluents parts) true)
+    (literal (number_of_words fluents parts) true)
 
 -- `(LITERAL ..)`
 abbrev pub cube_flaws : List Name → Forest → List Flaw
@@ -121,7 +122,7 @@ no_rule = record { cube = []; action = 0 }
 abbrev pub table_rule_tree : List Name → List Name → Forest → PlanRule
 table_rule_tree fluents actions parts =
     option_map_or (λ (p : TableRuleParts).
-    record { cube = cube_tree fluents p.cube; action = named actions p.action })
+    record { cube = cube_tree fluents p.cube; action = number_of_words actions p.action })
     (table_rule_parts parts) no_rule
 
 -- the parts of a case, `(LITERAL ..) CONTEXT`
@@ -192,7 +193,7 @@ context_rule_tree fluents actions contexts parts =
     option_map_or (λ (p : ContextRuleParts). record {
       context = number_tree contexts p.context;
       cube = cube_tree fluents p.cube;
-      action = named actions p.action;
+      action = number_of_words actions p.action;
       next = next_tree fluents contexts p.next;
     }) (context_rule_parts parts) no_context_rule
 

@@ -12,6 +12,7 @@
 #![tactic(auto)]
 
 mod auto_reader;
+mod following;
 mod items;
 mod laws;
 mod literals;
@@ -24,7 +25,8 @@ mod tests;
 mod text;
 
 pub use auto_reader::MAX_CONTEXTS;
+pub use following::{Advice, FIRST_CONTEXT, Onward, context_in, has_all, onward_of};
 pub use laws::{one_plan, plan_or_fault, printed_spells};
 pub use reader::read_plan;
 pub use rules::{AutoPlan, AutoRule, Case, Class, Next, Plan, PlanRead, Rule, TablePlan};
-pub use text::{push_name, write_plan};
+pub use text::{push_name, push_number, write_plan};

@@ -13,7 +13,7 @@ ghost use Rattle.plan_rules.specs.Readings.{
   atom_flaws,
   cube_flaws,
   cube_tree,
-  named,
+  number_of_words,
   number_flaws,
   number_tree,
   number_within,
@@ -73,7 +73,7 @@ fn read_atom(
     ensures sound { IfOk result
         (λ fluent. atom_flaws (names_in fluents.now) outer span (forest_of row.now) ≡ []) }
     ensures read { IfOk result
-        (λ fluent. fluent.0 ≡ named (names_in fluents.now) (forest_of row.now)) }
+        (λ fluent. fluent.0 ≡ number_of_words (names_in fluents.now) (forest_of row.now)) }
     ensures fault { IfErr result (λ e. IfFault e (λ fault.
         first_listed (atom_flaws (names_in fluents.now) outer span (forest_of row.now))
         ≡ Some fault)) }
@@ -116,7 +116,7 @@ pub(crate) fn read_action(
     ensures sound { IfOk result
         (λ action. action_flaws (names_in actions.now) span (forest_of row.now) ≡ []) }
     ensures read { IfOk result
-        (λ action. action.0 ≡ named (names_in actions.now) (forest_of row.now)) }
+        (λ action. action.0 ≡ number_of_words (names_in actions.now) (forest_of row.now)) }
     ensures fault { IfErr result (λ e. IfFault e (λ fault.
         first_listed (action_flaws (names_in actions.now) span (forest_of row.now)) ≡ Some fault)) }
 {

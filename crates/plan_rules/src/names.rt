@@ -10,7 +10,7 @@ ghost use Rattle.sexpr_text.specs.Forest.{forest_of};
 ghost use Rattle.sexpr_text.specs.Parts.{are_words, texts_of};
 ghost use Rattle.task_core.specs.Names.{AreDistinct, Name, name_bytes};
 ghost use Rattle.plan_rules.specs.NameKeys.{key_of};
-ghost use Rattle.plan_rules.specs.Readings.{number_of};
+ghost use Rattle.plan_rules.specs.Readings.{number_of_name};
 
 use indexmap::IndexSet;
 use sexpr_text::{Form, View};
@@ -52,7 +52,7 @@ impl NameTable {
     /// names were added.
     pub(crate) fn number(&self, alloc: Global, row: &[Form]) -> Result<Option<u32>, AllocError>
         ensures { IfOk result
-            (λ number. number ≡ number_of (names_in self.now) (texts_of (forest_of row.now))) }
+            (λ number. number ≡ number_of_name (names_in self.now) (texts_of (forest_of row.now))) }
     {
         let words = words_of(alloc, row)?;
         Ok(self.place(&words))
@@ -60,7 +60,7 @@ impl NameTable {
 
     // The number of the name with these words.
     fn place(&self, words: &Vec<Vec<u8>>) -> Option<u32>
-        ensures { result ≡ number_of (names_in self.now) (key_of words.now) }
+        ensures { result ≡ number_of_name (names_in self.now) (key_of words.now) }
     {
         let place = self.names.get_index_of(words)?;
         Some(place as u32)

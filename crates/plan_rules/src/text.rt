@@ -9,7 +9,6 @@ ghost use Rattle.std.specs.Prelude.{
   IfOk,
   OnOk,
   codes,
-  decimal,
   string_bytes,
   All,
 };
@@ -46,7 +45,7 @@ ghost use Rattle.plan_rules.specs.Texts.{
 };
 
 use crate::rules::{AutoPlan, AutoRule, Case, Class, Next, Plan, Rule, TablePlan};
-use itoa::Buffer;
+use itoa::{Buffer, Integer};
 use std::alloc::{AllocError, Global};
 use task_core::{GroundAction, Lit, Task};
 
@@ -177,9 +176,9 @@ fn push_rules(
     Ok(())
 }
 
-// A number.
-fn push_number(out: &mut String, number: u32) -> Result<(), AllocError>
-    ensures { OnOk result (string_bytes out.new ≡ string_bytes out.old ++ decimal number) }
+/// Appends a number in decimal.
+pub fn push_number<I: Integer>(out: &mut String, number: I) -> Result<(), AllocError>
+    ensures { OnOk result (string_bytes out.new ≡ string_bytes out.old ++ I.text number) }
 {
     let mut buffer = Buffer::new();
     out.push_str(buffer.format(number))?;

@@ -1,5 +1,4 @@
 pub mod Counting
-pub mod Matching
 pub mod PlanCubes
 pub mod Paths
 pub mod Places

@@ -4,10 +4,9 @@ use Rattle.std.specs.List.{All}
 use Rattle.std.proofs.lemmas.List.{get_or-map, length-map}
 use Rattle.plan_rules.specs.declared.rules.Rule.{Rule}
 use Rattle.plan_rules.specs.declared.rules.AutoRule.{AutoRule}
-use Rattle.plan_rules.specs.declared.rules.Case.{Case}
-use Rattle.run_replay.specs.Advices.{AreCasesOf}
+use Rattle.plan_rules.specs.Advices.{AreCasesOf}
 use Rattle.plan_rules.specs.Plans.{IsCubeOf, IsRuleOf, IsContextRuleOf, IsNextOf}
-use Rattle.plan_rules.specs.Rules.{PlanNext, PlanCase, always, by_cases, case_of, next_of, rule_of, context_rule_of}
+use Rattle.plan_rules.specs.Rules.{PlanNext, always, by_cases, next_of, rule_of, context_rule_of}
 
 pub unmapped : {X Y : Type 0} (P : X → Type 0) (f : Y → X) (ys : List Y) → All P (map f ys) → All (λ y. P (f y)) ys
 unmapped P f ys all k d lt =
@@ -35,7 +34,3 @@ pub nexts_of_context_rules : (n m contexts : ℕ) (rules : List AutoRule) → Al
     → All (λ (rule : AutoRule). AreCasesOf n (next_of rule.next)) rules
 nexts_of_context_rules n m contexts rules all k d lt =
     cases_of_next n contexts (next_of (get_or rules k d).next) (unmapped (IsContextRuleOf n m contexts) context_rule_of rules all k d lt).next
-
-pub cubes_of_cases : (n : ℕ) (cases : List Case) → All (λ (case : PlanCase). IsCubeOf n case.cube) (map case_of cases)
-    → All (λ (case : Case). IsCubeOf n case.cube.items) cases
-cubes_of_cases n cases all k d lt = unmapped (λ (case : PlanCase). IsCubeOf n case.cube) case_of cases all k d lt

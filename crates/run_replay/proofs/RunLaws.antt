@@ -1,9 +1,9 @@
 -- A run and one turn more of it.
-use Rattle.std.proofs.Common.{◌≡◌, ℕ, zero, suc, ◌+◌, ◌-◌, ◌≤◌, ◌^◌, ◌==◌, Bool, true, false, if◌then◌else◌, List, [], ◌∷◌, ◌++◌, Option, Some, None, length, nat_lt, slice_index_or, arith, refl, sym, ap, subst, ◌∙◌, append_assoc, length-append}
+use Rattle.std.proofs.Common.{◌≡◌, ℕ, zero, suc, ◌+◌, ◌-◌, ◌≤◌, ◌^◌, ◌==◌, Bool, true, false, if◌then◌else◌, List, [], ◌∷◌, ◌++◌, Option, Some, None, length, map, nat_lt, slice_index_or, arith, refl, sym, ap, subst, ◌∙◌, append_assoc, length-append}
 use Rattle.std.proofs.lemmas.Bool.Decides.{nat_tests}
 use Rattle.std.specs.List.{All}
 use Rattle.std.proofs.lemmas.List.{append-nil, map-append}
-use Rattle.std.proofs.lemmas.List.Elements.{All-nil, All-push}
+use Rattle.std.proofs.lemmas.List.Elements.{All-map, All-nil, All-push}
 use Rattle.task_core.specs.States.{IsWithin, vector}
 use Rattle.task_core.specs.Systems.{System}
 use Rattle.task_core.specs.ContextPlans.{ContextPlan, first_context}
@@ -16,9 +16,11 @@ use Rattle.run_replay.specs.declared.traces.RunErr.TheVariants.{StrayOutcome, Un
 use Rattle.run_replay.specs.Runs.{IsStepOf, IsFrontOf, IsRefused, outcome_numbers, step_value, steps_value}
 use Rattle.run_replay.specs.Running.{HasRun, after_steps, next_turn_of, rest_of}
 use Rattle.run_replay.specs.Traces.{Trace, TraceStep, Turn, Ends, Goes, Ending, Terminal, Ended, Capped, Stray, Unexecutable, turn, acting, choosing, trace_from, trace_of, after_step, most_steps}
+use Rattle.run_replay.specs.TraceTexts.{tallies_of, tally_lines}
 use Rattle.run_replay.specs.Turns.{IsRefusal}
-use Rattle.run_replay.specs.Watching.{Seen, AreTold}
-use Rattle.run_replay.proofs.Telling.{are_told_none, are_told_more, small_tallies}
+use Rattle.run_replay.specs.Watching.{AreTold, MonitorData}
+use Rattle.run_replay.proofs.PlanCubes.{unmapped}
+use Rattle.run_replay.proofs.Telling.{are_told_none, are_told_more, small_tallies, tallies_told}
 
 not_zero : (k : ℕ) → (suc k == 0) ≡ false
 not_zero k = grind (arith, nat_tests)
@@ -84,13 +86,13 @@ has_room : (k m : ℕ) → k ≤ m → (k == m) ≡ false → m - k ≡ suc (m -
 has_room k m le not = grind (arith, nat_tests)
 
 -- at the start
-pub starts : {X : Type 0} (seen : X → Seen) (sys : System) (plan : ContextPlan) (n m : ℕ) (first : State) (words : List ℕ) (monitors : List X)
-    → IsWithin n first → HasRun seen sys plan n m (vector n first) words monitors [] first (Some first_context) words monitors
-starts seen sys plan n m first words monitors within = record {
+pub starts : (sys : System) (plan : ContextPlan) (n m : ℕ) (first : State) (words : List ℕ) (monitors : List MonitorData)
+    → IsWithin n first → HasRun sys plan n m (vector n first) words monitors [] first (Some first_context) words monitors
+starts sys plan n m first words monitors within = record {
   goes = refl;
   few = omega arith;
   taken = refl;
-  told = are_told_none seen monitors;
+  told = are_told_none monitors;
   in_task = All-nil (IsStepOf n m);
   within = within;
 }
@@ -123,14 +125,14 @@ rest_more sys plan n steps state context next left rest step few turned =
     (steps_on sys plan (most_steps - (length steps + 1)) (length steps + 1) (vector n state) context next left rest (step_value n step) at)
 
 -- after one turn more, where it makes a step
-pub one_more : {X : Type 0} {seen : X → Seen} {sys : System} {plan : ContextPlan} {n m : ℕ} {first : Vector} {words : List ℕ} {monitors : List X}
-    {steps : List Step} {state : State} {context next : Option ℕ} {left rest : List ℕ} {now later : List X} (step : Step)
-    → HasRun seen sys plan n m first words monitors steps state context left now
+pub one_more : {sys : System} {plan : ContextPlan} {n m : ℕ} {first : Vector} {words : List ℕ} {monitors : List MonitorData}
+    {steps : List Step} {state : State} {context next : Option ℕ} {left rest : List ℕ} {now later : List MonitorData} (step : Step)
+    → HasRun sys plan n m first words monitors steps state context left now
     → next_turn_of sys plan n steps state context left ≡ Goes (step_value n step) next rest
     → IsStepOf n m step
-    → AreTold seen (step ∷ []) now later
-    → HasRun seen sys plan n m first words monitors (steps ++ step ∷ []) step.after next rest later
-one_more {seen} {sys} {plan} {n} {m} {monitors} {steps} {state} {context} {next} {left} {rest} {now} {later} step run turned in_task told =
+    → AreTold (step ∷ []) now later
+    → HasRun sys plan n m first words monitors (steps ++ step ∷ []) step.after next rest later
+one_more {sys} {plan} {n} {m} {monitors} {steps} {state} {context} {next} {left} {rest} {now} {later} step run turned in_task told =
     let takes = turn_takes sys plan (length steps == most_steps) (length steps + 1) (vector n state) context left rest (step_value n step) next turned in
     record {
       goes =
@@ -144,15 +146,15 @@ one_more {seen} {sys} {plan} {n} {m} {monitors} {steps} {state} {context} {next}
           run.taken ∙ ap (λ (l : List ℕ). outcome_numbers (steps_value n steps) ++ l) takes.1
           ∙ sym (numbers_more (steps_value n steps) (step_value n step) rest)
           ∙ ap (λ (all : List TraceStep). outcome_numbers all ++ rest) (sym (steps_more n steps step));
-      told = are_told_more seen steps (step ∷ []) monitors now later run.told told;
+      told = are_told_more steps (step ∷ []) monitors now later run.told told;
       in_task = All-push (IsStepOf n m) steps step run.in_task in_task;
       within = in_task.after;
     }
 
 -- where the next turn ends the trace
-pub ends : {X : Type 0} {seen : X → Seen} {sys : System} {plan : ContextPlan} {n m : ℕ} {first : Vector} {words : List ℕ} {monitors : List X}
-    {steps : List Step} {state : State} {context : Option ℕ} {left rest : List ℕ} {now : List X} {ending : Ending}
-    → HasRun seen sys plan n m first words monitors steps state context left now
+pub ends : {sys : System} {plan : ContextPlan} {n m : ℕ} {first : Vector} {words : List ℕ} {monitors : List MonitorData}
+    {steps : List Step} {state : State} {context : Option ℕ} {left rest : List ℕ} {now : List MonitorData} {ending : Ending}
+    → HasRun sys plan n m first words monitors steps state context left now
     → next_turn_of sys plan n steps state context left ≡ Ends ending rest
     → trace_of sys plan first words ≡ record { steps = steps_value n steps; ending = ending; left = rest }
 ends {sys} {plan} {n} {steps} {state} {context} {left} {rest} {ending} run turned =
@@ -163,9 +165,9 @@ ends {sys} {plan} {n} {steps} {state} {context} {left} {rest} {ending} run turne
     ∙ ap (λ (all : List TraceStep). let t : Trace = record { steps = all; ending = ending; left = rest } in t) (append-nil (steps_value n steps))
 
 -- the steps so far are the first of the trace
-pub front_of : {X : Type 0} {seen : X → Seen} {sys : System} {plan : ContextPlan} {n m : ℕ} {first : Vector} {words : List ℕ} {monitors : List X}
-    {steps : List Step} {state : State} {context : Option ℕ} {left : List ℕ} {now : List X}
-    → HasRun seen sys plan n m first words monitors steps state context left now
+pub front_of : {sys : System} {plan : ContextPlan} {n m : ℕ} {first : Vector} {words : List ℕ} {monitors : List MonitorData}
+    {steps : List Step} {state : State} {context : Option ℕ} {left : List ℕ} {now : List MonitorData}
+    → HasRun sys plan n m first words monitors steps state context left now
     → IsFrontOf (trace_of sys plan first words) words (steps_value n steps) left
 front_of {sys} {plan} {n} {steps} {state} {context} {left} run = record {
   later = (rest_of sys plan n steps state context left).steps;
@@ -188,8 +190,20 @@ refuses (UnexecutableErr step) n trace words steps left ending is h =
 refuses Memory n trace words steps left ending is h = absurd is
 
 -- the tallies of monitors that had counted nothing when the run began
-pub tallies_of : {X : Type 0} {seen : X → Seen} {sys : System} {plan : ContextPlan} {n m : ℕ} {first : Vector} {words : List ℕ} {monitors : List X}
-    {steps : List Step} {state : State} {context : Option ℕ} {left : List ℕ} {now : List X}
-    → HasRun seen sys plan n m first words monitors steps state context left now
-    → All (λ (x : X). (seen x).counted ≡ 0) monitors → All (λ (y : X). (seen y).counted ≤ 2 ^ 127) now
-tallies_of {seen} {monitors} {steps} {now} run untold = small_tallies seen steps monitors now untold run.told run.few
+pub tallies_are_small : {X : Type 0} (shown : X → MonitorData) (monitors now : List X)
+    {sys : System} {plan : ContextPlan} {n m : ℕ} {first : Vector} {words : List ℕ}
+    {steps : List Step} {state : State} {context : Option ℕ} {left : List ℕ}
+    → HasRun sys plan n m first words (map shown monitors) steps state context left (map shown now)
+    → All (λ (x : X). (shown x).counted ≡ 0) monitors → All (λ (y : X). (shown y).counted ≤ 2 ^ 127) now
+tallies_are_small {X} shown monitors now {steps} run untold =
+    unmapped (λ (y : MonitorData). y.counted ≤ 2 ^ 127) shown now
+    (small_tallies steps (map shown monitors) (map shown now) (All-map (λ (x : MonitorData). x.counted ≡ 0) shown monitors untold) run.told run.few)
+
+-- what is told of them after the run
+pub tallies_are_sums : {X : Type 0} (shown : X → MonitorData) (monitors now : List X)
+    {sys : System} {plan : ContextPlan} {n m : ℕ} {first : Vector} {words : List ℕ}
+    {steps : List Step} {state : State} {context : Option ℕ} {left : List ℕ}
+    → HasRun sys plan n m first words (map shown monitors) steps state context left (map shown now)
+    → All (λ (x : X). (shown x).counted ≡ 0) monitors → tally_lines (map shown now) ≡ tallies_of (map shown monitors) steps
+tallies_are_sums {X} shown monitors now {steps} run untold =
+    tallies_told steps (map shown monitors) (map shown now) (All-map (λ (x : MonitorData). x.counted ≡ 0) shown monitors untold) run.told

@@ -7,7 +7,7 @@ use Rattle.task_core.specs.Vectors.{Vector}
 use Rattle.task_core.specs.Systems.{System, Exec}
 use Rattle.plan_rules.specs.Rules.{ContextRule}
 use Rattle.plan_rules.specs.Denoted.{can_execute, denoted_contexts, next_context, rule_at}
-use Rattle.run_replay.specs.Advices.{Advised, advised_by}
+use Rattle.plan_rules.specs.Advices.{Advised, advised_by}
 use Rattle.run_replay.specs.Turns.{taking, turn_by}
 use Rattle.run_replay.specs.Traces.{Turn, Ends, Goes, Capped, Stray, Unexecutable, acting, choosing, turn}
 

@@ -5,6 +5,5 @@ pub mod TraceLaws
 pub mod TraceTexts
 pub mod Watching
 pub mod Runs
-pub mod Advices
 pub mod Turns
 pub mod Running

@@ -9,7 +9,7 @@ use Rattle.task_core.specs.declared.states.State.{State}
 use Rattle.run_replay.specs.declared.worlds.Step.{Step}
 use Rattle.run_replay.specs.Runs.{IsStepOf, outcome_numbers, steps_value}
 use Rattle.run_replay.specs.Traces.{Trace, TraceStep, Turn, turn, trace_from, trace_of, most_steps}
-use Rattle.run_replay.specs.Watching.{Seen, AreTold}
+use Rattle.run_replay.specs.Watching.{AreTold, MonitorData}
 
 -- Private: the next turn of a run that made these steps, which led to this state and to this
 -- context or none
@@ -30,15 +30,13 @@ rest_of sys plan n steps state context words =
 
 -- Private: a run that began in the state `first` with these words and these monitors has come so
 -- far
-pub record HasRun {X : Type 0} (seen : X → Seen) (sys : System) (plan : ContextPlan) (n m : ℕ)
-    (first : Vector)
-    (words : List ℕ) (monitors : List X) (steps : List Step) (state : State) (context : Option ℕ)
-    (left : List ℕ)
-    (now : List X) : Type 0 where
+pub record HasRun (sys : System) (plan : ContextPlan) (n m : ℕ) (first : Vector) (words : List ℕ)
+    (monitors : List MonitorData) (steps : List Step) (state : State) (context : Option ℕ)
+    (left : List ℕ) (now : List MonitorData) : Type 0 where
   pub goes : trace_of sys plan first words
       ≡ after_steps (steps_value n steps) (rest_of sys plan n steps state context left)
   pub few : length steps ≤ most_steps
   pub taken : words ≡ outcome_numbers (steps_value n steps) ++ left
-  pub told : AreTold seen steps monitors now
+  pub told : AreTold steps monitors now
   pub in_task : All (IsStepOf n m) steps
   pub within : IsWithin n state

@@ -4,7 +4,7 @@ use Rattle.std.specs.List.{flat_map}
 use Rattle.task_core.specs.Names.{Name}
 use Rattle.plan_rules.specs.Texts.{atom_text, line_feed, name_at}
 use Rattle.run_replay.specs.declared.worlds.Step.{Step}
-use Rattle.run_replay.specs.Watching.{Seen}
+use Rattle.run_replay.specs.Watching.{MonitorData}
 use Rattle.run_replay.specs.Traces.{TraceStep, Ending, Terminal, Ended, Capped, Stray, Unexecutable}
 
 -- as: step 3 (go a b) outcome 0
@@ -34,8 +34,13 @@ tally_line title tally = codes "tally " ++ title ++ codes " " ++ decimal tally +
 abbrev pub trace_text : List Name → List TraceStep → Ending → List ℕ
 trace_text actions steps ending = flat_map (step_line actions) steps ++ end_line ending
 
+-- the lines of monitors: the title of each, and its tally
+abbrev pub tally_lines : List MonitorData → List ℕ
+tally_lines = flat_map (λ (monitor : MonitorData). tally_line monitor.title monitor.counted)
+
 -- the lines of monitors that had counted nothing, after these steps: the title of each, and the sum
 -- of its weights
-abbrev pub tallies_text : {X : Type 0} → (X → Seen) → List Step → List X → List ℕ
-tallies_text seen steps =
-    flat_map (λ monitor. tally_line (seen monitor).title (sum (map (seen monitor).weight steps)))
+abbrev pub tallies_of : List MonitorData → List Step → List ℕ
+tallies_of monitors steps =
+    flat_map (λ (monitor : MonitorData).
+    tally_line monitor.title (sum (map monitor.weight steps))) monitors

@@ -14,7 +14,7 @@ use Rattle.run_replay.specs.Traces.{Unexecutable}
 use Rattle.task_core.specs.Vectors.{Vector}
 use Rattle.task_core.specs.Systems.{System}
 use Rattle.plan_rules.specs.Denoted.{can_execute, next_context}
-use Rattle.run_replay.specs.Advices.{Advised}
+use Rattle.plan_rules.specs.Advices.{Advised}
 
 -- Private: the refusal has the trace's end; a turn takes no memory
 abbrev pub IsRefusal : RunErr → Ending → Type 0

@@ -1,7 +1,8 @@
 //! Monitors: what is counted along a run.
 
-ghost use Rattle.std.specs.Prelude.{◌≡◌, ◌+◌, ◌++◌, ◌<◌, ◌≤◌, ◌^◌, codes, List, ℕ, OnErr, OnOk};
+ghost use Rattle.std.specs.Prelude.{◌≡◌, ◌+◌, ◌++◌, ◌<◌, ◌≤◌, ◌^◌, codes, OnErr, OnOk};
 ghost use Rattle.run_replay.specs.Changes.{changes_between, differs};
+ghost use Rattle.run_replay.specs.Watching.{MonitorData};
 ghost use Rattle.run_replay.specs.declared.worlds.Step.{Step};
 
 use crate::worlds::Step;
@@ -11,32 +12,30 @@ use task_core::{FluentId, State};
 
 /// What watches a run and keeps a tally of it.
 ///
-/// Its contract speaks of three meanings. `counted` is the tally so far. `title` is the name under
-/// which it is shown. `weight` says what each step adds to the tally, less than 2^64; no call
-/// changes the title or the weights.
+/// Its contract speaks of one meaning: `shown` is what it is at the moment, as data. Of that,
+/// `counted` is the tally so far, `title` is the name under which it is shown, and `weight` says
+/// what each step adds to the tally, less than 2^64; no call changes the title or the weights.
 pub trait Monitor: Drop {
-    ghost counted: { Self → ℕ };
-
-    ghost title: { Self → List ℕ };
-
-    ghost weight: { Self → Step → ℕ };
+    ghost shown: { Self → MonitorData };
 
     /// Counts a step. The tally is at most 2^127 before.
     fn seen(&mut self, step: &Step)
-        requires small { counted self.old ≤ 2 ^ 127 }
-        ensures counts { counted self.new ≡ counted self.old + weight self.old step.now }
-        ensures light { weight self.old step.now < 2 ^ 64 }
-        ensures titled { title self.new ≡ title self.old }
-        ensures weighs { (other : Step) → weight self.new other ≡ weight self.old other };
+        requires small { (shown self.old).counted ≤ 2 ^ 127 }
+        ensures counts { (shown self.new).counted
+            ≡ (shown self.old).counted + (shown self.old).weight step.now }
+        ensures light { (shown self.old).weight step.now < 2 ^ 64 }
+        ensures titled { (shown self.new).title ≡ (shown self.old).title }
+        ensures weighs { (other : Step) →
+            (shown self.new).weight other ≡ (shown self.old).weight other };
 
     /// The tally.
     fn tally(&self) -> u128
-        ensures { result ≡ counted self.now };
+        ensures { result ≡ (shown self.now).counted };
 
     /// Adds the title at the end of a text. Fails only where memory runs out, and then leaves the
     /// text as it was.
     fn name(&self, alloc: Global, out: &mut Vec<u8>) -> Result<(), AllocError>
-        ensures named { OnOk result (out.new.items ≡ out.old.items ++ title self.now) }
+        ensures named { OnOk result (out.new.items ≡ out.old.items ++ (shown self.now).title) }
         ensures unchanged { OnErr result (out.new.items ≡ out.old.items) };
 }
 
@@ -64,11 +63,11 @@ impl StepMonitor {
 }
 
 impl Monitor for StepMonitor {
-    ghost counted = { λ monitor. monitor };
-
-    ghost title = { λ _. codes "steps" };
-
-    ghost weight = { λ _ _. 1 };
+    ghost shown = { λ monitor. record {
+      counted = monitor;
+      title = codes "steps";
+      weight = λ _. 1;
+    } };
 
     fn seen(&mut self, _: &Step) {
         self.steps += 1;
@@ -107,11 +106,11 @@ impl ChangeMonitor {
 }
 
 impl Monitor for ChangeMonitor {
-    ghost counted = { λ monitor. monitor };
-
-    ghost title = { λ _. codes "changes" };
-
-    ghost weight = { λ _ step. changes_between step.before step.after };
+    ghost shown = { λ monitor. record {
+      counted = monitor;
+      title = codes "changes";
+      weight = λ step. changes_between step.before step.after;
+    } };
 
     fn seen(&mut self, step: &Step) {
         self.changes += changes(&step.before, &step.after) as u128;

@@ -1,13 +1,17 @@
 //! Whole runs, with the program's own world and monitors and with those of a caller, and their
 //! texts. What is expected was worked out by hand.
 
+ghost use Rattle.plan_rules.specs.Plans.{IsPlanOf};
+ghost use Rattle.run_replay.specs.Runs.{IsStepOf};
 ghost use Rattle.run_replay.specs.declared.worlds.Step.{Step};
-ghost use Rattle.std.specs.Prelude.{if◌then◌else◌, ◌≡◌, ◌==◌, All, codes};
+ghost use Rattle.task_core.specs.Tasks.{action_count, fluent_count};
+ghost use Rattle.std.specs.Prelude.{if◌then◌else◌, ◌≡◌, ◌==◌, All, IfOk, codes};
 
 use crate::{
-    ChangeMonitor, Monitor, RecordWorld, RunErr, Step, StepMonitor, World, execute, write_trace,
+    ChangeMonitor, Monitor, RecordWorld, RunErr, Step, StepMonitor, Trace, World, execute,
+    write_trace,
 };
-use plan_rules::read_plan;
+use plan_rules::{Plan, read_plan};
 use sexpr_text::MAX_BYTES;
 use std::alloc::{AllocError, Global};
 use std::cell::Cell;
@@ -60,11 +64,11 @@ impl ActionMonitor {
 }
 
 impl Monitor for ActionMonitor {
-    ghost counted = { λ monitor. monitor.count };
-
-    ghost title = { λ _. codes "own" };
-
-    ghost weight = { λ monitor step. if step.action.0 == monitor.action.0 then 1 else 0 };
+    ghost shown = { λ monitor. record {
+      counted = monitor.count;
+      title = codes "own";
+      weight = λ step. if step.action.0 == monitor.action.0 then 1 else 0;
+    } };
 
     fn seen(&mut self, step: &Step) {
         if step.action == self.action {
@@ -123,43 +127,51 @@ fn sets(alloc: Global, fluent: u32, positive: bool) -> Result<Outcome, AllocErro
     })
 }
 
-/// Two switches, p and q. `on` and `off` set p; `toss` gives it either value or sets q; `use` can
-/// be executed where q holds, and clears it.
-fn switches(alloc: Global) -> Result<Option<Task>, AllocError> {
+/// An action with one outcome, which gives one fluent a value.
+fn setting(
+    alloc: Global,
+    word: &str,
+    exec: Cond,
+    fluent: u32,
+    positive: bool,
+) -> Result<GroundAction, AllocError> {
+    let outcomes = vec![in alloc; sets(alloc, fluent, positive)?]?;
+    action(alloc, word, exec, outcomes)
+}
+
+/// The action that gives p either value, or sets q.
+fn toss(alloc: Global) -> Result<GroundAction, AllocError> {
+    let mut outcomes = Vec::new(alloc);
+    for (fluent, positive) in [(0, true), (0, false), (1, true)] {
+        outcomes.push(sets(alloc, fluent, positive)?)?;
+    }
+    action(alloc, "toss", Cond::Yes, outcomes)
+}
+
+/// `on` and `off` set p; `toss` gives it either value or sets q; `use` can be executed where q
+/// holds, and clears it.
+fn actions(alloc: Global) -> Result<Vec<GroundAction>, AllocError> {
+    let mut actions = Vec::new(alloc);
+    actions.push(setting(alloc, "on", Cond::Yes, 0, true)?)?;
+    actions.push(setting(alloc, "off", Cond::Yes, 0, false)?)?;
+    actions.push(toss(alloc)?)?;
+    actions.push(setting(alloc, "use", Cond::Is(FluentId(1)), 1, false)?)?;
+    Ok(actions)
+}
+
+/// The names of the two switches.
+fn fluents(alloc: Global) -> Result<Vec<Vec<String>>, AllocError> {
     let mut fluents = Vec::new(alloc);
     for word in ["p", "q"] {
         fluents.push(vec![in alloc; String::from_str(alloc, word)?]?)?;
     }
-    let actions = vec![in alloc;
-        action(
-            alloc,
-            "on",
-            Cond::Yes,
-            vec![in alloc; sets(alloc, 0, true)?]?
-        )?,
-        action(
-            alloc,
-            "off",
-            Cond::Yes,
-            vec![in alloc; sets(alloc, 0, false)?]?
-        )?,
-        action(
-            alloc,
-            "toss",
-            Cond::Yes,
-            vec![in alloc;
-                sets(alloc, 0, true)?,
-                sets(alloc, 0, false)?,
-                sets(alloc, 1, true)?,
-            ]?
-        )?,
-        action(
-            alloc,
-            "use",
-            Cond::Is(FluentId(1)),
-            vec![in alloc; sets(alloc, 1, false)?]?
-        )?,
-    ]?;
+    Ok(fluents)
+}
+
+/// Two switches, p and q.
+fn switches(alloc: Global) -> Result<Option<Task>, AllocError> {
+    let fluents = fluents(alloc)?;
+    let actions = actions(alloc)?;
     let init = InitSpec {
         facts: State::none(),
         entries: Vec::new(alloc),
@@ -167,57 +179,109 @@ fn switches(alloc: Global) -> Result<Option<Task>, AllocError> {
     Ok(Task::try_new(fluents, actions, init, None))
 }
 
-/// What a run of the two switches gives from the state in which both are off: its text or its
-/// refusal, and then the outcome numbers that the world has left.
-fn told(
+/// The text of a run, as a string.
+fn text_of(
     alloc: Global,
-    plan: &str,
+    task: &Task,
+    trace: &Trace,
+    monitors: &[Box<dyn Monitor>],
+) -> Result<String, AllocError>
+    requires { All (IsStepOf (fluent_count task.now) (action_count task.now))
+        trace.now.steps.items }
+{
+    let mut out = String::new(alloc);
+    for byte in write_trace(alloc, task, trace, monitors)? {
+        out.push(char::from(byte))?;
+    }
+    Ok(out)
+}
+
+/// A refusal in words.
+fn refusal_of(alloc: Global, refusal: RunErr) -> Result<String, Fail> {
+    Ok(match refusal {
+        RunErr::StrayOutcome {
+            step,
+            word,
+            outcomes,
+        } => format!(in alloc; "stray {step} {word} {outcomes} ")?,
+        RunErr::Unexecutable { step } => format!(in alloc; "unexecutable {step} ")?,
+        RunErr::Memory => String::from_str(alloc, "memory ")?,
+    })
+}
+
+/// What a run of a plan gives from the state in which both are off: its text or its refusal.
+fn told_of_plan(
+    alloc: Global,
+    task: &Task,
+    plan: &Plan,
     world: &mut Box<dyn World>,
     monitors: &mut Vec<Box<dyn Monitor>>,
 ) -> Result<String, Fail>
-    requires { All (λ monitor. counted monitor ≡ 0) monitors.old.items }
+    requires plan_of_task { IsPlanOf (fluent_count task.now) (action_count task.now) plan.now }
+    requires untold { All (λ monitor. (shown monitor).counted ≡ 0) monitors.old.items }
 {
-    let mut out = String::new(alloc);
-    if plan.len() > MAX_BYTES {
-        return Ok(out);
+    match execute(alloc, task, plan, State::none(), world, monitors) {
+        Ok(trace) => Ok(text_of(alloc, task, &trace, monitors)?),
+        Err(refusal) => refusal_of(alloc, refusal),
     }
-    let task = switches(alloc)?.ok_or("no task")?;
-    let read = match read_plan(alloc, plan.as_bytes(), &task) {
-        Ok(read) => read,
-        Err(_) => return Ok(out),
-    };
-    match execute(alloc, &task, &read.plan, State::none(), world, monitors) {
-        Ok(trace) => {
-            for byte in write_trace(alloc, &task, &trace, monitors)? {
-                out.push(char::from(byte))?;
-            }
-        }
-        Err(
-            RunErr::StrayOutcome {
-                step,
-                word,
-                outcomes,
-            },
-        ) => write!(out, "stray {step} {word} {outcomes} ")?,
-        Err(RunErr::Unexecutable { step }) => write!(out, "unexecutable {step} ")?,
-        Err(RunErr::Memory) => out.push_str("memory ")?,
-    }
+}
+
+/// Adds the outcome numbers that a world has left.
+fn push_left(out: &mut String, world: &mut Box<dyn World>) -> Result<(), Fail> {
     out.push_str("left")?;
     for _ in 0..9 {
         if let Some(word) = world.choose() {
             write!(out, " {word}")?;
         }
     }
-    Ok(out)
+    Ok(())
+}
+
+/// What a run of the two switches gives, and then the outcome numbers that the world has left.
+fn told(
+    alloc: Global,
+    plan: &str,
+    world: &mut Box<dyn World>,
+    monitors: &mut Vec<Box<dyn Monitor>>,
+) -> Result<String, Fail>
+    requires { All (λ monitor. (shown monitor).counted ≡ 0) monitors.old.items }
+{
+    if plan.len() > MAX_BYTES {
+        return Ok(String::new(alloc));
+    }
+    let task = switches(alloc)?.ok_or("no task")?;
+    match read_plan(alloc, plan.as_bytes(), &task) {
+        Ok(read) => {
+            let mut out = told_of_plan(alloc, &task, &read.plan, world, monitors)?;
+            push_left(&mut out, world)?;
+            Ok(out)
+        }
+        Err(_) => Ok(String::new(alloc)),
+    }
+}
+
+/// The program's own world, which has these numbers to give.
+fn record_world(alloc: Global, words: Vec<u32>) -> Result<Box<dyn World>, AllocError> {
+    let mut world: Box<dyn World> = Box::new(alloc, RecordWorld::new(alloc))?;
+    world.load(alloc, words)?;
+    Ok(world)
+}
+
+/// The program's own monitors, which have seen nothing.
+fn own_monitors(alloc: Global) -> Result<Vec<Box<dyn Monitor>>, AllocError>
+    ensures { IfOk result (λ monitors.
+        All (λ monitor. (shown monitor).counted ≡ 0) monitors.items) }
+{
+    let mut monitors: Vec<Box<dyn Monitor>> = Vec::new(alloc);
+    monitors.push(Box::new(alloc, StepMonitor::new())?)?;
+    monitors.push(Box::new(alloc, ChangeMonitor::new())?)?;
+    Ok(monitors)
 }
 
 /// The same with the program's own world and monitors.
 fn told_by_record(alloc: Global, plan: &str, words: &[u32]) -> Result<String, Fail> {
-    let mut world: Box<dyn World> = Box::new(alloc, RecordWorld::new(alloc))?;
-    world.load(alloc, Vec::from_slice(alloc, words)?)?;
-    let mut monitors: Vec<Box<dyn Monitor>> = Vec::new(alloc);
-    monitors.push(Box::new(alloc, StepMonitor::new())?)?;
-    monitors.push(Box::new(alloc, ChangeMonitor::new())?)?;
+    let mut world = record_world(alloc, Vec::from_slice(alloc, words)?)?;
+    let mut monitors = own_monitors(alloc)?;
     told(alloc, plan, &mut world, &mut monitors)
 }
 
@@ -324,6 +388,37 @@ fn a_caller_s_own_world_and_monitors(rt: HostRuntime) -> Result<(), Fail> {
     Ok(())
 }
 
+/// How a run of a plan ends: the word for the end and the number of steps, and nothing where it is
+/// refused.
+fn end_of_plan(
+    alloc: Global,
+    task: &Task,
+    plan: &Plan,
+    world: &mut Box<dyn World>,
+    monitors: &mut Vec<Box<dyn Monitor>>,
+) -> Result<String, Fail>
+    requires plan_of_task { IsPlanOf (fluent_count task.now) (action_count task.now) plan.now }
+    requires untold { All (λ monitor. (shown monitor).counted ≡ 0) monitors.old.items }
+{
+    match execute(alloc, task, plan, State::none(), world, monitors) {
+        Ok(trace) => Ok(format!(in alloc; "{:?} {}", trace.end, trace.steps.len())?),
+        Err(_) => Ok(String::new(alloc)),
+    }
+}
+
+/// Adds the tallies, and whether the world has a number left.
+fn push_rest(
+    out: &mut String,
+    world: &mut Box<dyn World>,
+    monitors: &[Box<dyn Monitor>],
+) -> Result<(), Fail> {
+    for monitor in monitors {
+        write!(out, " {}", monitor.tally())?;
+    }
+    write!(out, " {}", world.choose().is_some())?;
+    Ok(())
+}
+
 /// How a run ends that switches p on again and again: the word for the end, the number of steps,
 /// the tallies, and whether the world has a number left.
 fn told_at_the_end(
@@ -331,22 +426,13 @@ fn told_at_the_end(
     world: &mut Box<dyn World>,
     monitors: &mut Vec<Box<dyn Monitor>>,
 ) -> Result<String, Fail>
-    requires { All (λ monitor. counted monitor ≡ 0) monitors.old.items }
+    requires { All (λ monitor. (shown monitor).counted ≡ 0) monitors.old.items }
 {
-    let mut out = String::new(alloc);
     let task = switches(alloc)?.ok_or("no task")?;
-    let read = match read_plan(alloc, b"(plan table cyclic (rule () (on)))", &task) {
-        Ok(read) => read,
-        Err(_) => return Ok(out),
-    };
-    if let Ok(trace) = execute(alloc, &task, &read.plan, State::none(), world, monitors) {
-        write!(out, "{:?} {}", trace.end, trace.steps.len())?;
+    match read_plan(alloc, b"(plan table cyclic (rule () (on)))", &task) {
+        Ok(read) => end_of_plan(alloc, &task, &read.plan, world, monitors),
+        Err(_) => Ok(String::new(alloc)),
     }
-    for monitor in monitors.iter() {
-        write!(out, " {}", monitor.tally())?;
-    }
-    write!(out, " {}", world.choose().is_some())?;
-    Ok(out)
 }
 
 fn zeros(alloc: Global, count: u32) -> Result<Vec<u32>, AllocError> {
@@ -359,12 +445,11 @@ fn zeros(alloc: Global, count: u32) -> Result<Vec<u32>, AllocError> {
 
 /// The same with the program's own world, which is given so many zeros, and its own monitors.
 fn told_of_zeros(alloc: Global, count: u32) -> Result<String, Fail> {
-    let mut world: Box<dyn World> = Box::new(alloc, RecordWorld::new(alloc))?;
-    world.load(alloc, zeros(alloc, count)?)?;
-    let mut monitors: Vec<Box<dyn Monitor>> = Vec::new(alloc);
-    monitors.push(Box::new(alloc, StepMonitor::new())?)?;
-    monitors.push(Box::new(alloc, ChangeMonitor::new())?)?;
-    told_at_the_end(alloc, &mut world, &mut monitors)
+    let mut world = record_world(alloc, zeros(alloc, count)?)?;
+    let mut monitors = own_monitors(alloc)?;
+    let mut out = told_at_the_end(alloc, &mut world, &mut monitors)?;
+    push_rest(&mut out, &mut world, &monitors)?;
+    Ok(out)
 }
 
 #[test]

@@ -5,6 +5,7 @@ ghost use Rattle.plan_rules.specs.Rules.{plain_of};
 ghost use Rattle.run_replay.specs.declared.worlds.Step.{Step};
 ghost use Rattle.run_replay.specs.Running.{next_turn_of};
 ghost use Rattle.run_replay.specs.Runs.{IsRefused, IsStepOf, trace_in, trace_value};
+ghost use Rattle.run_replay.specs.TraceTexts.{tallies_of, tally_lines};
 ghost use Rattle.run_replay.specs.Traces.{run_plan};
 ghost use Rattle.run_replay.specs.Turns.{IsTurn, MakesStepOf};
 ghost use Rattle.run_replay.specs.Watching.{AreTold};
@@ -21,17 +22,17 @@ ghost use Rattle.std.specs.Prelude.{
   List,
   OnOk,
   length,
+  map,
 };
 ghost use Rattle.task_core.specs.States.{IsWithin};
 ghost use Rattle.task_core.specs.Tasks.{action_count, fluent_count, system_of};
 
-use crate::advice::FIRST_CONTEXT;
 use crate::monitors::Monitor;
 use crate::traces::{RunErr, Trace};
 use crate::turns::{Turn, take_turn};
 use crate::watch::tell;
 use crate::worlds::{Step, World};
-use plan_rules::Plan;
+use plan_rules::{FIRST_CONTEXT, Plan};
 use std::alloc::{AllocFailed, Global};
 use task_core::{State, Task};
 
@@ -58,7 +59,8 @@ struct Run {
 ///
 /// Want of memory may stop the run after any step. Whatever the answer, the monitors were told of
 /// the steps that were made and of nothing else, and the list has the same monitors in the same
-/// order, each with its title and its weights.
+/// order, each with its title and its weights. So what is told of the monitors after a run are the
+/// sums of their weights over its steps.
 ///
 /// The plan's numbers are those of the task's fluents and actions, the state has no true fluent
 /// past the task's, and no monitor has counted anything yet.
@@ -72,32 +74,25 @@ pub fn execute(
 ) -> Result<Trace, RunErr>
     requires plan_of_task { IsPlanOf (fluent_count task.now) (action_count task.now) plan.now }
     requires within { IsWithin (fluent_count task.now) first }
-    requires untold { All (λ monitor. counted monitor ≡ 0) monitors.old.items }
+    requires untold { All (λ monitor. (shown monitor).counted ≡ 0) monitors.old.items }
     ensures first_state { IfOk result (λ trace. trace.first ≡ first) }
     ensures trace { IfOk result (λ trace. trace_value (fluent_count task.now) trace (left world.new)
         ≡ trace_in task.now plan.now first (left world.old)) }
     ensures in_task { IfOk result (λ trace.
         All (IsStepOf (fluent_count task.now) (action_count task.now)) trace.steps.items) }
-    ensures told { IfOk result (λ trace. AreTold
-        (λ monitor. record {
-          counted = counted monitor;
-          title = title monitor;
-          weight = weight
-              monitor;
-        })
-        trace.steps.items monitors.old.items monitors.new.items) }
+    ensures told { IfOk result (λ trace. AreTold trace.steps.items
+        (map (λ monitor. shown monitor) monitors.old.items)
+        (map (λ monitor. shown monitor) monitors.new.items)) }
+    ensures tallies { IfOk result (λ trace.
+        tally_lines (map (λ monitor. shown monitor) monitors.new.items)
+        ≡ tallies_of (map (λ monitor. shown monitor) monitors.old.items) trace.steps.items) }
     ensures refused { IfErr result (λ refusal. (steps : List Step) ×
         IsRefused (fluent_count task.now) refusal
         (trace_in task.now plan.now first (left world.old)) (left world.old) steps (left world.new)
         × All (IsStepOf (fluent_count task.now) (action_count task.now)) steps
-        × AreTold
-        (λ monitor. record {
-          counted = counted monitor;
-          title = title monitor;
-          weight = weight
-              monitor;
-        })
-        steps monitors.old.items monitors.new.items) }
+        × AreTold steps
+        (map (λ monitor. shown monitor) monitors.old.items)
+        (map (λ monitor. shown monitor) monitors.new.items)) }
 {
     let mut run = Run {
         steps: Vec::new(alloc),
@@ -148,15 +143,10 @@ impl Run {
         context: Option<u32>,
         monitors: &mut Vec<Box<dyn Monitor>>,
     ) -> Result<(), AllocFailed<Step>>
-        requires small { All (λ monitor. counted monitor ≤ 2 ^ 127) monitors.old.items }
-        ensures told { AreTold
-            (λ monitor. record {
-              counted = counted monitor;
-              title = title monitor;
-              weight = weight
-                  monitor;
-            })
-            (step ∷ []) monitors.old.items monitors.new.items }
+        requires small { All (λ monitor. (shown monitor).counted ≤ 2 ^ 127) monitors.old.items }
+        ensures told { AreTold (step ∷ [])
+            (map (λ monitor. shown monitor) monitors.old.items)
+            (map (λ monitor. shown monitor) monitors.new.items) }
         ensures steps { OnOk result (self.new.steps.items ≡ self.old.steps.items ++ step ∷ []) }
         ensures state { OnOk result (self.new.state ≡ step.after) }
         ensures context { OnOk result (self.new.context ≡ context) }

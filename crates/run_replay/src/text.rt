@@ -1,12 +1,12 @@
 //! The text of a run.
 
-ghost use Rattle.plan_rules.specs.Texts.{atom_text, gap, spaced};
 ghost use Rattle.run_replay.specs.Runs.{IsStepOf, ending_of, step_value, steps_value};
 ghost use Rattle.run_replay.specs.TraceTexts.{
   end_line,
   ending_word,
   step_line,
   tally_line,
+  tally_lines,
   trace_text,
 };
 ghost use Rattle.std.specs.List.{flat_map};
@@ -29,7 +29,8 @@ ghost use Rattle.task_core.specs.Tasks.{action_count, action_names, fluent_count
 use crate::monitors::Monitor;
 use crate::traces::{End, Trace};
 use crate::worlds::Step;
-use itoa::{Buffer, Integer};
+use itoa::Buffer;
+use plan_rules::{push_name, push_number};
 use std::alloc::{AllocError, Global};
 use task_core::{GroundAction, Task};
 
@@ -49,19 +50,20 @@ pub fn write_trace(
         ≡ trace_text (action_names task.now)
         (steps_value (fluent_count task.now) trace.now.steps.items)
         (ending_of trace.now.end)
-        ++ flat_map (λ monitor. tally_line (title monitor) (counted monitor)) monitors.now) }
+        ++ tally_lines (map (λ monitor. shown monitor) monitors.now)) }
 {
-    let mut out = Vec::new(alloc);
-    push_steps(&mut out, task, &trace.steps)?;
-    push_end(&mut out, trace.end)?;
+    let mut lines = String::new(alloc);
+    push_steps(&mut lines, task, &trace.steps)?;
+    push_end(&mut lines, trace.end)?;
+    let mut out = lines.into_bytes();
     push_tallies(alloc, &mut out, monitors)?;
     Ok(out)
 }
 
 /// The lines of steps.
-fn push_steps(out: &mut Vec<u8>, task: &Task, steps: &[Step]) -> Result<(), AllocError>
+fn push_steps(out: &mut String, task: &Task, steps: &[Step]) -> Result<(), AllocError>
     requires { All (IsStepOf (fluent_count task.now) (action_count task.now)) steps.now }
-    ensures { OnOk result (out.new.items ≡ out.old.items ++ flat_map
+    ensures { OnOk result (string_bytes out.new ≡ string_bytes out.old ++ flat_map
         (step_line (action_names task.now)) (steps_value (fluent_count task.now) steps.now)) }
 {
     for step in steps {
@@ -71,28 +73,30 @@ fn push_steps(out: &mut Vec<u8>, task: &Task, steps: &[Step]) -> Result<(), Allo
 }
 
 /// The line of a step.
-fn push_step(out: &mut Vec<u8>, actions: &[GroundAction], step: &Step) -> Result<(), AllocError>
+fn push_step(out: &mut String, actions: &[GroundAction], step: &Step) -> Result<(), AllocError>
     requires { step.now.action.0 < length actions.now }
     ensures { OnOk result ((n : ℕ) →
-        out.new.items ≡ out.old.items
+        string_bytes out.new ≡ string_bytes out.old
         ++ step_line (map name_of actions.now) (step_value n step.now)) }
 {
-    out.extend_from_slice(b"step ")?;
+    out.push_str("step ")?;
     push_number(out, step.number)?;
-    out.extend_from_slice(b" ")?;
-    push_atom(out, &actions[step.action.0 as usize].name)?;
-    out.extend_from_slice(b" outcome ")?;
+    out.push_str(" ")?;
+    push_name(out, &actions[step.action.0 as usize].name)?;
+    out.push_str(" outcome ")?;
     push_number(out, step.outcome)?;
-    out.extend_from_slice(b"\n")
+    out.push_str("\n")?;
+    Ok(())
 }
 
 /// The line of an end.
-fn push_end(out: &mut Vec<u8>, end: End) -> Result<(), AllocError>
-    ensures { OnOk result (out.new.items ≡ out.old.items ++ end_line (ending_of end)) }
+fn push_end(out: &mut String, end: End) -> Result<(), AllocError>
+    ensures { OnOk result (string_bytes out.new ≡ string_bytes out.old ++ end_line (ending_of end)) }
 {
-    out.extend_from_slice(b"end ")?;
-    out.extend_from_slice(word_of(end).as_bytes())?;
-    out.extend_from_slice(b"\n")
+    out.push_str("end ")?;
+    out.push_str(word_of(end))?;
+    out.push_str("\n")?;
+    Ok(())
 }
 
 /// The word for an end.
@@ -113,7 +117,7 @@ fn push_tallies(
     monitors: &[Box<dyn Monitor>],
 ) -> Result<(), AllocError>
     ensures { OnOk result (out.new.items ≡ out.old.items
-        ++ flat_map (λ monitor. tally_line (title monitor) (counted monitor)) monitors.now) }
+        ++ tally_lines (map (λ monitor. shown monitor) monitors.now)) }
 {
     for monitor in monitors {
         push_tally(alloc, out, monitor)?;
@@ -128,12 +132,13 @@ fn push_tally(
     monitor: &Box<dyn Monitor>,
 ) -> Result<(), AllocError>
     ensures { OnOk result (out.new.items
-        ≡ out.old.items ++ tally_line (title monitor.now) (counted monitor.now)) }
+        ≡ out.old.items ++ tally_line (shown monitor.now).title (shown monitor.now).counted) }
 {
     out.extend_from_slice(b"tally ")?;
     push_title(alloc, out, monitor)?;
     out.extend_from_slice(b" ")?;
-    push_number(out, tally_of(monitor))?;
+    let mut buffer = Buffer::new();
+    out.extend_from_slice(buffer.format(tally_of(monitor)).as_bytes())?;
     out.extend_from_slice(b"\n")
 }
 
@@ -143,53 +148,14 @@ fn push_title(
     out: &mut Vec<u8>,
     monitor: &Box<dyn Monitor>,
 ) -> Result<(), AllocError>
-    ensures { OnOk result (out.new.items ≡ out.old.items ++ title monitor.now) }
+    ensures { OnOk result (out.new.items ≡ out.old.items ++ (shown monitor.now).title) }
 {
     monitor.name(alloc, out)
 }
 
 /// The tally of a monitor.
 fn tally_of(monitor: &Box<dyn Monitor>) -> u128
-    ensures { result ≡ counted monitor.now }
+    ensures { result ≡ (shown monitor.now).counted }
 {
     monitor.tally()
-}
-
-/// A number.
-fn push_number<I: Integer>(out: &mut Vec<u8>, number: I) -> Result<(), AllocError>
-    ensures { OnOk result (out.new.items ≡ out.old.items ++ I.text number) }
-{
-    let mut buffer = Buffer::new();
-    out.extend_from_slice(buffer.format(number).as_bytes())
-}
-
-/// A name in parentheses.
-fn push_atom(out: &mut Vec<u8>, words: &[String]) -> Result<(), AllocError>
-    ensures { OnOk result
-        (out.new.items ≡ out.old.items ++ atom_text (map string_bytes words.now)) }
-{
-    out.extend_from_slice(b"(")?;
-    push_words(out, words)?;
-    out.extend_from_slice(b")")
-}
-
-/// The words of a name with one space between them.
-fn push_words(out: &mut Vec<u8>, words: &[String]) -> Result<(), AllocError>
-    ensures { OnOk result (out.new.items ≡ out.old.items ++ spaced (map string_bytes words.now)) }
-{
-    for (i, word) in words.iter().enumerate() {
-        push_gap(out, i)?;
-        out.extend_from_slice(word.as_bytes())?;
-    }
-    Ok(())
-}
-
-/// The space before a part, unless it is the first.
-fn push_gap(out: &mut Vec<u8>, place: usize) -> Result<(), AllocError>
-    ensures { OnOk result (out.new.items ≡ out.old.items ++ gap place) }
-{
-    if place > 0 {
-        out.extend_from_slice(b" ")?;
-    }
-    Ok(())
 }

@@ -7,14 +7,14 @@ ghost use Rattle.run_replay.specs.Turns.{IsTurn, MakesStepOf, taking, turn_by};
 ghost use Rattle.std.specs.Prelude.{◌≡◌, ◌<◌, ◌↔◌, ◌∷◌, ℕ, IsTrue, length, List, Some};
 ghost use Rattle.plan_rules.specs.Denoted.{can_execute};
 ghost use Rattle.task_core.specs.Systems.{Exec};
-ghost use Rattle.run_replay.specs.Advices.{IsAdviceOf, advice_value};
+ghost use Rattle.plan_rules.specs.Advices.{IsAdviceOf, advice_value};
 ghost use Rattle.task_core.specs.States.{IsWithin, vector};
 ghost use Rattle.task_core.specs.Tasks.{action_count, fluent_count, outcomes_at, system_of};
 
-use crate::advice::{Advice, context_in, rule_in};
+use crate::advice::rule_in;
 use crate::traces::{End, RunErr};
 use crate::worlds::{Step, World};
-use plan_rules::Plan;
+use plan_rules::{Advice, Plan, context_in};
 use task_core::{ActionId, State, Task, is_exec, step};
 
 /// What a turn does.

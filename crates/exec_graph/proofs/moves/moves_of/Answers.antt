@@ -11,7 +11,8 @@ use Rattle.std.specs.Result.{IfOk}
 use Rattle.task_core.specs.States.{vector}
 use Rattle.exec_graph.specs.Moves.{configuration_of, moves_value}
 use Rattle.exec_graph.specs.ByContext.{IsIndexOf}
-use Rattle.exec_graph.specs.Counting.{IsRuleWithin, advice_value, advised_by, first_matching, moves_by, moves_from}
+use Rattle.exec_graph.specs.Counting.{IsRuleWithin, first_matching, moves_by, moves_from}
+use Rattle.plan_rules.specs.Advices.{advice_value, advised_by}
 use Rattle.exec_graph.proofs.PlanCubes.{unmapped}
 use Rattle.exec_graph.proofs.RuleLists.{first_kept, kept_within}
 use Rattle.exec_graph.proofs.moves.moves_of.Goals as goal

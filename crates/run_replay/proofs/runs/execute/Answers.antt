@@ -1,13 +1,16 @@
 use Rattle.std.proofs.Common.{sym}
 use Rattle.std.proofs.lemmas.Result.{err_from_is_err_and}
-use Rattle.run_replay.proofs.RunLaws.{starts, one_more, ends, front_of, refuses, tallies_of}
+use Rattle.run_replay.proofs.RunLaws.{starts, one_more, ends, front_of, refuses, tallies_are_small, tallies_are_sums}
 use Rattle.run_replay.proofs.runs.execute.Goals as goal
 
 pub loop-end-init : goal.loop-end-init
-loop-end-init g c = rw c.new.ensures.items (starts _ _ _ _ _ _ _ _ c.requires.within)
+loop-end-init g c = rw c.new.ensures.items (starts _ _ _ _ _ _ _ c.requires.within)
 
 pub returns-in-Ends-clause-trace : goal.returns-in-Ends-clause-trace
 returns-in-Ends-clause-trace g c = sym (ends c.loop-end.invariant c.in-Ends.ensures.turn)
+
+pub returns-in-Ends-clause-tallies : goal.returns-in-Ends-clause-tallies
+returns-in-Ends-clause-tallies g c = tallies_are_sums _ _ _ c.loop-end.invariant c.requires.untold
 
 pub returns-in-Refuses-clause-refused : goal.returns-in-Refuses-clause-refused
 returns-in-Refuses-clause-refused g c =
@@ -19,7 +22,7 @@ returns-in-Refuses-clause-refused g c =
     )
 
 pub go_on-requires : goal.go_on-requires
-go_on-requires g c = record { small = tallies_of c.loop-end.invariant c.requires.untold }
+go_on-requires g c = record { small = tallies_are_small _ _ _ c.loop-end.invariant c.requires.untold }
 
 pub loop-end-preserved : goal.loop-end-preserved
 loop-end-preserved g c =

@@ -1,4 +1,4 @@
-use Rattle.std.specs.Prelude.{◌-◌, length}
+use Rattle.std.specs.Prelude.{◌-◌, length, map}
 use Rattle.plan_rules.specs.Rules.{plain_of}
 use Rattle.run_replay.specs.Running.{HasRun}
 use Rattle.run_replay.specs.Traces.{most_steps, run_plan}
@@ -9,17 +9,12 @@ use Rattle.run_replay.proofs.runs.execute.Given as goal
 -- the run has come so far
 abbrev pub invariant-loop-end : goal.invariant-loop-end
 invariant-loop-end g l = HasRun
-    (λ monitor. record {
-      counted = (goal.Monitor-dyn g (monitor.vtable, monitor.value)).counted monitor.value;
-      title = (goal.Monitor-dyn g (monitor.vtable, monitor.value)).title monitor.value;
-      weight = (goal.Monitor-dyn g (monitor.vtable, monitor.value)).weight monitor.value;
-    })
     (system_of l.task) (run_plan (plain_of l.plan)) (fluent_count l.task) (action_count l.task) (vector (fluent_count l.task) l.first)
     ((goal.World-dyn g (l.initial.world.vtable, l.initial.world.value)).left l.initial.world.value)
-    l.initial.monitors.items
+    (map (λ monitor. (goal.Monitor-dyn g (monitor.vtable, monitor.value)).shown monitor.value) l.initial.monitors.items)
     l.run.steps.items l.run.state l.run.context
     ((goal.World-dyn g (l.world.vtable, l.world.value)).left l.world.value)
-    l.monitors.items
+    (map (λ monitor. (goal.Monitor-dyn g (monitor.vtable, monitor.value)).shown monitor.value) l.monitors.items)
 
 abbrev pub decreases-loop-end : goal.decreases-loop-end
 decreases-loop-end g l = most_steps - length l.run.steps.items

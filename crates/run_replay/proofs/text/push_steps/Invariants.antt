@@ -1,4 +1,4 @@
-use Rattle.std.specs.Prelude.{◌≡◌, ◌++◌, take}
+use Rattle.std.specs.Prelude.{◌≡◌, ◌++◌, take, string_bytes}
 use Rattle.std.specs.List.{flat_map}
 use Rattle.run_replay.specs.Runs.{steps_value}
 use Rattle.run_replay.specs.TraceTexts.{step_line}
@@ -8,4 +8,4 @@ use Rattle.run_replay.proofs.text.push_steps.Given as goal
 -- the lines of the steps so far
 abbrev pub invariant-loop-step : goal.invariant-loop-step
 invariant-loop-step l =
-    l.out.items ≡ l.fn.out.items ++ flat_map (step_line (action_names l.task)) (steps_value (fluent_count l.task) (take l.step-index l.steps))
+    string_bytes l.out ≡ string_bytes l.fn.out ++ flat_map (step_line (action_names l.task)) (steps_value (fluent_count l.task) (take l.step-index l.steps))

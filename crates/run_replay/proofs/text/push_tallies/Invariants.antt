@@ -1,13 +1,9 @@
-use Rattle.std.specs.Prelude.{◌≡◌, ◌++◌, take}
-use Rattle.std.specs.List.{flat_map}
-use Rattle.run_replay.specs.TraceTexts.{tally_line}
+use Rattle.std.specs.Prelude.{◌≡◌, ◌++◌, map, take}
+use Rattle.run_replay.specs.TraceTexts.{tally_lines}
 use Rattle.run_replay.proofs.text.push_tallies.Given as goal
 
 -- the lines of the monitors so far
 abbrev pub invariant-loop-monitor : goal.invariant-loop-monitor
 invariant-loop-monitor g l =
-    l.out.items ≡ l.fn.out.items ++ flat_map
-    (λ monitor. tally_line
-    ((goal.Monitor-dyn g (monitor.vtable, monitor.value)).title monitor.value)
-    ((goal.Monitor-dyn g (monitor.vtable, monitor.value)).counted monitor.value))
-    (take l.monitor-index l.monitors)
+    l.out.items ≡ l.fn.out.items ++ tally_lines
+    (map (λ monitor. (goal.Monitor-dyn g (monitor.vtable, monitor.value)).shown monitor.value) (take l.monitor-index l.monitors))

@@ -1,7 +1,8 @@
 use Rattle.std.proofs.Common.{◌≡◌, arith, sym, ◌∙◌, ap}
 use Rattle.task_core.specs.States.{vector}
 use Rattle.task_core.specs.Tasks.{fluent_count, system_of}
-use Rattle.exec_graph.specs.Counting.{onward_value, with_outcome}
+use Rattle.exec_graph.specs.Counting.{with_outcome}
+use Rattle.plan_rules.specs.Advices.{onward_value}
 use Rattle.exec_graph.specs.Moves.{moves_value}
 use Rattle.exec_graph.proofs.Executes.{fold_one, fold_all}
 use Rattle.exec_graph.proofs.moves.Moves.add_outcomes.Goals as goal

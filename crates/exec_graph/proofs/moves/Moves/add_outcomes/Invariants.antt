@@ -3,7 +3,8 @@ use Rattle.std.proofs.Common.{◌≡◌, take}
 use Rattle.std.specs.List.{fold}
 use Rattle.task_core.specs.States.{vector}
 use Rattle.task_core.specs.Tasks.{fluent_count, system_of}
-use Rattle.exec_graph.specs.Counting.{onward_value, with_outcome}
+use Rattle.exec_graph.specs.Counting.{with_outcome}
+use Rattle.plan_rules.specs.Advices.{onward_value}
 use Rattle.exec_graph.specs.Moves.{AreWithin, moves_value}
 use Rattle.exec_graph.proofs.moves.Moves.add_outcomes.Given as goal
 

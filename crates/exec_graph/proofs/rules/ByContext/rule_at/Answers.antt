@@ -7,7 +7,8 @@ use Rattle.task_core.specs.Tasks.{action_count, fluent_count}
 use Rattle.plan_rules.specs.Rules.{context_rule_of}
 use Rattle.plan_rules.specs.declared.rules.AutoRule.{AutoRule}
 use Rattle.exec_graph.specs.ByContext.{rules_in}
-use Rattle.exec_graph.specs.Counting.{IsRuleWithin, advised_by, first_matching}
+use Rattle.exec_graph.specs.Counting.{IsRuleWithin, first_matching}
+use Rattle.plan_rules.specs.Advices.{advised_by}
 use Rattle.exec_graph.proofs.PlanCubes.{unmapped}
 use Rattle.exec_graph.proofs.rules.ByContext.rule_at.Goals as goal
 

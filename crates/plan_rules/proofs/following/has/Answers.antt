@@ -1,7 +1,7 @@
 use Rattle.task_core.specs.Tasks.{fluent_count}
 use Rattle.task_core.proofs.TaskSystem.{value_of-vector}
-use Rattle.exec_graph.proofs.SameValues.{same_as_beq}
-use Rattle.exec_graph.proofs.matching.has.Goals as goal
+use Rattle.plan_rules.proofs.SameValues.{same_as_beq}
+use Rattle.plan_rules.proofs.following.has.Goals as goal
 
 pub returns : goal.returns
 returns c =

@@ -2,7 +2,7 @@ use Rattle.std.specs.Prelude.{◌≡◌, drop}
 use Rattle.task_core.specs.Cubes.{matches}
 use Rattle.task_core.specs.States.{vector}
 use Rattle.task_core.specs.Tasks.{fluent_count}
-use Rattle.run_replay.proofs.advice.has_all.Given as goal
+use Rattle.plan_rules.proofs.following.has_all.Given as goal
 
 -- the state has each literal so far
 abbrev pub invariant-loop-lit : goal.invariant-loop-lit

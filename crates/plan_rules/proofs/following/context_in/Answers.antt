@@ -1,8 +1,8 @@
 use Rattle.std.proofs.Common.{subst}
 use Rattle.task_core.specs.Tasks.{fluent_count}
-use Rattle.exec_graph.specs.Counting.{AreCasesOf, onward_value}
-use Rattle.exec_graph.proofs.PlanCubes.{cubes_of_cases}
-use Rattle.exec_graph.proofs.matching.context_in.Goals as goal
+use Rattle.plan_rules.specs.Advices.{AreCasesOf, onward_value}
+use Rattle.plan_rules.proofs.CaseCubes.{cubes_of_cases}
+use Rattle.plan_rules.proofs.following.context_in.Goals as goal
 
 pub first_case-requires : goal.first_case-requires
 first_case-requires c =

@@ -3,7 +3,7 @@ use Rattle.plan_rules.specs.Denoted.{next_context}
 use Rattle.plan_rules.specs.Rules.{by_cases, case_of}
 use Rattle.task_core.specs.States.{vector}
 use Rattle.task_core.specs.Tasks.{fluent_count}
-use Rattle.run_replay.proofs.advice.first_case.Given as goal
+use Rattle.plan_rules.proofs.following.first_case.Given as goal
 
 -- no case so far matches
 abbrev pub invariant-loop-case : goal.invariant-loop-case

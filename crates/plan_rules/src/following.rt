@@ -1,21 +1,31 @@
-//! Which states a cube matches, and in which context a plan goes on.
+//! What a rule that counts says, and how a plan goes on in a new state.
 
 ghost use Rattle.std.specs.Prelude.{◌≡◌, ◌<◌, All, map};
+ghost use Rattle.plan_rules.specs.Advices.{AreCasesOf, onward_value};
 ghost use Rattle.plan_rules.specs.Denoted.{next_context};
 ghost use Rattle.plan_rules.specs.Plans.{IsCubeOf};
 ghost use Rattle.plan_rules.specs.Rules.{by_cases, case_of, next_of};
-ghost use Rattle.exec_graph.specs.Counting.{AreCasesOf, onward_value};
 ghost use Rattle.task_core.specs.Cubes.{matches};
 ghost use Rattle.task_core.specs.States.{vector};
 ghost use Rattle.task_core.specs.Tasks.{fluent_count};
 ghost use Rattle.task_core.specs.Vectors.{same_value, value_of};
 
-use plan_rules::{Case, Next};
-use task_core::{Lit, State, Task};
+use crate::rules::{Case, Next};
+use task_core::{ActionId, Lit, State, Task};
+
+/// The context in which every plan begins, and in which a table stays.
+pub const FIRST_CONTEXT: u32 = 1;
+
+/// What a rule that counts says: its action, and how the plan goes on.
+#[derive(Clone, Copy)]
+pub struct Advice<'a> {
+    pub action: ActionId,
+    pub onward: Onward<'a>,
+}
 
 /// The context in which a plan goes on.
 #[derive(Clone, Copy)]
-pub(crate) enum Onward<'a> {
+pub enum Onward<'a> {
     /// Always this one.
     Always(u32),
     /// That of the first case whose cube matches the new state.
@@ -23,7 +33,7 @@ pub(crate) enum Onward<'a> {
 }
 
 /// How a rule goes on.
-pub(crate) fn onward_of(next: &Next) -> Onward<'_>
+pub fn onward_of(next: &Next) -> Onward<'_>
     ensures { onward_value result ≡ next_of next.now }
 {
     match next {
@@ -33,7 +43,7 @@ pub(crate) fn onward_of(next: &Next) -> Onward<'_>
 }
 
 /// The context in which to go on in a new state, where there is one.
-pub(crate) fn context_in(task: &Task, onward: &Onward<'_>, state: &State) -> Option<u32>
+pub fn context_in(task: &Task, onward: &Onward<'_>, state: &State) -> Option<u32>
     requires { AreCasesOf (fluent_count task.now) (onward_value onward.now) }
     ensures { result ≡ next_context (onward_value onward.now)
         (vector (fluent_count task.now) state.now) }
@@ -59,7 +69,7 @@ fn first_case(task: &Task, cases: &[Case], state: &State) -> Option<u32>
 }
 
 /// Whether a state has all literals of a cube.
-pub(crate) fn has_all(task: &Task, cube: &[Lit], state: &State) -> bool
+pub fn has_all(task: &Task, cube: &[Lit], state: &State) -> bool
     requires { IsCubeOf (fluent_count task.now) cube.now }
     ensures { result ≡ matches cube.now (vector (fluent_count task.now) state.now) }
 {

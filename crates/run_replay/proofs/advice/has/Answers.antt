@@ -1,9 +1,0 @@
-use Rattle.task_core.specs.Tasks.{fluent_count}
-use Rattle.task_core.proofs.TaskSystem.{value_of-vector}
-use Rattle.run_replay.proofs.Matching.{same_as_beq}
-use Rattle.run_replay.proofs.advice.has.Goals as goal
-
-pub returns : goal.returns
-returns c =
-    rw (value_of-vector (fluent_count c.args.task.now) c.args.state.now c.args.lit.now.fluent.0 c.requires, c.get.ensures.value)
-    (same_as_beq _ _)
