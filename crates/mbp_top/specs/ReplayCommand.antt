@@ -10,8 +10,7 @@ use Rattle.run_replay.specs.Records.{HasRecordFault, RecordTree, SpellsRecord}
 use Rattle.run_replay.specs.Runs.{IsStepOf, steps_value}
 use Rattle.run_replay.specs.Traces.{Ending, Terminal, Ended, Capped, Stray, Unexecutable, Trace}
 use Rattle.run_replay.specs.Traces.{TraceStep, run_plan, trace_of}
-use Rattle.run_replay.specs.TraceTexts.{tallies_text, trace_text}
-use Rattle.run_replay.specs.Watching.{Seen}
+use Rattle.run_replay.specs.TraceTexts.{trace_text}
 use Rattle.run_replay.specs.declared.worlds.Step.{Step}
 use Rattle.sexpr_text.specs.declared.faults.FaultKind.TheVariants.{BadNumber}
 use Rattle.sexpr_text.specs.declared.faults.InputFault.{InputFault}
@@ -31,10 +30,6 @@ use Rattle.mbp_top.specs.Words.{Bytes, ReplayWords}
 -- what is shown of the monitors that were told of these steps
 abbrev pub Tallies : Type 0
 Tallies = List Step → Bytes
-
--- what is shown of these monitors, where `shown` shows each as data
-abbrev pub tallies_of : {X : Type 0} → (X → Seen) → List X → Tallies
-tallies_of shown monitors steps = tallies_text shown steps monitors
 
 -- the trace of a plan in a system, from this state and under these outcome numbers. The first rule
 -- of a context that matches counts, also in a table

@@ -1,7 +1,7 @@
 //! A run: from the words to what is written.
 
 ghost use Rattle.mbp_top.specs.Delivery.{seen};
-ghost use Rattle.mbp_top.specs.ReplayCommand.{tallies_of};
+ghost use Rattle.run_replay.specs.TraceTexts.{tallies_of};
 ghost use Rattle.mbp_top.specs.Runs.{HasRun};
 ghost use Rattle.std.specs.Prelude.{◌≡◌, All, map, string_bytes};
 
@@ -21,16 +21,10 @@ pub(crate) fn carry_out<S: Shelf, O: Sink, E: Sink>(
     world: &mut Box<dyn World>,
     monitors: &mut Vec<Box<dyn Monitor>>,
 ) -> u8
-    requires untold { All (λ monitor. counted monitor ≡ 0) monitors.old.items }
+    requires untold { All (λ monitor. (shown monitor).counted ≡ 0) monitors.old.items }
     ensures { HasRun S.held S.faults S.fetched (record {
       words = map string_bytes words.now;
-      tallies = tallies_of
-          (λ monitor. record {
-            counted = counted monitor;
-            title = title monitor;
-            weight = weight monitor;
-          })
-          monitors.old.items;
+      tallies = tallies_of (map (λ monitor. shown monitor) monitors.old.items);
       shelf = shelf.old;
       shelf_after = shelf.new;
       out = seen (O.written out.old) (O.faults out.old);

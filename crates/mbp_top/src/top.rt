@@ -17,7 +17,7 @@ ghost use Rattle.mbp_top.specs.PlanCommand.{
   stages_for,
 };
 ghost use Rattle.mbp_top.specs.PlanFiles.{HoldsPlan, is_of_kind};
-ghost use Rattle.mbp_top.specs.ReplayCommand.{tallies_of};
+ghost use Rattle.run_replay.specs.TraceTexts.{tallies_of};
 ghost use Rattle.mbp_top.specs.Runs.{HasRun};
 ghost use Rattle.mbp_top.specs.Told.{AreFilesTold, NoFault};
 ghost use Rattle.mbp_top.specs.Words.{Bytes, CheckWords, PlanWords, SaysCheck, SaysPlan};
@@ -82,18 +82,12 @@ pub fn run<S: Shelf, O: Sink, E: Sink>(
     world: Box<dyn World>,
     monitors: Vec<Box<dyn Monitor>>,
 ) -> u8
-    requires untold { All (λ monitor. counted monitor ≡ 0) monitors.items }
+    requires untold { All (λ monitor. (shown monitor).counted ≡ 0) monitors.items }
     // There is an answer that has its cause, and it is delivered: and what was fetched for it, and
     // what stays.
     ensures answered { HasRun S.held S.faults S.fetched (record {
       words = map string_bytes words.now;
-      tallies = tallies_of
-          (λ monitor. record {
-            counted = counted monitor;
-            title = title monitor;
-            weight = weight monitor;
-          })
-          monitors.items;
+      tallies = tallies_of (map (λ monitor. shown monitor) monitors.items);
       shelf = shelf.old;
       shelf_after = shelf.new;
       out = seen (O.written out.old) (O.faults out.old);
