@@ -1,5 +1,5 @@
 -- Causes, command by command: the words say one command at most, and it has one answer at most.
-use Rattle.std.proofs.Common.{◌≡◌, ◌≢◌, ℕ, List, ◌⊎◌, inl, inr, refl, subst, sym, ◌∙◌, ap, arith, get_or, drop, length, [], codes, decimal}
+use Rattle.std.proofs.Common.{◌≡◌, ◌≢◌, ℕ, List, ◌⊎◌, inl, inr, refl, subst, sym, ◌∙◌, ap, arith, get_or, drop, length, [], decimal}
 use Rattle.std.specs.Prelude.{if◌then◌else◌, ◌==◌}
 use Rattle.std.proofs.lemmas.Fmt.{decimal_injective}
 use Rattle.task_core.specs.declared.classes.Class.{Class}

@@ -1,5 +1,5 @@
 -- Plans that meet a problem, and problems that none meets.
-use Rattle.std.proofs.Common.{◌≡◌, ℕ, List, [], ◌∷◌, Contains, inl, inr, refl, subst, true}
+use Rattle.std.proofs.Common.{ℕ, List, [], ◌∷◌, inl, inr, refl, subst, true}
 use Rattle.exec_graph.proofs.DenotedPairs.{can_execute-Exec, denoted-pair}
 use Rattle.pddl_ast.specs.Trees.{DomainTree, ProblemTree}
 use Rattle.pddl_system.specs.Systems.{action_names, fluent_names, system}
@@ -7,7 +7,7 @@ use Rattle.plan_check.specs.Verdicts.{CanFollowRules}
 use Rattle.plan_rules.specs.Denoted.{IsExecutable, denoted, denoted_contexts}
 use Rattle.plan_rules.specs.Rules.{ContextRule, PlanRule, table, automaton}
 use Rattle.task_core.specs.ContextPlans.{ContextPlan}
-use Rattle.task_core.specs.Solutions.{HasNoSolution, IsReached, IsSolution}
+use Rattle.task_core.specs.Solutions.{HasNoSolution, IsSolution}
 use Rattle.task_core.specs.Systems.{IsState, IsSystem, System}
 use Rattle.task_core.specs.Tables.{IsPath, IsTable, Table, last_state}
 use Rattle.task_core.specs.Vectors.{Vector}
@@ -16,7 +16,7 @@ use Rattle.mbp_top.specs.Answers.{Answer}
 use Rattle.mbp_top.specs.FoundPlans.{IsTableResult}
 use Rattle.mbp_top.specs.Meets.{Meaning, Meets, PlanMeets, contextual, pairs}
 use Rattle.mbp_top.specs.PlanCommand.{HasNoPlan, IsPlanResult}
-use Rattle.mbp_top.specs.Words.{PlanKind, of_class, with_contexts}
+use Rattle.mbp_top.specs.Words.{of_class, with_contexts}
 
 -- whatever the rules, what they denote is a table
 denoted_table : (sys : System) (rules : List PlanRule) → IsTable sys (denoted sys rules)

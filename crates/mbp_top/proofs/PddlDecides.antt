@@ -1,21 +1,10 @@
 -- The two files of a domain and a problem decide the answer, if what follows their reading does.
-use Rattle.std.proofs.Common.{◌≡◌, ◌≢◌, ◌⊎◌, ℕ, List, inl, inr, refl, sym, subst, ap, ◌∙◌, Some, None, IsSome, true}
+use Rattle.std.proofs.Common.{◌≡◌, ◌≢◌, ◌⊎◌, inl, inr, sym, subst, ap, ◌∙◌, Some, None, true}
 use Rattle.std.proofs.lemmas.Bool.{false≢true}
 use Rattle.plan_io.specs.Held.{Held, Untold}
 use Rattle.pddl_ast.specs.Trees.{DomainTree, ProblemTree}
-use Rattle.pddl_domain.specs.Domains.{SpellsDomain, HasDomainFault}
-use Rattle.pddl_problem.specs.Problems.{SpellsProblem, HasProblemFault}
+use Rattle.pddl_domain.specs.Domains.{SpellsDomain}
 use Rattle.pddl_system.specs.Sizes.{Limit, first_passed}
-use Rattle.plan_check.specs.Verdicts.{IsVerdict}
-use Rattle.plan_check.specs.declared.verdicts.Verdict.{Verdict}
-use Rattle.plan_rules.specs.Readings.{HasPlanFault, SpellsPlain}
-use Rattle.plan_rules.specs.Rules.{PlainPlan, PlanRule}
-use Rattle.sexpr_text.specs.Forest.{Forest}
-use Rattle.sexpr_text.specs.Spelling.{SpellsTrees}
-use Rattle.sexpr_text.specs.declared.faults.InputFault.{InputFault}
-use Rattle.task_core.specs.Names.{Name}
-use Rattle.task_core.specs.Systems.{System}
-use Rattle.task_core.specs.declared.classes.Class.{Class}
 use Rattle.mbp_top.specs.Answers.{Answer, Refusal, refused, text_fault, over_limit, no_memory, is_shown}
 use Rattle.mbp_top.specs.Grounding.{GoalThen, GroundThen, has_goal_for, limit_name}
 use Rattle.mbp_top.specs.OneReading.{OneReading}

@@ -10,7 +10,7 @@ use Rattle.plan_io.specs.Held.{Held, Untold}
 use Rattle.pddl_ast.specs.Trees.{DomainTree, FormulaTree, ProblemTree, TemporalTree}
 use Rattle.pddl_system.specs.Sizes.{first_passed}
 use Rattle.pddl_system.specs.Systems.{system}
-use Rattle.mbp_top.specs.Answers.{Answer, Refusal, affirmed, denied, refused, no_memory, full, status_of, status_of_refusal, text_of, is_shown}
+use Rattle.mbp_top.specs.Answers.{Answer, Refusal, refused, no_memory, full, status_of, status_of_refusal, text_of, is_shown}
 use Rattle.mbp_top.specs.Delivery.{IsWhole, Seen}
 use Rattle.mbp_top.specs.Grounding.{GroundThen, has_goal_for}
 use Rattle.mbp_top.specs.Enough.{IsTightLimit}

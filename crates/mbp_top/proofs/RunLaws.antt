@@ -1,6 +1,5 @@
 -- What follows for a run that has its cause.
-use Rattle.std.proofs.Common.{◌≡◌, ◌≢◌, ◌≤◌, ◌⊎◌, ℕ, List, Option, None, true}
-use Rattle.std.specs.Io.KnownBytes.{append_known}
+use Rattle.std.proofs.Common.{◌≡◌, ◌≢◌, ◌≤◌, ◌⊎◌, ℕ, None, true}
 use Rattle.exec_graph.specs.Executions.{ReachesMoreThan}
 use Rattle.pddl_ast.specs.Trees.{DomainTree, ProblemTree}
 use Rattle.pddl_system.specs.Sizes.{first_passed}
@@ -20,7 +19,7 @@ use Rattle.mbp_top.specs.OneReading.{OneReading}
 use Rattle.mbp_top.specs.PddlTexts.{HoldBoth}
 use Rattle.mbp_top.specs.PlanCommand.{is_sought, stages_for}
 use Rattle.mbp_top.specs.PlanFiles.{HoldsPlan, is_of_kind}
-use Rattle.mbp_top.specs.Runs.{FailedIn, HasRun, IsTold, IsUndisturbed, Run}
+use Rattle.mbp_top.specs.Runs.{FailedIn, HasRun, Run}
 use Rattle.mbp_top.specs.Told.{AreFilesTold, NoFault}
 use Rattle.mbp_top.specs.Words.{Bytes, CheckWords, Command, PlanWords, SayNothing, Says, SaysCheck, SaysPlan, files_of}
 use Rattle.mbp_top.proofs.ByCommand.{due_answer}

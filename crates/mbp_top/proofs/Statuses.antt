@@ -5,7 +5,7 @@ use Rattle.std.specs.Io.KnownBytes.{append_known}
 use Rattle.plan_io.specs.Counts.{Rose}
 use Rattle.plan_io.specs.Fetches.{FailedLast}
 use Rattle.plan_io.specs.Held.{Held}
-use Rattle.mbp_top.specs.Answers.{Answer, affirmed, denied, refused, Refusal, no_command, text_fault, over_limit, read_fault, no_memory, full, stray_outcome, unexecutable, status_of, text_of, is_shown}
+use Rattle.mbp_top.specs.Answers.{Answer, affirmed, denied, refused, no_command, text_fault, over_limit, read_fault, no_memory, full, stray_outcome, unexecutable, status_of, text_of, is_shown}
 use Rattle.mbp_top.specs.Causes.{HasCause, IsQuietAt, MayHaveFault}
 use Rattle.mbp_top.specs.Delivery.{Seen, IsWhole, IsCut, IsDelivered}
 use Rattle.mbp_top.specs.PlanCommand.{MayRunOut}

@@ -1,5 +1,5 @@
 -- The command `check`: the verdict on a plan that is handed in.
-use Rattle.std.specs.Prelude.{◌≡◌, ℕ, ◌<◌, ◌≤◌, ◌⊎◌, List, ◌++◌, codes, decimal, length, map, take}
+use Rattle.std.specs.Prelude.{◌≡◌, ℕ, ◌<◌, ◌≤◌, ◌⊎◌, ◌++◌, codes, decimal, length, map, take}
 use Rattle.std.specs.Prelude.{Option, Some, None}
 use Rattle.exec_graph.specs.Executions.{ReachesMoreThan}
 use Rattle.pddl_ast.specs.Trees.{DomainTree, ProblemTree, TemporalTree}
@@ -19,7 +19,6 @@ use Rattle.plan_rules.specs.Rules.{PlainPlan, table, automaton}
 use Rattle.plan_rules.specs.Texts.{line_feed}
 use Rattle.task_core.specs.Initial.{after_entries}
 use Rattle.task_core.specs.Systems.{System}
-use Rattle.task_core.specs.declared.classes.Class.{Class}
 use Rattle.mbp_top.specs.Answers.{Answer, affirmed, denied, refused, over_limit}
 use Rattle.mbp_top.specs.Grounding.{GoalThen, GroundThen}
 use Rattle.mbp_top.specs.PddlTexts.{ReadBoth}
