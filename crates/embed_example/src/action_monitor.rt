@@ -16,11 +16,11 @@ pub struct ActionMonitor {
 }
 
 impl Monitor for ActionMonitor {
-    ghost counted = { λ monitor. monitor.count };
-
-    ghost title = { λ _. codes "uses" };
-
-    ghost weight = { λ monitor step. if step.action.0 == monitor.action.0 then 1 else 0 };
+    ghost shown = { λ monitor. record {
+      counted = monitor.count;
+      title = codes "uses";
+      weight = λ step. if step.action.0 == monitor.action.0 then 1 else 0;
+    } };
 
     fn seen(&mut self, step: &Step) {
         if step.action == self.action {

@@ -75,11 +75,7 @@ struct WatchedMonitor {
 }
 
 impl Monitor for WatchedMonitor {
-    ghost counted = { λ _. 0 };
-
-    ghost title = { λ _. codes "watched" };
-
-    ghost weight = { λ _ _. 0 };
+    ghost shown = { λ _. record { counted = 0; title = codes "watched"; weight = λ _. 0 } };
 
     fn seen(&mut self, _: &Step) {
         self.uses.count();
@@ -130,7 +126,7 @@ fn told(
     world: Box<dyn World>,
     monitors: Vec<Box<dyn Monitor>>,
 ) -> Result<String, Fail>
-    requires { All (λ monitor. counted monitor ≡ 0) monitors.items }
+    requires { All (λ monitor. (shown monitor).counted ≡ 0) monitors.items }
 {
     let words = split(alloc, line)?;
     let mut shelf = shelf(alloc)?;

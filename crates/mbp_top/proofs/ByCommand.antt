@@ -1,5 +1,6 @@
 -- Causes, command by command: the words say one command at most, and it has one answer at most.
-use Rattle.std.proofs.Common.{◌≡◌, ◌≢◌, ℕ, List, ◌⊎◌, inl, inr, refl, subst, sym, ◌∙◌, ap, arith, get_or, drop, length, [], codes, decimal}
+use Rattle.std.proofs.Common.{◌≡◌, ◌≢◌, ℕ, List, ◌⊎◌, inl, inr, refl, subst, sym, ◌∙◌, ap, arith, get_or, drop, length, [], decimal}
+use Rattle.std.specs.Prelude.{if◌then◌else◌, ◌==◌}
 use Rattle.std.proofs.lemmas.Fmt.{decimal_injective}
 use Rattle.task_core.specs.declared.classes.Class.{Class}
 use Rattle.task_core.specs.declared.classes.Class.TheVariants.{Weak, Strong, Cyclic}
@@ -13,7 +14,7 @@ use Rattle.mbp_top.specs.Words.{Bytes, Command, PlanKind, kind_word, of_class, w
 use Rattle.plan_rules.specs.Texts.{class_word}
 use Rattle.mbp_top.proofs.CheckDecides.{check_decides}
 use Rattle.mbp_top.proofs.GroundDecides.{ground_command_decides}
-use Rattle.mbp_top.proofs.PddlDecides.{OneReading}
+use Rattle.mbp_top.specs.OneReading.{OneReading}
 use Rattle.mbp_top.proofs.PlanDecides.{plan_decides}
 use Rattle.mbp_top.proofs.ReplayDecides.{replay_decides}
 
@@ -76,22 +77,6 @@ same_check words v w says says' =
     let plans : v.plan ≡ w.plan = ap (λ (ws : List Bytes). get_or ws 4 []) both in
     λ i. record { kind = kinds i; domain = domains i; problem = problems i; plan = plans i }
 
-not_plan_and_check : (words : List Bytes) (v : PlanWords) (w : CheckWords) → SaysPlan words v → SaysCheck words w → ⊥
-not_plan_and_check words v w says says' =
-    let first : codes "plan" ≡ codes "check" = ap (λ (ws : List Bytes). get_or ws 0 []) (sym says.written ∙ says') in
-    omega (arith, ap (λ (w : Bytes). get_or w 0 0) first)
-
-not_ground_and_check : (words : List Bytes) (v : GroundWords) (w : CheckWords) → SaysGround words v → SaysCheck words w → ⊥
-not_ground_and_check words v w says says' =
-    let first : codes "ground" ≡ codes "check" = ap (λ (ws : List Bytes). get_or ws 0 []) (sym says ∙ says') in
-    omega (arith, ap (λ (w : Bytes). get_or w 0 0) first)
-
--- the commands differ in their first words
-not_plan_and_ground : (words : List Bytes) (v : PlanWords) (w : GroundWords) → SaysPlan words v → SaysGround words w → ⊥
-not_plan_and_ground words v w says says' =
-    let first : codes "plan" ≡ codes "ground" = ap (λ (ws : List Bytes). get_or ws 0 []) (sym says.written ∙ says') in
-    omega (arith, ap (λ (w : Bytes). get_or w 0 0) first)
-
 same_replay : (words : List Bytes) (v w : ReplayWords) → SaysReplay words v → SaysReplay words w → v ≡ w
 same_replay words v w says says' =
     let both = sym says ∙ says' in
@@ -101,39 +86,81 @@ same_replay words v w says says' =
     let records : v.recorded ≡ w.recorded = ap (λ (ws : List Bytes). get_or ws 4 []) both in
     λ i. record { domain = domains i; problem = problems i; plan = plans i; recorded = records i }
 
-not_plan_and_replay : (words : List Bytes) (v : PlanWords) (w : ReplayWords) → SaysPlan words v → SaysReplay words w → ⊥
-not_plan_and_replay words v w says says' =
-    let first : codes "plan" ≡ codes "replay" = ap (λ (ws : List Bytes). get_or ws 0 []) (sym says.written ∙ says') in
-    omega (arith, ap (λ (w : Bytes). get_or w 0 0) first)
+-- the commands without what they are asked
+data Form : Type 0 where
+  planning : Form
+  grounding : Form
+  checking : Form
+  replaying : Form
 
-not_ground_and_replay : (words : List Bytes) (v : GroundWords) (w : ReplayWords) → SaysGround words v → SaysReplay words w → ⊥
-not_ground_and_replay words v w says says' =
-    let first : codes "ground" ≡ codes "replay" = ap (λ (ws : List Bytes). get_or ws 0 []) (sym says ∙ says') in
-    omega (arith, ap (λ (w : Bytes). get_or w 0 0) first)
+abbrev WordsOf : Form → Type 0
+WordsOf planning = PlanWords
+WordsOf grounding = GroundWords
+WordsOf checking = CheckWords
+WordsOf replaying = ReplayWords
 
-not_check_and_replay : (words : List Bytes) (v : CheckWords) (w : ReplayWords) → SaysCheck words v → SaysReplay words w → ⊥
-not_check_and_replay words v w says says' =
-    let first : codes "check" ≡ codes "replay" = ap (λ (ws : List Bytes). get_or ws 0 []) (sym says ∙ says') in
-    omega (arith, ap (λ (w : Bytes). get_or w 0 0) first)
+abbrev form_of : Command → Form
+form_of (plan v) = planning
+form_of (ground v) = grounding
+form_of (check v) = checking
+form_of (replay v) = replaying
 
--- the words say one command at most
+abbrev asked_of : (c : Command) → WordsOf (form_of c)
+asked_of (plan v) = v
+asked_of (ground v) = v
+asked_of (check v) = v
+asked_of (replay v) = v
+
+abbrev made : (f : Form) → WordsOf f → Command
+made planning v = plan v
+made grounding v = ground v
+made checking v = check v
+made replaying v = replay v
+
+made_of : (c : Command) → made (form_of c) (asked_of c) ≡ c
+made_of (plan v) = refl
+made_of (ground v) = refl
+made_of (check v) = refl
+made_of (replay v) = refl
+
+-- the letter with which the first word begins, and the form that it stands for
+abbrev letter : Form → ℕ
+letter planning = 112
+letter grounding = 103
+letter checking = 99
+letter replaying = 114
+
+abbrev form_at : ℕ → Form
+form_at n = if n == 112 then planning else if n == 103 then grounding else if n == 99 then checking else replaying
+
+form_at-letter : (f : Form) → form_at (letter f) ≡ f
+form_at-letter planning = refl
+form_at-letter grounding = refl
+form_at-letter checking = refl
+form_at-letter replaying = refl
+
+abbrev first_letter : List Bytes → ℕ
+first_letter words = get_or (get_or words 0 []) 0 0
+
+letter_is : (words : List Bytes) (c : Command) → Says words c → first_letter words ≡ letter (form_of c)
+letter_is words (plan v) says = ap first_letter says.written
+letter_is words (ground v) says = ap first_letter says
+letter_is words (check v) says = ap first_letter says
+letter_is words (replay v) says = ap first_letter says
+
+same_asked : (words : List Bytes) (f : Form) (v w : WordsOf f) → Says words (made f v) → Says words (made f w) → v ≡ w
+same_asked words planning v w says says' = same_plan words v w says says'
+same_asked words grounding v w says says' = same_ground words v w says says'
+same_asked words checking v w says says' = same_check words v w says says'
+same_asked words replaying v w says says' = same_replay words v w says says'
+
+-- the words say one command at most: the first decides its form
 pub one_command : (words : List Bytes) (c d : Command) → Says words c → Says words d → c ≡ d
-one_command words (plan v) (plan w) says says' = ap plan (same_plan words v w says says')
-one_command words (plan v) (ground w) says says' = absurd (not_plan_and_ground words v w says says')
-one_command words (ground v) (plan w) says says' = absurd (not_plan_and_ground words w v says' says)
-one_command words (ground v) (ground w) says says' = ap ground (same_ground words v w says says')
-one_command words (plan v) (check w) says says' = absurd (not_plan_and_check words v w says says')
-one_command words (ground v) (check w) says says' = absurd (not_ground_and_check words v w says says')
-one_command words (check v) (plan w) says says' = absurd (not_plan_and_check words w v says' says)
-one_command words (check v) (ground w) says says' = absurd (not_ground_and_check words w v says' says)
-one_command words (check v) (check w) says says' = ap check (same_check words v w says says')
-one_command words (plan v) (replay w) says says' = absurd (not_plan_and_replay words v w says says')
-one_command words (ground v) (replay w) says says' = absurd (not_ground_and_replay words v w says says')
-one_command words (check v) (replay w) says says' = absurd (not_check_and_replay words v w says says')
-one_command words (replay v) (plan w) says says' = absurd (not_plan_and_replay words w v says' says)
-one_command words (replay v) (ground w) says says' = absurd (not_ground_and_replay words w v says' says)
-one_command words (replay v) (check w) says says' = absurd (not_check_and_replay words w v says' says)
-one_command words (replay v) (replay w) says says' = ap replay (same_replay words v w says says')
+one_command words c d says says' =
+    let forms : form_of c ≡ form_of d = sym (form_at-letter (form_of c)) ∙ (ap form_at (sym (letter_is words c says) ∙ letter_is words d says') ∙ form_at-letter (form_of d)) in
+    let of_form = subst (λ (f : Form). (w : WordsOf f) → Says words (made f w) → made (form_of c) (asked_of c) ≡ made f w) forms
+    (λ w other. ap (made (form_of c)) (same_asked words (form_of c) (asked_of c) w (subst (Says words) (sym (made_of c)) says) other)) in
+    sym (made_of c) ∙ (of_form (asked_of d) (subst (Says words) (sym (made_of d)) says') ∙ made_of d)
 
 -- the two files decide the answer of `plan`, unless the table of nodes is full
 one_plan_answer : OneReading → (held : Bytes → Held) (failed failed' : Bytes → Type 0) (words : List Bytes) (asked : PlanWords)

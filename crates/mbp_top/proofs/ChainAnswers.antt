@@ -42,12 +42,14 @@ use Rattle.mbp_top.specs.ChainGoals.{ChainThen, chained_of, goal_chain, is_short
 use Rattle.mbp_top.specs.Enough.{IsTightLimit}
 use Rattle.mbp_top.specs.FoundChains.{IsChainMissing, IsChainResult, IsChainShown, IsFoundChain, StandsForChain}
 use Rattle.mbp_top.specs.Grounded.{IsTaskOf}
-use Rattle.mbp_top.specs.PlanCommand.{HasNoMeetingPlan, IsContextPlanFound, IsContextPlanMissing, IsContextResult, IsMeetingText, IsResultOf, MayBeTooFew, PlanThen, is_sought, stages_for}
-use Rattle.mbp_top.specs.TemporalGoals.{HasGoal, MeetsProblem}
+use Rattle.mbp_top.specs.Meets.{Meets, contextual}
+use Rattle.mbp_top.specs.PlanCommand.{IsPlanFound, IsPlanMissing, IsPlanResult, IsResultOf, MayBeTooFew, PlanThen, is_sought, stages_for}
+use Rattle.mbp_top.specs.TemporalGoals.{HasGoal}
 use Rattle.mbp_top.specs.Words.{Bytes, PlanKind, PlanWords, with_contexts}
 use Rattle.mbp_top.proofs.ChainSets.{ground, same_sets, stands_as}
 use Rattle.mbp_top.proofs.CheckAnswers.{goal_behind}
 use Rattle.mbp_top.proofs.Listings.{same_actions, same_fluents}
+use Rattle.mbp_top.proofs.Meetings.{contexts_meet, no_contexts}
 
 -- what the chain of the task's goal and that of the text's have in common
 record Pair (d : DomainTree) (p : ProblemTree) (tree : ChainTree) (ours : Option (PlainChain Cond)) (theirs : Option (PlainChain FormulaTree)) : Type 0 where
@@ -128,22 +130,18 @@ one_goal s t same = cc
 
 -- a plan that has the chain meets the problem's goal, and the other way round
 module _ (d : DomainTree) (p : ProblemTree) (chain : Chain) (s : StandsForChain d p chain) where
-  meets : (plan : ContextPlan) → IsChainPlan (system d p) (chain_sets chain) plan → MeetsProblem d p plan
-  meets plan has = record {
-    goal = s.goal;
-    is = s.goal_is;
-    met = record { complete = has.complete; has = λ x initial. (s.alike plan x).1 (has.has x initial) };
-  }
+  meets : (plan : ContextPlan) → IsChainPlan (system d p) (chain_sets chain) plan → Meets with_contexts d p (contextual plan)
+  meets plan has = (s.goal, s.goal_is, record { complete = has.complete; has = λ x initial. (s.alike plan x).1 (has.has x initial) })
 
-  met_back : (plan : ContextPlan) → MeetsProblem d p plan → IsChainPlan (system d p) (chain_sets chain) plan
-  met_back plan m =
-      let same : m.goal ≡ s.goal = one_goal m.goal s.goal (sym m.is ∙ s.goal_is) in
+  met_back : (plan : ContextPlan) → Meets with_contexts d p (contextual plan) → IsChainPlan (system d p) (chain_sets chain) plan
+  met_back plan (goal, is, met) =
+      let same : goal ≡ s.goal = one_goal goal s.goal (sym is ∙ s.goal_is) in
       record {
-        complete = m.met.complete;
-        has = λ x initial. (s.alike plan x).0 (subst (λ (g : TemporalTree). HasGoal d p plan g x) same (m.met.has x initial));
+        complete = met.complete;
+        has = λ x initial. (s.alike plan x).0 (subst (λ (g : TemporalTree). HasGoal d p plan g x) same (met.has x initial));
       }
 
-  found : (t : Task) (a : Answer) → IsTaskOf d p t → IsChainShown t chain a → IsContextPlanFound d p a
+  found : (t : Task) (a : Answer) → IsTaskOf d p t → IsChainShown t chain a → IsPlanFound with_contexts d p a
   found t a of shown =
       let fluents_named = subst (λ (ns : List Name). SpellsPlain ns (names_of_actions t) shown.text (automaton shown.contexts shown.rules)) (same_fluents d p t of.task_is) shown.spelled in
       let named = subst (λ (ns : List Name). SpellsPlain (fluent_names d p) ns shown.text (automaton shown.contexts shown.rules)) (same_actions d p t of.task_is) fluents_named in
@@ -151,12 +149,15 @@ module _ (d : DomainTree) (p : ProblemTree) (chain : Chain) (s : StandsForChain 
       record {
         text = shown.text;
         shown = shown.shown;
-        meets = record {
-          contexts = shown.contexts;
-          rules = shown.rules;
+        good = record {
+          plan = automaton shown.contexts shown.rules;
           spelled = named;
-          met = meets plan (subst (λ (y : System). IsChainPlan y (chain_sets chain) plan) of.system_is shown.has);
+          written = tt;
+          meets = contexts_meet d p shown.contexts shown.rules
+              (meets plan (subst (λ (y : System). IsChainPlan y (chain_sets chain) plan) of.system_is shown.has));
+          executable = tt;
         };
+        short = tt;
         printed = (
           s.parts,
           s.is,
@@ -169,13 +170,13 @@ module _ (d : DomainTree) (p : ProblemTree) (chain : Chain) (s : StandsForChain 
         );
       }
 
-  missing : (t : Task) (a : Answer) → IsTaskOf d p t → IsChainMissing t chain a → IsContextPlanMissing d p a
+  missing : (t : Task) (a : Answer) → IsTaskOf d p t → IsChainMissing t chain a → IsPlanMissing with_contexts d p a
   missing t a of none = record {
     shown = none.shown;
-    none = λ plan m. subst (λ (y : System). HasNoContextPlan y (chain_sets chain)) of.system_is none.none plan (met_back plan m);
+    none = no_contexts d p (λ plan m. subst (λ (y : System). HasNoContextPlan y (chain_sets chain)) of.system_is none.none plan (met_back plan m));
   }
 
-  result : (t : Task) (a : Answer) → IsTaskOf d p t → IsChainResult t chain a → IsContextResult d p a
+  result : (t : Task) (a : Answer) → IsTaskOf d p t → IsChainResult t chain a → IsPlanResult with_contexts d p a
   result t a of (inl shown) = inl (found t a of shown)
   result t a of (inr none) = inr (missing t a of none)
 

@@ -1,7 +1,6 @@
 -- The three files and the class decide the answer of `check`.
-use Rattle.std.proofs.Common.{◌≡◌, ◌≢◌, ◌⊎◌, ℕ, List, inl, inr, sym, subst, ap, ◌∙◌, Option, Some, None, unwrap_or, true, false}
+use Rattle.std.proofs.Common.{◌≡◌, ◌≢◌, List, inl, inr, sym, subst, ap, ◌∙◌, Option, Some, unwrap_or, true, false}
 use Rattle.std.proofs.lemmas.Bool.{false≢true}
-use Rattle.exec_graph.specs.Executions.{ReachesMoreThan}
 use Rattle.pddl_ast.specs.Trees.{DomainTree, ProblemTree, TemporalTree}
 use Rattle.pddl_system.specs.Systems.{action_names, fluent_names, system}
 use Rattle.plan_io.specs.Held.{Held, Untold}
@@ -11,18 +10,18 @@ use Rattle.plan_check.proofs.ContextLaws.{same_context_verdict}
 use Rattle.plan_rules.specs.Denoted.{denoted_contexts}
 use Rattle.plan_rules.specs.Readings.{plan_read}
 use Rattle.plan_rules.specs.Rules.{PlainPlan, table, automaton}
-use Rattle.sexpr_text.specs.Forest.{Forest}
 use Rattle.sexpr_text.specs.declared.forms.Place.{Place}
 use Rattle.task_core.specs.Names.{Name}
 use Rattle.task_core.specs.Systems.{System}
 use Rattle.mbp_top.specs.Answers.{Answer, text_fault}
-use Rattle.mbp_top.specs.CheckCommand.{CheckThen, ExploreThen, HasTooManyStates, IsCheckAnswer, IsChecked, IsVerdictOf, ShowsVerdict, most_followed, verdict_answer}
+use Rattle.mbp_top.specs.CheckCommand.{CheckThen, ExploreThen, HasTooManyStates, IsCheckAnswer, IsChecked, IsVerdictOf, ShowsVerdict, verdict_answer}
 use Rattle.mbp_top.specs.Grounding.{GroundThen}
 use Rattle.mbp_top.specs.PlanFiles.{IsFaultyPlan, KindThen, PlacedPlan, SpellsPlaced}
 use Rattle.mbp_top.specs.TemporalGoals.{HasGoal}
 use Rattle.mbp_top.specs.Words.{Bytes, CheckWords, PlanKind, of_class, with_contexts}
 use Rattle.mbp_top.proofs.Deciding.{Decides, IsGrammar, read_decides}
-use Rattle.mbp_top.proofs.PddlDecides.{OneReading, both_decides, goal_decides, ground_decides}
+use Rattle.mbp_top.specs.OneReading.{OneReading}
+use Rattle.mbp_top.proofs.PddlDecides.{both_decides, goal_decides, ground_decides}
 
 -- no text spells two plans, nor one at two places
 one_pair : (x y : PlainPlan × Place) → Some x ≡ Some y → x ≡ y

@@ -19,19 +19,22 @@ use Rattle.task_core.specs.Solutions.{IsSolution}
 use Rattle.task_core.specs.Systems.{System}
 use Rattle.task_core.specs.declared.classes.Class.{Class}
 use Rattle.mbp_top.specs.Answers.{Answer, refused, no_memory, status_of, text_of, is_shown}
-use Rattle.mbp_top.specs.CheckCommand.{CheckThen, ExploreThen, HasBound, HasTooManyStates, IsCheckAnswer, IsChecked, IsFirstAgainst, IsMet, IsVerdictOf, ShowsVerdict, most_followed, verdict_answer}
+use Rattle.mbp_top.specs.CheckCommand.{CheckThen, ExploreThen, HasBound, HasTooManyStates, IsCheckAnswer, IsChecked, IsFirstAgainst, IsVerdictOf, ShowsVerdict, most_followed, verdict_answer}
 use Rattle.mbp_top.specs.Delivery.{Seen}
 use Rattle.mbp_top.specs.Grounding.{GroundThen, has_goal_for}
+use Rattle.mbp_top.specs.Meets.{PlanMeets}
 use Rattle.mbp_top.specs.PddlTexts.{HoldBoth}
 use Rattle.mbp_top.specs.PlanFiles.{HoldsPlan, IsFaultyPlan, KindThen, PlacedPlan, SpellsPlaced, is_of_kind}
 use Rattle.mbp_top.specs.Told.{AreFilesTold, NoFault}
 use Rattle.mbp_top.specs.ReplayCommand.{Tallies}
-use Rattle.mbp_top.specs.TemporalGoals.{HasGoal, MeetsProblem}
+use Rattle.mbp_top.specs.TemporalGoals.{HasGoal}
 use Rattle.mbp_top.specs.Words.{Bytes, CheckWords, PlanKind, of_class, with_contexts, check, SaysCheck}
 use Rattle.mbp_top.proofs.ByCommand.{of_command}
 use Rattle.mbp_top.proofs.CheckDecides.{plan_grammar}
 use Rattle.mbp_top.proofs.Deciding.{read_as}
-use Rattle.mbp_top.proofs.PddlDecides.{OneReading, ReadFor, both_as, not_refused, shown_both, shown_goal, shown_grounded, with_goal, within_limits}
+use Rattle.mbp_top.proofs.Meetings.{contexts_meet, meaning_meets, table_meets, table_solves}
+use Rattle.mbp_top.specs.OneReading.{OneReading}
+use Rattle.mbp_top.proofs.PddlDecides.{ReadFor, both_as, not_refused, shown_both, shown_goal, shown_grounded, with_goal, within_limits}
 use Rattle.mbp_top.proofs.Statuses.{Done, shown_at, undisturbed, whole_delivery, written_shown}
 
 -- what is known of verdicts
@@ -102,7 +105,7 @@ pub record YesWritten (held : Bytes → Held) (asked : CheckWords) (out out' : S
   pub bound : Option ℕ
   pub both : HoldBoth held asked.domain asked.problem domain problem
   pub file : HoldsPlan held (fluent_names domain problem) (action_names domain problem) asked.plan plan
-  pub met : IsMet asked.kind domain problem plan
+  pub met : PlanMeets asked.kind domain problem plan
   pub bounded : HasBound asked.kind domain problem plan bound
   pub written : out'.written ≡ append_known out.written (text_of (verdict_answer (Yes bound)))
 
@@ -123,14 +126,14 @@ yes_zero None = refl
 yes_zero (Some n) = refl
 
 -- a yes is one of a plan that meets the goal
-yes_is_met : YesSolves → (kind : PlanKind) (d : DomainTree) (p : ProblemTree) (plan : PlainPlan) (bound : Option ℕ) → IsVerdictOf kind d p plan (Yes bound) → IsMet kind d p plan
+yes_is_met : YesSolves → (kind : PlanKind) (d : DomainTree) (p : ProblemTree) (plan : PlainPlan) (bound : Option ℕ) → IsVerdictOf kind d p plan (Yes bound) → PlanMeets kind d p plan
 yes_is_met law (of_class class) d p (table written rules) bound is =
     let both = (law (system d p) rules class (Yes bound) is).0 tt in
-    record { executable = both.0; solves = both.1 }
+    table_meets class written d p rules both.0 both.1
 yes_is_met law (of_class class) d p (automaton contexts rules) bound never = absurd never
 yes_is_met law with_contexts d p (table written rules) bound never = absurd never
 yes_is_met law with_contexts d p (automaton contexts rules) bound (goal, same, is) =
-    record { goal = goal; is = same; met = (yes_met (system d p) (denoted_contexts rules) (HasGoal d p (denoted_contexts rules) goal) (Yes bound) is).0 tt }
+    contexts_meet d p contexts rules (goal, same, (yes_met (system d p) (denoted_contexts rules) (HasGoal d p (denoted_contexts rules) goal) (Yes bound) is).0 tt)
 
 yes_bound : (kind : PlanKind) (d : DomainTree) (p : ProblemTree) (plan : PlainPlan) (bound : Option ℕ) → IsVerdictOf kind d p plan (Yes bound) → HasBound kind d p plan bound
 yes_bound (of_class class) d p (table written rules) bound is = is.bounded
@@ -148,15 +151,15 @@ one_goal : (s t : TemporalTree) → Some s ≡ Some t → s ≡ t
 one_goal s t same = cc
 
 -- and a no is one of a plan that doesn't
-no_is_not_met : YesSolves → (kind : PlanKind) (d : DomainTree) (p : ProblemTree) (plan : PlainPlan) (reason : Reason) → IsVerdictOf kind d p plan (No reason) → IsMet kind d p plan → ⊥
-no_is_not_met law (of_class class) d p (table written rules) reason is met = (law (system d p) rules class (No reason) is).1 (met.executable, met.solves)
+no_is_not_met : YesSolves → (kind : PlanKind) (d : DomainTree) (p : ProblemTree) (plan : PlainPlan) (reason : Reason) → IsVerdictOf kind d p plan (No reason) → PlanMeets kind d p plan → ⊥
+no_is_not_met law (of_class class) d p (table written rules) reason is met = (law (system d p) rules class (No reason) is).1 (table_solves class written d p rules met)
 no_is_not_met law (of_class class) d p (automaton contexts rules) reason never met = absurd never
 no_is_not_met law with_contexts d p (table written rules) reason never met = absurd never
 no_is_not_met law with_contexts d p (automaton contexts rules) reason (goal, same, is) met =
     let plan = denoted_contexts rules in
-    let goals : met.goal ≡ goal = one_goal met.goal goal (sym met.is ∙ same) in
+    let meets = meaning_meets d p contexts rules met in
     (yes_met (system d p) plan (HasGoal d p plan goal) (No reason) is).1
-    (subst (λ (t : TemporalTree). MeetsGoal (system d p) plan (HasGoal d p plan t)) goals met.met)
+    (subst (λ (t : TemporalTree). MeetsGoal (system d p) plan (HasGoal d p plan t)) (one_goal meets.0 goal (sym meets.1 ∙ same)) meets.2)
 
 yes_written : YesSolves → (held : Bytes → Held) (asked : CheckWords) (out out' : Seen) (a : Answer) (read : CheckFor held asked a) (verdict : Verdict)
     → IsVerdictOf asked.kind read.domain read.problem read.plan verdict → status_of (verdict_answer verdict) ≡ 0
@@ -212,7 +215,7 @@ check_no_written held failed tallies words before after out out' err err' status
 -- the status where the files spell a domain, a problem of it and a plan of the kind, within the
 -- limits: 0 exactly where the plan meets the goal
 verdict_status : YesSolves → (kind : PlanKind) (d : DomainTree) (p : ProblemTree) (plan : PlainPlan) (verdict : Verdict) (status : ℕ) → IsVerdictOf kind d p plan verdict
-    → status ≡ status_of (verdict_answer verdict) → ((status ≡ 0) × IsMet kind d p plan) ⊎ ((status ≡ 1) × (IsMet kind d p plan → ⊥)) ⊎ (status ≡ 8)
+    → status ≡ status_of (verdict_answer verdict) → ((status ≡ 0) × PlanMeets kind d p plan) ⊎ ((status ≡ 1) × (PlanMeets kind d p plan → ⊥)) ⊎ (status ≡ 8)
 verdict_status law kind d p plan (Yes bound) status is code = inl (code ∙ yes_zero bound, yes_is_met law kind d p plan bound is)
 verdict_status law kind d p plan (No reason) status is code = inr (inl (code, no_is_not_met law kind d p plan reason is))
 
@@ -234,14 +237,14 @@ pub check_status : OneReading → YesSolves → (held : Bytes → Held) (failed 
     → (HasTooManyStates domain problem → ⊥) → (ReachesMoreThan (system domain problem) plan most_followed → ⊥)
     → AreFilesTold held words → ((file : Bytes) → failed file → ⊥)
     → NoFault out.faults out'.faults → NoFault err.faults err'.faults
-    → ((status ≡ 0) × IsMet asked.kind domain problem plan) ⊎ ((status ≡ 1) × (IsMet asked.kind domain problem plan → ⊥)) ⊎ (status ≡ 8)
+    → ((status ≡ 0) × PlanMeets asked.kind domain problem plan) ⊎ ((status ≡ 1) × (PlanMeets asked.kind domain problem plan → ⊥)) ⊎ (status ≡ 8)
 check_status one law held failed tallies words before after out out' err err' status a asked domain problem plan d says both goal kept file right few small told quiet no_out no_err =
     go (of_command held failed tallies words (check asked) a says d.cause) where
       code : status ≡ status_of a
       code = undisturbed a out out' err err' status no_out no_err d.delivered
 
       go : (a ≡ refused no_memory) ⊎ IsCheckAnswer held failed asked a
-          → ((status ≡ 0) × IsMet asked.kind domain problem plan) ⊎ ((status ≡ 1) × (IsMet asked.kind domain problem plan → ⊥)) ⊎ (status ≡ 8)
+          → ((status ≡ 0) × PlanMeets asked.kind domain problem plan) ⊎ ((status ≡ 1) × (PlanMeets asked.kind domain problem plan → ⊥)) ⊎ (status ≡ 8)
       go (inl is) = inr (inr (code ∙ ap status_of is))
       go (inr is) =
           let then = within_limits domain problem (CheckThen held failed asked domain problem) a kept

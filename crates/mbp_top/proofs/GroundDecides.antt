@@ -5,7 +5,8 @@ use Rattle.mbp_top.specs.Answers.{affirmed}
 use Rattle.mbp_top.specs.GroundCommand.{IsGroundAnswer, IsListed, listing_of}
 use Rattle.mbp_top.specs.Words.{Bytes, GroundWords}
 use Rattle.mbp_top.proofs.Deciding.{Decides}
-use Rattle.mbp_top.proofs.PddlDecides.{OneReading, both_decides, ground_decides}
+use Rattle.mbp_top.specs.OneReading.{OneReading}
+use Rattle.mbp_top.proofs.PddlDecides.{both_decides, ground_decides}
 
 pub ground_command_decides : OneReading → (held : Bytes → Held) (failed failed' : Bytes → Type 0) (asked : GroundWords)
     → held asked.domain ≢ Untold → held asked.problem ≢ Untold → ((file : Bytes) → failed file → ⊥) → ((file : Bytes) → failed' file → ⊥)

@@ -12,7 +12,8 @@ use Rattle.mbp_top.specs.Told.{AreFilesTold, NoFault}
 use Rattle.mbp_top.specs.ReplayCommand.{Tallies}
 use Rattle.mbp_top.specs.Words.{Bytes, GroundWords, ground, SaysGround}
 use Rattle.mbp_top.proofs.ByCommand.{of_command}
-use Rattle.mbp_top.proofs.PddlDecides.{OneReading, ReadFor, both_as, not_refused, shown_both, shown_grounded, within_limits}
+use Rattle.mbp_top.specs.OneReading.{OneReading}
+use Rattle.mbp_top.proofs.PddlDecides.{ReadFor, both_as, not_refused, shown_both, shown_grounded, within_limits}
 use Rattle.mbp_top.proofs.Statuses.{Done, shown_at, undisturbed, whole_delivery, written_shown}
 
 shown_listed : (held : Bytes → Held) (failed : Bytes → Type 0) (asked : GroundWords) (a : Answer) → is_shown a ≡ true

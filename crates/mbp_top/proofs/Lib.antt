@@ -1,6 +1,7 @@
 pub mod Deciding
 pub mod PddlDecides
 pub mod PlanDecides
+pub mod Meetings
 pub mod OneCyclicPlan
 pub mod GroundDecides
 pub mod CheckDecides
@@ -16,6 +17,7 @@ pub mod ReplayRuns
 pub mod ReplayWritten
 pub mod ByCommand
 pub mod Statuses
+pub mod RunLaws
 pub mod Listings
 pub mod PlanAnswers
 pub mod EnoughNodes

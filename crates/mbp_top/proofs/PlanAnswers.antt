@@ -30,55 +30,52 @@ use Rattle.plan_theory.specs.Layers.{IsLastLayer}
 use Rattle.plan_theory.specs.LayerPlans.{printed_rules}
 use Rattle.mbp_top.specs.Answers.{Answer, affirmed, full, no_memory, refused}
 use Rattle.mbp_top.specs.Enough.{IsTightLimit}
-use Rattle.mbp_top.specs.FoundPlans.{IsFoundPlan, IsSearched}
+use Rattle.mbp_top.specs.FoundPlans.{IsFoundPlan, IsSearched, IsTableResult}
 use Rattle.mbp_top.specs.Grounded.{IsTaskOf}
 use Rattle.mbp_top.specs.Grounding.{GoalThen, GroundThen, has_goal_for}
 use Rattle.mbp_top.specs.PddlTexts.{HoldBoth, ReadBoth}
-use Rattle.mbp_top.specs.PlanCommand.{ArePrintedRules, IsPlanAnswer, IsPlanResult, IsPlanned, IsResultOf, IsShortest, MayBeTooFew, PlanThen, is_sought, stages_for}
+use Rattle.mbp_top.specs.PlanCommand.{ArePrintedRules, IsPlanAnswer, IsPlanned, IsResultOf, IsShortest, MayBeTooFew, PlanThen, is_sought, stages_for}
 use Rattle.mbp_top.specs.Words.{Bytes, PlanKind, PlanWords, of_class}
 use Rattle.mbp_top.proofs.Listings.{same_actions, same_fluents}
+use Rattle.mbp_top.proofs.Meetings.{followed, of_system}
 
-pub plan_is_result : (class : Class) (t : Task) (p : TablePlan) (text : Bytes) → IsFoundPlan class t p
+-- a plan that was found, with its text
+pub plan_is_result : (class : Class) (t : Task) → IsSystem (system_of t) → (p : TablePlan) (text : Bytes) → IsFoundPlan class t p
     → SpellsTable (names_of_fluents t) (names_of_actions t) text p.class (rules_of p)
     → text ≡ table_text (names_of_fluents t) (names_of_actions t) p.class (rules_of p)
-    → IsPlanResult class (system_of t) (names_of_fluents t) (names_of_actions t) (affirmed text)
-plan_is_result class t p text found spelled is =
+    → IsTableResult class (system_of t) (names_of_fluents t) (names_of_actions t) (affirmed text)
+plan_is_result class t system p text found spelled is =
     let fluents = names_of_fluents t in
     let actions = names_of_actions t in
-    let of_class : SpellsTable fluents actions text class (rules_of p) =
-    subst (λ (k : Class). SpellsTable fluents actions text k (rules_of p)) found.of_class spelled in
     inl (record {
       text = text;
       shown = refl;
-      solves = record {
-        rules = rules_of p;
-        spelled = of_class;
-        table = found.table;
-        solves = found.solves;
-        executable = found.executable;
-      };
-      shortest = record { rules = rules_of p; spelled = of_class; shortest = found.shortest };
-      printed = record {
-        rules = rules_of p;
-        printed = found.printed;
-        spelled = is ∙ ap (λ k. table_text fluents actions k (rules_of p)) found.of_class;
-      };
+      rules = rules_of p;
+      spelled = subst (λ (k : Class). SpellsTable fluents actions text k (rules_of p)) found.of_class spelled;
+      table = found.table;
+      solves = found.solves;
+      executable = found.executable;
+      followed = followed (system_of t) (rules_of p) system found.executable;
+      shortest = found.shortest;
+      printed = found.printed;
+      written = is ∙ ap (λ k. table_text fluents actions k (rules_of p)) found.of_class;
     })
 
-pub same_result : (class : Class) (sys sys' : System) (fluents fluents' actions actions' : List Name) (answer : Answer) → sys ≡ sys' → fluents ≡ fluents' → actions ≡ actions'
-    → IsPlanResult class sys fluents actions answer → IsPlanResult class sys' fluents' actions' answer
+same_result : (class : Class) (sys sys' : System) (fluents fluents' actions actions' : List Name) (answer : Answer) → sys ≡ sys' → fluents ≡ fluents' → actions ≡ actions'
+    → IsTableResult class sys fluents actions answer → IsTableResult class sys' fluents' actions' answer
 same_result class sys sys' fluents fluents' actions actions' answer s f a h =
-    subst (λ (y : System). IsPlanResult class y fluents' actions' answer) s
-    (subst (λ (y : List Name). IsPlanResult class sys y actions' answer) f
-    (subst (λ (y : List Name). IsPlanResult class sys fluents y answer) a h))
+    subst (λ (y : System). IsTableResult class y fluents' actions' answer) s
+    (subst (λ (y : List Name). IsTableResult class sys y actions' answer) f
+    (subst (λ (y : List Name). IsTableResult class sys fluents y answer) a h))
 
 -- the answer for a task is that for the domain and the problem that it comes from
 pub planned_answer : (asked : PlanWords) (class : Class) (d : DomainTree) (p : ProblemTree) (t : Task) (a : Answer) → asked.kind ≡ of_class class → IsTaskOf d p t
-    → IsPlanResult class (system_of t) (names_of_fluents t) (names_of_actions t) a → PlanThen asked d p a
+    → IsTableResult class (system_of t) (names_of_fluents t) (names_of_actions t) a → PlanThen asked d p a
 planned_answer asked class d p t a kind of result =
     subst (λ (k : PlanKind). IsResultOf k asked.problem d p a) (sym kind)
+    (of_system class d p a
     (same_result class (system_of t) (system d p) (names_of_fluents t) (fluent_names d p) (names_of_actions t) (action_names d p) a
-    of.system_is (same_fluents d p t of.task_is) (same_actions d p t of.task_is) result)
+    of.system_is (same_fluents d p t of.task_is) (same_actions d p t of.task_is) result))
 
 -- the nodes may be too few for the problem where they may be for its task
 pub too_few : (asked : PlanWords) (class : Class) (d : DomainTree) (p : ProblemTree) (t : Task) → asked.kind ≡ of_class class → IsTaskOf d p t → IsSome p.goal
@@ -90,12 +87,12 @@ too_few asked class d p t kind of goal tight = record {
       (subst (IsTightLimit 0 asked.options.nodes) of.system_is tight);
 }
 
--- no solution is shorter than the plan of the printed rules
+-- no other table is shorter than that of the printed rules
 pub shortest_weak : (sys : System) (K : ℕ) (rules : List PlanRule)
     → ((K : ℕ) (table : Table) (s : Vector) (n : ℕ) → IsSystem sys → IsLastLayer Weak sys K → Contains sys.initial s
     → ReachesGoalWithin sys table s n → ReachesGoalWithin sys (denoted sys (printed_rules Weak sys K)) s n)
     → IsSystem sys → IsLastLayer Weak sys K → rules ≡ printed_rules Weak sys K → IsShortest Weak sys (denoted sys rules)
-shortest_weak sys K rules law is last printed other s n of solves initial reaches =
+shortest_weak sys K rules law is last printed other s n initial reaches =
     subst (λ (rs : List PlanRule). ReachesGoalWithin sys (denoted sys rs) s n) (sym printed) (law K other s n is last initial reaches)
 
 pub shortest_strong : (sys : System) (K : ℕ) (rules : List PlanRule)

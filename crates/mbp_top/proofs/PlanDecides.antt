@@ -20,11 +20,12 @@ use Rattle.mbp_top.specs.Answers.{Answer, affirmed}
 use Rattle.mbp_top.specs.ChainGoals.{ChainThen, chained_of, most_stages}
 use Rattle.mbp_top.specs.Grounding.{GroundThen}
 use Rattle.mbp_top.specs.PddlTexts.{ReadBoth}
-use Rattle.mbp_top.specs.PlanCommand.{ArePrintedRules, AreRulesOfLayers, IsContextResult, IsPrintedChain, IsPrintedText, IsPlanResult, IsPlanned, IsResultOf, PlanThen}
+use Rattle.mbp_top.specs.PlanCommand.{ArePrintedRules, AreRulesOfLayers, IsPrintedChain, IsPrintedText, IsPlanResult, IsPlanned, IsResultOf, PlanThen}
 use Rattle.mbp_top.specs.Words.{Bytes, PlanKind, PlanWords, of_class, with_contexts}
 use Rattle.mbp_top.proofs.Deciding.{Decides}
 use Rattle.mbp_top.proofs.OneCyclicPlan.{one_cyclic}
-use Rattle.mbp_top.proofs.PddlDecides.{OneReading, both_decides, goal_decides, ground_decides}
+use Rattle.mbp_top.specs.OneReading.{OneReading}
+use Rattle.mbp_top.proofs.PddlDecides.{both_decides, goal_decides, ground_decides}
 
 -- there is one last layer at most
 no_later_last : (class : Class) (sys : System) (K L : ℕ) → IsLastLayer class sys K → IsLastLayer class sys L → K < L → ⊥
@@ -50,13 +51,12 @@ one_printed : (class : Class) (sys : System) → IsSystem sys → (fluents actio
 one_printed class sys ok fluents actions text other first second =
     first.spelled ∙ ap (table_text fluents actions class) (one_list class sys ok first.rules second.rules first.printed second.printed) ∙ sym second.spelled
 
-result_decides : (class : Class) (sys : System) → IsSystem sys → (fluents actions : List Name)
-    → Decides (IsPlanResult class sys fluents actions) (IsPlanResult class sys fluents actions)
-result_decides class sys ok fluents actions a b (inl p) (inl q) =
-    p.shown ∙ ap affirmed (one_printed class sys ok fluents actions p.text q.text p.printed q.printed) ∙ sym q.shown
-result_decides class sys ok fluents actions a b (inl p) (inr n) = absurd (n.none (denoted sys p.solves.rules) p.solves.table p.solves.solves)
-result_decides class sys ok fluents actions a b (inr n) (inl p) = absurd (n.none (denoted sys p.solves.rules) p.solves.table p.solves.solves)
-result_decides class sys ok fluents actions a b (inr m) (inr n) = m.shown ∙ sym n.shown
+result_decides : (class : Class) (d : DomainTree) (p : ProblemTree) → Decides (IsPlanResult (of_class class) d p) (IsPlanResult (of_class class) d p)
+result_decides class d p a b (inl f) (inl g) =
+    f.shown ∙ ap affirmed (one_printed class (system d p) (they_have_a_system d p) (fluent_names d p) (action_names d p) f.text g.text f.printed g.printed) ∙ sym g.shown
+result_decides class d p a b (inl f) (inr n) = absurd (n.none f.good.meets.0 f.good.meets.2)
+result_decides class d p a b (inr n) (inl f) = absurd (n.none f.good.meets.0 f.good.meets.2)
+result_decides class d p a b (inr m) (inr n) = m.shown ∙ sym n.shown
 
 -- one chain at most
 one_chain : (c e : PlainChain FormulaTree) → Some c ≡ Some e → c ≡ e
@@ -68,10 +68,10 @@ printed_once d p text other (c, is, spelled) (e, is', spelled') =
     ∙ (ap (λ (x : PlainChain FormulaTree). automaton_text (fluent_names d p) (action_names d p) (context_count (chained_of d p x)) (chain_rules (system d p) (chained_of d p x))) (one_chain c e (sym is ∙ is'))
     ∙ sym spelled')
 
-context_decides : (d : DomainTree) (p : ProblemTree) → Decides (IsContextResult d p) (IsContextResult d p)
+context_decides : (d : DomainTree) (p : ProblemTree) → Decides (IsPlanResult with_contexts d p) (IsPlanResult with_contexts d p)
 context_decides d p a b (inl f) (inl g) = f.shown ∙ (ap affirmed (printed_once d p f.text g.text f.printed g.printed) ∙ sym g.shown)
-context_decides d p a b (inl f) (inr n) = absurd (n.none (denoted_contexts f.meets.rules) f.meets.met)
-context_decides d p a b (inr n) (inl f) = absurd (n.none (denoted_contexts f.meets.rules) f.meets.met)
+context_decides d p a b (inl f) (inr n) = absurd (n.none f.good.meets.0 f.good.meets.2)
+context_decides d p a b (inr n) (inl f) = absurd (n.none f.good.meets.0 f.good.meets.2)
 context_decides d p a b (inr m) (inr n) = m.shown ∙ sym n.shown
 
 chain_decides : (name : Bytes) (p : ProblemTree) (Then : Answer → Type 0) → Decides Then Then → Decides (ChainThen name p (λ chain. Then)) (ChainThen name p (λ chain. Then))
@@ -86,8 +86,8 @@ chain_decides name p Then next a b (inr (c, some, inr (few, then))) (inr (e, som
 chain_decides name p Then next a b (inr (c, some, inr (few, then))) (inr (e, some', inr (few', then'))) = next a b then then'
 
 kind_decides : (kind : PlanKind) (name : Bytes) (d : DomainTree) (p : ProblemTree) → Decides (IsResultOf kind name d p) (IsResultOf kind name d p)
-kind_decides (of_class class) name d p = result_decides class (system d p) (they_have_a_system d p) (fluent_names d p) (action_names d p)
-kind_decides with_contexts name d p = chain_decides name p (IsContextResult d p) (context_decides d p)
+kind_decides (of_class class) name d p = result_decides class d p
+kind_decides with_contexts name d p = chain_decides name p (IsPlanResult with_contexts d p) (context_decides d p)
 
 pub plan_decides : OneReading → (held : Bytes → Held) (failed failed' : Bytes → Type 0) (asked : PlanWords)
     → held asked.domain ≢ Untold → held asked.problem ≢ Untold → ((file : Bytes) → failed file → ⊥) → ((file : Bytes) → failed' file → ⊥)

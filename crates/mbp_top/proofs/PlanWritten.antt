@@ -9,24 +9,21 @@ use Rattle.pddl_system.specs.CtlGoals.{ctl_tree}
 use Rattle.plan_io.specs.Held.{Held, Untold}
 use Rattle.pddl_ast.specs.Trees.{DomainTree, FormulaTree, ProblemTree, TemporalTree}
 use Rattle.pddl_system.specs.Sizes.{first_passed}
-use Rattle.pddl_system.specs.Systems.{system, fluent_names, action_names}
-use Rattle.task_core.specs.Names.{Name}
-use Rattle.task_core.specs.declared.classes.Class.{Class}
-use Rattle.task_core.specs.Systems.{System}
-use Rattle.task_core.specs.Solutions.{HasNoSolution}
-use Rattle.mbp_top.specs.Answers.{Answer, Refusal, affirmed, denied, refused, no_memory, full, status_of, status_of_refusal, text_of, is_shown}
+use Rattle.pddl_system.specs.Systems.{system}
+use Rattle.mbp_top.specs.Answers.{Answer, Refusal, refused, no_memory, full, status_of, status_of_refusal, text_of, is_shown}
 use Rattle.mbp_top.specs.Delivery.{IsWhole, Seen}
 use Rattle.mbp_top.specs.Grounding.{GroundThen, has_goal_for}
 use Rattle.mbp_top.specs.Enough.{IsTightLimit}
 use Rattle.mbp_top.specs.PddlTexts.{HoldBoth, IsFaultyDomain, IsFaultyProblem, ReadBoth}
-use Rattle.mbp_top.specs.PlanCommand.{HasNoPlan, IsContextResult, IsGoodText, IsPlanAnswer, IsPlanResult, IsPlanned, IsResultOf, IsShortText, IsTextPrinted, MayRunOut, PlanThen, is_sought, no_plan_text, stages_for}
+use Rattle.mbp_top.specs.PlanCommand.{HasNoPlan, IsGoodText, IsPlanAnswer, IsPlanFound, IsPlanMissing, IsPlanResult, IsPlanned, IsResultOf, IsShortText, IsTextPrinted, MayRunOut, PlanThen, is_sought, no_plan_text, stages_for}
 use Rattle.mbp_top.specs.ChainGoals.{ChainThen, goal_chain, is_short_chain, most_stages}
 use Rattle.mbp_top.specs.Reading.{IsRefusedFile}
 use Rattle.mbp_top.specs.Told.{AreFilesTold, NoFault}
 use Rattle.mbp_top.specs.ReplayCommand.{Tallies}
 use Rattle.mbp_top.specs.Words.{Bytes, PlanKind, PlanWords, plan, SaysPlan, of_class, with_contexts}
 use Rattle.mbp_top.proofs.ByCommand.{of_command}
-use Rattle.mbp_top.proofs.PddlDecides.{OneReading, ReadFor, both_as, not_refused, shown_both, shown_goal, shown_grounded, with_goal, within_limits}
+use Rattle.mbp_top.specs.OneReading.{OneReading}
+use Rattle.mbp_top.proofs.PddlDecides.{ReadFor, both_as, not_refused, shown_both, shown_goal, shown_grounded, with_goal, within_limits}
 use Rattle.mbp_top.proofs.Statuses.{Done, shown_at, undisturbed, whole_delivery, written_shown}
 
 -- the trees that the files spell, and the answer for them
@@ -51,41 +48,20 @@ shown_plan held failed asked a shown (inl is) = absurd (not_refused no_memory a 
 shown_plan held failed asked a shown (inr (inl (may, is))) = absurd (not_refused (full asked.options.nodes) a is shown)
 shown_plan held failed asked a shown (inr (inr is)) = plan_for held asked a shown (shown_both held failed asked.domain asked.problem (IsPlanned asked) a shown is)
 
--- what is shown: a plan of the kind, with what is said of it, or that there is none
-record Found (kind : PlanKind) (d : DomainTree) (p : ProblemTree) (answer : Answer) : Type 0 where
-  text : Bytes
-  shown : answer ≡ affirmed text
-  good : IsGoodText kind d p text
-  short : IsShortText kind d p text
-  printed : IsTextPrinted kind d p text
-
-record Lacking (kind : PlanKind) (d : DomainTree) (p : ProblemTree) (answer : Answer) : Type 0 where
-  shown : answer ≡ denied no_plan_text
-  none : HasNoPlan kind d p
-
-of_class_result : (class : Class) (d : DomainTree) (p : ProblemTree) (a : Answer) → IsPlanResult class (system d p) (fluent_names d p) (action_names d p) a
-    → Found (of_class class) d p a ⊎ Lacking (of_class class) d p a
-of_class_result class d p a (inl f) = inl (record { text = f.text; shown = f.shown; good = f.solves; short = f.shortest; printed = f.printed })
-of_class_result class d p a (inr n) = inr (record { shown = n.shown; none = n.none })
-
-of_context_result : (d : DomainTree) (p : ProblemTree) (a : Answer) → IsContextResult d p a → Found with_contexts d p a ⊎ Lacking with_contexts d p a
-of_context_result d p a (inl f) = inl (record { text = f.text; shown = f.shown; good = f.meets; short = tt; printed = f.printed })
-of_context_result d p a (inr n) = inr (record { shown = n.shown; none = n.none })
-
 shown_chain : (name : Bytes) (p : ProblemTree) (Then : Answer → Type 0) (a : Answer) → is_shown a ≡ true → ChainThen name p (λ chain. Then) a → Then a
 shown_chain name p Then a shown (inl (none, is)) = absurd (not_refused _ a is shown)
 shown_chain name p Then a shown (inr (c, some, inl (many, is))) = absurd (not_refused _ a is shown)
 shown_chain name p Then a shown (inr (c, some, inr (few, then))) = then
 
-of_result : (kind : PlanKind) (name : Bytes) (d : DomainTree) (p : ProblemTree) (a : Answer) → is_shown a ≡ true → IsResultOf kind name d p a → Found kind d p a ⊎ Lacking kind d p a
-of_result (of_class class) name d p a shown r = of_class_result class d p a r
-of_result with_contexts name d p a shown r = of_context_result d p a (shown_chain name p (IsContextResult d p) a shown r)
+of_result : (kind : PlanKind) (name : Bytes) (d : DomainTree) (p : ProblemTree) (a : Answer) → is_shown a ≡ true → IsResultOf kind name d p a → IsPlanResult kind d p a
+of_result (of_class class) name d p a shown r = r
+of_result with_contexts name d p a shown r = shown_chain name p (IsPlanResult with_contexts d p) a shown r
 
-plan_found : (kind : PlanKind) (d : DomainTree) (p : ProblemTree) (a : Answer) → Found kind d p a ⊎ Lacking kind d p a → status_of a ≡ 0 → Found kind d p a
+plan_found : (kind : PlanKind) (d : DomainTree) (p : ProblemTree) (a : Answer) → IsPlanResult kind d p a → status_of a ≡ 0 → IsPlanFound kind d p a
 plan_found kind d p a (inl found) zero = found
 plan_found kind d p a (inr lacking) zero = absurd (let e : 0 ≡ 1 = sym zero ∙ ap status_of lacking.shown in omega arith)
 
-plan_missing : (kind : PlanKind) (d : DomainTree) (p : ProblemTree) (a : Answer) → Found kind d p a ⊎ Lacking kind d p a → status_of a ≡ 1 → Lacking kind d p a
+plan_missing : (kind : PlanKind) (d : DomainTree) (p : ProblemTree) (a : Answer) → IsPlanResult kind d p a → status_of a ≡ 1 → IsPlanMissing kind d p a
 plan_missing kind d p a (inl found) one = absurd (let e : 1 ≡ 0 = sym one ∙ ap status_of found.shown in omega arith)
 plan_missing kind d p a (inr lacking) one = lacking
 
@@ -144,14 +120,9 @@ no_plan_written held failed tallies words before after out out' err err' status 
     }
 
 -- the status of what is looked for
-class_code : (class : Class) (sys : System) (fluents actions : List Name) (a : Answer) (status : ℕ) → IsPlanResult class sys fluents actions a → status ≡ status_of a
-    → (status ≡ 0) ⊎ (status ≡ 1) ⊎ (status ≡ 8)
-class_code class sys fluents actions a status (inl found) code = inl (code ∙ ap status_of found.shown)
-class_code class sys fluents actions a status (inr missing) code = inr (inl (code ∙ ap status_of missing.shown))
-
-context_code : (d : DomainTree) (p : ProblemTree) (a : Answer) (status : ℕ) → IsContextResult d p a → status ≡ status_of a → (status ≡ 0) ⊎ (status ≡ 1) ⊎ (status ≡ 8)
-context_code d p a status (inl found) code = inl (code ∙ ap status_of found.shown)
-context_code d p a status (inr missing) code = inr (inl (code ∙ ap status_of missing.shown))
+plan_code : (kind : PlanKind) (d : DomainTree) (p : ProblemTree) (a : Answer) (status : ℕ) → IsPlanResult kind d p a → status ≡ status_of a → (status ≡ 0) ⊎ (status ≡ 1) ⊎ (status ≡ 8)
+plan_code kind d p a status (inl found) code = inl (code ∙ ap status_of found.shown)
+plan_code kind d p a status (inr missing) code = inr (inl (code ∙ ap status_of missing.shown))
 
 -- a short chain is neither refused nor too long
 never_short : (o : Option (PlainChain FormulaTree)) → o ≡ None → option_map_or (λ (c : PlainChain FormulaTree). nat_le (length c.stages) most_stages) o false ≡ true → ⊥
@@ -170,8 +141,8 @@ chain_sought name p Then a short (inr (c, some, inr (few, then))) = then
 
 result_code : (kind : PlanKind) (name : Bytes) (d : DomainTree) (p : ProblemTree) (a : Answer) (status : ℕ) → is_sought kind p ≡ true → IsResultOf kind name d p a → status ≡ status_of a
     → (status ≡ 0) ⊎ (status ≡ 1) ⊎ (status ≡ 8)
-result_code (of_class class) name d p a status sought r code = class_code class (system d p) (fluent_names d p) (action_names d p) a status r code
-result_code with_contexts name d p a status sought r code = context_code d p a status (chain_sought name p (IsContextResult d p) a sought r) code
+result_code (of_class class) name d p a status sought r code = plan_code (of_class class) d p a status r code
+result_code with_contexts name d p a status sought r code = plan_code with_contexts d p a status (chain_sought name p (IsPlanResult with_contexts d p) a sought r) code
 
 -- a plan that is looked for has a goal
 some_chain : (o : Option TemporalTree) → option_map_or (λ (c : PlainChain FormulaTree). nat_le (length c.stages) most_stages) (option_and_then (λ goal. chain_of (ctl_tree goal)) o) false ≡ true → is_some o ≡ true
@@ -190,19 +161,15 @@ refused_not_full held failed Wrong name r wrong (inr (inl (is, long))) five = om
 refused_not_full held failed Wrong name r wrong (inr (inr misspelled)) five = omega (arith, wrong misspelled.bytes misspelled.wrong, five)
 
 -- and so has what is looked for
-class_not_full : (class : Class) (sys : System) (fluents actions : List Name) (a : Answer) → IsPlanResult class sys fluents actions a → status_of a ≢ 5
-class_not_full class sys fluents actions a (inl found) five = omega (arith, ap status_of found.shown, five)
-class_not_full class sys fluents actions a (inr missing) five = omega (arith, ap status_of missing.shown, five)
-
-context_not_full : (d : DomainTree) (p : ProblemTree) (a : Answer) → IsContextResult d p a → status_of a ≢ 5
-context_not_full d p a (inl found) five = omega (arith, ap status_of found.shown, five)
-context_not_full d p a (inr missing) five = omega (arith, ap status_of missing.shown, five)
+plan_not_full : (kind : PlanKind) (d : DomainTree) (p : ProblemTree) (a : Answer) → IsPlanResult kind d p a → status_of a ≢ 5
+plan_not_full kind d p a (inl found) five = omega (arith, ap status_of found.shown, five)
+plan_not_full kind d p a (inr missing) five = omega (arith, ap status_of missing.shown, five)
 
 result_not_full : (kind : PlanKind) (name : Bytes) (d : DomainTree) (p : ProblemTree) (a : Answer) → IsResultOf kind name d p a → status_of a ≢ 5
-result_not_full (of_class class) name d p a r five = class_not_full class (system d p) (fluent_names d p) (action_names d p) a r five
+result_not_full (of_class class) name d p a r five = plan_not_full (of_class class) d p a r five
 result_not_full with_contexts name d p a (inl (none, is)) five = omega (arith, ap status_of is, five)
 result_not_full with_contexts name d p a (inr (c, some, inl (many, is))) five = omega (arith, ap status_of is, five)
-result_not_full with_contexts name d p a (inr (c, some, inr (few, r))) five = context_not_full d p a r five
+result_not_full with_contexts name d p a (inr (c, some, inr (few, r))) five = plan_not_full with_contexts d p a r five
 
 -- and so has whatever follows the reading of both files
 read_not_full : (held : Bytes → Held) (failed : Bytes → Type 0) (asked : PlanWords) (a : Answer)

@@ -27,7 +27,8 @@ use Rattle.mbp_top.specs.ReplayCommand.{AreToldAs, FirstThen, IsFaultyRecord, Is
 use Rattle.mbp_top.specs.Words.{Bytes, ReplayWords}
 use Rattle.mbp_top.proofs.CheckDecides.{plan_grammar}
 use Rattle.mbp_top.proofs.Deciding.{Decides, IsGrammar, read_decides}
-use Rattle.mbp_top.proofs.PddlDecides.{OneReading, both_decides, ground_decides}
+use Rattle.mbp_top.specs.OneReading.{OneReading}
+use Rattle.mbp_top.proofs.PddlDecides.{both_decides, ground_decides}
 
 -- states with the same values of the first n fluents, and no other true, are the same
 bits_same : (a b : State) → state_eq a b ≡ true → a.bits ≡ b.bits

@@ -1,11 +1,10 @@
 -- A run of a plan of a task, as the answer for its trace.
 use Rattle.std.proofs.Common.{◌≡◌, ℕ, List, ◌++◌, refl, subst, ap, ◌∙◌}
-use Rattle.std.specs.List.{All, flat_map}
-use Rattle.run_replay.proofs.Telling.{tallies_told}
+use Rattle.std.specs.List.{All}
 use Rattle.run_replay.specs.Runs.{IsStepOf, ending_of, steps_value}
 use Rattle.run_replay.specs.Traces.{Ending, Trace}
-use Rattle.run_replay.specs.TraceTexts.{tallies_text, tally_line, trace_text}
-use Rattle.run_replay.specs.Watching.{AreTold, Seen}
+use Rattle.run_replay.specs.TraceTexts.{tallies_of, tally_lines, trace_text}
+use Rattle.run_replay.specs.Watching.{MonitorData}
 use Rattle.run_replay.specs.declared.traces.End.{End}
 use Rattle.run_replay.specs.declared.traces.End.TheVariants.{Terminal as EndTerminal, Ended as EndEnded, Capped as EndCapped}
 use Rattle.run_replay.specs.declared.worlds.Step.{Step}
@@ -35,12 +34,11 @@ ended_shows text EndEnded = refl
 ended_shows text EndCapped = refl
 
 -- a run that came to its end
-pub ended_run : {X : Type 0} (seen : X → Seen) (sys : System) (actions : List Name) (trace : Trace) (steps : List Step) (end : End) (left : List ℕ) (text : Bytes) (before after : List X)
-    → trace_with sys.fluents steps (ending_of end) left ≡ trace → All (IsStepOf sys.fluents sys.actions) steps
-    → All (λ (x : X). (seen x).counted ≡ 0) before → AreTold seen steps before after
-    → text ≡ trace_text actions (steps_value sys.fluents steps) (ending_of end) ++ flat_map (λ (y : X). tally_line (seen y).title (seen y).counted) after
-    → IsReplayed (λ told. tallies_text seen told before) sys actions trace (affirmed text)
-ended_run seen sys actions trace steps end left text before after is in_system untold told written =
-    replayed_as (λ s. tallies_text seen s before) sys actions trace steps (ending_of end) left (affirmed text) is in_system
-    (ap affirmed (written ∙ ap (λ (t : Bytes). trace_text actions (steps_value sys.fluents steps) (ending_of end) ++ t) (tallies_told seen steps before after untold told))
-    ∙ ended_shows (trace_text actions (steps_value sys.fluents steps) (ending_of end) ++ tallies_text seen steps before) end)
+pub ended_run : (monitors now : List MonitorData) (sys : System) (actions : List Name) (trace : Trace) (steps : List Step) (end : End) (left : List ℕ) (text : Bytes)
+    → trace_with sys.fluents steps (ending_of end) left ≡ trace → All (IsStepOf sys.fluents sys.actions) steps → tally_lines now ≡ tallies_of monitors steps
+    → text ≡ trace_text actions (steps_value sys.fluents steps) (ending_of end) ++ tally_lines now
+    → IsReplayed (tallies_of monitors) sys actions trace (affirmed text)
+ended_run monitors now sys actions trace steps end left text is in_system told written =
+    replayed_as (tallies_of monitors) sys actions trace steps (ending_of end) left (affirmed text) is in_system
+    (ap affirmed (written ∙ ap (λ (t : Bytes). trace_text actions (steps_value sys.fluents steps) (ending_of end) ++ t) told)
+    ∙ ended_shows (trace_text actions (steps_value sys.fluents steps) (ending_of end) ++ tallies_of monitors steps) end)

@@ -23,7 +23,8 @@ use Rattle.mbp_top.specs.Words.{Bytes, ReplayWords, replay, SaysReplay}
 use Rattle.mbp_top.proofs.ByCommand.{of_command}
 use Rattle.mbp_top.proofs.CheckDecides.{plan_grammar}
 use Rattle.mbp_top.proofs.Deciding.{read_as}
-use Rattle.mbp_top.proofs.PddlDecides.{OneReading, both_as, not_refused, shown_both, shown_grounded, within_limits}
+use Rattle.mbp_top.specs.OneReading.{OneReading}
+use Rattle.mbp_top.proofs.PddlDecides.{both_as, not_refused, shown_both, shown_grounded, within_limits}
 use Rattle.mbp_top.proofs.ReplayDecides.{record_grammar}
 use Rattle.mbp_top.proofs.Statuses.{Done, shown_at, undisturbed, whole_delivery, written_shown}
 

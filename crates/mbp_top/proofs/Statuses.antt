@@ -5,7 +5,7 @@ use Rattle.std.specs.Io.KnownBytes.{append_known}
 use Rattle.plan_io.specs.Counts.{Rose}
 use Rattle.plan_io.specs.Fetches.{FailedLast}
 use Rattle.plan_io.specs.Held.{Held}
-use Rattle.mbp_top.specs.Answers.{Answer, affirmed, denied, refused, Refusal, no_command, text_fault, over_limit, read_fault, no_memory, full, stray_outcome, unexecutable, status_of, text_of, is_shown}
+use Rattle.mbp_top.specs.Answers.{Answer, affirmed, denied, refused, no_command, text_fault, over_limit, read_fault, no_memory, full, stray_outcome, unexecutable, status_of, text_of, is_shown}
 use Rattle.mbp_top.specs.Causes.{HasCause, IsQuietAt, MayHaveFault}
 use Rattle.mbp_top.specs.Delivery.{Seen, IsWhole, IsCut, IsDelivered}
 use Rattle.mbp_top.specs.PlanCommand.{MayRunOut}
@@ -13,7 +13,7 @@ use Rattle.mbp_top.specs.ReplayCommand.{Tallies}
 use Rattle.mbp_top.specs.Told.{AreFilesTold, IsDue, MayStandIn, NoFault}
 use Rattle.mbp_top.specs.Words.{Bytes, PlanWords, SaysPlan}
 use Rattle.mbp_top.proofs.ByCommand.{due_answer, memory_instead}
-use Rattle.mbp_top.proofs.PddlDecides.{OneReading}
+use Rattle.mbp_top.specs.OneReading.{OneReading}
 
 -- an answer that has its cause, and what became of it
 pub record Done (held : Bytes → Held) (failed : Bytes → Type 0) (tallies : Tallies) (words : List Bytes) (before after : ℕ) (out out' err err' : Seen) (status : ℕ) (answer : Answer) : Type 0 where

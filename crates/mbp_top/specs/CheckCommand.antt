@@ -1,5 +1,5 @@
 -- The command `check`: the verdict on a plan that is handed in.
-use Rattle.std.specs.Prelude.{◌≡◌, ℕ, ◌<◌, ◌≤◌, ◌⊎◌, List, ◌++◌, codes, decimal, length, map, take}
+use Rattle.std.specs.Prelude.{◌≡◌, ℕ, ◌<◌, ◌≤◌, ◌⊎◌, ◌++◌, codes, decimal, length, map, take}
 use Rattle.std.specs.Prelude.{Option, Some, None}
 use Rattle.exec_graph.specs.Executions.{ReachesMoreThan}
 use Rattle.pddl_ast.specs.Trees.{DomainTree, ProblemTree, TemporalTree}
@@ -7,7 +7,7 @@ use Rattle.pddl_system.specs.Fluents.{fluents}
 use Rattle.pddl_system.specs.Settings.{setting}
 use Rattle.pddl_system.specs.Systems.{action_names, entry_of, facts_of, fluent_names, system}
 use Rattle.plan_check.specs.ContextVerdicts.{IsContextVerdict, IsFirstContextReason}
-use Rattle.plan_check.specs.Verdicts.{CanFollowRules, IsBound, IsFirstReason, IsVerdict}
+use Rattle.plan_check.specs.Verdicts.{IsBound, IsFirstReason, IsVerdict}
 use Rattle.plan_check.specs.declared.verdicts.Reason.{Reason}
 use Rattle.plan_check.specs.declared.verdicts.Reason.TheVariants.{Unexecutable, Stuck, Terminal}
 use Rattle.plan_check.specs.declared.verdicts.Reason.TheVariants.{Cycle, Unreachable, Formula}
@@ -15,18 +15,16 @@ use Rattle.plan_check.specs.declared.verdicts.Verdict.{Verdict}
 use Rattle.plan_check.specs.declared.verdicts.Verdict.TheVariants.{Yes, No}
 use Rattle.plan_io.specs.Held.{Held}
 use Rattle.plan_rules.specs.Denoted.{denoted, denoted_contexts}
-use Rattle.plan_rules.specs.Rules.{PlainPlan, PlanRule, table, automaton}
+use Rattle.plan_rules.specs.Rules.{PlainPlan, table, automaton}
 use Rattle.plan_rules.specs.Texts.{line_feed}
 use Rattle.task_core.specs.Initial.{after_entries}
-use Rattle.task_core.specs.Solutions.{IsSolution}
 use Rattle.task_core.specs.Systems.{System}
-use Rattle.task_core.specs.declared.classes.Class.{Class}
 use Rattle.mbp_top.specs.Answers.{Answer, affirmed, denied, refused, over_limit}
 use Rattle.mbp_top.specs.Grounding.{GoalThen, GroundThen}
 use Rattle.mbp_top.specs.PddlTexts.{ReadBoth}
 use Rattle.mbp_top.specs.PlanFiles.{SpellsPlaced, IsFaultyPlan, KindThen}
 use Rattle.mbp_top.specs.Reading.{ReadThen}
-use Rattle.mbp_top.specs.TemporalGoals.{HasGoal, MeetsProblem}
+use Rattle.mbp_top.specs.TemporalGoals.{HasGoal}
 use Rattle.mbp_top.specs.Words.{Bytes, CheckWords, PlanKind, of_class, with_contexts}
 
 -- how many initial states, and how many configurations, are followed at most
@@ -106,21 +104,6 @@ IsChecked held failed asked domain problem =
 abbrev pub IsCheckAnswer : (Bytes → Held) → (Bytes → Type 0) → CheckWords → Answer → Type 0
 IsCheckAnswer held failed asked =
     ReadBoth held failed asked.domain asked.problem (IsChecked held failed asked)
-
--- a table solves the problem: each rule that matches a state which it may reach can be followed
--- there, and the table that its rules denote is a solution of the class
-pub record IsSolved (class : Class) (sys : System) (rules : List PlanRule) : Type 0 where
-  pub executable : CanFollowRules sys rules
-  pub solves : IsSolution class sys (denoted sys rules)
-
--- a plan of the kind meets the goal that is wanted of it
-abbrev pub IsMet : PlanKind → DomainTree → ProblemTree → PlainPlan → Type 0
-IsMet (of_class class) domain problem (table written rules) =
-    IsSolved class (system domain problem) rules
-IsMet (of_class class) domain problem (automaton contexts rules) = ⊥
-IsMet with_contexts domain problem (table written rules) = ⊥
-IsMet with_contexts domain problem (automaton contexts rules) =
-    MeetsProblem domain problem (denoted_contexts rules)
 
 -- the bound that comes with a yes: a plan with contexts has none
 abbrev pub HasBound : PlanKind → DomainTree → ProblemTree → PlainPlan → Option ℕ → Type 0

@@ -1,18 +1,25 @@
 -- Private: what is known of what a search for a plan of a task found.
-use Rattle.std.specs.Prelude.{◌≡◌, ⊤, All, Result, Ok, Err}
+use Rattle.std.specs.Prelude.{◌≡◌, ◌⊎◌, ⊤, All, List, Result, Ok, Err}
 use Rattle.dd_sets.specs.declared.errors.SetErr.{SetErr}
+use Rattle.plan_check.specs.Verdicts.{CanFollowRules}
 use Rattle.plan_rules.specs.Denoted.{denoted, IsExecutable}
 use Rattle.plan_rules.specs.Plans.{IsRuleOf}
-use Rattle.plan_rules.specs.Rules.{rules_of}
+use Rattle.plan_rules.specs.Readings.{SpellsTable}
+use Rattle.plan_rules.specs.Rules.{PlanRule, rules_of}
+use Rattle.plan_rules.specs.Texts.{table_text}
 use Rattle.plan_rules.specs.declared.rules.TablePlan.{TablePlan}
 use Rattle.plan_theory.specs.declared.answers.Found.{Found}
 use Rattle.plan_theory.specs.declared.answers.Found.TheVariants.{NoPlan, Plan}
+use Rattle.task_core.specs.Names.{Name}
 use Rattle.task_core.specs.Solutions.{HasNoSolution, IsSolution}
+use Rattle.task_core.specs.Systems.{System}
 use Rattle.task_core.specs.Tables.{IsTable}
 use Rattle.task_core.specs.Tasks.{action_count, fluent_count, system_of}
 use Rattle.task_core.specs.declared.classes.Class.{Class}
 use Rattle.task_core.specs.declared.tasks.Task.{Task}
-use Rattle.mbp_top.specs.PlanCommand.{ArePrintedRules, IsShortest}
+use Rattle.mbp_top.specs.Answers.{Answer, affirmed, denied}
+use Rattle.mbp_top.specs.PlanCommand.{ArePrintedRules, IsShortest, no_plan_text}
+use Rattle.mbp_top.specs.Words.{Bytes}
 
 -- the plan is the one that is printed, and a solution; a weak or a strong one is a shortest
 pub record IsFoundPlan (class : Class) (task : Task) (plan : TablePlan) : Type 0 where
@@ -29,3 +36,27 @@ abbrev pub IsSearched : Class → Task → Result Found SetErr → Type 0
 IsSearched class task (Ok (Plan plan)) = IsFoundPlan class task plan
 IsSearched class task (Ok NoPlan) = HasNoSolution class (system_of task)
 IsSearched class task (Err e) = ⊤
+
+-- Private: the answer is such a plan's text
+pub record IsTableShown (class : Class) (sys : System) (fluents actions : List Name)
+    (answer : Answer) : Type 0 where
+  pub text : Bytes
+  pub shown : answer ≡ affirmed text
+  pub rules : List PlanRule
+  pub spelled : SpellsTable fluents actions text class rules
+  pub table : IsTable sys (denoted sys rules)
+  pub solves : IsSolution class sys (denoted sys rules)
+  pub executable : IsExecutable sys rules
+  pub followed : CanFollowRules sys rules
+  pub shortest : IsShortest class sys (denoted sys rules)
+  pub printed : ArePrintedRules class sys rules
+  pub written : text ≡ table_text fluents actions class rules
+
+-- Private: the answer is that there is none
+pub record IsTableMissing (class : Class) (sys : System) (answer : Answer) : Type 0 where
+  pub shown : answer ≡ denied no_plan_text
+  pub none : HasNoSolution class sys
+
+abbrev pub IsTableResult : Class → System → List Name → List Name → Answer → Type 0
+IsTableResult class sys fluents actions answer =
+    IsTableShown class sys fluents actions answer ⊎ IsTableMissing class sys answer

@@ -6,6 +6,7 @@ pub mod Grounding
 pub mod GroundCommand
 pub mod Enough
 pub mod TemporalGoals
+pub mod Meets
 pub mod ChainGoals
 pub mod PlanCommand
 pub mod PlanFiles
@@ -19,3 +20,6 @@ pub mod FoundPlans
 pub mod Grounded
 pub mod FoundChains
 pub mod Judged
+pub mod Runs
+pub mod OneReading
+pub mod Laws

@@ -10,11 +10,10 @@ use Rattle.pddl_ast.specs.Trees.{DomainTree, FormulaTree, ProblemTree}
 use Rattle.pddl_system.specs.Sizes.{first_passed}
 use Rattle.pddl_system.specs.Systems.{system, fluent_names, action_names}
 use Rattle.plan_io.specs.Held.{Held}
-use Rattle.plan_rules.specs.Denoted.{denoted, denoted_contexts, IsExecutable}
+use Rattle.plan_rules.specs.Denoted.{denoted, IsExecutable}
 use Rattle.plan_rules.specs.Readings.{SpellsPlain, SpellsTable}
-use Rattle.plan_rules.specs.Rules.{ContextRule, PlanRule, automaton}
+use Rattle.plan_rules.specs.Rules.{PlainPlan, PlanRule, table, automaton}
 use Rattle.plan_rules.specs.Texts.{automaton_text, table_text, line_feed}
-use Rattle.task_core.specs.ContextPlans.{ContextPlan}
 use Rattle.task_core.specs.Names.{Name}
 use Rattle.task_core.specs.declared.classes.Class.{Class}
 use Rattle.task_core.specs.declared.classes.Class.TheVariants.{Weak, Strong, Cyclic}
@@ -24,43 +23,55 @@ use Rattle.plan_theory.specs.LayerPlans.{printed_rules}
 use Rattle.plan_theory.specs.LargestSets.{IsLargestSet}
 use Rattle.plan_theory.specs.Pairs.{Pairs}
 use Rattle.plan_theory.specs.CyclicPlans.{cyclic_rules}
-use Rattle.task_core.specs.Solutions.{HasNoSolution, IsSolution, IsStrongSolution, IsWeakSolution}
+use Rattle.task_core.specs.Solutions.{IsStrongSolution}
 use Rattle.task_core.specs.Systems.{System}
 use Rattle.task_core.specs.Tables.{IsTable, Table}
 use Rattle.task_core.specs.Vectors.{Vector}
 use Rattle.mbp_top.specs.Answers.{Answer, affirmed, denied, refused, full}
 use Rattle.mbp_top.specs.Grounding.{GoalThen, GroundThen}
 use Rattle.mbp_top.specs.Enough.{IsTightLimit}
+use Rattle.mbp_top.specs.Meets.{Meaning, Meets, PlanMeets}
 use Rattle.mbp_top.specs.PddlTexts.{HoldBoth, ReadBoth}
 use Rattle.mbp_top.specs.ChainGoals.{ChainThen, chained_of, goal_chain, is_short_chain}
 use Rattle.mbp_top.specs.ChainGoals.{stage_count}
-use Rattle.mbp_top.specs.TemporalGoals.{MeetsProblem}
 use Rattle.mbp_top.specs.Words.{Bytes, PlanKind, PlanWords, of_class, with_contexts}
 
--- read as a form, the text spells rules that denote a solution of the class, and none of them
--- matches a state in which its action can't be executed
-pub record IsSolvingText (class : Class) (sys : System) (fluents actions : List Name)
+-- the plan is written for the kind: a table for the class, or an automaton
+abbrev pub IsWrittenFor : PlanKind → PlainPlan → Type 0
+IsWrittenFor (of_class class) (table written rules) = written ≡ class
+IsWrittenFor (of_class class) (automaton contexts rules) = ⊥
+IsWrittenFor with_contexts (table written rules) = ⊥
+IsWrittenFor with_contexts (automaton contexts rules) = ⊤
+
+-- no rule of a table matches a state in which its action can't be executed, be it reached or not
+abbrev pub IsExecutablePlan : DomainTree → ProblemTree → PlainPlan → Type 0
+IsExecutablePlan domain problem (table written rules) =
+    IsExecutable (system domain problem) rules
+IsExecutablePlan domain problem (automaton contexts rules) = ⊤
+
+-- read as a form, the text spells a plan of the kind with a meaning that meets the problem
+pub record IsGoodText (kind : PlanKind) (domain : DomainTree) (problem : ProblemTree)
     (text : Bytes) : Type 0 where
-  pub rules : List PlanRule
-  pub spelled : SpellsTable fluents actions text class rules
-  pub table : IsTable sys (denoted sys rules)
-  pub solves : IsSolution class sys (denoted sys rules)
-  pub executable : IsExecutable sys rules
+  pub plan : PlainPlan
+  pub spelled : SpellsPlain (fluent_names domain problem) (action_names domain problem) text plan
+  pub written : IsWrittenFor kind plan
+  pub meets : PlanMeets kind domain problem plan
+  pub executable : IsExecutablePlan domain problem plan
 
--- no solution of the class is shorter from any initial state. The length of a strong plan is that
--- of its longest path, which is at most n for every n that bounds the paths of the other; the
--- length of a weak plan is that of its shortest path to a terminal goal state. Of strong cyclic
--- plans nothing is said
+-- no other table is shorter from any initial state. The length of a strong plan is that of its
+-- longest path, which is at most n for every n that bounds the paths of another strong solution; the
+-- length of a weak plan is that of its shortest path to a terminal goal state, and the other may be
+-- any table. Of strong cyclic plans nothing is said
 abbrev pub IsShortest : Class → System → Table → Type 0
-IsShortest Weak sys table =
-    (other : Table) (s : Vector) (n : ℕ) → IsTable sys other → IsWeakSolution sys other
-    → Contains sys.initial s → ReachesGoalWithin sys other s n → ReachesGoalWithin sys table s n
-IsShortest Strong sys table =
+IsShortest Weak sys rows =
+    (other : Table) (s : Vector) (n : ℕ) → Contains sys.initial s
+    → ReachesGoalWithin sys other s n → ReachesGoalWithin sys rows s n
+IsShortest Strong sys rows =
     (other : Table) (s : Vector) (n : ℕ) → IsTable sys other → IsStrongSolution sys other
-    → Contains sys.initial s → PathsAreWithin sys other s n → PathsAreWithin sys table s n
-IsShortest Cyclic sys table = ⊤
+    → Contains sys.initial s → PathsAreWithin sys other s n → PathsAreWithin sys rows s n
+IsShortest Cyclic sys rows = ⊤
 
--- read as a form, the text spells rules that denote a table than which no solution is shorter
+-- read as a form, the text spells rules that denote a table than which no other is shorter
 pub record IsShortestText (class : Class) (sys : System) (fluents actions : List Name)
     (text : Bytes) : Type 0 where
   pub rules : List PlanRule
@@ -96,35 +107,6 @@ pub record IsPrintedText (class : Class) (sys : System) (fluents actions : List 
 abbrev pub no_plan_text : Bytes
 no_plan_text = codes "no plan" ++ line_feed
 
--- the answer is a plan that solves the system
-pub record IsPlanFound (class : Class) (sys : System) (fluents actions : List Name)
-    (answer : Answer) : Type 0 where
-  pub text : Bytes
-  pub shown : answer ≡ affirmed text
-  pub solves : IsSolvingText class sys fluents actions text
-  pub shortest : IsShortestText class sys fluents actions text
-  pub printed : IsPrintedText class sys fluents actions text
-
--- the answer is that there is no plan: no table at all is a solution of the class
-pub record IsPlanMissing (class : Class) (sys : System) (answer : Answer) : Type 0 where
-  pub shown : answer ≡ denied no_plan_text
-  pub none : HasNoSolution class sys
-
--- the answer for a system
-abbrev pub IsPlanResult : Class → System → List Name → List Name → Answer → Type 0
-IsPlanResult class sys fluents actions answer =
-    IsPlanFound class sys fluents actions answer ⊎ IsPlanMissing class sys answer
-
--- read as a form, the text spells a plan with contexts that meets the problem's goal in computation
--- tree logic: it is complete, and each initial configuration has the goal
-pub record IsMeetingText (domain : DomainTree) (problem : ProblemTree)
-    (text : Bytes) : Type 0 where
-  pub contexts : ℕ
-  pub rules : List ContextRule
-  pub spelled : SpellsPlain (fluent_names domain problem) (action_names domain problem) text
-      (automaton contexts rules)
-  pub met : MeetsProblem domain problem (denoted_contexts rules)
-
 -- the text is the one that is printed for a chain: in each context the action towards the first
 -- stage that isn't met
 abbrev pub IsPrintedChain : DomainTree → ProblemTree → Bytes → Type 0
@@ -134,65 +116,53 @@ IsPrintedChain domain problem text =
     (context_count (chained_of domain problem chain))
     (chain_rules (system domain problem) (chained_of domain problem chain)))
 
--- no plan with contexts meets the problem's goal, whatever its contexts are and however many
-abbrev pub HasNoMeetingPlan : DomainTree → ProblemTree → Type 0
-HasNoMeetingPlan domain problem = (plan : ContextPlan) → MeetsProblem domain problem plan → ⊥
-
--- the answer is a plan with contexts that meets the goal
-pub record IsContextPlanFound (domain : DomainTree) (problem : ProblemTree)
-    (answer : Answer) : Type 0 where
-  pub text : Bytes
-  pub shown : answer ≡ affirmed text
-  pub meets : IsMeetingText domain problem text
-  pub printed : IsPrintedChain domain problem text
-
--- the answer is that there is none
-pub record IsContextPlanMissing (domain : DomainTree) (problem : ProblemTree)
-    (answer : Answer) : Type 0 where
-  pub shown : answer ≡ denied no_plan_text
-  pub none : HasNoMeetingPlan domain problem
-
--- the answer for a chain
-abbrev pub IsContextResult : DomainTree → ProblemTree → Answer → Type 0
-IsContextResult domain problem answer =
-    IsContextPlanFound domain problem answer ⊎ IsContextPlanMissing domain problem answer
-
--- the answer for a domain and a problem, by the kind of plan
-abbrev pub IsResultOf : PlanKind → Bytes → DomainTree → ProblemTree → Answer → Type 0
-IsResultOf (of_class class) name domain problem =
-    IsPlanResult class (system domain problem) (fluent_names domain problem)
-    (action_names domain problem)
-IsResultOf with_contexts name domain problem =
-    ChainThen name problem (λ chain. IsContextResult domain problem)
-
-abbrev pub PlanThen : PlanWords → DomainTree → ProblemTree → Answer → Type 0
-PlanThen asked domain problem = IsResultOf asked.kind asked.problem domain problem
-
--- the text spells a plan of the kind that meets the goal that is wanted of it
-abbrev pub IsGoodText : PlanKind → DomainTree → ProblemTree → Bytes → Type 0
-IsGoodText (of_class class) domain problem =
-    IsSolvingText class (system domain problem) (fluent_names domain problem)
-    (action_names domain problem)
-IsGoodText with_contexts domain problem = IsMeetingText domain problem
-
--- and no solution is shorter; of plans with contexts nothing is said
+-- the text's plan is as short as any; of plans with contexts nothing is said
 abbrev pub IsShortText : PlanKind → DomainTree → ProblemTree → Bytes → Type 0
 IsShortText (of_class class) domain problem text =
     IsShortestText class (system domain problem) (fluent_names domain problem)
     (action_names domain problem) text
 IsShortText with_contexts domain problem text = ⊤
 
--- and it is the one that is printed
+-- the text is the one that is printed, by the kind
 abbrev pub IsTextPrinted : PlanKind → DomainTree → ProblemTree → Bytes → Type 0
 IsTextPrinted (of_class class) domain problem =
     IsPrintedText class (system domain problem) (fluent_names domain problem)
     (action_names domain problem)
 IsTextPrinted with_contexts domain problem = IsPrintedChain domain problem
 
--- there is no plan of the kind that meets the goal that is wanted of it
+-- there is no plan of the kind: nothing that a plan can mean meets the problem, no table whatever
+-- its pairs, and no plan with contexts whatever its contexts are and however many
 abbrev pub HasNoPlan : PlanKind → DomainTree → ProblemTree → Type 0
-HasNoPlan (of_class class) domain problem = HasNoSolution class (system domain problem)
-HasNoPlan with_contexts domain problem = HasNoMeetingPlan domain problem
+HasNoPlan kind domain problem = (meaning : Meaning) → Meets kind domain problem meaning → ⊥
+
+-- the answer is such a text
+pub record IsPlanFound (kind : PlanKind) (domain : DomainTree) (problem : ProblemTree)
+    (answer : Answer) : Type 0 where
+  pub text : Bytes
+  pub shown : answer ≡ affirmed text
+  pub good : IsGoodText kind domain problem text
+  pub short : IsShortText kind domain problem text
+  pub printed : IsTextPrinted kind domain problem text
+
+-- the answer is that there is no plan
+pub record IsPlanMissing (kind : PlanKind) (domain : DomainTree) (problem : ProblemTree)
+    (answer : Answer) : Type 0 where
+  pub shown : answer ≡ denied no_plan_text
+  pub none : HasNoPlan kind domain problem
+
+-- the answer where a plan is looked for
+abbrev pub IsPlanResult : PlanKind → DomainTree → ProblemTree → Answer → Type 0
+IsPlanResult kind domain problem answer =
+    IsPlanFound kind domain problem answer ⊎ IsPlanMissing kind domain problem answer
+
+-- the answer for a domain and a problem: with contexts the goal is first to be a short chain
+abbrev pub IsResultOf : PlanKind → Bytes → DomainTree → ProblemTree → Answer → Type 0
+IsResultOf (of_class class) name domain problem = IsPlanResult (of_class class) domain problem
+IsResultOf with_contexts name domain problem =
+    ChainThen name problem (λ chain. IsPlanResult with_contexts domain problem)
+
+abbrev pub PlanThen : PlanWords → DomainTree → ProblemTree → Answer → Type 0
+PlanThen asked domain problem = IsResultOf asked.kind asked.problem domain problem
 
 -- a plan of the kind is looked for: there is a goal for it, and a goal in computation tree logic is
 -- a chain of no more stages than may be

@@ -4,7 +4,7 @@ ghost use Rattle.mbp_top.specs.Causes.{HasCause, IsQuietAt};
 ghost use Rattle.mbp_top.specs.Values.{answer_of};
 ghost use Rattle.mbp_top.specs.Words.{Command as SaidCommand, SayNothing, Says, files_of};
 ghost use Rattle.plan_io.specs.Fetches.{FailedLast, FetchesFirst};
-ghost use Rattle.run_replay.specs.TraceTexts.{tallies_text};
+ghost use Rattle.run_replay.specs.TraceTexts.{tallies_of};
 ghost use Rattle.std.specs.Prelude.{◌≡◌, ◌≤◌, All, List, map, string_bytes, ℕ};
 
 use crate::answers::{Refusal, Shown};
@@ -25,16 +25,10 @@ pub(crate) fn answer<S: Shelf>(
     world: &mut Box<dyn World>,
     monitors: &mut Vec<Box<dyn Monitor>>,
 ) -> Result<Shown, Refusal>
-    requires untold { All (λ monitor. counted monitor ≡ 0) monitors.old.items }
+    requires untold { All (λ monitor. (shown monitor).counted ≡ 0) monitors.old.items }
     ensures cause { let failed = FailedLast S.fetched S.faults shelf.old shelf.new in
         HasCause (S.held shelf.old) failed
-        (λ steps. tallies_text
-        (λ monitor. record {
-          counted = counted monitor;
-          title = title monitor;
-          weight = weight monitor;
-        })
-        steps monitors.old.items)
+        (tallies_of (map (λ monitor. shown monitor) monitors.old.items))
         (map string_bytes words.now) (answer_of result) }
     ensures fetches { (command : SaidCommand) → Says (map string_bytes words.now) command
         → FetchesFirst S.fetched (files_of command) shelf.old shelf.new }

@@ -5,7 +5,8 @@
 //! spell, `Grounding` the limits, `PlanCommand`, `GroundCommand`, `CheckCommand` and
 //! `ReplayCommand` the answers of `plan`, `ground`, `check` and `replay`, `Enough` how many nodes
 //! are enough for a plan, `PlanFiles` how a plan is read, `Causes` the cause of each answer, `Told`
-//! what the words and the files alone decide, and `Delivery` what is written.
+//! what the words and the files alone decide, `Delivery` what is written, `Meets` when a plan meets
+//! a problem, `Runs` a run with all that, and `Laws` what follows of each run.
 #![tactic(auto)]
 
 mod answers;
@@ -16,13 +17,20 @@ mod delivery;
 mod files;
 mod ground_command;
 mod grounding;
+mod laws;
 mod pddl_texts;
 mod plan_command;
 mod plan_files;
 mod record_files;
 mod replay_command;
+mod runs;
 mod top;
 mod words;
 
 pub use answers::NO_MEMORY;
+pub use laws::{
+    answers_are_cut, answers_are_whole, due_answers_come, due_statuses_come, full_tables_are_tight,
+    listings_are_written, plans_are_replayed, plans_meet_at_yes, problems_are_listed,
+    reasons_come_at_no, shelves_stay_quiet, sinks_stay_quiet, statuses_are_ten, traces_are_written,
+};
 pub use top::run;

@@ -5,9 +5,9 @@ ghost use Rattle.encode_task.specs.Made.{MadeOf};
 ghost use Rattle.mbp_top.specs.Answers.{full, no_memory, refused};
 ghost use Rattle.mbp_top.specs.Causes.{IsQuietAt};
 ghost use Rattle.mbp_top.specs.Enough.{IsTightLimit};
-ghost use Rattle.mbp_top.specs.FoundPlans.{IsSearched};
+ghost use Rattle.mbp_top.specs.FoundPlans.{IsSearched, IsTableResult};
 ghost use Rattle.mbp_top.specs.Grounded.{IsGroundedOf, IsTaskOf};
-ghost use Rattle.mbp_top.specs.PlanCommand.{IsPlanAnswer, IsPlanResult, IsPlanned, MayBeTooFew};
+ghost use Rattle.mbp_top.specs.PlanCommand.{IsPlanAnswer, IsPlanned, MayBeTooFew};
 ghost use Rattle.mbp_top.specs.PlanCommand.{PlanThen};
 ghost use Rattle.mbp_top.specs.Grounding.{has_goal_for};
 ghost use Rattle.mbp_top.specs.Values.{answer_of, bytes_of, kind_of, plan_words_of, shown_of};
@@ -153,10 +153,12 @@ fn plan_task(alloc: Global, class: Class, nodes: u32, task: &Task) -> Result<Sho
     requires room { IsNodeLimit nodes }
     requires goal { IsSome task.now.goal }
     ensures plan { IfOk result
-        (λ shown. IsPlanResult class (system_of task.now) (fluent_names task.now)
+        (λ shown. IsTableResult class (system_of task.now) (fluent_names task.now)
         (action_names task.now) (shown_of shown)) }
     ensures full { IsErrOf result SetErr.Full → IsTightLimit 0 nodes (system_of task.now) }
 {
+    // This does nothing: that the rules can be followed rests on what it promises.
+    tasks_have_systems(task);
     match search_task(alloc, class, nodes, task)? {
         Found::Plan(table) => Ok(Shown::Affirmed(text_of_plan(alloc, &Plan::Table(table), task)?)),
         Found::NoPlan => Ok(Shown::Denied(Text::Fixed("no plan\n"))),

@@ -22,7 +22,7 @@ ghost use Rattle.plan_io.specs.Fetches.{FailedLast, FetchesFirst};
 ghost use Rattle.plan_rules.specs.Plans.{IsPlanOf};
 ghost use Rattle.plan_rules.specs.Rules.{plain_of};
 ghost use Rattle.run_replay.specs.Records.{record_value};
-ghost use Rattle.run_replay.specs.TraceTexts.{tallies_text};
+ghost use Rattle.run_replay.specs.TraceTexts.{tallies_of};
 ghost use Rattle.std.specs.Prelude.{
   ◌≡◌,
   ◌≤◌,
@@ -34,6 +34,7 @@ ghost use Rattle.std.specs.Prelude.{
   IfOk,
   List,
   OnOk,
+  map,
   ℕ,
 };
 ghost use Rattle.task_core.specs.States.{IsWithin, vector};
@@ -72,17 +73,11 @@ pub(crate) fn replay_files<S: Shelf>(
     world: &mut Box<dyn World>,
     monitors: &mut Vec<Box<dyn Monitor>>,
 ) -> Result<Shown, Refusal>
-    requires untold { All (λ monitor. counted monitor ≡ 0) monitors.old.items }
+    requires untold { All (λ monitor. (shown monitor).counted ≡ 0) monitors.old.items }
     ensures answer { let failed = FailedLast S.fetched S.faults shelf.old shelf.new in
         (answer_of result ≡ refused no_memory)
         ⊎ IsReplayAnswer (S.held shelf.old) failed
-        (λ steps. tallies_text
-        (λ monitor. record {
-          counted = counted monitor;
-          title = title monitor;
-          weight = weight monitor;
-        })
-        steps monitors.old.items)
+        (tallies_of (map (λ monitor. shown monitor) monitors.old.items))
         (replay_words_of asked.now) (answer_of result) }
     ensures fetches { FetchesFirst S.fetched
         (asked.now.domain.now ∷ asked.now.problem.now ∷ asked.now.plan.now
@@ -109,17 +104,11 @@ fn replay_problem<S: Shelf>(
     requires fits_domain { FitsDomain (domain_value domain.now) }
     requires fits_problem { FitsProblem (domain_value domain.now) (problem_value problem.now) }
     requires names { NamesAreWords (domain_value domain.now) (problem_value problem.now) }
-    requires untold { All (λ monitor. counted monitor ≡ 0) monitors.old.items }
+    requires untold { All (λ monitor. (shown monitor).counted ≡ 0) monitors.old.items }
     ensures answer { let failed = FailedLast S.fetched S.faults shelf.old shelf.new in
         (answer_of result ≡ refused no_memory)
         ⊎ IsReplay (S.held shelf.old) failed
-        (λ steps. tallies_text
-        (λ monitor. record {
-          counted = counted monitor;
-          title = title monitor;
-          weight = weight monitor;
-        })
-        steps monitors.old.items)
+        (tallies_of (map (λ monitor. shown monitor) monitors.old.items))
         (replay_words_of asked.now)
         (domain_value domain.now) (problem_value problem.now) (answer_of result) }
     ensures fetches { FetchesFirst S.fetched
@@ -141,17 +130,11 @@ fn replay_task<S: Shelf>(
     world: &mut Box<dyn World>,
     monitors: &mut Vec<Box<dyn Monitor>>,
 ) -> Result<Shown, Refusal>
-    requires untold { All (λ monitor. counted monitor ≡ 0) monitors.old.items }
+    requires untold { All (λ monitor. (shown monitor).counted ≡ 0) monitors.old.items }
     ensures answer { let failed = FailedLast S.fetched S.faults shelf.old shelf.new in
         (answer_of result ≡ refused no_memory)
         ⊎ ReplayThen (S.held shelf.old) failed
-        (λ steps. tallies_text
-        (λ monitor. record {
-          counted = counted monitor;
-          title = title monitor;
-          weight = weight monitor;
-        })
-        steps monitors.old.items)
+        (tallies_of (map (λ monitor. shown monitor) monitors.old.items))
         (replay_words_of asked.now) (fluent_names task.now) (action_names task.now)
         (HasTooManyInitial task.now most_followed) (system_of task.now) (answer_of result) }
     ensures fetches { FetchesFirst S.fetched
@@ -183,17 +166,11 @@ fn replay_plan<S: Shelf>(
     monitors: &mut Vec<Box<dyn Monitor>>,
 ) -> Result<Shown, Refusal>
     requires in_task { IsPlanOf (fluent_count task.now) (action_count task.now) plan.now }
-    requires untold { All (λ monitor. counted monitor ≡ 0) monitors.old.items }
+    requires untold { All (λ monitor. (shown monitor).counted ≡ 0) monitors.old.items }
     ensures answer { let failed = FailedLast S.fetched S.faults shelf.old shelf.new in
         (answer_of result ≡ refused no_memory)
         ⊎ RecordThen (S.held shelf.old) failed
-        (λ steps. tallies_text
-        (λ monitor. record {
-          counted = counted monitor;
-          title = title monitor;
-          weight = weight monitor;
-        })
-        steps monitors.old.items)
+        (tallies_of (map (λ monitor. shown monitor) monitors.old.items))
         name.now (action_names task.now) (HasTooManyInitial task.now most_followed)
         (system_of task.now) (plain_of plan.now) (answer_of result) }
     ensures fetches { FetchesFirst S.fetched (name.now ∷ []) shelf.old shelf.new }
@@ -216,19 +193,13 @@ fn replay_record(
     monitors: &mut Vec<Box<dyn Monitor>>,
 ) -> Result<Shown, Refusal>
     requires in_task { IsPlanOf (fluent_count task.now) (action_count task.now) plan.now }
-    requires untold { All (λ monitor. counted monitor ≡ 0) monitors.old.items }
+    requires untold { All (λ monitor. (shown monitor).counted ≡ 0) monitors.old.items }
     ensures { let sys = system_of task.now in
         (answer_of result ≡ refused no_memory)
         ⊎ FirstThen (HasTooManyInitial task.now most_followed) sys.initial name.now
         (record_value recorded)
         (λ first. IsReplayed
-        (λ steps. tallies_text
-        (λ monitor. record {
-          counted = counted monitor;
-          title = title monitor;
-          weight = weight monitor;
-        })
-        steps monitors.old.items)
+        (tallies_of (map (λ monitor. shown monitor) monitors.old.items))
         sys (action_names task.now)
         (trace_under sys (plain_of plan.now) first recorded.words.items)) (answer_of result) }
 {
@@ -286,16 +257,10 @@ fn show_run(
 ) -> Result<Shown, Refusal>
     requires in_task { IsPlanOf (fluent_count task.now) (action_count task.now) plan.now }
     requires within { IsWithin (fluent_count task.now) first }
-    requires untold { All (λ monitor. counted monitor ≡ 0) monitors.old.items }
+    requires untold { All (λ monitor. (shown monitor).counted ≡ 0) monitors.old.items }
     ensures { (answer_of result ≡ refused no_memory)
         ⊎ IsReplayed
-        (λ steps. tallies_text
-        (λ monitor. record {
-          counted = counted monitor;
-          title = title monitor;
-          weight = weight monitor;
-        })
-        steps monitors.old.items)
+        (tallies_of (map (λ monitor. shown monitor) monitors.old.items))
         (system_of task.now) (action_names task.now)
         (trace_under (system_of task.now) (plain_of plan.now)
         (vector (fluent_count task.now) first) (left world.old)) (answer_of result) }

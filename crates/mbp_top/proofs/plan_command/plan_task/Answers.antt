@@ -4,4 +4,4 @@ use Rattle.mbp_top.proofs.plan_command.plan_task.Goals as goal
 
 pub returns-in_ok-text_of_plan-in-Plan-clause-plan : goal.returns-in_ok-text_of_plan-in-Plan-clause-plan
 returns-in_ok-text_of_plan-in-Plan-clause-plan c =
-    search (rules, plan_is_result c.args.class c.args.task.now)
+    search (rules, plan_is_result c.args.class c.args.task.now c.tasks_have_systems.ensures)

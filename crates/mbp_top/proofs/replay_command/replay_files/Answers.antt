@@ -1,7 +1,7 @@
-use Rattle.std.proofs.Common.{[], ◌∷◌}
+use Rattle.std.proofs.Common.{[], ◌∷◌, map}
 use Rattle.std.proofs.lemmas.Result.{err_from_is_err_and}
 use Rattle.plan_io.specs.Fetches.{FailedLast}
-use Rattle.run_replay.specs.TraceTexts.{tallies_text}
+use Rattle.run_replay.specs.TraceTexts.{tallies_of}
 use Rattle.mbp_top.specs.ReplayCommand.{IsReplay, Tallies}
 use Rattle.mbp_top.specs.Values.{replay_words_of, refusal_of}
 use Rattle.mbp_top.proofs.ReplayAnswers.{replay_later}
@@ -14,13 +14,7 @@ returns-in_err-domain-clause-answer g c =
     let p = err_from_is_err_and c.from_residual.result c.from_residual.ensures.1 in
     let held = g.S.Shelf.held c.args.shelf.now in
     let failed = FailedLast g.S.Shelf.fetched g.S.Shelf.faults c.args.shelf.now c.read_both.new.shelf in
-    let tallies : Tallies = λ steps. tallies_text
-    (λ monitor. record {
-      counted = (goal.Monitor-dyn g (monitor.vtable, monitor.value)).counted monitor.value;
-      title = (goal.Monitor-dyn g (monitor.vtable, monitor.value)).title monitor.value;
-      weight = (goal.Monitor-dyn g (monitor.vtable, monitor.value)).weight monitor.value;
-    })
-    steps c.args.monitors.now.items in
+    let tallies : Tallies = tallies_of (map (λ monitor. (goal.Monitor-dyn g (monitor.vtable, monitor.value)).shown monitor.value) c.args.monitors.now.items) in
     let asked = replay_words_of c.args.asked.now in
     rw (p.1, p.2) (refused_both held failed asked.domain asked.problem (IsReplay held failed tallies asked) (refusal_of c.in_err-domain.field-0.0) c.in_err-domain.ensures.refused)
 
@@ -35,13 +29,7 @@ returns-clause-answer g c =
     let held' = g.S.Shelf.held c.read_both.new.shelf in
     let failed = FailedLast g.S.Shelf.fetched g.S.Shelf.faults c.args.shelf.now c.replay_problem.new.shelf in
     let failed' = FailedLast g.S.Shelf.fetched g.S.Shelf.faults c.read_both.new.shelf c.replay_problem.new.shelf in
-    let tallies : Tallies = λ steps. tallies_text
-    (λ monitor. record {
-      counted = (goal.Monitor-dyn g (monitor.vtable, monitor.value)).counted monitor.value;
-      title = (goal.Monitor-dyn g (monitor.vtable, monitor.value)).title monitor.value;
-      weight = (goal.Monitor-dyn g (monitor.vtable, monitor.value)).weight monitor.value;
-    })
-    steps c.args.monitors.now.items in
+    let tallies : Tallies = tallies_of (map (λ monitor. (goal.Monitor-dyn g (monitor.vtable, monitor.value)).shown monitor.value) c.args.monitors.now.items) in
     let asked = replay_words_of c.args.asked.now in
     after_both held failed asked.domain asked.problem (IsReplay held failed tallies asked) _ _ _ c.in_ok-domain.ensures.holds
     (replay_later held held' failed failed' tallies asked _ _ _ c.in_ok-domain.ensures.kept

@@ -1,10 +1,10 @@
-use Rattle.std.proofs.Common.{[]}
+use Rattle.std.proofs.Common.{[], map}
 use Rattle.std.proofs.lemmas.Result.{err_from_is_err_and}
 use Rattle.exec_graph.specs.Initials.{HasTooManyInitial}
 use Rattle.plan_io.specs.Fetches.{FailedLast}
 use Rattle.plan_rules.specs.Rules.{plain_of}
 use Rattle.run_replay.specs.Records.{record_value}
-use Rattle.run_replay.specs.TraceTexts.{tallies_text}
+use Rattle.run_replay.specs.TraceTexts.{tallies_of}
 use Rattle.task_core.specs.Tasks.{action_names, system_of}
 use Rattle.mbp_top.specs.CheckCommand.{most_followed}
 use Rattle.mbp_top.specs.ReplayCommand.{Tallies}
@@ -18,13 +18,7 @@ returns-in_err-recorded-clause-answer g c =
     let p = err_from_is_err_and c.from_residual.result c.from_residual.ensures.1 in
     let held = g.S.Shelf.held c.args.shelf.now in
     let failed = FailedLast g.S.Shelf.fetched g.S.Shelf.faults c.args.shelf.now c.read_record_file.new.shelf in
-    let tallies : Tallies = λ steps. tallies_text
-    (λ monitor. record {
-      counted = (goal.Monitor-dyn g (monitor.vtable, monitor.value)).counted monitor.value;
-      title = (goal.Monitor-dyn g (monitor.vtable, monitor.value)).title monitor.value;
-      weight = (goal.Monitor-dyn g (monitor.vtable, monitor.value)).weight monitor.value;
-    })
-    steps c.args.monitors.now.items in
+    let tallies : Tallies = tallies_of (map (λ monitor. (goal.Monitor-dyn g (monitor.vtable, monitor.value)).shown monitor.value) c.args.monitors.now.items) in
     let task = c.args.task.now in
     rw (p.1, p.2) (record_refused held failed tallies c.args.name.now (action_names task) (HasTooManyInitial task most_followed) (system_of task) (plain_of c.args.plan.now)
     (refusal_of c.in_err-recorded.field-0.0) c.in_err-recorded.ensures.refused)
@@ -37,13 +31,7 @@ pub returns-clause-answer : goal.returns-clause-answer
 returns-clause-answer g c =
     let held = g.S.Shelf.held c.args.shelf.now in
     let failed = FailedLast g.S.Shelf.fetched g.S.Shelf.faults c.args.shelf.now c.read_record_file.new.shelf in
-    let tallies : Tallies = λ steps. tallies_text
-    (λ monitor. record {
-      counted = (goal.Monitor-dyn g (monitor.vtable, monitor.value)).counted monitor.value;
-      title = (goal.Monitor-dyn g (monitor.vtable, monitor.value)).title monitor.value;
-      weight = (goal.Monitor-dyn g (monitor.vtable, monitor.value)).weight monitor.value;
-    })
-    steps c.args.monitors.now.items in
+    let tallies : Tallies = tallies_of (map (λ monitor. (goal.Monitor-dyn g (monitor.vtable, monitor.value)).shown monitor.value) c.args.monitors.now.items) in
     let task = c.args.task.now in
     record_answer held failed tallies c.args.name.now (action_names task) (HasTooManyInitial task most_followed) (system_of task) (plain_of c.args.plan.now)
     (record_value c.in_ok-recorded.recorded) (answer_of c.replay_record.result) c.in_ok-recorded.ensures.holds c.replay_record.ensures

@@ -1,8 +1,9 @@
+use Rattle.std.proofs.Common.{map}
 use Rattle.std.proofs.lemmas.Result.{err_from_is_err_and}
 use Rattle.pddl_ast.specs.Values.{domain_value, problem_value}
 use Rattle.pddl_system.specs.Systems.{action_names, fluent_names, system}
 use Rattle.plan_io.specs.Fetches.{FailedLast}
-use Rattle.run_replay.specs.TraceTexts.{tallies_text}
+use Rattle.run_replay.specs.TraceTexts.{tallies_of}
 use Rattle.mbp_top.specs.CheckCommand.{HasTooManyStates}
 use Rattle.mbp_top.specs.ReplayCommand.{ReplayThen, Tallies}
 use Rattle.mbp_top.specs.Values.{answer_of, refusal_of, replay_words_of}
@@ -14,13 +15,7 @@ returns-in_err-task-clause-answer g c =
     let p = err_from_is_err_and c.from_residual.result c.from_residual.ensures.1 in
     let held = g.S.Shelf.held c.args.shelf.now in
     let failed = FailedLast g.S.Shelf.fetched g.S.Shelf.faults c.args.shelf.now c.args.shelf.now in
-    let tallies : Tallies = λ steps. tallies_text
-    (λ monitor. record {
-      counted = (goal.Monitor-dyn g (monitor.vtable, monitor.value)).counted monitor.value;
-      title = (goal.Monitor-dyn g (monitor.vtable, monitor.value)).title monitor.value;
-      weight = (goal.Monitor-dyn g (monitor.vtable, monitor.value)).weight monitor.value;
-    })
-    steps c.args.monitors.now.items in
+    let tallies : Tallies = tallies_of (map (λ monitor. (goal.Monitor-dyn g (monitor.vtable, monitor.value)).shown monitor.value) c.args.monitors.now.items) in
     let domain = domain_value c.args.domain.now in
     let problem = problem_value c.args.problem.now in
     rw (p.1, p.2) (ground_refused domain problem
@@ -30,12 +25,6 @@ pub returns-clause-answer : goal.returns-clause-answer
 returns-clause-answer g c =
     let held = g.S.Shelf.held c.args.shelf.now in
     let failed = FailedLast g.S.Shelf.fetched g.S.Shelf.faults c.args.shelf.now c.replay_task.new.shelf in
-    let tallies : Tallies = λ steps. tallies_text
-    (λ monitor. record {
-      counted = (goal.Monitor-dyn g (monitor.vtable, monitor.value)).counted monitor.value;
-      title = (goal.Monitor-dyn g (monitor.vtable, monitor.value)).title monitor.value;
-      weight = (goal.Monitor-dyn g (monitor.vtable, monitor.value)).weight monitor.value;
-    })
-    steps c.args.monitors.now.items in
+    let tallies : Tallies = tallies_of (map (λ monitor. (goal.Monitor-dyn g (monitor.vtable, monitor.value)).shown monitor.value) c.args.monitors.now.items) in
     replay_answer held failed tallies (replay_words_of c.args.asked.now) (domain_value c.args.domain.now) (problem_value c.args.problem.now) c.in_ok-task.task (answer_of c.replay_task.result)
     c.in_ok-task.ensures.task c.in_ok-task.ensures.system c.in_ok-task.ensures.within c.replay_task.ensures.answer

@@ -1,7 +1,8 @@
+use Rattle.std.proofs.Common.{map}
 use Rattle.exec_graph.specs.Initials.{HasTooManyInitial}
 use Rattle.plan_rules.specs.Rules.{plain_of}
 use Rattle.run_replay.specs.Records.{record_value}
-use Rattle.run_replay.specs.TraceTexts.{tallies_text}
+use Rattle.run_replay.specs.TraceTexts.{tallies_of}
 use Rattle.task_core.specs.States.{vector}
 use Rattle.task_core.specs.Tasks.{action_names, fluent_count, initial_states, system_of}
 use Rattle.task_core.specs.Vectors.{Vector}
@@ -16,13 +17,7 @@ pub returns : goal.returns
 returns g c =
     let task = c.args.task.now in
     let Then : Vector → Answer → Type 0 = λ first. IsReplayed
-    (λ steps. tallies_text
-    (λ monitor. record {
-      counted = (goal.Monitor-dyn g (monitor.vtable, monitor.value)).counted monitor.value;
-      title = (goal.Monitor-dyn g (monitor.vtable, monitor.value)).title monitor.value;
-      weight = (goal.Monitor-dyn g (monitor.vtable, monitor.value)).weight monitor.value;
-    })
-    steps c.args.monitors.now.items)
+    (tallies_of (map (λ monitor. (goal.Monitor-dyn g (monitor.vtable, monitor.value)).shown monitor.value) c.args.monitors.now.items))
     (system_of task) (action_names task) (trace_under (system_of task) (plain_of c.args.plan.now) first c.args.recorded.words.items) in
     first_answer (HasTooManyInitial task most_followed) (initial_states task) c.args.name.now (record_value c.args.recorded) (vector (fluent_count task) c.in_ok-first.first) Then (answer_of c.show_run.result)
     c.in_ok-first.ensures.few c.in_ok-first.ensures.first (rw c.in_ok-load_world.ensures at c.show_run.ensures)

@@ -1,9 +1,9 @@
-use Rattle.std.proofs.Common.{[], ◌∷◌}
+use Rattle.std.proofs.Common.{[], ◌∷◌, map}
 use Rattle.std.proofs.lemmas.Result.{err_from_is_err_and}
 use Rattle.exec_graph.specs.Initials.{HasTooManyInitial}
 use Rattle.plan_io.specs.Fetches.{FailedLast}
 use Rattle.plan_rules.specs.Rules.{plain_of}
-use Rattle.run_replay.specs.TraceTexts.{tallies_text}
+use Rattle.run_replay.specs.TraceTexts.{tallies_of}
 use Rattle.task_core.specs.Tasks.{action_names, fluent_names, system_of}
 use Rattle.mbp_top.specs.CheckCommand.{most_followed}
 use Rattle.mbp_top.specs.ReplayCommand.{Tallies}
@@ -17,13 +17,7 @@ returns-in_err-read-clause-answer g c =
     let p = err_from_is_err_and c.from_residual.result c.from_residual.ensures.1 in
     let held = g.S.Shelf.held c.args.shelf.now in
     let failed = FailedLast g.S.Shelf.fetched g.S.Shelf.faults c.args.shelf.now c.read_plan_file.new.shelf in
-    let tallies : Tallies = λ steps. tallies_text
-    (λ monitor. record {
-      counted = (goal.Monitor-dyn g (monitor.vtable, monitor.value)).counted monitor.value;
-      title = (goal.Monitor-dyn g (monitor.vtable, monitor.value)).title monitor.value;
-      weight = (goal.Monitor-dyn g (monitor.vtable, monitor.value)).weight monitor.value;
-    })
-    steps c.args.monitors.now.items in
+    let tallies : Tallies = tallies_of (map (λ monitor. (goal.Monitor-dyn g (monitor.vtable, monitor.value)).shown monitor.value) c.args.monitors.now.items) in
     let task = c.args.task.now in
     rw (p.1, p.2) (plan_refused held failed tallies (replay_words_of c.args.asked.now) (fluent_names task) (action_names task) (HasTooManyInitial task most_followed) (system_of task)
     (refusal_of c.in_err-read.field-0.0) c.in_err-read.ensures.refused)
@@ -39,13 +33,7 @@ returns-clause-answer g c =
     let held' = g.S.Shelf.held c.read_plan_file.new.shelf in
     let failed = FailedLast g.S.Shelf.fetched g.S.Shelf.faults c.args.shelf.now c.replay_plan.new.shelf in
     let failed' = FailedLast g.S.Shelf.fetched g.S.Shelf.faults c.read_plan_file.new.shelf c.replay_plan.new.shelf in
-    let tallies : Tallies = λ steps. tallies_text
-    (λ monitor. record {
-      counted = (goal.Monitor-dyn g (monitor.vtable, monitor.value)).counted monitor.value;
-      title = (goal.Monitor-dyn g (monitor.vtable, monitor.value)).title monitor.value;
-      weight = (goal.Monitor-dyn g (monitor.vtable, monitor.value)).weight monitor.value;
-    })
-    steps c.args.monitors.now.items in
+    let tallies : Tallies = tallies_of (map (λ monitor. (goal.Monitor-dyn g (monitor.vtable, monitor.value)).shown monitor.value) c.args.monitors.now.items) in
     let name = c.args.asked.now.recorded.now in
     let over = failed_over g.S.Shelf.fetched g.S.Shelf.faults c.args.shelf.now c.read_plan_file.new.shelf c.replay_plan.new.shelf c.args.asked.now.plan.now name
     c.in_ok-read.ensures.fetch c.in_ok-read.ensures.quiet in

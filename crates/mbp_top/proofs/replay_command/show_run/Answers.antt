@@ -1,4 +1,4 @@
-use Rattle.std.proofs.Common.{inr}
+use Rattle.std.proofs.Common.{inr, map}
 use Rattle.task_core.specs.Tasks.{action_names, system_of}
 use Rattle.mbp_top.proofs.ReplayRuns.{ended_run}
 use Rattle.mbp_top.proofs.replay_command.show_run.Goals as goal
@@ -6,11 +6,7 @@ use Rattle.mbp_top.proofs.replay_command.show_run.Goals as goal
 pub returns-in_ok-write_trace-in-Ok : goal.returns-in_ok-write_trace-in-Ok
 returns-in_ok-write_trace-in-Ok g c =
     let task = c.args.task.now in
-    inr (ended_run
-    (λ monitor. record {
-      counted = (goal.Monitor-dyn g (monitor.vtable, monitor.value)).counted monitor.value;
-      title = (goal.Monitor-dyn g (monitor.vtable, monitor.value)).title monitor.value;
-      weight = (goal.Monitor-dyn g (monitor.vtable, monitor.value)).weight monitor.value;
-    })
-    (system_of task) (action_names task) _ c.in-Ok.trace.steps.items c.in-Ok.trace.end _ c.in_ok-write_trace-in-Ok.field-0.items c.args.monitors.now.items c.execute.new.monitors.items
-    c.in-Ok.ensures.trace c.in-Ok.ensures.in_task c.requires.untold c.in-Ok.ensures.told (rw c.deref.ensures.value at c.in_ok-write_trace-in-Ok.ensures))
+    let shown = map (λ monitor. (goal.Monitor-dyn g (monitor.vtable, monitor.value)).shown monitor.value) c.args.monitors.now.items in
+    let now = map (λ monitor. (goal.Monitor-dyn g (monitor.vtable, monitor.value)).shown monitor.value) c.execute.new.monitors.items in
+    inr (ended_run shown now (system_of task) (action_names task) _ c.in-Ok.trace.steps.items c.in-Ok.trace.end _ c.in_ok-write_trace-in-Ok.field-0.items
+    c.in-Ok.ensures.trace c.in-Ok.ensures.in_task c.in-Ok.ensures.tallies (rw c.deref.ensures.value at c.in_ok-write_trace-in-Ok.ensures))

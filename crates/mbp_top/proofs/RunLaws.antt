@@ -1,0 +1,149 @@
+-- What follows for a run that has its cause.
+use Rattle.std.proofs.Common.{◌≡◌, ◌≢◌, ◌≤◌, ◌⊎◌, ℕ, None, true}
+use Rattle.exec_graph.specs.Executions.{ReachesMoreThan}
+use Rattle.pddl_ast.specs.Trees.{DomainTree, ProblemTree}
+use Rattle.pddl_system.specs.Sizes.{first_passed}
+use Rattle.pddl_system.specs.Systems.{action_names, fluent_names, system}
+use Rattle.plan_io.specs.Fetches.{FetchesFirst}
+use Rattle.plan_io.specs.Held.{Held}
+use Rattle.plan_rules.specs.Rules.{PlainPlan}
+use Rattle.mbp_top.specs.Answers.{Answer, no_command, no_memory, refused}
+use Rattle.mbp_top.specs.Causes.{HasCause, IsQuietAt}
+use Rattle.mbp_top.specs.CheckCommand.{HasTooManyStates, most_followed}
+use Rattle.mbp_top.specs.Delivery.{IsDelivered}
+use Rattle.mbp_top.specs.Enough.{IsTightLimit}
+use Rattle.mbp_top.specs.Grounding.{has_goal_for}
+use Rattle.mbp_top.specs.Laws.{AreQuietSinks, ComesToListing, ComesToReplay, HasStatus, IsAnswered, IsCutOff, IsDueAnswer, IsDueStatus, IsFullAtLimit, IsListing, IsNo, IsQuietShelf, IsReplayOf, IsYes}
+use Rattle.mbp_top.specs.Meets.{PlanMeets}
+use Rattle.mbp_top.specs.OneReading.{OneReading}
+use Rattle.mbp_top.specs.PddlTexts.{HoldBoth}
+use Rattle.mbp_top.specs.PlanCommand.{is_sought, stages_for}
+use Rattle.mbp_top.specs.PlanFiles.{HoldsPlan, is_of_kind}
+use Rattle.mbp_top.specs.Runs.{FailedIn, HasRun, Run}
+use Rattle.mbp_top.specs.Told.{AreFilesTold, NoFault}
+use Rattle.mbp_top.specs.Words.{Bytes, CheckWords, Command, PlanWords, SayNothing, Says, SaysCheck, SaysPlan, files_of}
+use Rattle.mbp_top.proofs.ByCommand.{due_answer}
+use Rattle.mbp_top.proofs.CheckWritten.{YesSolves, check_no_written, check_status, check_yes_written}
+use Rattle.mbp_top.proofs.GroundWritten.{listing_status, listing_written}
+use Rattle.mbp_top.proofs.PlanWritten.{NoPlanWritten, PlanWritten, full_written, no_plan_written, plan_status, plan_written}
+use Rattle.mbp_top.proofs.ReplayWritten.{run_status, run_written}
+use Rattle.mbp_top.proofs.Statuses.{Done, cut_delivery, done, due_status, no_failure, of_delivery, quiet_shelf, quiet_sinks, whole_delivery}
+
+module _ {S : Type 0} (held : S → Bytes → Held) (faults : S → ℕ) (fetched : S → Bytes → S → Type 0) (run : Run S) where
+  abbrev Cause : Answer → Type 0
+  Cause = HasCause (held run.shelf) (FailedIn faults fetched run) run.tallies run.words
+
+  abbrev IsDone : Answer → Type 0
+  IsDone = Done (held run.shelf) (FailedIn faults fetched run) run.tallies run.words (faults run.shelf) (faults run.shelf_after) run.out run.out_after run.err run.err_after run.status
+
+  -- what was found for the words, and what was given for it
+  pub has_run : (found given : Answer) → Cause found
+      → ((command : Command) → Says run.words command → FetchesFirst fetched (files_of command) run.shelf run.shelf_after)
+      → (SayNothing run.words → run.shelf_after ≡ run.shelf) → IsQuietAt found (faults run.shelf) (faults run.shelf_after)
+      → ((file : Bytes) → held run.shelf_after file ≡ held run.shelf file) → faults run.shelf ≤ faults run.shelf_after
+      → (given ≡ found) ⊎ ((given ≡ refused no_memory) × (found ≢ refused no_command))
+      → IsDelivered given run.out run.out_after run.err run.err_after run.status → HasRun held faults fetched run
+  has_run found given cause fetches unfetched quiet kept later same delivered =
+      let d : IsDone given = done (held run.shelf) (FailedIn faults fetched run) run.tallies run.words (faults run.shelf) (faults run.shelf_after) run.out run.out_after run.err run.err_after run.status
+      found given cause quiet same delivered in
+      record {
+        answer = given;
+        cause = d.cause;
+        delivered = d.delivered;
+        fetches = fetches;
+        unfetched = unfetched;
+        quiet = d.quiet;
+        kept = kept;
+        later = later;
+      }
+
+  module _ (has : HasRun held faults fetched run) where
+    it_is : IsDone has.answer
+    it_is = record { cause = has.cause; quiet = has.quiet; delivered = has.delivered }
+
+    not_failed : NoFault (faults run.shelf) (faults run.shelf_after) → (file : Bytes) → FailedIn faults fetched run file → ⊥
+    not_failed none file = no_failure fetched faults run.shelf run.shelf_after file none
+
+    pub has_status : HasStatus run
+    has_status = of_delivery has.answer run.out run.out_after run.err run.err_after run.status has.delivered
+
+    pub is_answered : IsAnswered held faults fetched run
+    is_answered not =
+        let whole = whole_delivery has.answer run.out run.out_after run.err run.err_after run.status has.delivered not in
+        (has.answer, has.cause, whole.0, whole.1)
+
+    pub is_cut_off : IsCutOff held faults fetched run
+    is_cut_off is = (has.answer, has.cause, has.quiet, cut_delivery has.answer run.out run.out_after run.err run.err_after run.status has.delivered is)
+
+    pub plan_is_written : (asked : PlanWords) → SaysPlan run.words asked → run.status ≡ 0 → PlanWritten (held run.shelf) asked run.out run.out_after
+    plan_is_written asked says zero = plan_written _ _ _ _ _ _ _ _ _ _ _ _ asked it_is says zero
+
+    pub no_plan_is_written : (asked : PlanWords) → SaysPlan run.words asked → run.status ≡ 1 → NoPlanWritten (held run.shelf) asked run.out run.out_after
+    no_plan_is_written asked says one = no_plan_written _ _ _ _ _ _ _ _ _ _ _ _ asked it_is says one
+
+    pub is_full : IsFullAtLimit held run
+    is_full asked says five = let w = full_written _ _ _ _ _ _ _ _ _ _ _ _ asked it_is says five in (w.may, w.written)
+
+    pub is_listing : IsListing held run
+    is_listing asked says zero =
+        let w = listing_written _ _ _ _ _ _ _ _ _ _ _ _ asked it_is says zero in
+        (w.domain, w.problem, w.both, w.within, w.written)
+
+    pub is_yes : YesSolves → IsYes held run
+    is_yes law asked says zero =
+        let w = check_yes_written law _ _ _ _ _ _ _ _ _ _ _ _ asked it_is says zero in
+        (w.domain, w.problem, w.plan, w.bound, w.both, w.file, w.met, w.bounded, w.written)
+
+    pub is_no : IsNo held run
+    is_no asked says one =
+        let w = check_no_written _ _ _ _ _ _ _ _ _ _ _ _ asked it_is says one in
+        (w.domain, w.problem, w.plan, w.reason, w.both, w.file, w.first, w.written)
+
+    pub is_replay : IsReplayOf held run
+    is_replay asked says zero =
+        let w = run_written _ _ _ _ _ _ _ _ _ _ _ _ asked it_is says zero in
+        (w.domain, w.problem, w.plan, w.recorded, w.first, w.told, w.both, w.within, w.files, w.steps, w.written)
+
+    pub quiet_shelf_is : IsQuietShelf faults run
+    quiet_shelf_is six seven eight =
+        let whole = whole_delivery has.answer run.out run.out_after run.err run.err_after run.status has.delivered seven in
+        quiet_shelf has.answer (faults run.shelf) (faults run.shelf_after) run.status has.quiet whole.0 six eight
+
+    pub quiet_sinks_are : AreQuietSinks run
+    quiet_sinks_are seven =
+        let whole = whole_delivery has.answer run.out run.out_after run.err run.err_after run.status has.delivered seven in
+        quiet_sinks has.answer run.out run.out_after run.err run.err_after whole.1
+
+    module _ (one : OneReading) where
+      pub comes_to_plan : (asked : PlanWords) (domain : DomainTree) (problem : ProblemTree) → SaysPlan run.words asked
+          → HoldBoth (held run.shelf) asked.domain asked.problem domain problem → is_sought asked.kind problem ≡ true → first_passed domain problem ≡ None
+          → (IsTightLimit (stages_for asked.kind problem) asked.options.nodes (system domain problem) → ⊥) → AreFilesTold (held run.shelf) run.words
+          → NoFault (faults run.shelf) (faults run.shelf_after) → NoFault run.out.faults run.out_after.faults → NoFault run.err.faults run.err_after.faults
+          → (run.status ≡ 0) ⊎ (run.status ≡ 1) ⊎ (run.status ≡ 8)
+      comes_to_plan asked domain problem says both goal kept room told no_rise no_out no_err =
+          plan_status one _ _ _ _ _ _ _ _ _ _ _ _ asked domain problem it_is says both goal kept room told (not_failed no_rise) no_out no_err
+
+      pub comes_to_verdict : YesSolves → (asked : CheckWords) (domain : DomainTree) (problem : ProblemTree) (plan : PlainPlan) → SaysCheck run.words asked
+          → HoldBoth (held run.shelf) asked.domain asked.problem domain problem → has_goal_for asked.kind problem ≡ true → first_passed domain problem ≡ None
+          → HoldsPlan (held run.shelf) (fluent_names domain problem) (action_names domain problem) asked.plan plan → is_of_kind asked.kind plan ≡ true
+          → (HasTooManyStates domain problem → ⊥) → (ReachesMoreThan (system domain problem) plan most_followed → ⊥) → AreFilesTold (held run.shelf) run.words
+          → NoFault (faults run.shelf) (faults run.shelf_after) → NoFault run.out.faults run.out_after.faults → NoFault run.err.faults run.err_after.faults
+          → ((run.status ≡ 0) × PlanMeets asked.kind domain problem plan) ⊎ ((run.status ≡ 1) × (PlanMeets asked.kind domain problem plan → ⊥)) ⊎ (run.status ≡ 8)
+      comes_to_verdict law asked domain problem plan says both goal kept file right few small told no_rise no_out no_err =
+          check_status one law _ _ _ _ _ _ _ _ _ _ _ _ asked domain problem plan it_is says both goal kept file right few small told (not_failed no_rise) no_out no_err
+
+      pub comes_to_listing : ComesToListing held faults run
+      comes_to_listing asked domain problem says both kept u =
+          listing_status one _ _ _ _ _ _ _ _ _ _ _ _ asked domain problem it_is says both kept u.files.told (not_failed u.files.shelf) u.out u.err
+
+      pub comes_to_replay : ComesToReplay held faults run
+      comes_to_replay asked domain problem plan recorded first says both kept few files u =
+          run_status one _ _ _ _ _ _ _ _ _ _ _ _ asked domain problem plan recorded first it_is says both kept few files u.files.told (not_failed u.files.shelf) u.out u.err
+
+      pub is_due_answer : IsDueAnswer held faults run
+      is_due_answer answer is told =
+          (has.answer, due_answer one (held run.shelf) (FailedIn faults fetched run) run.tallies run.words has.answer answer has.cause is told.told (not_failed told.shelf), has.delivered)
+
+      pub is_due_status : IsDueStatus held faults run
+      is_due_status answer is u =
+          due_status one _ _ _ _ _ _ _ _ _ _ _ has.answer answer it_is is u.files.told (not_failed u.files.shelf) u.out u.err

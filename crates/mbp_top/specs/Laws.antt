@@ -1,0 +1,176 @@
+-- What follows for every run that has its cause: statements of laws. `held`, `faults` and `fetched`
+-- are what the shelf tells.
+use Rattle.std.specs.Prelude.{◌≡◌, ◌≢◌, ◌⊎◌, ℕ, [], ◌∷◌, Contains, List, None, Option}
+use Rattle.std.specs.Io.KnownBytes.{append_known}
+use Rattle.pddl_ast.specs.Trees.{DomainTree, ProblemTree}
+use Rattle.pddl_system.specs.Sizes.{first_passed}
+use Rattle.pddl_system.specs.Systems.{action_names, fluent_names, system}
+use Rattle.plan_check.specs.declared.verdicts.Reason.{Reason}
+use Rattle.plan_check.specs.declared.verdicts.Verdict.TheVariants.{Yes, No}
+use Rattle.plan_io.specs.Held.{Held}
+use Rattle.plan_rules.specs.Rules.{PlainPlan}
+use Rattle.run_replay.specs.Records.{RecordTree}
+use Rattle.run_replay.specs.declared.worlds.Step.{Step}
+use Rattle.task_core.specs.Vectors.{Vector}
+use Rattle.mbp_top.specs.Answers.{Answer, full, refused, status_of, text_of}
+use Rattle.mbp_top.specs.Causes.{HasCause, IsQuietAt}
+use Rattle.mbp_top.specs.CheckCommand.{HasBound, HasTooManyStates, IsFirstAgainst, verdict_answer}
+use Rattle.mbp_top.specs.Delivery.{IsCut, IsDelivered, IsWhole}
+use Rattle.mbp_top.specs.GroundCommand.{listing_of}
+use Rattle.mbp_top.specs.Meets.{PlanMeets}
+use Rattle.mbp_top.specs.PddlTexts.{HoldBoth}
+use Rattle.mbp_top.specs.PlanCommand.{MayRunOut}
+use Rattle.mbp_top.specs.PlanFiles.{HoldsPlan}
+use Rattle.mbp_top.specs.ReplayCommand.{AreToldAs, HoldRun, ended_status, replay_text, trace_under}
+use Rattle.mbp_top.specs.Runs.{FailedIn, HasRun, IsTold, IsUndisturbed, Run}
+use Rattle.mbp_top.specs.Told.{IsDue, MayStandIn}
+use Rattle.mbp_top.specs.Words.{Bytes, CheckWords, GroundWords, PlanWords, ReplayWords, SaysCheck}
+use Rattle.mbp_top.specs.Words.{SaysGround, SaysPlan, SaysReplay}
+
+-- of every run that has its cause
+abbrev pub OfRuns : {S : Type 0} → (S → Bytes → Held) → (S → ℕ) → (S → Bytes → S → Type 0)
+    → (Run S → Type 0) → Type 0
+OfRuns {S} held faults fetched Property =
+    (run : Run S) → HasRun held faults fetched run → Property run
+
+-- the status is one of ten
+abbrev pub HasStatus : {S : Type 0} → Run S → Type 0
+HasStatus {S} run = Contains (0 ∷ 1 ∷ 2 ∷ 3 ∷ 4 ∷ 5 ∷ 6 ∷ 7 ∷ 8 ∷ 9 ∷ []) run.status
+
+-- at each status but 7 that is the answer's, and the answer is written whole
+abbrev pub IsAnswered : {S : Type 0} → (S → Bytes → Held) → (S → ℕ) → (S → Bytes → S → Type 0)
+    → Run S → Type 0
+IsAnswered {S} held faults fetched run =
+    run.status ≢ 7
+    → (answer : Answer)
+    × HasCause (held run.shelf) (FailedIn faults fetched run) run.tallies run.words answer
+    × (run.status ≡ status_of answer)
+    × IsWhole answer run.out run.out_after run.err run.err_after
+
+-- status 7: a sink had a fault, and took only a part of the answer
+abbrev pub IsCutOff : {S : Type 0} → (S → Bytes → Held) → (S → ℕ) → (S → Bytes → S → Type 0)
+    → Run S → Type 0
+IsCutOff {S} held faults fetched run =
+    run.status ≡ 7
+    → (answer : Answer)
+    × HasCause (held run.shelf) (FailedIn faults fetched run) run.tallies run.words answer
+    × IsQuietAt answer (faults run.shelf) (faults run.shelf_after)
+    × IsCut answer run.out run.out_after run.err run.err_after
+
+-- `plan`, status 5: the number of nodes may be too small for the problem that the two files spell,
+-- and it is what was written
+abbrev pub IsFullAtLimit : {S : Type 0} → (S → Bytes → Held) → Run S → Type 0
+IsFullAtLimit {S} held run =
+    (asked : PlanWords) → SaysPlan run.words asked → run.status ≡ 5
+    → MayRunOut (held run.shelf) asked
+    × (run.err_after.written
+    ≡ append_known run.err.written (text_of (refused (full asked.options.nodes))))
+
+-- `ground`, status 0: the text that was written is the listing of the problem that the two files
+-- spell, which is within the limits
+abbrev pub IsListing : {S : Type 0} → (S → Bytes → Held) → Run S → Type 0
+IsListing {S} held run =
+    (asked : GroundWords) → SaysGround run.words asked → run.status ≡ 0
+    → (domain : DomainTree) × (problem : ProblemTree)
+    × HoldBoth (held run.shelf) asked.domain asked.problem domain problem
+    × (first_passed domain problem ≡ None)
+    × (run.out_after.written ≡ append_known run.out.written (listing_of domain problem))
+
+-- `ground` of two files that spell a problem within the limits: it is listed, if no fault comes
+abbrev pub ComesToListing : {S : Type 0} → (S → Bytes → Held) → (S → ℕ) → Run S → Type 0
+ComesToListing {S} held faults run =
+    (asked : GroundWords) (domain : DomainTree) (problem : ProblemTree)
+    → SaysGround run.words asked
+    → HoldBoth (held run.shelf) asked.domain asked.problem domain problem
+    → first_passed domain problem ≡ None → IsUndisturbed held faults run
+    → (run.status ≡ 0) ⊎ (run.status ≡ 8)
+
+-- `check`, status 0: the plan that the third file spells meets the problem that the two others
+-- spell, and the text that was written says yes, for a strong plan with the length of its longest
+-- execution
+abbrev pub IsYes : {S : Type 0} → (S → Bytes → Held) → Run S → Type 0
+IsYes {S} held run =
+    (asked : CheckWords) → SaysCheck run.words asked → run.status ≡ 0
+    → (domain : DomainTree) × (problem : ProblemTree) × (plan : PlainPlan) × (bound : Option ℕ)
+    × HoldBoth (held run.shelf) asked.domain asked.problem domain problem
+    × HoldsPlan (held run.shelf) (fluent_names domain problem) (action_names domain problem)
+    asked.plan plan
+    × PlanMeets asked.kind domain problem plan
+    × HasBound asked.kind domain problem plan bound
+    × (run.out_after.written ≡ append_known run.out.written (text_of (verdict_answer (Yes bound))))
+
+-- `check`, status 1: the text that was written names the first reason that speaks against the plan
+abbrev pub IsNo : {S : Type 0} → (S → Bytes → Held) → Run S → Type 0
+IsNo {S} held run =
+    (asked : CheckWords) → SaysCheck run.words asked → run.status ≡ 1
+    → (domain : DomainTree) × (problem : ProblemTree) × (plan : PlainPlan) × (reason : Reason)
+    × HoldBoth (held run.shelf) asked.domain asked.problem domain problem
+    × HoldsPlan (held run.shelf) (fluent_names domain problem) (action_names domain problem)
+    asked.plan plan
+    × IsFirstAgainst asked.kind domain problem plan reason
+    × (run.out_after.written ≡ append_known run.out.written (text_of (verdict_answer (No reason))))
+
+-- `replay`, status 0: the text that was written is that of the trace of the plan in the third file,
+-- from the initial state and under the outcome numbers of the record in the fourth, and then that
+-- of each monitor, with its title and the sum of its weights over the trace's steps
+abbrev pub IsReplayOf : {S : Type 0} → (S → Bytes → Held) → Run S → Type 0
+IsReplayOf {S} held run =
+    (asked : ReplayWords) → SaysReplay run.words asked → run.status ≡ 0
+    → (domain : DomainTree) × (problem : ProblemTree) × (plan : PlainPlan)
+    × (recorded : RecordTree) × (first : Vector) × (told : List Step)
+    × HoldBoth (held run.shelf) asked.domain asked.problem domain problem
+    × (first_passed domain problem ≡ None)
+    × HoldRun (held run.shelf) asked domain problem plan recorded first
+    × AreToldAs (system domain problem)
+    (trace_under (system domain problem) plan first recorded.words).steps told
+    × (run.out_after.written ≡ append_known run.out.written
+    (replay_text run.tallies (action_names domain problem)
+    (trace_under (system domain problem) plan first recorded.words) told))
+
+-- `replay` of files that spell a problem within the limits with few initial states, a plan, and a
+-- record that begins with the number of one: status 0 where the trace comes to an end, and 9 where
+-- a number of the record is none of the action's outcomes or an action can't be executed, if no
+-- fault comes
+abbrev pub ComesToReplay : {S : Type 0} → (S → Bytes → Held) → (S → ℕ) → Run S → Type 0
+ComesToReplay {S} held faults run =
+    (asked : ReplayWords) (domain : DomainTree) (problem : ProblemTree) (plan : PlainPlan)
+    (recorded : RecordTree) (first : Vector) → SaysReplay run.words asked
+    → HoldBoth (held run.shelf) asked.domain asked.problem domain problem
+    → first_passed domain problem ≡ None → (HasTooManyStates domain problem → ⊥)
+    → HoldRun (held run.shelf) asked domain problem plan recorded first
+    → IsUndisturbed held faults run
+    → (run.status
+    ≡ ended_status (trace_under (system domain problem) plan first recorded.words).ending)
+    ⊎ (run.status ≡ 8)
+
+-- where the shelf tells of the files and has no fault, the words and the files alone decide the
+-- answer, but for want of memory, or of nodes where there may be too few; of `replay` also what the
+-- monitors make of its steps
+abbrev pub IsDueAnswer : {S : Type 0} → (S → Bytes → Held) → (S → ℕ) → Run S → Type 0
+IsDueAnswer {S} held faults run =
+    (answer : Answer) → IsDue (held run.shelf) run.tallies run.words answer
+    → IsTold held faults run
+    → (given : Answer) × ((given ≡ answer) ⊎ MayStandIn (held run.shelf) run.words given)
+    × IsDelivered given run.out run.out_after run.err run.err_after run.status
+
+-- and so the status, if no fault comes of the sinks either
+abbrev pub IsDueStatus : {S : Type 0} → (S → Bytes → Held) → (S → ℕ) → Run S → Type 0
+IsDueStatus {S} held faults run =
+    (answer : Answer) → IsDue (held run.shelf) run.tallies run.words answer
+    → IsUndisturbed held faults run
+    → (run.status ≡ status_of answer) ⊎ (run.status ≡ 8)
+    ⊎ ((run.status ≡ 5) × (asked : PlanWords) × SaysPlan run.words asked
+    × MayRunOut (held run.shelf) asked)
+
+-- the shelf's count of faults is as it was unless a file can't be read, the answer can't be written
+-- or memory is wanted
+abbrev pub IsQuietShelf : {S : Type 0} → (S → ℕ) → Run S → Type 0
+IsQuietShelf {S} faults run =
+    run.status ≢ 6 → run.status ≢ 7 → run.status ≢ 8
+    → faults run.shelf_after ≡ faults run.shelf
+
+-- and those of the sinks unless the answer can't be written
+abbrev pub AreQuietSinks : {S : Type 0} → Run S → Type 0
+AreQuietSinks {S} run =
+    run.status ≢ 7
+    → (run.out_after.faults ≡ run.out.faults) × (run.err_after.faults ≡ run.err.faults)

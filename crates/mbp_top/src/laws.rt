@@ -1,0 +1,124 @@
+//! Laws on runs: what follows wherever an answer that has its cause was delivered, as `run` says it.
+
+ghost use Rattle.mbp_top.specs.Laws.{
+  AreQuietSinks,
+  ComesToListing,
+  ComesToReplay,
+  HasStatus,
+  IsAnswered,
+  IsCutOff,
+  IsDueAnswer,
+  IsDueStatus,
+  IsFullAtLimit,
+  IsListing,
+  IsNo,
+  IsQuietShelf,
+  IsReplayOf,
+  IsYes,
+  OfRuns,
+};
+ghost use Rattle.mbp_top.specs.OneReading.{OneReading};
+
+use pddl_domain::domain_or_fault;
+use pddl_problem::one_answer;
+use plan_check::{one_verdict, yes_is_solution};
+use plan_io::Shelf;
+use plan_rules::plan_or_fault;
+use sexpr_text::one_spelling;
+
+/// A text is read in one way.
+pub(crate) fn texts_are_read_one_way()
+    ensures { OneReading }
+{
+    // These do nothing: all rests on what they promise.
+    domain_or_fault();
+    one_answer();
+    one_spelling();
+    plan_or_fault();
+    one_verdict();
+}
+
+/// Each status is one of ten.
+pub fn statuses_are_ten<S: Shelf>()
+    ensures { OfRuns S.held S.faults S.fetched HasStatus }
+{}
+
+/// At each status but 7 the answer is written whole.
+pub fn answers_are_whole<S: Shelf>()
+    ensures { OfRuns S.held S.faults S.fetched (IsAnswered S.held S.faults S.fetched) }
+{}
+
+/// Status 7 comes where a sink took only a part of the answer.
+pub fn answers_are_cut<S: Shelf>()
+    ensures { OfRuns S.held S.faults S.fetched (IsCutOff S.held S.faults S.fetched) }
+{}
+
+/// Status 5 of `plan` comes where the number of nodes may be too small.
+pub fn full_tables_are_tight<S: Shelf>()
+    ensures { OfRuns S.held S.faults S.fetched (IsFullAtLimit S.held) }
+{}
+
+/// Status 0 of `ground` comes with the listing.
+pub fn listings_are_written<S: Shelf>()
+    ensures { OfRuns S.held S.faults S.fetched (IsListing S.held) }
+{}
+
+/// `ground` lists what two files spell.
+pub fn problems_are_listed<S: Shelf>()
+    ensures { OfRuns S.held S.faults S.fetched (ComesToListing S.held S.faults) }
+{
+    // This does nothing: all rests on what it promises.
+    texts_are_read_one_way();
+}
+
+/// Status 0 of `check` comes with a yes to a plan that meets the problem.
+pub fn plans_meet_at_yes<S: Shelf>()
+    ensures { OfRuns S.held S.faults S.fetched (IsYes S.held) }
+{
+    // This does nothing: all rests on what it promises.
+    yes_is_solution();
+}
+
+/// Status 1 of `check` comes with the first reason against the plan.
+pub fn reasons_come_at_no<S: Shelf>()
+    ensures { OfRuns S.held S.faults S.fetched (IsNo S.held) }
+{}
+
+/// Status 0 of `replay` comes with the trace and what monitors make of it.
+pub fn traces_are_written<S: Shelf>()
+    ensures { OfRuns S.held S.faults S.fetched (IsReplayOf S.held) }
+{}
+
+/// `replay` runs what four files spell.
+pub fn plans_are_replayed<S: Shelf>()
+    ensures { OfRuns S.held S.faults S.fetched (ComesToReplay S.held S.faults) }
+{
+    // This does nothing: all rests on what it promises.
+    texts_are_read_one_way();
+}
+
+/// The words and the files alone decide the answer.
+pub fn due_answers_come<S: Shelf>()
+    ensures { OfRuns S.held S.faults S.fetched (IsDueAnswer S.held S.faults) }
+{
+    // This does nothing: all rests on what it promises.
+    texts_are_read_one_way();
+}
+
+/// And so the status.
+pub fn due_statuses_come<S: Shelf>()
+    ensures { OfRuns S.held S.faults S.fetched (IsDueStatus S.held S.faults) }
+{
+    // This does nothing: all rests on what it promises.
+    texts_are_read_one_way();
+}
+
+/// The count of faults of the shelf rises at three statuses alone.
+pub fn shelves_stay_quiet<S: Shelf>()
+    ensures { OfRuns S.held S.faults S.fetched (IsQuietShelf S.faults) }
+{}
+
+/// Those of the sinks rise at status 7 alone.
+pub fn sinks_stay_quiet<S: Shelf>()
+    ensures { OfRuns S.held S.faults S.fetched AreQuietSinks }
+{}

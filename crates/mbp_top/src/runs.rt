@@ -1,0 +1,39 @@
+//! A run: from the words to what is written.
+
+ghost use Rattle.mbp_top.specs.Delivery.{seen};
+ghost use Rattle.run_replay.specs.TraceTexts.{tallies_of};
+ghost use Rattle.mbp_top.specs.Runs.{HasRun};
+ghost use Rattle.std.specs.Prelude.{◌≡◌, All, map, string_bytes};
+
+use crate::commands::answer;
+use crate::delivery::deliver;
+use plan_io::{Shelf, Sink};
+use run_replay::{Monitor, World};
+use std::alloc::Global;
+
+/// Does what the words say, writes the answer, and gives the exit status.
+pub(crate) fn carry_out<S: Shelf, O: Sink, E: Sink>(
+    alloc: Global,
+    words: &[String],
+    shelf: &mut S,
+    out: &mut O,
+    err: &mut E,
+    world: &mut Box<dyn World>,
+    monitors: &mut Vec<Box<dyn Monitor>>,
+) -> u8
+    requires untold { All (λ monitor. (shown monitor).counted ≡ 0) monitors.old.items }
+    ensures { HasRun S.held S.faults S.fetched (record {
+      words = map string_bytes words.now;
+      tallies = tallies_of (map (λ monitor. shown monitor) monitors.old.items);
+      shelf = shelf.old;
+      shelf_after = shelf.new;
+      out = seen (O.written out.old) (O.faults out.old);
+      out_after = seen (O.written out.new) (O.faults out.new);
+      err = seen (E.written err.old) (E.faults err.old);
+      err_after = seen (E.written err.new) (E.faults err.new);
+      status = result;
+    }) }
+{
+    let found = answer(alloc, words, shelf, world, monitors);
+    deliver(alloc, &found, out, err)
+}
