@@ -33,7 +33,8 @@ module _ (pieces : NodeTable → List Function) (inside now after : NodeTable) (
   pub grows : (r : Result Ref DdErr) → Keeps inside after → (IsErrOf r Full → IsFullFor (pieces inside) after) → Grows (pieces now) now after r
   grows r kept full = record {
     adds = subst (λ (t : NodeTable). AddsParts t.vars (pieces t) t.nodes after.nodes) is adds;
-    most = adds_at_most; full = λ is_full. full_beyond kept (full is_full);
+    most = adds_at_most;
+    full = λ is_full. full_beyond kept (full is_full);
   }
 
 -- one node more at most, for one piece

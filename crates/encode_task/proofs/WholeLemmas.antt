@@ -5,14 +5,15 @@ use Rattle.std.specs.Option.{option_map_or}
 use Rattle.std.proofs.lemmas.Bool.{and_from, le-leb}
 use Rattle.task_core.specs.Actions.{after_value}
 use Rattle.task_core.specs.Conditions.{greatest}
-use Rattle.task_core.specs.Tasks.{fluent_count, outcomes_at}
+use Rattle.task_core.specs.Tasks.{fluent_count, outcomes_at, system_of}
 use Rattle.task_core.specs.declared.actions.GroundAction.{GroundAction}
 use Rattle.task_core.specs.declared.actions.Outcome.{Outcome}
 use Rattle.task_core.specs.declared.tasks.Task.{Task}
 use Rattle.dd_sets.specs.LiveSets.{LiveSets, live_count, listed_set}
 use Rattle.dd_sets.specs.Rooms.{Tight, IsTightFor, nodes_of_slots}
 use Rattle.dd_sets.proofs.TightLemmas.{tight_more}
-use Rattle.encode_task.specs.Bounds.{most_outcomes}
+use Rattle.task_core.specs.Systems.{most_outcomes}
+use Rattle.task_core.proofs.Outcomes.{most_of_list}
 use Rattle.encode_task.specs.Made.{Holds, HoldsGoal, HoldsOutcome, MadeOf}
 use Rattle.encode_task.specs.Names.{has_outcomes_within}
 use Rattle.encode_task.specs.Slots.{Encoded, changed_slots, next_slot, outcome_slots, shared_slot}
@@ -59,8 +60,9 @@ few_outcomes : (actions : List GroundAction) (most : ℕ) → greatest (map (λ 
 few_outcomes [] most few = refl
 few_outcomes (x ∷ actions) most few = and_from (leb (length x.outcomes.items) most) (list_all (has_outcomes_within most) actions) (le-leb (length x.outcomes.items) most (omega arith)) (few_outcomes actions most (omega arith))
 
-pub outcomes_few : (task : Task) → list_all (has_outcomes_within (most_outcomes task)) task.actions.items ≡ true
-outcomes_few task = few_outcomes task.actions.items (most_outcomes task) (omega arith)
+pub outcomes_few : (task : Task) → list_all (has_outcomes_within (most_outcomes (system_of task))) task.actions.items ≡ true
+outcomes_few task =
+    few_outcomes task.actions.items (most_outcomes (system_of task)) (omega (arith, most_of_list task))
 
 -- the slots of all actions are within the bound
 pub slots_within : (actions most fluents : ℕ) → actions * (most * fluents + 1) ≤ actions * (most * (fluents + 1) + 1)

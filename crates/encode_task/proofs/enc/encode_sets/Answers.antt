@@ -2,12 +2,13 @@
 use Rattle.std.proofs.Common.{◌≡◌, ℕ, ◌+◌, ◌*◌, ◌≤◌, [], List, map, length, arith, refl, ap, subst, ◌∙◌}
 use Rattle.std.specs.List.{list_all}
 use Rattle.std.proofs.lemmas.Result.{err_from_is_err_and}
-use Rattle.task_core.specs.Tasks.{action_count, fluent_count}
+use Rattle.task_core.specs.Tasks.{action_count, fluent_count, system_of}
 use Rattle.task_core.specs.declared.actions.GroundAction.{GroundAction}
 use Rattle.dd_sets.specs.LiveSets.{live_count}
 use Rattle.dd_sets.proofs.FrameLemmas.{kept_chain}
 use Rattle.dd_sets.proofs.RoomSteps.{room_before, room_owned, room_wider}
-use Rattle.encode_task.specs.Bounds.{action_slots, most_outcomes}
+use Rattle.encode_task.specs.Bounds.{action_slots}
+use Rattle.task_core.specs.Systems.{most_outcomes}
 use Rattle.encode_task.specs.Counts.{left_in_actions}
 use Rattle.encode_task.specs.Names.{has_outcomes_within}
 use Rattle.encode_task.specs.Seen.{slots_of}
@@ -39,8 +40,8 @@ returns-in_err-actions-clause-full c full =
     let count : live_count c.initial_states.new.sets ≡ live_count c.args.sets.now + 1 = initial.count in
     let kept = kept_chain _ _ _ initial.kept c.goal_states.ensures.kept in
     let vars : c.goal_states.new.sets.vars ≡ fluent_count c.args.task.now = kept.vars ∙ c.requires in
-    let few = ap (list_all (has_outcomes_within (most_outcomes c.args.task.now))) c.deref.ensures.value ∙ outcomes_few c.args.task.now in
-    let most : ℕ = most_outcomes c.args.task.now in
+    let few = ap (list_all (has_outcomes_within (most_outcomes (system_of c.args.task.now)))) c.deref.ensures.value ∙ outcomes_few c.args.task.now in
+    let most : ℕ = most_outcomes (system_of c.args.task.now) in
     let slots : length c.deref.result.now * (most * c.goal_states.new.sets.vars + 1) ≡ action_count c.args.task.now * (most * fluent_count c.args.task.now + 1) =
     (λ i. length (c.deref.ensures.value i) * (most * vars i + 1)) in
     let within : action_count c.args.task.now * (most * fluent_count c.args.task.now + 1) ≤ action_slots c.args.task.now = slots_within (action_count c.args.task.now) most (fluent_count c.args.task.now) in
@@ -54,8 +55,8 @@ returns-in_err-shared-clause-full c full =
     let count : live_count c.initial_states.new.sets ≡ live_count c.args.sets.now + 1 = initial.count in
     let kept = kept_chain _ _ _ initial.kept c.goal_states.ensures.kept in
     let vars : c.goal_states.new.sets.vars ≡ fluent_count c.args.task.now = kept.vars ∙ c.requires in
-    let few = ap (list_all (has_outcomes_within (most_outcomes c.args.task.now))) c.deref.ensures.value ∙ outcomes_few c.args.task.now in
-    let most : ℕ = most_outcomes c.args.task.now in
+    let few = ap (list_all (has_outcomes_within (most_outcomes (system_of c.args.task.now)))) c.deref.ensures.value ∙ outcomes_few c.args.task.now in
+    let most : ℕ = most_outcomes (system_of c.args.task.now) in
     let slots : length c.deref.result.now * (most * c.goal_states.new.sets.vars + 1) ≡ action_count c.args.task.now * (most * fluent_count c.args.task.now + 1) =
     (λ i. length (c.deref.ensures.value i) * (most * vars i + 1)) in
     let within : action_count c.args.task.now * (most * fluent_count c.args.task.now + 1) ≤ action_slots c.args.task.now = slots_within (action_count c.args.task.now) most (fluent_count c.args.task.now) in
@@ -96,8 +97,8 @@ returns-clause-few c =
     let count : live_count c.initial_states.new.sets ≡ live_count c.args.sets.now + 1 = initial.count in
     let kept = kept_chain _ _ _ initial.kept c.goal_states.ensures.kept in
     let vars : c.goal_states.new.sets.vars ≡ fluent_count c.args.task.now = kept.vars ∙ c.requires in
-    let few = ap (list_all (has_outcomes_within (most_outcomes c.args.task.now))) c.deref.ensures.value ∙ outcomes_few c.args.task.now in
-    let most : ℕ = most_outcomes c.args.task.now in
+    let few = ap (list_all (has_outcomes_within (most_outcomes (system_of c.args.task.now)))) c.deref.ensures.value ∙ outcomes_few c.args.task.now in
+    let most : ℕ = most_outcomes (system_of c.args.task.now) in
     let slots : length c.deref.result.now * (most * c.goal_states.new.sets.vars + 1) ≡ action_count c.args.task.now * (most * fluent_count c.args.task.now + 1) =
     (λ i. length (c.deref.ensures.value i) * (most * vars i + 1)) in
     let within : action_count c.args.task.now * (most * fluent_count c.args.task.now + 1) ≤ action_slots c.args.task.now = slots_within (action_count c.args.task.now) most (fluent_count c.args.task.now) in
