@@ -3,19 +3,18 @@
 -- still without an action, or whose stage is still to be found, and at 4 those that are new, or of
 -- some rules.
 use Rattle.std.specs.Prelude.{◌≡◌, ℕ, suc, ◌+◌, ◌*◌, ◌<◌, ◌≤◌, false, not, ◌&&◌, ◌||◌}
-use Rattle.std.specs.Prelude.{List, [], ◌∷◌, ◌++◌, ◌-◌, drop, map, nat_le}
-use Rattle.std.specs.List.{find, flat_map, list_any, range_with_len}
+use Rattle.std.specs.Prelude.{List, [], ◌∷◌, drop, nat_le}
+use Rattle.std.specs.List.{find, list_any, range_with_len}
 use Rattle.plan_theory.specs.Chains.{Chained}
-use Rattle.plan_theory.specs.ChainPrinted.{action_towards, rules_of_next}
+use Rattle.plan_theory.specs.ChainPrinted.{action_towards}
 use Rattle.plan_theory.specs.Safe.{safe_round, safe_set, some_must_lead}
 use Rattle.plan_theory.specs.StageSets.{near as near_within, stage_action, stage_set}
 use Rattle.plan_theory.specs.Wins.{met_count, met_set, win}
-use Rattle.plan_rules.specs.Rules.{ContextRule, always}
 use Rattle.plan_theory.specs.Layers.{action_numbers, must_lead}
 use Rattle.plan_theory.specs.LayerPlans.{is_action}
-use Rattle.task_core.specs.Cubes.{Cube, SetOfVectors, cubes_of}
+use Rattle.task_core.specs.Cubes.{SetOfVectors}
 use Rattle.task_core.specs.Systems.{System}
-use Rattle.task_core.specs.Tasks.{action_count, fluent_count}
+use Rattle.task_core.specs.Tasks.{action_count}
 use Rattle.task_core.specs.declared.conditions.Cond.{Cond}
 use Rattle.ctl_syntax.specs.ChainValues.{states_of}
 use Rattle.chain_plan.specs.Scenes.{Changed, IsReady, SameStates, Scene, Start, Worked}

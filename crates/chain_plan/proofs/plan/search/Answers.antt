@@ -7,7 +7,7 @@ use Rattle.chain_plan.proofs.TakenSteps.{takers_none}
 use Rattle.chain_plan.specs.Chains.{chain_sets}
 use Rattle.chain_plan.specs.Scenes.{board_of, states_at, sys_of, win_place}
 use Rattle.slot_board.proofs.BoardSlots.{went, same_actions}
-use Rattle.std.proofs.Common.{◌≡◌, arith, length, sym, ap, suc, ◌∙◌}
+use Rattle.std.proofs.Common.{◌≡◌, arith, length, sym, ap, ◌∙◌}
 use Rattle.std.proofs.lemmas.Result.{err_from_is_err_and}
 use Rattle.std.specs.List.{list_all}
 use Rattle.std.specs.Prelude.{true}
