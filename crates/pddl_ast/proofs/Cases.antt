@@ -9,7 +9,7 @@ use Rattle.pddl_ast.specs.Words.{keyword_of}
 use Rattle.pddl_ast.specs.Known.{Known}
 use Rattle.pddl_ast.specs.Atoms.{count, terms_flaws, terms_of, atom_flaws, predicate_number}
 use Rattle.pddl_ast.specs.Trees.{FormulaTree, atom, all, any, negation, exists, forall, formula_row, EffectTree, add, both, one_of, effect_row}
-use Rattle.pddl_ast.specs.Formulas.{truth, bad_list, formulas_flaws, formulas_of, formula_flaws, formula_of, quantifier_flaws, quantified_of, first_formula, implication_of, equality_of}
+use Rattle.pddl_ast.specs.Formulas.{always, bad_list, formulas_flaws, formulas_of, formula_flaws, formula_of, quantifier_flaws, quantified_of, first_formula, implication_of, equality_of}
 use Rattle.pddl_ast.specs.Effects.{no_change, effects_flaws, effects_of, effect_flaws, effect_of, deleted_flaws, deleted_of, when_flaws, when_of, each_flaws, each_of}
 
 -- what holds of each case of a formula holds of the formula
@@ -21,7 +21,7 @@ pub formula_cases : (P : List Flaw → FormulaTree → Type 0) (known : Known) (
     → P (quantifier_flaws known parts span scope) (quantified_of known parts scope (λ types body. exists types body))
     → P (quantifier_flaws known parts span scope) (quantified_of known parts scope (λ types body. forall types body))
     → P (if count parts == 2 then terms_flaws known scope parts else bad_list span) (equality_of (terms_of known scope parts))
-    → P (bad_list span) truth
+    → P (bad_list span) always
     → P (atom_flaws known scope span head w parts) (atom (predicate_number known w) (terms_of known scope parts))
     → P (formula_flaws known (word head w parts) span scope) (formula_of known (word head w parts) scope)
 formula_cases P known span head w parts scope p_all p_any p_not p_imply p_exists p_forall p_equal p_bad p_atom =
@@ -47,9 +47,9 @@ formula_cases P known span head w parts scope p_all p_any p_not p_imply p_exists
       | Exists ↦ quantified_of known parts scope (λ types body. exists types body)
       | Forall ↦ quantified_of known parts scope (λ types body. forall types body)
       | Equals ↦ equality_of (terms_of known scope parts)
-      | When ↦ truth
-      | Oneof ↦ truth
-      | Unknown ↦ truth
+      | When ↦ always
+      | Oneof ↦ always
+      | Unknown ↦ always
       | Other ↦ atom (predicate_number known w) (terms_of known scope parts)
     ])) [
       | And ↦ p_all

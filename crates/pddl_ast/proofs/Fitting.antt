@@ -134,6 +134,9 @@ or_zero : (types : ℕ) (o : Option ℕ) → 0 < types → ((k : ℕ) → o ≡ 
 or_zero types None some h = some
 or_zero types (Some k) some h = h k refl
 
+pub type_number-below : (types : List (List ℕ)) (w : List ℕ) → 0 < length types → type_number types w < length types
+type_number-below types w some = or_zero (length types) (number_in types w) some (number-within types w)
+
 pub types-within : (types : List (List ℕ)) (gs : List Group) → 0 < length types → All (λ t. t < length types) (types_of types gs)
 types-within types [] some = All-nil (λ t. t < length types)
 types-within types (g ∷ gs) some =

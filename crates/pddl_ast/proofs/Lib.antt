@@ -8,6 +8,7 @@ pub mod Cases
 pub mod TreeOrders
 pub mod Distinct
 pub mod Fitting
+pub mod Objects
 pub mod TreeFitting
 pub mod ListFitting
 pub mod WordTexts

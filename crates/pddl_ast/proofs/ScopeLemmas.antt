@@ -1,16 +1,16 @@
 -- The table of what names mean tells what a walk through the variables in scope tells.
-use Rattle.std.proofs.Common.{◌≡◌, ℕ, ◌+◌, ◌≤◌, Bool, true, false, cond, List, [], ◌∷◌, ◌++◌, length, reverse, refl, ap, sym, subst, ◌∙◌, true≢false, Some, None, Option, is_some, if◌then◌else◌, arith}
+use Rattle.std.proofs.Common.{◌≡◌, ℕ, Bool, true, false, cond, List, [], ◌∷◌, ◌++◌, length, reverse, refl, ap, sym, subst, ◌∙◌, true≢false, Some, None, Option, is_some, if◌then◌else◌}
 use Rattle.std.specs.Option.{unwrap_or}
 use Rattle.std.specs.Map.{set_value}
 use Rattle.std.specs.Str.{bytes_eq}
 use Rattle.std.specs.declared.vec.Vec.{Vec}
 use Rattle.std.specs.declared.alloc.Global.{Global}
-use Rattle.std.proofs.lemmas.List.{reverse-append, length-append, length-map, map-append}
+use Rattle.std.proofs.lemmas.List.{reverse-append, length-map, map-append}
 use Rattle.std.proofs.lemmas.Slice.Eq.{bytes_eq-Decides}
 use Rattle.indexmap.specs.IndexMap.{insert_entry}
 use Rattle.indexmap.proofs.ReorderLemmas.{map-reverse}
 use Rattle.pddl_ast.specs.Known.{number_from_inside, variable_number}
-use Rattle.pddl_ast.specs.Scopes.{Table, entry_of, meaning, names_in, KnowHidden, Tells}
+use Rattle.pddl_ast.specs.Scopes.{Table, table_entry, meaning, names_in, KnowHidden, Tells}
 use Rattle.pddl_ast.specs.declared.scope.Variable.{Variable}
 use Rattle.pddl_ast.proofs.NameLemmas.{variable_push}
 
@@ -36,7 +36,7 @@ is_none None h = refl
 is_none (Some x) h = absurd (true≢false h)
 
 -- a written value is read again, and no other name means anything else
-pub table_set : (name changed : List ℕ) (t : Table) (w : Option ℕ) → is_some (entry_of t changed) ≡ true
+pub table_set : (name changed : List ℕ) (t : Table) (w : Option ℕ) → is_some (table_entry t changed) ≡ true
     → meaning (set_value (spelled changed) t w) name ≡ (if bytes_eq name changed then w else meaning t name)
 table_set name changed [] w room = absurd (true≢false (sym room))
 table_set name changed (e ∷ t) w room = by (table_set name changed t w) (bytes_eq changed e.0.items) refl
@@ -44,19 +44,19 @@ table_set name changed (e ∷ t) w room = by (table_set name changed t w) (bytes
     after : Table
     after = set_value (spelled changed) t w
 
-    pick : (q : Bool) → unwrap_or (cond q (Some w) (entry_of t name)) None
-        ≡ (if q then w else unwrap_or (cond q (Some e.1) (entry_of t name)) None)
+    pick : (q : Bool) → unwrap_or (cond q (Some w) (table_entry t name)) None
+        ≡ (if q then w else unwrap_or (cond q (Some e.1) (table_entry t name)) None)
     pick true = refl
     pick false = refl
 
     rest : (q : Bool) → bytes_eq name e.0.items ≡ q → bytes_eq changed e.0.items ≡ false
         → meaning after name ≡ (if bytes_eq name changed then w else meaning t name)
-        → unwrap_or (cond q (Some e.1) (entry_of after name)) None
-        ≡ (if bytes_eq name changed then w else unwrap_or (cond q (Some e.1) (entry_of t name)) None)
+        → unwrap_or (cond q (Some e.1) (table_entry after name)) None
+        ≡ (if bytes_eq name changed then w else unwrap_or (cond q (Some e.1) (table_entry t name)) None)
     rest true h differs known = sym (ap (λ r. if r then w else e.1) (other name changed e.0.items differs h))
     rest false h differs known = known
 
-    by : (is_some (entry_of t changed) ≡ true → meaning after name ≡ (if bytes_eq name changed then w else meaning t name))
+    by : (is_some (table_entry t changed) ≡ true → meaning after name ≡ (if bytes_eq name changed then w else meaning t name))
         → (p : Bool) → bytes_eq changed e.0.items ≡ p
         → meaning (set_value (spelled changed) (e ∷ t) w) name ≡ (if bytes_eq name changed then w else meaning (e ∷ t) name)
     by again true h =
@@ -66,10 +66,10 @@ table_set name changed (e ∷ t) w room = by (table_set name changed t w) (bytes
     by again false h =
         ap (λ p. meaning (cond p ((e.0, w) ∷ t) (e ∷ after)) name) h
         ∙ rest (bytes_eq name e.0.items) refl h
-        (again (sym (ap (λ p. is_some (cond p (Some e.1) (entry_of t changed))) h) ∙ room))
+        (again (sym (ap (λ p. is_some (cond p (Some e.1) (table_entry t changed))) h) ∙ room))
 
 -- a new name that means nothing changes no meaning
-pub table_grow : (name : List ℕ) (k : Vec ℕ Global) (t : Table) → entry_of t k.items ≡ None
+pub table_grow : (name : List ℕ) (k : Vec ℕ Global) (t : Table) → table_entry t k.items ≡ None
     → meaning (insert_entry (λ (x y : Vec ℕ Global). bytes_eq x.items y.items) t k None) name ≡ meaning t name
 table_grow name k [] none = pick (bytes_eq name k.items)
   where
@@ -88,18 +88,18 @@ table_grow name k (e ∷ t) none = by (table_grow name k t) (bytes_eq k.items e.
     after = insert_entry (λ (x y : Vec ℕ Global). bytes_eq x.items y.items) t k None
 
     rest : (q : Bool) → meaning after name ≡ meaning t name
-        → unwrap_or (cond q (Some e.1) (entry_of after name)) None ≡ unwrap_or (cond q (Some e.1) (entry_of t name)) None
+        → unwrap_or (cond q (Some e.1) (table_entry after name)) None ≡ unwrap_or (cond q (Some e.1) (table_entry t name)) None
     rest true known = refl
     rest false known = known
 
-    by : (entry_of t k.items ≡ None → meaning after name ≡ meaning t name)
+    by : (table_entry t k.items ≡ None → meaning after name ≡ meaning t name)
         → (p : Bool) → bytes_eq k.items e.0.items ≡ p
         → meaning (insert_entry (λ (x y : Vec ℕ Global). bytes_eq x.items y.items) (e ∷ t) k None) name ≡ meaning (e ∷ t) name
-    by again true h = absurd (some_not_none e.1 (sym (ap (λ p. cond p (Some e.1) (entry_of t k.items)) h) ∙ none))
+    by again true h = absurd (some_not_none e.1 (sym (ap (λ p. cond p (Some e.1) (table_entry t k.items)) h) ∙ none))
     by again false h =
         ap (λ p. meaning (if p then (e.0, None) ∷ t else e ∷ after) name) h
         ∙ rest (bytes_eq name e.0.items)
-        (again (sym (ap (λ p. cond p (Some e.1) (entry_of t k.items)) h) ∙ none))
+        (again (sym (ap (λ p. cond p (Some e.1) (table_entry t k.items)) h) ∙ none))
 
 -- from the inside and from the outside
 turned : (vs : List Variable) (name : List ℕ)
@@ -118,11 +118,9 @@ pushed vs v name =
 pub enter_tells : (vs : List Variable) (t roomy after : Table) (v : Variable) → Tells vs t
     → ((name : List ℕ) → meaning roomy name ≡ meaning t name)
     → v.hidden ≡ meaning roomy v.name
-    → length vs + 1 ≤ 4294967295
     → ((name : List ℕ) → meaning after name ≡ (if bytes_eq name v.name then Some (length vs) else meaning roomy name))
     → Tells (vs ++ v ∷ []) after
-enter_tells vs t roomy after v before stays hides fits sets = record {
-  within = omega (arith, length-append vs (v ∷ []));
+enter_tells vs t roomy after v before stays hides sets = record {
   hidden = subst KnowHidden (sym (reverse-append vs (v ∷ [])))
       (hides ∙ (stays v.name ∙ (before.means v.name ∙ turned vs v.name)), before.hidden);
   means = λ name. sets name
@@ -131,8 +129,8 @@ enter_tells vs t roomy after v before stays hides fits sets = record {
 }
 
 -- the innermost variable has an entry
-pub leave_room : (vs : List Variable) (v : Variable) (t : Table) → Tells (vs ++ v ∷ []) t → is_some (entry_of t v.name) ≡ true
-leave_room vs v t before = by (entry_of t v.name)
+pub leave_room : (vs : List Variable) (v : Variable) (t : Table) → Tells (vs ++ v ∷ []) t → is_some (table_entry t v.name) ≡ true
+leave_room vs v t before = by (table_entry t v.name)
     (before.means v.name ∙ (pushed vs v v.name
     ∙ ap (λ b. if b then Some (length vs) else variable_number (names_in vs) v.name) ((bytes_eq-Decides v.name v.name).1 refl)))
   where
@@ -145,7 +143,6 @@ pub leave_tells : (vs : List Variable) (v : Variable) (t after : Table) → Tell
     → ((name : List ℕ) → meaning after name ≡ (if bytes_eq name v.name then v.hidden else meaning t name))
     → Tells vs after
 leave_tells vs v t after before sets = record {
-  within = omega (arith, length-append vs (v ∷ []), before.within);
   hidden = known.1;
   means = λ name. by name (bytes_eq name v.name) refl;
 }

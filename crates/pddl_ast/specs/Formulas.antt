@@ -22,8 +22,8 @@ use Rattle.pddl_ast.specs.Trees.{FormulaTree, atom, equal, all, any, negation, i
 use Rattle.pddl_ast.specs.Trees.{forall, formula_row}
 
 -- the formula that is true of everything, `()`
-abbrev pub truth : FormulaTree
-truth = all (formula_row [])
+abbrev pub always : FormulaTree
+always = all (formula_row [])
 
 -- a list of a wrong shape
 abbrev pub bad_list : Span → List Flaw
@@ -81,12 +81,12 @@ abbrev mutual
 
 -- the first of a row of formulas
 abbrev pub first_formula : List FormulaTree → FormulaTree
-first_formula [] = truth
+first_formula [] = always
 first_formula (f ∷ fs) = f
 
 -- that one of them implies the other
 abbrev pub implication_of : List FormulaTree → FormulaTree
-implication_of [] = truth
+implication_of [] = always
 implication_of (f ∷ fs) = implication f (first_formula fs)
 
 abbrev pub first_term : List Term → Term
@@ -95,7 +95,7 @@ first_term (t ∷ ts) = t
 
 -- that two terms are equal
 abbrev pub equality_of : List Term → FormulaTree
-equality_of [] = truth
+equality_of [] = always
 equality_of (t ∷ ts) = equal t (first_term ts)
 
 abbrev mutual
@@ -108,8 +108,8 @@ abbrev mutual
 
   -- the tree of the formula that the list with these parts is
   pub formula_of : Known → Forest → List (List ℕ) → FormulaTree
-  formula_of known nothing scope = truth
-  formula_of known (group inner parts rest) scope = truth
+  formula_of known nothing scope = always
+  formula_of known (group inner parts rest) scope = always
   formula_of known (word head w parts) scope = elim (keyword_of w) [
     | And ↦ all (formula_row (formulas_of known parts scope))
     | Or ↦ any (formula_row (formulas_of known parts scope))
@@ -118,17 +118,17 @@ abbrev mutual
     | Exists ↦ quantified_of known parts scope (λ types body. exists types body)
     | Forall ↦ quantified_of known parts scope (λ types body. forall types body)
     | Equals ↦ equality_of (terms_of known scope parts)
-    | When ↦ truth
-    | Oneof ↦ truth
-    | Unknown ↦ truth
+    | When ↦ always
+    | Oneof ↦ always
+    | Unknown ↦ always
     | Other ↦ atom (predicate_number known w) (terms_of known scope parts)
   ]
 
   -- the tree of a quantifier with these parts after its head
   pub quantified_of : Known → Forest → List (List ℕ) → (List ℕ → FormulaTree → FormulaTree)
       → FormulaTree
-  quantified_of known nothing scope quantifier = truth
-  quantified_of known (word inner w rest) scope quantifier = truth
+  quantified_of known nothing scope quantifier = always
+  quantified_of known (word inner w rest) scope quantifier = always
   quantified_of known (group inner variables rest) scope quantifier =
       quantifier (variable_types known variables)
       (first_formula (formulas_of known rest (inner_scope scope variables)))

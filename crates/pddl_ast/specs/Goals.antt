@@ -17,7 +17,7 @@ use Rattle.pddl_ast.specs.declared.goal_words.GoalWord.TheVariants.{Imply, Quant
 use Rattle.pddl_ast.specs.GoalWords.{goal_word, is_operator}
 use Rattle.pddl_ast.specs.Known.{Known}
 use Rattle.pddl_ast.specs.Atoms.{count}
-use Rattle.pddl_ast.specs.Formulas.{truth, bad_list, formula_flaws, formula_of}
+use Rattle.pddl_ast.specs.Formulas.{always, bad_list, formula_flaws, formula_of}
 use Rattle.pddl_ast.specs.Trees.{TemporalTree, state_formula, goal_negation, all_goals, any_goal}
 use Rattle.pddl_ast.specs.Trees.{goal_implication, unary, binary, temporal_row}
 
@@ -84,11 +84,11 @@ plain_of known parts = state_formula (formula_of known parts [])
 
 -- the first and the second of a row of goals
 abbrev pub first_temporal : List TemporalTree → TemporalTree
-first_temporal [] = state_formula truth
+first_temporal [] = state_formula always
 first_temporal (g ∷ gs) = g
 
 abbrev pub second_temporal : List TemporalTree → TemporalTree
-second_temporal [] = state_formula truth
+second_temporal [] = state_formula always
 second_temporal (g ∷ gs) = first_temporal gs
 
 abbrev mutual

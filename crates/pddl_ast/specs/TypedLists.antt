@@ -15,6 +15,7 @@ use Rattle.sexpr_text.specs.Flaws.{Flaw, flaw_at}
 use Rattle.pddl_ast.specs.Words.{is_variable, is_dash}
 use Rattle.sexpr_text.specs.Parts.{is_name}
 use Rattle.pddl_ast.specs.Known.{number_in}
+use Rattle.pddl_ast.specs.declared.trees.Named.{Named}
 use Rattle.pddl_ast.specs.declared.typed_lists.Declares.{Declares}
 use Rattle.pddl_ast.specs.declared.typed_lists.Declares.TheVariants.{Types, Objects, Variables}
 use Rattle.pddl_ast.specs.declared.typed_lists.Declares.TheVariants.{PredicateVariables}
@@ -143,6 +144,16 @@ type_number types w = unwrap_or (number_in types w) 0
 abbrev pub types_of : List (List ℕ) → List Group → List ℕ
 types_of types [] = []
 types_of types (g ∷ gs) = map (λ name. type_number types g.type_word) g.names ++ types_of types gs
+
+-- a constant or an object with this type and this name
+abbrev pub of_type : ℕ → List ℕ → Named
+of_type type_id name = record { name = name; type_id = type_id }
+
+-- the constants or the objects that groups declare, in order
+abbrev pub objects_of : List (List ℕ) → List Group → List Named
+objects_of types [] = []
+objects_of types (g ∷ gs) =
+    map (of_type (type_number types g.type_word)) g.names ++ objects_of types gs
 
 -- the names that are declared after these, where those came before
 abbrev pub all_seen : Declares → List (List ℕ) → List (List ℕ) → List (List ℕ)

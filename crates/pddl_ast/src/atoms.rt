@@ -11,7 +11,7 @@ ghost use Rattle.pddl_ast.specs.Values.{atom_value};
 use crate::keywords::{is_left_out, is_variable};
 use crate::known::Known;
 use crate::scope::Scope;
-use crate::trees::{GroundAtom, Term};
+use crate::trees::{GroundAtom, Objects, PredicateId, Term, Terms};
 use sexpr_text::{FaultKind, Form, ReadErr, Span, Text, View, fault_at};
 use std::alloc::{AllocError, Global};
 
@@ -40,7 +40,7 @@ pub fn read_terms(
     known: &Known,
     scope: &Scope,
     row: &[Form],
-) -> Result<Vec<Term>, ReadErr>
+) -> Result<Terms, ReadErr>
     ensures sound { IfOk result (λ terms.
         atoms.terms_flaws (known_value known.now) scope.now (forest_of row.now) ≡ []) }
     ensures read { IfOk result (λ terms.
@@ -49,7 +49,7 @@ pub fn read_terms(
         first_listed (atoms.terms_flaws (known_value known.now) scope.now (forest_of row.now))
         ≡ Some fault)) }
 {
-    let mut terms = Vec::new(alloc);
+    let mut terms = Terms::new(alloc);
     for form in row {
         match form.view() {
             View::Group(span, _) => return Err(fault_at(span, FaultKind::BadForm)),
@@ -63,7 +63,7 @@ pub fn read_terms(
 }
 
 /// The numbers of the constants and objects of a row.
-fn read_objects(alloc: Global, known: &Known, row: &[Form]) -> Result<Vec<u32>, ReadErr>
+fn read_objects(alloc: Global, known: &Known, row: &[Form]) -> Result<Objects, ReadErr>
     ensures sound { IfOk result (λ objects.
         atoms.objects_flaws (known_value known.now) (forest_of row.now) ≡ []) }
     ensures read { IfOk result (λ objects.
@@ -73,7 +73,7 @@ fn read_objects(alloc: Global, known: &Known, row: &[Form]) -> Result<Vec<u32>, 
         first_listed (atoms.objects_flaws (known_value known.now) (forest_of row.now))
         ≡ Some fault)) }
 {
-    let mut objects = Vec::new(alloc);
+    let mut objects = Objects::new(alloc);
     for form in row {
         match form.view() {
             View::Group(span, _) => return Err(fault_at(span, FaultKind::BadForm)),
@@ -106,7 +106,7 @@ fn read_head(
     head: Span,
     word: &Text,
     terms: usize,
-) -> Result<u32, ReadErr>
+) -> Result<PredicateId, ReadErr>
     ensures sound { IfOk result (λ number.
         atoms.head_flaws (known_value known.now) span head word.now terms ≡ []) }
     ensures read { IfOk result (λ number.
@@ -118,8 +118,8 @@ fn read_head(
     let Some(number) = known.predicates.number_of(word) else {
         return Err(fault_at(head, head_fault(alloc, word)?));
     };
-    let arity = known.arities.get(number as usize).copied().unwrap_or(0);
-    if terms == arity as usize {
+    let arity = known.arities.get(number).copied().unwrap_or(0);
+    if terms == arity {
         Ok(number)
     } else {
         Err(fault_at(span, FaultKind::WrongArity))
@@ -136,7 +136,7 @@ pub fn read_atom(
     head: Span,
     word: &Text,
     terms: &[Form],
-) -> Result<(u32, Vec<Term>), ReadErr>
+) -> Result<(PredicateId, Terms), ReadErr>
     ensures sound { IfOk result (λ atom.
         atoms.atom_flaws (known_value known.now) scope.now span head word.now (forest_of terms.now)
         ≡ []) }

@@ -15,14 +15,14 @@ use crate::keywords::{Keyword, keyword_of};
 use crate::known::Known;
 use crate::names::NameTable;
 use crate::scope::Scope;
-use crate::trees::{Formula, Term};
+use crate::trees::{Formula, Term, Terms, TypeId};
 use crate::typed_lists::{Declares, TypedGroup, read_typed_list, types_of};
 use sexpr_text::{FaultKind, Form, Head, ReadErr, Span, Text, View, fault_at, head_of};
 use std::alloc::{AllocError, Global};
 
 /// The formula that is true of everything, `()`.
-pub fn truth(alloc: Global) -> Formula
-    ensures { formula_value result ≡ formula.truth }
+pub fn always(alloc: Global) -> Formula
+    ensures { formula_value result ≡ formula.always }
 {
     Formula::All(Vec::new(alloc))
 }
@@ -31,7 +31,7 @@ pub fn truth(alloc: Global) -> Formula
 fn first_formula(alloc: Global, formulas: Vec<Formula>) -> Formula
     ensures { formula_value result ≡ formula.first_formula (map formula_value formulas.items) }
 {
-    formulas.into_iter().next().unwrap_or(truth(alloc))
+    formulas.into_iter().next().unwrap_or(always(alloc))
 }
 
 /// That the first of some formulas implies the second.
@@ -41,20 +41,20 @@ fn implication_of(alloc: Global, formulas: Vec<Formula>) -> Result<Formula, Allo
 {
     let mut formulas = formulas.into_iter();
     let Some(left) = formulas.next() else {
-        return Ok(truth(alloc));
+        return Ok(always(alloc));
     };
-    let right = formulas.next().unwrap_or(truth(alloc));
+    let right = formulas.next().unwrap_or(always(alloc));
     Ok(Formula::Imply(Box::new(alloc, left)?, Box::new(alloc, right)?))
 }
 
 /// That the first of some terms equals the second.
-fn equality_of(alloc: Global, terms: Vec<Term>) -> Formula
+fn equality_of(alloc: Global, terms: Terms) -> Formula
     ensures { formula_value result ≡ formula.equality_of terms.items }
 {
     let mut terms = terms.into_iter();
     match terms.next() {
         Some(left) => Formula::Equal(left, terms.next().unwrap_or(Term::Object(0))),
-        None => truth(alloc),
+        None => always(alloc),
     }
 }
 
@@ -88,7 +88,7 @@ pub fn read_variables(
     known: &Known,
     scope: &mut Scope,
     list: &[Form],
-) -> Result<Vec<u32>, ReadErr>
+) -> Result<Vec<TypeId>, ReadErr>
     ensures sound { OnOk result (formula.variables_flaws (known_value known.now)
         (forest_of list.now) ≡ []) }
     ensures read { IfOk result (λ types.
@@ -144,7 +144,7 @@ fn read_quantifier(
     scope: &mut Scope,
     span: Span,
     rest: &[Form],
-) -> Result<(Vec<u32>, Formula), ReadErr>
+) -> Result<(Vec<TypeId>, Formula), ReadErr>
     ensures scope { OnOk result (scope.new ≡ scope.old) }
     ensures sound { OnOk result (formula.quantifier_flaws (known_value known.now)
         (forest_of rest.now) span scope.old ≡ []) }
@@ -195,7 +195,7 @@ pub fn read_formula(
         (forest_of parts.now) span scope.old) ≡ Some fault)) }
 {
     let (head, word, rest) = match head_of(parts) {
-        Head::Nothing => return Ok(truth(alloc)),
+        Head::Nothing => return Ok(always(alloc)),
         Head::Group(_, _, _) => return Err(fault_at(span, FaultKind::BadForm)),
         Head::Word(head, word, rest) => (head, word, rest),
     };

@@ -11,7 +11,7 @@ ghost use Rattle.pddl_ast.specs.Goals as goals;
 ghost use Rattle.pddl_ast.specs.Values.{temporal_value};
 
 use crate::atoms::count;
-use crate::formulas::{read_formula, truth};
+use crate::formulas::{always, read_formula};
 use crate::goal_words::{GoalWord, goal_word, is_operator};
 use crate::known::Known;
 use crate::scope::Scope;
@@ -76,7 +76,7 @@ fn first_temporal(alloc: Global, parts: Vec<Temporal>) -> Temporal
     parts
         .into_iter()
         .next()
-        .unwrap_or(Temporal::Plain(truth(alloc)))
+        .unwrap_or(Temporal::Plain(always(alloc)))
 }
 
 /// The first and the second of some goals.
@@ -88,9 +88,12 @@ fn first_two(alloc: Global, parts: Vec<Temporal>) -> (Temporal, Temporal)
 {
     let mut parts = parts.into_iter();
     let Some(first) = parts.next() else {
-        return (Temporal::Plain(truth(alloc)), Temporal::Plain(truth(alloc)));
+        return (
+            Temporal::Plain(always(alloc)),
+            Temporal::Plain(always(alloc)),
+        );
     };
-    let second = parts.next().unwrap_or(Temporal::Plain(truth(alloc)));
+    let second = parts.next().unwrap_or(Temporal::Plain(always(alloc)));
     (first, second)
 }
 

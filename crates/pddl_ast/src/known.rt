@@ -16,7 +16,7 @@ use std::alloc::{AllocError, Global};
 pub struct Known {
     pub types: NameTable,
     pub predicates: NameTable,
-    pub arities: Vec<u32>,
+    pub arities: Vec<usize>,
     pub objects: NameTable,
 }
 
@@ -75,7 +75,7 @@ fn table_of_objects(alloc: Global, objects: &[Named]) -> Result<NameTable, Alloc
 }
 
 /// How many terms each predicate takes.
-pub fn arities_of(alloc: Global, predicates: &[Predicate]) -> Result<Vec<u32>, AllocError>
+pub fn arities_of(alloc: Global, predicates: &[Predicate]) -> Result<Vec<usize>, AllocError>
     ensures { IfOk result (λ arities.
         arities.items ≡ map (λ predicate. predicate.arity) predicates.now) }
 {

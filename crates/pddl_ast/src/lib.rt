@@ -27,7 +27,7 @@ mod typed_lists;
 pub use atoms::{read_atom, read_ground_atom, read_terms};
 pub use definitions::{no_define, title_of};
 pub use effects::{no_change, read_effect};
-pub use formulas::{enter_groups, read_formula, read_variables, truth};
+pub use formulas::{always, enter_groups, read_formula, read_variables};
 pub use goal_words::{GoalWord, goal_word, is_operator};
 pub use goals::read_temporal;
 pub use keywords::{Keyword, is_dash, is_left_out, is_reserved, is_variable, keyword_of, spells};
@@ -40,7 +40,7 @@ pub use laws::{
 pub use names::NameTable;
 pub use scope::Scope;
 pub use trees::{
-    BinaryOperator, Domain, Effect, Formula, GroundAtom, InitialLiteral, Named, ObjectId,
-    Predicate, PredicateId, Problem, Schema, Temporal, Term, TypeId, UnaryOperator,
+    BinaryOperator, Domain, Effect, Formula, GroundAtom, InitialLiteral, Named, ObjectId, Objects,
+    Predicate, PredicateId, Problem, Schema, Temporal, Term, Terms, TypeId, UnaryOperator,
 };
-pub use typed_lists::{Declares, TypedGroup, read_typed_list, types_of};
+pub use typed_lists::{Declares, TypedGroup, objects_of, read_typed_list, types_of};

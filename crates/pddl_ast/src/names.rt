@@ -10,10 +10,6 @@ use sexpr_text::Text;
 use std::alloc::{AllocError, Global};
 use std::marker::Model;
 
-/// How many names a table may have: the numbers have 32 bits. One more is refused as want of memory
-/// is; the longest text has fewer.
-const MAX_NAMES: usize = 4_294_967_295;
-
 /// Different names in the order in which they were added, which gives them their numbers from 0 on.
 /// A clause sees the list of the names. A look-up takes one step, whatever the number of names.
 #[derive(Drop)]
@@ -22,13 +18,11 @@ pub struct NameTable {
 }
 
 impl Model for NameTable {
-    ghost use Rattle.std.specs.Prelude.{ℕ, ◌≤◌, List, map, length};
+    ghost use Rattle.std.specs.Prelude.{ℕ, List, map};
 
     ghost Value = { List (List ℕ) };
 
     ghost view = { λ t. map (λ name. name.items) t.names.keys };
-
-    ghost invariant = { λ t. length t.names.keys ≤ 4294967295 };
 }
 
 impl NameTable {
@@ -49,13 +43,10 @@ impl NameTable {
     }
 
     /// The number of a name, where it is in the table.
-    pub fn number_of(&self, name: &Text) -> Option<u32>
+    pub fn number_of(&self, name: &Text) -> Option<usize>
         ensures { result ≡ number_in self.now name.now }
     {
-        match self.names.get_index_of(name.as_bytes()) {
-            Some(number) => Some(number as u32),
-            None => None,
-        }
+        self.names.get_index_of(name.as_bytes())
     }
 
     /// Whether the name is in the table.
@@ -73,9 +64,6 @@ impl NameTable {
             ≡ (if list_any (bytes_eq name.now) self.old then self.old
             else self.old ++ name.now ∷ [])) }
     {
-        if self.names.len() == MAX_NAMES {
-            return Err(AllocError);
-        }
         let bytes = Vec::from_slice(alloc, name.as_bytes())?;
         let (_, is_new) = self.names.insert_full(bytes)?;
         Ok(is_new)

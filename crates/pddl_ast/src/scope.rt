@@ -5,22 +5,18 @@ ghost use Rattle.std.specs.Prelude.{length, take, OnOk, if◌then◌else◌};
 ghost use Rattle.std.specs.Option.{is_some};
 ghost use Rattle.std.specs.Str.{bytes_eq};
 ghost use Rattle.pddl_ast.specs.Known.{variable_number};
-ghost use Rattle.pddl_ast.specs.Scopes.{entry_of, meaning};
+ghost use Rattle.pddl_ast.specs.Scopes.{table_entry, meaning};
 
 use indexmap::IndexMap;
 use sexpr_text::Text;
 use std::alloc::{AllocError, Global};
 use std::marker::Model;
 
-/// How many variables may be in scope: the numbers have 32 bits. One more is refused as want of
-/// memory is; the longest text has fewer.
-const MAX_VARIABLES: usize = 4_294_967_295;
-
 /// For each name that has been in scope, the number of the variable that it means, where it means
 /// one. A look-up takes one step, whatever the number of names.
 #[derive(Drop)]
 struct Meanings {
-    numbers: IndexMap<Vec<u8>, Option<u32>>,
+    numbers: IndexMap<Vec<u8>, Option<usize>>,
 }
 
 impl Meanings {
@@ -34,7 +30,7 @@ impl Meanings {
     }
 
     /// The number of the variable that the name means.
-    fn number_of(&self, name: &Text) -> Option<u32>
+    fn number_of(&self, name: &Text) -> Option<usize>
         ensures { result ≡ meaning self.now.numbers.entries name.now }
     {
         match self.numbers.get(name.as_bytes()) {
@@ -47,7 +43,7 @@ impl Meanings {
     fn make_room(&mut self, alloc: Global, name: &Text) -> Result<(), AllocError>
         ensures same { (any : List ℕ) → meaning self.new.numbers.entries any
             ≡ meaning self.old.numbers.entries any }
-        ensures room { OnOk result (is_some (entry_of self.new.numbers.entries name.now) ≡ true) }
+        ensures room { OnOk result (is_some (table_entry self.new.numbers.entries name.now) ≡ true) }
     {
         if self.numbers.contains_key(name.as_bytes()) {
             return Ok(());
@@ -58,8 +54,8 @@ impl Meanings {
     }
 
     /// Lets the name mean the variable with this number, or none.
-    fn set(&mut self, name: &Text, number: Option<u32>)
-        requires room { is_some (entry_of self.old.numbers.entries name.now) ≡ true }
+    fn set(&mut self, name: &Text, number: Option<usize>)
+        requires room { is_some (table_entry self.old.numbers.entries name.now) ≡ true }
         ensures { (any : List ℕ) → meaning self.new.numbers.entries any
             ≡ (if bytes_eq any name.now then number else meaning self.old.numbers.entries any) }
     {
@@ -73,7 +69,7 @@ impl Meanings {
 #[derive(Drop)]
 struct Variable {
     name: Text,
-    hidden: Option<u32>,
+    hidden: Option<usize>,
 }
 
 /// The variables in scope. A clause sees the list of their names, the outermost first. A later one
@@ -115,7 +111,7 @@ impl Scope {
     }
 
     /// The number of the variable that the name means: the innermost of that name.
-    pub fn number_of(&self, name: &Text) -> Option<u32>
+    pub fn number_of(&self, name: &Text) -> Option<usize>
         ensures { result ≡ variable_number self.now name.now }
     {
         self.meanings.number_of(name)
@@ -126,14 +122,11 @@ impl Scope {
         ensures { OnOk result (self.new ≡ self.old ++ name ∷ []) }
     {
         let number = self.variables.len();
-        if number == MAX_VARIABLES {
-            return Err(AllocError);
-        }
         self.meanings.make_room(alloc, &name)?;
         let hidden = self.meanings.number_of(&name);
         self.variables.push(Variable { name, hidden })?;
         let inner = &self.variables[number].name;
-        self.meanings.set(inner, Some(number as u32));
+        self.meanings.set(inner, Some(number));
         Ok(())
     }
 

@@ -1,31 +1,45 @@
 //! Domains and problems as trees.
 
 use sexpr_text::{Place, Text};
+use smallvec::SmallVec;
 
 /// The number of a type. Type 0 is `object`.
-pub type TypeId = u32;
+pub type TypeId = usize;
 
 /// The number of a predicate, in the order in which they are declared.
-pub type PredicateId = u32;
+pub type PredicateId = usize;
 
 /// The number of an object: the domain's constants come first, then the problem's objects.
-pub type ObjectId = u32;
+pub type ObjectId = usize;
 
 /// What stands for an object in an atom.
-#[derive(Debug, Drop)]
+#[derive(Clone, Copy, Debug)]
 pub enum Term {
     /// The variable with this number among those in scope, counted from 0 with the outermost first.
     /// One that is hidden by another of its name keeps its number.
-    Variable(u32),
+    Variable(usize),
     /// The constant or object with this number.
     Object(ObjectId),
 }
+
+impl Default for Term {
+    /// The first object. It stands in the unused places of a short list alone.
+    fn default() -> Term {
+        Term::Object(0)
+    }
+}
+
+/// The terms of an atom. Up to three need no allocation.
+pub type Terms = SmallVec<Term, 3>;
+
+/// The objects of an atom or of an action. Up to four need no allocation.
+pub type Objects = SmallVec<ObjectId, 4>;
 
 /// A condition.
 #[derive(Debug, Drop)]
 pub enum Formula {
     /// The predicate holds of the terms.
-    Atom(PredicateId, Vec<Term>),
+    Atom(PredicateId, Terms),
     /// Both terms are the same object.
     Equal(Term, Term),
     /// Each of them holds: true where there are none, which is how `()` is read.
@@ -45,9 +59,9 @@ pub enum Formula {
 #[derive(Debug, Drop)]
 pub enum Effect {
     /// Makes the atom true.
-    Add(PredicateId, Vec<Term>),
+    Add(PredicateId, Terms),
     /// Makes the atom false, unless it is made true at the same time.
-    Delete(PredicateId, Vec<Term>),
+    Delete(PredicateId, Terms),
     /// Each of them: nothing where there are none, which is how `()` is read.
     Both(Vec<Effect>),
     /// One of them, and nobody chooses which. There is at least one.
@@ -108,7 +122,7 @@ pub struct Named {
 #[derive(Debug, Drop)]
 pub struct Predicate {
     pub name: Text,
-    pub arity: u32,
+    pub arity: usize,
 }
 
 /// An action with parameters: its name, the types of its parameters, when it can be executed, and
@@ -137,7 +151,7 @@ pub struct Domain {
 #[derive(Debug, Drop)]
 pub struct GroundAtom {
     pub predicate: PredicateId,
-    pub objects: Vec<ObjectId>,
+    pub objects: Objects,
 }
 
 /// An atom that holds (positive), or one that doesn't.

@@ -12,6 +12,7 @@ ghost use Rattle.pddl_ast.specs.TypedLists as lists;
 
 use crate::keywords::{is_dash, is_variable, spells};
 use crate::names::NameTable;
+use crate::trees::{Named, TypeId};
 use sexpr_text::{FaultKind, Form, Head, ReadErr, Span, Text, View, fault_at, head_of, is_name};
 use std::alloc::{AllocError, Global};
 use std::mem;
@@ -381,7 +382,7 @@ pub fn read_typed_list(
 }
 
 /// Adds the number once for each name.
-fn push_each(numbers: &mut Vec<u32>, number: u32, names: &[Text]) -> Result<(), AllocError>
+fn push_each(numbers: &mut Vec<TypeId>, number: TypeId, names: &[Text]) -> Result<(), AllocError>
     ensures { OnOk result (numbers.new.items
         ≡ numbers.old.items ++ map (λ name. number) names.now) }
 {
@@ -397,7 +398,7 @@ pub fn types_of(
     alloc: Global,
     types: &NameTable,
     groups: &[TypedGroup],
-) -> Result<Vec<u32>, AllocError>
+) -> Result<Vec<TypeId>, AllocError>
     ensures { IfOk result (λ numbers.
         numbers.items ≡ lists.types_of types.now (map group_value groups.now)) }
 {
@@ -407,4 +408,37 @@ pub fn types_of(
         push_each(&mut numbers, number, &group.names)?;
     }
     Ok(numbers)
+}
+
+/// Adds the names of a group, which have this type.
+fn push_objects(
+    objects: &mut Vec<Named>,
+    names: Vec<Text>,
+    type_id: TypeId,
+) -> Result<(), AllocError>
+    ensures { OnOk result
+        (objects.new.items ≡ objects.old.items ++ map (lists.of_type type_id) names.items) }
+{
+    for name in names {
+        objects.push(Named { name, type_id })?;
+    }
+    Ok(())
+}
+
+/// The constants or the objects that the groups declare, in order. A type word that is unknown
+/// counts as `object`.
+pub fn objects_of(
+    alloc: Global,
+    types: &NameTable,
+    groups: Vec<TypedGroup>,
+) -> Result<Vec<Named>, AllocError>
+    ensures { IfOk result
+        (λ objects. objects.items ≡ lists.objects_of types.now (map group_value groups.items)) }
+{
+    let mut objects = Vec::new(alloc);
+    for group in groups {
+        let type_id = types.number_of(&group.type_word).unwrap_or(0);
+        push_objects(&mut objects, group.names, type_id)?;
+    }
+    Ok(objects)
 }

@@ -1,11 +1,12 @@
 -- Ancestors many steps up.
-use Rattle.std.proofs.Common.{◌≡◌, ℕ, zero, suc, ◌+◌, ◌*◌, ◌<◌, ◌≤◌, ◌-◌, suc-mul, mul-suc, ◌||◌, ◌⊎◌, inl, inr, replicate, refl, sym, ◌∙◌, ap, arith, Bool, true, false, List, [], ◌∷◌, map, length, get_or, take, All, ◌==◌, add-suc, add-zero, zero-mul}
+use Rattle.std.proofs.Common.{◌≡◌, ℕ, zero, suc, ◌+◌, ◌*◌, ◌<◌, ◌≤◌, ◌-◌, suc-mul, mul-suc, ◌||◌, ◌⊎◌, inl, inr, replicate, refl, sym, ◌∙◌, ap, arith, Bool, true, false, List, [], ◌∷◌, map, length, get_or, take, All, ◌==◌, zero-mul}
 use Rattle.std.specs.List.{list_any, range_with_len}
 use Rattle.std.proofs.Math.ListN.{set}
 use Rattle.std.proofs.lemmas.List.{get_or-map, length-map, length-set, same_lists, get_or-set_other}
 use Rattle.std.proofs.lemmas.List.FromFn.{length-map-range_with_len, get_or-map-range_with_len, length-range_with_len, get_or-range_with_len}
 use Rattle.std.proofs.lemmas.List.Folds.{list_any_at, list_any_more, Any-from_list_any}
-use Rattle.pddl_domain.specs.Ancestors.{ancestor, is_own_ancestor, ancestors, which_of}
+use Rattle.pddl_ast.specs.Fits.{ancestor}
+use Rattle.pddl_domain.specs.Ancestors.{is_own_ancestor, ancestors, which_of}
 use Rattle.std.proofs.lemmas.Grind.{get_or-set_at}
 use Rattle.std.proofs.lemmas.Simd.{splat_is_map}
 use Rattle.std.proofs.lemmas.Bool.Decides.{nat_tests}
@@ -21,12 +22,12 @@ map_range_agree f g a (suc n) same =
 
 -- so many steps, and then so many more
 pub ancestor_add : (ps : List ℕ) (m n t : ℕ) → ancestor ps m (ancestor ps n t) ≡ ancestor ps (n + m) t
-ancestor_add ps zero n t = rw add-zero refl
-ancestor_add ps (suc m) n t = rw add-suc (ap (λ s. get_or ps s 0) (ancestor_add ps m n t))
+ancestor_add ps m zero t = ap (λ k. ancestor ps k t) (let e : m ≡ 0 + m = omega arith in e)
+ancestor_add ps m (suc n) t = ancestor_add ps m n (get_or ps t 0) ∙ ap (λ k. ancestor ps k t) (let e : suc (n + m) ≡ suc n + m = omega arith in e)
 
 pub ancestor_below : (ps : List ℕ) → All (λ t. t < length ps) ps → (n t : ℕ) → t < length ps → ancestor ps n t < length ps
 ancestor_below ps within zero t h = h
-ancestor_below ps within (suc n) t h = within (ancestor ps n t) 0 (ancestor_below ps within n t h)
+ancestor_below ps within (suc n) t h = ancestor_below ps within n (get_or ps t 0) (within t 0 h)
 
 pub get_or-ancestors : (ps : List ℕ) (n t d : ℕ) → t < length ps → get_or (ancestors ps n) t d ≡ ancestor ps n t
 get_or-ancestors ps n t d h = get_or-map-range_with_len (ancestor ps n) 0 (length ps) t t d h (omega arith)

@@ -14,7 +14,7 @@ use Rattle.sexpr_text.proofs.PassLaws.{answered, not_both, one_fault_by}
 use Rattle.pddl_ast.specs.declared.trees.Domain.{Domain}
 use Rattle.pddl_ast.specs.Trees.{DomainTree}
 use Rattle.pddl_ast.specs.Values.{domain_value}
-use Rattle.pddl_domain.specs.Domains.{domain_passes, domain_tree, SpellsDomain, HasDomainFault}
+use Rattle.pddl_domain.specs.Domains.{domain_passes, domain_tree, ReadsAsDomain, IsFlawlessDomain, SpellsDomain, HasDomainFault}
 use Rattle.pddl_domain.specs.Reading.{domain_flaws, tree_of}
 use Rattle.pddl_domain.specs.Sections.{defined_name, sections_of}
 use Rattle.pddl_domain.proofs.PassLemmas.{fault_in_turn, domain_in_turn, tree_is}
@@ -23,18 +23,24 @@ use Rattle.pddl_domain.proofs.Orders.{Laws, domain-ordered}
 
 pub spelled_or_faulty : (b : List ℕ) → ((d : DomainTree) × SpellsDomain b d) ⊎ ((f : InputFault) × HasDomainFault b f)
 spelled_or_faulty b = elim (answered domain_passes b) [
-  | inl h ↦ inl (domain_tree h.0, (h.0, h.1.spelled, h.1.sound, refl))
+  | inl h ↦ inl (domain_tree h.0, record { reads = (h.0, h.1.spelled, refl); flawless = (h.0, h.1.spelled, h.1.sound) })
   | inr h ↦ inr h
 ]
 
 pub one_domain : (b : List ℕ) (d e : DomainTree) → SpellsDomain b d → SpellsDomain b e → d ≡ e
-one_domain b d e (trees, s, h, x) (others, t, k, y) = sym x ∙ (ap domain_tree (spells_trees-unique b trees others s t) ∙ y)
+one_domain b d e h k = same h.reads k.reads
+  where
+    same : ReadsAsDomain b d → ReadsAsDomain b e → d ≡ e
+    same (trees, s, x) (others, t, y) = sym x ∙ (ap domain_tree (spells_trees-unique b trees others s t) ∙ y)
 
 pub one_fault : (b : List ℕ) (f g : InputFault) → HasDomainFault b f → HasDomainFault b g → f ≡ g
 one_fault b f g = one_fault_by domain_passes b f g
 
 pub never_both : (b : List ℕ) (d : DomainTree) (f : InputFault) → SpellsDomain b d → HasDomainFault b f → ⊥
-never_both b d f (trees, s, h, e) g = not_both domain_passes b trees f (record { spelled = s; sound = h }) g
+never_both b d f h g = by h.flawless
+  where
+    by : IsFlawlessDomain b → ⊥
+    by (trees, s, none) = not_both domain_passes b trees f (record { spelled = s; sound = none }) g
 
 -- the fault of the passes is the first flaw that the reader meets
 met : Laws → (forms : Forest) (size : ℕ) → IsRising 0 size forms → fault_of_passes (domain_passes forms) ≡ first_listed (domain_flaws forms)
@@ -46,7 +52,10 @@ pub read_spelled : Laws → (b : List ℕ) (forms : Forest) (size : ℕ) → Spe
     → OnOk r (domain_flaws forms ≡ []) → IfOk r (λ d. domain_value d ≡ tree_of (defined_name forms) (sections_of forms))
     → IfOk r (λ d. SpellsDomain b (domain_value d))
 read_spelled laws b forms size spelled rising (Ok d) sound read =
-    (forms, spelled, met laws forms size rising ∙ ap first_listed sound, sym (read ∙ tree_is forms))
+    record {
+      reads = (forms, spelled, sym (read ∙ tree_is forms));
+      flawless = (forms, spelled, met laws forms size rising ∙ ap first_listed sound);
+    }
 read_spelled laws b forms size spelled rising (Err e) sound read = tt
 
 faulty : Laws → (b : List ℕ) (forms : Forest) (size : ℕ) → SpellsTrees b forms → IsRising 0 size forms → (e : ReadErr)

@@ -149,7 +149,7 @@ chosen n false action h = tt
 nest-action_in : (n : ℕ) (parts : Forest) → nesting_of parts ≤ n → ActionNests n (act.action_in parts)
 nest-action_in n nothing h = tt
 nest-action_in n (group s p rest) h = tt
-nest-action_in n (word s w rest) h = chosen n (act.is_action (section_kind w)) rest h
+nest-action_in n (word s w rest) h = chosen n (act.is_action_section (section_kind w)) rest h
 
 pub record SectionFits (known : Known) (before : List (List ℕ)) (o : Option Forest) : Type 0 where
   pub schemas : All (FitsSchema known) (act.section_schemas known o)

@@ -25,10 +25,10 @@ use Rattle.pddl_ast.specs.Fits.{AreDistinct}
 use Rattle.pddl_ast.specs.TypedLists.{Group, names_of, type_number, typed_groups, names_flaws, type_flaws, name_flaws, word_flaws, dash_flaws, seen_after, groups_after, typed_after, last_group, all_seen}
 use Rattle.pddl_ast.proofs.Distinct.{none_before}
 use Rattle.pddl_ast.proofs.Fitting.{no_first, no_second, where_false}
-use Rattle.pddl_ast.specs.Fits as fit
-use Rattle.pddl_domain.specs.Ancestors.{ancestor, is_own_ancestor}
+use Rattle.pddl_ast.specs.Fits.{ancestor}
+use Rattle.pddl_domain.specs.Ancestors.{is_own_ancestor}
 use Rattle.pddl_domain.specs.Types as specs
-use Rattle.pddl_domain.proofs.AncestorLemmas.{ancestor_add, on_loop_from_far}
+use Rattle.pddl_domain.proofs.AncestorLemmas.{on_loop_from_far}
 use Rattle.pddl_domain.proofs.TypeLemmas.{parents_are_types}
 use Rattle.pddl_domain.proofs.FitTypes.{left-length, seen-length, left_table, types-differ, one_parent}
 
@@ -126,13 +126,7 @@ number-at names i h lt =
 
 ancestor-zero : (ps : List ℕ) → get_or ps 0 0 ≡ 0 → (k : ℕ) → ancestor ps k 0 ≡ 0
 ancestor-zero ps h zero = refl
-ancestor-zero ps h (suc k) = ap (λ t. get_or ps t 0) (ancestor-zero ps h k) ∙ h
-
--- the same steps, the first before the others
-pub ancestor-first : (ps : List ℕ) (k t : ℕ) → fit.ancestor ps k t ≡ ancestor ps k t
-ancestor-first ps zero t = refl
-ancestor-first ps (suc k) t =
-    ancestor-first ps k (get_or ps t 0) ∙ (ancestor_add ps k 1 t ∙ ap (λ m. ancestor ps m t) (let e : 1 + k ≡ suc k = omega arith in e))
+ancestor-zero ps h (suc k) = ap (ancestor ps k) h ∙ ancestor-zero ps h k
 
 zeros : (m k : ℕ) → get_or {A = ℕ} (replicate m 0) k 0 ≡ 0
 zeros zero k = refl
@@ -191,17 +185,15 @@ module _ (groups : List Group) (differ : AreDistinct (all_seen Types (names_of g
         let back : ancestor P (suc m) (suc i) ≡ suc i = grind (arith, nat_tests) in
         let up : get_or P (suc i) 0 ≡ 0 = past (suc i) (omega arith) in
         let zero_up : ancestor P m (get_or P (suc i) 0) ≡ 0 = ap (ancestor P m) up ∙ ancestor-zero P parents_begin m in
-        let turned : ancestor P m (get_or P (suc i) 0) ≡ ancestor P (suc m) (suc i) =
-        ancestor_add P m 1 (suc i) ∙ ap (λ k. ancestor P k (suc i)) (let e : 1 + m ≡ suc m = omega arith in e) in
-        sym back ∙ (sym turned ∙ zero_up))
+        sym back ∙ zero_up)
   ]
 
   -- every chain comes to `object`
   pub rooted : All (NoLoop (specs.type_names groups) (specs.type_parents groups)) (names_of groups) → (t : ℕ) → t < length (specs.type_names groups)
-      → fit.ancestor (specs.type_parents groups) (length (specs.type_names groups)) t ≡ 0
+      → ancestor (specs.type_parents groups) (length (specs.type_names groups)) t ≡ 0
   rooted h t lt =
       let P = specs.type_parents groups in
       let e = one_parent groups differ in
       let top = ancestor P (length P) t in
       let own : is_own_ancestor P top ≡ true = on_loop_from_far P (parents_are_types groups) (length P) t top (omega arith) (omega (arith, e)) refl in
-      ancestor-first P (length (specs.type_names groups)) t ∙ (ap (λ n. ancestor P n t) (sym e) ∙ own_zero h top own)
+      ap (λ n. ancestor P n t) (sym e) ∙ own_zero h top own

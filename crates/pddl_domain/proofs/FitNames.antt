@@ -89,44 +89,6 @@ name-fits forms =
     named (definition forms)
     (found-fits (codes "domain") (first_group_with (is_definition (codes "domain")) forms) (first-passes (is_definition (codes "domain")) forms))
 
--- the constants
-pub names-named : (type_id : ℕ) (names : List (List ℕ)) → map (λ (n : Named). n.name) (map (specs.named type_id) names) ≡ names
-names-named type_id [] = refl
-names-named type_id (n ∷ names) = ap (λ ns. n ∷ ns) (names-named type_id names)
-
-pub names-named_of : (ts : List (List ℕ)) (groups : List Group) → map (λ (n : Named). n.name) (specs.named_of ts groups) ≡ names_of groups
-names-named_of ts [] = refl
-names-named_of ts (g ∷ gs) =
-    map-append (λ (n : Named). n.name) (map (specs.named (type_number ts g.type_word)) g.names) (specs.named_of ts gs)
-    ∙ (ap (λ ns. ns ++ map (λ (n : Named). n.name) (specs.named_of ts gs)) (names-named (type_number ts g.type_word) g.names)
-    ∙ ap (λ ns. g.names ++ ns) (names-named_of ts gs))
-
-abbrev pub ObjectFits : ℕ → Named → Type 0
-ObjectFits types n = (is_name n.name ≡ true) × (n.type_id < types)
-
-abbrev pub IsNamed : List ℕ → Type 0
-IsNamed w = is_name w ≡ true
-
-group-fits : (types t : ℕ) (names : List (List ℕ)) → t < types → All IsNamed names → All (ObjectFits types) (map (specs.named t) names)
-group-fits types t [] lt h = All-nil (ObjectFits types)
-group-fits types t (n ∷ names) lt h =
-    All-cons (ObjectFits types) (specs.named t n) (map (specs.named t) names) (h 0 n (omega arith), lt) (group-fits types t names lt (λ k d below. h (suc k) d (omega arith)))
-
-front : (xs ys : List (List ℕ)) → All IsNamed (xs ++ ys) → All IsNamed xs
-front [] ys h = All-nil IsNamed
-front (x ∷ xs) ys h = All-cons IsNamed x xs (h 0 x (omega arith)) (front xs ys (λ k d lt. h (suc k) d (omega arith)))
-
-back : (xs ys : List (List ℕ)) → All IsNamed (xs ++ ys) → All IsNamed ys
-back [] ys h = h
-back (x ∷ xs) ys h = back xs ys (λ k d lt. h (suc k) d (omega arith))
-
-pub constants-fit : (ts : List (List ℕ)) (groups : List Group) → 0 < length ts → All IsNamed (names_of groups) → All (ObjectFits (length ts)) (specs.named_of ts groups)
-constants-fit ts [] some h = All-nil (ObjectFits (length ts))
-constants-fit ts (g ∷ gs) some h =
-    All-append (ObjectFits (length ts)) (map (specs.named (type_number ts g.type_word)) g.names) (specs.named_of ts gs)
-    (group-fits (length ts) (type_number ts g.type_word) g.names (type_number_below ts g.type_word some) (front g.names (names_of gs) h))
-    (constants-fit ts gs some (back g.names (names_of gs) h))
-
 -- the predicates
 abbrev pub PredicateFits : Predicate → Type 0
 PredicateFits p = (is_name p.name ≡ true) × (is_reserved p.name ≡ false)

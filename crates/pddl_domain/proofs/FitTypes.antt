@@ -17,7 +17,8 @@ use Rattle.pddl_ast.specs.Fits.{AreDistinct}
 use Rattle.pddl_ast.specs.TypedLists.{Group, names_of, type_number, typed_groups, names_flaws, type_flaws, name_flaws, word_flaws, dash_flaws, begins_type, seen_after, groups_after, typed_after, last_group, all_seen}
 use Rattle.pddl_ast.proofs.Distinct.{or-first, or-both, other_way}
 use Rattle.pddl_ast.proofs.Fitting.{no_first, no_second}
-use Rattle.pddl_domain.specs.Ancestors.{ancestor, is_own_ancestor}
+use Rattle.pddl_ast.specs.Fits.{ancestor}
+use Rattle.pddl_domain.specs.Ancestors.{is_own_ancestor}
 use Rattle.pddl_domain.specs.Types as specs
 use Rattle.pddl_domain.proofs.TypeLemmas.{length-with_zeros, some_type}
 

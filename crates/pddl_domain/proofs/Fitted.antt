@@ -19,6 +19,7 @@ use Rattle.pddl_ast.specs.Fits.{AreDistinct, FitsDomain, FitsSchema, IsKnown, kn
 use Rattle.pddl_ast.specs.Values.{domain_value}
 use Rattle.pddl_ast.specs.TypedLists.{names_of, typed_groups, typed_list_flaws, all_seen, is_wanted}
 use Rattle.pddl_ast.proofs.Fitting.{no_first, no_second}
+use Rattle.pddl_ast.proofs.Objects.{names-objects, objects-fit}
 use Rattle.pddl_domain.specs.Sections.{defined_name, sections_of, definition_flaws, sections_flaws, none_came}
 use Rattle.pddl_domain.specs.Types.{type_names, type_parents, types_flaws, loop_flaws}
 use Rattle.pddl_domain.specs.Constants.{constants_flaws, constants_of, predicates_flaws, predicates_of}
@@ -31,7 +32,7 @@ use Rattle.pddl_domain.proofs.TypeLemmas.{some_type, parents_below}
 use Rattle.pddl_domain.proofs.PassLemmas.{actions_in_turn, tree_is}
 use Rattle.pddl_domain.proofs.FitTypes.{types-differ, types-no_dash, group-words, one_parent, NoDash}
 use Rattle.pddl_domain.proofs.FitLoops.{rooted, names-unlooped, NoLoop}
-use Rattle.pddl_domain.proofs.FitNames.{name-fits, names-named_of, constants-fit, predicates-fit, predicates-differ}
+use Rattle.pddl_domain.proofs.FitNames.{name-fits, predicates-fit, predicates-differ}
 use Rattle.pddl_domain.proofs.FitActions.{TreeLaws, ActionsFit, actions-fit, nest-sections_of}
 
 -- what is known of typed lists without flaws
@@ -77,7 +78,7 @@ known-is forms =
     let sections = sections_of forms in
     let constants = constants_of (types_in sections) (constants_section sections) in
     ap (λ (objects : List (List ℕ)). record (known_of sections) { objects = objects })
-    (ap names_of_objects (append-nil constants) ∙ names-named_of (types_in sections) (typed_groups (constants_section sections)))
+    (ap names_of_objects (append-nil constants) ∙ names-objects (types_in sections) (typed_groups (constants_section sections)))
 
 left_of : (a b : Bool) → (a && b) ≡ true → a ≡ true
 left_of true b h = refl
@@ -118,9 +119,9 @@ fits lists trees forms nest none =
       one_parent = one_parent groups differ;
       parents = parents_below groups;
       rooted = rooted groups differ unlooped;
-      constants = constants-fit (types_in sections) (typed_groups (constants_section sections)) (some_type groups)
+      constants = objects-fit (types_in sections) (typed_groups (constants_section sections)) (some_type groups)
           (lists.wanted Objects (types_in sections) [] (constants_section sections) tt clean.constants);
-      constants_differ = subst AreDistinct (sym (names-named_of (types_in sections) (typed_groups (constants_section sections)))) objects_differ;
+      constants_differ = subst AreDistinct (sym (names-objects (types_in sections) (typed_groups (constants_section sections)))) objects_differ;
       predicate_names = predicates-fit (predicates_section sections) (types_in sections) [] clean.predicates;
       predicates_differ = predicates-differ (predicates_section sections) (types_in sections) [] clean.predicates tt;
       actions = subst (λ (k : Known). All (FitsSchema k) (schemas_of known sections)) (sym (known-is forms)) actions.schemas;

@@ -4,25 +4,10 @@ use Rattle.std.proofs.lemmas.List.{map-append, append-nil}
 use Rattle.sexpr_text.specs.declared.forms.Span.{Span}
 use Rattle.sexpr_text.specs.declared.forms.Form.{Form}
 use Rattle.sexpr_text.specs.Forest.{Forest, group, form_then, forest_of}
-use Rattle.pddl_ast.specs.declared.typed_lists.TypedGroup.{TypedGroup}
 use Rattle.pddl_ast.specs.declared.trees.Predicate.{Predicate}
-use Rattle.pddl_ast.specs.Environment.{group_value}
-use Rattle.pddl_ast.specs.TypedLists.{Group, type_number, all_seen}
+use Rattle.pddl_ast.specs.TypedLists.{all_seen}
 use Rattle.pddl_ast.specs.declared.typed_lists.Declares.TheVariants.{Objects}
 use Rattle.pddl_domain.specs.Constants as specs
-
-named_of-append : (types : List (List ℕ)) (gs hs : List Group) → specs.named_of types (gs ++ hs) ≡ specs.named_of types gs ++ specs.named_of types hs
-named_of-append types [] hs = refl
-named_of-append types (g ∷ gs) hs =
-    ap (λ xs. map (specs.named (type_number types g.type_word)) g.names ++ xs) (named_of-append types gs hs)
-    ∙ sym (append_assoc (map (specs.named (type_number types g.type_word)) g.names) (specs.named_of types gs) (specs.named_of types hs))
-
-pub named_of-push : (types : List (List ℕ)) (gs : List TypedGroup) (g : TypedGroup)
-    → specs.named_of types (map group_value (gs ++ g ∷ [])) ≡ specs.named_of types (map group_value gs) ++ map (specs.named (type_number types g.type_word)) g.names.items
-named_of-push types gs g =
-    ap (specs.named_of types) (map-append group_value gs (g ∷ []))
-    ∙ (named_of-append types (map group_value gs) (group_value g ∷ [])
-    ∙ ap (λ xs. specs.named_of types (map group_value gs) ++ xs) (append-nil (map (specs.named (type_number types g.type_word)) g.names.items)))
 
 -- a row from a group on
 pub next_group : (forms : List Form) (k : ℕ) (f : Form) (span : Span) (parts : List Form) → k < length forms → f ≡ get_or forms k f

@@ -10,7 +10,7 @@ use Rattle.pddl_domain.specs.declared.actions.Key.{Key}
 use Rattle.pddl_domain.specs.declared.actions.Key.TheVariants.{Parameters, Precondition, Effect, Other}
 use Rattle.pddl_ast.specs.Definitions.{title_of}
 use Rattle.pddl_domain.specs.Sections.{name_and_sections, definition, sections_of, section_named, section_kind}
-use Rattle.pddl_domain.specs.Actions.{Parts, no_parts, key_of, with_part, parts_after, parts_of, action_in, is_action}
+use Rattle.pddl_domain.specs.Actions.{Parts, no_parts, key_of, with_part, parts_after, parts_of, action_in, is_action_section}
 
 -- spans that rise from some offset to some offset
 pub record Risen (forms : Forest) : Type 0 where
@@ -118,4 +118,4 @@ chosen false action h = tt
 pub risen-action_in : (parts : Forest) → Risen parts → ActionRisen (action_in parts)
 risen-action_in nothing h = tt
 risen-action_in (group s p rest) h = tt
-risen-action_in (word s w rest) h = chosen (is_action (section_kind w)) rest (record { lo = s.end; hi = h.hi; rising = h.rising.4 })
+risen-action_in (word s w rest) h = chosen (is_action_section (section_kind w)) rest (record { lo = s.end; hi = h.hi; rising = h.rising.4 })

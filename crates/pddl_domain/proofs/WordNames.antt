@@ -26,7 +26,7 @@ use Rattle.pddl_domain.specs.Reading.{domain_flaws, tree_of}
 use Rattle.pddl_ast.specs.Definitions.{title_of}
 use Rattle.pddl_domain.specs.Sections.{definition, name_and_sections, defined_name, section_kind, section_named, sections_of}
 use Rattle.pddl_domain.specs.WordNames.{HasWordNames}
-use Rattle.pddl_domain.proofs.FitNames.{names-named_of}
+use Rattle.pddl_ast.proofs.Objects.{names-objects}
 use Rattle.pddl_domain.proofs.Fitted.{flawless}
 use Rattle.pddl_domain.proofs.PassLemmas.{actions_in_turn, in_turn-append, tree_is}
 
@@ -72,7 +72,7 @@ each_name (n ∷ ns) h = All-cons ConstantIsWord n ns (h 0 n.name (omega arith))
 
 words-constants : (types : List (List ℕ)) (list : Forest) → HasWordTexts list → All ConstantIsWord (specs.constants_of types list)
 words-constants types list h =
-    each_name (specs.constants_of types list) (subst (All IsWordText) (sym (names-named_of types (typed_groups list))) (typed_list-words list h))
+    each_name (specs.constants_of types list) (subst (All IsWordText) (sym (names-objects types (typed_groups list))) (typed_list-words list h))
 
 -- the predicates
 abbrev PredicateIsWord : Predicate → Type 0
@@ -104,7 +104,7 @@ chosen false action h = tt
 words-action_in : (parts : Forest) → HasWordTexts parts → ActionHasWords (act.action_in parts)
 words-action_in nothing h = tt
 words-action_in (group s p rest) h = tt
-words-action_in (word s w rest) h = chosen (act.is_action (section_kind w)) rest h.1
+words-action_in (word s w rest) h = chosen (act.is_action_section (section_kind w)) rest h.1
 
 name-word : (before : List (List ℕ)) (span : Span) (action : Forest) → act.shape_flaws before span action ≡ [] → HasWordTexts action → IsWordText (act.first_text action)
 name-word before span nothing none h = absurd (cc)

@@ -160,15 +160,16 @@ schema_of known action =
       effect = first_effect (effects_of known parts.effect (parameter_scope parts.parameters));
     }
 
--- what follows the word `:action`, where a section with these parts begins with it
-abbrev pub is_action : Section → Bool
-is_action Action = true
-is_action _ = false
+-- whether a section is an action
+abbrev pub is_action_section : Section → Bool
+is_action_section Action = true
+is_action_section _ = false
 
+-- what follows the word `:action`, where a section with these parts begins with it
 abbrev pub action_in : Forest → Option Forest
 action_in nothing = None
 action_in (group s p rest) = None
-action_in (word s w rest) = if is_action (section_kind w) then Some rest else None
+action_in (word s w rest) = if is_action_section (section_kind w) then Some rest else None
 
 -- the passes over a section with this span, where it is an action; the names of the actions after
 -- it; and the action that it is

@@ -1,6 +1,6 @@
 -- The sixth and the seventh pass over a domain's text: its constants, and its predicates.
 use Rattle.std.specs.Prelude.{ℕ, ◌+◌, Bool, true, false, not, if◌then◌else◌, List, [], ◌∷◌, ◌++◌}
-use Rattle.std.specs.Prelude.{length, map}
+use Rattle.std.specs.Prelude.{length}
 use Rattle.std.specs.List.{list_any}
 use Rattle.std.specs.Str.{bytes_eq}
 use Rattle.sexpr_text.specs.declared.forms.Span.{Span}
@@ -13,24 +13,15 @@ use Rattle.pddl_ast.specs.declared.trees.Named.{Named}
 use Rattle.pddl_ast.specs.declared.trees.Predicate.{Predicate}
 use Rattle.pddl_ast.specs.declared.typed_lists.Declares.TheVariants.{Objects, PredicateVariables}
 use Rattle.pddl_ast.specs.Words.{is_reserved}
-use Rattle.pddl_ast.specs.TypedLists.{Group, typed_list_flaws, typed_groups, names_of, type_number}
+use Rattle.pddl_ast.specs.TypedLists.{typed_list_flaws, typed_groups, names_of, objects_of}
 
 -- what is wrong in the `:constants` section, as a typed list over these types
 abbrev pub constants_flaws : List (List ℕ) → Forest → List Flaw
 constants_flaws types list = typed_list_flaws Objects types [] list
 
--- a name of this type
-abbrev pub named : ℕ → List ℕ → Named
-named type_id name = record { name = name; type_id = type_id }
-
--- the names of the groups, each with the number of its type
-abbrev pub named_of : List (List ℕ) → List Group → List Named
-named_of types [] = []
-named_of types (g ∷ gs) = map (named (type_number types g.type_word)) g.names ++ named_of types gs
-
 -- the constants
 abbrev pub constants_of : List (List ℕ) → Forest → List Named
-constants_of types list = named_of types (typed_groups list)
+constants_of types list = objects_of types (typed_groups list)
 
 -- what is wrong with a predicate's name, where these were declared before
 abbrev pub predicate_name_flaws : List (List ℕ) → Span → List ℕ → List Flaw

@@ -2,11 +2,12 @@
 --
 -- Each pass lists everything that is wrong in the text by its rules. The fault of the text is the
 -- first flaw of the first pass that has one; a text without flaws spells its tree.
-use Rattle.std.specs.Prelude.{ℕ, List, [], ◌∷◌, ◌++◌, map, codes}
+use Rattle.std.specs.Prelude.{◌≡◌, ℕ, List, [], ◌∷◌, ◌++◌, None, map, codes}
 use Rattle.sexpr_text.specs.declared.faults.InputFault.{InputFault}
 use Rattle.sexpr_text.specs.Forest.{Forest}
-use Rattle.sexpr_text.specs.Flaws.{Flaw}
-use Rattle.sexpr_text.specs.Passes.{SpellsBy, HasFaultBy}
+use Rattle.sexpr_text.specs.Spelling.{SpellsTrees}
+use Rattle.sexpr_text.specs.Flaws.{Flaw, fault_of_passes}
+use Rattle.sexpr_text.specs.Passes.{HasFaultBy}
 use Rattle.pddl_ast.specs.declared.trees.Predicate.{Predicate}
 use Rattle.pddl_ast.specs.Known.{Known}
 use Rattle.pddl_ast.specs.Trees.{DomainTree}
@@ -55,7 +56,7 @@ section_passes sections =
 abbrev pub domain_passes : Forest → List (List Flaw)
 domain_passes forms = definition_flaws forms ∷ section_passes (sections_of forms)
 
--- the tree of the forms of a text without flaws
+-- the tree that the forms of a text read as. Where nothing is wrong in them, it is what they mean
 abbrev pub domain_tree : Forest → DomainTree
 domain_tree forms =
     let sections = sections_of forms in
@@ -68,9 +69,20 @@ domain_tree forms =
       actions = schemas_of (known_of sections) sections;
     }
 
--- the bytes spell this domain
-abbrev pub SpellsDomain : List ℕ → DomainTree → Type 0
-SpellsDomain bytes tree = SpellsBy domain_passes domain_tree bytes tree
+-- the bytes spell forms that read as this domain
+abbrev pub ReadsAsDomain : List ℕ → DomainTree → Type 0
+ReadsAsDomain bytes tree =
+    (forms : Forest) × SpellsTrees bytes forms × (domain_tree forms ≡ tree)
+
+-- the bytes spell forms in which no pass lists a flaw
+abbrev pub IsFlawlessDomain : List ℕ → Type 0
+IsFlawlessDomain bytes =
+    (forms : Forest) × SpellsTrees bytes forms × (fault_of_passes (domain_passes forms) ≡ None)
+
+-- the bytes spell this domain: they read as it, and nothing is wrong in them
+pub record SpellsDomain (bytes : List ℕ) (tree : DomainTree) : Type 0 where
+  pub reads : ReadsAsDomain bytes tree
+  pub flawless : IsFlawlessDomain bytes
 
 -- this is the fault of the bytes as a domain
 abbrev pub HasDomainFault : List ℕ → InputFault → Type 0

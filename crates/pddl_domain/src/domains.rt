@@ -22,8 +22,8 @@ use crate::schemas::read_actions;
 use crate::sections::{check_sections, read_definition, section_named};
 use crate::types::{Types, check_loops, read_types};
 use pddl_ast::{
-    Domain, Known, NameTable, Named, Predicate, effects_fit, effects_in_order, formulas_fit,
-    formulas_in_order, typed_lists_fit, typed_lists_in_order,
+    Domain, Known, NameTable, Named, Predicate, TypeId, effects_fit, effects_in_order,
+    formulas_fit, formulas_in_order, typed_lists_fit, typed_lists_in_order,
 };
 use sexpr_text::{Form, MAX_BYTES, ReadErr, Text, read_forms};
 use std::alloc::Global;
@@ -33,7 +33,7 @@ use std::alloc::Global;
 pub struct Vocabulary {
     known: Known,
     type_names: Vec<Text>,
-    parents: Vec<u32>,
+    parents: Vec<TypeId>,
     constants: Vec<Named>,
     predicates: Vec<Predicate>,
 }

@@ -10,7 +10,7 @@ ghost use Rattle.pddl_ast.specs.TypedLists.{names_of, typed_groups};
 ghost use Rattle.pddl_domain.specs.Constants as specs;
 
 use pddl_ast::{
-    Declares, NameTable, Predicate, TypedGroup, arities_of, is_reserved, read_typed_list,
+    Declares, NameTable, Predicate, arities_of, is_reserved, read_typed_list, types_fit, types_of,
 };
 use sexpr_text::{FaultKind, Form, Head, ReadErr, Span, Text, View, fault_at, head_of, is_name};
 use std::alloc::Global;
@@ -20,23 +20,7 @@ use std::alloc::Global;
 pub struct Predicates {
     pub list: Vec<Predicate>,
     pub names: NameTable,
-    pub arities: Vec<u32>,
-}
-
-/// How many names the groups have. One more than a number of 32 bits can say is refused as want of
-/// memory is; the longest text has fewer.
-fn count_names(groups: &[TypedGroup]) -> Result<u32, ReadErr>
-    ensures counted { IfOk result (λ n. n ≡ length (names_of (map group_value groups.now))) }
-    ensures memory { IfErr result (λ e. e ≡ ReadErr.Memory) }
-{
-    let mut count: usize = 0;
-    for group in groups {
-        if group.names.len() > u32::MAX as usize - count {
-            return Err(ReadErr::Memory);
-        }
-        count += group.names.len();
-    }
-    Ok(count as u32)
+    pub arities: Vec<usize>,
 }
 
 /// Declares a predicate, where its name is no reserved word and none of the earlier ones.
@@ -58,7 +42,7 @@ fn add_name(alloc: Global, names: &mut NameTable, span: Span, name: &Text) -> Re
 }
 
 /// The number of variables of a predicate.
-fn read_arity(alloc: Global, types: &NameTable, variables: &[Form]) -> Result<u32, ReadErr>
+fn read_arity(alloc: Global, types: &NameTable, variables: &[Form]) -> Result<usize, ReadErr>
     ensures sound { OnOk result (specs.variables_flaws types.now (forest_of variables.now) ≡ []) }
     ensures read { IfOk result
         (λ n. n ≡ length (names_of (typed_groups (forest_of variables.now)))) }
@@ -74,7 +58,8 @@ fn read_arity(alloc: Global, types: &NameTable, variables: &[Form]) -> Result<u3
         &mut seen,
         variables,
     )?;
-    count_names(&groups)
+    types_fit();
+    Ok(types_of(alloc, types, &groups)?.len())
 }
 
 /// The predicate that the list with this span and these parts declares.

@@ -18,8 +18,8 @@ ghost use Rattle.pddl_domain.specs.Constants.{with_first_word};
 use crate::actions::{ActionParts, read_parts};
 use crate::sections::{Section, section_kind};
 use pddl_ast::{
-    Effect, Formula, Known, NameTable, Schema, Scope, no_change, read_effect, read_formula,
-    read_variables, truth,
+    Effect, Formula, Known, NameTable, Schema, Scope, TypeId, always, no_change, read_effect,
+    read_formula, read_variables,
 };
 use sexpr_text::{FaultKind, Form, Head, ReadErr, Span, Text, View, fault_at, head_of, is_name};
 use std::alloc::Global;
@@ -74,7 +74,7 @@ fn read_parameters(
     known: &Known,
     scope: &mut Scope,
     form: Option<View<'_>>,
-) -> Result<Vec<u32>, ReadErr>
+) -> Result<Vec<TypeId>, ReadErr>
     requires { scope.old ≡ [] }
     ensures sound { OnOk result
         (specs.parameters_flaws (known_value known.now) (row_of form.entry) ≡ []) }
@@ -110,7 +110,7 @@ fn read_precondition(
         (formulas_flaws (known_value known.now) (row_of form.entry) scope.old) ≡ Some f)) }
 {
     match form {
-        None => Ok(truth(alloc)),
+        None => Ok(always(alloc)),
         Some(View::Word(span, _)) => Err(fault_at(span, FaultKind::BadForm)),
         Some(View::Group(span, parts)) => read_formula(alloc, known, scope, span, parts),
     }
@@ -173,7 +173,7 @@ fn read_body(
     alloc: Global,
     known: &Known,
     parts: &ActionParts<'_>,
-) -> Result<(Vec<u32>, Formula, Effect), ReadErr>
+) -> Result<(Vec<TypeId>, Formula, Effect), ReadErr>
     ensures sound { OnOk result
         (in_turn (specs.body_passes (known_value known.now) (parts_value parts.now)) ≡ []) }
     ensures parameters { IfOk result

@@ -20,7 +20,7 @@ fn show_term(term: &Term, out: &mut String) -> Result<(), AllocError> {
 }
 
 // As `0 ?1 #2`, without the parentheses.
-fn show_atom(predicate: u32, terms: &[Term], out: &mut String) -> Result<(), AllocError> {
+fn show_atom(predicate: usize, terms: &[Term], out: &mut String) -> Result<(), AllocError> {
     write!(out, "{predicate}")?;
     for term in terms {
         show_term(term, out)?;
@@ -28,7 +28,7 @@ fn show_atom(predicate: u32, terms: &[Term], out: &mut String) -> Result<(), All
     Ok(())
 }
 
-fn show_types(types: &[u32], out: &mut String) -> Result<(), AllocError> {
+fn show_types(types: &[usize], out: &mut String) -> Result<(), AllocError> {
     out.push_str("(")?;
     for number in types {
         write!(out, " {number}")?;

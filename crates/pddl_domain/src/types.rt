@@ -12,7 +12,7 @@ ghost use Rattle.pddl_domain.specs.Ancestors.{is_own_ancestor};
 ghost use Rattle.pddl_domain.specs.Types as specs;
 
 use crate::loops::types_on_loops;
-use pddl_ast::{Declares, NameTable, TypedGroup, is_dash, read_typed_list};
+use pddl_ast::{Declares, NameTable, TypeId, TypedGroup, is_dash, read_typed_list};
 use sexpr_text::{FaultKind, Form, ReadErr, Span, Text, View, fault_at};
 use std::alloc::{AllocError, Global};
 
@@ -21,7 +21,7 @@ use std::alloc::{AllocError, Global};
 pub struct Types {
     pub names: NameTable,
     pub texts: Vec<Text>,
-    pub parents: Vec<u32>,
+    pub parents: Vec<TypeId>,
 }
 
 /// Whether the word is `object`.
@@ -129,7 +129,11 @@ fn name_types(alloc: Global, groups: &[TypedGroup]) -> Result<TypeNames, AllocEr
 }
 
 /// Adds the number once for each of the names but `object`.
-fn push_for_each(parents: &mut Vec<u32>, names: &[Text], number: u32) -> Result<(), AllocError>
+fn push_for_each(
+    parents: &mut Vec<TypeId>,
+    names: &[Text],
+    number: TypeId,
+) -> Result<(), AllocError>
     ensures { OnOk result
         (parents.new.items ≡ parents.old.items
         ++ map (λ name. number) (filter (λ name. not (specs.is_object name)) names.now)) }
@@ -143,7 +147,7 @@ fn push_for_each(parents: &mut Vec<u32>, names: &[Text], number: u32) -> Result<
 }
 
 /// The number of a type; 0 where there is none of the name.
-pub fn type_number(names: &NameTable, word: &Text) -> u32
+pub fn type_number(names: &NameTable, word: &Text) -> TypeId
     ensures { result ≡ number_of_type names.now word.now }
 {
     names.number_of(word).unwrap_or(0)
@@ -151,7 +155,7 @@ pub fn type_number(names: &NameTable, word: &Text) -> u32
 
 /// Adds the number of the parent of each name of the groups but `object`.
 fn push_parents(
-    parents: &mut Vec<u32>,
+    parents: &mut Vec<TypeId>,
     names: &NameTable,
     groups: &[TypedGroup],
 ) -> Result<(), AllocError>
@@ -167,7 +171,7 @@ fn push_parents(
 }
 
 /// Adds zeros up to so many numbers in all.
-fn push_zeros(numbers: &mut Vec<u32>, count: usize) -> Result<(), AllocError>
+fn push_zeros(numbers: &mut Vec<TypeId>, count: usize) -> Result<(), AllocError>
     ensures { OnOk result (numbers.new.items ≡ specs.with_zeros count numbers.old.items) }
 {
     if numbers.len() < count {
@@ -181,7 +185,7 @@ fn find_parents(
     alloc: Global,
     names: &NameTable,
     groups: &[TypedGroup],
-) -> Result<Vec<u32>, AllocError>
+) -> Result<Vec<TypeId>, AllocError>
     requires { names.now ≡ specs.type_names (map group_value groups.now) }
     ensures { IfOk result
         (λ parents. parents.items ≡ specs.type_parents (map group_value groups.now)) }
@@ -225,7 +229,7 @@ fn is_looping(types: &Types, on_loops: &[bool], name: &Text) -> bool
         (range_with_len 0 (length types.now.parents.items)) }
     ensures { result ≡ specs.is_looping types.now.names types.now.parents.items name.now }
 {
-    !is_object(name) && on_loops[type_number(&types.names, name) as usize]
+    !is_object(name) && on_loops[type_number(&types.names, name)]
 }
 
 /// The flaw of a word of the `:types` section that is a name on the left and its own ancestor.

@@ -21,16 +21,17 @@ use Rattle.pddl_ast.specs.Depth.{formula_depth, temporal_depth}
 use Rattle.pddl_ast.specs.Fits.{AreDistinct, AreObjects, FitsDomain, FitsEntry, FitsFormula, FitsGroundAtom, FitsLiterals, FitsProblem, FitsTemporal, IsKnown, deepest, known_in, known_with, names_of_objects}
 use Rattle.pddl_ast.specs.Known.{Known}
 use Rattle.pddl_ast.specs.Trees.{AtomTree, LiteralTree, DomainTree}
-use Rattle.pddl_ast.specs.TypedLists.{is_wanted, names_of, typed_groups, typed_list_flaws, types_of}
+use Rattle.pddl_ast.specs.TypedLists.{is_wanted, names_of, objects_of, typed_groups, typed_list_flaws}
 use Rattle.pddl_ast.specs.Words.{keyword_of}
-use Rattle.pddl_ast.proofs.Fitting.{no_first, no_second, ground_atom-fits, types-within, types-length, where_false}
+use Rattle.pddl_ast.proofs.Fitting.{no_first, no_second, ground_atom-fits, where_false}
+use Rattle.pddl_ast.proofs.Objects.{names-objects, objects-fit}
 use Rattle.pddl_ast.proofs.ListFitting.{names-fine, objects-seen}
 use Rattle.pddl_ast.proofs.TreeFitting.{formula-fits}
 use Rattle.pddl_ast.proofs.GoalFitting.{temporal-fits}
 use Rattle.pddl_problem.specs.Init.{AtomForm, atom_under, form_atom, form_flaws, under_atom, bad_form, left_out, positive, negative, part_flaws_by, part_flaws, part_literal_by, part_literal, alternative_flaws_by, alternative_flaws, alternative_by, alternative, entry_flaws_by, entry_flaws, facts_by, uncertain_by, entry_facts, entry_uncertain, either_way, each_entry, init_flaws, init_facts, init_entries}
 use Rattle.pddl_problem.specs.Listed.{listed_fault}
 use Rattle.pddl_ast.specs.Definitions.{title_of}
-use Rattle.pddl_problem.specs.Problems.{Definition, definition_in, defined, named, objects_of, object_list, with_objects, goal_flaws, goal_of, ctl_flaws, ctl_of, body_passes, definition_passes, problem_of, domain_flaws, missing_flaws}
+use Rattle.pddl_problem.specs.Problems.{Definition, definition_in, defined, object_list, with_objects, goal_flaws, goal_of, ctl_flaws, ctl_of, body_passes, definition_passes, problem_of, domain_flaws, missing_flaws}
 use Rattle.pddl_problem.specs.Sections.{none_seen, sections_flaws, section, items_of}
 
 -- passes without a flaw: the first has none, and neither have the others
@@ -39,30 +40,16 @@ no_listed [] passes h = (refl, h)
 no_listed (f ∷ fs) passes h = cc
 
 -- objects
-names-named : (ns : List (List ℕ)) (ts : List ℕ) → length ts ≡ length ns → names_of_objects (named ns ts) ≡ ns
-names-named [] ts h = refl
-names-named (n ∷ ns) [] h = absurd (grind (arith, h))
-names-named (n ∷ ns) (t ∷ ts) h = let k : length ts ≡ length ns = grind (arith, h) in ap (λ rest. n ∷ rest) (names-named ns ts k)
-
-objects-fit : (known : Known) (ns : List (List ℕ)) (ts : List ℕ) → All (λ n. is_name n ≡ true) ns → All (λ t. t < length known.types) ts → AreObjects known (named ns ts)
-objects-fit known [] ts h k = All-nil (λ (o : Named). (is_name o.name ≡ true) × (o.type_id < length known.types))
-objects-fit known (n ∷ ns) [] h k = All-nil (λ (o : Named). (is_name o.name ≡ true) × (o.type_id < length known.types))
-objects-fit known (n ∷ ns) (t ∷ ts) h k =
-    All-cons (λ (o : Named). (is_name o.name ≡ true) × (o.type_id < length known.types)) (record { name = n; type_id = t }) (named ns ts)
-    (All-head (λ n. is_name n ≡ true) n ns h, All-head (λ t. t < length known.types) t ts k)
-    (objects-fit known ns ts (All-tail (λ n. is_name n ≡ true) n ns h) (All-tail (λ t. t < length known.types) t ts k))
-
 before-names : (d : DomainTree) → (known_in d).objects ≡ names_of_objects d.constants
 before-names d = ap names_of_objects (append-nil d.constants)
 
 added-names : (d : DomainTree) (list : Forest) → let objects = objects_of d.type_names (typed_groups list) in
     (known_with d objects).objects ≡ (known_in d).objects ++ names_of (typed_groups list)
 added-names d list =
-    let names = names_of (typed_groups list) in
-    let types = types_of d.type_names (typed_groups list) in
-    map-append (λ (n : Named). n.name) d.constants (named names types)
-    ∙ (ap (λ ns. names_of_objects d.constants ++ ns) (names-named names types (types-length d.type_names (typed_groups list)))
-    ∙ ap (λ ns. ns ++ names) (sym (before-names d)))
+    let groups = typed_groups list in
+    map-append (λ (n : Named). n.name) d.constants (objects_of d.type_names groups)
+    ∙ (ap (λ ns. names_of_objects d.constants ++ ns) (names-objects d.type_names groups)
+    ∙ ap (λ ns. ns ++ names_of groups) (sym (before-names d)))
 
 same-known : (d : DomainTree) (list : Forest) → with_objects (known_in d) list ≡ known_with d (objects_of d.type_names (typed_groups list))
 same-known d list =
@@ -358,7 +345,7 @@ problem-fits domain forest d fits found shallow none =
     let low = found.shallow in
     record {
       name = found.name;
-      objects = objects-fit before (names_of groups) (types_of domain.type_names groups) fine.1 (types-within domain.type_names groups fits.some_type);
+      objects = objects-fit domain.type_names groups fits.some_type fine.1;
       objects_differ = subst AreDistinct (objects-seen (names_of groups) before.objects ∙ sym (added-names domain list)) fine.0;
       facts = subst (λ (x : Known). All (FitsGroundAtom after) (init_facts x init)) (sym same)
           (entries-fit (FitsGroundAtom after) after (λ span. entry_facts after) (entry_facts-fit after k) init no_init);

@@ -1,5 +1,5 @@
 -- The names of the objects of a problem that is read are words.
-use Rattle.std.proofs.Common.{◌≡◌, ℕ, suc, Bool, true, false, List, [], ◌∷◌, subst, arith, All, Option, Some, None, if◌then◌else◌, codes}
+use Rattle.std.proofs.Common.{◌≡◌, ℕ, suc, Bool, true, false, List, [], ◌∷◌, map, sym, subst, arith, All, Option, Some, None, if◌then◌else◌, codes}
 use Rattle.std.specs.Option.{option_map, option_and_then, unwrap_or}
 use Rattle.std.proofs.lemmas.List.Elements.{All-nil, All-cons}
 use Rattle.sexpr_text.specs.declared.forms.Span.{Span}
@@ -9,11 +9,12 @@ use Rattle.pddl_ast.specs.declared.trees.Named.{Named}
 use Rattle.pddl_ast.specs.Fits.{known_in}
 use Rattle.pddl_ast.specs.Known.{Known}
 use Rattle.pddl_ast.specs.Trees.{DomainTree, ProblemTree}
-use Rattle.pddl_ast.specs.TypedLists.{names_of, typed_groups, types_of}
+use Rattle.pddl_ast.specs.TypedLists.{objects_of, typed_groups}
 use Rattle.pddl_ast.specs.WordTexts.{HasWordTexts, IsWordText}
+use Rattle.pddl_ast.proofs.Objects.{names-objects}
 use Rattle.pddl_ast.proofs.WordTexts.{GroupHasWords, rising_words, typed_list-words, words-after_first, words-first_group}
 use Rattle.pddl_ast.specs.Definitions.{title_of}
-use Rattle.pddl_problem.specs.Problems.{Definition, defined, definition_in, named, object_list, problem_in, problem_of}
+use Rattle.pddl_problem.specs.Problems.{Definition, defined, definition_in, object_list, problem_in, problem_of}
 use Rattle.pddl_problem.specs.Rising.{Rises}
 use Rattle.pddl_problem.specs.Sections.{items_of, section}
 use Rattle.pddl_problem.specs.WordNames.{HasWordObjects}
@@ -68,11 +69,9 @@ words-items_of head items h =
 abbrev ObjectIsWord : Named → Type 0
 ObjectIsWord n = IsWordText n.name
 
-words-named : (names : List (List ℕ)) (types : List ℕ) → All IsWordText names → All ObjectIsWord (named names types)
-words-named [] types h = All-nil ObjectIsWord
-words-named (name ∷ names) [] h = All-nil ObjectIsWord
-words-named (name ∷ names) (t ∷ types) h =
-    All-cons ObjectIsWord _ (named names types) (h 0 name (omega arith)) (words-named names types (λ k d below. h (suc k) d (omega arith)))
+each_name : (ns : List Named) → All IsWordText (map (λ (n : Named). n.name) ns) → All ObjectIsWord ns
+each_name [] h = All-nil ObjectIsWord
+each_name (n ∷ ns) h = All-cons ObjectIsWord n ns (h 0 n.name (omega arith)) (each_name ns (λ k d below. h (suc k) d (omega arith)))
 
 -- the problem
 abbrev ProblemHasWords : Option ProblemTree → Type 0
@@ -83,7 +82,8 @@ of_definition : (known : Known) (o : Option Definition) → DefinitionHasWords o
 of_definition known None h = tt
 of_definition known (Some d) h =
     let groups = typed_groups (object_list d) in
-    words-named (names_of groups) (types_of known.types groups) (typed_list-words (object_list d) (words-items_of (codes ":objects") d.items h))
+    each_name (objects_of known.types groups)
+    (subst (All IsWordText) (sym (names-objects known.types groups)) (typed_list-words (object_list d) (words-items_of (codes ":objects") d.items h)))
 
 pub read_words : (domain : DomainTree) (forest : Forest) (p : ProblemTree) → Rises forest → problem_in domain forest ≡ Some p → HasWordObjects p
 read_words domain forest p rises is =

@@ -1,5 +1,6 @@
 -- Which problem a text spells relative to a domain, or which fault it has.
-use Rattle.std.specs.Prelude.{ℕ, List, [], ◌∷◌, ◌++◌, Option, Some, None, codes, if◌then◌else◌}
+use Rattle.std.specs.Prelude.{◌≡◌, ℕ, List, [], ◌∷◌, ◌++◌, Option, Some, None, codes}
+use Rattle.std.specs.Prelude.{if◌then◌else◌}
 use Rattle.std.specs.Option.{option_map, option_map_or, option_and_then}
 use Rattle.std.specs.Str.{bytes_eq}
 use Rattle.sexpr_text.specs.declared.forms.Span.{Span}
@@ -9,16 +10,16 @@ use Rattle.sexpr_text.specs.declared.faults.FaultKind.TheVariants.{BadForm, Othe
 use Rattle.sexpr_text.specs.declared.faults.FaultKind.TheVariants.{GoalMissing}
 use Rattle.sexpr_text.specs.Forest.{Forest, nothing, word, group}
 use Rattle.sexpr_text.specs.Parts.{first_group_with, is_definition}
-use Rattle.sexpr_text.specs.Flaws.{Flaw, flaw_at}
-use Rattle.sexpr_text.specs.Passes.{SpellsBy, HasFaultBy}
-use Rattle.pddl_ast.specs.declared.trees.Named.{Named}
+use Rattle.sexpr_text.specs.Flaws.{Flaw, flaw_at, fault_of_passes}
+use Rattle.sexpr_text.specs.Spelling.{SpellsTrees}
+use Rattle.sexpr_text.specs.Passes.{HasFaultBy}
 use Rattle.pddl_ast.specs.declared.typed_lists.Declares.TheVariants.{Objects}
 use Rattle.pddl_ast.specs.Definitions.{title_of, no_define}
 use Rattle.pddl_ast.specs.Known.{Known}
 use Rattle.pddl_ast.specs.Fits.{known_in}
 use Rattle.pddl_ast.specs.Formulas.{formula_flaws, formula_of}
 use Rattle.pddl_ast.specs.Goals.{temporal_flaws, temporal_of}
-use Rattle.pddl_ast.specs.TypedLists.{Group, typed_list_flaws, typed_groups, names_of, types_of}
+use Rattle.pddl_ast.specs.TypedLists.{typed_list_flaws, typed_groups, names_of, objects_of}
 use Rattle.pddl_ast.specs.Trees.{DomainTree, ProblemTree, FormulaTree, TemporalTree}
 use Rattle.pddl_problem.specs.Sections.{none_seen, sections_flaws, section, items_of}
 use Rattle.pddl_problem.specs.Init.{init_flaws, init_facts, init_entries}
@@ -54,15 +55,6 @@ domain_flaws domain (word s name rest) =
 -- what is known in the problem: the names of the domain, and the objects after the constants
 abbrev pub with_objects : Known → Forest → Known
 with_objects known list = record known { objects = known.objects ++ names_of (typed_groups list) }
-
--- the objects of a typed list: each name with the number of its type
-abbrev pub named : List (List ℕ) → List ℕ → List Named
-named [] types = []
-named (name ∷ names) [] = []
-named (name ∷ names) (t ∷ types) = record { name = name; type_id = t } ∷ named names types
-
-abbrev pub objects_of : List (List ℕ) → List Group → List Named
-objects_of types groups = named (names_of groups) (types_of types groups)
 
 -- the pass over the goal, a formula without free variables
 abbrev pub goal_flaws : Known → Forest → List Flaw
@@ -145,10 +137,22 @@ problem_of before d =
 abbrev pub problem_in : DomainTree → Forest → Option ProblemTree
 problem_in domain forest = option_map (problem_of (known_in domain)) (definition_in forest)
 
--- the bytes spell this problem of the domain
-abbrev pub SpellsProblem : List ℕ → DomainTree → ProblemTree → Type 0
-SpellsProblem bytes domain problem =
-    SpellsBy (problem_passes domain) (problem_in domain) bytes (Some problem)
+-- the bytes spell forms that read as this problem of the domain
+abbrev pub ReadsAsProblem : List ℕ → DomainTree → ProblemTree → Type 0
+ReadsAsProblem bytes domain problem =
+    (forms : Forest) × SpellsTrees bytes forms × (problem_in domain forms ≡ Some problem)
+
+-- the bytes spell forms in which, as a problem of the domain, no pass lists a flaw
+abbrev pub IsFlawlessProblem : List ℕ → DomainTree → Type 0
+IsFlawlessProblem bytes domain =
+    (forms : Forest) × SpellsTrees bytes forms
+    × (fault_of_passes (problem_passes domain forms) ≡ None)
+
+-- the bytes spell this problem of the domain: they read as it, and nothing is wrong in them
+pub record SpellsProblem (bytes : List ℕ) (domain : DomainTree) (problem : ProblemTree) : Type 0
+  where
+    pub reads : ReadsAsProblem bytes domain problem
+    pub flawless : IsFlawlessProblem bytes domain
 
 -- the bytes have this fault as a problem of the domain
 abbrev pub HasProblemFault : List ℕ → DomainTree → InputFault → Type 0

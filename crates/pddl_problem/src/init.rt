@@ -15,7 +15,8 @@ ghost use Rattle.pddl_problem.specs.Values as values;
 
 use crate::faults::left_out;
 use pddl_ast::{
-    GroundAtom, InitialLiteral, Keyword, Known, is_reserved, keyword_of, read_ground_atom, spells,
+    GroundAtom, InitialLiteral, Keyword, Known, Objects, is_reserved, keyword_of, read_ground_atom,
+    spells,
 };
 use sexpr_text::{FaultKind, Form, Head, ReadErr, Span, Text, View, fault_at, head_of, is_nothing};
 use std::alloc::{AllocError, Global};
@@ -239,12 +240,12 @@ fn read_alternatives(
 }
 
 /// The same atom once more.
-fn copy_of(atom: &GroundAtom) -> Result<GroundAtom, AllocError>
+fn copy_of(alloc: Global, atom: &GroundAtom) -> Result<GroundAtom, AllocError>
     ensures { IfOk result (λ copy. atom_value copy ≡ atom_value atom.now) }
 {
     Ok(GroundAtom {
         predicate: atom.predicate,
-        objects: atom.objects.clone()?,
+        objects: Objects::from_slice(alloc, &atom.objects)?,
     })
 }
 
@@ -261,7 +262,7 @@ fn alone(alloc: Global, literal: InitialLiteral) -> Result<Vec<InitialLiteral>, 
 fn either_way(alloc: Global, atom: GroundAtom) -> Result<Vec<Vec<InitialLiteral>>, AllocError>
     ensures { IfOk result (λ v. values.entry_value v ≡ init.either_way (atom_value atom)) }
 {
-    let copy = copy_of(&atom)?;
+    let copy = copy_of(alloc, &atom)?;
     let holds = alone(
         alloc,
         InitialLiteral {

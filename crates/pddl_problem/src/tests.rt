@@ -14,7 +14,7 @@ use std::fmt::Write;
 use std::test::Fail;
 
 // A predicate with this name that takes so many terms.
-fn predicate(alloc: Global, name: &[u8], arity: u32) -> Result<Predicate, AllocError>
+fn predicate(alloc: Global, name: &[u8], arity: usize) -> Result<Predicate, AllocError>
     ensures { IfOk result (λ p. p ≡ record { name = name.now; arity = arity }) }
 {
     Ok(Predicate {
@@ -34,7 +34,7 @@ fn types(alloc: Global) -> Result<Vec<Text>, AllocError>
 }
 
 // Both of them have the parent `object`.
-fn parents(alloc: Global) -> Result<Vec<u32>, AllocError>
+fn parents(alloc: Global) -> Result<Vec<usize>, AllocError>
     ensures { IfOk result (λ v. v.items ≡ 0 ∷ 0 ∷ []) }
 {
     let mut parents = Vec::new(alloc);
@@ -115,7 +115,7 @@ fn show_terms(terms: &[Term], out: &mut String) -> Result<(), AllocError> {
     out.push_str(")")
 }
 
-fn show_types(types: &[u32], out: &mut String) -> Result<(), AllocError> {
+fn show_types(types: &[usize], out: &mut String) -> Result<(), AllocError> {
     for number in types {
         write!(out, " {number}")?;
     }

@@ -37,7 +37,7 @@ use task_core::Task;
 /// The plan that the text spells, with the place of its list, or the text's first fault, or want of
 /// memory. A text is a plan's where its first top-level list that begins with the word `plan` is as
 /// `specs/Readings.antt` says; other top-level forms are passed over. Every text either spells
-/// exactly one plan or has exactly one fault (`one_plan`, `one_plan_fault`, `plan_or_fault`).
+/// exactly one plan or has exactly one fault (`one_plan`, `plan_or_fault`).
 /// `task` gives the fluents and actions. The time that this takes grows with the length of the text
 /// and of the task's names.
 pub fn read_plan(alloc: Global, bytes: &[u8], task: &Task) -> Result<PlanRead, ReadErr>

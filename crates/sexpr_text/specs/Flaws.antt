@@ -47,13 +47,13 @@ pub record IsFirstOf (flaws : List Flaw) (f : Flaw) : Type 0 where
   pub listed : Contains flaws f
   pub least : (g : Flaw) → Contains flaws g → comes_first f g ≡ true
 
--- Private: the fault of the flaw that a list begins with. A pass lists its flaws in the order of
+-- the fault of the flaw that a list begins with. A pass lists its flaws in the order of
 -- the text, so that this is the first of them all (`listed_in_order`)
 abbrev pub first_listed : List Flaw → Option InputFault
 first_listed [] = None
 first_listed (f ∷ fs) = Some f.fault
 
--- Private: the offsets of the flaws rise from lo up to and without hi
+-- the offsets of the flaws rise from lo up to and without hi
 abbrev pub IsInOrder : ℕ → ℕ → List Flaw → Type 0
 IsInOrder lo hi [] = lo ≤ hi
 IsInOrder lo hi (f ∷ fs) = (lo ≤ f.offset) × IsInOrder (suc f.offset) hi fs

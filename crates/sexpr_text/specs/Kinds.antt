@@ -13,35 +13,35 @@ use Rattle.sexpr_text.specs.declared.faults.FaultKind.TheVariants.{QuantifiedGoa
 use Rattle.sexpr_text.specs.declared.faults.FaultKind.TheVariants.{BadNumber, WrongPlanKind}
 
 -- the number and the name of each kind
-abbrev pub entry_of : FaultKind → ℕ × List ℕ
-entry_of BadByte = (1, codes "BadByte")
-entry_of StrayClose = (2, codes "StrayClose")
-entry_of OpenAtEnd = (3, codes "OpenAtEnd")
-entry_of TooDeep = (4, codes "TooDeep")
-entry_of NoDefine = (5, codes "NoDefine")
-entry_of BadForm = (6, codes "BadForm")
-entry_of UnknownName = (7, codes "UnknownName")
-entry_of DoubleName = (8, codes "DoubleName")
-entry_of WrongArity = (9, codes "WrongArity")
-entry_of TypeLoop = (10, codes "TypeLoop")
-entry_of ReservedName = (11, codes "ReservedName")
-entry_of EmptyOneof = (12, codes "EmptyOneof")
-entry_of (LeftOut text) = (13, codes "LeftOut")
-entry_of OtherDomain = (14, codes "OtherDomain")
-entry_of GoalMissing = (15, codes "GoalMissing")
-entry_of GoalTwice = (16, codes "GoalTwice")
-entry_of WrongGoalKind = (17, codes "WrongGoalKind")
-entry_of NotChain = (18, codes "NotChain")
-entry_of QuantifiedGoal = (19, codes "QuantifiedGoal")
-entry_of UnknownAction = (20, codes "UnknownAction")
-entry_of BadNumber = (21, codes "BadNumber")
-entry_of WrongPlanKind = (22, codes "WrongPlanKind")
+abbrev pub code_and_name : FaultKind → ℕ × List ℕ
+code_and_name BadByte = (1, codes "BadByte")
+code_and_name StrayClose = (2, codes "StrayClose")
+code_and_name OpenAtEnd = (3, codes "OpenAtEnd")
+code_and_name TooDeep = (4, codes "TooDeep")
+code_and_name NoDefine = (5, codes "NoDefine")
+code_and_name BadForm = (6, codes "BadForm")
+code_and_name UnknownName = (7, codes "UnknownName")
+code_and_name DoubleName = (8, codes "DoubleName")
+code_and_name WrongArity = (9, codes "WrongArity")
+code_and_name TypeLoop = (10, codes "TypeLoop")
+code_and_name ReservedName = (11, codes "ReservedName")
+code_and_name EmptyOneof = (12, codes "EmptyOneof")
+code_and_name (LeftOut text) = (13, codes "LeftOut")
+code_and_name OtherDomain = (14, codes "OtherDomain")
+code_and_name GoalMissing = (15, codes "GoalMissing")
+code_and_name GoalTwice = (16, codes "GoalTwice")
+code_and_name WrongGoalKind = (17, codes "WrongGoalKind")
+code_and_name NotChain = (18, codes "NotChain")
+code_and_name QuantifiedGoal = (19, codes "QuantifiedGoal")
+code_and_name UnknownAction = (20, codes "UnknownAction")
+code_and_name BadNumber = (21, codes "BadNumber")
+code_and_name WrongPlanKind = (22, codes "WrongPlanKind")
 
 abbrev pub code_of : FaultKind → ℕ
-code_of kind = (entry_of kind).0
+code_of kind = (code_and_name kind).0
 
 abbrev pub kind_name : FaultKind → List ℕ
-kind_name kind = (entry_of kind).1
+kind_name kind = (code_and_name kind).1
 
 -- the word that is left out
 abbrev pub word_of : FaultKind → Option (List ℕ)

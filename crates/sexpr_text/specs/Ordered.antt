@@ -6,14 +6,14 @@ use Rattle.sexpr_text.specs.Formed.{IsRising}
 use Rattle.sexpr_text.specs.Spelling.{SpellsTrees}
 use Rattle.sexpr_text.specs.Flaws.{Flaw, IsInOrder, fault_of_passes}
 
--- Private: the flaws of a group, by its span and its parts, stand in order within the group
+-- the flaws of a group, by its span and its parts, stand in order within the group
 abbrev pub AreGroupFlaws : (Span → Forest → List Flaw) → Type 0
 AreGroupFlaws flaws =
     (span : Span) (parts : Forest) → span.start + 2 ≤ span.end
     → IsRising (span.start + 1) (span.end - 1) parts
     → IsInOrder span.start span.end (flaws span parts)
 
--- Private: the bytes spell these forms, and no pass lists a flaw in them
+-- the bytes spell these forms, and no pass lists a flaw in them
 pub record IsFlawless (passes : Forest → List (List Flaw)) (bytes : List ℕ)
     (trees : Forest) : Type 0 where
   pub spelled : SpellsTrees bytes trees

@@ -2,7 +2,7 @@
 
 ghost use Rattle.std.specs.Prelude.{◌≡◌};
 ghost use Rattle.std.specs.Option.{option_copied};
-ghost use Rattle.sexpr_text.specs.Kinds.{code_of, entry_of, kind_name, word_of};
+ghost use Rattle.sexpr_text.specs.Kinds.{code_of, code_and_name, kind_name, word_of};
 ghost use Rattle.sexpr_text.specs.declared.faults.ReadErr.TheVariants.{Memory};
 
 use crate::forms::Place;
@@ -60,8 +60,8 @@ pub enum FaultKind {
 
 impl FaultKind {
     // The number and the name of the kind.
-    fn entry(&self) -> (u8, &'static str)
-        ensures { (result.0, result.1.now) ≡ entry_of self.now }
+    fn code_and_name(&self) -> (u8, &'static str)
+        ensures { (result.0, result.1.now) ≡ code_and_name self.now }
     {
         match self {
             FaultKind::BadByte => (1, "BadByte"),
@@ -93,14 +93,14 @@ impl FaultKind {
     pub fn code(&self) -> u8
         ensures { result ≡ code_of self.now }
     {
-        self.entry().0
+        self.code_and_name().0
     }
 
     /// The name of the kind, as it is written above.
     pub fn name(&self) -> &'static str
         ensures { result.now ≡ kind_name self.now }
     {
-        self.entry().1
+        self.code_and_name().1
     }
 
     /// The word that is left out, where the kind has one.

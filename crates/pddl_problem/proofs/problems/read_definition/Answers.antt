@@ -6,7 +6,7 @@ use Rattle.sexpr_text.specs.Passes.{IfFault}
 use Rattle.pddl_ast.specs.declared.typed_lists.Declares.TheVariants.{Objects}
 use Rattle.pddl_ast.specs.Environment.{known_value}
 use Rattle.pddl_ast.specs.Known.{Known}
-use Rattle.pddl_ast.specs.TypedLists.{typed_list_flaws, typed_groups}
+use Rattle.pddl_ast.specs.TypedLists.{objects_of, typed_list_flaws, typed_groups}
 use Rattle.pddl_ast.specs.Values.{problem_value, atom_value, formula_value, temporal_value}
 use Rattle.pddl_ast.specs.declared.trees.Named.{Named}
 use Rattle.pddl_ast.specs.declared.trees.GroundAtom.{GroundAtom}
@@ -16,7 +16,7 @@ use Rattle.std.specs.declared.alloc.Global.{Global}
 use Rattle.std.specs.Option.{option_map}
 use Rattle.pddl_problem.specs.Init.{init_facts, init_entries}
 use Rattle.pddl_problem.specs.Listed.{listed_fault}
-use Rattle.pddl_problem.specs.Problems.{Definition, problem_of, objects_of, goal_of, ctl_of, domain_flaws, object_list, with_objects, body_passes}
+use Rattle.pddl_problem.specs.Problems.{Definition, problem_of, goal_of, ctl_of, domain_flaws, object_list, with_objects, body_passes}
 use Rattle.pddl_problem.specs.Sections.{none_seen, sections_flaws, items_of}
 use Rattle.pddl_problem.specs.Values.{definition_value, entry_value}
 use Rattle.pddl_problem.proofs.PassLemmas.{problem-parts, listed-skip, fault-skip, fault-first}

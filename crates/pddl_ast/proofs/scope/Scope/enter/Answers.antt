@@ -20,7 +20,6 @@ invariant_of-self-2 c =
     ∙ get_or_push variables inner c.index.result.now number count) in
     subst (λ vs. Tells vs after) (sym c.in_ok-push.ensures.items)
     (enter_tells variables _ roomy after inner c.self.invariant c.in_ok-make_room.ensures.same c.number_of-hidden.ensures
-    (omega (arith, c.self.invariant.within, count, c.if-number-eq-MAX_VARIABLES.false))
     (λ name. c.set.ensures name
     ∙ (ap (λ (v : Variable). if bytes_eq name v.name then Some number else meaning roomy name) shown
     ∙ ap (λ n. if bytes_eq name c.args.name then Some n else meaning roomy name) (sym count))))
