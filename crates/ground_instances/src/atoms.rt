@@ -5,15 +5,14 @@ ghost use Rattle.ground_instances.specs.Atoms.{atom_tree};
 ghost use Rattle.pddl_system.specs.GroundAtoms.{atom_of};
 ghost use Rattle.pddl_system.specs.Objects.{object_of as the_object_of};
 
-use pddl_ast::{ObjectId, PredicateId, Term};
-use smallvec::SmallVec;
+use pddl_ast::{ObjectId, Objects, PredicateId, Term};
 use std::alloc::{AllocError, Global};
 
 /// A predicate with an object for each of its terms. Equal ones have equal hashes.
 #[derive(Debug, PartialEq, Eq, PartialOrd, Ord, Hash, Drop)]
 pub struct Atom {
     pub predicate: PredicateId,
-    pub objects: SmallVec<ObjectId, 4>,
+    pub objects: Objects,
 }
 
 impl Atom {
@@ -41,7 +40,7 @@ pub fn object_of(scope: &[ObjectId], term: &Term) -> ObjectId
     ensures { result ≡ the_object_of scope.now term.now }
 {
     match term {
-        Term::Variable(number) => scope.get(*number as usize).copied().unwrap_or(0),
+        Term::Variable(number) => scope.get(*number).copied().unwrap_or(0),
         Term::Object(object) => *object,
     }
 }

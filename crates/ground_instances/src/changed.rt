@@ -12,8 +12,7 @@ ghost use Rattle.pddl_system.specs.Settings.{changes, entry_names, is_rigid_in};
 
 use crate::atoms::Atom;
 use indexmap::IndexSet;
-use pddl_ast::{Domain, Effect, InitialLiteral, PredicateId, Problem};
-use smallvec::SmallVec;
+use pddl_ast::{Domain, Effect, InitialLiteral, Objects, PredicateId, Problem};
 use std::alloc::{AllocError, Global};
 
 /// The predicates that an effect changes or that an uncertain entry names: those that aren't rigid.
@@ -100,7 +99,7 @@ pub fn fact_set(alloc: Global, problem: &Problem) -> Result<IndexSet<Atom>, Allo
     for fact in &problem.facts {
         facts.insert(Atom {
             predicate: fact.predicate,
-            objects: SmallVec::from_slice(alloc, &fact.objects)?,
+            objects: Objects::from_slice(alloc, &fact.objects)?,
         })?;
     }
     Ok(facts)

@@ -10,8 +10,7 @@ ghost use Rattle.pddl_system.specs.Sizes.{most_actions};
 
 use crate::setting::Setting;
 use crate::values::Value;
-use pddl_ast::{Domain, ObjectId, Schema};
-use smallvec::SmallVec;
+use pddl_ast::{Domain, ObjectId, Objects, Schema};
 use std::alloc::{AllocError, Global};
 
 /// The most kept instances.
@@ -22,7 +21,7 @@ const MOST_KEPT: usize = 16_384;
 #[derive(Debug, Drop)]
 pub struct Instance {
     pub action: usize,
-    pub objects: SmallVec<ObjectId, 4>,
+    pub objects: Objects,
 }
 
 /// The kept instances in their order, unless there are too many.
@@ -111,7 +110,7 @@ impl Setting {
         }
         kept.push(Instance {
             action,
-            objects: SmallVec::from_slice(alloc, objects)?,
+            objects: Objects::from_slice(alloc, objects)?,
         })?;
         Ok(true)
     }

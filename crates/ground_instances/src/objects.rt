@@ -60,7 +60,7 @@ fn enter_all(
 {
     let mut number = first;
     for object in objects {
-        enter(lists, parents, number as u32, object.type_id)?;
+        enter(lists, parents, number, object.type_id)?;
         number += 1;
     }
     Ok(())
@@ -83,10 +83,10 @@ fn enter(
         ≡ list_of lists.old.items t
         ++ (if is_kind_of parents.now type_id t then object ∷ [] else [])) }
 {
-    let mut kind = type_id as usize;
+    let mut kind = type_id;
     push_once(&mut lists[kind], object)?;
     for _ in 0..parents.len() {
-        let parent = parents[kind] as usize;
+        let parent = parents[kind];
         if parent == kind {
             return Ok(());
         }

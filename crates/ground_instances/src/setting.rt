@@ -64,7 +64,7 @@ impl Setting {
     pub fn objects_of(&self, type_id: TypeId) -> &[ObjectId]
         ensures { result.now ≡ (setting_in self.now).objects type_id }
     {
-        match self.objects.get(type_id as usize) {
+        match self.objects.get(type_id) {
             Some(objects) => objects,
             None => &[],
         }

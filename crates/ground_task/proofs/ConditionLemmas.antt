@@ -4,6 +4,7 @@ use Rattle.std.specs.Prelude.{Vec, Box}
 use Rattle.std.specs.declared.alloc.Global.{Global}
 use Rattle.pddl_ast.specs.Trees.{AtomTree, FormulaTree, all, any, exists, forall, atom, formula_row}
 use Rattle.pddl_ast.specs.Values.{formula_step, formula_value}
+use Rattle.smallvec.specs.SmallVec.{SmallVec}
 use Rattle.pddl_ast.specs.declared.trees.Term.{Term}
 use Rattle.pddl_ast.specs.declared.trees.Formula.{Formula}
 use Rattle.pddl_ast.specs.declared.trees.Formula.TheOpen as Open
@@ -25,7 +26,7 @@ value_All v = ap condition_value (sym (ShutCond.rolls-All v)) ∙ fold-roll-Cond
 pub value_Any : (v : Vec Cond Global) → condition_value (ShutCond.Any v) ≡ any_of (condition_row (map condition_value v.items))
 value_Any v = ap condition_value (sym (ShutCond.rolls-Any v)) ∙ fold-roll-Cond CondTree condition_step (OpenCond.Any v)
 
-formula_Atom : (p : ℕ) (terms : Vec Term Global) → formula_value (Shut.Atom p terms) ≡ atom p terms.items
+formula_Atom : (p : ℕ) (terms : SmallVec Term) → formula_value (Shut.Atom p terms) ≡ atom p terms.items
 formula_Atom p terms = ap formula_value (sym (Shut.rolls-Atom p terms)) ∙ fold-roll-Formula FormulaTree formula_step (Open.Atom p terms)
 
 formula_All : (parts : Vec Formula Global) → formula_value (Shut.All parts) ≡ all (formula_row (map formula_value parts.items))
@@ -46,7 +47,7 @@ module _ (at : Setting) (fluents : List AtomTree) where
   conditions_row (f ∷ fs) scope = ap (condition_then (condition_of at fluents f scope)) (conditions_row fs scope)
 
   -- what a formula's condition is, by its kind. The parts and the scope may be given by other names
-  pub of_Atom : (f : Formula) (p : ℕ) (terms : Vec Term Global) (given : List Term) (scope inner : List ℕ) → f ≡ Shut.Atom p terms → given ≡ terms.items → inner ≡ scope → atom_condition at fluents (atom_of inner p given) ≡ condition_of at fluents (formula_value f) scope
+  pub of_Atom : (f : Formula) (p : ℕ) (terms : SmallVec Term) (given : List Term) (scope inner : List ℕ) → f ≡ Shut.Atom p terms → given ≡ terms.items → inner ≡ scope → atom_condition at fluents (atom_of inner p given) ≡ condition_of at fluents (formula_value f) scope
   of_Atom f p terms given scope inner is e same =
       ap (λ s. atom_condition at fluents (atom_of s p given)) same
       ∙ ap (λ ts. atom_condition at fluents (atom_of scope p ts)) e

@@ -4,6 +4,7 @@ use Rattle.std.specs.Prelude.{Vec, Box}
 use Rattle.std.specs.declared.alloc.Global.{Global}
 use Rattle.pddl_ast.specs.Trees.{EffectTree, add, delete, both, one_of, only_when, each, effect_row}
 use Rattle.pddl_ast.specs.Values.{effect_step, effect_value, formula_value}
+use Rattle.smallvec.specs.SmallVec.{SmallVec}
 use Rattle.pddl_ast.specs.declared.trees.Term.{Term}
 use Rattle.pddl_ast.specs.declared.trees.Formula.{Formula}
 use Rattle.pddl_ast.specs.declared.trees.Effect.{Effect}
@@ -11,10 +12,10 @@ use Rattle.pddl_ast.specs.declared.trees.Effect.TheOpen as Open
 use Rattle.pddl_ast.specs.declared.trees.Effect.TheVariants as Shut
 use Rattle.pddl_ast.specs.declared.trees.Effect.TheFolds.{fold-roll-Effect}
 
-effect_Add : (p : ℕ) (terms : Vec Term Global) → effect_value (Shut.Add p terms) ≡ add p terms.items
+effect_Add : (p : ℕ) (terms : SmallVec Term) → effect_value (Shut.Add p terms) ≡ add p terms.items
 effect_Add p terms = ap effect_value (sym (Shut.rolls-Add p terms)) ∙ fold-roll-Effect EffectTree effect_step (Open.Add p terms)
 
-effect_Delete : (p : ℕ) (terms : Vec Term Global) → effect_value (Shut.Delete p terms) ≡ delete p terms.items
+effect_Delete : (p : ℕ) (terms : SmallVec Term) → effect_value (Shut.Delete p terms) ≡ delete p terms.items
 effect_Delete p terms = ap effect_value (sym (Shut.rolls-Delete p terms)) ∙ fold-roll-Effect EffectTree effect_step (Open.Delete p terms)
 
 effect_Both : (parts : Vec Effect Global) → effect_value (Shut.Both parts) ≡ both (effect_row (map effect_value parts.items))
@@ -30,10 +31,10 @@ effect_Each : (types : Vec ℕ Global) (part : Box Effect Global) → effect_val
 effect_Each types part = ap effect_value (sym (Shut.rolls-Each types part)) ∙ fold-roll-Effect EffectTree effect_step (Open.Each types part)
 
 -- the tree of an effect of a known kind, whose parts may be given by other names
-pub is_Add : (e : Effect) (p : ℕ) (terms : Vec Term Global) (given : List Term) → e ≡ Shut.Add p terms → given ≡ terms.items → effect_value e ≡ add p given
+pub is_Add : (e : Effect) (p : ℕ) (terms : SmallVec Term) (given : List Term) → e ≡ Shut.Add p terms → given ≡ terms.items → effect_value e ≡ add p given
 is_Add e p terms given is same = ap effect_value is ∙ effect_Add p terms ∙ ap (add p) (sym same)
 
-pub is_Delete : (e : Effect) (p : ℕ) (terms : Vec Term Global) (given : List Term) → e ≡ Shut.Delete p terms → given ≡ terms.items → effect_value e ≡ delete p given
+pub is_Delete : (e : Effect) (p : ℕ) (terms : SmallVec Term) (given : List Term) → e ≡ Shut.Delete p terms → given ≡ terms.items → effect_value e ≡ delete p given
 is_Delete e p terms given is same = ap effect_value is ∙ effect_Delete p terms ∙ ap (delete p) (sym same)
 
 pub is_Both : (e : Effect) (parts : Vec Effect Global) (given : List Effect) → e ≡ Shut.Both parts → given ≡ parts.items → effect_value e ≡ both (effect_row (map effect_value given))

@@ -48,11 +48,10 @@ fn object_word(
     ensures { IfOk result (λ word.
         string_bytes word ≡ object_name (constants.now ++ objects.now) object) }
 {
-    let number = object as usize;
-    if number < constants.len() {
-        return Ok(word(alloc, &constants[number].name)?);
+    if object < constants.len() {
+        return Ok(word(alloc, &constants[object].name)?);
     }
-    let later = number - constants.len();
+    let later = object - constants.len();
     if later < objects.len() {
         return Ok(word(alloc, &objects[later].name)?);
     }
@@ -69,9 +68,8 @@ fn predicate_word(
     ensures { IfOk result (λ word.
         string_bytes word ≡ predicate_name predicates.now predicate) }
 {
-    let number = predicate as usize;
-    if number < predicates.len() {
-        return Ok(word(alloc, &predicates[number].name)?);
+    if predicate < predicates.len() {
+        return Ok(word(alloc, &predicates[predicate].name)?);
     }
     Ok(String::new(alloc))
 }

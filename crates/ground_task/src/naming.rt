@@ -20,8 +20,7 @@ use crate::fluents::Fluents;
 use crate::guards::may_hold;
 use crate::schemas::schema_of;
 use ground_instances::{Atom, Instance, Setting};
-use pddl_ast::{Domain, Effect, GroundAtom, InitialLiteral, ObjectId, TypeId};
-use smallvec::SmallVec;
+use pddl_ast::{Domain, Effect, GroundAtom, InitialLiteral, ObjectId, Objects, TypeId};
 use std::alloc::{AllocError, Global};
 
 /// Adds the atoms that effects name. The scope is afterwards as it was before.
@@ -142,7 +141,7 @@ pub(crate) fn atom_of(alloc: Global, atom: &GroundAtom) -> Result<Atom, AllocErr
 {
     Ok(Atom {
         predicate: atom.predicate,
-        objects: SmallVec::from_slice(alloc, &atom.objects)?,
+        objects: Objects::from_slice(alloc, &atom.objects)?,
     })
 }
 

@@ -11,7 +11,7 @@ loop-fact-preserved c = λ a.
     let items = c.deref-fact-items.result.now in
     let i = c.loop-fact.fact-index in
     let fact = c.fact-item.result in
-    let objects : c.in_ok-from_slice.field-0.items ≡ fact.objects.items = c.in_ok-from_slice.ensures.ok ∙ c.deref.ensures.value in
+    let objects : c.in_ok-from_slice.field-0.items ≡ fact.objects.items = c.in_ok-from_slice.ensures.ok ∙ c.deref.ensures in
     let here : map atom_value (drop i items) ≡ atom_value fact ∷ map atom_value (drop (i + 1) items) =
     ap (map atom_value) (drop-cons items i fact c.loop-fact-test.true)
     ∙ ap (λ f. atom_value f ∷ map atom_value (drop (suc i) items)) (sym c.fact-item.is)

@@ -29,7 +29,7 @@ pub condition-returns-in_ok-atom-in-Atom-clause-condition : goal.condition-retur
 condition-returns-in_ok-atom-in-Atom-clause-condition t c =
     c.atom_condition.ensures
     ∙ ap (atom_condition (setting_in c.args.setting.now) c.args.fluents.now) c.in_ok-atom-in-Atom.ensures
-    ∙ of_Atom (setting_in c.args.setting.now) c.args.fluents.now c.args.formula.now c.in-Atom.predicate c.in-Atom.terms _ c.args.scope.now.items _ c.in-Atom.is c.deref.ensures.value c.deref-in-Atom.ensures.value
+    ∙ of_Atom (setting_in c.args.setting.now) c.args.fluents.now c.args.formula.now c.in-Atom.predicate c.in-Atom.terms _ c.args.scope.now.items _ c.in-Atom.is c.deref.ensures c.deref-in-Atom.ensures.value
 
 pub conditions_for_each-loop-number-preserved : goal.conditions_for_each-loop-number-preserved
 conditions_for_each-loop-number-preserved t c =

@@ -17,7 +17,7 @@ name_effect-returns-in_ok-add-in-Add-clause-named t c =
     let f = c.args.fluents.now in
     c.in_ok-add-in-Add.ensures
     ∙ ap (with_atom f) (c.in_ok-of_terms-in-Add.ensures ∙ ap (λ s. atom_of s c.in-Add.predicate c.deref.result.now) c.deref-in-Add.ensures.value)
-    ∙ ap (λ e. collected f (named_by_effect at e c.args.scope.now.items)) (sym (is_Add c.args.effect.now c.in-Add.predicate c.in-Add.terms c.deref.result.now c.in-Add.is c.deref.ensures.value))
+    ∙ ap (λ e. collected f (named_by_effect at e c.args.scope.now.items)) (sym (is_Add c.args.effect.now c.in-Add.predicate c.in-Add.terms c.deref.result.now c.in-Add.is c.deref.ensures))
 
 pub name_effect-returns-in_ok-add-in-Delete-clause-named : goal.name_effect-returns-in_ok-add-in-Delete-clause-named
 name_effect-returns-in_ok-add-in-Delete-clause-named t c =
@@ -25,7 +25,7 @@ name_effect-returns-in_ok-add-in-Delete-clause-named t c =
     let f = c.args.fluents.now in
     c.in_ok-add-in-Delete.ensures
     ∙ ap (with_atom f) (c.in_ok-of_terms-in-Delete.ensures ∙ ap (λ s. atom_of s c.in-Delete.predicate c.deref-in-Delete.result.now) c.deref-in-Delete-2.ensures.value)
-    ∙ ap (λ e. collected f (named_by_effect at e c.args.scope.now.items)) (sym (is_Delete c.args.effect.now c.in-Delete.predicate c.in-Delete.terms c.deref-in-Delete.result.now c.in-Delete.is c.deref-in-Delete.ensures.value))
+    ∙ ap (λ e. collected f (named_by_effect at e c.args.scope.now.items)) (sym (is_Delete c.args.effect.now c.in-Delete.predicate c.in-Delete.terms c.deref-in-Delete.result.now c.in-Delete.is c.deref-in-Delete.ensures))
 
 pub name_effects-returns-clause-named : goal.name_effects-returns-clause-named
 name_effects-returns-clause-named t c =

@@ -23,14 +23,14 @@ outcomes-returns-in_ok-one_change-in-Add-clause-outcomes t c =
     let at = setting_in c.args.setting.now in
     c.in_ok-one_change-in-Add.ensures at
     ∙ ap (λ a. outcomes_under at c.args.fluents.now c.args.guards.now (plain.one_change a true)) (c.in_ok-atom-in-Add.ensures ∙ ap (λ s. atom_of s c.in-Add.predicate c.deref.result.now) c.deref-in-Add.ensures.value)
-    ∙ ap (λ e. outcomes_under at c.args.fluents.now c.args.guards.now (plain.outcomes at.objects e c.args.scope.now.items)) (sym (is_Add c.args.effect.now c.in-Add.predicate c.in-Add.terms c.deref.result.now c.in-Add.is c.deref.ensures.value))
+    ∙ ap (λ e. outcomes_under at c.args.fluents.now c.args.guards.now (plain.outcomes at.objects e c.args.scope.now.items)) (sym (is_Add c.args.effect.now c.in-Add.predicate c.in-Add.terms c.deref.result.now c.in-Add.is c.deref.ensures))
 
 pub outcomes-returns-in_ok-one_change-in-Delete-clause-outcomes : goal.outcomes-returns-in_ok-one_change-in-Delete-clause-outcomes
 outcomes-returns-in_ok-one_change-in-Delete-clause-outcomes t c =
     let at = setting_in c.args.setting.now in
     c.in_ok-one_change-in-Delete.ensures at
     ∙ ap (λ a. outcomes_under at c.args.fluents.now c.args.guards.now (plain.one_change a false)) (c.in_ok-atom-in-Delete.ensures ∙ ap (λ s. atom_of s c.in-Delete.predicate c.deref-in-Delete.result.now) c.deref-in-Delete-2.ensures.value)
-    ∙ ap (λ e. outcomes_under at c.args.fluents.now c.args.guards.now (plain.outcomes at.objects e c.args.scope.now.items)) (sym (is_Delete c.args.effect.now c.in-Delete.predicate c.in-Delete.terms c.deref-in-Delete.result.now c.in-Delete.is c.deref-in-Delete.ensures.value))
+    ∙ ap (λ e. outcomes_under at c.args.fluents.now c.args.guards.now (plain.outcomes at.objects e c.args.scope.now.items)) (sym (is_Delete c.args.effect.now c.in-Delete.predicate c.in-Delete.terms c.deref-in-Delete.result.now c.in-Delete.is c.deref-in-Delete.ensures))
 
 pub outcomes-returns-in_ok-outcomes-in-When-clause-outcomes : goal.outcomes-returns-in_ok-outcomes-in-When-clause-outcomes
 outcomes-returns-in_ok-outcomes-in-When-clause-outcomes t c =
