@@ -1,9 +1,5 @@
 -- Ancestors many steps up.
-<<<<<<< HEAD
 use Rattle.std.proofs.Common.{◌≡◌, ℕ, zero, suc, ◌+◌, ◌*◌, ◌<◌, ◌≤◌, ◌-◌, suc-mul, mul-suc, ◌||◌, inl, inr, replicate, refl, sym, ◌∙◌, ap, arith, Bool, true, false, List, [], ◌∷◌, map, length, get_or, take, All, ◌==◌, zero-mul}
-=======
-use Rattle.std.proofs.Common.{◌≡◌, ℕ, zero, suc, ◌+◌, ◌*◌, ◌<◌, ◌≤◌, ◌-◌, suc-mul, mul-suc, ◌||◌, ◌⊎◌, inl, inr, replicate, refl, sym, ◌∙◌, ap, arith, Bool, true, false, List, [], ◌∷◌, map, length, get_or, take, All, ◌==◌, zero-mul}
->>>>>>> edeadd49e49f9b0c50ef5faf03f6984a3bee2aa1
 use Rattle.std.specs.List.{list_any, range_with_len}
 use Rattle.std.proofs.Math.ListN.{set}
 use Rattle.std.proofs.lemmas.List.{get_or-map, length-map, length-set, same_lists, get_or-set_other}

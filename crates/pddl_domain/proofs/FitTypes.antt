@@ -15,13 +15,7 @@ use Rattle.pddl_ast.specs.Words.{is_dash}
 use Rattle.pddl_ast.specs.Fits.{AreDistinct}
 use Rattle.pddl_ast.specs.TypedLists.{Group, names_of, type_number, typed_groups, names_flaws, type_flaws, name_flaws, word_flaws, dash_flaws, seen_after, groups_after, typed_after, last_group, all_seen}
 use Rattle.pddl_ast.proofs.Distinct.{or-first, or-both, other_way}
-<<<<<<< HEAD
 use Rattle.pddl_ast.proofs.Fitting.{no_second}
-=======
-use Rattle.pddl_ast.proofs.Fitting.{no_first, no_second}
-use Rattle.pddl_ast.specs.Fits.{ancestor}
-use Rattle.pddl_domain.specs.Ancestors.{is_own_ancestor}
->>>>>>> edeadd49e49f9b0c50ef5faf03f6984a3bee2aa1
 use Rattle.pddl_domain.specs.Types as specs
 use Rattle.pddl_domain.proofs.TypeLemmas.{length-with_zeros}
 

@@ -1,9 +1,5 @@
 -- The sixth and the seventh pass over a domain's text: its constants, and its predicates.
-<<<<<<< HEAD
 use Rattle.std.specs.Prelude.{ℕ, if◌then◌else◌, List, [], ◌∷◌, ◌++◌}
-=======
-use Rattle.std.specs.Prelude.{ℕ, ◌+◌, Bool, true, false, not, if◌then◌else◌, List, [], ◌∷◌, ◌++◌}
->>>>>>> edeadd49e49f9b0c50ef5faf03f6984a3bee2aa1
 use Rattle.std.specs.Prelude.{length}
 use Rattle.std.specs.List.{list_any}
 use Rattle.std.specs.Str.{bytes_eq}

@@ -2,11 +2,7 @@
 --
 -- Each pass lists everything that is wrong in the text by its rules. The fault of the text is the
 -- first flaw of the first pass that has one; a text without flaws spells its tree.
-<<<<<<< HEAD
 use Rattle.std.specs.Prelude.{◌≡◌, ℕ, List, [], ◌∷◌, None, map, codes}
-=======
-use Rattle.std.specs.Prelude.{◌≡◌, ℕ, List, [], ◌∷◌, ◌++◌, None, map, codes}
->>>>>>> edeadd49e49f9b0c50ef5faf03f6984a3bee2aa1
 use Rattle.sexpr_text.specs.declared.faults.InputFault.{InputFault}
 use Rattle.sexpr_text.specs.Forest.{Forest}
 use Rattle.sexpr_text.specs.Spelling.{SpellsTrees}
