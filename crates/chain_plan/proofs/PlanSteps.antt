@@ -1,20 +1,16 @@
 -- The search: whether the initial states are covered, and what it answers.
-use Rattle.std.proofs.Common.{◌≡◌, ℕ, suc, ◌+◌, ◌-◌, ◌*◌, ◌<◌, ◌≤◌, ◌↔◌, Bool, true, false, IsTrue, IsErrOf, IfOk, List, All, Option, Some, IfSome, Result, Ok, Err, drop, length, refl, sym, ap, subst, ◌∙◌, arith}
+use Rattle.std.proofs.Common.{◌≡◌, ℕ, suc, ◌+◌, ◌-◌, ◌*◌, ◌<◌, ◌≤◌, Bool, true, false, IsErrOf, IfOk, List, All, Option, Some, IfSome, Result, Ok, Err, drop, length, sym, ap, subst, ◌∙◌, arith}
 use Rattle.std.specs.List.{list_all}
 use Rattle.std.proofs.lemmas.List.{length-map}
 use Rattle.dd_nodes.specs.Subfunctions.{Function}
-use Rattle.dd_ops.specs.Operations.{minus_of}
-use Rattle.dd_sets.specs.LiveSets.{nothing, set_of}
 use Rattle.dd_sets.specs.Rooms.{AnySet, NoRoom}
 use Rattle.dd_sets.specs.declared.errors.SetErr.{SetErr}
 use Rattle.dd_sets.specs.declared.errors.SetErr.TheVariants.{Full}
+use Rattle.dd_sets.specs.declared.slots.SetId.{SetId}
 use Rattle.encode_task.specs.Made.{MadeOf}
 use Rattle.encode_task.specs.Slots.{Encoded}
-use Rattle.encode_task.specs.TaskSets.{initial_set}
 use Rattle.slot_board.specs.Board as board
 use Rattle.slot_board.specs.Board.{HasNoRoom}
-use Rattle.slot_board.proofs.BoardSlots.{initial_is}
-use Rattle.cyclic_plan.proofs.PlanMade.{covers_is}
 use Rattle.plan_theory.specs.Chains.{Chained, context_count}
 use Rattle.plan_theory.specs.ChainPlans.{HasNoContextPlan, IsChainPlan}
 use Rattle.plan_theory.specs.ChainPrinted.{chain_rules}
@@ -28,6 +24,7 @@ use Rattle.plan_rules.specs.Plans.{IsContextRuleOf}
 use Rattle.plan_rules.specs.Rules.{ContextRule, context_rules_of}
 use Rattle.plan_rules.specs.declared.rules.AutoPlan.{AutoPlan}
 use Rattle.plan_theory.proofs.WeakLists.{list_all-agree}
+use Rattle.task_core.specs.Cubes.{SetOfVectors}
 use Rattle.task_core.specs.Tasks.{action_count, fluent_count, system_of}
 use Rattle.task_core.specs.Vectors.{value_of}
 use Rattle.task_core.specs.declared.tasks.Task.{Task}
@@ -35,27 +32,20 @@ use Rattle.task_core.proofs.TaskSystem.{is_system}
 use Rattle.chain_plan.specs.Answers.{Ends, IsAnswer, IsPlanOf}
 use Rattle.chain_plan.specs.Chains.{chain_sets}
 use Rattle.chain_plan.specs.Found.{IfNoPlan, IfPlan}
-use Rattle.chain_plan.specs.Scenes.{HasNothing, IsAt, IsReady, Left, Moved, SameStates, Scene, Start, Worked, board_of, place_count, states_at, sys_of, win_place}
+use Rattle.chain_plan.specs.Scenes.{HasNothing, IsAt, Left, SameStates, Scene, Start, Worked, board_of, place_count, states_at, sys_of, win_place}
 use Rattle.chain_plan.specs.Steps.{HasTakers, Won}
 use Rattle.chain_plan.specs.Tables.{HasTable, start_of}
 use Rattle.chain_plan.specs.declared.plan.FoundAuto.{FoundAuto}
 use Rattle.chain_plan.specs.declared.plan.FoundAuto.TheVariants.{NoPlan, Plan}
-use Rattle.chain_plan.proofs.SceneSteps.{depends_at, moved_worked, same_length, worked_chain}
 
--- the initial states without those at a place
-module _ (start : Start) (x m y : Scene) (place : ℕ) (high : 8 ≤ place) (within : place < length x.1) (ready : IsReady start x) (first : Moved start x m 4 (set_of x.0.sets x.0.initial.0)) (second : Moved start m y 4 (minus_of (board.set_at m.0.sets m.1 4) (board.set_at m.0.sets m.1 place))) where
-  pub tested_worked : Worked start x y
-  tested_worked = worked_chain start x m y (moved_worked start x m 4 _ first (omega arith)) (moved_worked start m y 4 _ second (omega arith))
-
-  pub tested : (answer : Bool) → (IsTrue answer ↔ (board.set_at y.0.sets y.1 4 ≡ nothing)) → answer ≡ list_all (states_at x place) (sys_of start).initial
-  tested answer is =
-      let long : length m.1 ≡ length x.1 = same_length start x m ready.at first.at in
-      let e : board.set_at y.0.sets y.1 4 ≡ minus_of (initial_set start.task) (board.set_at x.0.sets x.1 place) =
-      second.here
-      ∙ ap (λ (g : Function). minus_of g (board.set_at m.0.sets m.1 place)) (first.here ∙ initial_is (board_of start) x.0 x.1 ready.at)
-      ∙ ap (minus_of (initial_set start.task)) (first.others place (omega arith) (λ e. absurd (omega arith))) in
-      covers_is (board_of start) (board.set_at x.0.sets x.1 place) (states_at x place) (depends_at start x ready place) (λ v at. refl) answer
-      (subst (λ (g : Function). IsTrue answer ↔ (g ≡ nothing)) e is)
+-- the test of the initial states leaves all places
+pub stayed_worked : (start : Start) (enc now : Encoded) (slots : List SetId) → board.Stayed (board_of start) enc.sets now slots → Worked start (enc, slots) (now, slots)
+stayed_worked start enc now slots stayed =
+    let states : Function → SetOfVectors = λ f v. f (value_of v) in
+    record {
+      ready = record { at = stayed.at; sound = stayed.sound };
+      kept = λ k high within. ap states (stayed.each k within);
+    }
 
 -- the states of the first context
 pub covered_is : (start : Start) (x : Scene) (chain : Chained) → Won start x chain 0 → list_all (states_at x (win_place 0)) (sys_of start).initial ≡ covers_chain (sys_of start) chain

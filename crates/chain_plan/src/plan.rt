@@ -19,11 +19,11 @@ ghost use Rattle.task_core.specs.declared.tasks.Task.{Task as TaskOf};
 ghost use Rattle.chain_plan.specs.Answers.{Ends, IsAnswer, IsPlanOf};
 ghost use Rattle.chain_plan.specs.Chains.{IsChainOver, most_stages, chain_sets};
 ghost use Rattle.chain_plan.specs.Found.{IfNoPlan, IfPlan};
-ghost use Rattle.chain_plan.specs.Scenes.{HasNothing, IsAt, IsReady, Left, Start, Worked};
-ghost use Rattle.chain_plan.specs.Scenes.{board_of, states_at, sys_of};
+ghost use Rattle.chain_plan.specs.Scenes.{HasNothing, IsAt, Left, Start};
+ghost use Rattle.chain_plan.specs.Scenes.{board_of};
 ghost use Rattle.chain_plan.specs.Tables.{HasTable, start_of};
 
-use crate::places::{NEW, places, win_at};
+use crate::places::{places, win_at};
 use crate::rules::list_all;
 use crate::takers::take_all;
 use crate::wins::win_all;
@@ -31,7 +31,7 @@ use ctl_syntax::Chain;
 use dd_sets::SetErr;
 use encode_task::Enc;
 use plan_rules::AutoPlan;
-use slot_board::{Board, Operation};
+use slot_board::Board;
 use std::alloc::Global;
 use task_core::Task;
 
@@ -42,24 +42,6 @@ pub enum FoundAuto {
     Plan(AutoPlan),
     /// That there is none.
     NoPlan,
-}
-
-/// Whether each initial state is one of those at a place.
-fn covers_initial(enc: &mut Enc, board: &mut Board, place: usize) -> Result<bool, SetErr>
-    requires ready { (start : Start) × IsReady start (enc.old, board.old.slots.items) }
-    requires place { place < length board.old.slots.items }
-    requires high { 8 ≤ place }
-    ensures left { (start : Start) → IsReady start (enc.old, board.old.slots.items)
-        → Left start (enc.new, board.new.slots.items)
-        (Worked start (enc.old, board.old.slots.items) (enc.new, board.new.slots.items)) result }
-    ensures answer { (start : Start) → IsReady start (enc.old, board.old.slots.items)
-        → IfOk result (λ covered. covered
-        ≡ list_all (states_at (enc.old, board.old.slots.items) place) (sys_of start).initial) }
-{
-    let initial = enc.initial();
-    board.copy(enc, NEW, initial)?;
-    board.combine(enc, NEW, Operation::Minus, NEW, place)?;
-    Ok(board.is_empty(enc, NEW))
 }
 
 /// Searches with the slots of a board, which stay: whether there is a plan.
@@ -73,7 +55,7 @@ fn search(enc: &mut Enc, board: &mut Board, actions: u32, chain: &Chain) -> Resu
         → Ends start (enc.new, board.new.slots.items) (chain_sets chain.now) result }
 {
     win_all(enc, board, actions, chain)?;
-    if !covers_initial(enc, board, win_at(0))? {
+    if !board.covers_initial(enc, win_at(0))? {
         return Ok(false);
     }
     take_all(enc, board, actions, chain.stages.len() as u32)?;

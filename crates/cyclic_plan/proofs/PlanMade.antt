@@ -1,25 +1,18 @@
 -- What the parts of the planner answer.
-use Rattle.std.proofs.Common.{◌≡◌, ℕ, zero, suc, ◌+◌, ◌<◌, ◌^◌, Bool, true, false, cond, not, ◌&&◌, List, [], ◌∷◌, ◌++◌, map, length, Option, None, Some, IsTrue, ◌↔◌, refl, sym, ap, subst, ◌∙◌, arith}
+use Rattle.std.proofs.Common.{◌≡◌, ℕ, zero, suc, ◌+◌, ◌<◌, ◌^◌, Bool, true, false, cond, not, List, [], ◌∷◌, ◌++◌, map, length, Option, None, Some, refl, sym, ap, subst, ◌∙◌, arith}
 use Rattle.std.specs.Option.{option_map, unwrap_or}
 use Rattle.std.specs.List.{Contains, flat_map, list_all, list_any, range_with_len}
-use Rattle.std.proofs.Math.Path.{fun_ext}
-use Rattle.std.proofs.lemmas.Bool.{true≢false}
 use Rattle.std.proofs.lemmas.Grind.{flat_map-append}
 use Rattle.std.proofs.lemmas.List.{append-nil}
 use Rattle.plan_rules.specs.Rules.{PlanRule}
 use Rattle.plan_theory.proofs.Ranges.{range-more}
 use Rattle.plan_theory.specs.LayerPlans.{rules_of_action, takers}
 use Rattle.task_core.specs.declared.classes.Class.TheVariants.{Weak}
-use Rattle.cyclic_plan.specs.Answers.{rule_for}
-use Rattle.dd_nodes.specs.NodeList.{Values}
-use Rattle.dd_nodes.specs.Subfunctions.{DependsOnly, Function}
-use Rattle.dd_ops.specs.Operations.{minus_of}
-use Rattle.dd_sets.specs.LiveSets.{IsLive, everything, nothing, set_of}
+use Rattle.dd_nodes.specs.Subfunctions.{Function}
+use Rattle.dd_sets.specs.LiveSets.{IsLive, everything, set_of}
 use Rattle.dd_sets.specs.declared.slots.SetId.{SetId}
 use Rattle.encode_task.specs.Made.{Holds, HoldsGoal}
 use Rattle.encode_task.specs.Slots.{Encoded}
-use Rattle.encode_task.specs.TaskSets.{first_values, initial_set}
-use Rattle.encode_task.proofs.ShownLemmas.{first_are, value_computed}
 use Rattle.task_core.specs.Conditions.{holds}
 use Rattle.task_core.specs.Cubes.{Cube, SetOfVectors, cubes_from, cubes_of, half, ignores_first, is_empty_set, is_whole_set, literal}
 use Rattle.task_core.specs.Tasks.{action_count, fluent_count, initial_states, states_where, system_of}
@@ -28,10 +21,10 @@ use Rattle.task_core.specs.declared.conditions.Cond.{Cond}
 use Rattle.task_core.proofs.TaskSystem.{is_system, states_where_has, states_where_holds}
 use Rattle.plan_theory.proofs.Cubes.{all_vectors-length}
 use Rattle.plan_theory.proofs.Weak.{same_vector-itself, same_vector-true}
-use Rattle.plan_theory.proofs.WeakLists.{list_all-agree, list_all-at, list_all-from, list_any-agree, list_any-from, list_any-witness}
-use Rattle.slot_board.proofs.BoardSlots.{depends, initial_is}
+use Rattle.plan_theory.proofs.WeakLists.{list_all-agree, list_any-agree, list_any-from, list_any-witness}
+use Rattle.slot_board.specs.Rules.{rule_for}
 use Rattle.slot_board.specs.Board.{set_at}
-use Rattle.slot_board.specs.Board.{At, Moved, Start}
+use Rattle.slot_board.specs.Board.{At, Moved, Start, Stayed}
 use Rattle.cyclic_plan.specs.Stages.{HasNothing}
 use Rattle.plan_theory.specs.Pairs.{is_goal, restricted}
 use Rattle.cyclic_plan.specs.Takers.{HasTable}
@@ -91,59 +84,22 @@ begun start enc mid now old half new slot h is first second =
           (λ v at. ap (λ (f : Function). f (value_of v)) (h.holds_nothing (7 + action_count start.task + a) (omega arith))));
     }
 
-module _ (start : Start) (f : Function) (left : SetOfVectors) (only : DependsOnly 0 (fluent_count start.task) f) (same : Agrees start f left) where
-  none_outside : minus_of (initial_set start.task) f ≡ nothing → list_all left (initial_states start.task) ≡ true
-  none_outside empty = list_all-from left (initial_states start.task) (λ s c.
-      let is = (is_system start.task).initial s c in
-      let member : initial_set start.task (value_of s) ≡ true =
-      ap (λ u. list_any (same_vector u) (initial_states start.task)) (first_are (fluent_count start.task) (value_of s) s is (λ u l. refl))
-      ∙ list_any-from (same_vector s) (initial_states start.task) s c (same_vector-itself s) in
-      sym (same s is) ∙ inside (f (value_of s)) (sym (ap (λ b. b && not (f (value_of s))) member) ∙ ap (λ (g : Function). g (value_of s)) empty))
-    where
-      inside : (b : Bool) → not b ≡ false → b ≡ true
-      inside true e = refl
-      inside false e = absurd (true≢false e)
+-- the test of the initial states leaves all places
+pub near_stays : (start : Start) (enc now : Encoded) (slots : List SetId) (left : SetOfVectors) (taken : Takings) (near : SetOfVectors) → HasNear start enc slots left taken near → Stayed start enc.sets now slots → HasNear start now slots left taken near
+near_stays start enc now slots left taken near h stayed =
+    let long : length slots ≡ 7 + action_count start.task + action_count start.task = h.round.at.long ∙ h.round.places in
+    let moved : Moved start enc.sets slots now slots 6 (set_at enc.sets slots 6) = record {
+      at = stayed.at;
+      sound = stayed.sound;
+      here = stayed.each 6 (omega arith);
+      others = λ other within differs. stayed.each other within;
+    } in
+    near_still start enc now slots slots 6 _ moved h.round.places left taken near h (λ e. absurd (omega arith)) (λ e. absurd (omega arith)) (λ e. absurd (omega arith)) (omega arith)
 
-  all_inside : list_all left (initial_states start.task) ≡ true → minus_of (initial_set start.task) f ≡ nothing
-  all_inside covered = fun_ext (λ values. go values (initial_set start.task values) refl)
-    where
-      member : (values : Values) → initial_set start.task values ≡ true → f values ≡ true
-      member values h =
-          let w = list_any-witness (same_vector (first_values (fluent_count start.task) values)) (initial_states start.task) h in
-          let e : first_values (fluent_count start.task) values ≡ w.0 = same_vector-true (first_values (fluent_count start.task) values) w.0 w.2 in
-          let is = (is_system start.task).initial w.0 w.1 in
-          only values (value_of w.0) (λ u low l. sym (value_computed values (fluent_count start.task) u l) ∙ ap (λ v. value_of v u) e)
-          ∙ same w.0 is ∙ list_all-at left (initial_states start.task) w.0 covered w.1
-
-      go : (values : Values) (b : Bool) → initial_set start.task values ≡ b → minus_of (initial_set start.task) f values ≡ false
-      go values true e = ap (λ b. b && not (f values)) e ∙ ap not (member values e)
-      go values false e = ap (λ b. b && not (f values)) e
-
-  pub covers_is : (answer : Bool) → (IsTrue answer ↔ (minus_of (initial_set start.task) f ≡ nothing)) → answer ≡ list_all left (system_of start.task).initial
-  covers_is answer is = same_truth answer (list_all left (initial_states start.task)) (λ h. none_outside (is.0 (true_is answer h))) (λ h. is_true answer (is.1 (all_inside h)))
-    where
-      true_is : (b : Bool) → b ≡ true → IsTrue b
-      true_is b h = h
-
-      is_true : (b : Bool) → IsTrue b → b ≡ true
-      is_true b h = h
-
--- the two steps of the test
-module _ (start : Start) (enc mid now : Encoded) (old half new : List SetId) (left : SetOfVectors) (taken : Takings) (near : SetOfVectors) (h : HasNear start enc old left taken near)
-    (first : Moved start enc.sets old mid half 6 (set_of enc.sets enc.initial.0))
-    (second : Moved start mid.sets half now new 6 (minus_of (set_at mid.sets half 6) (set_at mid.sets half 1))) where
-  first_near : HasNear start mid half left taken near
-  first_near = near_still start enc mid old half 6 _ first h.round.places left taken near h (λ e. absurd (omega arith)) (λ e. absurd (omega arith)) (λ e. absurd (omega arith)) (omega arith)
-
-  pub tested_near : HasNear start now new left taken near
-  tested_near = near_still start mid now half new 6 _ second first_near.round.places left taken near first_near (λ e. absurd (omega arith)) (λ e. absurd (omega arith)) (λ e. absurd (omega arith)) (omega arith)
-
-  pub tested : (answer : Bool) → (IsTrue answer ↔ (set_at now.sets new 6 ≡ nothing)) → answer ≡ list_all left (system_of start.task).initial
-  tested answer is =
-      let e : set_at now.sets new 6 ≡ minus_of (initial_set start.task) (set_at mid.sets half 1) =
-      second.here ∙ ap (λ (g : Function). minus_of g (set_at mid.sets half 1)) (first.here ∙ initial_is start enc old h.round.at) in
-      covers_is start (set_at mid.sets half 1) left (depends start mid half first_near.round.at first_near.round.sound 1) first_near.round.holds_left answer
-      (subst (λ (g : Function). IsTrue answer ↔ (g ≡ nothing)) e is)
+pub covered_is : (start : Start) (enc : Encoded) (slots : List SetId) (left : SetOfVectors) (taken : Takings) (near : SetOfVectors) → HasNear start enc slots left taken near
+    → list_all (λ state. set_at enc.sets slots 1 (value_of state)) (initial_states start.task) ≡ list_all left (system_of start.task).initial
+covered_is start enc slots left taken near h =
+    list_all-agree (λ state. set_at enc.sets slots 1 (value_of state)) left (initial_states start.task) (λ s c. h.round.holds_left s ((is_system start.task).initial s c))
 
 -- the cubes of sets that hold the same states
 pub cubes_agree : (n first : ℕ) (f g : SetOfVectors) → ((v : Vector) → length v ≡ n → f v ≡ g v) → cubes_from first n f ≡ cubes_from first n g

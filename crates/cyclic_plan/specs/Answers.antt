@@ -1,6 +1,5 @@
 -- Private: what the planner's parts answer.
-use Rattle.std.specs.Prelude.{◌≡◌, ℕ, Bool, true, false, List, All, Result, Ok, Err}
-use Rattle.task_core.specs.Cubes.{Cube}
+use Rattle.std.specs.Prelude.{◌≡◌, Bool, true, false, List, All, Result, Ok, Err}
 use Rattle.task_core.specs.Solutions.{HasNoSolution, IsSolution}
 use Rattle.task_core.specs.Tables.{IsTable}
 use Rattle.task_core.specs.Tasks.{action_count, fluent_count, system_of}
@@ -8,7 +7,7 @@ use Rattle.task_core.specs.declared.classes.Class.TheVariants.{Cyclic}
 use Rattle.task_core.specs.declared.tasks.Task.{Task}
 use Rattle.plan_rules.specs.Denoted.{denoted, IsExecutable}
 use Rattle.plan_rules.specs.Plans.{IsRuleOf}
-use Rattle.plan_rules.specs.Rules.{PlanRule, rules_of}
+use Rattle.plan_rules.specs.Rules.{rules_of}
 use Rattle.plan_rules.specs.declared.rules.TablePlan.{TablePlan}
 use Rattle.plan_theory.specs.declared.answers.Found.{Found}
 use Rattle.plan_theory.specs.declared.answers.Found.TheVariants.{NoPlan, Plan}
@@ -21,10 +20,6 @@ use Rattle.plan_theory.specs.LargestSets.{IsLargestSet}
 use Rattle.plan_theory.specs.Pairs.{Pairs}
 use Rattle.plan_theory.specs.CyclicPlans.{cyclic_rules}
 use Rattle.cyclic_plan.specs.Takers.{HasTable}
-
--- the rule that takes an action where a cube matches
-abbrev pub rule_for : ℕ → Cube → PlanRule
-rule_for a cube = record { cube = cube; action = a }
 
 -- a plan for the task, and all that is said of it
 pub record IsPlanOf (task : Task) (plan : TablePlan) : Type 0 where

@@ -1,12 +1,10 @@
 //! The strong cyclic planner.
 
-ghost use Rattle.std.specs.Prelude.{◌≡◌, ℕ, ◌+◌, ◌*◌, ◌<◌, ◌++◌, ◌^◌, [], map, length, Some, All};
-ghost use Rattle.std.specs.Prelude.{IsSome, IfErr, IfNone, IfOk, IfSome, OnErr, OnOk, IsErrOf};
-ghost use Rattle.std.specs.List.{list_all};
+ghost use Rattle.std.specs.Prelude.{◌≡◌, ◌+◌, ◌*◌, ◌<◌, [], map, length, Some, All};
+ghost use Rattle.std.specs.Prelude.{IsSome, IfErr, IfNone, IfOk, IfSome, OnErr, IsErrOf};
 ghost use Rattle.dd_sets.specs.Frames.{Owns};
 ghost use Rattle.dd_sets.specs.Rooms.{AnySet, NoRoom};
 ghost use Rattle.encode_task.specs.Made.{MadeOf};
-ghost use Rattle.task_core.specs.Cubes.{Cube, SetOfVectors};
 ghost use Rattle.task_core.specs.Solutions.{HasNoSolution, IsSolution};
 ghost use Rattle.task_core.specs.Tables.{IsTable};
 ghost use Rattle.task_core.specs.Tasks.{action_count, fluent_count, system_of};
@@ -16,24 +14,24 @@ ghost use Rattle.plan_rules.specs.Denoted.{denoted, IsExecutable};
 ghost use Rattle.plan_rules.specs.Plans.{IsRuleOf};
 ghost use Rattle.plan_rules.specs.Rules.{rule_of, rules_of};
 ghost use Rattle.plan_theory.specs.Found.{IfNoPlan, IfPlan};
-ghost use Rattle.cyclic_plan.specs.Answers.{Ends, IsAnswer, IsPlanOf, rule_for};
+ghost use Rattle.cyclic_plan.specs.Answers.{Ends, IsAnswer, IsPlanOf};
 ghost use Rattle.slot_board.specs.Board.{Left, Start};
 ghost use Rattle.cyclic_plan.specs.Stages.{place_count, HasNothing};
 ghost use Rattle.plan_theory.specs.LargestSets.{IsLargestSet};
 ghost use Rattle.plan_theory.specs.Pairs.{Pairs};
 ghost use Rattle.plan_theory.specs.CyclicPlans.{cyclic_rules};
 ghost use Rattle.plan_theory.specs.PairRounds.{round as round_of};
-ghost use Rattle.cyclic_plan.specs.Stages.{HasNear, HasRound, Takings, none_taken};
+ghost use Rattle.cyclic_plan.specs.Stages.{HasRound, none_taken};
 ghost use Rattle.cyclic_plan.specs.Takers.{HasTable, start_of};
 
-use crate::rounds::{GOAL, LEFT, NEW, last_round, spread, takers_of};
+use crate::rounds::{GOAL, LEFT, last_round, spread, takers_of};
 use dd_sets::{SetErr, SetId};
 use encode_task::Enc;
 use plan_rules::{Class, Rule, TablePlan};
 use plan_theory::Found;
-use slot_board::{Board, Operation};
+use slot_board::{Board, add_rules};
 use std::alloc::{AllocError, Global};
-use task_core::{ActionId, Lit, Task};
+use task_core::{ActionId, Task};
 
 /// How many places the board has for a task with so many actions.
 fn places(actions: u32) -> usize
@@ -55,25 +53,6 @@ fn begin(enc: &mut Enc, board: &mut Board, goal: SetId) -> Result<(), SetErr>
     board.whole(enc, LEFT)
 }
 
-/// Whether each initial state is left.
-fn covers_initial(enc: &mut Enc, board: &mut Board) -> Result<bool, SetErr>
-    requires ready { (start : Start) × (left : SetOfVectors) × (taken : Takings)
-        × (near : SetOfVectors) × HasNear start enc.old board.old.slots.items left taken near }
-    ensures left { (start : Start) (left : SetOfVectors) (taken : Takings) (near : SetOfVectors)
-        → HasNear start enc.old board.old.slots.items left taken near
-        → Left start enc.new board.new.slots.items
-        (HasNear start enc.new board.new.slots.items left taken near) result }
-    ensures answer { (start : Start) (left : SetOfVectors) (taken : Takings)
-        (near : SetOfVectors)
-        → HasNear start enc.old board.old.slots.items left taken near
-        → IfOk result (λ covered. covered ≡ list_all left (system_of start.task).initial) }
-{
-    let initial = enc.initial();
-    board.copy(enc, NEW, initial)?;
-    board.combine(enc, NEW, Operation::Minus, NEW, LEFT)?;
-    Ok(board.is_empty(enc, NEW))
-}
-
 /// The rules of the states that take each action, the actions in rising number.
 fn rules(alloc: Global, enc: &Enc, board: &Board, actions: u32) -> Result<Vec<Rule>, AllocError>
     requires ready { (start : Start) × HasTable start enc.now board.now.slots.items }
@@ -90,21 +69,6 @@ fn rules(alloc: Global, enc: &Enc, board: &Board, actions: u32) -> Result<Vec<Ru
     Ok(rules)
 }
 
-/// A rule for each cube.
-fn add_rules(
-    rules: &mut Vec<Rule>,
-    action: ActionId,
-    cubes: Vec<Vec<Lit>>,
-) -> Result<(), AllocError>
-    ensures { OnOk result (map rule_of rules.new.items ≡ map rule_of rules.old.items
-        ++ map (rule_for action.0) (map (λ cube. cube.items) cubes.items)) }
-{
-    for cube in cubes {
-        rules.push(Rule { cube, action })?;
-    }
-    Ok(())
-}
-
 /// Searches with the slots of a board, which stay: whether there is a plan.
 fn search(enc: &mut Enc, board: &mut Board, goal: SetId, actions: u32) -> Result<bool, SetErr>
     requires ready { (start : Start) × HasNothing start enc.old board.old.slots.items }
@@ -115,7 +79,7 @@ fn search(enc: &mut Enc, board: &mut Board, goal: SetId, actions: u32) -> Result
 {
     begin(enc, board, goal)?;
     last_round(enc, board, actions)?;
-    if !covers_initial(enc, board)? {
+    if !board.covers_initial(enc, LEFT)? {
         return Ok(false);
     }
     spread(enc, board, actions, true)?;

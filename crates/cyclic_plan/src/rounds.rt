@@ -1,13 +1,11 @@
 //! The rounds of the search for the largest set of pairs, on sets of states.
 
 ghost use Rattle.std.specs.Prelude.{◌≡◌, ℕ, suc, ◌+◌, ◌<◌, ◌^◌, ◌&&◌, ◌||◌, not, length, false};
-ghost use Rattle.dd_sets.specs.LiveSets.{IsLive, set_of};
 ghost use Rattle.task_core.specs.Cubes.{SetOfVectors};
 ghost use Rattle.task_core.specs.Tasks.{system_of, action_count, fluent_count};
 ghost use Rattle.plan_theory.specs.Layers.{may_lead};
-ghost use Rattle.slot_board.specs.Board.{IsWorking};
-ghost use Rattle.slot_board.specs.Board.{At, Left, Start};
-ghost use Rattle.plan_theory.specs.PairRounds.{IsLastRound, connected, kept, round as round_of};
+ghost use Rattle.slot_board.specs.Board.{Left, Start};
+ghost use Rattle.plan_theory.specs.PairRounds.{connected, kept, round as round_of};
 ghost use Rattle.cyclic_plan.specs.Stages.{HasHits, HasLastRound, HasNear, HasNext, HasPairs};
 ghost use Rattle.cyclic_plan.specs.Stages.{HasRound, HasStep, Takings, kept_system, next_by};
 ghost use Rattle.cyclic_plan.specs.Stages.{none_taken, taken_also, taken_by, taken_if};
@@ -32,7 +30,7 @@ const NEXT: usize = 4;
 /// The states of kept pairs from which an action leads into the near states.
 const HITS: usize = 5;
 /// Those of them that are new.
-pub(crate) const NEW: usize = 6;
+const NEW: usize = 6;
 
 /// The place of the states of an action's kept pairs.
 fn pairs_of(a: ActionId) -> usize

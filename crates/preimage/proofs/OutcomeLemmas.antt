@@ -1,5 +1,5 @@
 -- One outcome more, and the outcomes of the system.
-use Rattle.std.proofs.Common.{◌≡◌, ℕ, zero, suc, ◌+◌, ◌<◌, ◌≤◌, Bool, true, false, cond, not, ◌&&◌, ◌||◌, List, [], ◌∷◌, map, length, get_or, take, Option, Some, None, slice_get, refl, sym, ap, ◌∙◌, arith}
+use Rattle.std.proofs.Common.{◌≡◌, ℕ, zero, suc, ◌+◌, ◌<◌, ◌≤◌, Bool, true, false, cond, not, ◌&&◌, ◌||◌, List, [], ◌∷◌, map, length, get_or, take, Option, Some, slice_get, refl, sym, ap, ◌∙◌, arith}
 use Rattle.std.specs.List.{list_all, list_any}
 use Rattle.std.specs.Option.{option_map_or}
 use Rattle.std.proofs.lemmas.List.{take_all}
@@ -16,6 +16,9 @@ use Rattle.task_core.specs.declared.tasks.Task.{Task}
 use Rattle.encode_task.specs.TaskSets.{exec_set, led_into}
 use Rattle.encode_task.proofs.ShownLemmas.{value_computed}
 use Rattle.preimage.specs.Preimages.{strong_preimage, weak_preimage}
+use Rattle.preimage.specs.Sides.{all_outcomes_on, on_side}
+use Rattle.preimage.specs.declared.slots.Side.{Side}
+use Rattle.preimage.specs.declared.slots.Side.TheVariants.{Inside, Outside}
 
 -- whether an outcome leads into a set
 abbrev leads : Function → Values → Outcome → Bool
@@ -23,10 +26,10 @@ leads set values o = set (after_value o values)
 
 -- what is left of where the action can be executed without the first outcomes, and what all of them
 -- lead into the set
-abbrev pub left_after : Task → ℕ → Function → ℕ → Function
+abbrev left_after : Task → ℕ → Function → ℕ → Function
 left_after task a set i values = exec_set task a values && not (list_any (λ o. set (after_value o values)) (take i (outcomes_at task a)))
 
-abbrev pub all_after : Task → ℕ → Function → ℕ → Function
+abbrev all_after : Task → ℕ → Function → ℕ → Function
 all_after task a set i values = exec_set task a values && list_all (λ o. set (after_value o values)) (take i (outcomes_at task a))
 
 -- the outcome with a number
@@ -47,7 +50,7 @@ more : (e l s : Bool) → ((e && l) && s) ≡ (e && (l && s))
 more true l s = refl
 more false l s = refl
 
-pub left_more : (task : Task) (a i : ℕ) (set : Function) → i < length (outcomes_at task a) → minus_of (left_after task a set i) (led_into task a i set) ≡ left_after task a set (i + 1)
+left_more : (task : Task) (a i : ℕ) (set : Function) → i < length (outcomes_at task a) → minus_of (left_after task a set i) (led_into task a i set) ≡ left_after task a set (i + 1)
 left_more task a i set within = λ j values. (step values) j
   where
     step : (values : Values) → (left_after task a set i values && not (led_into task a i set values)) ≡ left_after task a set (i + 1) values
@@ -57,7 +60,7 @@ left_more task a i set within = λ j values. (step values) j
         ∙ less (exec_set task a values) (list_any (leads set values) (take i (outcomes_at task a))) (leads set values (get_or (outcomes_at task a) i o.0))
         ∙ ap (λ b. exec_set task a values && not b) (sym (list_any_more (leads set values) (outcomes_at task a) i o.0 within))
 
-pub all_more : (task : Task) (a i : ℕ) (set : Function) → i < length (outcomes_at task a) → and_of (all_after task a set i) (led_into task a i set) ≡ all_after task a set (i + 1)
+all_more : (task : Task) (a i : ℕ) (set : Function) → i < length (outcomes_at task a) → and_of (all_after task a set i) (led_into task a i set) ≡ all_after task a set (i + 1)
 all_more task a i set within = λ j values. (step values) j
   where
     step : (values : Values) → (all_after task a set i values && led_into task a i set values) ≡ all_after task a set (i + 1) values
@@ -72,10 +75,10 @@ and_true : (e : Bool) → e ≡ (e && true)
 and_true true = refl
 and_true false = refl
 
-pub exec_left : (task : Task) (a : ℕ) (set : Function) → exec_set task a ≡ left_after task a set 0
+exec_left : (task : Task) (a : ℕ) (set : Function) → exec_set task a ≡ left_after task a set 0
 exec_left task a set = λ j values. and_true (exec_set task a values) j
 
-pub exec_all : (task : Task) (a : ℕ) (set : Function) → exec_set task a ≡ all_after task a set 0
+exec_all : (task : Task) (a : ℕ) (set : Function) → exec_set task a ≡ all_after task a set 0
 exec_all task a set = λ j values. and_true (exec_set task a values) j
 
 -- at the end
@@ -84,13 +87,31 @@ hit true true = refl
 hit true false = refl
 hit false l = refl
 
-pub weak_whole : (task : Task) (a i : ℕ) (set : Function) → length (outcomes_at task a) ≤ i → minus_of (exec_set task a) (left_after task a set i) ≡ weak_preimage task a set
-weak_whole task a i set done = λ j values.
-    (hit (exec_set task a values) (list_any (leads set values) (take i (outcomes_at task a)))
-    ∙ ap (λ l. exec_set task a values && list_any (leads set values) l) (take_all i (outcomes_at task a) done)) j
+left_whole : (task : Task) (a i : ℕ) (set : Function) → length (outcomes_at task a) ≤ i → left_after task a set i ≡ all_outcomes_on Outside task a set
+left_whole task a i set done = λ j values. ap (λ l. exec_set task a values && not (list_any (leads set values) l)) (take_all i (outcomes_at task a) done) j
 
-pub strong_whole : (task : Task) (a i : ℕ) (set : Function) → length (outcomes_at task a) ≤ i → all_after task a set i ≡ strong_preimage task a set
+strong_whole : (task : Task) (a i : ℕ) (set : Function) → length (outcomes_at task a) ≤ i → all_after task a set i ≡ strong_preimage task a set
 strong_whole task a i set done = λ j values. ap (λ l. exec_set task a values && list_all (leads set values) l) (take_all i (outcomes_at task a) done) j
+
+pub weak_whole : (task : Task) (a : ℕ) (set : Function) → minus_of (exec_set task a) (all_outcomes_on Outside task a set) ≡ weak_preimage task a set
+weak_whole task a set = λ j values. hit (exec_set task a values) (list_any (leads set values) (outcomes_at task a)) j
+
+-- the same, of either side
+abbrev pub side_after : Side → Task → ℕ → Function → ℕ → Function
+side_after Inside = all_after
+side_after Outside = left_after
+
+pub side_more : (side : Side) (task : Task) (a i : ℕ) (set : Function) → i < length (outcomes_at task a) → on_side side (side_after side task a set i) (led_into task a i set) ≡ side_after side task a set (i + 1)
+side_more Inside = all_more
+side_more Outside = left_more
+
+pub exec_side : (side : Side) (task : Task) (a : ℕ) (set : Function) → exec_set task a ≡ side_after side task a set 0
+exec_side Inside = exec_all
+exec_side Outside = exec_left
+
+pub side_whole : (side : Side) (task : Task) (a i : ℕ) (set : Function) → length (outcomes_at task a) ≤ i → side_after side task a set i ≡ all_outcomes_on side task a set
+side_whole Inside = strong_whole
+side_whole Outside = left_whole
 
 -- the states after the outcomes have the values after them
 module _ (n : ℕ) (set : Function) (depends : DependsOnly 0 n set) (v : Vector) where

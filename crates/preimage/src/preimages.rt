@@ -6,8 +6,9 @@ ghost use Rattle.dd_sets.specs.Rooms.{AnySet, NoRoom};
 ghost use Rattle.encode_task.specs.Made.{MadeOf};
 ghost use Rattle.task_core.specs.declared.tasks.Task.{Task};
 ghost use Rattle.preimage.specs.Preimages.{OfSomeTask, strong_preimage, weak_preimage};
+ghost use Rattle.preimage.specs.Sides.{all_outcomes_on};
 
-use crate::slots::{copied, in_both, rest_of, without};
+use crate::slots::{Side, copied, part_of, rest_of};
 use dd_sets::{SetErr, SetId};
 use encode_task::Enc;
 use task_core::ActionId;
@@ -27,13 +28,8 @@ pub fn weak_pre(enc: &mut Enc, a: ActionId, x: SetId) -> Result<SetId, SetErr>
     ensures same_slots { enc.new ≡ record enc.old { sets = enc.new.sets } }
     ensures made { (task : Task) → MadeOf task enc.old → MadeOf task enc.new }
 {
+    let left = all_on_side(enc, a, x, Side::Outside)?;
     let exec = enc.exec(a);
-    let mut left = copied(enc, exec)?;
-    for o in 0..enc.outcomes(a) {
-        // A set of states, of which the outcome must be one, would be met with `led` here.
-        let led = enc.led_into(a, o, x);
-        left = without(enc, left, led)?;
-    }
     rest_of(enc, exec, left)
 }
 
@@ -52,13 +48,29 @@ pub fn strong_pre(enc: &mut Enc, a: ActionId, x: SetId) -> Result<SetId, SetErr>
     ensures same_slots { enc.new ≡ record enc.old { sets = enc.new.sets } }
     ensures made { (task : Task) → MadeOf task enc.old → MadeOf task enc.new }
 {
+    all_on_side(enc, a, x, Side::Inside)
+}
+
+/// The states in which an action can be executed and all outcomes lie on one side of `x`, in a new
+/// slot.
+fn all_on_side(enc: &mut Enc, a: ActionId, x: SetId, side: Side) -> Result<SetId, SetErr>
+    requires made { OfSomeTask enc.old }
+    requires action { a.0 < length enc.old.actions }
+    requires live { IsLive enc.old.sets x.0 }
+    ensures answer { (task : Task) → MadeOf task enc.old → OwnsAnswer enc.old.sets enc.new.sets
+        (all_outcomes_on side task a.0 (set_of enc.old.sets x.0)) result }
+    ensures full { IsErrOf result SetErr.Full → NoRoom AnySet 8 enc.old.sets enc.new.sets }
+    ensures sound { IsSets enc.new.sets }
+    ensures same_slots { enc.new ≡ record enc.old { sets = enc.new.sets } }
+    ensures made { (task : Task) → MadeOf task enc.old → MadeOf task enc.new }
+{
     let exec = enc.exec(a);
-    let mut all = copied(enc, exec)?;
+    let mut rest = copied(enc, exec)?;
     for o in 0..enc.outcomes(a) {
-        // A set of states, of which the outcome must be one, would lose `led` here, and `all` what
-        // is left of it.
+        // A set of states, of which the outcome must be one, would be met with `led` here; and
+        // inside, `rest` would lose what is left of that set.
         let led = enc.led_into(a, o, x);
-        all = in_both(enc, all, led)?;
+        rest = part_of(enc, side, rest, led)?;
     }
-    Ok(all)
+    Ok(rest)
 }

@@ -1,14 +1,24 @@
 //! Sets in the place of slots, on the sets of a task.
 ghost use Rattle.std.specs.Prelude.{◌≡◌, ◌⊎◌, [], ◌∷◌, IfErr, IsErrOf};
 ghost use Rattle.dd_nodes.specs.Subfunctions.{Function};
-ghost use Rattle.dd_ops.specs.Operations.{and_of, minus_of};
+ghost use Rattle.dd_ops.specs.Operations.{minus_of};
 ghost use Rattle.dd_sets.specs.Calls.{Releases};
 ghost use Rattle.dd_sets.specs.Frames.{AreTwo, Owns, OwnsAnswer, OwnsBoth};
 ghost use Rattle.dd_sets.specs.LiveSets.{IsSets, LiveSets, IsLive, set_of};
 ghost use Rattle.dd_sets.specs.Rooms.{AnySet, NoRoom};
+ghost use Rattle.preimage.specs.Sides.{on_side};
 
 use dd_sets::{SetErr, SetId};
 use encode_task::Enc;
+
+/// The two sides of a set.
+#[derive(Clone, Copy, Debug)]
+pub enum Side {
+    /// What is in it.
+    Inside,
+    /// What is not.
+    Outside,
+}
 
 /// The same set in a new slot.
 pub fn copied(enc: &mut Enc, a: SetId) -> Result<SetId, SetErr>
@@ -21,35 +31,28 @@ pub fn copied(enc: &mut Enc, a: SetId) -> Result<SetId, SetErr>
     enc.sets_mut().copy(a)
 }
 
-/// The meet of a set and an answer, in the place of their slots; a refusal where one was answered.
-pub fn in_both(enc: &mut Enc, a: SetId, b: Result<SetId, SetErr>) -> Result<SetId, SetErr>
+/// The lists of a set on one side of an answer, in the place of their slots; a refusal where one was
+/// answered.
+pub fn part_of(
+    enc: &mut Enc,
+    side: Side,
+    a: SetId,
+    b: Result<SetId, SetErr>,
+) -> Result<SetId, SetErr>
     requires { AreTwo enc.old.sets a b }
     ensures answer { (before : LiveSets) (f g : Function)
         → OwnsBoth before enc.old.sets a f b g
-        → OwnsAnswer before enc.new.sets (and_of f g) result }
+        → OwnsAnswer before enc.new.sets (on_side side f g) result }
     ensures same_slots { enc.new ≡ record enc.old { sets = enc.new.sets } }
     ensures full { IsErrOf result SetErr.Full
         → (IsErrOf b SetErr.Full × Releases enc.old.sets enc.new.sets a.0)
         ⊎ NoRoom AnySet 0 enc.old.sets enc.new.sets }
     ensures sound { IsSets enc.new.sets }
 {
-    enc.sets_mut().in_both(a, b)
-}
-
-/// The lists of a set that are not in an answer, in the place of their slots; a refusal where one
-/// was answered.
-pub fn without(enc: &mut Enc, a: SetId, b: Result<SetId, SetErr>) -> Result<SetId, SetErr>
-    requires { AreTwo enc.old.sets a b }
-    ensures answer { (before : LiveSets) (f g : Function)
-        → OwnsBoth before enc.old.sets a f b g
-        → OwnsAnswer before enc.new.sets (minus_of f g) result }
-    ensures same_slots { enc.new ≡ record enc.old { sets = enc.new.sets } }
-    ensures full { IsErrOf result SetErr.Full
-        → (IsErrOf b SetErr.Full × Releases enc.old.sets enc.new.sets a.0)
-        ⊎ NoRoom AnySet 0 enc.old.sets enc.new.sets }
-    ensures sound { IsSets enc.new.sets }
-{
-    enc.sets_mut().without(a, b)
+    match side {
+        Side::Inside => enc.sets_mut().in_both(a, b),
+        Side::Outside => enc.sets_mut().without(a, b),
+    }
 }
 
 /// The lists of a set `a` that are not in `b`, in the place of the slot of `b`.

@@ -32,7 +32,8 @@ use Rattle.plan_theory.specs.Classes.{IsFoundByLayers}
 use Rattle.plan_theory.specs.Layers.{IsLastLayer}
 use Rattle.plan_theory.specs.LayerPlans.{printed_rules, rules_of_action, takers}
 use Rattle.reach_plan.specs.Searches.{FoundLast, SearchLeft}
-use Rattle.reach_plan.specs.SetRules.{rule_for, rules_of_place}
+use Rattle.reach_plan.specs.SetRules.{rules_of_place}
+use Rattle.slot_board.specs.Rules.{rule_for}
 use Rattle.reach_plan.specs.Takers.{HoldTakers, IsDecided}
 use Rattle.plan_theory.proofs.ClassLayers.{printed_executable}
 use Rattle.plan_theory.proofs.LeastBounds.{solves_by_class}

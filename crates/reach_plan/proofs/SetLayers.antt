@@ -1,5 +1,5 @@
 -- The layers of a task's system as sets on diagrams: the goal, one layer more, and the last one.
-use Rattle.std.proofs.Common.{◌≡◌, ℕ, zero, suc, ◌+◌, ◌-◌, ◌<◌, ◌≤◌, Bool, true, false, cond, not, ◌&&◌, ◌||◌, List, [], ◌∷◌, ◌++◌, map, length, Some, None, ◌↔◌, IsTrue, refl, sym, ap, subst, ◌∙◌, ⊎_elim, arith, nat_lt}
+use Rattle.std.proofs.Common.{◌≡◌, ℕ, zero, suc, ◌+◌, ◌-◌, ◌<◌, ◌≤◌, Bool, true, false, cond, not, ◌&&◌, ◌||◌, List, [], ◌∷◌, ◌++◌, map, length, Some, None, refl, sym, ap, subst, ◌∙◌, ⊎_elim, arith, nat_lt}
 use Rattle.std.specs.List.{Contains, find, list_all, list_any, range_with_len}
 use Rattle.std.specs.Option.{option_and_then, option_map, option_or, unwrap_or}
 use Rattle.std.proofs.Math.Path.{fun_ext}
@@ -12,24 +12,23 @@ use Rattle.dd_ops.specs.Operations.{minus_of, or_of}
 use Rattle.task_core.specs.Conditions.{holds}
 use Rattle.task_core.specs.Cubes.{SetOfVectors, cubes_from, half, ignores_first, is_empty_set, is_whole_set, literal}
 use Rattle.task_core.specs.Systems.{IsState, System, goal_states}
-use Rattle.task_core.specs.Tasks.{action_count, fluent_count, initial_states, is_executable, next_states, states_after, states_where, system_of}
-use Rattle.task_core.specs.Vectors.{Vector, all_vectors, same_value, same_vector, value_of}
+use Rattle.task_core.specs.Tasks.{action_count, fluent_count, is_executable, next_states, states_after, states_where, system_of}
+use Rattle.task_core.specs.Vectors.{Vector, all_vectors, same_value, value_of}
 use Rattle.task_core.specs.declared.classes.Class.{Class}
 use Rattle.task_core.specs.declared.classes.Class.TheVariants.{Weak, Strong, Cyclic}
 use Rattle.task_core.specs.declared.conditions.Cond.{Cond}
 use Rattle.task_core.specs.declared.tasks.Task.{Task}
 use Rattle.task_core.proofs.TaskSystem.{executable_exec, is_system, states_where_has, states_where_holds}
-use Rattle.encode_task.specs.TaskSets.{first_values, initial_set}
+use Rattle.encode_task.specs.TaskSets.{first_values}
 use Rattle.preimage.specs.Laws.{StrongLeadsToAll, WeakLeadsToSome}
 use Rattle.plan_theory.specs.Classes.{IsStable}
-use Rattle.plan_theory.specs.Layers.{action_numbers, covers, layer, leads_by}
+use Rattle.plan_theory.specs.Layers.{action_numbers, layer, leads_by}
 use Rattle.reach_plan.specs.LayerSets.{AreTakers, IsLayerSet, class_preimage, grown, taken_by}
 use Rattle.plan_theory.specs.LayerPlans.{action_of_rank, chosen_action, is_action, takers}
 use Rattle.plan_theory.proofs.ClassLayers.{chosen_zero, layer-zero, layer-zero_goal, rank_within-None, step_choice}
 use Rattle.plan_theory.proofs.Cubes.{all_vectors-holds, all_vectors-length}
 use Rattle.plan_theory.proofs.Ranges.{find-first, range_split}
-use Rattle.plan_theory.proofs.Weak.{same_vector-itself, same_vector-true}
-use Rattle.plan_theory.proofs.WeakLists.{Contains-cons, Contains-head, Contains-range_with_len-below, find-None, find-Some, find-found, list_all-agree, list_all-at, list_all-from, list_any-agree, list_any-from, list_any-witness}
+use Rattle.plan_theory.proofs.WeakLists.{Contains-cons, Contains-head, Contains-range_with_len-below, find-None, find-Some, find-found, list_all-agree, list_any-agree}
 use Rattle.plan_theory.proofs.WeakPrinted.{is_action-Some}
 
 -- a state's values are its own
@@ -173,28 +172,6 @@ module _ (weak : WeakLeadsToSome) (strong : StrongLeadsToAll) (task : Task) (k :
           ∙ ap (λ b. is_action a (chosen_action class sys k v) || (leads v a && not b)) (grown_is weak strong task k set class is v long a)
           ∙ step v a below (layer class sys k v) refl
           ∙ ap (is_action a) (sym (step_choice class sys k v))
-
--- whether a layer holds every initial state
-module _ (class : Class) (task : Task) (k : ℕ) (set : Function) (is : IsLayerSet class task k set) where
-  initial_at : (s : Vector) → Contains (initial_states task) s → initial_set task (value_of s) ≡ true
-  initial_at s among =
-      list_any-from (same_vector (first_values (fluent_count task) (value_of s))) (initial_states task) s among
-      (ap (λ w. same_vector w s) (own_values (fluent_count task) s ((is_system task).initial s among)) ∙ same_vector-itself s)
-
-  pub inside_covers : ((values : Values) → initial_set task values ≡ true → set values ≡ true) → covers class (system_of task) k ≡ true
-  inside_covers inside = list_all-from (layer class (system_of task) k) (initial_states task)
-      (λ s among. sym (is.agrees s ((is_system task).initial s among)) ∙ inside (value_of s) (initial_at s among))
-
-  pub covers_inside : covers class (system_of task) k ≡ true → (values : Values) → initial_set task values ≡ true → set values ≡ true
-  covers_inside covered values member =
-      let n = fluent_count task in
-      let state = list_any-witness (same_vector (first_values n values)) (initial_states task) member in
-      let same : first_values n values ≡ state.0 = same_vector-true (first_values n values) state.0 state.2 in
-      at_state n set is.depends values ∙ ap (λ v. set (value_of v)) same ∙ is.agrees state.0 ((is_system task).initial state.0 state.1) ∙ list_all-at (layer class (system_of task) k) (initial_states task) state.0 covered state.1
-
-  pub covers_is : (inside : Bool) → IsTrue inside ↔ ((values : Values) → initial_set task values ≡ true → set values ≡ true) → inside ≡ covers class (system_of task) k
-  covers_is true iff = sym (inside_covers (iff.0 refl))
-  covers_is false iff = sym (false_from_ne_true (covers class (system_of task) k) (λ covered. false≢true (iff.1 (covers_inside covered))))
 
 -- how many states of a list a set misses
 pub missed : Function → List Vector → ℕ

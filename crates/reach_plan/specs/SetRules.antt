@@ -4,12 +4,9 @@ use Rattle.dd_sets.specs.LiveSets.{LiveSets}
 use Rattle.dd_sets.specs.declared.slots.SetId.{SetId}
 use Rattle.plan_rules.specs.Rules.{PlanRule}
 use Rattle.slot_board.specs.Board.{set_at}
-use Rattle.task_core.specs.Cubes.{Cube, cubes_of}
+use Rattle.slot_board.specs.Rules.{rule_for}
+use Rattle.task_core.specs.Cubes.{cubes_of}
 use Rattle.task_core.specs.Vectors.{value_of}
-
--- the rule that takes an action where a cube matches
-abbrev pub rule_for : ℕ → Cube → PlanRule
-rule_for a cube = record { cube = cube; action = a }
 
 -- the rules that take an action in the states of its place
 abbrev pub rules_of_place : LiveSets → List SetId → ℕ → List PlanRule

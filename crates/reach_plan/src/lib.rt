@@ -20,5 +20,4 @@ mod set_rules;
 mod takers;
 
 pub use planner::{plan_strong, plan_weak};
-pub use set_rules::add_rules;
 pub use takers::{Takers, find_takers};

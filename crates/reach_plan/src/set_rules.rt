@@ -1,34 +1,19 @@
 //! The rules of a plan, from the sets in which the actions are taken.
 
-ghost use Rattle.std.specs.Prelude.{◌≡◌, ◌++◌, [], IfErr, IfOk, OnOk, length, map};
+ghost use Rattle.std.specs.Prelude.{◌≡◌, [], IfErr, IfOk, length, map};
 ghost use Rattle.std.specs.List.{flat_map, range_with_len};
 ghost use Rattle.dd_sets.specs.Frames.{Owns};
 ghost use Rattle.dd_sets.specs.LiveSets.{LiveSets};
 ghost use Rattle.plan_rules.specs.Rules.{rule_of};
 ghost use Rattle.slot_board.specs.Board.{IsWorking, Working};
-ghost use Rattle.reach_plan.specs.SetRules.{rule_for, rules_of_place};
+ghost use Rattle.reach_plan.specs.SetRules.{rules_of_place};
 
 use dd_sets::SetErr;
 use encode_task::Enc;
 use plan_rules::Rule;
-use slot_board::Board;
+use slot_board::{Board, add_rules};
 use std::alloc::{AllocError, Global};
-use task_core::{ActionId, Lit};
-
-/// Adds the rule that takes an action where a cube matches, for each cube.
-pub fn add_rules(
-    rules: &mut Vec<Rule>,
-    action: ActionId,
-    cubes: Vec<Vec<Lit>>,
-) -> Result<(), AllocError>
-    ensures { OnOk result (map rule_of rules.new.items ≡ map rule_of rules.old.items
-        ++ map (rule_for action.0) (map (λ cube. cube.items) cubes.items)) }
-{
-    for cube in cubes {
-        rules.push(Rule { cube, action })?;
-    }
-    Ok(())
-}
+use task_core::ActionId;
 
 /// The actions in rising number, and for each the cubes of the set at its place.
 fn rules_of_board(

@@ -181,11 +181,7 @@ depends start enc slots at sound place =
     subst (λ n. DependsOnly 0 n (set_at enc.sets slots place)) vars (set_depends enc.sets sound _)
 
 -- the initial states
-pub initial_live : (start : Start) (enc : Encoded) (slots : List SetId) → At start enc slots → IsLive enc.sets enc.initial.0
-initial_live start enc slots at =
-    subst (λ (s : SetId). IsLive enc.sets s.0) (sym (ap (λ (e : Encoded). e.initial) at.same)) (at.working.kept.live start.enc.initial.0 start.made.initial.live)
-
-pub initial_is : (start : Start) (enc : Encoded) (slots : List SetId) → At start enc slots → set_of enc.sets enc.initial.0 ≡ initial_set start.task
+initial_is : (start : Start) (enc : Encoded) (slots : List SetId) → At start enc slots → set_of enc.sets enc.initial.0 ≡ initial_set start.task
 initial_is start enc slots at =
     ap (λ (e : Encoded). set_of enc.sets e.initial.0) at.same ∙ at.working.kept.sets start.enc.initial.0 start.made.initial.live ∙ start.made.initial.holds
 

@@ -3,9 +3,12 @@
 //!
 //! `specs/Board.antt` has the words of the contracts: the slot and the set at a place, where a
 //! search began (`Start`), that it is still at that start (`At`), and that one place has a new set
-//! and the others have theirs (`Moved`).
+//! and the others have theirs (`Moved`). `add_rules` makes the rules of a plan from the cubes of a
+//! set.
 #![tactic(auto)]
 
 mod board;
+mod rules;
 
 pub use board::{Board, Operation, Outcomes};
+pub use rules::add_rules;

@@ -1,6 +1,6 @@
 use Rattle.plan_theory.proofs.NoChain.{none_without_cover}
 use Rattle.plan_theory.specs.Wins.{covers_chain}
-use Rattle.chain_plan.proofs.PlanSteps.{blank, covered_is, ends_refused, stage_count, table_is}
+use Rattle.chain_plan.proofs.PlanSteps.{blank, covered_is, ends_refused, stage_count, stayed_worked, table_is}
 use Rattle.chain_plan.proofs.RuleSteps.{has_still}
 use Rattle.chain_plan.proofs.SceneSteps.{same_length, long_enough}
 use Rattle.chain_plan.proofs.TakenSteps.{takers_none}
@@ -26,13 +26,13 @@ returns-in_err-win_all c start n h =
     let p = err_from_is_err_and c.from_residual.result c.from_residual.ensures.1 in
     ends_refused start (c.win_all.new.enc, c.win_all.new.board.slots.items) (chain_sets c.args.chain.now) _ c.win_all.result c.from_residual.result _ c.in_err-win_all.was p (c.win_all.ensures start h.at n)
 
-pub covers_initial-requires-clause-ready : goal.covers_initial-requires-clause-ready
-covers_initial-requires-clause-ready c =
+pub covers_initial-requires-clause-working : goal.covers_initial-requires-clause-working
+covers_initial-requires-clause-working c =
     let start = c.requires.ready.0 in
     let n = c.requires.ready.1 in
     let h = c.requires.ready.2 in
     let w = went (board_of start) c.win_all.new.enc c.win_all.new.board.slots.items _ c.win_all.result _ c.in_ok-win_all.was (c.win_all.ensures start h.at n) in
-    (start, w.changed.ready)
+    (board_of start, w.changed.ready.at)
 
 pub covers_initial-requires-clause-place : goal.covers_initial-requires-clause-place
 covers_initial-requires-clause-place c =
@@ -43,20 +43,17 @@ covers_initial-requires-clause-place c =
     let l = long_enough start (c.win_all.new.enc, c.win_all.new.board.slots.items) w.changed.ready.at (win_place 0) (omega arith) in
     omega (arith, c.win_at.ensures)
 
-pub covers_initial-requires-clause-high : goal.covers_initial-requires-clause-high
-covers_initial-requires-clause-high c = omega (arith, c.win_at.ensures)
-
 pub returns-in_err-covers_initial : goal.returns-in_err-covers_initial
 returns-in_err-covers_initial c start n h =
     let p = err_from_is_err_and c.from_residual-in_err-covers_initial.result c.from_residual-in_err-covers_initial.ensures.1 in
     let w = went (board_of start) c.win_all.new.enc c.win_all.new.board.slots.items _ c.win_all.result _ c.in_ok-win_all.was (c.win_all.ensures start h.at n) in
-    ends_refused start (c.covers_initial.new.enc, c.covers_initial.new.board.slots.items) (chain_sets c.args.chain.now) _ c.covers_initial.result c.from_residual-in_err-covers_initial.result _ c.in_err-covers_initial.was p (c.covers_initial.ensures.left start w.changed.ready)
+    ends_refused start (c.covers_initial.new.enc, c.win_all.new.board.slots.items) (chain_sets c.args.chain.now) _ c.covers_initial.result c.from_residual-in_err-covers_initial.result _ c.in_err-covers_initial.was p (c.covers_initial.ensures.left (board_of start) w.changed.ready.at)
 
 pub returns-then-not-branch : goal.returns-then-not-branch
 returns-then-not-branch c start n h =
     let w = went (board_of start) c.win_all.new.enc c.win_all.new.board.slots.items _ c.win_all.result _ c.in_ok-win_all.was (c.win_all.ensures start h.at n) in
-    let v = went (board_of start) c.covers_initial.new.enc c.covers_initial.new.board.slots.items _ c.covers_initial.result _ c.in_ok-covers_initial.was (c.covers_initial.ensures.left start w.changed.ready) in
-    let e = (c.in_ok-covers_initial.ensures.answer start w.changed.ready
+    let v = stayed_worked start c.win_all.new.enc c.covers_initial.new.enc c.win_all.new.board.slots.items (c.in_ok-covers_initial.ensures.left (board_of start) w.changed.ready.at) in
+    let e = (c.in_ok-covers_initial.ensures.answer (board_of start) w.changed.ready.at
     ∙ ap (λ k. list_all (states_at (c.win_all.new.enc, c.win_all.new.board.slots.items) k) (sys_of start).initial) c.win_at.ensures
     ∙ covered_is start (c.win_all.new.enc, c.win_all.new.board.slots.items) (chain_sets c.args.chain.now) w.won) in
     (v.ready.at, none_without_cover (sys_of start) (chain_sets c.args.chain.now) (is_system start.task) (sym e ∙ (let f = c.if-not-branch.true in cc)))
@@ -67,11 +64,11 @@ take_all-requires-clause-ready c =
     let n = c.requires.ready.1 in
     let h = c.requires.ready.2 in
     let w = went (board_of start) c.win_all.new.enc c.win_all.new.board.slots.items _ c.win_all.result _ c.in_ok-win_all.was (c.win_all.ensures start h.at n) in
-    let v = went (board_of start) c.covers_initial.new.enc c.covers_initial.new.board.slots.items _ c.covers_initial.result _ c.in_ok-covers_initial.was (c.covers_initial.ensures.left start w.changed.ready) in
+    let v = stayed_worked start c.win_all.new.enc c.covers_initial.new.enc c.win_all.new.board.slots.items (c.in_ok-covers_initial.ensures.left (board_of start) w.changed.ready.at) in
     let long = (stage_count c.args.chain.now start.stages n) in
     let l : c.len.result ≡ length c.args.chain.now.stages.items = omega (arith, c.len.ensures) in
     let m : start.stages ≡ c.len.result = n ∙ sym l in
-    (start, (chain_sets c.args.chain.now), m, (long ∙ m), (has_still start (c.win_all.new.enc, c.win_all.new.board.slots.items) (c.covers_initial.new.enc, c.covers_initial.new.board.slots.items) (chain_sets c.args.chain.now) 0 (takers_none start (c.args.enc.now, c.args.board.now.slots.items) (c.win_all.new.enc, c.win_all.new.board.slots.items) (chain_sets c.args.chain.now) (blank start (c.args.enc.now, c.args.board.now.slots.items) h) (same_length start (c.args.enc.now, c.args.board.now.slots.items) (c.win_all.new.enc, c.win_all.new.board.slots.items) h.at w.changed.ready.at) w) v))
+    (start, (chain_sets c.args.chain.now), m, (long ∙ m), (has_still start (c.win_all.new.enc, c.win_all.new.board.slots.items) (c.covers_initial.new.enc, c.win_all.new.board.slots.items) (chain_sets c.args.chain.now) 0 (takers_none start (c.args.enc.now, c.args.board.now.slots.items) (c.win_all.new.enc, c.win_all.new.board.slots.items) (chain_sets c.args.chain.now) (blank start (c.args.enc.now, c.args.board.now.slots.items) h) (same_length start (c.args.enc.now, c.args.board.now.slots.items) (c.win_all.new.enc, c.win_all.new.board.slots.items) h.at w.changed.ready.at) w) v))
 
 pub take_all-requires-clause-actions : goal.take_all-requires-clause-actions
 take_all-requires-clause-actions c =
@@ -79,30 +76,30 @@ take_all-requires-clause-actions c =
     let n = c.requires.ready.1 in
     let h = c.requires.ready.2 in
     let w = went (board_of start) c.win_all.new.enc c.win_all.new.board.slots.items _ c.win_all.result _ c.in_ok-win_all.was (c.win_all.ensures start h.at n) in
-    let v = went (board_of start) c.covers_initial.new.enc c.covers_initial.new.board.slots.items _ c.covers_initial.result _ c.in_ok-covers_initial.was (c.covers_initial.ensures.left start w.changed.ready) in
-    let e : length c.covers_initial.new.enc.actions ≡ length c.args.enc.now.actions = same_actions (board_of start) c.args.enc.now c.covers_initial.new.enc c.args.board.now.slots.items c.covers_initial.new.board.slots.items h.at v.ready.at in
+    let v = stayed_worked start c.win_all.new.enc c.covers_initial.new.enc c.win_all.new.board.slots.items (c.in_ok-covers_initial.ensures.left (board_of start) w.changed.ready.at) in
+    let e : length c.covers_initial.new.enc.actions ≡ length c.args.enc.now.actions = same_actions (board_of start) c.args.enc.now c.covers_initial.new.enc c.args.board.now.slots.items c.win_all.new.board.slots.items h.at v.ready.at in
     omega (arith, c.requires.actions)
 
 pub returns-in_err-take_all : goal.returns-in_err-take_all
 returns-in_err-take_all c start n h =
     let p = err_from_is_err_and c.from_residual-in_err-take_all.result c.from_residual-in_err-take_all.ensures.1 in
     let w = went (board_of start) c.win_all.new.enc c.win_all.new.board.slots.items _ c.win_all.result _ c.in_ok-win_all.was (c.win_all.ensures start h.at n) in
-    let v = went (board_of start) c.covers_initial.new.enc c.covers_initial.new.board.slots.items _ c.covers_initial.result _ c.in_ok-covers_initial.was (c.covers_initial.ensures.left start w.changed.ready) in
+    let v = stayed_worked start c.win_all.new.enc c.covers_initial.new.enc c.win_all.new.board.slots.items (c.in_ok-covers_initial.ensures.left (board_of start) w.changed.ready.at) in
     let long = (stage_count c.args.chain.now start.stages n) in
     let l : c.len.result ≡ length c.args.chain.now.stages.items = omega (arith, c.len.ensures) in
     let m : start.stages ≡ c.len.result = n ∙ sym l in
-    ends_refused start (c.take_all.new.enc, c.take_all.new.board.slots.items) (chain_sets c.args.chain.now) _ c.take_all.result c.from_residual-in_err-take_all.result _ c.in_err-take_all.was p (c.take_all.ensures start (chain_sets c.args.chain.now) m (long ∙ m) (has_still start (c.win_all.new.enc, c.win_all.new.board.slots.items) (c.covers_initial.new.enc, c.covers_initial.new.board.slots.items) (chain_sets c.args.chain.now) 0 (takers_none start (c.args.enc.now, c.args.board.now.slots.items) (c.win_all.new.enc, c.win_all.new.board.slots.items) (chain_sets c.args.chain.now) (blank start (c.args.enc.now, c.args.board.now.slots.items) h) (same_length start (c.args.enc.now, c.args.board.now.slots.items) (c.win_all.new.enc, c.win_all.new.board.slots.items) h.at w.changed.ready.at) w) v))
+    ends_refused start (c.take_all.new.enc, c.take_all.new.board.slots.items) (chain_sets c.args.chain.now) _ c.take_all.result c.from_residual-in_err-take_all.result _ c.in_err-take_all.was p (c.take_all.ensures start (chain_sets c.args.chain.now) m (long ∙ m) (has_still start (c.win_all.new.enc, c.win_all.new.board.slots.items) (c.covers_initial.new.enc, c.win_all.new.board.slots.items) (chain_sets c.args.chain.now) 0 (takers_none start (c.args.enc.now, c.args.board.now.slots.items) (c.win_all.new.enc, c.win_all.new.board.slots.items) (chain_sets c.args.chain.now) (blank start (c.args.enc.now, c.args.board.now.slots.items) h) (same_length start (c.args.enc.now, c.args.board.now.slots.items) (c.win_all.new.enc, c.win_all.new.board.slots.items) h.at w.changed.ready.at) w) v))
 
 pub returns : goal.returns
 returns c start n h =
     let w = went (board_of start) c.win_all.new.enc c.win_all.new.board.slots.items _ c.win_all.result _ c.in_ok-win_all.was (c.win_all.ensures start h.at n) in
-    let v = went (board_of start) c.covers_initial.new.enc c.covers_initial.new.board.slots.items _ c.covers_initial.result _ c.in_ok-covers_initial.was (c.covers_initial.ensures.left start w.changed.ready) in
-    let e = (c.in_ok-covers_initial.ensures.answer start w.changed.ready
+    let v = stayed_worked start c.win_all.new.enc c.covers_initial.new.enc c.win_all.new.board.slots.items (c.in_ok-covers_initial.ensures.left (board_of start) w.changed.ready.at) in
+    let e = (c.in_ok-covers_initial.ensures.answer (board_of start) w.changed.ready.at
     ∙ ap (λ k. list_all (states_at (c.win_all.new.enc, c.win_all.new.board.slots.items) k) (sys_of start).initial) c.win_at.ensures
     ∙ covered_is start (c.win_all.new.enc, c.win_all.new.board.slots.items) (chain_sets c.args.chain.now) w.won) in
     let long = (stage_count c.args.chain.now start.stages n) in
     let l : c.len.result ≡ length c.args.chain.now.stages.items = omega (arith, c.len.ensures) in
     let m : start.stages ≡ c.len.result = n ∙ sym l in
     let all : covers_chain (sys_of start) (chain_sets c.args.chain.now) ≡ true = sym e ∙ (let f = c.if-not-branch.false in cc) in
-    let t = went (board_of start) c.take_all.new.enc c.take_all.new.board.slots.items _ c.take_all.result _ c.in_ok-take_all.was (c.take_all.ensures start (chain_sets c.args.chain.now) m (long ∙ m) (has_still start (c.win_all.new.enc, c.win_all.new.board.slots.items) (c.covers_initial.new.enc, c.covers_initial.new.board.slots.items) (chain_sets c.args.chain.now) 0 (takers_none start (c.args.enc.now, c.args.board.now.slots.items) (c.win_all.new.enc, c.win_all.new.board.slots.items) (chain_sets c.args.chain.now) (blank start (c.args.enc.now, c.args.board.now.slots.items) h) (same_length start (c.args.enc.now, c.args.board.now.slots.items) (c.win_all.new.enc, c.win_all.new.board.slots.items) h.at w.changed.ready.at) w) v)) in
+    let t = went (board_of start) c.take_all.new.enc c.take_all.new.board.slots.items _ c.take_all.result _ c.in_ok-take_all.was (c.take_all.ensures start (chain_sets c.args.chain.now) m (long ∙ m) (has_still start (c.win_all.new.enc, c.win_all.new.board.slots.items) (c.covers_initial.new.enc, c.win_all.new.board.slots.items) (chain_sets c.args.chain.now) 0 (takers_none start (c.args.enc.now, c.args.board.now.slots.items) (c.win_all.new.enc, c.win_all.new.board.slots.items) (chain_sets c.args.chain.now) (blank start (c.args.enc.now, c.args.board.now.slots.items) h) (same_length start (c.args.enc.now, c.args.board.now.slots.items) (c.win_all.new.enc, c.win_all.new.board.slots.items) h.at w.changed.ready.at) w) v)) in
     table_is start (c.take_all.new.enc, c.take_all.new.board.slots.items) (chain_sets c.args.chain.now) c.len.result long m t all

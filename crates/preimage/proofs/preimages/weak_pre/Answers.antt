@@ -1,148 +1,60 @@
--- One outcome more.
-use Rattle.std.proofs.Common.{◌≡◌, ◌<◌, ◌≤◌, [], ◌∷◌, ◌∙◌, arith, ap, length, sym, subst}
-use Rattle.std.proofs.lemmas.Result.{IfErr-at_err, err_from_is_err_and}
+-- The rest of where the action can be executed.
+use Rattle.std.proofs.Common.{◌<◌, ◌∙◌, arith, ap, length, sym, subst}
+use Rattle.std.proofs.lemmas.Result.{err_from_is_err_and}
 use Rattle.dd_nodes.specs.Subfunctions.{Function}
 use Rattle.dd_ops.specs.Operations.{minus_of}
-use Rattle.dd_sets.specs.Calls.{KeepsSets}
-use Rattle.dd_sets.specs.Frames.{Owns, OwnsAnswer}
+use Rattle.dd_sets.specs.Frames.{OwnsAnswer}
 use Rattle.dd_sets.specs.LiveSets.{set_of}
-use Rattle.dd_sets.specs.declared.errors.SetErr.TheVariants.{Full, Memory}
-use Rattle.task_core.specs.Tasks.{outcomes_at}
-use Rattle.encode_task.specs.Slots.{Encoded, outcome_slots}
-use Rattle.encode_task.specs.TaskSets.{led_into}
-use Rattle.dd_sets.proofs.OwnedLemmas.{answer_kept, both, one_live}
-use Rattle.dd_sets.proofs.RoomSteps.{room_join, room_owned}
-use Rattle.encode_task.proofs.PartLemmas.{answer_ready, answer_refusal, answer_slot, same_refusal}
-use Rattle.preimage.proofs.FrameSteps.{exec_holds, led_answer, made_now, same_chain}
-use Rattle.preimage.proofs.OutcomeLemmas.{left_after, left_more, exec_left, weak_whole}
+use Rattle.encode_task.specs.Slots.{Encoded}
+use Rattle.dd_sets.proofs.OwnedLemmas.{answer_kept, one_live}
+use Rattle.dd_sets.proofs.RoomSteps.{room_owned}
+use Rattle.encode_task.proofs.PartLemmas.{answer_refusal, answer_slot, same_refusal}
+use Rattle.preimage.specs.Sides.{all_outcomes_on}
+use Rattle.preimage.specs.declared.slots.Side.TheVariants.{Outside}
+use Rattle.preimage.proofs.FrameSteps.{exec_holds, made_now, same_chain}
+use Rattle.preimage.proofs.OutcomeLemmas.{weak_whole}
 use Rattle.preimage.proofs.preimages.weak_pre.Goals as goal
-
-pub exec-exec-requires : goal.exec-exec-requires
-exec-exec-requires c = c.requires.action
-
-pub copied-requires : goal.copied-requires
-copied-requires c = (exec_holds c.requires.made.0 c.args.enc.now c.args.a.0 c.exec-exec.result c.requires.made.1 c.requires.action c.exec-exec.ensures).live
 
 pub returns-in_err-left-clause-answer : goal.returns-in_err-left-clause-answer
 returns-in_err-left-clause-answer c task made =
     let p = err_from_is_err_and c.from_residual.result c.from_residual.ensures.1 in
-    answer_refusal _ _ _ _ c.copied.result _ _ _ c.in_err-left.was p.1 c.copied.ensures.answer
+    answer_refusal _ _ _ _ c.all_on_side.result _ _ _ c.in_err-left.was p.1 (c.all_on_side.ensures.answer task made)
 
 pub returns-in_err-left-clause-full : goal.returns-in_err-left-clause-full
 returns-in_err-left-clause-full c full =
     let p = err_from_is_err_and c.from_residual.result c.from_residual.ensures.1 in
-    let no_room : Full ≡ Memory = IfErr-at_err (λ e. e ≡ Memory) (same_refusal c.copied.result c.from_residual.result _ c.in_err-left.was p full) c.copied.ensures.never_full in
-    cc
+    c.all_on_side.ensures.full (same_refusal c.all_on_side.result c.from_residual.result _ c.in_err-left.was p full)
 
-pub returns-in_err-left-clause-same_slots : goal.returns-in_err-left-clause-same_slots
-returns-in_err-left-clause-same_slots c = c.copied.ensures.same_slots
-
-pub returns-in_err-left-clause-made : goal.returns-in_err-left-clause-made
-returns-in_err-left-clause-made c task made = made_now task c.args.enc.now c.copied.new.enc c.copied.ensures.same_slots (answer_kept _ _ _ c.copied.result c.copied.ensures.answer) made
-
-pub outcomes-o-end-requires : goal.outcomes-o-end-requires
-outcomes-o-end-requires c = subst (λ (e : Encoded). c.args.a.0 < length e.actions) (sym c.copied.ensures.same_slots) c.requires.action
-
-pub loop-o-init : goal.loop-o-init
-loop-o-init c = record {
-  same = c.copied.ensures.same_slots;
-  owns = λ task made.
-      subst (λ (f : Function). Owns c.args.enc.now.sets c.copied.new.enc.sets ((c.in_ok-left.left.0, f) ∷ []))
-      ((exec_holds task c.args.enc.now c.args.a.0 c.exec-exec.result made c.requires.action c.exec-exec.ensures).holds ∙ exec_left task c.args.a.0 (set_of c.args.enc.now.sets c.args.x.0))
-      (answer_slot _ _ _ c.copied.result _ c.in_ok-left.was c.copied.ensures.answer);
-}
-
-pub led_into-led-requires-clause-ready : goal.led_into-led-requires-clause-ready
-led_into-led-requires-clause-ready c =
-    let owns = c.loop-o.invariant.owns c.requires.made.0 c.requires.made.1 in
-    (made_now c.requires.made.0 c.args.enc.now c.loop-o.enc c.loop-o.invariant.same owns.kept c.requires.made.1).ready
-
-pub led_into-led-requires-clause-action : goal.led_into-led-requires-clause-action
-led_into-led-requires-clause-action c = subst (λ (e : Encoded). c.args.a.0 < length e.actions) (sym c.loop-o.invariant.same) c.requires.action
-
-pub led_into-led-requires-clause-outcome : goal.led_into-led-requires-clause-outcome
-led_into-led-requires-clause-outcome c =
-    let here : length (outcome_slots c.loop-o.enc c.args.a.0) ≡ length (outcome_slots c.args.enc.now c.args.a.0) = ap (λ (e : Encoded). length (outcome_slots e c.args.a.0)) c.loop-o.invariant.same in
-    let there : length (outcome_slots c.copied.new.enc c.args.a.0) ≡ length (outcome_slots c.args.enc.now c.args.a.0) = ap (λ (e : Encoded). length (outcome_slots e c.args.a.0)) c.copied.ensures.same_slots in
-    omega (arith, c.outcomes-o-end.ensures)
-
-pub led_into-led-requires-clause-live : goal.led_into-led-requires-clause-live
-led_into-led-requires-clause-live c = let owns = c.loop-o.invariant.owns c.requires.made.0 c.requires.made.1 in owns.kept.live c.args.x.0 c.requires.live
-
-pub without-requires : goal.without-requires
-without-requires c =
-    let owns = c.loop-o.invariant.owns c.requires.made.0 c.requires.made.1 in
-    answer_ready _ _ _ c.loop-o.left _ _ c.led_into-led.result owns
-    (led_answer c.requires.made.0 c.args.enc.now c.loop-o.enc _ c.args.x.0 c.args.a.0 c.loop-o.o c.led_into-led.result c.loop-o.invariant.same owns.kept c.requires.live c.requires.made.1 c.led_into-led.ensures.added
-    c.led_into-led.ensures.kept c.led_into-led.ensures.refused)
-
-pub returns-in_err-left-2-clause-answer : goal.returns-in_err-left-2-clause-answer
-returns-in_err-left-2-clause-answer c task made =
-    let p = err_from_is_err_and c.from_residual-in_err-left-2.result c.from_residual-in_err-left-2.ensures.1 in
-    let owns = c.loop-o.invariant.owns task made in
-    let led = led_answer task c.args.enc.now c.loop-o.enc _ c.args.x.0 c.args.a.0 c.loop-o.o c.led_into-led.result c.loop-o.invariant.same owns.kept c.requires.live made c.led_into-led.ensures.added c.led_into-led.ensures.kept c.led_into-led.ensures.refused in
-    answer_refusal _ _ _ _ c.without.result _ _ _ c.in_err-left-2.was p.1 (c.without.ensures.answer _ _ _ (both _ _ _ c.loop-o.left _ _ c.led_into-led.result owns led))
-
-pub returns-in_err-left-2-clause-full : goal.returns-in_err-left-2-clause-full
-returns-in_err-left-2-clause-full c full =
-    let p = err_from_is_err_and c.from_residual-in_err-left-2.result c.from_residual-in_err-left-2.ensures.1 in
-    let owns = c.loop-o.invariant.owns c.requires.made.0 c.requires.made.1 in
-    let led = led_answer c.requires.made.0 c.args.enc.now c.loop-o.enc _ c.args.x.0 c.args.a.0 c.loop-o.o c.led_into-led.result c.loop-o.invariant.same owns.kept c.requires.live c.requires.made.1 c.led_into-led.ensures.added
-    c.led_into-led.ensures.kept c.led_into-led.ensures.refused in
-    room_join _ _ _ c.loop-o.left _ _ c.led_into-led.result 0 8 owns led c.led_into-led.ensures.full (omega arith) (omega arith)
-    (c.without.ensures.full (same_refusal c.without.result c.from_residual-in_err-left-2.result _ c.in_err-left-2.was p full))
-
-pub returns-in_err-left-2-clause-same_slots : goal.returns-in_err-left-2-clause-same_slots
-returns-in_err-left-2-clause-same_slots c =
-    same_chain c.args.enc.now c.led_into-led.new.self c.without.new.enc (same_chain c.args.enc.now c.loop-o.enc c.led_into-led.new.self c.loop-o.invariant.same c.led_into-led.ensures.same_slots) c.without.ensures.same_slots
-
-pub returns-in_err-left-2-clause-made : goal.returns-in_err-left-2-clause-made
-returns-in_err-left-2-clause-made c task made =
-    let owns = c.loop-o.invariant.owns task made in
-    let led = led_answer task c.args.enc.now c.loop-o.enc _ c.args.x.0 c.args.a.0 c.loop-o.o c.led_into-led.result c.loop-o.invariant.same owns.kept c.requires.live made c.led_into-led.ensures.added c.led_into-led.ensures.kept c.led_into-led.ensures.refused in
-    let answer = c.without.ensures.answer _ _ _ (both _ _ _ c.loop-o.left _ _ c.led_into-led.result owns led) in
-    made_now task c.args.enc.now c.without.new.enc
-    (same_chain c.args.enc.now c.led_into-led.new.self c.without.new.enc (same_chain c.args.enc.now c.loop-o.enc c.led_into-led.new.self c.loop-o.invariant.same c.led_into-led.ensures.same_slots) c.without.ensures.same_slots)
-    (answer_kept _ _ _ c.without.result answer) made
-
-pub loop-o-preserved : goal.loop-o-preserved
-loop-o-preserved c = record {
-  same = same_chain c.args.enc.now c.led_into-led.new.self c.without.new.enc (same_chain c.args.enc.now c.loop-o.enc c.led_into-led.new.self c.loop-o.invariant.same c.led_into-led.ensures.same_slots) c.without.ensures.same_slots;
-  owns = λ task made.
-      let owns = c.loop-o.invariant.owns task made in
-      let led = led_answer task c.args.enc.now c.loop-o.enc _ c.args.x.0 c.args.a.0 c.loop-o.o c.led_into-led.result c.loop-o.invariant.same owns.kept c.requires.live made c.led_into-led.ensures.added c.led_into-led.ensures.kept c.led_into-led.ensures.refused in
-      let there : length (outcome_slots c.copied.new.enc c.args.a.0) ≡ length (outcome_slots c.args.enc.now c.args.a.0) = ap (λ (e : Encoded). length (outcome_slots e c.args.a.0)) c.copied.ensures.same_slots in
-      let within : c.loop-o.o < length (outcomes_at task c.args.a.0) = omega (arith, c.outcomes-o-end.ensures, made.outcomes c.args.a.0) in
-      subst (λ (f : Function). Owns c.args.enc.now.sets c.without.new.enc.sets ((c.in_ok-left-2.left.0, f) ∷ [])) (left_more task c.args.a.0 c.loop-o.o (set_of c.args.enc.now.sets c.args.x.0) within)
-      (answer_slot _ _ _ c.without.result _ c.in_ok-left-2.was (c.without.ensures.answer _ _ _ (both _ _ _ c.loop-o.left _ _ c.led_into-led.result owns led)));
-}
+pub exec-exec-requires : goal.exec-exec-requires
+exec-exec-requires c = subst (λ (e : Encoded). c.args.a.0 < length e.actions) (sym c.all_on_side.ensures.same_slots) c.requires.action
 
 pub rest_of-requires-clause-a_live : goal.rest_of-requires-clause-a_live
 rest_of-requires-clause-a_live c =
-    let owns = c.loop-o.invariant.owns c.requires.made.0 c.requires.made.1 in
-    owns.kept.live c.exec-exec.result.0 (exec_holds c.requires.made.0 c.args.enc.now c.args.a.0 c.exec-exec.result c.requires.made.1 c.requires.action c.exec-exec.ensures).live
+    let exec = exec_holds c.requires.made.0 c.all_on_side.new.enc c.args.a.0 c.exec-exec.result (c.all_on_side.ensures.made c.requires.made.0 c.requires.made.1) (subst (λ (e : Encoded). c.args.a.0 < length e.actions) (sym c.all_on_side.ensures.same_slots) c.requires.action) c.exec-exec.ensures in
+    exec.live
 
 pub rest_of-requires-clause-b_live : goal.rest_of-requires-clause-b_live
-rest_of-requires-clause-b_live c = one_live _ _ _ _ (c.loop-o.invariant.owns c.requires.made.0 c.requires.made.1)
+rest_of-requires-clause-b_live c =
+    let owns = answer_slot _ _ _ c.all_on_side.result _ c.in_ok-left.was (c.all_on_side.ensures.answer c.requires.made.0 c.requires.made.1) in
+    one_live _ _ _ _ owns
 
 pub returns-clause-answer : goal.returns-clause-answer
 returns-clause-answer c task made =
-    let owns = c.loop-o.invariant.owns task made in
-    let exec = exec_holds task c.args.enc.now c.args.a.0 c.exec-exec.result made c.requires.action c.exec-exec.ensures in
-    let there : length (outcome_slots c.copied.new.enc c.args.a.0) ≡ length (outcome_slots c.args.enc.now c.args.a.0) = ap (λ (e : Encoded). length (outcome_slots e c.args.a.0)) c.copied.ensures.same_slots in
-    let done : length (outcomes_at task c.args.a.0) ≤ c.loop-o.o = omega (arith, c.outcomes-o-end.ensures, made.outcomes c.args.a.0) in
+    let owns = answer_slot _ _ _ c.all_on_side.result _ c.in_ok-left.was (c.all_on_side.ensures.answer task made) in
+    let exec = exec_holds task c.all_on_side.new.enc c.args.a.0 c.exec-exec.result (c.all_on_side.ensures.made task made) (subst (λ (e : Encoded). c.args.a.0 < length e.actions) (sym c.all_on_side.ensures.same_slots) c.requires.action) c.exec-exec.ensures in
     subst (λ (f : Function). OwnsAnswer c.args.enc.now.sets c.rest_of.new.enc.sets f c.rest_of.result)
-    (ap (λ (set : Function). minus_of set (left_after task c.args.a.0 (set_of c.args.enc.now.sets c.args.x.0) c.loop-o.o)) (owns.kept.sets c.exec-exec.result.0 exec.live ∙ exec.holds)
-    ∙ weak_whole task c.args.a.0 c.loop-o.o (set_of c.args.enc.now.sets c.args.x.0) done)
+    (ap (λ (set : Function). minus_of set (all_outcomes_on Outside task c.args.a.0 (set_of c.args.enc.now.sets c.args.x.0))) exec.holds ∙ weak_whole task c.args.a.0 (set_of c.args.enc.now.sets c.args.x.0))
     (c.rest_of.ensures.answer _ _ owns)
 
 pub returns-clause-full : goal.returns-clause-full
-returns-clause-full c full = room_owned _ _ _ (c.loop-o.invariant.owns c.requires.made.0 c.requires.made.1) 0 8 (omega arith) (c.rest_of.ensures.full full)
+returns-clause-full c full =
+    let owns = answer_slot _ _ _ c.all_on_side.result _ c.in_ok-left.was (c.all_on_side.ensures.answer c.requires.made.0 c.requires.made.1) in
+    room_owned _ _ _ owns 0 8 (omega arith) (c.rest_of.ensures.full full)
 
 pub returns-clause-same_slots : goal.returns-clause-same_slots
-returns-clause-same_slots c = same_chain c.args.enc.now c.loop-o.enc c.rest_of.new.enc c.loop-o.invariant.same c.rest_of.ensures.same_slots
+returns-clause-same_slots c = same_chain c.args.enc.now c.all_on_side.new.enc c.rest_of.new.enc c.all_on_side.ensures.same_slots c.rest_of.ensures.same_slots
 
 pub returns-clause-made : goal.returns-clause-made
 returns-clause-made c task made =
-    made_now task c.args.enc.now c.rest_of.new.enc (same_chain c.args.enc.now c.loop-o.enc c.rest_of.new.enc c.loop-o.invariant.same c.rest_of.ensures.same_slots)
-    (answer_kept _ _ _ c.rest_of.result (c.rest_of.ensures.answer _ _ (c.loop-o.invariant.owns task made))) made
+    let owns = answer_slot _ _ _ c.all_on_side.result _ c.in_ok-left.was (c.all_on_side.ensures.answer task made) in
+    made_now task c.args.enc.now c.rest_of.new.enc (same_chain c.args.enc.now c.all_on_side.new.enc c.rest_of.new.enc c.all_on_side.ensures.same_slots c.rest_of.ensures.same_slots) (answer_kept _ _ _ c.rest_of.result (c.rest_of.ensures.answer _ _ owns)) made

@@ -3,7 +3,8 @@ use Rattle.std.proofs.Common.{◌≡◌, List, arith, ap, length, map, ◌∙◌
 use Rattle.std.specs.List.{flat_map, range_with_len}
 use Rattle.task_core.specs.Cubes.{Cube}
 use Rattle.plan_rules.specs.Rules.{rule_of}
-use Rattle.reach_plan.specs.SetRules.{rule_for, rules_of_place}
+use Rattle.reach_plan.specs.SetRules.{rules_of_place}
+use Rattle.slot_board.specs.Rules.{rule_for}
 use Rattle.reach_plan.proofs.PlanSteps.{rules_more}
 use Rattle.reach_plan.proofs.set_rules.rules_of_board.Goals as goal
 

@@ -2,19 +2,17 @@
 use Rattle.std.proofs.Common.{◌≡◌, ◌<◌, ◌≤◌, [], ◌∷◌, ◌∙◌, arith, ap, length, sym, subst}
 use Rattle.std.proofs.lemmas.Result.{IfErr-at_err, err_from_is_err_and}
 use Rattle.dd_nodes.specs.Subfunctions.{Function}
-use Rattle.dd_sets.specs.Calls.{KeepsSets}
-use Rattle.dd_sets.specs.Frames.{Owns, OwnsAnswer}
+use Rattle.dd_sets.specs.Frames.{Owns}
 use Rattle.dd_sets.specs.LiveSets.{set_of}
 use Rattle.dd_sets.specs.declared.errors.SetErr.TheVariants.{Full, Memory}
 use Rattle.task_core.specs.Tasks.{outcomes_at}
 use Rattle.encode_task.specs.Slots.{Encoded, outcome_slots}
-use Rattle.encode_task.specs.TaskSets.{led_into}
-use Rattle.dd_sets.proofs.OwnedLemmas.{answer_kept, both, one_live}
-use Rattle.dd_sets.proofs.RoomSteps.{room_join, room_owned}
+use Rattle.dd_sets.proofs.OwnedLemmas.{answer_kept, both}
+use Rattle.dd_sets.proofs.RoomSteps.{room_join}
 use Rattle.encode_task.proofs.PartLemmas.{answer_ready, answer_refusal, answer_slot, same_refusal}
 use Rattle.preimage.proofs.FrameSteps.{exec_holds, led_answer, made_now, same_chain}
-use Rattle.preimage.proofs.OutcomeLemmas.{all_after, all_more, exec_all, strong_whole}
-use Rattle.preimage.proofs.preimages.strong_pre.Goals as goal
+use Rattle.preimage.proofs.OutcomeLemmas.{exec_side, side_more, side_whole}
+use Rattle.preimage.proofs.preimages.all_on_side.Goals as goal
 
 pub exec-exec-requires : goal.exec-exec-requires
 exec-exec-requires c = c.requires.action
@@ -22,22 +20,22 @@ exec-exec-requires c = c.requires.action
 pub copied-requires : goal.copied-requires
 copied-requires c = (exec_holds c.requires.made.0 c.args.enc.now c.args.a.0 c.exec-exec.result c.requires.made.1 c.requires.action c.exec-exec.ensures).live
 
-pub returns-in_err-all-clause-answer : goal.returns-in_err-all-clause-answer
-returns-in_err-all-clause-answer c task made =
+pub returns-in_err-rest-clause-answer : goal.returns-in_err-rest-clause-answer
+returns-in_err-rest-clause-answer c task made =
     let p = err_from_is_err_and c.from_residual.result c.from_residual.ensures.1 in
-    answer_refusal _ _ _ _ c.copied.result _ _ _ c.in_err-all.was p.1 c.copied.ensures.answer
+    answer_refusal _ _ _ _ c.copied.result _ _ _ c.in_err-rest.was p.1 c.copied.ensures.answer
 
-pub returns-in_err-all-clause-full : goal.returns-in_err-all-clause-full
-returns-in_err-all-clause-full c full =
+pub returns-in_err-rest-clause-full : goal.returns-in_err-rest-clause-full
+returns-in_err-rest-clause-full c full =
     let p = err_from_is_err_and c.from_residual.result c.from_residual.ensures.1 in
-    let no_room : Full ≡ Memory = IfErr-at_err (λ e. e ≡ Memory) (same_refusal c.copied.result c.from_residual.result _ c.in_err-all.was p full) c.copied.ensures.never_full in
+    let no_room : Full ≡ Memory = IfErr-at_err (λ e. e ≡ Memory) (same_refusal c.copied.result c.from_residual.result _ c.in_err-rest.was p full) c.copied.ensures.never_full in
     cc
 
-pub returns-in_err-all-clause-same_slots : goal.returns-in_err-all-clause-same_slots
-returns-in_err-all-clause-same_slots c = c.copied.ensures.same_slots
+pub returns-in_err-rest-clause-same_slots : goal.returns-in_err-rest-clause-same_slots
+returns-in_err-rest-clause-same_slots c = c.copied.ensures.same_slots
 
-pub returns-in_err-all-clause-made : goal.returns-in_err-all-clause-made
-returns-in_err-all-clause-made c task made = made_now task c.args.enc.now c.copied.new.enc c.copied.ensures.same_slots (answer_kept _ _ _ c.copied.result c.copied.ensures.answer) made
+pub returns-in_err-rest-clause-made : goal.returns-in_err-rest-clause-made
+returns-in_err-rest-clause-made c task made = made_now task c.args.enc.now c.copied.new.enc c.copied.ensures.same_slots (answer_kept _ _ _ c.copied.result c.copied.ensures.answer) made
 
 pub outcomes-o-end-requires : goal.outcomes-o-end-requires
 outcomes-o-end-requires c = subst (λ (e : Encoded). c.args.a.0 < length e.actions) (sym c.copied.ensures.same_slots) c.requires.action
@@ -47,9 +45,9 @@ loop-o-init c = record {
   sound = c.copied.ensures.sound;
   same = c.copied.ensures.same_slots;
   owns = λ task made.
-      subst (λ (f : Function). Owns c.args.enc.now.sets c.copied.new.enc.sets ((c.in_ok-all.all.0, f) ∷ []))
-      ((exec_holds task c.args.enc.now c.args.a.0 c.exec-exec.result made c.requires.action c.exec-exec.ensures).holds ∙ exec_all task c.args.a.0 (set_of c.args.enc.now.sets c.args.x.0))
-      (answer_slot _ _ _ c.copied.result _ c.in_ok-all.was c.copied.ensures.answer);
+      subst (λ (f : Function). Owns c.args.enc.now.sets c.copied.new.enc.sets ((c.in_ok-rest.rest.0, f) ∷ []))
+      ((exec_holds task c.args.enc.now c.args.a.0 c.exec-exec.result made c.requires.action c.exec-exec.ensures).holds ∙ exec_side c.args.side task c.args.a.0 (set_of c.args.enc.now.sets c.args.x.0))
+      (answer_slot _ _ _ c.copied.result _ c.in_ok-rest.was c.copied.ensures.answer);
 }
 
 pub led_into-led-requires-clause-ready : goal.led_into-led-requires-clause-ready
@@ -69,53 +67,53 @@ led_into-led-requires-clause-outcome c =
 pub led_into-led-requires-clause-live : goal.led_into-led-requires-clause-live
 led_into-led-requires-clause-live c = let owns = c.loop-o.invariant.owns c.requires.made.0 c.requires.made.1 in owns.kept.live c.args.x.0 c.requires.live
 
-pub in_both-requires : goal.in_both-requires
-in_both-requires c =
+pub part_of-requires : goal.part_of-requires
+part_of-requires c =
     let owns = c.loop-o.invariant.owns c.requires.made.0 c.requires.made.1 in
-    answer_ready _ _ _ c.loop-o.all _ _ c.led_into-led.result owns
+    answer_ready _ _ _ c.loop-o.rest _ _ c.led_into-led.result owns
     (led_answer c.requires.made.0 c.args.enc.now c.loop-o.enc _ c.args.x.0 c.args.a.0 c.loop-o.o c.led_into-led.result c.loop-o.invariant.same owns.kept c.requires.live c.requires.made.1 c.led_into-led.ensures.added
     c.led_into-led.ensures.kept c.led_into-led.ensures.refused)
 
-pub returns-in_err-all-2-clause-answer : goal.returns-in_err-all-2-clause-answer
-returns-in_err-all-2-clause-answer c task made =
-    let p = err_from_is_err_and c.from_residual-in_err-all-2.result c.from_residual-in_err-all-2.ensures.1 in
+pub returns-in_err-rest-2-clause-answer : goal.returns-in_err-rest-2-clause-answer
+returns-in_err-rest-2-clause-answer c task made =
+    let p = err_from_is_err_and c.from_residual-in_err-rest-2.result c.from_residual-in_err-rest-2.ensures.1 in
     let owns = c.loop-o.invariant.owns task made in
     let led = led_answer task c.args.enc.now c.loop-o.enc _ c.args.x.0 c.args.a.0 c.loop-o.o c.led_into-led.result c.loop-o.invariant.same owns.kept c.requires.live made c.led_into-led.ensures.added c.led_into-led.ensures.kept c.led_into-led.ensures.refused in
-    answer_refusal _ _ _ _ c.in_both.result _ _ _ c.in_err-all-2.was p.1 (c.in_both.ensures.answer _ _ _ (both _ _ _ c.loop-o.all _ _ c.led_into-led.result owns led))
+    answer_refusal _ _ _ _ c.part_of.result _ _ _ c.in_err-rest-2.was p.1 (c.part_of.ensures.answer _ _ _ (both _ _ _ c.loop-o.rest _ _ c.led_into-led.result owns led))
 
-pub returns-in_err-all-2-clause-full : goal.returns-in_err-all-2-clause-full
-returns-in_err-all-2-clause-full c full =
-    let p = err_from_is_err_and c.from_residual-in_err-all-2.result c.from_residual-in_err-all-2.ensures.1 in
+pub returns-in_err-rest-2-clause-full : goal.returns-in_err-rest-2-clause-full
+returns-in_err-rest-2-clause-full c full =
+    let p = err_from_is_err_and c.from_residual-in_err-rest-2.result c.from_residual-in_err-rest-2.ensures.1 in
     let owns = c.loop-o.invariant.owns c.requires.made.0 c.requires.made.1 in
     let led = led_answer c.requires.made.0 c.args.enc.now c.loop-o.enc _ c.args.x.0 c.args.a.0 c.loop-o.o c.led_into-led.result c.loop-o.invariant.same owns.kept c.requires.live c.requires.made.1 c.led_into-led.ensures.added
     c.led_into-led.ensures.kept c.led_into-led.ensures.refused in
-    room_join _ _ _ c.loop-o.all _ _ c.led_into-led.result 0 8 owns led c.led_into-led.ensures.full (omega arith) (omega arith)
-    (c.in_both.ensures.full (same_refusal c.in_both.result c.from_residual-in_err-all-2.result _ c.in_err-all-2.was p full))
+    room_join _ _ _ c.loop-o.rest _ _ c.led_into-led.result 0 8 owns led c.led_into-led.ensures.full (omega arith) (omega arith)
+    (c.part_of.ensures.full (same_refusal c.part_of.result c.from_residual-in_err-rest-2.result _ c.in_err-rest-2.was p full))
 
-pub returns-in_err-all-2-clause-same_slots : goal.returns-in_err-all-2-clause-same_slots
-returns-in_err-all-2-clause-same_slots c =
-    same_chain c.args.enc.now c.led_into-led.new.self c.in_both.new.enc (same_chain c.args.enc.now c.loop-o.enc c.led_into-led.new.self c.loop-o.invariant.same c.led_into-led.ensures.same_slots) c.in_both.ensures.same_slots
+pub returns-in_err-rest-2-clause-same_slots : goal.returns-in_err-rest-2-clause-same_slots
+returns-in_err-rest-2-clause-same_slots c =
+    same_chain c.args.enc.now c.led_into-led.new.self c.part_of.new.enc (same_chain c.args.enc.now c.loop-o.enc c.led_into-led.new.self c.loop-o.invariant.same c.led_into-led.ensures.same_slots) c.part_of.ensures.same_slots
 
-pub returns-in_err-all-2-clause-made : goal.returns-in_err-all-2-clause-made
-returns-in_err-all-2-clause-made c task made =
+pub returns-in_err-rest-2-clause-made : goal.returns-in_err-rest-2-clause-made
+returns-in_err-rest-2-clause-made c task made =
     let owns = c.loop-o.invariant.owns task made in
     let led = led_answer task c.args.enc.now c.loop-o.enc _ c.args.x.0 c.args.a.0 c.loop-o.o c.led_into-led.result c.loop-o.invariant.same owns.kept c.requires.live made c.led_into-led.ensures.added c.led_into-led.ensures.kept c.led_into-led.ensures.refused in
-    let answer = c.in_both.ensures.answer _ _ _ (both _ _ _ c.loop-o.all _ _ c.led_into-led.result owns led) in
-    made_now task c.args.enc.now c.in_both.new.enc
-    (same_chain c.args.enc.now c.led_into-led.new.self c.in_both.new.enc (same_chain c.args.enc.now c.loop-o.enc c.led_into-led.new.self c.loop-o.invariant.same c.led_into-led.ensures.same_slots) c.in_both.ensures.same_slots)
-    (answer_kept _ _ _ c.in_both.result answer) made
+    let answer = c.part_of.ensures.answer _ _ _ (both _ _ _ c.loop-o.rest _ _ c.led_into-led.result owns led) in
+    made_now task c.args.enc.now c.part_of.new.enc
+    (same_chain c.args.enc.now c.led_into-led.new.self c.part_of.new.enc (same_chain c.args.enc.now c.loop-o.enc c.led_into-led.new.self c.loop-o.invariant.same c.led_into-led.ensures.same_slots) c.part_of.ensures.same_slots)
+    (answer_kept _ _ _ c.part_of.result answer) made
 
 pub loop-o-preserved : goal.loop-o-preserved
 loop-o-preserved c = record {
-  sound = c.in_both.ensures.sound;
-  same = same_chain c.args.enc.now c.led_into-led.new.self c.in_both.new.enc (same_chain c.args.enc.now c.loop-o.enc c.led_into-led.new.self c.loop-o.invariant.same c.led_into-led.ensures.same_slots) c.in_both.ensures.same_slots;
+  sound = c.part_of.ensures.sound;
+  same = same_chain c.args.enc.now c.led_into-led.new.self c.part_of.new.enc (same_chain c.args.enc.now c.loop-o.enc c.led_into-led.new.self c.loop-o.invariant.same c.led_into-led.ensures.same_slots) c.part_of.ensures.same_slots;
   owns = λ task made.
       let owns = c.loop-o.invariant.owns task made in
       let led = led_answer task c.args.enc.now c.loop-o.enc _ c.args.x.0 c.args.a.0 c.loop-o.o c.led_into-led.result c.loop-o.invariant.same owns.kept c.requires.live made c.led_into-led.ensures.added c.led_into-led.ensures.kept c.led_into-led.ensures.refused in
       let there : length (outcome_slots c.copied.new.enc c.args.a.0) ≡ length (outcome_slots c.args.enc.now c.args.a.0) = ap (λ (e : Encoded). length (outcome_slots e c.args.a.0)) c.copied.ensures.same_slots in
       let within : c.loop-o.o < length (outcomes_at task c.args.a.0) = omega (arith, c.outcomes-o-end.ensures, made.outcomes c.args.a.0) in
-      subst (λ (f : Function). Owns c.args.enc.now.sets c.in_both.new.enc.sets ((c.in_ok-all-2.all.0, f) ∷ [])) (all_more task c.args.a.0 c.loop-o.o (set_of c.args.enc.now.sets c.args.x.0) within)
-      (answer_slot _ _ _ c.in_both.result _ c.in_ok-all-2.was (c.in_both.ensures.answer _ _ _ (both _ _ _ c.loop-o.all _ _ c.led_into-led.result owns led)));
+      subst (λ (f : Function). Owns c.args.enc.now.sets c.part_of.new.enc.sets ((c.in_ok-rest-2.rest.0, f) ∷ [])) (side_more c.args.side task c.args.a.0 c.loop-o.o (set_of c.args.enc.now.sets c.args.x.0) within)
+      (answer_slot _ _ _ c.part_of.result _ c.in_ok-rest-2.was (c.part_of.ensures.answer _ _ _ (both _ _ _ c.loop-o.rest _ _ c.led_into-led.result owns led)));
 }
 
 pub returns-clause-answer : goal.returns-clause-answer
@@ -123,7 +121,7 @@ returns-clause-answer c task made =
     let owns = c.loop-o.invariant.owns task made in
     let there : length (outcome_slots c.copied.new.enc c.args.a.0) ≡ length (outcome_slots c.args.enc.now c.args.a.0) = ap (λ (e : Encoded). length (outcome_slots e c.args.a.0)) c.copied.ensures.same_slots in
     let done : length (outcomes_at task c.args.a.0) ≤ c.loop-o.o = omega (arith, c.outcomes-o-end.ensures, made.outcomes c.args.a.0) in
-    subst (λ (f : Function). Owns c.args.enc.now.sets c.loop-o.enc.sets ((c.loop-o.all.0, f) ∷ [])) (strong_whole task c.args.a.0 c.loop-o.o (set_of c.args.enc.now.sets c.args.x.0) done) owns
+    subst (λ (f : Function). Owns c.args.enc.now.sets c.loop-o.enc.sets ((c.loop-o.rest.0, f) ∷ [])) (side_whole c.args.side task c.args.a.0 c.loop-o.o (set_of c.args.enc.now.sets c.args.x.0) done) owns
 
 pub returns-clause-full : goal.returns-clause-full
 returns-clause-full c full = cc
