@@ -14,7 +14,7 @@ use Rattle.pddl_system.specs.Fluents.{fluents}
 use Rattle.pddl_system.specs.Laws.{GroundedGoalsAreTrue}
 use Rattle.pddl_system.specs.Settings.{setting}
 use Rattle.pddl_system.specs.Sizes.{Limit, first_passed}
-use Rattle.pddl_system.specs.Systems.{action_names, entry_of, facts_of, fluent_names, system}
+use Rattle.pddl_system.specs.Systems.{action_names, entry_over, facts_of, fluent_names, system}
 use Rattle.pddl_system.specs.Tasks.{TaskTree, condition_of, task_of}
 use Rattle.pddl_system.specs.Values.{task_value}
 use Rattle.plan_check.specs.Verdicts.{IsVerdict}
@@ -79,13 +79,13 @@ checked_later held held' failed failed' asked d p a same over (inr is) = inr (ch
 -- the states after the first entries
 same_states : (d : DomainTree) (p : ProblemTree) (t : Task) (k : ℕ) → task_value t ≡ task_of d p
     → states_after_entries t k
-    ≡ after_entries (length (fluents d p)) (facts_of (setting d p) (fluents d p)) (take k (map (entry_of (fluents d p)) p.entries))
+    ≡ after_entries (length (fluents d p)) (facts_of (setting d p) (fluents d p)) (take k (map (entry_over (fluents d p)) p.entries))
 same_states d p t k is =
     let n = length t.fluents.items in
     let facts = (task_value t).facts in
     ap (λ (es : List Entry). after_entries n facts (take k es)) (ap (λ (x : TaskTree). x.entries) is)
-    ∙ (ap (λ (v : Vector). after_entries n v (take k (map (entry_of (fluents d p)) p.entries))) (ap (λ (x : TaskTree). x.facts) is)
-    ∙ ap (λ m. after_entries m (facts_of (setting d p) (fluents d p)) (take k (map (entry_of (fluents d p)) p.entries))) (same_count d p t is))
+    ∙ (ap (λ (v : Vector). after_entries n v (take k (map (entry_over (fluents d p)) p.entries))) (ap (λ (x : TaskTree). x.facts) is)
+    ∙ ap (λ m. after_entries m (facts_of (setting d p) (fluents d p)) (take k (map (entry_over (fluents d p)) p.entries))) (same_count d p t is))
 
 pub too_many : (d : DomainTree) (p : ProblemTree) (t : Task) → task_value t ≡ task_of d p → HasTooManyInitial t most_followed → HasTooManyStates d p
 too_many d p t is many = record {

@@ -11,7 +11,7 @@ use Rattle.pddl_system.specs.Fluents.{fluents}
 use Rattle.pddl_system.specs.Instances.{Instance, kept_instances}
 use Rattle.pddl_system.specs.Outcomes.{outcomes_of}
 use Rattle.pddl_system.specs.Settings.{setting}
-use Rattle.pddl_system.specs.Systems.{atom_name, fluent_names, action_names, instance_name, entry_of}
+use Rattle.pddl_system.specs.Systems.{atom_name, fluent_names, action_names, instance_name, entry_over}
 use Rattle.pddl_system.specs.Tasks.{ActionTree, TaskTree, action_of, outcome_of, task_of}
 use Rattle.pddl_system.specs.Values.{action_value, outcome_value, task_value}
 use Rattle.mbp_top.specs.GroundCommand.{Listed, listing, listing_of, listed_actions}
@@ -61,7 +61,7 @@ same_count d p t is =
     sym (length-map t.fluents.items _) ∙ ap length (same_fluents d p t is) ∙ length-map (fluents d p) (atom_name d p)
 
 pub same_entries : (d : DomainTree) (p : ProblemTree) (t : Task) → task_value t ≡ task_of d p → length (entries_of t.init) ≡ length p.entries
-same_entries d p t is = ap (λ (x : TaskTree). length x.entries) is ∙ length-map p.entries (entry_of (fluents d p))
+same_entries d p t is = ap (λ (x : TaskTree). length x.entries) is ∙ length-map p.entries (entry_over (fluents d p))
 
 same_listed : (d : DomainTree) (p : ProblemTree) (t : Task) → task_value t ≡ task_of d p
     → map listed_action t.actions.items ≡ listed_actions d p

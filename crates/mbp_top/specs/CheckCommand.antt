@@ -5,7 +5,7 @@ use Rattle.exec_graph.specs.Executions.{ReachesMoreThan}
 use Rattle.pddl_ast.specs.Trees.{DomainTree, ProblemTree, TemporalTree}
 use Rattle.pddl_system.specs.Fluents.{fluents}
 use Rattle.pddl_system.specs.Settings.{setting}
-use Rattle.pddl_system.specs.Systems.{action_names, entry_of, facts_of, fluent_names, system}
+use Rattle.pddl_system.specs.Systems.{action_names, entry_over, facts_of, fluent_names, system}
 use Rattle.plan_check.specs.ContextVerdicts.{IsContextVerdict, IsFirstContextReason}
 use Rattle.plan_check.specs.Verdicts.{IsBound, IsFirstReason, IsVerdict}
 use Rattle.plan_check.specs.declared.verdicts.Reason.{Reason}
@@ -38,7 +38,7 @@ pub record HasTooManyStates (domain : DomainTree) (problem : ProblemTree) : Type
   pub first : entries ≤ length problem.entries
   pub more : most_followed < length (after_entries (length (fluents domain problem))
       (facts_of (setting domain problem) (fluents domain problem))
-      (take entries (map (entry_of (fluents domain problem)) problem.entries)))
+      (take entries (map (entry_over (fluents domain problem)) problem.entries)))
 
 -- there are too many initial states (`TooMany`); or not, but the plan may reach too many
 -- configurations; or neither, and then comes what Then says
