@@ -1,27 +1,16 @@
 -- A limit that is tight for the sets of a task, or for those of its planners, is tight for the
 -- nodes that are enough.
-use Rattle.std.proofs.Common.{◌≡◌, ◌≤◌, ◌+◌, ◌*◌, ◌^◌, ℕ, [], map, length, ap, subst, sym, ◌∙◌, arith}
-use Rattle.std.specs.List.{range_with_len}
-use Rattle.std.specs.Option.{option_map_or}
+use Rattle.std.proofs.Common.{◌≡◌, ◌≤◌, ◌+◌, ◌*◌, ◌^◌, ℕ, subst, sym, arith}
 use Rattle.std.proofs.Math.Nat.{mul-le-mul_right}
-use Rattle.pddl_system.proofs.Lists.{map-range}
 use Rattle.dd_sets.specs.Laws.{TightIsMonotone}
 use Rattle.dd_sets.specs.LiveSets.{LiveSets, live_count}
 use Rattle.dd_sets.specs.Rooms.{IsTightFor, Tight, nodes_of_slots}
 use Rattle.encode_task.specs.Bounds.{kept_slots, most_outcomes as most_of_task, working_slots}
-use Rattle.task_core.specs.Conditions.{greatest}
-use Rattle.task_core.specs.Tasks.{action_count, fluent_count, outcomes_at, system_of}
-use Rattle.task_core.specs.declared.actions.GroundAction.{GroundAction}
+use Rattle.task_core.proofs.Outcomes.{most_of_list}
+use Rattle.task_core.specs.Systems.{most_outcomes}
+use Rattle.task_core.specs.Tasks.{action_count, fluent_count, system_of}
 use Rattle.task_core.specs.declared.tasks.Task.{Task}
-use Rattle.mbp_top.specs.Enough.{IsTightLimit, enough, most_outcomes}
-
--- the most outcomes of one action, by the list of actions and by their numbers
-same_most : (t : Task) → most_of_task t ≡ most_outcomes (system_of t)
-same_most t =
-    let counts : map (λ a. length (outcomes_at t a)) (range_with_len 0 (length t.actions.items)) ≡ map (λ (action : GroundAction). length action.outcomes.items) t.actions.items =
-    map-range (λ a. length (outcomes_at t a)) (λ (action : GroundAction). length action.outcomes.items) t.actions.items 0
-    (λ k action is. ap length (ap (λ a. outcomes_at t a) (omega arith) ∙ ap (λ found. option_map_or (λ (action : GroundAction). action.outcomes.items) found []) is)) in
-    ap greatest (sym counts)
+use Rattle.mbp_top.specs.Enough.{IsTightLimit, enough}
 
 -- so many slots have no more nodes than are enough, where there are no more slots
 few_slots : (slots most P Q : ℕ) → slots ≤ most → slots * P + Q ≤ 2 * Q + most * P
@@ -52,7 +41,7 @@ tight_for_slots monotone t n limit slots few tight =
     let F = fluent_count t in
     let A = action_count t in
     let bound : slots ≤ A * (most_outcomes (system_of t) * (F + 1) + n + 6) + 8 * n + 256 =
-    subst (λ m. slots ≤ A * (m * (F + 1) + n + 6) + 8 * n + 256) (same_most t) few in
+    subst (λ m. slots ≤ A * (m * (F + 1) + n + 6) + 8 * n + 256) (sym (most_of_list t)) few in
     monotone limit F (nodes_of_slots slots F) (enough n (system_of t)) (few_slots slots (A * (most_outcomes (system_of t) * (F + 1) + n + 6) + 8 * n + 256) (2 ^ F) (4 ^ F) bound) tight
 
 -- while the sets of the task are made

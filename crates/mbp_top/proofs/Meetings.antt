@@ -7,9 +7,10 @@ use Rattle.plan_check.specs.Verdicts.{CanFollowRules}
 use Rattle.plan_rules.specs.Denoted.{IsExecutable, denoted, denoted_contexts}
 use Rattle.plan_rules.specs.Rules.{ContextRule, PlanRule, table, automaton}
 use Rattle.task_core.specs.ContextPlans.{ContextPlan}
+use Rattle.task_core.specs.Paths.{IsPath, last_of}
 use Rattle.task_core.specs.Solutions.{HasNoSolution, IsSolution}
 use Rattle.task_core.specs.Systems.{IsState, IsSystem, System}
-use Rattle.task_core.specs.Tables.{IsPath, IsTable, Table, last_state}
+use Rattle.task_core.specs.Tables.{IsTable, Leads, Table}
 use Rattle.task_core.specs.Vectors.{Vector}
 use Rattle.task_core.specs.declared.classes.Class.{Class}
 use Rattle.mbp_top.specs.Answers.{Answer}
@@ -23,7 +24,7 @@ denoted_table : (sys : System) (rules : List PlanRule) → IsTable sys (denoted 
 denoted_table sys rules s a pair = let d = denoted-pair sys rules s a pair in (d.state, can_execute-Exec sys s a d.executable)
 
 -- what a table reaches are states
-end_is_state : (sys : System) (rows : Table) (s : Vector) (rest : List Vector) → IsSystem sys → IsState sys s → IsPath sys rows s rest → IsState sys (last_state s rest)
+end_is_state : (sys : System) (rows : Table) (s : Vector) (rest : List Vector) → IsSystem sys → IsState sys s → IsPath (Leads sys rows) s rest → IsState sys (last_of s rest)
 end_is_state sys rows s [] ok is path = is
 end_is_state sys rows s (t ∷ rest) ok is path = end_is_state sys rows t rest ok (ok.next s path.0.action t path.0.outcome) path.1
 

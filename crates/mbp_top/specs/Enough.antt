@@ -1,13 +1,7 @@
 -- How many nodes are enough for the sets of a planning problem, and when a limit may be too small.
-use Rattle.std.specs.Prelude.{ℕ, ◌+◌, ◌*◌, ◌^◌, map}
-use Rattle.std.specs.List.{range_with_len}
+use Rattle.std.specs.Prelude.{ℕ, ◌+◌, ◌*◌, ◌^◌}
 use Rattle.dd_sets.specs.Rooms.{Tight}
-use Rattle.task_core.specs.Conditions.{greatest}
-use Rattle.task_core.specs.Systems.{System}
-
--- the most outcomes of one action; 0 without actions
-abbrev pub most_outcomes : System → ℕ
-most_outcomes sys = greatest (map sys.outcomes (range_with_len 0 sys.actions))
+use Rattle.task_core.specs.Systems.{System, most_outcomes}
 
 -- nodes that are enough for all sets that are live at a time and for one operation, where a chain
 -- of so many stages is looked for, or a plan of a class (no stages). Over F fluents a set has fewer

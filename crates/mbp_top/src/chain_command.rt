@@ -16,11 +16,12 @@ ghost use Rattle.std.specs.Prelude.{◌≡◌, ◌⊎◌, IfOk, IsErrOf, IsSome,
 ghost use Rattle.task_core.specs.Tasks.{fluent_count, system_of};
 
 use crate::answers::{Limit, Refusal, Shown, Text};
+use crate::grounding::goal_in;
 use crate::plan_command::text_of_plan;
 use crate::words::PlanWords;
 use chain_plan::{FoundAuto, plan_chain};
 use ctl_syntax::{Chain, Ctl, as_chain};
-use dd_sets::{SetErr, tight_is_monotone};
+use dd_sets::{SetErr, no_room_is_tight, tight_is_monotone};
 use encode_task::encode;
 use ground_task::Grounded;
 use pddl_ast::{Domain, Problem};
@@ -54,10 +55,14 @@ pub(crate) fn plan_contexts(
         ⊎ PlanThen asked (domain_value domain.now) (problem_value problem.now)
         (answer_of result) }
 {
-    match &grounded.ctl {
-        Some(goal) => plan_goal(alloc, asked, domain, problem, &grounded.task, goal),
-        None => unreachable!(),
-    }
+    plan_goal(
+        alloc,
+        asked,
+        domain,
+        problem,
+        &grounded.task,
+        goal_in(grounded),
+    )
 }
 
 /// The plan with contexts for a goal.
@@ -156,8 +161,10 @@ fn search_chain(alloc: Global, nodes: u32, task: &Task, chain: &Chain) -> Result
     ensures full { IsErrOf result SetErr.Full
         → IsTightLimit (length chain.now.stages.items) nodes (system_of task.now) }
 {
-    // This does nothing: that few nodes are too few for more sets rests on what it promises.
+    // These do nothing: that few nodes are too few for more sets, and that the limit is tight where
+    // there was no room, rests on what they promise.
     tight_is_monotone();
+    no_room_is_tight();
     let mut enc = encode(alloc, task, nodes)?;
     plan_chain(alloc, task, &mut enc, chain)
 }

@@ -28,7 +28,7 @@ ghost use Rattle.std.specs.Prelude.{◌≡◌, ◌≤◌, ◌⊎◌, [], ◌∷�
 ghost use Rattle.task_core.specs.Tasks.{action_count, fluent_count, system_of};
 
 use crate::answers::{Limit, Refusal, Shown, Text};
-use crate::grounding::{check_goal, ground_both};
+use crate::grounding::{check_goal, goal_in, ground_both};
 use crate::pddl_texts::read_both;
 use crate::plan_files::read_plan_file;
 use crate::words::{CheckWords, PlanKind};
@@ -198,10 +198,7 @@ fn context_verdict(alloc: Global, grounded: &Grounded, graph: &Graph) -> Result<
         → IfOk result (IsTaskVerdict with_contexts grounded.now.task grounded.now.ctl
         (automaton contexts rules)) }
 {
-    match &grounded.ctl {
-        Some(goal) => check_ctl(alloc, &grounded.task, graph, goal),
-        None => unreachable!(),
-    }
+    check_ctl(alloc, &grounded.task, graph, goal_in(grounded))
 }
 
 /// What is shown of a verdict.

@@ -13,12 +13,13 @@ ghost use Rattle.pddl_system.specs.Systems.{system};
 ghost use Rattle.pddl_system.specs.Tasks.{task_of};
 ghost use Rattle.pddl_system.specs.Values.{task_value};
 ghost use Rattle.std.specs.Option.{option_map};
-ghost use Rattle.std.specs.Prelude.{◌≡◌, ◌⊎◌, ◌↔◌, IfErr, IfOk, IfSome, IsTrue, None, OnOk, Some};
-ghost use Rattle.std.specs.Prelude.{false, true};
+ghost use Rattle.std.specs.Prelude.{◌≡◌, ◌⊎◌, ◌↔◌, IfErr, IfOk, IfSome, IsSome, IsTrue, None, OnOk};
+ghost use Rattle.std.specs.Prelude.{Some, false, true};
 ghost use Rattle.task_core.specs.Tasks.{fluent_count, system_of};
 
 use crate::answers::{Limit, Refusal};
 use crate::words::PlanKind;
+use ctl_syntax::Ctl;
 use ground_task::{GroundErr, Grounded, ground};
 use pddl_ast::{Domain, Problem};
 use sexpr_text::{FaultKind, InputFault};
@@ -96,6 +97,14 @@ pub(crate) fn ground_both(
         Err(GroundErr::Fluents) => Err(Refusal::OverLimit(Limit::Fluents)),
         Err(GroundErr::Memory) => Err(Refusal::NoMemory),
     }
+}
+
+/// The goal in computation tree logic, where there is one.
+pub(crate) fn goal_in(grounded: &Grounded) -> &Ctl
+    requires { IsSome grounded.now.ctl }
+    ensures { grounded.now.ctl ≡ Some result.now }
+{
+    grounded.ctl.as_ref().unwrap()
 }
 
 /// The task of a domain and a problem.

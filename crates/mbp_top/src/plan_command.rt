@@ -42,7 +42,7 @@ use crate::grounding::{check_goal, ground_both};
 use crate::pddl_texts::read_both;
 use crate::words::{PlanKind, PlanWords};
 use cyclic_plan::plan_cyclic;
-use dd_sets::{SetErr, tight_is_monotone};
+use dd_sets::{SetErr, no_room_is_tight, tight_is_monotone};
 use encode_task::{Enc, encode};
 use ground_task::Grounded;
 use pddl_ast::{Domain, Problem};
@@ -203,9 +203,11 @@ fn weak_plan(alloc: Global, task: &Task, enc: &mut Enc) -> Result<Found, SetErr>
     ensures full { IsErrOf result SetErr.Full
         → IsTightFor (action_count task.now + 24) enc.old.sets }
 {
-    // These do nothing: that no solution is shorter rests on what they promise.
+    // These do nothing: that no solution is shorter, and that the limit is tight where there was no
+    // room, rests on what they promise.
     tasks_have_systems(task);
     printed_plan_is_shortest();
+    no_room_is_tight();
     plan_weak(alloc, task, enc)
 }
 
@@ -217,9 +219,11 @@ fn strong_plan(alloc: Global, task: &Task, enc: &mut Enc) -> Result<Found, SetEr
     ensures full { IsErrOf result SetErr.Full
         → IsTightFor (action_count task.now + 24) enc.old.sets }
 {
-    // These do nothing: that no solution is shorter rests on what they promise.
+    // These do nothing: that no solution is shorter, and that the limit is tight where there was no
+    // room, rests on what they promise.
     tasks_have_systems(task);
     printed_plan_is_shortest();
+    no_room_is_tight();
     plan_strong(alloc, task, enc)
 }
 
@@ -231,6 +235,8 @@ fn strong_cyclic_plan(alloc: Global, task: &Task, enc: &mut Enc) -> Result<Found
     ensures full { IsErrOf result SetErr.Full
         → IsTightFor (3 * action_count task.now + 32) enc.old.sets }
 {
+    // This does nothing: that the limit is tight where there was no room rests on what it promises.
+    no_room_is_tight();
     plan_cyclic(alloc, task, enc)
 }
 
