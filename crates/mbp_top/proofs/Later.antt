@@ -1,11 +1,14 @@
 -- What a shelf tells stays: what a later step of a command says of its file holds from the
 -- command's start.
-use Rattle.std.proofs.Common.{◌≡◌, ◌⊎◌, ℕ, zero, suc, List, [], ◌∷◌, take, inl, inr, refl, subst, ap, ◌∙◌}
-use Rattle.plan_io.specs.Fetches.{FailedLast, Fetches, FetchesFirst}
+use Rattle.std.proofs.Common.{◌≡◌, ◌⊎◌, ℕ, List, [], ◌∷◌, inl, inr, refl, subst, ap, ◌∙◌}
+use Rattle.std.specs.Prelude.{⊤}
+use Rattle.plan_io.specs.Fetches.{FailedLast, Fetches, FetchesNothing, MayFetch}
 use Rattle.plan_io.specs.Held.{Held}
+use Rattle.task_core.specs.Names.{Name}
 use Rattle.mbp_top.specs.Answers.{Answer, refused, Refusal, no_memory}
+use Rattle.mbp_top.specs.Fetching.{FetchesBoth, FetchesRun, HoldsDomain, HoldsSomePlan}
 use Rattle.mbp_top.specs.Reading.{Holds, IsRefusedFile, ReadThen}
-use Rattle.mbp_top.specs.Words.{Bytes}
+use Rattle.mbp_top.specs.Words.{Bytes, ReplayWords}
 
 -- shelves that tell the same
 same_told : (held held' : Bytes → Held) → ((file : Bytes) → held' file ≡ held file) → held' ≡ held
@@ -58,24 +61,42 @@ read_over held held' failed failed' name Spells Wrong Then a same over (inl (r, 
 read_over held held' failed failed' name Spells Wrong Then a same over (inr (tree, holds, then)) =
     inr (tree, holds_over held held' Spells name tree same holds, then)
 
--- a fetch of a third file after those of two
-first_of_two : {S : Type 0} (fetched : S → List ℕ → S → Type 0) (a b : List ℕ) (rest : List (List ℕ)) (before after : S) (count : ℕ)
-    → Fetches fetched (take count (a ∷ b ∷ [])) before after → FetchesFirst fetched (a ∷ b ∷ rest) before after
-first_of_two fetched a b rest before after zero is = record { count = 0; fetches = is }
-first_of_two fetched a b rest before after (suc zero) is = record { count = 1; fetches = is }
-first_of_two fetched a b rest before after (suc (suc zero)) is = record { count = 2; fetches = is }
-first_of_two fetched a b rest before after (suc (suc (suc n))) is = record { count = 2; fetches = is }
+-- fetches that may come in place of others, where they are needed
+pub may_map : {S : Type 0} (fetched : S → List ℕ → S → Type 0) (P Q : Type 0) (name : List ℕ) (Then Then' : S → S → Type 0) (before after : S) → (P → Q)
+    → ((x y : S) → Then x y → Then' x y) → MayFetch fetched P name Then before after → MayFetch fetched Q name Then' before after
+may_map fetched P Q name Then Then' before after f g (inl same) = inl same
+may_map fetched P Q name Then Then' before after f g (inr (needed, between, fetch, then)) = inr (f needed, between, fetch, g between after then)
 
-pub first_two : {S : Type 0} (fetched : S → List ℕ → S → Type 0) (a b : List ℕ) (rest : List (List ℕ)) (before after : S)
-    → FetchesFirst fetched (a ∷ b ∷ []) before after → FetchesFirst fetched (a ∷ b ∷ rest) before after
-first_two fetched a b rest before after first = first_of_two fetched a b rest before after first.count first.fetches
+-- after those of two files, one of which was refused, none came
+pub both_alone : {S : Type 0} (held : Bytes → Held) (fetched : S → List ℕ → S → Type 0) (a b : List ℕ) (More : S → S → Type 0) (before after : S)
+    → ((x y : S) → FetchesNothing x y → More x y) → FetchesBoth held fetched a b FetchesNothing before after → FetchesBoth held fetched a b More before after
+both_alone held fetched a b More before after none =
+    may_map fetched ⊤ ⊤ a (MayFetch fetched (HoldsDomain held a) b FetchesNothing) (MayFetch fetched (HoldsDomain held a) b More) before after (λ t. t)
+    (λ x y. may_map fetched (HoldsDomain held a) (HoldsDomain held a) b FetchesNothing More x y (λ h. h) none)
 
-pub two_then : {S : Type 0} (fetched : S → List ℕ → S → Type 0) (a b : List ℕ) (rest : List (List ℕ)) (before between after : S)
-    → Fetches fetched (a ∷ b ∷ []) before between → FetchesFirst fetched rest between after → FetchesFirst fetched (a ∷ b ∷ rest) before after
-two_then {S} fetched a b rest before between after (x, first, (y, second, is)) more = record {
-  count = suc (suc more.count);
-  fetches = (x, first, (y, second, subst (λ (s : S). Fetches fetched (take more.count rest) s after) is more.fetches));
-}
+-- and after those of two files that were read came more
+pub both_then : {S : Type 0} (held : Bytes → Held) (fetched : S → List ℕ → S → Type 0) (a b : List ℕ) (More : S → S → Type 0) (before between after : S)
+    → HoldsDomain held a → Fetches fetched (a ∷ b ∷ []) before between → More between after → FetchesBoth held fetched a b More before after
+both_then {S} held fetched a b More before between after holds (x, first, (y, second, is)) more =
+    inr (tt, x, first, inr (holds, y, second, subst (λ (s : S). More s after) is more))
+
+-- the fetches of a plan and a record, where they are needed
+pub run_map : {S : Type 0} (fetched : S → List ℕ → S → Type 0) (asked : ReplayWords) (P P' Q Q' : Type 0) (before after : S) → (P → P') → (Q → Q')
+    → FetchesRun fetched asked P Q before after → FetchesRun fetched asked P' Q' before after
+run_map fetched asked P P' Q Q' before after f g =
+    may_map fetched P P' asked.plan (MayFetch fetched Q asked.recorded FetchesNothing) (MayFetch fetched Q' asked.recorded FetchesNothing) before after f
+    (λ x y. may_map fetched Q Q' asked.recorded FetchesNothing FetchesNothing x y g (λ s t same. same))
+
+-- a plan over names that are equal
+pub some_plan : (held : Bytes → Held) (fluents fluents' actions actions' : List Name) (name : Bytes) → fluents ≡ fluents' → actions ≡ actions'
+    → HoldsSomePlan held fluents actions name → HoldsSomePlan held fluents' actions' name
+some_plan held fluents fluents' actions actions' name f a h =
+    subst (λ (ns : List Name). HoldsSomePlan held ns actions' name) f (subst (λ (ns : List Name). HoldsSomePlan held fluents ns name) a h)
+
+-- and in a shelf that tells the same
+pub some_plan_over : (held held' : Bytes → Held) (fluents actions : List Name) (name : Bytes) → ((file : Bytes) → held' file ≡ held file)
+    → HoldsSomePlan held' fluents actions name → HoldsSomePlan held fluents actions name
+some_plan_over held held' fluents actions name same h = subst (λ (now : Bytes → Held). HoldsSomePlan now fluents actions name) (same_told held held' same) h
 
 -- the last fetch that failed after those of two files
 pub failed_after_two : {S : Type 0} (fetched : S → List ℕ → S → Type 0) (faults : S → ℕ) (a b : List ℕ) (before between after : S) (name : List ℕ)
@@ -89,15 +110,6 @@ failed_after_two {S} fetched faults a b before between after name (x, first, (y,
   fetch = failed.fetch;
   rose = failed.rose;
 }
-
--- a fetch of one file, and of those after it
-pub one_then : {S : Type 0} (fetched : S → List ℕ → S → Type 0) (a : List ℕ) (rest : List (List ℕ)) (before between after : S)
-    → fetched before a between → FetchesFirst fetched rest between after → FetchesFirst fetched (a ∷ rest) before after
-one_then fetched a rest before between after fetch more = record { count = suc more.count; fetches = (between, fetch, more.fetches) }
-
-pub only_one : {S : Type 0} (fetched : S → List ℕ → S → Type 0) (a : List ℕ) (rest : List (List ℕ)) (before after : S)
-    → fetched before a after → FetchesFirst fetched (a ∷ rest) before after
-only_one fetched a rest before after fetch = record { count = 1; fetches = (after, fetch, refl) }
 
 -- a file that is refused at once
 pub file_refused : {X : Type 0} (held : Bytes → Held) (failed : Bytes → Type 0) (name : Bytes) (Spells : Bytes → X → Type 0) (Wrong : Bytes → Bytes → Refusal → Type 0)

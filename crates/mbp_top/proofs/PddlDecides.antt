@@ -8,7 +8,7 @@ use Rattle.pddl_system.specs.Sizes.{Limit, first_passed}
 use Rattle.mbp_top.specs.Answers.{Answer, Refusal, refused, text_fault, over_limit, no_memory, is_shown}
 use Rattle.mbp_top.specs.Grounding.{GoalThen, GroundThen, has_goal_for, limit_name}
 use Rattle.mbp_top.specs.OneReading.{OneReading}
-use Rattle.mbp_top.specs.PddlTexts.{SpellsProblemOf, IsFaultyDomain, IsFaultyProblem, HoldBoth, ReadBoth}
+use Rattle.mbp_top.specs.PddlTexts.{SpellsProblemOf, IsFaultyDomain, IsFaultyProblem, HoldBoth, ReadAsBoth, ReadBoth}
 use Rattle.mbp_top.specs.Reading.{ReadThen}
 use Rattle.mbp_top.specs.Words.{Bytes, PlanKind}
 use Rattle.mbp_top.proofs.Deciding.{Decides, IsGrammar, read_decides, read_as}
@@ -132,3 +132,11 @@ pub with_goal : (kind : PlanKind) (name : Bytes) (problem : ProblemTree) (Then :
     → GoalThen kind name problem Then a → Then a
 with_goal kind name problem Then a some (inl (none, is)) = absurd (false≢true (sym none ∙ some))
 with_goal kind name problem Then a some (inr (some', then)) = then
+
+-- files that spell a domain and a problem read as these
+pub as_read : (held : Bytes → Held) (domain_name problem_name : Bytes) (domain : DomainTree) (problem : ProblemTree) → HoldBoth held domain_name problem_name domain problem
+    → ReadAsBoth held domain_name problem_name domain problem
+as_read held domain_name problem_name domain problem both = record {
+  domain_says = record { bytes = both.holds_domain.bytes; file = both.holds_domain.file; spelled = both.holds_domain.spelled.reads };
+  problem_says = record { bytes = both.holds_problem.bytes; file = both.holds_problem.file; spelled = both.holds_problem.spelled.reads };
+}

@@ -4,7 +4,6 @@ use Rattle.exec_graph.specs.Executions.{ReachesMoreThan}
 use Rattle.pddl_ast.specs.Trees.{DomainTree, ProblemTree}
 use Rattle.pddl_system.specs.Sizes.{first_passed}
 use Rattle.pddl_system.specs.Systems.{action_names, fluent_names, system}
-use Rattle.plan_io.specs.Fetches.{FetchesFirst}
 use Rattle.plan_io.specs.Held.{Held}
 use Rattle.plan_rules.specs.Rules.{PlainPlan}
 use Rattle.mbp_top.specs.Answers.{Answer, no_command, no_memory, refused}
@@ -12,6 +11,7 @@ use Rattle.mbp_top.specs.Causes.{HasCause, IsQuietAt}
 use Rattle.mbp_top.specs.CheckCommand.{HasTooManyStates, most_followed}
 use Rattle.mbp_top.specs.Delivery.{IsDelivered}
 use Rattle.mbp_top.specs.Enough.{IsTightLimit}
+use Rattle.mbp_top.specs.Fetching.{FetchesFiles}
 use Rattle.mbp_top.specs.Grounding.{has_goal_for}
 use Rattle.mbp_top.specs.Laws.{AreQuietSinks, ComesToListing, ComesToReplay, HasStatus, IsAnswered, IsCutOff, IsDueAnswer, IsDueStatus, IsFullAtLimit, IsListing, IsNo, IsQuietShelf, IsReplayOf, IsYes}
 use Rattle.mbp_top.specs.Meets.{PlanMeets}
@@ -21,7 +21,7 @@ use Rattle.mbp_top.specs.PlanCommand.{is_sought, stages_for}
 use Rattle.mbp_top.specs.PlanFiles.{HoldsPlan, is_of_kind}
 use Rattle.mbp_top.specs.Runs.{FailedIn, HasRun, Run}
 use Rattle.mbp_top.specs.Told.{AreFilesTold, NoFault}
-use Rattle.mbp_top.specs.Words.{Bytes, CheckWords, Command, PlanWords, SayNothing, Says, SaysCheck, SaysPlan, files_of}
+use Rattle.mbp_top.specs.Words.{Bytes, CheckWords, Command, PlanWords, SayNothing, Says, SaysCheck, SaysPlan}
 use Rattle.mbp_top.proofs.ByCommand.{due_answer}
 use Rattle.mbp_top.proofs.CheckWritten.{YesSolves, check_no_written, check_status, check_yes_written}
 use Rattle.mbp_top.proofs.GroundWritten.{listing_status, listing_written}
@@ -38,7 +38,7 @@ module _ {S : Type 0} (held : S → Bytes → Held) (faults : S → ℕ) (fetche
 
   -- what was found for the words, and what was given for it
   pub has_run : (found given : Answer) → Cause found
-      → ((command : Command) → Says run.words command → FetchesFirst fetched (files_of command) run.shelf run.shelf_after)
+      → ((command : Command) → Says run.words command → FetchesFiles (held run.shelf) fetched command run.shelf run.shelf_after)
       → (SayNothing run.words → run.shelf_after ≡ run.shelf) → IsQuietAt found (faults run.shelf) (faults run.shelf_after)
       → ((file : Bytes) → held run.shelf_after file ≡ held run.shelf file) → faults run.shelf ≤ faults run.shelf_after
       → (given ≡ found) ⊎ ((given ≡ refused no_memory) × (found ≢ refused no_command))

@@ -2,8 +2,8 @@
 -- fault other bytes are refused.
 use Rattle.std.specs.Prelude.{◌≡◌}
 use Rattle.pddl_ast.specs.Trees.{DomainTree, ProblemTree}
-use Rattle.pddl_domain.specs.Domains.{SpellsDomain, HasDomainFault}
-use Rattle.pddl_problem.specs.Problems.{SpellsProblem, HasProblemFault}
+use Rattle.pddl_domain.specs.Domains.{HasDomainFault, ReadsAsDomain, SpellsDomain}
+use Rattle.pddl_problem.specs.Problems.{HasProblemFault, ReadsAsProblem, SpellsProblem}
 use Rattle.plan_io.specs.Held.{Held}
 use Rattle.sexpr_text.specs.declared.faults.InputFault.{InputFault}
 use Rattle.mbp_top.specs.Answers.{Answer, Refusal, text_fault}
@@ -30,6 +30,17 @@ pub record HoldBoth (held : Bytes → Held) (domain_name problem_name : Bytes)
     (domain : DomainTree) (problem : ProblemTree) : Type 0 where
   pub holds_domain : Holds held SpellsDomain domain_name domain
   pub holds_problem : Holds held (SpellsProblemOf domain) problem_name problem
+
+-- the bytes read as this problem of the domain
+abbrev pub ReadsAsProblemOf : DomainTree → Bytes → ProblemTree → Type 0
+ReadsAsProblemOf domain bytes problem = ReadsAsProblem bytes domain problem
+
+-- the files of these names read as the domain and the problem of it: what they say, apart from
+-- whether anything is wrong in them
+pub record ReadAsBoth (held : Bytes → Held) (domain_name problem_name : Bytes)
+    (domain : DomainTree) (problem : ProblemTree) : Type 0 where
+  pub domain_says : Holds held ReadsAsDomain domain_name domain
+  pub problem_says : Holds held (ReadsAsProblemOf domain) problem_name problem
 
 -- the domain is read, and then the problem, and then comes what Then says of both
 abbrev pub ReadBoth : (Bytes → Held) → (Bytes → Type 0) → Bytes → Bytes

@@ -1,13 +1,14 @@
 -- A run of the program, as its caller sees it, and that it has its cause.
 use Rattle.std.specs.Prelude.{◌≡◌, ◌≤◌, ℕ, List}
-use Rattle.plan_io.specs.Fetches.{FailedLast, FetchesFirst}
+use Rattle.plan_io.specs.Fetches.{FailedLast}
 use Rattle.plan_io.specs.Held.{Held}
 use Rattle.mbp_top.specs.Answers.{Answer}
 use Rattle.mbp_top.specs.Causes.{HasCause, IsQuietAt}
 use Rattle.mbp_top.specs.Delivery.{IsDelivered, Seen}
+use Rattle.mbp_top.specs.Fetching.{FetchesFiles}
 use Rattle.mbp_top.specs.ReplayCommand.{Tallies}
 use Rattle.mbp_top.specs.Told.{AreFilesTold, NoFault}
-use Rattle.mbp_top.specs.Words.{Bytes, Command, SayNothing, Says, files_of}
+use Rattle.mbp_top.specs.Words.{Bytes, Command, SayNothing, Says}
 
 -- a run: its words; what the monitors show of steps; the shelf and the two sinks before and after
 -- it; and its status
@@ -27,7 +28,7 @@ abbrev pub FailedIn : {S : Type 0} → (S → ℕ) → (S → Bytes → S → Ty
 FailedIn {S} faults fetched run = FailedLast fetched faults run.shelf run.shelf_after
 
 -- an answer was given that has its cause, and was delivered. The files of the command were fetched
--- in their order, each once, as far as was needed, and none without a command. The shelf's count of
+-- in their order, each once, as far as they were needed, and none without a command. The shelf's count of
 -- faults is as it was, but at the answers that may have had one; it never falls, and what is held
 -- stays
 pub record HasRun {S : Type 0} (held : S → Bytes → Held) (faults : S → ℕ)
@@ -36,7 +37,7 @@ pub record HasRun {S : Type 0} (held : S → Bytes → Held) (faults : S → ℕ
   pub cause : HasCause (held run.shelf) (FailedIn faults fetched run) run.tallies run.words answer
   pub delivered : IsDelivered answer run.out run.out_after run.err run.err_after run.status
   pub fetches : (command : Command) → Says run.words command
-      → FetchesFirst fetched (files_of command) run.shelf run.shelf_after
+      → FetchesFiles (held run.shelf) fetched command run.shelf run.shelf_after
   pub unfetched : SayNothing run.words → run.shelf_after ≡ run.shelf
   pub quiet : IsQuietAt answer (faults run.shelf) (faults run.shelf_after)
   pub kept : (file : Bytes) → held run.shelf_after file ≡ held run.shelf file

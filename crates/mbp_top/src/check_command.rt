@@ -14,17 +14,20 @@ ghost use Rattle.mbp_top.specs.CheckCommand.{
   most_followed,
   verdict_answer,
 };
+ghost use Rattle.mbp_top.specs.Fetching.{FetchesFiles};
+ghost use Rattle.mbp_top.specs.Grounding.{has_goal_for};
 ghost use Rattle.mbp_top.specs.Judged.{HasGoalIn, IsTaskVerdict};
 ghost use Rattle.mbp_top.specs.PlanFiles.{KindThen, is_of_kind};
 ghost use Rattle.mbp_top.specs.Values.{answer_of, check_words_of, kind_of, placed_of, shown_of};
-ghost use Rattle.mbp_top.specs.Words.{with_contexts};
+ghost use Rattle.mbp_top.specs.Words.{check, with_contexts};
 ghost use Rattle.pddl_ast.specs.Fits.{FitsDomain, FitsProblem};
 ghost use Rattle.pddl_ast.specs.Values.{domain_value, problem_value};
 ghost use Rattle.pddl_system.specs.Names.{NamesAreWords};
-ghost use Rattle.plan_io.specs.Fetches.{FailedLast, FetchesFirst};
+ghost use Rattle.pddl_system.specs.Sizes.{first_passed};
+ghost use Rattle.plan_io.specs.Fetches.{FailedLast, FetchesNothing, MayFetch};
 ghost use Rattle.plan_rules.specs.Plans.{IsPlanOf};
 ghost use Rattle.plan_rules.specs.Rules.{ContextRule, PlainPlan, automaton, plain_of};
-ghost use Rattle.std.specs.Prelude.{◌≡◌, ◌≤◌, ◌⊎◌, [], ◌∷◌, IfOk, IfSome, IsSome, List, true, ℕ};
+ghost use Rattle.std.specs.Prelude.{◌≡◌, ◌≤◌, ◌⊎◌, IfOk, IfSome, IsSome, List, None, true, ℕ};
 ghost use Rattle.task_core.specs.Tasks.{action_count, fluent_count, system_of};
 
 use crate::answers::{Limit, Refusal, Shown, Text};
@@ -51,8 +54,7 @@ pub(crate) fn check_files<S: Shelf>(
     ensures answer { let failed = FailedLast S.fetched S.faults shelf.old shelf.new in
         (answer_of result ≡ refused no_memory)
         ⊎ IsCheckAnswer (S.held shelf.old) failed (check_words_of asked.now) (answer_of result) }
-    ensures fetches { FetchesFirst S.fetched
-        (asked.now.domain.now ∷ asked.now.problem.now ∷ asked.now.plan.now ∷ [])
+    ensures fetches { FetchesFiles (S.held shelf.old) S.fetched (check (check_words_of asked.now))
         shelf.old shelf.new }
     ensures quiet_at { IsQuietAt (answer_of result) (S.faults shelf.old) (S.faults shelf.new) }
     ensures kept { (file : List ℕ) → S.held shelf.new file ≡ S.held shelf.old file }
@@ -77,7 +79,10 @@ fn check_problem<S: Shelf>(
         (answer_of result ≡ refused no_memory)
         ⊎ IsChecked (S.held shelf.old) failed (check_words_of asked.now)
         (domain_value domain.now) (problem_value problem.now) (answer_of result) }
-    ensures fetches { FetchesFirst S.fetched (asked.now.plan.now ∷ []) shelf.old shelf.new }
+    ensures fetches { MayFetch S.fetched
+        ((has_goal_for (kind_of asked.now.kind) (problem_value problem.now) ≡ true)
+        × (first_passed (domain_value domain.now) (problem_value problem.now) ≡ None))
+        asked.now.plan.now FetchesNothing shelf.old shelf.new }
     ensures quiet_at { IsQuietAt (answer_of result) (S.faults shelf.old) (S.faults shelf.new) }
     ensures kept { (file : List ℕ) → S.held shelf.new file ≡ S.held shelf.old file }
     ensures later { S.faults shelf.old ≤ S.faults shelf.new }

@@ -1,9 +1,10 @@
 //! From the words to the answer.
 
 ghost use Rattle.mbp_top.specs.Causes.{HasCause, IsQuietAt};
+ghost use Rattle.mbp_top.specs.Fetching.{FetchesFiles};
 ghost use Rattle.mbp_top.specs.Values.{answer_of};
-ghost use Rattle.mbp_top.specs.Words.{Command as SaidCommand, SayNothing, Says, files_of};
-ghost use Rattle.plan_io.specs.Fetches.{FailedLast, FetchesFirst};
+ghost use Rattle.mbp_top.specs.Words.{Command as SaidCommand, SayNothing, Says};
+ghost use Rattle.plan_io.specs.Fetches.{FailedLast};
 ghost use Rattle.run_replay.specs.TraceTexts.{tallies_of};
 ghost use Rattle.std.specs.Prelude.{◌≡◌, ◌≤◌, All, List, map, string_bytes, ℕ};
 
@@ -31,7 +32,7 @@ pub(crate) fn answer<S: Shelf>(
         (tallies_of (map (λ monitor. shown monitor) monitors.old.items))
         (map string_bytes words.now) (answer_of result) }
     ensures fetches { (command : SaidCommand) → Says (map string_bytes words.now) command
-        → FetchesFirst S.fetched (files_of command) shelf.old shelf.new }
+        → FetchesFiles (S.held shelf.old) S.fetched command shelf.old shelf.new }
     ensures no_fetch { SayNothing (map string_bytes words.now) → shelf.new ≡ shelf.old }
     ensures quiet_at { IsQuietAt (answer_of result) (S.faults shelf.old) (S.faults shelf.new) }
     ensures kept { (file : List ℕ) → S.held shelf.new file ≡ S.held shelf.old file }

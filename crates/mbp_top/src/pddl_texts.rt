@@ -2,6 +2,7 @@
 
 ghost use Rattle.mbp_top.specs.Answers.{no_memory, refused};
 ghost use Rattle.mbp_top.specs.Causes.{IsQuietAt};
+ghost use Rattle.mbp_top.specs.Fetching.{FetchesBoth};
 ghost use Rattle.mbp_top.specs.PddlTexts.{
   HoldBoth,
   IsFaultyDomain,
@@ -17,7 +18,7 @@ ghost use Rattle.pddl_system.specs.Names.{NamesAreWords};
 ghost use Rattle.pddl_domain.specs.Domains.{SpellsDomain};
 ghost use Rattle.pddl_domain.specs.WordNames.{HasWordNames};
 ghost use Rattle.pddl_problem.specs.WordNames.{HasWordObjects};
-ghost use Rattle.plan_io.specs.Fetches.{FailedLast, Fetches, FetchesFirst};
+ghost use Rattle.plan_io.specs.Fetches.{FailedLast, Fetches, FetchesNothing};
 ghost use Rattle.std.specs.Prelude.{◌≡◌, ◌≤◌, ◌⊎◌, [], ◌∷◌, IfErr, IfOk, List, OnOk, ℕ};
 
 use crate::answers::Refusal;
@@ -118,8 +119,8 @@ pub(crate) fn read_both<S: Shelf>(
         IfErr result (λ refusal. (refused (refusal_of refusal) ≡ refused no_memory)
         ⊎ ReadBoth (S.held shelf.old) failed domain_name.now problem_name.now
         (λ domain problem answer. ⊥) (refused (refusal_of refusal))) }
-    ensures fetches { FetchesFirst S.fetched
-        (domain_name.now ∷ problem_name.now ∷ []) shelf.old shelf.new }
+    ensures fetches { FetchesBoth (S.held shelf.old) S.fetched domain_name.now problem_name.now
+        FetchesNothing shelf.old shelf.new }
     ensures fetched { OnOk result
         (Fetches S.fetched (domain_name.now ∷ problem_name.now ∷ []) shelf.old shelf.new) }
     ensures quiet { OnOk result (S.faults shelf.new ≡ S.faults shelf.old) }

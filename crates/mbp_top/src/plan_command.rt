@@ -5,6 +5,7 @@ ghost use Rattle.encode_task.specs.Made.{MadeOf};
 ghost use Rattle.mbp_top.specs.Answers.{full, no_memory, refused};
 ghost use Rattle.mbp_top.specs.Causes.{IsQuietAt};
 ghost use Rattle.mbp_top.specs.Enough.{IsTightLimit};
+ghost use Rattle.mbp_top.specs.Fetching.{FetchesBoth};
 ghost use Rattle.mbp_top.specs.FoundPlans.{IsSearched, IsTableResult};
 ghost use Rattle.mbp_top.specs.Grounded.{IsGroundedOf, IsTaskOf};
 ghost use Rattle.mbp_top.specs.PlanCommand.{IsPlanAnswer, IsPlanned, MayBeTooFew};
@@ -15,7 +16,7 @@ ghost use Rattle.mbp_top.specs.Words.{IsNodeLimit, of_class};
 ghost use Rattle.pddl_ast.specs.Fits.{FitsDomain, FitsProblem};
 ghost use Rattle.pddl_ast.specs.Values.{domain_value, problem_value};
 ghost use Rattle.pddl_system.specs.Names.{NamesAreWords};
-ghost use Rattle.plan_io.specs.Fetches.{FailedLast, FetchesFirst};
+ghost use Rattle.plan_io.specs.Fetches.{FailedLast, FetchesNothing};
 ghost use Rattle.plan_rules.specs.Plans.{IsPlanOf, plan_text};
 ghost use Rattle.plan_rules.specs.Readings.{SpellsPlan};
 ghost use Rattle.std.specs.Prelude.{
@@ -24,8 +25,6 @@ ghost use Rattle.std.specs.Prelude.{
   ◌+◌,
   ◌*◌,
   ◌⊎◌,
-  [],
-  ◌∷◌,
   IfOk,
   IsErrOf,
   IsSome,
@@ -63,8 +62,8 @@ pub(crate) fn plan_files<S: Shelf>(
     ensures answer { let failed = FailedLast S.fetched S.faults shelf.old shelf.new in
         (answer_of result ≡ refused no_memory)
         ⊎ IsPlanAnswer (S.held shelf.old) failed (plan_words_of asked.now) (answer_of result) }
-    ensures fetches { FetchesFirst S.fetched
-        (asked.now.domain.now ∷ asked.now.problem.now ∷ []) shelf.old shelf.new }
+    ensures fetches { FetchesBoth (S.held shelf.old) S.fetched asked.now.domain.now
+        asked.now.problem.now FetchesNothing shelf.old shelf.new }
     ensures quiet_at { IsQuietAt (answer_of result) (S.faults shelf.old) (S.faults shelf.new) }
     ensures kept { (file : List ℕ) → S.held shelf.new file ≡ S.held shelf.old file }
     ensures later { S.faults shelf.old ≤ S.faults shelf.new }

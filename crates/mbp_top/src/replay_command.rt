@@ -4,6 +4,7 @@ ghost use Rattle.exec_graph.specs.Initials.{HasTooManyInitial};
 ghost use Rattle.mbp_top.specs.Answers.{no_memory, refused};
 ghost use Rattle.mbp_top.specs.Causes.{IsQuietAt};
 ghost use Rattle.mbp_top.specs.CheckCommand.{most_followed};
+ghost use Rattle.mbp_top.specs.Fetching.{FetchesFiles, FetchesRun, HoldsSomePlan};
 ghost use Rattle.mbp_top.specs.ReplayCommand.{
   FirstThen,
   IsFirstState,
@@ -15,10 +16,16 @@ ghost use Rattle.mbp_top.specs.ReplayCommand.{
   trace_under,
 };
 ghost use Rattle.mbp_top.specs.Values.{answer_of, refusal_of, replay_words_of};
+ghost use Rattle.mbp_top.specs.Words.{replay};
 ghost use Rattle.pddl_ast.specs.Fits.{FitsDomain, FitsProblem};
 ghost use Rattle.pddl_ast.specs.Values.{domain_value, problem_value};
 ghost use Rattle.pddl_system.specs.Names.{NamesAreWords};
-ghost use Rattle.plan_io.specs.Fetches.{FailedLast, FetchesFirst};
+ghost use Rattle.pddl_system.specs.Sizes.{first_passed};
+ghost use Rattle.pddl_system.specs.Systems.{
+  action_names as names_of_actions,
+  fluent_names as names_of_fluents,
+};
+ghost use Rattle.plan_io.specs.Fetches.{FailedLast, FetchesNothing, MayFetch};
 ghost use Rattle.plan_rules.specs.Plans.{IsPlanOf};
 ghost use Rattle.plan_rules.specs.Rules.{plain_of};
 ghost use Rattle.run_replay.specs.Records.{record_value};
@@ -27,15 +34,15 @@ ghost use Rattle.std.specs.Prelude.{
   ◌≡◌,
   ◌≤◌,
   ◌⊎◌,
-  [],
-  ◌∷◌,
   All,
   IfErr,
   IfOk,
   List,
+  None,
   OnOk,
   map,
   ℕ,
+  ⊤,
 };
 ghost use Rattle.task_core.specs.States.{IsWithin, vector};
 ghost use Rattle.task_core.specs.Tasks.{
@@ -79,9 +86,7 @@ pub(crate) fn replay_files<S: Shelf>(
         ⊎ IsReplayAnswer (S.held shelf.old) failed
         (tallies_of (map (λ monitor. shown monitor) monitors.old.items))
         (replay_words_of asked.now) (answer_of result) }
-    ensures fetches { FetchesFirst S.fetched
-        (asked.now.domain.now ∷ asked.now.problem.now ∷ asked.now.plan.now
-        ∷ asked.now.recorded.now ∷ [])
+    ensures fetches { FetchesFiles (S.held shelf.old) S.fetched (replay (replay_words_of asked.now))
         shelf.old shelf.new }
     ensures quiet_at { IsQuietAt (answer_of result) (S.faults shelf.old) (S.faults shelf.new) }
     ensures kept { (file : List ℕ) → S.held shelf.new file ≡ S.held shelf.old file }
@@ -111,8 +116,12 @@ fn replay_problem<S: Shelf>(
         (tallies_of (map (λ monitor. shown monitor) monitors.old.items))
         (replay_words_of asked.now)
         (domain_value domain.now) (problem_value problem.now) (answer_of result) }
-    ensures fetches { FetchesFirst S.fetched
-        (asked.now.plan.now ∷ asked.now.recorded.now ∷ []) shelf.old shelf.new }
+    ensures fetches { FetchesRun S.fetched (replay_words_of asked.now)
+        (first_passed (domain_value domain.now) (problem_value problem.now) ≡ None)
+        (HoldsSomePlan (S.held shelf.old)
+        (names_of_fluents (domain_value domain.now) (problem_value problem.now))
+        (names_of_actions (domain_value domain.now) (problem_value problem.now))
+        asked.now.plan.now) shelf.old shelf.new }
     ensures quiet_at { IsQuietAt (answer_of result) (S.faults shelf.old) (S.faults shelf.new) }
     ensures kept { (file : List ℕ) → S.held shelf.new file ≡ S.held shelf.old file }
     ensures later { S.faults shelf.old ≤ S.faults shelf.new }
@@ -137,8 +146,9 @@ fn replay_task<S: Shelf>(
         (tallies_of (map (λ monitor. shown monitor) monitors.old.items))
         (replay_words_of asked.now) (fluent_names task.now) (action_names task.now)
         (HasTooManyInitial task.now most_followed) (system_of task.now) (answer_of result) }
-    ensures fetches { FetchesFirst S.fetched
-        (asked.now.plan.now ∷ asked.now.recorded.now ∷ []) shelf.old shelf.new }
+    ensures fetches { FetchesRun S.fetched (replay_words_of asked.now) ⊤
+        (HoldsSomePlan (S.held shelf.old) (fluent_names task.now) (action_names task.now)
+        asked.now.plan.now) shelf.old shelf.new }
     ensures quiet_at { IsQuietAt (answer_of result) (S.faults shelf.old) (S.faults shelf.new) }
     ensures kept { (file : List ℕ) → S.held shelf.new file ≡ S.held shelf.old file }
     ensures later { S.faults shelf.old ≤ S.faults shelf.new }
@@ -173,7 +183,7 @@ fn replay_plan<S: Shelf>(
         (tallies_of (map (λ monitor. shown monitor) monitors.old.items))
         name.now (action_names task.now) (HasTooManyInitial task.now most_followed)
         (system_of task.now) (plain_of plan.now) (answer_of result) }
-    ensures fetches { FetchesFirst S.fetched (name.now ∷ []) shelf.old shelf.new }
+    ensures fetches { MayFetch S.fetched ⊤ name.now FetchesNothing shelf.old shelf.new }
     ensures quiet_at { IsQuietAt (answer_of result) (S.faults shelf.old) (S.faults shelf.new) }
     ensures kept { (file : List ℕ) → S.held shelf.new file ≡ S.held shelf.old file }
     ensures later { S.faults shelf.old ≤ S.faults shelf.new }

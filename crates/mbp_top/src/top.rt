@@ -6,7 +6,7 @@ ghost use Rattle.mbp_top.specs.Delivery.{seen};
 ghost use Rattle.mbp_top.specs.Enough.{IsTightLimit};
 ghost use Rattle.mbp_top.specs.Grounding.{has_goal_for};
 ghost use Rattle.mbp_top.specs.Meets.{PlanMeets};
-ghost use Rattle.mbp_top.specs.PddlTexts.{HoldBoth};
+ghost use Rattle.mbp_top.specs.PddlTexts.{HoldBoth, ReadAsBoth};
 ghost use Rattle.mbp_top.specs.PlanCommand.{
   HasNoPlan,
   IsGoodText,
@@ -98,12 +98,13 @@ pub fn run<S: Shelf, O: Sink, E: Sink>(
     }) }
 
     // `plan`, status 0: the text that was written spells a plan whose meaning meets the problem that
-    // the two files spell: a table that is a solution of the class, or a plan with contexts that is
-    // complete and has the goal in computation tree logic at each initial configuration.
+    // the two files read as: a table that is a solution of the class, or a plan with contexts that
+    // is complete and has the goal in computation tree logic at each initial configuration. (That
+    // nothing is wrong in the files is a part of the answer's cause.)
     ensures plan_solves { (asked : PlanWords) → SaysPlan (map string_bytes words.now) asked
         → result ≡ 0
         → (domain : DomainTree) × (problem : ProblemTree) × (text : Bytes)
-        × HoldBoth (S.held shelf.old) asked.domain asked.problem domain problem
+        × ReadAsBoth (S.held shelf.old) asked.domain asked.problem domain problem
         × IsGoodText asked.kind domain problem text
         × (O.written out.new ≡ append_known (O.written out.old) text) }
 
@@ -112,7 +113,7 @@ pub fn run<S: Shelf, O: Sink, E: Sink>(
     ensures plan_shortest { (asked : PlanWords) → SaysPlan (map string_bytes words.now) asked
         → result ≡ 0
         → (domain : DomainTree) × (problem : ProblemTree) × (text : Bytes)
-        × HoldBoth (S.held shelf.old) asked.domain asked.problem domain problem
+        × ReadAsBoth (S.held shelf.old) asked.domain asked.problem domain problem
         × IsShortText asked.kind domain problem text
         × (O.written out.new ≡ append_known (O.written out.old) text) }
 
@@ -120,15 +121,15 @@ pub fn run<S: Shelf, O: Sink, E: Sink>(
     ensures plan_printed { (asked : PlanWords) → SaysPlan (map string_bytes words.now) asked
         → result ≡ 0
         → (domain : DomainTree) × (problem : ProblemTree) × (text : Bytes)
-        × HoldBoth (S.held shelf.old) asked.domain asked.problem domain problem
+        × ReadAsBoth (S.held shelf.old) asked.domain asked.problem domain problem
         × IsTextPrinted asked.kind domain problem text
         × (O.written out.new ≡ append_known (O.written out.old) text) }
 
-    // `plan`, status 1: nothing that a plan can mean meets the problem that the two files spell: no
-    // table at all, and no plan with contexts, whatever its contexts are and however many.
+    // `plan`, status 1: nothing that a plan can mean meets the problem that the two files read as:
+    // no table at all, and no plan with contexts, whatever its contexts are and however many.
     ensures no_plan { (asked : PlanWords) → SaysPlan (map string_bytes words.now) asked → result ≡ 1
         → (domain : DomainTree) × (problem : ProblemTree)
-        × HoldBoth (S.held shelf.old) asked.domain asked.problem domain problem
+        × ReadAsBoth (S.held shelf.old) asked.domain asked.problem domain problem
         × HasNoPlan asked.kind domain problem
         × (O.written out.new ≡ append_known (O.written out.old) no_plan_text) }
 

@@ -1,9 +1,10 @@
 -- Worked examples of the definitions that the contracts cite.
-use Rattle.std.proofs.Common.{◌≡◌, ℕ, ◌+◌, ◌-◌, ◌^◌, List, [], ◌∷◌, codes, refl, ap, ◌∙◌, lit<, lit≤, arith}
+use Rattle.std.proofs.Common.{◌≡◌, ℕ, ◌+◌, ◌-◌, ◌^◌, List, [], ◌∷◌, codes, refl, ap, ◌∙◌, lit<, lit≤, inl, inr, arith}
+use Rattle.std.specs.Prelude.{⊤}
 use Rattle.std.specs.Cmp.Lexicographic.{nat_list_cmp_total}
 use Rattle.std.specs.FinMap as finite
 use Rattle.plan_io.specs.Counts.{raised, Rose}
-use Rattle.plan_io.specs.Fetches.{Fetches, FetchesFirst}
+use Rattle.plan_io.specs.Fetches.{Fetches, FetchesNothing, MayFetch}
 use Rattle.plan_io.specs.Held.{Holds, Missing, Gives, MayExceed, Exceeds}
 use Rattle.plan_io.specs.MemShelf.{told, held_of}
 use Rattle.plan_io.specs.MemSink.{MemSinkState, taken_of}
@@ -63,5 +64,6 @@ takes_the_piece = refl
 two_fetches : Fetches (λ before name after. after ≡ before + 1) (codes "d" ∷ codes "p" ∷ []) 0 2
 two_fetches = (1, refl, (2, refl, refl))
 
-only_the_first : FetchesFirst (λ before name after. after ≡ before + 1) (codes "d" ∷ codes "p" ∷ []) 0 1
-only_the_first = record { count = 1; fetches = (1, refl, refl) }
+-- the first is needed, and leads from 0 to 1; the second isn't fetched
+only_the_first : MayFetch (λ before name after. after ≡ before + 1) ⊤ (codes "d") (MayFetch (λ before name after. after ≡ before + 1) ⊥ (codes "p") FetchesNothing) 0 1
+only_the_first = inr (tt, 1, refl, inl refl)

@@ -1,3 +1,4 @@
+use Rattle.std.proofs.Common.{inr, refl}
 use Rattle.std.proofs.lemmas.Result.{err_from_is_err_and}
 use Rattle.pddl_ast.specs.Values.{domain_value, problem_value}
 use Rattle.plan_io.specs.Fetches.{FailedLast}
@@ -30,3 +31,11 @@ returns-clause-answer g c =
     (placed_of c.in_ok-read.read) (answer_of c.judge_plan.result)
     c.in_ok-grounded.ensures.task c.in_ok-grounded.ensures.system c.in_ok-grounded.ensures.ctl c.in_ok-grounded.ensures.within c.in_ok-check_goal.ensures.goal
     c.in_ok-read.ensures.holds c.judge_plan.ensures
+
+pub returns-in_err-read-clause-fetches : goal.returns-in_err-read-clause-fetches
+returns-in_err-read-clause-fetches g c =
+    inr ((c.in_ok-check_goal.ensures.goal, c.in_ok-grounded.ensures.within), c.read_plan_file.new.shelf, c.in_err-read.ensures.fetch, refl)
+
+pub returns-clause-fetches : goal.returns-clause-fetches
+returns-clause-fetches g c =
+    inr ((c.in_ok-check_goal.ensures.goal, c.in_ok-grounded.ensures.within), c.read_plan_file.new.shelf, c.in_ok-read.ensures.fetch, refl)

@@ -1,4 +1,4 @@
-use Rattle.std.proofs.Common.{refl}
+use Rattle.std.proofs.Common.{inl, inr, refl}
 use Rattle.std.proofs.lemmas.Result.{err_from_is_err_and}
 use Rattle.plan_io.specs.Fetches.{FailedLast}
 use Rattle.pddl_ast.specs.Values.{domain_value, problem_value}
@@ -30,11 +30,12 @@ returns-in_err-problem-clause-refused g c =
     (λ late. failed_over g.S.Shelf.fetched g.S.Shelf.faults c.args.shelf.now c.read_domain_file.new.shelf c.read_problem_file.new.shelf domain_name problem_name c.in_ok-domain.ensures.fetch c.in_ok-domain.ensures.quiet late)
     c.in_err-problem.ensures.refused))
 
+pub returns-in_err-domain-clause-fetches : goal.returns-in_err-domain-clause-fetches
+returns-in_err-domain-clause-fetches g c = inr (tt, c.read_domain_file.new.shelf, c.in_err-domain.ensures.fetch, inl refl)
+
 pub returns-in_err-problem-clause-fetches : goal.returns-in_err-problem-clause-fetches
-returns-in_err-problem-clause-fetches g c = record {
-  count = 2;
-  fetches = (c.read_domain_file.new.shelf, c.in_ok-domain.ensures.fetch, (c.read_problem_file.new.shelf, c.in_err-problem.ensures.fetch, refl));
-}
+returns-in_err-problem-clause-fetches g c =
+    inr (tt, c.read_domain_file.new.shelf, c.in_ok-domain.ensures.fetch, inr ((domain_value c.in_ok-domain.domain, c.in_ok-domain.ensures.holds), c.read_problem_file.new.shelf, c.in_err-problem.ensures.fetch, refl))
 
 pub returns-clause-holds : goal.returns-clause-holds
 returns-clause-holds g c =
@@ -48,10 +49,8 @@ returns-clause-holds g c =
     }
 
 pub returns-clause-fetches : goal.returns-clause-fetches
-returns-clause-fetches g c = record {
-  count = 2;
-  fetches = (c.read_domain_file.new.shelf, c.in_ok-domain.ensures.fetch, (c.read_problem_file.new.shelf, c.in_ok-problem.ensures.fetch, refl));
-}
+returns-clause-fetches g c =
+    inr (tt, c.read_domain_file.new.shelf, c.in_ok-domain.ensures.fetch, inr ((domain_value c.in_ok-domain.domain, c.in_ok-domain.ensures.holds), c.read_problem_file.new.shelf, c.in_ok-problem.ensures.fetch, refl))
 
 pub returns-clause-names : goal.returns-clause-names
 returns-clause-names g c =

@@ -1,11 +1,12 @@
-use Rattle.std.proofs.Common.{[], ◌∷◌, map}
+use Rattle.std.proofs.Common.{inl, map}
 use Rattle.std.proofs.lemmas.Result.{err_from_is_err_and}
 use Rattle.plan_io.specs.Fetches.{FailedLast}
 use Rattle.run_replay.specs.TraceTexts.{tallies_of}
+use Rattle.mbp_top.specs.Fetching.{AsksForRecord, AsksForRun, FetchesRun}
 use Rattle.mbp_top.specs.ReplayCommand.{IsReplay, Tallies}
 use Rattle.mbp_top.specs.Values.{replay_words_of, refusal_of}
 use Rattle.mbp_top.proofs.ReplayAnswers.{replay_later}
-use Rattle.mbp_top.proofs.Later.{failed_after_two, first_two, two_then}
+use Rattle.mbp_top.proofs.Later.{both_alone, both_then, failed_after_two, run_map, some_plan_over}
 use Rattle.mbp_top.proofs.PddlDecides.{after_both, refused_both}
 use Rattle.mbp_top.proofs.replay_command.replay_files.Goals as goal
 
@@ -21,7 +22,9 @@ returns-in_err-domain-clause-answer g c =
 pub returns-in_err-domain-clause-fetches : goal.returns-in_err-domain-clause-fetches
 returns-in_err-domain-clause-fetches g c =
     let asked = replay_words_of c.args.asked.now in
-    first_two g.S.Shelf.fetched asked.domain asked.problem (asked.plan ∷ asked.recorded ∷ []) c.args.shelf.now c.read_both.new.shelf c.in_err-domain.ensures.fetches
+    let held = g.S.Shelf.held c.args.shelf.now in
+    both_alone held g.S.Shelf.fetched asked.domain asked.problem (FetchesRun g.S.Shelf.fetched asked (AsksForRun held asked) (AsksForRecord held asked)) c.args.shelf.now c.read_both.new.shelf
+    (λ x y same. inl same) c.in_err-domain.ensures.fetches
 
 pub returns-clause-answer : goal.returns-clause-answer
 returns-clause-answer g c =
@@ -40,5 +43,12 @@ returns-clause-answer g c =
 pub returns-clause-fetches : goal.returns-clause-fetches
 returns-clause-fetches g c =
     let asked = replay_words_of c.args.asked.now in
-    two_then g.S.Shelf.fetched asked.domain asked.problem (asked.plan ∷ asked.recorded ∷ []) c.args.shelf.now c.read_both.new.shelf c.replay_problem.new.shelf
-    c.in_ok-domain.ensures.fetched c.replay_problem.ensures.fetches
+    let held = g.S.Shelf.held c.args.shelf.now in
+    let held' = g.S.Shelf.held c.read_both.new.shelf in
+    let holds = c.in_ok-domain.ensures.holds in
+    both_then held g.S.Shelf.fetched asked.domain asked.problem (FetchesRun g.S.Shelf.fetched asked (AsksForRun held asked) (AsksForRecord held asked))
+    c.args.shelf.now c.read_both.new.shelf c.replay_problem.new.shelf (_, holds.holds_domain) c.in_ok-domain.ensures.fetched
+    (run_map g.S.Shelf.fetched asked _ (AsksForRun held asked) _ (AsksForRecord held asked) c.read_both.new.shelf c.replay_problem.new.shelf
+    (λ within. (_, _, holds, within))
+    (λ some. (_, _, holds, some_plan_over held held' _ _ asked.plan c.in_ok-domain.ensures.kept some))
+    c.replay_problem.ensures.fetches)

@@ -1,4 +1,4 @@
-use Rattle.std.proofs.Common.{[], map}
+use Rattle.std.proofs.Common.{inr, map, refl}
 use Rattle.std.proofs.lemmas.Result.{err_from_is_err_and}
 use Rattle.exec_graph.specs.Initials.{HasTooManyInitial}
 use Rattle.plan_io.specs.Fetches.{FailedLast}
@@ -9,7 +9,6 @@ use Rattle.task_core.specs.Tasks.{action_names, system_of}
 use Rattle.mbp_top.specs.CheckCommand.{most_followed}
 use Rattle.mbp_top.specs.ReplayCommand.{Tallies}
 use Rattle.mbp_top.specs.Values.{answer_of, refusal_of}
-use Rattle.mbp_top.proofs.Later.{only_one}
 use Rattle.mbp_top.proofs.ReplayAnswers.{record_answer, record_refused}
 use Rattle.mbp_top.proofs.replay_command.replay_plan.Goals as goal
 
@@ -25,7 +24,7 @@ returns-in_err-recorded-clause-answer g c =
 
 pub returns-in_err-recorded-clause-fetches : goal.returns-in_err-recorded-clause-fetches
 returns-in_err-recorded-clause-fetches g c =
-    only_one g.S.Shelf.fetched c.args.name.now [] c.args.shelf.now c.read_record_file.new.shelf c.in_err-recorded.ensures.fetch
+    inr (tt, c.read_record_file.new.shelf, c.in_err-recorded.ensures.fetch, refl)
 
 pub returns-clause-answer : goal.returns-clause-answer
 returns-clause-answer g c =
@@ -38,4 +37,4 @@ returns-clause-answer g c =
 
 pub returns-clause-fetches : goal.returns-clause-fetches
 returns-clause-fetches g c =
-    only_one g.S.Shelf.fetched c.args.name.now [] c.args.shelf.now c.read_record_file.new.shelf c.in_ok-recorded.ensures.fetch
+    inr (tt, c.read_record_file.new.shelf, c.in_ok-recorded.ensures.fetch, refl)

@@ -1,14 +1,16 @@
-use Rattle.std.proofs.Common.{[], ◌∷◌, map}
+use Rattle.std.proofs.Common.{inl, inr, map, refl}
+use Rattle.std.specs.Prelude.{⊤}
 use Rattle.std.proofs.lemmas.Result.{err_from_is_err_and}
 use Rattle.exec_graph.specs.Initials.{HasTooManyInitial}
-use Rattle.plan_io.specs.Fetches.{FailedLast}
+use Rattle.plan_io.specs.Fetches.{FailedLast, FetchesNothing}
 use Rattle.plan_rules.specs.Rules.{plain_of}
 use Rattle.run_replay.specs.TraceTexts.{tallies_of}
 use Rattle.task_core.specs.Tasks.{action_names, fluent_names, system_of}
 use Rattle.mbp_top.specs.CheckCommand.{most_followed}
+use Rattle.mbp_top.specs.Fetching.{HoldsSomePlan}
 use Rattle.mbp_top.specs.ReplayCommand.{Tallies}
 use Rattle.mbp_top.specs.Values.{answer_of, placed_of, refusal_of, replay_words_of}
-use Rattle.mbp_top.proofs.Later.{failed_over, one_then, only_one}
+use Rattle.mbp_top.proofs.Later.{failed_over, may_map}
 use Rattle.mbp_top.proofs.ReplayAnswers.{plan_answer, plan_refused, record_later}
 use Rattle.mbp_top.proofs.replay_command.replay_task.Goals as goal
 
@@ -24,7 +26,7 @@ returns-in_err-read-clause-answer g c =
 
 pub returns-in_err-read-clause-fetches : goal.returns-in_err-read-clause-fetches
 returns-in_err-read-clause-fetches g c =
-    only_one g.S.Shelf.fetched c.args.asked.now.plan.now (c.args.asked.now.recorded.now ∷ []) c.args.shelf.now c.read_plan_file.new.shelf c.in_err-read.ensures.fetch
+    inr (tt, c.read_plan_file.new.shelf, c.in_err-read.ensures.fetch, inl refl)
 
 pub returns-clause-answer : goal.returns-clause-answer
 returns-clause-answer g c =
@@ -45,5 +47,13 @@ returns-clause-answer g c =
 
 pub returns-clause-fetches : goal.returns-clause-fetches
 returns-clause-fetches g c =
-    one_then g.S.Shelf.fetched c.args.asked.now.plan.now (c.args.asked.now.recorded.now ∷ []) c.args.shelf.now c.read_plan_file.new.shelf c.replay_plan.new.shelf
-    c.in_ok-read.ensures.fetch c.replay_plan.ensures.fetches
+    let task = c.args.task.now in
+    let placed = placed_of c.in_ok-read.read in
+    inr (
+      tt,
+      c.read_plan_file.new.shelf,
+      c.in_ok-read.ensures.fetch,
+      may_map g.S.Shelf.fetched ⊤ (HoldsSomePlan (g.S.Shelf.held c.args.shelf.now) (fluent_names task) (action_names task) c.args.asked.now.plan.now) c.args.asked.now.recorded.now
+          FetchesNothing FetchesNothing c.read_plan_file.new.shelf c.replay_plan.new.shelf
+          (λ t. (placed.plan, record { place = placed.place; holds = c.in_ok-read.ensures.holds })) (λ x y same. same) c.replay_plan.ensures.fetches,
+    )
