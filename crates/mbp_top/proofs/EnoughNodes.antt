@@ -1,12 +1,11 @@
 -- A limit that is tight for the sets of a task, or for those of its planners, is tight for the
 -- nodes that are enough.
-use Rattle.std.proofs.Common.{◌≡◌, ◌≤◌, ◌+◌, ◌*◌, ◌^◌, ℕ, subst, sym, arith}
+use Rattle.std.proofs.Common.{◌≡◌, ◌≤◌, ◌+◌, ◌*◌, ◌^◌, ℕ, subst, arith}
 use Rattle.std.proofs.Math.Nat.{mul-le-mul_right}
 use Rattle.dd_sets.specs.Laws.{TightIsMonotone}
 use Rattle.dd_sets.specs.LiveSets.{LiveSets, live_count}
 use Rattle.dd_sets.specs.Rooms.{IsTightFor, Tight, nodes_of_slots}
-use Rattle.encode_task.specs.Bounds.{kept_slots, most_outcomes as most_of_task, working_slots}
-use Rattle.task_core.proofs.Outcomes.{most_of_list}
+use Rattle.encode_task.specs.Bounds.{kept_slots, working_slots}
 use Rattle.task_core.specs.Systems.{most_outcomes}
 use Rattle.task_core.specs.Tasks.{action_count, fluent_count, system_of}
 use Rattle.task_core.specs.declared.tasks.Task.{Task}
@@ -35,24 +34,22 @@ slots_of_chain n L A M few =
     omega arith
 
 tight_for_slots : TightIsMonotone → (t : Task) (n limit slots : ℕ)
-    → slots ≤ action_count t * (most_of_task t * (fluent_count t + 1) + n + 6) + 8 * n + 256
+    → slots ≤ action_count t * (most_outcomes (system_of t) * (fluent_count t + 1) + n + 6) + 8 * n + 256
     → Tight limit (fluent_count t) (nodes_of_slots slots (fluent_count t)) → IsTightLimit n limit (system_of t)
 tight_for_slots monotone t n limit slots few tight =
     let F = fluent_count t in
     let A = action_count t in
-    let bound : slots ≤ A * (most_outcomes (system_of t) * (F + 1) + n + 6) + 8 * n + 256 =
-    subst (λ m. slots ≤ A * (m * (F + 1) + n + 6) + 8 * n + 256) (sym (most_of_list t)) few in
-    monotone limit F (nodes_of_slots slots F) (enough n (system_of t)) (few_slots slots (A * (most_outcomes (system_of t) * (F + 1) + n + 6) + 8 * n + 256) (2 ^ F) (4 ^ F) bound) tight
+    monotone limit F (nodes_of_slots slots F) (enough n (system_of t)) (few_slots slots (A * (most_outcomes (system_of t) * (F + 1) + n + 6) + 8 * n + 256) (2 ^ F) (4 ^ F) few) tight
 
 -- while the sets of the task are made
 pub tight_for_sets : TightIsMonotone → (t : Task) (n limit : ℕ)
     → Tight limit (fluent_count t) (nodes_of_slots (working_slots t) (fluent_count t)) → IsTightLimit n limit (system_of t)
 tight_for_sets monotone t n limit tight =
-    tight_for_slots monotone t n limit (working_slots t) (slots_of_actions n (action_count t) (most_of_task t * (fluent_count t + 1))) tight
+    tight_for_slots monotone t n limit (working_slots t) (slots_of_actions n (action_count t) (most_outcomes (system_of t) * (fluent_count t + 1))) tight
 
 -- of the sets that are live
 tight_for_live : TightIsMonotone → (t : Task) (n : ℕ) (sets : LiveSets) (limit more : ℕ) → sets.vars ≡ fluent_count t → sets.limit ≡ limit
-    → live_count sets + more ≤ action_count t * (most_of_task t * (fluent_count t + 1) + n + 6) + 8 * n + 256
+    → live_count sets + more ≤ action_count t * (most_outcomes (system_of t) * (fluent_count t + 1) + n + 6) + 8 * n + 256
     → IsTightFor more sets → IsTightLimit n limit (system_of t)
 tight_for_live monotone t n sets limit more of_vars of_limit few tight =
     let slots = live_count sets + more in
@@ -65,11 +62,11 @@ pub tight_for_planner : TightIsMonotone → (t : Task) (sets : LiveSets) (limit 
     → live_count sets ≤ kept_slots t → IsTightFor (3 * action_count t + 32) sets → IsTightLimit 0 limit (system_of t)
 tight_for_planner monotone t sets limit of_vars of_limit few tight =
     tight_for_live monotone t 0 sets limit (3 * action_count t + 32) of_vars of_limit
-    (slots_of_planner (live_count sets) (action_count t) (most_of_task t * (fluent_count t + 1)) few) tight
+    (slots_of_planner (live_count sets) (action_count t) (most_outcomes (system_of t) * (fluent_count t + 1)) few) tight
 
 -- while a plan for a chain of n stages is
 pub tight_for_chain : TightIsMonotone → (t : Task) (n : ℕ) (sets : LiveSets) (limit : ℕ) → sets.vars ≡ fluent_count t → sets.limit ≡ limit
     → live_count sets ≤ kept_slots t → IsTightFor (action_count t * (n + 3) + 8 * n + 236) sets → IsTightLimit n limit (system_of t)
 tight_for_chain monotone t n sets limit of_vars of_limit few tight =
     tight_for_live monotone t n sets limit (action_count t * (n + 3) + 8 * n + 236) of_vars of_limit
-    (slots_of_chain n (live_count sets) (action_count t) (most_of_task t * (fluent_count t + 1)) few) tight
+    (slots_of_chain n (live_count sets) (action_count t) (most_outcomes (system_of t) * (fluent_count t + 1)) few) tight
