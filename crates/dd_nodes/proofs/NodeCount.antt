@@ -65,7 +65,7 @@ at_map h (y ∷ xs) (suc k) x within at =
     let inner : k < length (map h xs) = rest.0 in
     (omega arith, rest.1)
 
-any_map : {X Y : Type 0} (P : X → Type 0) (Q : Y → Type 0) (h : X → Y) → ((x : X) → P x → Q (h x)) → (xs : List X) → Any P xs → Any Q (map h xs)
+pub any_map : {X Y : Type 0} (P : X → Type 0) (Q : Y → Type 0) (h : X → Y) → ((x : X) → P x → Q (h x)) → (xs : List X) → Any P xs → Any Q (map h xs)
 any_map P Q h follows xs (k, x, within, at, p) =
     let place = at_map h xs k x within at in
     (k, h x, place.0, place.1, follows x p)

@@ -5,6 +5,8 @@ use Rattle.dd_nodes.specs.declared.node.Node.{Node}
 use Rattle.dd_nodes.specs.NodeList.{IsNumber, IsReduced, function}
 use Rattle.dd_nodes.specs.Reached.{IsReached}
 use Rattle.dd_nodes.specs.Subfunctions.{Function, DependsOnly, IsSubfunction, nodes}
+use Rattle.dd_nodes.specs.declared.node.Ref.{Ref}
+use Rattle.dd_nodes.specs.Collecting.{Collected}
 
 -- in a reduced list two numbers have the same function exactly where they are equal (Bryant 1986,
 -- Theorem 1)
@@ -38,3 +40,10 @@ NodesAreReached =
     (vars : ℕ) (list : List Node) → IsReduced vars list → (from reached : List ℕ)
     → All (IsNumber list) from
     → AreReachedNodes list from reached → nodes vars (map (function list) from) ≡ length reached
+
+-- after a collection the list has exactly the nodes of the diagrams of its roots' functions
+abbrev pub CollectedNodesAreCounted : Type 0
+CollectedNodesAreCounted =
+    (vars : ℕ) (before after : List Node) (old new : List Ref) → IsReduced vars after
+    → Collected before after old new
+    → length after ≡ nodes vars (map (λ (r : Ref). function after r.0) new)

@@ -1,3 +1,5 @@
+pub mod Arena
+pub mod Collecting
 pub mod Laws
 pub mod NodeList
 pub mod Reached

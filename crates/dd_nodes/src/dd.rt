@@ -4,15 +4,16 @@ ghost use Rattle.std.specs.Prelude.{IsNone, IsSome, IfSome, IfNone, IfOk, IfErr,
 ghost use Rattle.std.specs.Prelude.{if◌then◌else◌};
 ghost use Rattle.dd_nodes.specs.NodeList.{Values, IsNumber, StandsBelow, StandsFrom, Lacks};
 ghost use Rattle.dd_nodes.specs.NodeList.{Extends, Appends, node_at, function, values_of_bits};
+ghost use Rattle.std.specs.List.{All};
+ghost use Rattle.dd_nodes.specs.declared.node.Ref as reference;
+ghost use Rattle.dd_nodes.specs.Collecting.{Collected};
 ghost use Rattle.dd_nodes.specs.Table.{IsNodeTable};
 
+use crate::arena::{self, Cell};
+use crate::collect;
 use crate::node::{DdErr, Node, Ref};
-use indexmap::IndexSet;
 use std::alloc::{AllocError, Global};
 use std::marker::Model;
-
-/// How many nodes make a table that grows in the largest steps.
-const MANY: usize = 1_000_000;
 
 /// A table of diagram nodes: at most `limit` nodes over `vars` variables.
 ///
@@ -20,26 +21,35 @@ const MANY: usize = 1_000_000;
 /// order of their numbers. That list is always reduced: each variable is below `vars`, no node has
 /// equal children, no two nodes are equal, and children stand before their parents, with greater
 /// variables.
+///
+/// All memory is taken by `new`, and nothing of it is written there: each vector grows within its
+/// room.
 #[derive(Drop)]
 pub struct Dd {
     vars: u32,
     limit: u32,
-    nodes: IndexSet<Node>,
+    cells: Vec<Cell>,
+    buckets: Vec<u32>,
+    marks: Vec<u32>,
 }
 
 impl Model for Dd {
+    ghost use Rattle.std.specs.Prelude.{◌≡◌, vec_capacity};
     ghost use Rattle.dd_nodes.specs.Table.{NodeTable, IsNodeTable};
+    ghost use Rattle.dd_nodes.specs.Arena.{nodes_of, IsArena};
 
     ghost Value = { NodeTable };
 
-    ghost view = { λ dd. record { vars = dd.vars; limit = dd.limit; nodes = dd.nodes.keys } };
+    ghost view = { λ dd. record { vars = dd.vars; limit = dd.limit; nodes = nodes_of dd.cells.items } };
 
     ghost invariant = { λ dd. IsNodeTable
-        (record { vars = dd.vars; limit = dd.limit; nodes = dd.nodes.keys }) };
+        (record { vars = dd.vars; limit = dd.limit; nodes = nodes_of dd.cells.items })
+        × IsArena dd.cells dd.buckets × (vec_capacity dd.cells ≡ dd.limit)
+        × (vec_capacity dd.marks ≡ dd.limit) };
 }
 
 impl Dd {
-    /// An empty table for at most `limit` nodes over `vars` variables.
+    /// An empty table for at most `limit` nodes over `vars` variables. No other call wants memory.
     pub fn new(alloc: Global, vars: u32, limit: u32) -> Result<Dd, AllocError>
         requires few_vars { vars ≤ 256 }
         requires some_room { 0 < limit }
@@ -49,10 +59,13 @@ impl Dd {
         ensures empty { IfOk result (λ dd. dd.nodes ≡ []) }
         ensures table { IfOk result IsNodeTable }
     {
+        let room = limit as usize;
         Ok(Dd {
             vars,
             limit,
-            nodes: IndexSet::with_capacity(alloc, 16)?,
+            cells: Vec::with_capacity(alloc, room)?,
+            buckets: arena::new_buckets(alloc, room)?,
+            marks: Vec::with_capacity(alloc, room)?,
         })
     }
 
@@ -61,7 +74,7 @@ impl Dd {
         ensures count { result ≡ length self.now.nodes }
         ensures table { IsNodeTable self.now }
     {
-        self.nodes.len() as u32
+        self.cells.len() as u32
     }
 
     /// The largest number of nodes.
@@ -79,12 +92,7 @@ impl Dd {
         ensures constant { IsNone result ↔ (f.0 < 2) }
         ensures table { IsNodeTable self.now }
     {
-        let nodes = &self.nodes;
-        if f.0 < 2 {
-            None
-        } else {
-            nodes.get_index(f.0 as usize - 2).copied()
-        }
+        arena::node_of(&self.cells, f)
     }
 
     /// The number of the function that is that of `hi` where variable `var` is true, and that of
@@ -92,8 +100,8 @@ impl Dd {
     ///
     /// Equal children give that child, and a node that is there gives its number. Else the node is
     /// new, and its number is 2 more than the number of nodes before; it is refused with `Full`
-    /// where the table holds `limit` nodes, and with `Memory` where there is none. A refusal
-    /// changes nothing. No call changes the number or the function of an earlier node.
+    /// where the table holds `limit` nodes, and in no other case. A refusal changes nothing. No
+    /// call of `mk` changes the number or the function of an earlier node.
     pub fn mk(&mut self, var: u32, lo: Ref, hi: Ref) -> Result<Ref, DdErr>
         requires var_in_range { var < self.old.vars }
         requires lo_in_table { IsNumber self.old.nodes lo.0 }
@@ -117,6 +125,7 @@ impl Dd {
             ↔ ((lo ≢ hi) × Lacks self.old.nodes (record { var = var; lo = lo; hi = hi })
             × (length self.old.nodes ≡ self.old.limit)) }
         ensures refused { OnErr result (self.new ≡ self.old) }
+        ensures only_full { IfErr result (λ e. e ≡ DdErr.Full) }
 
         // What the number means, and that it may stand below any smaller variable.
         ensures function { IfOk result (λ f. (values : Values) → function self.new.nodes f.0 values
@@ -133,11 +142,23 @@ impl Dd {
             → function self.new.nodes n values ≡ function self.old.nodes n values }
         ensures table { IsNodeTable self.new }
     {
-        let limit = self.limit as usize;
+        let _ = &self.cells;
         if lo == hi {
             return Ok(lo);
         }
-        place(&mut self.nodes, limit, Node { var, lo, hi })
+        arena::place(&mut self.cells, &mut self.buckets, Node { var, lo, hi })
+    }
+
+    /// Keeps only the nodes that are reached from the roots, in their order, and gives each root its
+    /// new number.
+    pub fn collect(&mut self, roots: &mut Vec<Ref>)
+        requires roots { All (λ (r : reference.Ref). IsNumber self.old.nodes r.0) roots.old.items }
+        ensures vars { self.new.vars ≡ self.old.vars }
+        ensures limit { self.new.limit ≡ self.old.limit }
+        ensures table { IsNodeTable self.new }
+        ensures roots { Collected self.old.nodes self.new.nodes roots.old.items roots.new.items }
+    {
+        collect::keep_needed(&mut self.cells, &mut self.buckets, &mut self.marks, roots);
     }
 
     /// Whether the function of `f` is true at the truth values in `bits`: variable `v` is bit `v %
@@ -148,13 +169,21 @@ impl Dd {
     {
         let mut at = f;
         while let Some(node) = self.node(at) {
-            at = if is_set(bits, node.var) {
-                node.hi
-            } else {
-                node.lo
-            };
+            at = child(node, bits);
         }
         at.0 == 1
+    }
+}
+
+/// Where a walk goes from a node.
+fn child(node: Node, bits: &[u64; 4]) -> Ref
+    requires { node.var < 256 }
+    ensures { result.0 ≡ (if values_of_bits bits.now node.var then node.hi.0 else node.lo.0) }
+{
+    if is_set(bits, node.var) {
+        node.hi
+    } else {
+        node.lo
     }
 }
 
@@ -164,75 +193,4 @@ fn is_set(bits: &[u64; 4], var: u32) -> bool
     ensures { result ≡ values_of_bits bits.now var }
 {
     bits[var as usize / 64] >> (var % 64) & 1 == 1
-}
-
-/// The number of a node, which is appended if it is not there and there are fewer nodes than
-/// `limit`.
-fn place(nodes: &mut IndexSet<Node>, limit: usize, node: Node) -> Result<Ref, DdErr>
-    requires within { length nodes.old.keys ≤ limit }
-    requires small { limit ≤ 16777216 }
-    ensures placed { IfOk result (λ f. ((node_at nodes.old.keys f.0 ≡ Some node)
-        × (nodes.new.keys ≡ nodes.old.keys))
-        ⊎ (Lacks nodes.old.keys node × (f.0 ≡ length nodes.old.keys + 2)
-        × (nodes.new.keys ≡ nodes.old.keys ++ node ∷ []))) }
-    ensures within { length nodes.new.keys ≤ limit }
-    ensures full { IsErrOf result DdErr.Full ↔
-        (Lacks nodes.old.keys node × (length nodes.old.keys ≡ limit)) }
-    ensures refused { OnErr result (nodes.new.keys ≡ nodes.old.keys) }
-    ensures absent { OnErr result (Lacks nodes.old.keys node) }
-{
-    if nodes.len() < limit {
-        widen(nodes, limit);
-        intern(nodes, node)
-    } else {
-        match find(nodes, node) {
-            Some(f) => Ok(f),
-            None => Err(DdErr::Full),
-        }
-    }
-}
-
-/// Makes room for three times as many nodes more, from `MANY` nodes on for seven times as many, and
-/// for `limit` in all at most, where there is no room for one. To put all nodes into a larger table
-/// again takes as long as to make a third of them, once they no longer fit into a cache. Where
-/// there is no memory for that, the room stays as it is, and an insertion doubles it.
-fn widen(nodes: &mut IndexSet<Node>, limit: usize)
-    requires within { length nodes.old.keys ≤ limit }
-    requires small { limit ≤ 16777216 }
-    ensures { nodes.new.keys ≡ nodes.old.keys }
-{
-    let count = nodes.len();
-    if count == nodes.capacity() {
-        let times = if count < MANY { 3 } else { 7 };
-        let _ = nodes.reserve((times * count).min(limit - count));
-    }
-}
-
-/// The number of a node, if it is there.
-fn find(nodes: &IndexSet<Node>, node: Node) -> Option<Ref>
-    requires { length nodes.now.keys ≤ 16777216 }
-    ensures found { IfSome result (λ f. node_at nodes.now.keys f.0 ≡ Some node) }
-    ensures absent { IfNone result (Lacks nodes.now.keys node) }
-{
-    match nodes.get_index_of(&node) {
-        Some(index) => Some(Ref(index as u32 + 2)),
-        None => None,
-    }
-}
-
-/// The number of a node, which is appended if it is not there.
-fn intern(nodes: &mut IndexSet<Node>, node: Node) -> Result<Ref, DdErr>
-    requires { length nodes.old.keys < 16777216 }
-    ensures found { IfOk result (λ f. ((node_at nodes.old.keys f.0 ≡ Some node)
-        × (nodes.new.keys ≡ nodes.old.keys))
-        ⊎ (Lacks nodes.old.keys node × (f.0 ≡ length nodes.old.keys + 2)
-        × (nodes.new.keys ≡ nodes.old.keys ++ node ∷ []))) }
-    ensures refused { OnErr result (nodes.new.keys ≡ nodes.old.keys) }
-    ensures absent { OnErr result (Lacks nodes.old.keys node) }
-    ensures memory { IfErr result (λ e. e ≡ DdErr.Memory) }
-{
-    match nodes.insert_full(node) {
-        Ok((index, _)) => Ok(Ref(index as u32 + 2)),
-        Err(_) => Err(DdErr::Memory),
-    }
 }

@@ -2,6 +2,7 @@
 //! its contract is the law.
 ghost use Rattle.dd_nodes.specs.Laws.{OneNumberPerFunction, DependsOnVariables};
 ghost use Rattle.dd_nodes.specs.Laws.{SubfunctionsAreReached, NodesAreReached};
+ghost use Rattle.dd_nodes.specs.Laws.{CollectedNodesAreCounted};
 
 /// In a reduced list two numbers have the same function exactly where they are equal (Bryant 1986,
 /// Theorem 1).
@@ -24,4 +25,10 @@ pub fn subfunctions_are_reached()
 /// reached from their numbers.
 pub fn nodes_are_reached()
     ensures { NodesAreReached }
+{}
+
+/// After a collection a table has as many nodes as the diagrams of the functions of its roots,
+/// counted by their different subfunctions.
+pub fn collected_nodes_are_counted()
+    ensures { CollectedNodesAreCounted }
 {}

@@ -7,12 +7,15 @@
 //! 1986).
 #![tactic(auto)]
 
+mod arena;
+mod collect;
 mod dd;
 mod laws;
 mod node;
 
 pub use dd::Dd;
 pub use laws::{
-    depends_on_variables, nodes_are_reached, one_number_per_function, subfunctions_are_reached,
+    collected_nodes_are_counted, depends_on_variables, nodes_are_reached, one_number_per_function,
+    subfunctions_are_reached,
 };
 pub use node::{DdErr, Node, Ref};

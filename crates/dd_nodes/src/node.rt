@@ -1,9 +1,5 @@
 //! The numbers and the nodes of a table.
-ghost use Rattle.std.proofs.Common.{rules};
-ghost use Rattle.std.specs.Hash as fed;
-ghost use Rattle.std.specs.Prelude.{◌+◌, ◌*◌};
 
-use std::hash::{Hash, Hasher};
 use thiserror::Error;
 
 /// The number of a function in a table: 0 is the constant false, 1 the constant true, and `i + 2`
@@ -18,21 +14,6 @@ pub struct Node {
     pub var: u32,
     pub lo: Ref,
     pub hi: Ref,
-}
-
-/// A node is hashed as one number, which is faster than three.
-impl Hash for Node {
-    ghost hash_input = { λ node. fed.u128
-        (node.var * 18446744073709551616 + node.lo.0 * 4294967296 + node.hi.0) };
-
-    ghost respects_eq = { Prim.search rules };
-
-    fn hash<H: Hasher>(&self, state: &mut H) {
-        let Node { var, lo, hi } = *self;
-        state.write_u128(
-            var as u128 * 18_446_744_073_709_551_616 + lo.0 as u128 * 4_294_967_296 + hi.0 as u128,
-        );
-    }
 }
 
 /// Why a table made no node.

@@ -1,14 +1,13 @@
 -- Numbers with one variable fixed.
-use Rattle.std.proofs.Common.{◌≡◌, ℕ, ◌+◌, ◌-◌, ◌<◌, ◌≤◌, Bool, cond, eqb, List, length, Some, sym, ap, subst, ◌∙◌, ◌⊎◌, ⊎_elim, arith, if◌then◌else◌}
+use Rattle.std.proofs.Common.{◌≡◌, ℕ, ◌+◌, ◌-◌, ◌<◌, ◌≤◌, Bool, cond, eqb, List, length, Some, sym, ap, ◌∙◌, arith, if◌then◌else◌}
 use Rattle.std.proofs.lemmas.Bool.{cond-false, ne_eqb}
 use Rattle.dd_nodes.specs.declared.node.Node.{Node}
-use Rattle.dd_nodes.specs.declared.node.Ref.{Ref}
 use Rattle.dd_nodes.specs.NodeList.{Values, with_value, IsNumber, node_at, function, StandsBelow, StandsFrom, IsReduced, Extends}
 use Rattle.dd_nodes.specs.Table.{NodeTable, IsNodeTable}
 use Rattle.dd_nodes.proofs.NodeLemmas.{function_node, node_place}
 use Rattle.dd_nodes.proofs.Extending.{extends_number, extends_node, extends_function, extends_from, extends_below, extends_from_back}
 use Rattle.dd_ops.specs.Operations.{cofactor_of}
-use Rattle.dd_ops.specs.Answers.{HasEntry, level_of, IsCofactor, RemembersCofactors}
+use Rattle.dd_ops.specs.Answers.{level_of, IsCofactor}
 use Rattle.dd_ops.proofs.QuestionLemmas.{below_from, from_below, level_from}
 use Rattle.std.specs.Option.{option_map_or}
 
@@ -22,18 +21,6 @@ module _ (before after : List Node) (extends : Extends before after) (vars : ℕ
         ∙ ap (λ g. cofactor_of g v b) (sym (extends_function before after extends vars reduced f answer.asked));
     from = λ w from. extends_from before after extends w r answer.number (answer.from w (extends_from_back before after extends w f answer.asked from));
   }
-
-  pub cofactors_extend : (entries : List (Ref × Ref)) → RemembersCofactors before v b entries → RemembersCofactors after v b entries
-  cofactors_extend entries remembers f r has = cofactor_extends f.0 r.0 (remembers f r has)
-
--- a memo with one more entry
-pub cofactors_remembered : (nodes : List Node) (v : ℕ) (b : Bool) (old new : List (Ref × Ref)) (f r : Ref)
-    → ((g s : Ref) → HasEntry new g s → HasEntry old g s ⊎ ((g ≡ f) × (s ≡ r)))
-    → RemembersCofactors nodes v b old → IsCofactor nodes v b f.0 r.0 → RemembersCofactors nodes v b new
-cofactors_remembered nodes v b old new f r entries remembers answer g s has = ⊎_elim
-    (λ (was : HasEntry old g s). remembers g s was)
-    (λ (is : (g ≡ f) × (s ≡ r)). subst (λ (k : Ref). IsCofactor nodes v b k.0 s.0) (sym is.0) (subst (λ (w : Ref). IsCofactor nodes v b f.0 w.0) (sym is.1) answer))
-    (entries g s has)
 
 module _ (vars : ℕ) (nodes : List Node) (reduced : IsReduced vars nodes) (f : ℕ) (node : Node) (there : node_at nodes f ≡ Some node)
     (v : ℕ) (b : Bool) (before : node.var < v) (lo hi : ℕ) (lo_is : IsCofactor nodes v b node.lo.0 lo) (hi_is : IsCofactor nodes v b node.hi.0 hi) where

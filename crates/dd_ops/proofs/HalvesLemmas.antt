@@ -3,15 +3,15 @@ use Rattle.std.proofs.Common.{◌≡◌, ℕ, ◌+◌, ◌-◌, ◌<◌, ◌≤�
 use Rattle.dd_nodes.specs.declared.node.DdErr.{DdErr}
 use Rattle.dd_nodes.specs.declared.node.Node.{Node}
 use Rattle.dd_nodes.specs.declared.node.Ref.{Ref}
-use Rattle.dd_nodes.specs.NodeList.{Values, IsNumber, function, StandsBelow, StandsFrom, IsReduced, Extends}
+use Rattle.dd_nodes.specs.NodeList.{Values, IsNumber, function, StandsBelow, StandsFrom, Extends}
 use Rattle.dd_nodes.specs.Subfunctions.{Function}
 use Rattle.dd_nodes.specs.Table.{NodeTable, IsNodeTable}
 use Rattle.dd_nodes.proofs.Extending.{extends_number, extends_function, extends_below, extends_more}
 use Rattle.dd_ops.specs.declared.question.Halves.{Halves}
 use Rattle.dd_ops.specs.declared.question.Question.{Question}
 use Rattle.dd_ops.specs.Operations.{ite_of, cofactor_of}
-use Rattle.dd_ops.specs.Answers.{top_of, IsAsked, AsksFrom, IsAnswer, IsBranch, IsHalf, IsHalved, IsOperandWith, AreHalfAnswers, Remembers, Keeps}
-use Rattle.dd_ops.proofs.QuestionLemmas.{joined, asks_from_top, top_greatest, half_from, top_in_range, asks_from_small, asked_extends, asks_from_extends, asks_from_back, asked_function, answer_extends, half_value, half_below}
+use Rattle.dd_ops.specs.Answers.{top_of, IsAsked, AsksFrom, IsAnswer, IsBranch, IsHalf, IsHalved, IsOperandWith, AreHalfAnswers, Keeps}
+use Rattle.dd_ops.proofs.QuestionLemmas.{joined, asks_from_top, top_greatest, half_from, top_in_range, asks_from_small, asked_extends, asks_from_extends, asks_from_back, asked_function, half_value, half_below}
 
 -- a table is kept by a call that changes nothing, and by two calls in turn
 pub keeps_more : (a b c : NodeTable) → Keeps a b → Keeps b c → Keeps a c
@@ -20,10 +20,6 @@ keeps_more a b c first second = record {
   limit = second.limit ∙ first.limit;
   nodes = extends_more a.nodes b.nodes c.nodes first.nodes second.nodes;
 }
-
--- a memo's answers stay answers where the list grows
-pub remembers_extends : (before after : List Node) → Extends before after → (vars : ℕ) → IsReduced vars before → (entries : List (Question × Ref)) → Remembers before entries → Remembers after entries
-remembers_extends before after extends vars reduced entries remembers i q r at = answer_extends before after extends vars reduced q r.0 (remembers i q r at)
 
 -- a question is halved at its top: the first half is answered over the table t0 and leaves t1, the
 -- second over t1 and leaves t2

@@ -1,3 +1,4 @@
+pub mod CachedLemmas
 pub mod CofactorLemmas
 pub mod ErrorLemmas
 pub mod GrowthAnswers
@@ -15,8 +16,6 @@ pub mod GrowthSubst
 pub mod GrowthSubstSteps
 pub mod GrowthTables
 pub mod HalvesLemmas
-pub mod MemoLemmas
-pub mod QuestionEq
 pub mod QuestionLemmas
 pub mod ReplacedLemmas
 pub mod Restated

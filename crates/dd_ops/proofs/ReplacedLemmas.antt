@@ -20,9 +20,9 @@ use Rattle.dd_ops.proofs.GrowthTables.{AreParts, one_part, adds_first, full_part
 use Rattle.dd_ops.proofs.SubstLemmas.{replaced_listed, replaced_extends, numbers_extend, subst_extends}
 
 -- a table by variable stays one where the list grows
-pub indexed_extends : (before after : List Node) → Extends before after → (vars : ℕ) → IsReduced vars before → (map : List (ℕ × Ref)) (by_var : List (Option Ref))
-    → IsIndexed before map by_var → IsIndexed after map by_var
-indexed_extends before after extends vars reduced map by_var indexed = record {
+pub indexed_extends : (before after : List Node) → Extends before after → (vars : ℕ) → IsReduced vars before → (map : List (ℕ × Ref)) (by_var : List (Option Ref)) (end : ℕ)
+    → IsIndexed before map by_var end → IsIndexed after map by_var end
+indexed_extends before after extends vars reduced map by_var end indexed = record {
   numbers = numbers_extend before after extends vars reduced map indexed.numbers;
   found = indexed.found;
   stay = λ v above small values.

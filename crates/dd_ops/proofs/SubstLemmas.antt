@@ -1,11 +1,10 @@
 -- Numbers with several variables replaced.
-use Rattle.std.proofs.Common.{◌≡◌, ℕ, cond, List, Some, None, sym, ap, subst, ◌∙◌, ◌⊎◌, ⊎_elim}
+use Rattle.std.proofs.Common.{◌≡◌, ℕ, cond, List, Some, None, sym, ap, subst, ◌∙◌, ⊎_elim}
 use Rattle.std.specs.Option.{option_map_or}
 use Rattle.std.proofs.Common.{zero, suc, replicate, drop, refl, ◌<◌, ◌≤◌, Bool, true, false, [], ◌∷◌, arith, Option, All, find, option_map, slice_get, get_or, length, ◌==◌}
 use Rattle.std.specs.List.{position_or_len}
 use Rattle.std.proofs.lemmas.Bool.{cases_Bool, cond-true, cond-false, eqb-true}
 use Rattle.std.proofs.lemmas.Option.{same_Some, none-some, slice_get_within, get_or_from_slice_get}
-use Rattle.std.proofs.lemmas.List.{length-replicate}
 use Rattle.std.proofs.lemmas.List.Folds.{find_at}
 use Rattle.std.proofs.Math.Seq.{drop-length}
 use Rattle.dd_nodes.specs.declared.node.Node.{Node}
@@ -15,7 +14,7 @@ use Rattle.dd_nodes.specs.Table.{NodeTable, IsNodeTable}
 use Rattle.dd_nodes.proofs.NodeLemmas.{cases_Option, function_node, function_without_node, node_place}
 use Rattle.dd_nodes.proofs.Extending.{extends_number, extends_node, extends_function, extends_more}
 use Rattle.dd_ops.specs.Operations.{subst_of, listed, replaced}
-use Rattle.dd_ops.specs.Answers.{StayFrom, AreNumbers, HasEntry, IsAnswer, IsReplaced, RemembersReplaced, Keeps}
+use Rattle.dd_ops.specs.Answers.{StayFrom, AreNumbers, IsAnswer, IsReplaced, Keeps}
 
 -- where each entry of a list has a number of the table, so has each variable that it lists
 pub listed_numbers : (nodes : List Node) (map : List (ℕ × Ref)) → All (λ (entry : ℕ × Ref). IsNumber nodes entry.1.0) map → AreNumbers nodes map
@@ -62,13 +61,10 @@ none_at zero v within = absurd (omega arith)
 none_at (suc n) zero within = refl
 none_at (suc n) (suc v) within = none_at n v (omega arith)
 
-pub fresh_table : (map : List (ℕ × Ref)) (end : ℕ) (items : List (Option Ref)) → items ≡ replicate end None
-    → (length items ≡ end) × ((v : ℕ) → v < end → slice_get items v ≡ Some (listed (drop (length map) map) v))
-fresh_table map end items is =
-    let long : length items ≡ end = ap length is ∙ length-replicate end no_image in
-    let found = λ (v : ℕ) (within : v < end).
-    ap (λ (l : List (Option Ref)). slice_get l v) is ∙ none_at end v within ∙ ap (λ (l : List (ℕ × Ref)). Some (listed l v)) (sym (drop-length map)) in
-    (long, found)
+pub fresh_table : (map : List (ℕ × Ref)) (n : ℕ) (items : List (Option Ref)) → items ≡ replicate n None
+    → (v : ℕ) → v < n → slice_get items v ≡ Some (listed (drop (length map) map) v)
+fresh_table map n items is v within =
+    ap (λ (l : List (Option Ref)). slice_get l v) is ∙ none_at n v within ∙ ap (λ (l : List (ℕ × Ref)). Some (listed l v)) (sym (drop-length map))
 
 -- a constant is not changed
 pub replaced_constant : (nodes : List Node) (map : List (ℕ × Ref)) (f : ℕ) → IsNumber nodes f → node_at nodes f ≡ None → IsReplaced nodes map f f
@@ -112,18 +108,6 @@ module _ (before after : List Node) (extends : Extends before after) (vars : ℕ
     number = extends_number before after extends r answer.number;
     value = extends_function before after extends vars reduced r answer.number ∙ answer.value ∙ sym (subst_extends f answer.asked);
   }
-
-  pub remembers_replaced_extends : (entries : List (Ref × Ref)) → RemembersReplaced before map entries → RemembersReplaced after map entries
-  remembers_replaced_extends entries remembers f r has = is_replaced_extends f.0 r.0 (remembers f r has)
-
--- a memo with one more entry
-pub replaced_remembered : (nodes : List Node) (map : List (ℕ × Ref)) (old new : List (Ref × Ref)) (f r : Ref)
-    → ((g s : Ref) → HasEntry new g s → HasEntry old g s ⊎ ((g ≡ f) × (s ≡ r)))
-    → RemembersReplaced nodes map old → IsReplaced nodes map f.0 r.0 → RemembersReplaced nodes map new
-replaced_remembered nodes map old new f r entries remembers answer g s has = ⊎_elim
-    (λ (was : HasEntry old g s). remembers g s was)
-    (λ (is : (g ≡ f) × (s ≡ r)). subst (λ (k : Ref). IsReplaced nodes map k.0 s.0) (sym is.0) (subst (λ (w : Ref). IsReplaced nodes map f.0 w.0) (sym is.1) answer))
-    (entries g s has)
 
 -- the choice between the children's numbers by the variable's replacement is the node's
 module _ (vars : ℕ) (nodes : List Node) (reduced : IsReduced vars nodes) (map : List (ℕ × Ref)) (f : ℕ) (node : Node) (there : node_at nodes f ≡ Some node)

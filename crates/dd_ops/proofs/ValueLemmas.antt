@@ -1,8 +1,9 @@
 -- The functions of the operations that are one if-then-else with constants.
 use Rattle.std.proofs.Common.{[], ◌∷◌, length, length-append, arith, ◌≤◌, ◌+◌, ◌≡◌, ℕ, Bool, true, false, not, ◌&&◌, ◌||◌, cond, List, refl, sym, ap, ◌∙◌, if◌then◌else◌}
 use Rattle.dd_nodes.specs.declared.node.Node.{Node}
-use Rattle.std.proofs.Common.{Result, Ok, Err, IfOk, subst}
+use Rattle.std.proofs.Common.{Result, Ok, Err, IfOk, IfErr, subst}
 use Rattle.dd_nodes.specs.declared.node.DdErr.{DdErr}
+use Rattle.dd_nodes.specs.declared.node.DdErr.TheVariants.{Full}
 use Rattle.dd_nodes.specs.NodeList.{Values, function, IsNumber, Extends}
 use Rattle.dd_ops.specs.Calls.{Answers}
 use Rattle.dd_ops.specs.Growth.{Grows}
@@ -102,10 +103,12 @@ module _ (inside now after : NodeTable) (is : inside ≡ now) (table : IsNodeTab
       ∙ ap (λ (t : NodeTable). subst_of t.nodes map (function t.nodes f)) is
 
   -- a call that keeps the nodes answers what its number denotes
-  pub answers : IsNodeTable after → (wanted : Function) (r : Result Ref DdErr) → IfOk r (λ (k : Ref). function after.nodes k.0 ≡ wanted) → IfOk r (λ (k : Ref). IsNumber after.nodes k.0) → Answers wanted now after r
-  answers later wanted r value number = record {
+  pub answers : IsNodeTable after → (wanted : Function) (r : Result Ref DdErr) → IfOk r (λ (k : Ref). function after.nodes k.0 ≡ wanted) → IfOk r (λ (k : Ref). IsNumber after.nodes k.0)
+      → IfErr r (λ (e : DdErr). e ≡ Full) → Answers wanted now after r
+  answers later wanted r value number only_full = record {
     value = value;
     in_table = number;
+    only_full = only_full;
     table = later;
     vars = kept.vars ∙ ap (λ (t : NodeTable). t.vars) is;
     limit = kept.limit ∙ ap (λ (t : NodeTable). t.limit) is;
@@ -150,6 +153,7 @@ module _ (t0 t1 t2 : NodeTable) (other : Function) (r0 r : Result Ref DdErr) (fi
       record {
         value = ok_then r second.value (λ (k : Ref) value. value ∙ (λ i. ite_of (first.earlier f is_f i) (first.earlier g is_g i) (first.earlier h is_h i)));
         in_table = second.in_table;
+        only_full = second.only_full;
         table = second.table;
         vars = second.vars ∙ first.vars;
         limit = second.limit ∙ first.limit;

@@ -21,10 +21,6 @@ pub record Keeps (before after : NodeTable) : Type 0 where
   pub limit : after.limit ≡ before.limit
   pub nodes : Extends before.nodes after.nodes
 
--- a memo has an entry
-abbrev pub HasEntry : List (Ref × Ref) → Ref → Ref → Type 0
-HasEntry entries f r = (i : ℕ) × (slice_get entries i ≡ Some (f, r))
-
 -- the variable of a node; a constant, which has none, stands below every variable
 abbrev pub level_at : Option Node → ℕ
 level_at node = option_map_or (λ k. k.var) node 256
@@ -111,11 +107,6 @@ pub record AreHalfAnswers (table : NodeTable) (q : Question) (v lo hi : ℕ) : T
       ≡ cofactor_of (ite_of (function table.nodes q.f.0) (function table.nodes q.g.0)
       (function table.nodes q.h.0)) v true
 
--- each entry of a memo is an answer
-abbrev pub Remembers : List Node → List (Question × Ref) → Type 0
-Remembers nodes entries =
-    (i : ℕ) (q : Question) (r : Ref) → slice_get entries i ≡ Some (q, r) → IsAnswer nodes q r.0
-
 -- r has the function of f with variable v fixed at b, and stands as deep as f does
 pub record IsCofactor (nodes : List Node) (v : ℕ) (b : Bool) (f r : ℕ) : Type 0 where
   pub asked : IsNumber nodes f
@@ -123,31 +114,26 @@ pub record IsCofactor (nodes : List Node) (v : ℕ) (b : Bool) (f r : ℕ) : Typ
   pub value : function nodes r ≡ cofactor_of (function nodes f) v b
   pub from : (w : ℕ) → StandsFrom nodes w f → StandsFrom nodes w r
 
--- each entry of a memo is a cofactor
-abbrev pub RemembersCofactors : List Node → ℕ → Bool → List (Ref × Ref) → Type 0
-RemembersCofactors nodes v b entries =
-    (f r : Ref) → HasEntry entries f r → IsCofactor nodes v b f.0 r.0
-
 -- each number that the list of replacements gives is in the table
 abbrev pub AreNumbers : List Node → List (ℕ × Ref) → Type 0
 AreNumbers nodes map = (v : ℕ) (g : Ref) → listed map v ≡ Some g → IsNumber nodes g.0
 
--- a table by variable has for each of its variables what the list gives it
+-- a table by variable has for each variable what the list gives it
 abbrev pub IsByVar : List (ℕ × Ref) → List (Option Ref) → Type 0
-IsByVar map by_var = (v : ℕ) → v < length by_var → slice_get by_var v ≡ Some (listed map v)
+IsByVar map by_var = (v : ℕ) → v < 256 → slice_get by_var v ≡ Some (listed map v)
 
 -- from a variable on each keeps its value
 abbrev pub StayFrom : List Node → List (ℕ × Ref) → ℕ → Type 0
 StayFrom nodes map end =
     (v : ℕ) → end ≤ v → v < 256 → (values : Values) → values v ≡ replaced nodes map values v
 
--- a list of replacements by numbers of a node list, with its table by variable, beyond which the
--- variables stay
-pub record IsIndexed (nodes : List Node) (map : List (ℕ × Ref))
-    (by_var : List (Option Ref)) : Type 0 where
+-- a list of replacements by numbers of a node list, with its table by variable, and a variable from
+-- which on they stay
+pub record IsIndexed (nodes : List Node) (map : List (ℕ × Ref)) (by_var : List (Option Ref))
+    (end : ℕ) : Type 0 where
   pub numbers : AreNumbers nodes map
   pub found : IsByVar map by_var
-  pub stay : StayFrom nodes map (length by_var)
+  pub stay : StayFrom nodes map end
 
 -- a node's child is followed alone where a constant replaces the node's variable
 abbrev pub Follows : Node → Option Ref → Ref → Type 0
@@ -160,11 +146,6 @@ pub record IsReplaced (nodes : List Node) (map : List (ℕ × Ref)) (f r : ℕ) 
   pub asked : IsNumber nodes f
   pub number : IsNumber nodes r
   pub value : function nodes r ≡ subst_of nodes map (function nodes f)
-
--- each entry of a memo is such a number
-abbrev pub RemembersReplaced : List Node → List (ℕ × Ref) → List (Ref × Ref) → Type 0
-RemembersReplaced nodes map entries =
-    (f r : Ref) → HasEntry entries f r → IsReplaced nodes map f.0 r.0
 
 -- the pieces of the function that replaces a variable: the variable itself, unless it is listed
 abbrev pub pieces_of_variable : List (ℕ × Ref) → ℕ → List Function

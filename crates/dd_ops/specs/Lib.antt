@@ -1,4 +1,5 @@
 pub mod Answers
+pub mod Cached
 pub mod Calls
 pub mod Growth
 pub mod GrowthLaws

@@ -1,35 +1,33 @@
 //! Functions with one variable fixed.
-ghost use Rattle.std.specs.Prelude.{◌≡◌, ◌<◌, [], ◌∷◌, IfOk, IsErrOf, Some};
+ghost use Rattle.std.specs.Prelude.{◌≡◌, ◌<◌, [], ◌∷◌, IfOk, IfErr, IsErrOf, Some};
 ghost use Rattle.dd_nodes.specs.NodeList.{IsNumber, StandsFrom, node_at, function};
 ghost use Rattle.dd_nodes.specs.Table.{IsNodeTable};
-ghost use Rattle.dd_ops.specs.Answers.{IsBranch, IsCofactor, RemembersCofactors, Keeps, IsFullFor};
+ghost use Rattle.dd_ops.specs.Answers.{IsBranch, IsCofactor, Keeps, IsFullFor};
+ghost use Rattle.dd_ops.specs.Cached.{RemembersCofactors, IsFixed, AddsPairs};
 ghost use Rattle.dd_ops.specs.Growth.{AddsParts};
 ghost use Rattle.dd_ops.specs.Operations.{cofactor_of};
 
-use crate::memo::{recall_number, remember_number};
+use crate::make::make;
+use crate::memo::{recall_cofactor, remember_cofactor};
 use crate::question::branch;
+use dd_cache::Cache;
 use dd_nodes::{Dd, DdErr, Node, Ref};
-use indexmap::IndexMap;
 
 /// The number of `f` with variable `v` fixed.
 ///
 /// A child looks only at greater variables, so the calls are nested at most 256 deep.
-pub fn fix(
-    dd: &mut Dd,
-    memo: &mut IndexMap<Ref, Ref>,
-    f: Ref,
-    v: u32,
-    value: bool,
-) -> Result<Ref, DdErr>
+pub fn fix(dd: &mut Dd, cache: &mut Cache, f: Ref, v: u32, value: bool) -> Result<Ref, DdErr>
     requires table { IsNodeTable dd.old }
     requires number { IsNumber dd.old.nodes f.0 }
-    requires memo { RemembersCofactors dd.old.nodes v value memo.old.entries }
+    requires memo { RemembersCofactors dd.old.nodes cache.old.pairs }
     ensures answer { IfOk result (λ r. IsCofactor dd.new.nodes v value f.0 r.0) }
     ensures kept { Keeps dd.old dd.new }
     ensures table { IsNodeTable dd.new }
-    ensures memo { RemembersCofactors dd.new.nodes v value memo.new.entries }
+    ensures memo { RemembersCofactors dd.new.nodes cache.new.pairs }
+    ensures others { AddsPairs IsFixed cache.old.pairs cache.new.pairs }
     ensures adds { AddsParts dd.old.vars (cofactor_of (function dd.old.nodes f.0) v value ∷ [])
         dd.old.nodes dd.new.nodes }
+    ensures only_full { IfErr result (λ e. e ≡ DdErr.Full) }
     ensures full { IsErrOf result DdErr.Full → IsFullFor
         (cofactor_of (function dd.old.nodes f.0) v value ∷ []) dd.new }
 {
@@ -37,12 +35,12 @@ pub fn fix(
         Some(node) if node.var < v => node,
         _ => return Ok(fix_here(dd, f, v, value)),
     };
-    if let Some(r) = recall_number(memo, f) {
+    if let Some(r) = recall_cofactor(cache, f, v, value) {
         return Ok(r);
     }
-    let lo = fix(dd, memo, node.lo, v, value)?;
-    let hi = fix(dd, memo, node.hi, v, value)?;
-    join_fixed(dd, memo, f, node, v, value, lo, hi)
+    let lo = fix(dd, cache, node.lo, v, value)?;
+    let hi = fix(dd, cache, node.hi, v, value)?;
+    join_fixed(dd, cache, f, node, v, value, lo, hi)
 }
 
 /// The number of `f` with variable `v` fixed, where `f` looks at no lesser variable.
@@ -54,11 +52,11 @@ fn fix_here(dd: &Dd, f: Ref, v: u32, value: bool) -> Ref
     branch(dd.node(f), f, v, value)
 }
 
-/// The number of `f` with variable `v` fixed, by those of the children of its node, which the memo
+/// The number of `f` with variable `v` fixed, by those of the children of its node, which the cache
 /// keeps.
 fn join_fixed(
     dd: &mut Dd,
-    memo: &mut IndexMap<Ref, Ref>,
+    cache: &mut Cache,
     f: Ref,
     node: Node,
     v: u32,
@@ -71,17 +69,19 @@ fn join_fixed(
     requires before { node.var < v }
     requires lo { IsCofactor dd.old.nodes v value node.lo.0 lo.0 }
     requires hi { IsCofactor dd.old.nodes v value node.hi.0 hi.0 }
-    requires memo { RemembersCofactors dd.old.nodes v value memo.old.entries }
+    requires memo { RemembersCofactors dd.old.nodes cache.old.pairs }
     ensures answer { IfOk result (λ r. IsCofactor dd.new.nodes v value f.0 r.0) }
     ensures kept { Keeps dd.old dd.new }
     ensures table { IsNodeTable dd.new }
-    ensures memo { RemembersCofactors dd.new.nodes v value memo.new.entries }
+    ensures memo { RemembersCofactors dd.new.nodes cache.new.pairs }
+    ensures others { AddsPairs IsFixed cache.old.pairs cache.new.pairs }
     ensures adds { AddsParts dd.old.vars (cofactor_of (function dd.old.nodes f.0) v value ∷ [])
         dd.old.nodes dd.new.nodes }
+    ensures only_full { IfErr result (λ e. e ≡ DdErr.Full) }
     ensures full { IsErrOf result DdErr.Full → IsFullFor
         (cofactor_of (function dd.old.nodes f.0) v value ∷ []) dd.new }
 {
-    let r = dd.mk(node.var, lo, hi)?;
-    remember_number(memo, f, r)?;
+    let r = make(dd, f, node, node.var, lo, hi)?;
+    remember_cofactor(cache, f, v, value, r);
     Ok(r)
 }

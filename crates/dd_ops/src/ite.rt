@@ -1,64 +1,69 @@
 //! If-then-else, on which the other operations stand.
-ghost use Rattle.std.specs.Prelude.{◌≡◌, ◌<◌, [], ◌∷◌, IfOk, IsErrOf};
+ghost use Rattle.std.specs.Prelude.{◌≡◌, ◌<◌, [], ◌∷◌, IfOk, IfErr, IsErrOf};
 ghost use Rattle.dd_nodes.specs.Table.{IsNodeTable};
 ghost use Rattle.dd_ops.specs.Answers.{IsAsked, IsAnswer, IsHalved, AreHalfAnswers};
-ghost use Rattle.dd_ops.specs.Answers.{Remembers, Keeps, IsFullFor, asked_of};
+ghost use Rattle.dd_ops.specs.Answers.{Keeps, IsFullFor, asked_of};
+ghost use Rattle.dd_ops.specs.Cached.{Remembers, IsQuestion, AddsPairs};
 ghost use Rattle.dd_ops.specs.Growth.{AddsParts};
 
-use crate::memo::{recall, remember};
+use crate::memo::{recall_answer, remember_answer};
 use crate::question::{Halves, Question, Settled, halve, operand_with, settle};
+use dd_cache::Cache;
 use dd_nodes::{Dd, DdErr, Ref};
-use indexmap::IndexMap;
 
 /// The answer to a question.
 ///
 /// Each half of a question looks only at greater variables, so the calls are nested at most 256
 /// deep.
 #[cycle(asking)]
-pub fn answer(dd: &mut Dd, memo: &mut IndexMap<Question, Ref>, q: Question) -> Result<Ref, DdErr>
+pub fn answer(dd: &mut Dd, cache: &mut Cache, q: Question) -> Result<Ref, DdErr>
     requires table { IsNodeTable dd.old }
     requires asked { IsAsked dd.old.nodes q }
-    requires memo { Remembers dd.old.nodes memo.old.entries }
+    requires memo { Remembers dd.old.nodes cache.old.pairs }
     ensures answer { IfOk result (λ r. IsAnswer dd.new.nodes q r.0) }
     ensures kept { Keeps dd.old dd.new }
     ensures table { IsNodeTable dd.new }
-    ensures memo { Remembers dd.new.nodes memo.new.entries }
+    ensures memo { Remembers dd.new.nodes cache.new.pairs }
+    ensures others { AddsPairs IsQuestion cache.old.pairs cache.new.pairs }
     ensures adds { AddsParts dd.old.vars (asked_of dd.old.nodes q ∷ []) dd.old.nodes dd.new.nodes }
+    ensures only_full { IfErr result (λ e. e ≡ DdErr.Full) }
     ensures full { IsErrOf result DdErr.Full → IsFullFor (asked_of dd.old.nodes q ∷ []) dd.new }
 {
     match settle(q) {
         Settled::Known(r) => Ok(r),
-        Settled::Open(p) => answer_open(dd, memo, p),
+        Settled::Open(p) => answer_open(dd, cache, p),
     }
 }
 
 /// The answer to a question that tests a node, by the answers to its halves.
 #[cycle(asking)]
-fn answer_open(dd: &mut Dd, memo: &mut IndexMap<Question, Ref>, q: Question) -> Result<Ref, DdErr>
+fn answer_open(dd: &mut Dd, cache: &mut Cache, q: Question) -> Result<Ref, DdErr>
     requires table { IsNodeTable dd.old }
     requires asked { IsAsked dd.old.nodes q }
     requires tests { 1 < q.f.0 }
-    requires memo { Remembers dd.old.nodes memo.old.entries }
+    requires memo { Remembers dd.old.nodes cache.old.pairs }
     ensures answer { IfOk result (λ r. IsAnswer dd.new.nodes q r.0) }
     ensures kept { Keeps dd.old dd.new }
     ensures table { IsNodeTable dd.new }
-    ensures memo { Remembers dd.new.nodes memo.new.entries }
+    ensures memo { Remembers dd.new.nodes cache.new.pairs }
+    ensures others { AddsPairs IsQuestion cache.old.pairs cache.new.pairs }
     ensures adds { AddsParts dd.old.vars (asked_of dd.old.nodes q ∷ []) dd.old.nodes dd.new.nodes }
+    ensures only_full { IfErr result (λ e. e ≡ DdErr.Full) }
     ensures full { IsErrOf result DdErr.Full → IsFullFor (asked_of dd.old.nodes q ∷ []) dd.new }
 {
-    if let Some(r) = recall(memo, q) {
+    if let Some(r) = recall_answer(cache, q) {
         return Ok(r);
     }
     let halves = halve(dd, q);
-    let lo = answer(dd, memo, halves.lo)?;
-    let hi = answer(dd, memo, halves.hi)?;
-    join(dd, memo, q, halves, lo, hi)
+    let lo = answer(dd, cache, halves.lo)?;
+    let hi = answer(dd, cache, halves.hi)?;
+    join(dd, cache, q, halves, lo, hi)
 }
 
-/// The answer to a question, by the answers to its halves, which the memo keeps.
+/// The answer to a question, by the answers to its halves, which the cache keeps.
 fn join(
     dd: &mut Dd,
-    memo: &mut IndexMap<Question, Ref>,
+    cache: &mut Cache,
     q: Question,
     halves: Halves,
     lo: Ref,
@@ -68,16 +73,18 @@ fn join(
     requires asked { IsAsked dd.old.nodes q }
     requires halves { IsHalved dd.old.nodes q halves }
     requires answers { AreHalfAnswers dd.old q halves.var lo.0 hi.0 }
-    requires memo { Remembers dd.old.nodes memo.old.entries }
+    requires memo { Remembers dd.old.nodes cache.old.pairs }
     ensures answer { IfOk result (λ r. IsAnswer dd.new.nodes q r.0) }
     ensures kept { Keeps dd.old dd.new }
     ensures table { IsNodeTable dd.new }
-    ensures memo { Remembers dd.new.nodes memo.new.entries }
+    ensures memo { Remembers dd.new.nodes cache.new.pairs }
+    ensures others { AddsPairs IsQuestion cache.old.pairs cache.new.pairs }
     ensures adds { AddsParts dd.old.vars (asked_of dd.old.nodes q ∷ []) dd.old.nodes dd.new.nodes }
+    ensures only_full { IfErr result (λ e. e ≡ DdErr.Full) }
     ensures full { IsErrOf result DdErr.Full → IsFullFor (asked_of dd.old.nodes q ∷ []) dd.new }
 {
     let r = operand_or_node(dd, q, halves, lo, hi)?;
-    remember(memo, q, r)?;
+    remember_answer(cache, q, r);
     Ok(r)
 }
 
@@ -92,6 +99,7 @@ fn operand_or_node(dd: &mut Dd, q: Question, halves: Halves, lo: Ref, hi: Ref) -
     ensures kept { Keeps dd.old dd.new }
     ensures table { IsNodeTable dd.new }
     ensures adds { AddsParts dd.old.vars (asked_of dd.old.nodes q ∷ []) dd.old.nodes dd.new.nodes }
+    ensures only_full { IfErr result (λ e. e ≡ DdErr.Full) }
     ensures full { IsErrOf result DdErr.Full → IsFullFor (asked_of dd.old.nodes q ∷ []) dd.new }
 {
     match operand_with(q, halves, lo, hi) {

@@ -3,13 +3,14 @@
 //! An operation takes and gives numbers of a node table (`dd_nodes`). It follows Bryant's `apply`:
 //! it answers a question on functions by the answers to the questions with the least variable fixed
 //! at false and at true, and joins these to a node (R. E. Bryant, "Graph-Based Algorithms for
-//! Boolean Function Manipulation", IEEE Transactions on Computers, 1986). Each call keeps a memo of
-//! the questions that it has answered, which ends with the call.
+//! Boolean Function Manipulation", IEEE Transactions on Computers, 1986). What it has answered is kept
+//! in a cache of bounded size (`dd_cache`), for later calls too.
 #![tactic(auto)]
 
 mod cofactor;
 mod growth_laws;
 mod ite;
+mod make;
 mod memo;
 mod ops;
 mod question;

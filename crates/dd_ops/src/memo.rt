@@ -1,49 +1,145 @@
-//! What a call remembers.
-ghost use Rattle.std.specs.Prelude.{◌≡◌, ℕ, ◌<◌, List, IfSome, OnOk, OnErr, IfErr, ◌⊎◌, []};
-ghost use Rattle.std.specs.Prelude.{slice_get};
+//! What the operations remember.
+ghost use Rattle.std.specs.Prelude.{◌≡◌, ℕ, ◌+◌, List, IfSome, Contains};
+ghost use Rattle.dd_cache.specs.declared.key.Key.{Key as Asked};
 ghost use Rattle.dd_nodes.specs.declared.node.Node.{Node};
-ghost use Rattle.dd_nodes.specs.declared.node.Ref.{Ref};
-ghost use Rattle.dd_ops.specs.Answers.{IsAnswer, Remembers, HasEntry};
+ghost use Rattle.dd_nodes.specs.declared.node.Ref.{Ref as Number};
+ghost use Rattle.dd_ops.specs.Answers.{IsAnswer, IsCofactor, IsReplaced};
+ghost use Rattle.dd_ops.specs.Cached.{key_of_question, key_of_cofactor, key_of_subst};
+ghost use Rattle.dd_ops.specs.Cached.{IsQuestion, IsFixed, IsOfCall, AddsPair, AddsPairs};
+ghost use Rattle.dd_ops.specs.Cached.{Remembers, RemembersCofactors, RemembersReplaced};
+ghost use Rattle.dd_ops.specs.Cached.{AreCallsBelow};
 
 use crate::question::Question;
-use dd_nodes::{DdErr, Ref};
-use indexmap::IndexMap;
+use dd_cache::{Cache, Key};
+use dd_nodes::Ref;
 
-/// The answer that a call remembers to a question.
-pub fn recall(memo: &IndexMap<Question, Ref>, q: Question) -> Option<Ref>
-    ensures { IfSome result (λ r. (nodes : List Node) → Remembers nodes memo.now.entries
+/// The remembered answer to a question.
+pub fn recall_answer(cache: &mut Cache, q: Question) -> Option<Ref>
+    ensures answer { IfSome result (λ r. (nodes : List Node) → Remembers nodes cache.old.pairs
         → IsAnswer nodes q r.0) }
+    ensures same { cache.new.pairs ≡ cache.old.pairs }
 {
-    memo.get(&q).copied()
+    recall(cache, question_key(q))
 }
 
 /// Remembers an answer.
-pub fn remember(memo: &mut IndexMap<Question, Ref>, q: Question, r: Ref) -> Result<(), DdErr>
-    ensures kept { (nodes : List Node) → Remembers nodes memo.old.entries → IsAnswer nodes q r.0
-        → Remembers nodes memo.new.entries }
-    ensures memory { IfErr result (λ e. e ≡ DdErr.Memory) }
+pub fn remember_answer(cache: &mut Cache, q: Question, r: Ref)
+    ensures kept { (nodes : List Node) → Remembers nodes cache.old.pairs → IsAnswer nodes q r.0
+        → Remembers nodes cache.new.pairs }
+    ensures others { AddsPairs IsQuestion cache.old.pairs cache.new.pairs }
 {
-    match memo.insert(q, r) {
-        Ok(_) => Ok(()),
-        Err(_) => Err(DdErr::Memory),
+    remember(cache, question_key(q), r);
+}
+
+/// The remembered number of `f` with variable `v` fixed.
+pub fn recall_cofactor(cache: &mut Cache, f: Ref, v: u32, value: bool) -> Option<Ref>
+    ensures answer { IfSome result (λ r. (nodes : List Node)
+        → RemembersCofactors nodes cache.old.pairs → IsCofactor nodes v value f.0 r.0) }
+    ensures same { cache.new.pairs ≡ cache.old.pairs }
+{
+    recall(cache, cofactor_key(f, v, value))
+}
+
+/// Remembers the number of `f` with variable `v` fixed.
+pub fn remember_cofactor(cache: &mut Cache, f: Ref, v: u32, value: bool, r: Ref)
+    ensures kept { (nodes : List Node) → RemembersCofactors nodes cache.old.pairs
+        → IsCofactor nodes v value f.0 r.0 → RemembersCofactors nodes cache.new.pairs }
+    ensures others { AddsPairs IsFixed cache.old.pairs cache.new.pairs }
+{
+    remember(cache, cofactor_key(f, v, value), r);
+}
+
+/// The number of `f` with the variables replaced that a call lists, if the call remembers it.
+pub fn recall_replaced(cache: &mut Cache, call: u64, f: Ref) -> Option<Ref>
+    ensures answer { IfSome result (λ r. (nodes : List Node) (map : List (ℕ × Number))
+        → RemembersReplaced nodes map call cache.old.pairs → IsReplaced nodes map f.0 r.0) }
+    ensures same { cache.new.pairs ≡ cache.old.pairs }
+{
+    recall(cache, subst_key(call, f))
+}
+
+/// Remembers the number of `f` with the variables replaced that a call lists.
+pub fn remember_replaced(cache: &mut Cache, call: u64, f: Ref, r: Ref)
+    ensures kept { (nodes : List Node) (map : List (ℕ × Number))
+        → RemembersReplaced nodes map call cache.old.pairs → IsReplaced nodes map f.0 r.0
+        → RemembersReplaced nodes map call cache.new.pairs }
+    ensures others { AddsPairs (IsOfCall call) cache.old.pairs cache.new.pairs }
+{
+    remember(cache, subst_key(call, f), r);
+}
+
+/// The number of a new call. Where the numbers are used up, the cache forgets what it has, and they
+/// begin again at 1.
+pub fn next_call(cache: &mut Cache, next: &mut u64) -> u64
+    requires calls { AreCallsBelow next.old cache.old.pairs }
+    ensures calls { AreCallsBelow result cache.new.pairs }
+    ensures next { next.new ≡ result + 1 }
+    ensures within { (key : Asked) (value : ℕ) → Contains cache.new.pairs (key, value)
+        → Contains cache.old.pairs (key, value) }
+{
+    if *next == u64::MAX {
+        cache.forget();
+        *next = 2;
+        return 1;
+    }
+    let call = *next;
+    *next = call + 1;
+    call
+}
+
+/// The key of a question.
+fn question_key(q: Question) -> Key
+    ensures { result ≡ key_of_question q }
+{
+    Key {
+        op: 0,
+        a: q.f.0,
+        b: q.g.0,
+        c: q.h.0,
+        call: 0,
     }
 }
 
-/// The number that a call remembers for `f`.
-pub fn recall_number(memo: &IndexMap<Ref, Ref>, f: Ref) -> Option<Ref>
-    ensures { IfSome result (λ r. HasEntry memo.now.entries f r) }
+/// The key of `f` with variable `v` fixed.
+fn cofactor_key(f: Ref, v: u32, value: bool) -> Key
+    ensures { result ≡ key_of_cofactor f.0 v value }
 {
-    memo.get(&f).copied()
+    Key {
+        op: 1,
+        a: f.0,
+        b: v,
+        c: if value { 1 } else { 0 },
+        call: 0,
+    }
 }
 
-/// Remembers a number for `f`.
-pub fn remember_number(memo: &mut IndexMap<Ref, Ref>, f: Ref, r: Ref) -> Result<(), DdErr>
-    ensures entries { (g s : Ref) → HasEntry memo.new.entries g s → HasEntry memo.old.entries g s
-        ⊎ ((g ≡ f) × (s ≡ r)) }
-    ensures memory { IfErr result (λ e. e ≡ DdErr.Memory) }
+/// The key of `f` with the variables replaced that a call lists.
+fn subst_key(call: u64, f: Ref) -> Key
+    ensures { result ≡ key_of_subst call f.0 }
 {
-    match memo.insert(f, r) {
-        Ok(_) => Ok(()),
-        Err(_) => Err(DdErr::Memory),
+    Key {
+        op: 2,
+        a: f.0,
+        b: 0,
+        c: 0,
+        call,
     }
+}
+
+/// The number that the cache has for a key.
+fn recall(cache: &mut Cache, key: Key) -> Option<Ref>
+    ensures found { IfSome result (λ r. Contains cache.old.pairs (key, r.0)) }
+    ensures same { cache.new.pairs ≡ cache.old.pairs }
+{
+    match cache.cached(&key) {
+        Some(number) => Some(Ref(number)),
+        None => None,
+    }
+}
+
+/// Puts a number into the cache.
+fn remember(cache: &mut Cache, key: Key, r: Ref)
+    ensures { AddsPair key r.0 cache.old.pairs cache.new.pairs }
+{
+    cache.keep(key, r.0);
 }

@@ -1,5 +1,7 @@
 //! The operations on a table of their own.
 ghost use Rattle.std.specs.Prelude.{◌≡◌, ◌<◌, ◌≤◌, [], ◌∷◌, All, IfOk};
+ghost use Rattle.dd_nodes.specs.declared.node.Ref.{Ref as Number};
+ghost use Rattle.dd_nodes.specs.Collecting.{Collected};
 ghost use Rattle.dd_nodes.specs.NodeList.{IsNumber, function};
 ghost use Rattle.dd_nodes.specs.Table.{NodeTable, IsNodeTable};
 ghost use Rattle.dd_ops.specs.Calls.{Answers};
@@ -9,33 +11,42 @@ ghost use Rattle.dd_ops.specs.Operations.{cofactor_of, subst_of};
 
 use crate::cofactor::fix;
 use crate::ite::answer;
+use crate::memo::next_call;
 use crate::question::Question;
 use crate::subst::substitute;
+use dd_cache::Cache;
 use dd_nodes::{Dd, DdErr, Ref};
-use indexmap::IndexMap;
 use std::alloc::{AllocError, Global};
 use std::marker::Model;
 
 /// Diagrams with their operations.
 ///
 /// A contract sees it as its table: the record of `vars`, `limit` and `nodes` of `dd_nodes`. Each
-/// call leaves the variables, the limit and each earlier node as they were, whether it answers or
-/// refuses, so each earlier number keeps its function. A call refuses with `Memory` where memory
-/// runs out.
+/// operation leaves the variables, the limit and each earlier node as they were, whether it answers
+/// or refuses, so each earlier number keeps its function; only `collect` gives new numbers. `new`
+/// takes all memory, and no other call wants any.
+///
+/// A cache keeps what the operations have answered, for later calls too. What it has for an
+/// if-then-else or a cofactor is true in the table at any time; what it has for a substitution
+/// belongs to one call, which has a number of its own.
 #[derive(Drop)]
 pub struct Ops {
     dd: Dd,
-    alloc: Global,
+    cache: Cache,
+    /// The number of the next substitution.
+    next: u64,
 }
 
 impl Model for Ops {
-    ghost use Rattle.dd_nodes.specs.Table.{NodeTable, IsNodeTable};
+    ghost use Rattle.dd_nodes.specs.Table.{NodeTable};
 
     ghost Value = { NodeTable };
 
+    ghost use Rattle.dd_ops.specs.Cached.{IsCacheOf};
+
     ghost view = { λ ops. ops.dd };
 
-    ghost invariant = { λ ops. IsNodeTable ops.dd };
+    ghost invariant = { λ ops. IsCacheOf ops.dd ops.cache.pairs ops.next };
 }
 
 impl Ops {
@@ -51,7 +62,8 @@ impl Ops {
     {
         Ok(Ops {
             dd: Dd::new(alloc, vars, limit)?,
-            alloc,
+            cache: Cache::new(alloc, limit)?,
+            next: 1,
         })
     }
 
@@ -61,6 +73,26 @@ impl Ops {
         ensures table { IsNodeTable self.now }
     {
         &self.dd
+    }
+
+    /// How many look-ups in the cache had the answer. The number stands still at its last value.
+    pub fn hits(&self) -> u64
+        ensures table { IsNodeTable self.now }
+    {
+        self.cache.hits()
+    }
+
+    /// Keeps only the nodes that are reached from the roots, in their order, and gives each root its
+    /// new number. The cache forgets what it has, as its numbers are those of before.
+    pub fn collect(&mut self, roots: &mut Vec<Ref>)
+        requires roots { All (λ (r : Number). IsNumber self.old.nodes r.0) roots.old.items }
+        ensures vars { self.new.vars ≡ self.old.vars }
+        ensures limit { self.new.limit ≡ self.old.limit }
+        ensures table { IsNodeTable self.new }
+        ensures roots { Collected self.old.nodes self.new.nodes roots.old.items roots.new.items }
+    {
+        self.cache.forget();
+        self.dd.collect(roots);
     }
 
     /// The function that is the value of a variable.
@@ -84,8 +116,7 @@ impl Ops {
             (ite_of (function self.old.nodes f.0) (function self.old.nodes g.0)
             (function self.old.nodes h.0) ∷ []) self.old self.new result }
     {
-        let mut memo = IndexMap::new(self.alloc);
-        answer(&mut self.dd, &mut memo, Question { f, g, h })
+        answer(&mut self.dd, &mut self.cache, Question { f, g, h })
     }
 
     /// The negation of `f`.
@@ -148,8 +179,7 @@ impl Ops {
         ensures grows { Grows (cofactor_of (function self.old.nodes f.0) v value ∷ [])
             self.old self.new result }
     {
-        let mut memo = IndexMap::new(self.alloc);
-        fix(&mut self.dd, &mut memo, f, v, value)
+        fix(&mut self.dd, &mut self.cache, f, v, value)
     }
 
     /// `f` with each listed variable replaced by its function, all at once.
@@ -165,6 +195,7 @@ impl Ops {
         ensures grows { Grows (pieces_of_subst self.old.vars self.old.nodes map.now f.0)
             self.old self.new result }
     {
-        substitute(self.alloc, &mut self.dd, f, map)
+        let call = next_call(&mut self.cache, &mut self.next);
+        substitute(&mut self.dd, &mut self.cache, call, f, map)
     }
 }

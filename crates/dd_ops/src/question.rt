@@ -1,37 +1,19 @@
 //! Questions: if-then-else of three functions.
-ghost use Rattle.std.proofs.Common.{rules};
-ghost use Rattle.std.specs.Hash as fed;
-ghost use Rattle.std.specs.Prelude.{◌≡◌, ℕ, ◌<◌, true, false, List, IfSome, IfNone, ◌⊎◌, ◌+◌, ◌*◌};
+ghost use Rattle.std.specs.Prelude.{◌≡◌, ℕ, ◌<◌, true, false, List, IfSome, IfNone, ◌⊎◌};
 ghost use Rattle.dd_nodes.specs.declared.node.Node.{Node};
 ghost use Rattle.dd_nodes.specs.NodeList.{IsNumber, IsReduced, StandsFrom, node_at};
 ghost use Rattle.dd_ops.specs.Answers.{level_at, level_of, top_of, IsAsked, IsAnswer, IsBranch};
 ghost use Rattle.dd_ops.specs.Answers.{IsHalf, IsRestated, IsSettled, IsOperandWith};
 
 use dd_nodes::{Dd, Node, Ref};
-use std::hash::{Hash, Hasher};
 
 /// The question: which number has the function of `g` where `f` is true, and of `h` where it is
 /// false?
-#[derive(Clone, Copy, PartialEq, Eq)]
+#[derive(Clone, Copy)]
 pub struct Question {
     pub f: Ref,
     pub g: Ref,
     pub h: Ref,
-}
-
-/// A question is hashed as one number, which is faster than three.
-impl Hash for Question {
-    ghost hash_input = { λ q. fed.u128
-        (q.f.0 * 18446744073709551616 + q.g.0 * 4294967296 + q.h.0) };
-
-    ghost respects_eq = { Prim.search rules };
-
-    fn hash<H: Hasher>(&self, state: &mut H) {
-        let Question { f, g, h } = *self;
-        state.write_u128(
-            f.0 as u128 * 18_446_744_073_709_551_616 + g.0 as u128 * 4_294_967_296 + h.0 as u128,
-        );
-    }
 }
 
 /// What a first look at a question says, before its nodes are read: its answer, or a question with

@@ -1,43 +1,39 @@
 //! The replacements of a substitution, by variable.
-ghost use Rattle.std.specs.Prelude.{◌≡◌, ◌≢◌, ℕ, ◌<◌, ◌≤◌, All, IfOk, IfSome, Some, length};
+ghost use Rattle.std.specs.Prelude.{◌≡◌, ◌≢◌, ℕ, ◌<◌, ◌≤◌, All, IfSome, Some};
 ghost use Rattle.std.specs.Prelude.{slice_get};
 ghost use Rattle.dd_nodes.specs.NodeList.{Values, IsNumber, function};
 ghost use Rattle.dd_ops.specs.Answers.{IsByVar, StayFrom};
 ghost use Rattle.dd_ops.specs.Operations.{listed};
 
 use dd_nodes::{Dd, Ref};
-use std::alloc::{AllocError, Global};
 
 /// A list of variables and what replaces each, with a table by variable, so that each is found at
 /// once.
 #[derive(Drop)]
 pub struct Replacements<'a> {
     pub map: &'a [(u32, Ref)],
-    pub by_var: Vec<Option<Ref>>,
+    pub by_var: [Option<Ref>; 256],
+    /// The least variable from which on no function but a variable itself replaces it.
+    pub end: u32,
 }
 
 impl<'a> Replacements<'a> {
-    /// The list with its table for the variables below `end`. Of two entries for a variable the
-    /// first counts.
-    pub fn new(
-        alloc: Global,
-        map: &'a [(u32, Ref)],
-        end: u32,
-    ) -> Result<Replacements<'a>, AllocError>
-        ensures map { IfOk result (λ images. images.map.now ≡ map.now) }
-        ensures found { IfOk result (λ images. IsByVar map.now images.by_var.items) }
-        ensures end { IfOk result (λ images. length images.by_var.items ≡ end) }
+    /// The list with its table by variable. Of two entries for a variable the first counts.
+    pub fn new(map: &'a [(u32, Ref)], end: u32) -> Replacements<'a>
+        ensures map { result.map.now ≡ map.now }
+        ensures found { IsByVar map.now result.by_var }
+        ensures end { result.end ≡ end }
     {
-        let mut by_var = vec![in alloc; None; end as usize]?;
+        let mut by_var = [None; 256];
         for place in (0..map.len()).rev() {
             put(&mut by_var, map[place].0, map[place].1);
         }
-        Ok(Replacements { map, by_var })
+        Replacements { map, by_var, end }
     }
 
     /// The number that replaces a variable, if the list has the variable.
     pub fn get(&self, var: u32) -> Option<Ref>
-        requires { IsByVar self.now.map.now self.now.by_var.items }
+        requires { IsByVar self.now.map.now self.now.by_var }
         ensures { result ≡ listed self.now.map.now var }
     {
         match self.by_var.get(var as usize) {
@@ -48,14 +44,11 @@ impl<'a> Replacements<'a> {
 }
 
 /// Puts a number at a variable, if the table has the variable.
-fn put(by_var: &mut Vec<Option<Ref>>, var: u32, image: Ref)
-    ensures length { length by_var.new.items ≡ length by_var.old.items }
-    ensures here { var < length by_var.old.items
-        → slice_get by_var.new.items var ≡ Some (Some image) }
-    ensures others { (v : ℕ) → v ≢ var → slice_get by_var.new.items v
-        ≡ slice_get by_var.old.items v }
+fn put(by_var: &mut [Option<Ref>; 256], var: u32, image: Ref)
+    ensures here { var < 256 → slice_get by_var.new var ≡ Some (Some image) }
+    ensures others { (v : ℕ) → v ≢ var → slice_get by_var.new v ≡ slice_get by_var.old v }
 {
-    if (var as usize) < by_var.len() {
+    if var < 256 {
         by_var[var as usize] = Some(image);
     }
 }

@@ -1,31 +1,45 @@
 //! Functions with several variables replaced at once.
-ghost use Rattle.std.specs.Prelude.{◌≡◌, ◌<◌, All, IfOk, IfSome, IfNone, IsErrOf, IsTrue, Some};
+ghost use Rattle.std.specs.Prelude.{◌≡◌, ◌<◌, All, IfOk, IfErr, IfSome, IfNone, IsErrOf, IsTrue, Some};
 ghost use Rattle.std.specs.Prelude.{Option};
 ghost use Rattle.dd_nodes.specs.NodeList.{Values, IsNumber, node_at, function, StandsBelow};
 ghost use Rattle.dd_nodes.specs.Table.{IsNodeTable};
-ghost use Rattle.dd_ops.specs.Answers.{Follows, IsIndexed, IsReplaced, Remembers};
-ghost use Rattle.dd_ops.specs.Answers.{RemembersReplaced, IsFullFor, pieces_of_variable, Keeps};
+ghost use Rattle.dd_ops.specs.Answers.{Follows, IsIndexed, IsReplaced};
+ghost use Rattle.dd_ops.specs.Answers.{IsFullFor, pieces_of_variable, Keeps};
+ghost use Rattle.dd_ops.specs.Cached.{Remembers, RemembersReplaced, AreCallsBelow};
+ghost use Rattle.dd_ops.specs.Cached.{IsQuestion, MayAdd, AddsPairs};
 ghost use Rattle.dd_ops.specs.Growth.{AddsParts, pieces_of_subst};
 ghost use Rattle.dd_ops.specs.Operations.{listed, replaced};
 
 use crate::ite::answer;
-use crate::memo::{recall_number, remember_number};
+use crate::make::make;
+use crate::memo::{recall_replaced, remember_replaced};
 use crate::question::{Question, level};
 use crate::replacements::{Replacements, end_of, variable_of};
+use dd_cache::Cache;
 use dd_nodes::{Dd, DdErr, Node, Ref};
-use indexmap::IndexMap;
-use std::alloc::Global;
 
-/// The number of `f` with each variable of `map` replaced by its function.
-pub fn substitute(alloc: Global, dd: &mut Dd, f: Ref, map: &[(u32, Ref)]) -> Result<Ref, DdErr>
+/// The number of `f` with each variable of `map` replaced by its function. The call has a number
+/// from which on no call has put anything into the cache.
+pub fn substitute(
+    dd: &mut Dd,
+    cache: &mut Cache,
+    call: u64,
+    f: Ref,
+    map: &[(u32, Ref)],
+) -> Result<Ref, DdErr>
     requires table { IsNodeTable dd.old }
     requires number { IsNumber dd.old.nodes f.0 }
     requires map { All (λ entry. IsNumber dd.old.nodes entry.1.0) map.now }
+    requires questions { Remembers dd.old.nodes cache.old.pairs }
+    requires calls { AreCallsBelow call cache.old.pairs }
     ensures answer { IfOk result (λ r. IsReplaced dd.new.nodes map.now f.0 r.0) }
     ensures kept { Keeps dd.old dd.new }
     ensures table { IsNodeTable dd.new }
+    ensures questions { Remembers dd.new.nodes cache.new.pairs }
+    ensures others { AddsPairs (MayAdd call) cache.old.pairs cache.new.pairs }
     ensures adds { AddsParts dd.old.vars (pieces_of_subst dd.old.vars dd.old.nodes map.now f.0)
         dd.old.nodes dd.new.nodes }
+    ensures only_full { IfErr result (λ e. e ≡ DdErr.Full) }
     ensures full { IsErrOf result DdErr.Full → IsFullFor
         (pieces_of_subst dd.old.vars dd.old.nodes map.now f.0) dd.new }
 {
@@ -33,12 +47,8 @@ pub fn substitute(alloc: Global, dd: &mut Dd, f: Ref, map: &[(u32, Ref)]) -> Res
     if end <= level(dd, f) {
         return Ok(f);
     }
-    let Ok(images) = Replacements::new(alloc, map, end) else {
-        return Err(DdErr::Memory);
-    };
-    let mut questions = IndexMap::new(alloc);
-    let mut memo = IndexMap::new(alloc);
-    replace(dd, &mut questions, &mut memo, f, &images)
+    let images = Replacements::new(map, end);
+    replace(dd, cache, call, f, &images)
 }
 
 /// The number of `f` with each variable of `images` replaced by its function.
@@ -46,23 +56,25 @@ pub fn substitute(alloc: Global, dd: &mut Dd, f: Ref, map: &[(u32, Ref)]) -> Res
 /// A child looks only at greater variables, so the calls are nested at most 256 deep.
 fn replace(
     dd: &mut Dd,
-    questions: &mut IndexMap<Question, Ref>,
-    memo: &mut IndexMap<Ref, Ref>,
+    cache: &mut Cache,
+    call: u64,
     f: Ref,
     images: &Replacements,
 ) -> Result<Ref, DdErr>
     requires table { IsNodeTable dd.old }
     requires number { IsNumber dd.old.nodes f.0 }
-    requires images { IsIndexed dd.old.nodes images.now.map.now images.now.by_var.items }
-    requires questions { Remembers dd.old.nodes questions.old.entries }
-    requires memo { RemembersReplaced dd.old.nodes images.now.map.now memo.old.entries }
+    requires images { IsIndexed dd.old.nodes images.now.map.now images.now.by_var images.now.end }
+    requires questions { Remembers dd.old.nodes cache.old.pairs }
+    requires memo { RemembersReplaced dd.old.nodes images.now.map.now call cache.old.pairs }
     ensures answer { IfOk result (λ r. IsReplaced dd.new.nodes images.now.map.now f.0 r.0) }
     ensures kept { Keeps dd.old dd.new }
     ensures table { IsNodeTable dd.new }
-    ensures questions { Remembers dd.new.nodes questions.new.entries }
-    ensures memo { RemembersReplaced dd.new.nodes images.now.map.now memo.new.entries }
+    ensures questions { Remembers dd.new.nodes cache.new.pairs }
+    ensures memo { RemembersReplaced dd.new.nodes images.now.map.now call cache.new.pairs }
+    ensures others { AddsPairs (MayAdd call) cache.old.pairs cache.new.pairs }
     ensures adds { AddsParts dd.old.vars (pieces_of_subst dd.old.vars dd.old.nodes
         images.now.map.now f.0) dd.old.nodes dd.new.nodes }
+    ensures only_full { IfErr result (λ e. e ≡ DdErr.Full) }
     ensures full { IsErrOf result DdErr.Full → IsFullFor
         (pieces_of_subst dd.old.vars dd.old.nodes images.now.map.now f.0) dd.new }
 {
@@ -71,22 +83,22 @@ fn replace(
     };
     let image = images.get(node.var);
     if let Some(child) = follow(node, image) {
-        return replace(dd, questions, memo, child, images);
+        return replace(dd, cache, call, child, images);
     }
-    if let Some(r) = recall_number(memo, f) {
+    if let Some(r) = recall_replaced(cache, call, f) {
         return Ok(r);
     }
-    let lo = replace(dd, questions, memo, node.lo, images)?;
-    let hi = replace(dd, questions, memo, node.hi, images)?;
-    remember_choice(dd, questions, memo, images, f, node, lo, hi)
+    let lo = replace(dd, cache, call, node.lo, images)?;
+    let hi = replace(dd, cache, call, node.hi, images)?;
+    remember_choice(dd, cache, call, images, f, node, lo, hi)
 }
 
 /// The number of a node's function with each variable of `images` replaced, by those of the node's
 /// children, which is remembered.
 fn remember_choice(
     dd: &mut Dd,
-    questions: &mut IndexMap<Question, Ref>,
-    memo: &mut IndexMap<Ref, Ref>,
+    cache: &mut Cache,
+    call: u64,
     images: &Replacements,
     f: Ref,
     node: Node,
@@ -95,35 +107,37 @@ fn remember_choice(
 ) -> Result<Ref, DdErr>
     requires table { IsNodeTable dd.old }
     requires node { node_at dd.old.nodes f.0 ≡ Some node }
-    requires images { IsIndexed dd.old.nodes images.now.map.now images.now.by_var.items }
+    requires images { IsIndexed dd.old.nodes images.now.map.now images.now.by_var images.now.end }
     requires lo { IsReplaced dd.old.nodes images.now.map.now node.lo.0 lo.0 }
     requires hi { IsReplaced dd.old.nodes images.now.map.now node.hi.0 hi.0 }
-    requires questions { Remembers dd.old.nodes questions.old.entries }
-    requires memo { RemembersReplaced dd.old.nodes images.now.map.now memo.old.entries }
+    requires questions { Remembers dd.old.nodes cache.old.pairs }
+    requires memo { RemembersReplaced dd.old.nodes images.now.map.now call cache.old.pairs }
     ensures answer { IfOk result (λ r. IsReplaced dd.new.nodes images.now.map.now f.0 r.0) }
     ensures kept { Keeps dd.old dd.new }
     ensures table { IsNodeTable dd.new }
-    ensures questions { Remembers dd.new.nodes questions.new.entries }
-    ensures memo { RemembersReplaced dd.new.nodes images.now.map.now memo.new.entries }
+    ensures questions { Remembers dd.new.nodes cache.new.pairs }
+    ensures memo { RemembersReplaced dd.new.nodes images.now.map.now call cache.new.pairs }
+    ensures others { AddsPairs (MayAdd call) cache.old.pairs cache.new.pairs }
     ensures adds { AddsParts dd.old.vars (pieces_of_subst dd.old.vars dd.old.nodes
         images.now.map.now f.0) dd.old.nodes dd.new.nodes }
+    ensures only_full { IfErr result (λ e. e ≡ DdErr.Full) }
     ensures full { IsErrOf result DdErr.Full → IsFullFor
         (pieces_of_subst dd.old.vars dd.old.nodes images.now.map.now f.0) dd.new }
 {
-    let r = choose(dd, questions, images, f, node, lo, hi)?;
-    remember_number(memo, f, r)?;
+    let r = choose(dd, cache, images, f, node, lo, hi)?;
+    remember_replaced(cache, call, f, r);
     Ok(r)
 }
 
 /// The node of a number, where it or a node below it may have a variable that is replaced.
 fn first_replaced(dd: &Dd, f: Ref, images: &Replacements) -> Option<Node>
     requires number { IsNumber dd.now.nodes f.0 }
-    requires images { IsIndexed dd.now.nodes images.now.map.now images.now.by_var.items }
+    requires images { IsIndexed dd.now.nodes images.now.map.now images.now.by_var images.now.end }
     ensures node { IfSome result (λ node. node_at dd.now.nodes f.0 ≡ Some node) }
     ensures stays { IfNone result (IsReplaced dd.now.nodes images.now.map.now f.0 f.0) }
 {
     match dd.node(f) {
-        Some(node) if (node.var as usize) < images.by_var.len() => Some(node),
+        Some(node) if node.var < images.end => Some(node),
         _ => None,
     }
 }
@@ -143,7 +157,7 @@ fn follow(node: Node, image: Option<Ref>) -> Option<Ref>
 /// children.
 fn choose(
     dd: &mut Dd,
-    questions: &mut IndexMap<Question, Ref>,
+    cache: &mut Cache,
     images: &Replacements,
     f: Ref,
     node: Node,
@@ -152,29 +166,31 @@ fn choose(
 ) -> Result<Ref, DdErr>
     requires table { IsNodeTable dd.old }
     requires node { node_at dd.old.nodes f.0 ≡ Some node }
-    requires images { IsIndexed dd.old.nodes images.now.map.now images.now.by_var.items }
+    requires images { IsIndexed dd.old.nodes images.now.map.now images.now.by_var images.now.end }
     requires lo { IsReplaced dd.old.nodes images.now.map.now node.lo.0 lo.0 }
     requires hi { IsReplaced dd.old.nodes images.now.map.now node.hi.0 hi.0 }
-    requires questions { Remembers dd.old.nodes questions.old.entries }
+    requires questions { Remembers dd.old.nodes cache.old.pairs }
     ensures answer { IfOk result (λ r. IsReplaced dd.new.nodes images.now.map.now f.0 r.0) }
     ensures kept { Keeps dd.old dd.new }
     ensures table { IsNodeTable dd.new }
-    ensures questions { Remembers dd.new.nodes questions.new.entries }
+    ensures questions { Remembers dd.new.nodes cache.new.pairs }
+    ensures others { AddsPairs IsQuestion cache.old.pairs cache.new.pairs }
     ensures adds { AddsParts dd.old.vars (pieces_of_subst dd.old.vars dd.old.nodes
         images.now.map.now f.0) dd.old.nodes dd.new.nodes }
+    ensures only_full { IfErr result (λ e. e ≡ DdErr.Full) }
     ensures full { IsErrOf result DdErr.Full → IsFullFor
         (pieces_of_subst dd.old.vars dd.old.nodes images.now.map.now f.0) dd.new }
 {
     match variable_above(dd, images, node.var, lo, hi) {
         Some(var) => join_replaced(dd, images, f, node, var, lo, hi),
-        None => ask_image(dd, questions, images, f, node, lo, hi),
+        None => ask_image(dd, cache, images, f, node, lo, hi),
     }
 }
 
 /// The variable whose value replaces a variable, where two numbers stand below it.
 fn variable_above(dd: &Dd, images: &Replacements, var: u32, lo: Ref, hi: Ref) -> Option<u32>
     requires in_range { var < dd.now.vars }
-    requires images { IsIndexed dd.now.nodes images.now.map.now images.now.by_var.items }
+    requires images { IsIndexed dd.now.nodes images.now.map.now images.now.by_var images.now.end }
     requires lo { IsNumber dd.now.nodes lo.0 }
     requires hi { IsNumber dd.now.nodes hi.0 }
     ensures in_range { IfSome result (λ w. w < dd.now.vars) }
@@ -193,7 +209,7 @@ fn variable_above(dd: &Dd, images: &Replacements, var: u32, lo: Ref, hi: Ref) ->
 /// image is the value.
 fn variable_for(dd: &Dd, images: &Replacements, var: u32) -> Option<u32>
     requires in_range { var < dd.now.vars }
-    requires images { IsIndexed dd.now.nodes images.now.map.now images.now.by_var.items }
+    requires images { IsIndexed dd.now.nodes images.now.map.now images.now.by_var images.now.end }
     ensures in_range { IfSome result (λ w. w < dd.now.vars) }
     ensures value { IfSome result (λ w. (values : Values)
         → values w ≡ replaced dd.now.nodes images.now.map.now values var) }
@@ -216,7 +232,7 @@ fn join_replaced(
 ) -> Result<Ref, DdErr>
     requires table { IsNodeTable dd.old }
     requires node { node_at dd.old.nodes f.0 ≡ Some node }
-    requires images { IsIndexed dd.old.nodes images.now.map.now images.now.by_var.items }
+    requires images { IsIndexed dd.old.nodes images.now.map.now images.now.by_var images.now.end }
     requires lo { IsReplaced dd.old.nodes images.now.map.now node.lo.0 lo.0 }
     requires hi { IsReplaced dd.old.nodes images.now.map.now node.hi.0 hi.0 }
     requires in_range { var < dd.old.vars }
@@ -229,16 +245,17 @@ fn join_replaced(
     ensures table { IsNodeTable dd.new }
     ensures adds { AddsParts dd.old.vars (pieces_of_subst dd.old.vars dd.old.nodes
         images.now.map.now f.0) dd.old.nodes dd.new.nodes }
+    ensures only_full { IfErr result (λ e. e ≡ DdErr.Full) }
     ensures full { IsErrOf result DdErr.Full → IsFullFor
         (pieces_of_subst dd.old.vars dd.old.nodes images.now.map.now f.0) dd.new }
 {
-    dd.mk(var, lo, hi)
+    make(dd, f, node, var, lo, hi)
 }
 
 /// The answer to the question of a node's image between the children's numbers.
 fn ask_image(
     dd: &mut Dd,
-    questions: &mut IndexMap<Question, Ref>,
+    cache: &mut Cache,
     images: &Replacements,
     f: Ref,
     node: Node,
@@ -247,23 +264,25 @@ fn ask_image(
 ) -> Result<Ref, DdErr>
     requires table { IsNodeTable dd.old }
     requires node { node_at dd.old.nodes f.0 ≡ Some node }
-    requires images { IsIndexed dd.old.nodes images.now.map.now images.now.by_var.items }
+    requires images { IsIndexed dd.old.nodes images.now.map.now images.now.by_var images.now.end }
     requires lo { IsReplaced dd.old.nodes images.now.map.now node.lo.0 lo.0 }
     requires hi { IsReplaced dd.old.nodes images.now.map.now node.hi.0 hi.0 }
-    requires questions { Remembers dd.old.nodes questions.old.entries }
+    requires questions { Remembers dd.old.nodes cache.old.pairs }
     ensures answer { IfOk result (λ r. IsReplaced dd.new.nodes images.now.map.now f.0 r.0) }
     ensures kept { Keeps dd.old dd.new }
     ensures table { IsNodeTable dd.new }
-    ensures questions { Remembers dd.new.nodes questions.new.entries }
+    ensures questions { Remembers dd.new.nodes cache.new.pairs }
+    ensures others { AddsPairs IsQuestion cache.old.pairs cache.new.pairs }
     ensures adds { AddsParts dd.old.vars (pieces_of_subst dd.old.vars dd.old.nodes
         images.now.map.now f.0) dd.old.nodes dd.new.nodes }
+    ensures only_full { IfErr result (λ e. e ≡ DdErr.Full) }
     ensures full { IsErrOf result DdErr.Full → IsFullFor
         (pieces_of_subst dd.old.vars dd.old.nodes images.now.map.now f.0) dd.new }
 {
     let test = image(dd, images, node.var)?;
     answer(
         dd,
-        questions,
+        cache,
         Question {
             f: test,
             g: hi,
@@ -276,7 +295,7 @@ fn ask_image(
 fn image(dd: &mut Dd, images: &Replacements, var: u32) -> Result<Ref, DdErr>
     requires table { IsNodeTable dd.old }
     requires in_range { var < dd.old.vars }
-    requires images { IsIndexed dd.old.nodes images.now.map.now images.now.by_var.items }
+    requires images { IsIndexed dd.old.nodes images.now.map.now images.now.by_var images.now.end }
     ensures value { IfOk result (λ r. (values : Values)
         → function dd.new.nodes r.0 values ≡ replaced dd.old.nodes images.now.map.now values var) }
     ensures number { IfOk result (λ r. IsNumber dd.new.nodes r.0) }
@@ -284,6 +303,7 @@ fn image(dd: &mut Dd, images: &Replacements, var: u32) -> Result<Ref, DdErr>
     ensures table { IsNodeTable dd.new }
     ensures adds { AddsParts dd.old.vars (pieces_of_variable images.now.map.now var) dd.old.nodes
         dd.new.nodes }
+    ensures only_full { IfErr result (λ e. e ≡ DdErr.Full) }
     ensures full { IsErrOf result DdErr.Full → IsFullFor (pieces_of_variable images.now.map.now var)
         dd.new }
 {

@@ -1,11 +1,16 @@
+pub mod CollectLemmas
+pub mod CountLemmas
 pub mod CubeLemmas
 pub mod FrameLemmas
+pub mod LiveLemmas
 pub mod MadeLemmas
 pub mod NoRoomLemmas
 pub mod OwnLemmas
 pub mod OwnedLemmas
+pub mod RenumberLemmas
 pub mod RoomLemmas
 pub mod RoomSteps
 pub mod SetLemmas
 pub mod SlotLemmas
 pub mod TightLemmas
+pub mod TryLemmas

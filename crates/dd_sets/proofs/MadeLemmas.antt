@@ -1,10 +1,10 @@
 -- Of which functions a call makes nodes.
-use Rattle.std.proofs.Common.{◌≡◌, ◌⊎◌, inl, inr, ℕ, ◌+◌, ◌<◌, ◌≤◌, List, length, Option, Some, None, Result, is_some, option_map, refl, sym, ap, subst, ◌∙◌, ⊎_elim, arith}
+use Rattle.std.proofs.Common.{◌≡◌, ◌⊎◌, inl, inr, ℕ, ◌+◌, ◌<◌, ◌≤◌, List, [], length, Option, Some, None, Result, is_some, option_map, refl, sym, ap, subst, ◌∙◌, ⊎_elim, arith}
 use Rattle.std.proofs.lemmas.Bool.{cases_lt}
 use Rattle.dd_nodes.specs.declared.node.Node.{Node}
 use Rattle.dd_nodes.specs.declared.node.Ref.{Ref}
 use Rattle.dd_nodes.specs.declared.node.DdErr.{DdErr}
-use Rattle.dd_nodes.specs.NodeList.{Values, IsNumber, function}
+use Rattle.dd_nodes.specs.NodeList.{IsNumber, function}
 use Rattle.dd_nodes.specs.Subfunctions.{Function}
 use Rattle.dd_nodes.specs.Table.{NodeTable}
 use Rattle.dd_ops.specs.Calls.{Answers}
@@ -12,7 +12,7 @@ use Rattle.dd_ops.specs.Growth.{Grows, IsPart, subst_pieces, pieces_of_subst}
 use Rattle.dd_ops.specs.Operations.{listed, replaced}
 use Rattle.task_core.specs.declared.literals.FluentId.{FluentId}
 use Rattle.dd_sets.specs.Calls.{MakesOnly}
-use Rattle.dd_sets.specs.LiveSets.{LiveSets, set_of, listed_set, values_by_sets}
+use Rattle.dd_sets.specs.LiveSets.{LiveSets, listed_set, values_by_sets}
 use Rattle.dd_sets.specs.Stores.{view_of, ref_at, refs_of}
 use Rattle.dd_sets.specs.declared.slots.SetId.{SetId}
 use Rattle.dd_sets.proofs.SetLemmas.{listed_ref, values_same}
@@ -29,6 +29,30 @@ makes_then before middle after pieces makes same = record {
   numbers = subst
       (λ (l : List Node). (n : ℕ) → IsNumber l n → ((m : ℕ) × IsNumber before.nodes m × (function l n ≡ function before.nodes m)) ⊎ IsPart before.vars pieces (function l n))
       (sym same) makes.numbers;
+}
+
+-- one call after another, of which one makes no nodes of its own
+makes_none_of : (vars : ℕ) (f : Function) → IsPart vars [] f → ⊥
+makes_none_of vars f some = let within : some.0 < 0 = some.2 in omega arith
+
+pub makes_in_turn : (before middle after : LiveSets) (pieces : List Function) → middle.vars ≡ before.vars → MakesOnly pieces before middle → MakesOnly pieces middle after → MakesOnly pieces before after
+makes_in_turn before middle after pieces vars first second = record {
+  numbers = λ n number. ⊎_elim
+      (λ (was : (m : ℕ) × IsNumber middle.nodes m × (function after.nodes n ≡ function middle.nodes m)). ⊎_elim
+      (λ (known : (m : ℕ) × IsNumber before.nodes m × (function middle.nodes was.0 ≡ function before.nodes m)). inl (known.0, known.1, was.2 ∙ known.2))
+      (λ (part : IsPart before.vars pieces (function middle.nodes was.0)). inr (subst (λ (f : Function). IsPart before.vars pieces f) (sym was.2) part))
+      (first.numbers was.0 was.1))
+      (λ (part : IsPart middle.vars pieces (function after.nodes n)). inr (subst (λ v. IsPart v pieces (function after.nodes n)) vars part))
+      (second.numbers n number);
+}
+
+-- what makes no nodes makes none but those of any pieces
+pub makes_no_more : (before after : LiveSets) (pieces : List Function) → MakesOnly [] before after → MakesOnly pieces before after
+makes_no_more before after pieces makes = record {
+  numbers = λ n number. ⊎_elim
+      inl
+      (λ (part : IsPart before.vars [] (function after.nodes n)). absurd (makes_none_of before.vars (function after.nodes n) part))
+      (makes.numbers n number);
 }
 
 -- an operation makes nodes of its pieces alone

@@ -1,17 +1,18 @@
 -- Calls that found no room.
-use Rattle.std.proofs.Common.{◌≡◌, inl, inr, ℕ, ◌+◌, ◌*◌, ◌^◌, ◌<◌, ◌≤◌, List, [], ◌∷◌, ◌++◌, length, map, Contains, refl, sym, ap, subst, ◌∙◌, ⊎_elim, arith, length-append, mul-le-mul_right}
+use Rattle.std.proofs.Common.{◌≡◌, inl, inr, ℕ, ◌+◌, ◌*◌, ◌^◌, ◌<◌, ◌≤◌, List, [], ◌∷◌, ◌++◌, length, Contains, refl, sym, ap, subst, ⊎_elim, arith, length-append, mul-le-mul_right}
 use Rattle.std.proofs.lemmas.List.{append-nil, length-map}
 use Rattle.std.proofs.lemmas.List.Elements.{Contains-append_cases}
 use Rattle.dd_nodes.specs.Subfunctions.{Function, nodes}
 use Rattle.dd_ops.proofs.GrowthBounds.{grow_piece, grow-append}
 use Rattle.dd_ops.proofs.GrowthSubst.{grow_subst}
 use Rattle.dd_ops.specs.Growth.{grow}
-use Rattle.dd_sets.specs.Calls.{Adds, AddsNone, KeepsSets, Releases}
+use Rattle.dd_sets.specs.Calls.{KeepsSets, Releases}
 use Rattle.dd_sets.specs.Frames.{Slots, Owns}
 use Rattle.dd_sets.specs.LiveSets.{LiveSets, live_count, live_sets}
-use Rattle.dd_sets.specs.Rooms.{Tight, AnySet, IsFull, IsOneCall, IsAtLimit, IsTightFor, NoRoom, nodes_of_slots, sets_in}
+use Rattle.dd_sets.specs.Rooms.{Tight, AnySet, IsFull, IsOneCall, IsTightFor, NoRoom, nodes_of_slots, sets_in}
+use Rattle.dd_sets.proofs.LiveLemmas.{owned_live, with_new}
 use Rattle.dd_sets.proofs.SetLemmas.{count_sets}
-use Rattle.dd_sets.proofs.TightLemmas.{tight_more, at_limit_kept, nodes_grow, nodes_within, power_within}
+use Rattle.dd_sets.proofs.TightLemmas.{tight_more, tight_within, at_limit_kept, nodes_grow, nodes_within, power_within}
 
 module _ (P : Function → Type 0) where
   -- one operation
@@ -63,7 +64,6 @@ module _ (P : Function → Type 0) where
   -- the slots of the caller are among those of its call
   pub no_room_owned : (before middle after : LiveSets) (mine : Slots) (most : ℕ) → Owns before middle mine → ((set : Function) → Contains (sets_in mine) set → P set)
       → NoRoom P most middle after → NoRoom P (most + length mine) before after
-  unfolding Tight
   no_room_owned before middle after mine most owns good none =
       let within : length none.own ≤ most = none.few in
       record {
@@ -73,7 +73,8 @@ module _ (P : Function → Type 0) where
         each = λ set has. ⊎_elim (none.each set) (good set) (Contains-append_cases none.own (sets_in mine) set has);
         pieces = none.pieces;
         one_call = subst (λ v. IsOneCall v none.pieces) owns.kept.vars none.one_call;
-        tight = subst (λ v. before.limit < 2 ^ (2 ^ v)) owns.kept.vars (subst (λ l. l < 2 ^ (2 ^ middle.vars)) owns.kept.limit none.tight);
+        tight = tight_within before middle (live_sets middle ++ none.own ++ none.pieces) (live_sets before ++ (none.own ++ sets_in mine) ++ none.pieces) owns.kept.vars owns.kept.limit
+            (with_new (live_sets middle) (live_sets before) none.own (sets_in mine) none.pieces (owned_live before middle mine owns)) none.tight;
       }
 
   -- the limit is tight by slots

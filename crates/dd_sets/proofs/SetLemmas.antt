@@ -1,29 +1,24 @@
 -- Sets and their numbers.
-use Rattle.std.proofs.Common.{◌≡◌, ◌≢◌, ◌↔◌, ℕ, zero, suc, ◌+◌, ◌<◌, ◌==◌, Bool, true, false, not, ◌&&◌, cond, List, [], ◌∷◌, length, map, find, filter_map, Option, Some, None, is_some, option_map, unwrap_or, Result, Ok, Err, IfOk, IsOkAnd, IsErrOf, IsTrue, count_by, slice_index_or, All, refl, sym, ap, subst, ◌∙◌, ⊎_elim, arith}
+use Rattle.std.proofs.Common.{◌≡◌, ◌≢◌, ◌↔◌, ℕ, zero, suc, ◌+◌, ◌<◌, ◌==◌, Bool, true, false, not, ◌&&◌, cond, List, [], ◌∷◌, length, map, find, filter_map, Option, Some, None, is_some, option_map, unwrap_or, IsTrue, count_by, slice_index_or, All, refl, sym, ap, subst, ◌∙◌, ⊎_elim, arith}
 use Rattle.std.specs.Option.{option_map_or}
 use borrow.Author.Tests.{eqb-true, eq-eqb}
 use Rattle.std.proofs.lemmas.Bool.{cases_eq}
 use Rattle.std.proofs.lemmas.List.Sums.{sum_by-cons}
 use Rattle.dd_nodes.specs.declared.node.Ref.{Ref}
-use Rattle.dd_nodes.specs.declared.node.DdErr.{DdErr}
-use Rattle.dd_nodes.specs.NodeList.{Values, IsNumber, function}
+use Rattle.dd_nodes.specs.declared.node.Node.{Node}
+use Rattle.dd_nodes.specs.NodeList.{Values, IsNumber, IsReduced, function}
 use Rattle.dd_nodes.specs.Subfunctions.{Function, DependsOnly}
 use Rattle.dd_nodes.specs.Table.{NodeTable}
 use Rattle.dd_nodes.proofs.NodeLemmas.{function_false}
 use Rattle.dd_nodes.proofs.Canonicity.{canonical}
 use Rattle.dd_nodes.proofs.Dependence.{depends_number}
-use Rattle.dd_ops.specs.Calls.{Answers}
-use Rattle.dd_ops.specs.Growth.{Grows}
 use Rattle.dd_ops.specs.Operations.{minus_of, listed, replaced, subst_of}
 use Rattle.task_core.specs.declared.literals.FluentId.{FluentId}
-use Rattle.dd_sets.specs.Calls.{KeepsSets, AddsNone, Releases}
+use Rattle.dd_sets.specs.Calls.{Releases}
 use Rattle.dd_sets.specs.LiveSets.{LiveSets, IsSets, IsLive, AllLive, is_live, set_of, live_count, live_sets, nothing, number_at, listed_set, values_by_sets, subst_set}
-use Rattle.dd_sets.specs.Rooms.{IsFull, Tight}
 use Rattle.dd_sets.specs.Stores.{view_of, ref_at, refs_of}
 use Rattle.dd_sets.specs.declared.slots.SetId.{SetId}
-use Rattle.dd_sets.specs.declared.errors.SetErr.{SetErr}
-use Rattle.dd_sets.proofs.RoomLemmas.{numbers_fit}
-use Rattle.dd_sets.proofs.SlotLemmas.{set_is, live_number, kept_by_answer, same_keeps, same_adds_none, same_sound}
+use Rattle.dd_sets.proofs.SlotLemmas.{set_is, live_number}
 
 -- the set of any slot is the function of its number, or of the number of the empty set
 pub set_ref : (sets : LiveSets) (slot : ℕ) → function sets.nodes (ref_at sets slot).0 ≡ set_of sets slot
@@ -138,44 +133,14 @@ inside_from true true step = refl
 inside_from true false step = absurd (let e : ◌≡◌ {A = Bool} false true = step refl in cc)
 inside_from false b step = refl
 
-pub inside_answer : {t0 t : NodeTable} {made : Function} {answer : Result Ref DdErr} → Answers made t0 t answer → (result : Result Bool SetErr)
-    → IfOk result (λ empty. IsOkAnd answer (λ number. empty ≡ (number.0 == 0))) → (f g : Function) → made ≡ minus_of f g
-    → IfOk result (λ is_inside. IsTrue is_inside ↔ ((values : Values) → f values ≡ true → g values ≡ true))
-inside_answer {answer = Ok number} answers (Err e) empty f g same = tt
-inside_answer {answer = Err d} answers (Err e) empty f g same = tt
-inside_answer {answer = Err d} answers (Ok b) empty f g same = absurd empty
-inside_answer {t = t} {answer = Ok number} answers (Ok b) empty f g same =
-    let value : function t.nodes number.0 ≡ minus_of f g = answers.value ∙ same in
-    let in_table : IsNumber t.nodes number.0 = answers.in_table in (
-      λ yes values. inside_to (f values) (g values)
-          (ap (λ h. h values) (sym value) ∙ ap (λ n. function t.nodes n values) (eqb-true number.0 0 (sym empty ∙ yes)) ∙ function_false t.nodes values),
-      λ all. empty ∙ eq-eqb number.0 0 (canonical t.vars t.nodes answers.table.reduced number.0 0 in_table (omega arith)
-          (λ values. ap (λ h. h values) value ∙ inside_from (f values) (g values) (all values) ∙ sym (function_false t.nodes values))),
-    )
-
--- an operation that leaves the slots as they are
-pub inside_kept : {t0 t : NodeTable} {live : List (Option Ref)} {made : Function} {answer : Result Ref DdErr} → Answers made t0 t answer → {before : LiveSets}
-    → view_of t0 live ≡ before → IsSets (view_of t0 live) → KeepsSets before (view_of t live)
-inside_kept {t0} {t} {live} {made} {answer} answers opens sound =
-    subst (λ s. KeepsSets s (view_of t live)) opens (same_keeps (view_of t0 live) (view_of t live) sound (kept_by_answer (view_of t0 live) (view_of t live) made answer answers) refl)
-
-pub inside_same : {t0 t : NodeTable} {live : List (Option Ref)} {made : Function} {answer : Result Ref DdErr} → Answers made t0 t answer → {before : LiveSets}
-    → view_of t0 live ≡ before → IsSets (view_of t0 live) → AddsNone before (view_of t live)
-inside_same {t0} {t} {live} {made} {answer} answers opens sound =
-    subst (λ s. AddsNone s (view_of t live)) opens (same_adds_none (view_of t0 live) (view_of t live) sound (kept_by_answer (view_of t0 live) (view_of t live) made answer answers) refl)
-
-pub inside_sound : {t0 t : NodeTable} {live : List (Option Ref)} {made : Function} {answer : Result Ref DdErr} → Answers made t0 t answer
-    → IsSets (view_of t0 live) → IsSets (view_of t live)
-inside_sound {t0} {t} {live} {made} {answer} answers sound =
-    same_sound (view_of t0 live) (view_of t live) sound (kept_by_answer (view_of t0 live) (view_of t live) made answer answers) refl
-
-pub inside_full : {t0 t : NodeTable} {live : List (Option Ref)} {made : Function} {made_pieces : List Function} {answer : Result Ref DdErr} → Answers made t0 t answer → Grows made_pieces t0 t answer
-    → (before : LiveSets) (pieces : List Function) → IsErrOf answer DdErr.Full → IsFull before (view_of t live) pieces
-unfolding Tight
-inside_full {t = t} answers grows before pieces is =
-    let full : length t.nodes ≡ t.limit = (grows.full is).at_limit in
-    let fits = numbers_fit t.vars t.nodes answers.table.reduced in
-    record { at_limit = full; tight = omega (arith, fits) }
+pub inside_answer : {nodes : List Node} {vars : ℕ} {number : Ref} {f g : Function} → IsReduced vars nodes → IsNumber nodes number.0 → function nodes number.0 ≡ minus_of f g → (b : Bool) → b ≡ (number.0 == 0)
+    → IsTrue b ↔ ((values : Values) → f values ≡ true → g values ≡ true)
+inside_answer {nodes} {vars} {number} {f} {g} reduced in_table value b empty = (
+  λ yes values. inside_to (f values) (g values)
+      (ap (λ h. h values) (sym value) ∙ ap (λ n. function nodes n values) (eqb-true number.0 0 (sym empty ∙ yes)) ∙ function_false nodes values),
+  λ all. empty ∙ eq-eqb number.0 0 (canonical vars nodes reduced number.0 0 in_table (omega arith)
+      (λ values. ap (λ h. h values) value ∙ inside_from (f values) (g values) (all values) ∙ sym (function_false nodes values))),
+)
 
 -- a slot that was live and is empty now, every other being as it was
 pub released : {t : NodeTable} {l0 l : List (Option Ref)} {before : LiveSets} → view_of t l0 ≡ before → (slot : ℕ) → slice_index_or l slot None ≡ None

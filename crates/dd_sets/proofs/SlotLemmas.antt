@@ -1,6 +1,6 @@
 -- From what an operation on numbers says, and what became of the slots, to what the call leaves in
 -- the slots.
-use Rattle.std.proofs.Common.{◌≡◌, ◌≢◌, ℕ, ◌≤◌, true, false, List, length, Option, Some, None, is_some, Result, Ok, Err, IfOk, OnErr, IsErrOf, refl, sym, ap, subst, ◌∙◌, ⊎_elim, arith}
+use Rattle.std.proofs.Common.{◌≡◌, ◌≢◌, ℕ, suc, ◌+◌, ◌≤◌, true, false, List, [], ◌∷◌, length, map, filter_map, slice_index_or, Option, Some, None, is_some, Result, Ok, Err, IfOk, OnErr, refl, sym, ap, subst, ◌∙◌, ⊎_elim, arith}
 use Rattle.std.specs.Option.{option_map_or}
 use Rattle.std.proofs.lemmas.Bool.{cases_eq}
 use Rattle.std.proofs.lemmas.Option.{same_Some}
@@ -10,24 +10,15 @@ use Rattle.dd_nodes.specs.NodeList.{IsNumber, function}
 use Rattle.dd_nodes.specs.Subfunctions.{Function}
 use Rattle.dd_nodes.specs.Table.{NodeTable, IsNodeTable}
 use Rattle.dd_ops.specs.Calls.{Answers}
-use Rattle.dd_ops.specs.Growth.{Grows}
 use Rattle.dd_sets.specs.Calls.{KeepsSets, Adds, AddsNone}
-use Rattle.dd_sets.specs.LiveSets.{LiveSets, IsSets, IsLive, is_live, set_of, live_count, nothing, number_at, table_of}
-use Rattle.dd_sets.specs.Rooms.{IsFull, Tight}
+use Rattle.dd_sets.specs.LiveSets.{LiveSets, IsSets, IsLive, is_live, set_of, live_count, live_sets, nothing, number_at, table_of}
 use Rattle.dd_sets.specs.Stores.{IsStored, Stored, view_of}
+use Rattle.dd_sets.specs.Tries.{KeepsNumbers}
+use Rattle.dd_sets.proofs.FrameLemmas.{kept_chain}
 use Rattle.dd_sets.specs.declared.slots.SetId.{SetId}
 use Rattle.dd_sets.specs.declared.errors.SetErr.{SetErr}
-use Rattle.dd_sets.proofs.RoomLemmas.{numbers_fit}
 
--- the numbers before have their functions after, and stand in a table
-pub record KeepsNumbers (before after : LiveSets) : Type 0 where
-  pub vars : after.vars ≡ before.vars
-  pub limit : after.limit ≡ before.limit
-  pub table : IsNodeTable (table_of after)
-  pub longer : length before.nodes ≤ length after.nodes
-  pub earlier : (n : ℕ) → IsNumber before.nodes n → function after.nodes n ≡ function before.nodes n
-
--- the answer of an operation keeps them
+-- the answer of an operation keeps the numbers
 pub kept_by_answer : (before after : LiveSets) (wanted : Function) (answer : Result Ref DdErr) → Answers wanted (table_of before) (table_of after) answer → KeepsNumbers before after
 kept_by_answer before after wanted answer answers = record {
   vars = answers.vars;
@@ -87,6 +78,19 @@ module _ (before after : LiveSets) (sound : IsSets before) (keeps : KeepsNumbers
     same_at : (slot : ℕ) → number_at after slot ≡ number_at before slot
     same_at slot = ap (λ live. number_at (record before { live = live }) slot) same
 
+    pub same_sets : (slot : ℕ) → set_of after slot ≡ set_of before slot
+    same_sets slot = same_slot_set slot (same_at slot)
+
+    pub same_list : live_sets after ≡ live_sets before
+    unfolding live_sets
+    same_list = ap (λ slots. map (λ (r : Ref). function after.nodes r.0) (filter_map (λ o. o) slots)) same ∙ go before.live (λ slot number is. keeps.earlier number.0 (sound.numbers slot number is))
+      where
+        go : (slots : List (Option Ref)) → ((slot : ℕ) (number : Ref) → slice_index_or slots slot None ≡ Some number → function after.nodes number.0 ≡ function before.nodes number.0)
+            → map (λ (r : Ref). function after.nodes r.0) (filter_map (λ o. o) slots) ≡ map (λ (r : Ref). function before.nodes r.0) (filter_map (λ o. o) slots)
+        go [] each = refl
+        go (None ∷ slots) each = go slots (λ slot number is. each (suc slot) number is)
+        go (Some number ∷ slots) each = λ i. each 0 number refl i ∷ go slots (λ slot other is. each (suc slot) other is) i
+
     pub same_adds_none : AddsNone before after
     unfolding live_count
     same_adds_none = record {
@@ -109,7 +113,7 @@ module _ (before after : LiveSets) (sound : IsSets before) (keeps : KeepsNumbers
     }
 
   -- a slot got a number
-  module _ (answer : Result Ref DdErr) (slot : ℕ) (stored : IsStored before.live after.live answer slot) where
+  module _ (number : Ref) (slot : ℕ) (stored : IsStored before.live after.live number slot) where
     free_slot : is_live before slot ≡ false
     unfolding is_live
     free_slot = ap is_some stored.free
@@ -117,12 +121,12 @@ module _ (before after : LiveSets) (sound : IsSets before) (keeps : KeepsNumbers
     other_slot : (other : ℕ) → IsLive before other → other ≢ slot
     other_slot other live same = let e : is_live before slot ≡ true = ap (is_live before) (sym same) ∙ live in let f = free_slot in absurd (cc)
 
-    pub stored_adds : (set : Function) → IfOk answer (λ r. function after.nodes r.0 ≡ set) → Adds before after slot set
+    pub stored_adds : (set : Function) → function after.nodes number.0 ≡ set → Adds before after slot set
     unfolding is_live live_count
     stored_adds set value = record {
       free = free_slot;
       live = ap is_some stored.changed;
-      holds = set_is after slot stored.number stored.changed ∙ subst (λ a. IfOk a (λ (r : Ref). function after.nodes r.0 ≡ set)) stored.answered value;
+      holds = set_is after slot number stored.changed ∙ value;
       others = λ other differs. same_slot_live other (stored.others other differs);
       count = stored.count;
     }
@@ -135,14 +139,14 @@ module _ (before after : LiveSets) (sound : IsSets before) (keeps : KeepsNumbers
       sets = λ other live. same_slot_set other (stored.others other (other_slot other live));
     }
 
-    pub stored_sound : IfOk answer (λ r. IsNumber after.nodes r.0) → IsSets after
+    pub stored_sound : IsNumber after.nodes number.0 → IsSets after
     stored_sound in_table = record {
       table = keeps.table;
-      numbers = λ other number is. ⊎_elim
+      numbers = λ other found is. ⊎_elim
           (λ (here : other ≡ slot).
-          let e : stored.number ≡ number = same_Some _ _ (sym stored.changed ∙ ap (number_at after) (sym here) ∙ is) in
-          subst (λ (r : Ref). IsNumber after.nodes r.0) e (subst (λ a. IfOk a (λ (r : Ref). IsNumber after.nodes r.0)) stored.answered in_table))
-          (λ (differs : other ≢ slot). same_slot_sound other number (stored.others other differs) is)
+          let e : number ≡ found = same_Some _ _ (sym stored.changed ∙ ap (number_at after) (sym here) ∙ is) in
+          subst (λ (r : Ref). IsNumber after.nodes r.0) e in_table)
+          (λ (differs : other ≢ slot). same_slot_sound other found (stored.others other differs) is)
           (cases_eq other slot);
     }
 
@@ -153,54 +157,57 @@ pub record Operated (before after : LiveSets) (set : Function) (result : Result 
   pub refused : OnErr result (AddsNone before after)
   pub sound : IsSets after
 
-operated_from : (before after : LiveSets) (sound : IsSets before) (keeps : KeepsNumbers before after) (set : Function) (answer : Result Ref DdErr)
-    → IfOk answer (λ r. function after.nodes r.0 ≡ set) → IfOk answer (λ r. IsNumber after.nodes r.0) → (result : Result SetId SetErr) → Stored before.live after.live answer result
+operated_from : (before after : LiveSets) (sound : IsSets before) (keeps : KeepsNumbers before after) (set : Function) (number : Ref)
+    → function after.nodes number.0 ≡ set → IsNumber after.nodes number.0 → (result : Result SetId SetErr) → Stored before.live after.live number result
     → Operated before after set result
-operated_from before after sound keeps set answer value in_table (Ok slot) stores = record {
-  added = stored_adds before after sound keeps answer slot.0 stores.stored set value;
-  kept = stored_keeps before after sound keeps answer slot.0 stores.stored;
+operated_from before after sound keeps set number value in_table (Ok slot) stores = record {
+  added = stored_adds before after sound keeps number slot.0 stores.stored set value;
+  kept = stored_keeps before after sound keeps number slot.0 stores.stored;
   refused = tt;
-  sound = stored_sound before after sound keeps answer slot.0 stores.stored in_table;
+  sound = stored_sound before after sound keeps number slot.0 stores.stored in_table;
 }
-operated_from before after sound keeps set answer value in_table (Err e) stores = record {
+operated_from before after sound keeps set number value in_table (Err e) stores = record {
   added = tt;
   kept = same_keeps before after sound keeps stores.refused;
   refused = same_adds_none before after sound keeps stores.refused;
   sound = same_sound before after sound keeps stores.refused;
 }
 
+-- what leaves every slot with its set, and then a call that answers a slot
+pub after_same : (before middle after : LiveSets) (set : Function) (result : Result SetId SetErr) → KeepsSets before middle → AddsNone before middle → Operated middle after set result → Operated before after set result
+after_same before middle after set result kept same operated = record {
+  added = added result operated.added;
+  kept = kept_chain before middle after kept operated.kept;
+  refused = refused result operated.refused;
+  sound = operated.sound;
+}
+  where
+    added : (result : Result SetId SetErr) → IfOk result (λ slot. Adds middle after slot.0 set) → IfOk result (λ slot. Adds before after slot.0 set)
+    added (Ok slot) adds = record {
+      free = sym (same.others slot.0) ∙ adds.free;
+      live = adds.live;
+      holds = adds.holds;
+      others = λ other differs. adds.others other differs ∙ same.others other;
+      count = adds.count ∙ ap (λ n. n + 1) same.count;
+    }
+    added (Err e) adds = tt
+
+    refused : (result : Result SetId SetErr) → OnErr result (AddsNone middle after) → OnErr result (AddsNone before after)
+    refused (Ok slot) none = tt
+    refused (Err e) none = record { others = λ other. none.others other ∙ same.others other; count = none.count ∙ same.count }
+
 -- the function of a slot's number is its set
 pub number_set : {table : NodeTable} {live : List (Option Ref)} {before : LiveSets} → view_of table live ≡ before → (slot : ℕ) (number : Ref) → number_at before slot ≡ Some number
     → function table.nodes number.0 ≡ set_of before slot
 number_set opens slot number is = ap (λ s. function s.nodes number.0) opens ∙ sym (set_is _ slot number is)
 
--- an operation's answer and its slot
-pub operated : {t0 t : NodeTable} {l0 l : List (Option Ref)} {made : Function} {answer : Result Ref DdErr} {result : Result SetId SetErr}
-    → Answers made t0 t answer → Stored l0 l answer result → {before : LiveSets} → view_of t0 l0 ≡ before → IsSets (view_of t0 l0) → {set : Function} → made ≡ set
-    → Operated before (view_of t l) set result
-operated {t0} {t} {l0} {l} {made} {answer} {result} answers stores opens sound {set} same =
-    subst (λ s. Operated s (view_of t l) set result) opens
-    (operated_from (view_of t0 l0) (view_of t l) sound (kept_by_answer (view_of t0 l0) (view_of t l) made answer answers) set answer
-    (subst (λ f. IfOk answer (λ (r : Ref). function t.nodes r.0 ≡ f)) same answers.value) answers.in_table result stores)
-
 -- a known number and its slot
-pub placed : {t : NodeTable} {l0 l : List (Option Ref)} {number : Ref} {result : Result SetId SetErr} → Stored l0 l (Ok number) result
+pub placed : {t : NodeTable} {l0 l : List (Option Ref)} {number : Ref} {result : Result SetId SetErr} → Stored l0 l number result
     → {before : LiveSets} → view_of t l0 ≡ before → IsSets (view_of t l0) → {set : Function} → function t.nodes number.0 ≡ set → IsNumber t.nodes number.0
     → Operated before (view_of t l) set result
 placed {t} {l0} {l} {number} {result} stores opens sound {set} value in_table =
     subst (λ s. Operated s (view_of t l) set result) opens
-    (operated_from (view_of t l0) (view_of t l) sound (kept_nodes (view_of t l0) (view_of t l) sound refl) set (Ok number) value in_table result stores)
-
--- where a call is refused for want of room, the table holds as many nodes as it may, and so its
--- limit is tight
-pub full_room : {t0 t : NodeTable} {l0 l : List (Option Ref)} {made : Function} {made_pieces : List Function} {answer : Result Ref DdErr} {result : Result SetId SetErr}
-    → Answers made t0 t answer → Grows made_pieces t0 t answer → Stored l0 l answer result → (before : LiveSets) (pieces : List Function) → IsErrOf result SetErr.Full
-    → IsFull before (view_of t l) pieces
-unfolding Tight
-full_room {t} answers grows stores before pieces is =
-    let full : length t.nodes ≡ t.limit = (grows.full (stores.full is)).at_limit in
-    let fits = numbers_fit t.vars t.nodes answers.table.reduced in
-    record { at_limit = full; tight = omega (arith, fits) }
+    (operated_from (view_of t l0) (view_of t l) sound (kept_nodes (view_of t l0) (view_of t l) sound refl) set number value in_table result stores)
 
 pub number_in_table : {table : NodeTable} {live : List (Option Ref)} {before : LiveSets} → view_of table live ≡ before → {n : ℕ} → IsNumber before.nodes n → IsNumber table.nodes n
 number_in_table opens {n} number = subst (λ (s : LiveSets). IsNumber s.nodes n) (sym opens) number

@@ -1,5 +1,5 @@
 -- Tight limits, by nodes and by slots.
-use Rattle.std.proofs.Common.{◌≡◌, ℕ, ◌+◌, ◌*◌, ◌^◌, ◌<◌, ◌≤◌, List, [], ◌∷◌, ◌++◌, length, sym, ap, subst, ◌∙◌, arith, length-append}
+use Rattle.std.proofs.Common.{◌≡◌, ℕ, ◌+◌, ◌*◌, ◌^◌, ◌<◌, ◌≤◌, List, [], ◌∷◌, ◌++◌, length, Contains, sym, ap, subst, ◌∙◌, arith, length-append}
 use Rattle.std.proofs.Math.Nat.{pow-le-pow_left}
 use Rattle.dd_nodes.proofs.NodeLemmas.{function_false, function_true}
 use Rattle.dd_nodes.specs.Subfunctions.{Function, constants, functions, functions_below, nodes, nodes_beside}
@@ -7,11 +7,20 @@ use Rattle.dd_ops.proofs.GrowthBounds.{grow_piece, grow-append, grow-nil}
 use Rattle.dd_ops.specs.Growth.{grow}
 use Rattle.dd_sets.specs.LiveSets.{LiveSets, live_count, live_sets}
 use Rattle.dd_sets.specs.Rooms.{Tight, IsFull, IsAtLimit, IsTightFor, nodes_of_slots}
+use Rattle.dd_sets.proofs.CountLemmas.{nodes_fewer}
 use Rattle.dd_sets.proofs.SetLemmas.{count_sets}
 
 pub tight_more : (limit fluents few many : ℕ) → few ≤ many → Tight limit fluents few → Tight limit fluents many
 unfolding Tight
-tight_more limit fluents few many more tight = tight
+tight_more limit fluents few many more tight = let below : limit < few = tight.0 in (omega arith, tight.1)
+
+-- a limit that is tight for some functions is tight for more
+pub tight_within : (before middle : LiveSets) (few many : List Function) → middle.vars ≡ before.vars → middle.limit ≡ before.limit → ((f : Function) → Contains few f → Contains many f)
+    → Tight middle.limit middle.vars (nodes middle.vars few) → Tight before.limit before.vars (nodes before.vars many)
+tight_within before middle few many vars limit each tight =
+    tight_more before.limit before.vars (nodes before.vars few) (nodes before.vars many)
+    (nodes_fewer before.vars few many each)
+    (subst (λ v. Tight before.limit v (nodes v few)) vars (subst (λ l. Tight l middle.vars (nodes middle.vars few)) limit tight))
 
 -- the numbers of a list without nodes are the constants
 no_nodes : functions [] ≡ constants

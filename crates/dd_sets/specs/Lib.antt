@@ -4,3 +4,4 @@ pub mod Laws
 pub mod LiveSets
 pub mod Rooms
 pub mod Stores
+pub mod Tries

@@ -8,10 +8,9 @@ use Rattle.dd_sets.specs.Frames.{Slots}
 use Rattle.dd_sets.specs.LiveSets.{LiveSets, live_count, live_sets}
 
 -- a limit on nodes is tight for sets over so many fluents that have so many nodes: it is less than
--- the number of sets there are. It does not look at the number of nodes, and a stricter definition
--- in its place may
+-- the number of these nodes, and less than the number of sets there are
 unfoldable pub Tight : ℕ → ℕ → ℕ → Type 0
-Tight limit fluents nodes = limit < 2 ^ (2 ^ fluents)
+Tight limit fluents nodes = (limit < nodes) × (limit < 2 ^ (2 ^ fluents))
 
 -- the table holds as many nodes as it may
 abbrev pub IsAtLimit : LiveSets → Type 0

@@ -1,36 +1,38 @@
 -- Private: numbers behind slots.
-use Rattle.std.specs.Prelude.{◌≡◌, ◌≢◌, ℕ, ◌+◌, List, Option, Some, None, Result, Ok, IfOk, OnErr}
-use Rattle.std.specs.Prelude.{IsErrOf, is_some, count_by, slice_index_or, map, unwrap_or, ◌-◌}
+use Rattle.std.specs.Prelude.{◌≡◌, ◌≢◌, ℕ, ◌+◌, List, [], ◌∷◌, Option, Some, None, Result, IfOk}
+use Rattle.std.specs.Prelude.{OnErr, IfErr, is_some, count_by, slice_index_or, map, unwrap_or, ◌-◌}
 use Rattle.dd_nodes.specs.NodeList.{function}
 use Rattle.task_core.specs.Cubes.{SetOfVectors}
 use Rattle.task_core.specs.Vectors.{value_of}
 use Rattle.task_core.specs.declared.literals.FluentId.{FluentId}
 use Rattle.dd_nodes.specs.declared.node.Node.{Node}
-use Rattle.dd_nodes.specs.declared.node.DdErr.TheVariants.{Full}
 use Rattle.dd_nodes.specs.Table.{NodeTable}
 use Rattle.dd_sets.specs.declared.errors.SetErr.{SetErr}
 use Rattle.dd_sets.specs.LiveSets.{LiveSets, number_at}
 use Rattle.dd_sets.specs.declared.slots.SetId.{SetId}
 use Rattle.dd_nodes.specs.declared.node.Ref.{Ref}
-use Rattle.dd_nodes.specs.declared.node.DdErr.{DdErr}
 
--- an operation's number stands in a slot that was free, and every other slot is as it was
-pub record IsStored (before after : List (Option Ref)) (answer : Result Ref DdErr)
-    (slot : ℕ) : Type 0 where
-  pub number : Ref
-  pub answered : answer ≡ Ok number
+-- a number stands in a slot that was free, and every other slot is as it was
+pub record IsStored (before after : List (Option Ref)) (number : Ref) (slot : ℕ) : Type 0 where
   pub free : slice_index_or before slot None ≡ None
   pub changed : slice_index_or after slot None ≡ Some number
   pub others : (other : ℕ) → other ≢ slot → slice_index_or after other None
       ≡ slice_index_or before other None
   pub count : count_by is_some after ≡ count_by is_some before + 1
 
--- what a new slot for an operation's answer leaves in the list of slots
-pub record Stored (before after : List (Option Ref)) (answer : Result Ref DdErr)
+-- what a new slot for a number leaves in the list of slots
+pub record Stored (before after : List (Option Ref)) (number : Ref)
     (result : Result SetId SetErr) : Type 0 where
-  pub stored : IfOk result (λ slot. IsStored before after answer slot.0)
+  pub stored : IfOk result (λ slot. IsStored before after number slot.0)
   pub refused : OnErr result (after ≡ before)
-  pub full : IsErrOf result SetErr.Full → IsErrOf answer Full
+  pub memory : IfErr result (λ e. e ≡ SetErr.Memory)
+
+-- the slots with new numbers, one for each slot that has one, in their order
+unfoldable pub renumbered : List (Option Ref) → List Ref → List (Option Ref)
+renumbered [] numbers = []
+renumbered (None ∷ slots) numbers = None ∷ renumbered slots numbers
+renumbered (Some old ∷ slots) [] = Some old ∷ slots
+renumbered (Some old ∷ slots) (number ∷ numbers) = Some number ∷ renumbered slots numbers
 
 -- the sets of a table with these numbers in its slots
 abbrev pub view_of : NodeTable → List (Option Ref) → LiveSets

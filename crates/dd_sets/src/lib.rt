@@ -9,6 +9,7 @@
 mod cubes;
 mod errors;
 mod laws;
+mod operation;
 mod sets;
 mod slots;
 

@@ -1,6 +1,6 @@
 //! The sets of a table, each in a slot.
 ghost use Rattle.std.specs.Prelude.{◌≡◌, ℕ, ◌<◌, ◌≤◌, ◌↔◌, Some, Bool, true, false, [], ◌∷◌, map};
-ghost use Rattle.std.specs.Prelude.{is_some, IsTrue, IfOk, IfErr, OnErr, IsErrOf, ◌⊎◌};
+ghost use Rattle.std.specs.Prelude.{is_some, IsTrue, IfOk, IfErr, OnOk, OnErr, IsErrOf, ◌⊎◌};
 ghost use Rattle.dd_nodes.specs.NodeList.{Values, IsNumber};
 ghost use Rattle.dd_nodes.specs.Subfunctions.{Function};
 ghost use Rattle.dd_ops.specs.Growth.{subst_pieces};
@@ -15,11 +15,13 @@ ghost use Rattle.dd_sets.specs.LiveSets.{nothing, everything, number_at, listed_
 ghost use Rattle.dd_sets.specs.LiveSets.{values_by_sets, subst_set};
 ghost use Rattle.dd_sets.specs.Rooms.{IsFull, AnySet, NoRoom};
 ghost use Rattle.dd_sets.specs.Stores.{ref_at, refs_of};
+ghost use Rattle.dd_sets.specs.Tries.{IsReady, wanted, pieces, Computes, Collects, Tries};
 
 use crate::cubes::{Cube, walk};
-use crate::slots::{is_empty, store};
+use crate::operation::Operation;
+use crate::slots::{live_numbers, live_slots, renumber, store};
 use crate::{SetErr, SetId};
-use dd_nodes::Ref;
+use dd_nodes::{DdErr, Ref};
 use dd_ops::Ops;
 use slab::Slab;
 use std::alloc::{AllocError, Global};
@@ -34,9 +36,10 @@ use task_core::{FluentId, State};
 /// `in_both`, `in_some`, `without`, `rest_of`), which end the slots that they take over whether
 /// they answer or refuse. Each call leaves every other live slot with its set, and an operation's
 /// answer is a slot that was not live before. A call makes no nodes but those of the functions that
-/// its contract names (`MakesOnly`). It refuses with `Full` only where the table holds `limit` nodes
-/// and the limit is tight for the live sets and the functions whose nodes it may have to make, and
-/// with `Memory` where memory runs out.
+/// its contract names (`MakesOnly`), and keeps those of the live sets at least: where an operation finds
+/// the table full, all other nodes are dropped, and it is tried once more. So it refuses with `Full`
+/// only where the live sets and the functions whose nodes it may have to make have more than `limit`
+/// nodes together, and with `Memory` where memory runs out.
 #[derive(Drop)]
 pub struct Sets {
     ops: Ops,
@@ -102,6 +105,121 @@ impl Sets {
         self.slots[a.0]
     }
 
+    /// The numbers of the sets that a list gives its fluents.
+    fn numbers(&self, map: &[(FluentId, SetId)]) -> Result<Vec<(u32, Ref)>, AllocError>
+        requires { AllLive self.now map.now }
+        ensures { IfOk result (λ numbers. numbers.items ≡ refs_of self.now map.now) }
+    {
+        let mut numbers = Vec::new(self.alloc);
+        for entry in map {
+            numbers.push((entry.0.0, self.number(entry.1)))?;
+        }
+        Ok(numbers)
+    }
+
+    /// Tries an operation once, on the numbers that the slots hold.
+    fn compute(&mut self, operation: Operation) -> Result<Ref, DdErr>
+        requires { IsReady self.old operation }
+        ensures computes { Computes self.old self.new operation.entry result }
+        ensures sound { IsSets self.old }
+    {
+        match operation {
+            Operation::Variable(f) => self.ops.var(f.0),
+            Operation::Not(a) => {
+                let f = self.number(a);
+                self.ops.not(f)
+            }
+            Operation::And(a, b) => {
+                let f = self.number(a);
+                let g = self.number(b);
+                self.ops.and(f, g)
+            }
+            Operation::Or(a, b) => {
+                let f = self.number(a);
+                let g = self.number(b);
+                self.ops.or(f, g)
+            }
+            Operation::Minus(a, b) => {
+                let f = self.number(a);
+                let g = self.number(b);
+                self.ops.minus(f, g)
+            }
+            Operation::Cofactor(a, f, value) => {
+                let number = self.number(a);
+                self.ops.cofactor(number, f.0, value)
+            }
+            Operation::Subst(a, map) => {
+                let number = self.number(a);
+                match self.numbers(map) {
+                    Ok(numbers) => self.ops.subst(number, &numbers),
+                    Err(_) => Err(DdErr::Memory),
+                }
+            }
+        }
+    }
+
+    /// Keeps only the nodes of the live sets.
+    fn collect(&mut self) -> Result<(), AllocError>
+        ensures collected { OnOk result (Collects self.old self.new) }
+        ensures refused { OnErr result (self.new ≡ self.old) }
+        ensures sound { IsSets self.old }
+    {
+        let slots = live_slots(self.alloc, &self.slots)?;
+        let mut numbers = live_numbers(self.alloc, &self.slots)?;
+        self.ops.collect(&mut numbers);
+        renumber(&mut self.slots, &slots, &numbers);
+        Ok(())
+    }
+
+    /// Tries an operation on a table that holds the nodes of the live sets alone.
+    fn try_again(&mut self, operation: Operation) -> Result<Ref, SetErr>
+        requires { IsReady self.old operation }
+        ensures { Tries self.old self.new operation.entry result }
+    {
+        self.collect()?;
+        match self.compute(operation) {
+            Ok(number) => Ok(number),
+            Err(DdErr::Full) => Err(SetErr::Full),
+            Err(DdErr::Memory) => Err(SetErr::Memory),
+        }
+    }
+
+    /// Tries an operation, and where the table is full once more after a collection.
+    #[tactic(auto, using(crate::proofs::TryLemmas::ready_again, crate::proofs::TryLemmas::tried_ok, crate::proofs::TryLemmas::tried_memory))]
+    fn try_twice(&mut self, operation: Operation) -> Result<Ref, SetErr>
+        requires { IsReady self.old operation }
+        ensures { Tries self.old self.new operation.entry result }
+    {
+        match self.compute(operation) {
+            Ok(number) => Ok(number),
+            Err(DdErr::Full) => self.try_again(operation),
+            Err(DdErr::Memory) => Err(SetErr::Memory),
+        }
+    }
+
+    /// The answer of an operation in a new slot.
+    fn answer(&mut self, operation: Operation) -> Result<SetId, SetErr>
+        requires { IsReady self.old operation }
+        ensures added { IfOk result (λ slot. Adds self.old self.new slot.0
+            (wanted self.old operation.entry)) }
+        ensures kept { KeepsSets self.old self.new }
+        ensures refused { OnErr result (AddsNone self.old self.new) }
+        ensures full { IsErrOf result SetErr.Full → IsFull self.old self.new
+            (pieces self.old operation.entry) }
+        ensures made { MakesOnly (pieces self.old operation.entry) self.old self.new }
+        ensures sound { IsSets self.new }
+    {
+        let number = self.try_twice(operation)?;
+        store(&mut self.slots, number)
+    }
+
+    /// How many questions the cache of the operations has answered, up to its last value.
+    pub fn hits(&self) -> u64
+        ensures sound { IsSets self.now }
+    {
+        self.ops.hits()
+    }
+
     /// The set of all lists of truth values.
     pub fn whole(&mut self) -> Result<SetId, SetErr>
         ensures added { IfOk result (λ slot. Adds self.old self.new slot.0
@@ -112,7 +230,7 @@ impl Sets {
         ensures made { MakesOnly [] self.old self.new }
         ensures sound { IsSets self.new }
     {
-        store(&mut self.slots, Ok(Ref(1)))
+        store(&mut self.slots, Ref(1))
     }
 
     /// The empty set.
@@ -125,7 +243,7 @@ impl Sets {
         ensures made { MakesOnly [] self.old self.new }
         ensures sound { IsSets self.new }
     {
-        store(&mut self.slots, Ok(Ref(0)))
+        store(&mut self.slots, Ref(0))
     }
 
     /// The same set in another slot.
@@ -140,7 +258,7 @@ impl Sets {
         ensures sound { IsSets self.new }
     {
         let number = self.number(a);
-        store(&mut self.slots, Ok(number))
+        store(&mut self.slots, number)
     }
 
     /// The lists in which a fluent is true.
@@ -155,8 +273,7 @@ impl Sets {
         ensures made { MakesOnly (variable f.0 ∷ []) self.old self.new }
         ensures sound { IsSets self.new }
     {
-        let answer = self.ops.var(f.0);
-        store(&mut self.slots, answer)
+        self.answer(Operation::Variable(f))
     }
 
     /// The lists that are not in `a`.
@@ -172,9 +289,7 @@ impl Sets {
             self.old self.new }
         ensures sound { IsSets self.new }
     {
-        let f = self.number(a);
-        let answer = self.ops.not(f);
-        store(&mut self.slots, answer)
+        self.answer(Operation::Not(a))
     }
 
     /// The lists that are in `a` and in `b`.
@@ -191,10 +306,7 @@ impl Sets {
             self.old self.new }
         ensures sound { IsSets self.new }
     {
-        let f = self.number(a);
-        let g = self.number(b);
-        let answer = self.ops.and(f, g);
-        store(&mut self.slots, answer)
+        self.answer(Operation::And(a, b))
     }
 
     /// The lists that are in `a` or in `b`.
@@ -211,10 +323,7 @@ impl Sets {
             self.old self.new }
         ensures sound { IsSets self.new }
     {
-        let f = self.number(a);
-        let g = self.number(b);
-        let answer = self.ops.or(f, g);
-        store(&mut self.slots, answer)
+        self.answer(Operation::Or(a, b))
     }
 
     /// The lists that are in `a` and not in `b`.
@@ -231,10 +340,7 @@ impl Sets {
             self.old self.new }
         ensures sound { IsSets self.new }
     {
-        let f = self.number(a);
-        let g = self.number(b);
-        let answer = self.ops.minus(f, g);
-        store(&mut self.slots, answer)
+        self.answer(Operation::Minus(a, b))
     }
 
     /// The lists that are in `a` once a fluent has the value.
@@ -251,9 +357,7 @@ impl Sets {
             self.old self.new }
         ensures sound { IsSets self.new }
     {
-        let number = self.number(a);
-        let answer = self.ops.cofactor(number, f.0, value);
-        store(&mut self.slots, answer)
+        self.answer(Operation::Cofactor(a, f, value))
     }
 
     /// The lists that are in `a` once each listed fluent has the truth of its set, all at once.
@@ -274,22 +378,7 @@ impl Sets {
             self.old self.new }
         ensures sound { IsSets self.new }
     {
-        let number = self.number(a);
-        let numbers = self.numbers(map)?;
-        let answer = self.ops.subst(number, &numbers);
-        store(&mut self.slots, answer)
-    }
-
-    /// The numbers of the sets that a list gives its fluents.
-    fn numbers(&self, map: &[(FluentId, SetId)]) -> Result<Vec<(u32, Ref)>, AllocError>
-        requires { AllLive self.now map.now }
-        ensures { IfOk result (λ numbers. numbers.items ≡ refs_of self.now map.now) }
-    {
-        let mut numbers = Vec::new(self.alloc);
-        for entry in map {
-            numbers.push((entry.0.0, self.number(entry.1)))?;
-        }
-        Ok(numbers)
+        self.answer(Operation::Subst(a, map))
     }
 
     /// Whether each list of `a` is in `b`.
@@ -306,10 +395,8 @@ impl Sets {
             self.old self.new }
         ensures sound { IsSets self.new }
     {
-        let f = self.number(a);
-        let g = self.number(b);
-        let outside = self.ops.minus(f, g);
-        is_empty(outside)
+        let outside = self.try_twice(Operation::Minus(a, b))?;
+        Ok(outside == Ref(0))
     }
 
     /// Whether two slots hold the same set.

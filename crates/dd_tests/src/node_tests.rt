@@ -3,7 +3,7 @@ ghost use Rattle.std.specs.Prelude.{◌≡◌, IfOk};
 ghost use Rattle.dd_nodes.specs.NodeList.{IsNumber, StandsBelow};
 
 use dd_nodes::{Dd, DdErr, Node, Ref, one_number_per_function};
-use std::alloc::Global;
+use std::alloc::{AllocError, Global};
 use std::test::Fail;
 
 /// The node of the second of two variables.
@@ -115,5 +115,47 @@ fn worked_example_agrees_anew(alloc: Global) -> Result<bool, Fail> {
 fn answers_the_worked_example(rt: HostRuntime) -> Result<(), Fail> {
     one_number_per_function();
     assert!(rt; worked_example_agrees_anew(rt.alloc())?);
+    Ok(())
+}
+
+/// Whether a collection with one root leaves the one node that it needs, under its new number.
+fn keeps_the_root(alloc: Global, dd: &mut Dd) -> Result<bool, AllocError> {
+    if dd.len() != 2 {
+        return Ok(false);
+    }
+    let mut roots = Vec::new(alloc);
+    roots.push(Ref(3))?;
+    dd.collect(&mut roots);
+    Ok(dd.len() == 1 && roots[0] == Ref(2))
+}
+
+/// Whether a number of a table has the function of the negation of variable 1.
+fn is_negation(dd: &Dd, f: Ref) -> bool {
+    dd.len() >= 1 && f == Ref(2) && !dd.eval(f, &[2, 0, 0, 0]) && dd.eval(f, &[1, 0, 0, 0])
+}
+
+/// Whether two nodes are made.
+fn makes_two(dd: &mut Dd) -> bool
+    requires { dd.old.vars ≡ 2 }
+{
+    dd.mk(1, Ref(0), Ref(1)) == Ok(Ref(2)) && dd.mk(1, Ref(1), Ref(0)) == Ok(Ref(3))
+}
+
+/// Whether a new table of two nodes keeps the one that is needed.
+fn collects(alloc: Global, dd: &mut Dd) -> Result<bool, AllocError>
+    requires { dd.old.vars ≡ 2 }
+{
+    Ok(makes_two(dd) && keeps_the_root(alloc, dd)? && is_negation(dd, Ref(2)))
+}
+
+/// The same, with the table made.
+fn collects_anew(alloc: Global) -> Result<bool, AllocError> {
+    let mut dd = Dd::new(alloc, 2, 2)?;
+    collects(alloc, &mut dd)
+}
+
+#[test]
+fn a_collection_keeps_what_a_root_needs(rt: HostRuntime) -> Result<(), Fail> {
+    assert!(rt; collects_anew(rt.alloc())?);
     Ok(())
 }

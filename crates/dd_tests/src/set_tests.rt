@@ -1,6 +1,5 @@
-//! Every operation at every set over three fluents, and small tables that fill up over four, each
-//! against truth tables.
-ghost use Rattle.std.specs.Prelude.{◌≡◌, ◌<◌, ◌≤◌, All, IfOk, IfSome, OnOk};
+//! Every operation at every set over three fluents, against truth tables.
+ghost use Rattle.std.specs.Prelude.{◌<◌, ◌≤◌, All, IfOk, IfSome, OnOk};
 ghost use Rattle.dd_sets.specs.Calls.{KeepsSets, Releases};
 ghost use Rattle.dd_sets.specs.LiveSets.{IsLive};
 
@@ -11,10 +10,10 @@ use task_core::{FluentId, State};
 
 /// A slot and the truth table of its set: bit `s` says whether the state is in the set whose first
 /// fluents have the values of the bits of `s`.
-type Known = (SetId, u16);
+pub type Known = (SetId, u16);
 
 /// The truth tables of four fluents.
-const FLUENTS: [u16; 4] = [0xaaaa, 0xcccc, 0xf0f0, 0xff00];
+pub const FLUENTS: [u16; 4] = [0xaaaa, 0xcccc, 0xf0f0, 0xff00];
 
 /// The state whose first four fluents have the values of the bits of a number.
 fn state(bits: u32) -> State {
@@ -26,7 +25,7 @@ fn state(bits: u32) -> State {
 }
 
 /// The truth table of a slot's set.
-fn truth(sets: &Sets, a: SetId) -> u16
+pub fn truth(sets: &Sets, a: SetId) -> u16
     requires { IsLive sets.now a.0 }
 {
     let mut table = 0;
@@ -49,7 +48,7 @@ fn had(sets: &mut Sets, made: SetId, table: u16) -> bool
 }
 
 #[tactic(auto, using(dd_sets::proofs::FrameLemmas::kept_release))]
-fn meets(sets: &mut Sets, f: Known, g: Known) -> Result<bool, SetErr>
+pub fn meets(sets: &mut Sets, f: Known, g: Known) -> Result<bool, SetErr>
     requires f_live { IsLive sets.old f.0.0 }
     requires g_live { IsLive sets.old g.0.0 }
     ensures { KeepsSets sets.old sets.new }
@@ -59,7 +58,7 @@ fn meets(sets: &mut Sets, f: Known, g: Known) -> Result<bool, SetErr>
 }
 
 #[tactic(auto, using(dd_sets::proofs::FrameLemmas::kept_release))]
-fn joins(sets: &mut Sets, f: Known, g: Known) -> Result<bool, SetErr>
+pub fn joins(sets: &mut Sets, f: Known, g: Known) -> Result<bool, SetErr>
     requires f_live { IsLive sets.old f.0.0 }
     requires g_live { IsLive sets.old g.0.0 }
     ensures { KeepsSets sets.old sets.new }
@@ -69,7 +68,7 @@ fn joins(sets: &mut Sets, f: Known, g: Known) -> Result<bool, SetErr>
 }
 
 #[tactic(auto, using(dd_sets::proofs::FrameLemmas::kept_release))]
-fn subtracts(sets: &mut Sets, f: Known, g: Known) -> Result<bool, SetErr>
+pub fn subtracts(sets: &mut Sets, f: Known, g: Known) -> Result<bool, SetErr>
     requires f_live { IsLive sets.old f.0.0 }
     requires g_live { IsLive sets.old g.0.0 }
     ensures { KeepsSets sets.old sets.new }
@@ -79,7 +78,7 @@ fn subtracts(sets: &mut Sets, f: Known, g: Known) -> Result<bool, SetErr>
 }
 
 #[tactic(auto, using(dd_sets::proofs::FrameLemmas::kept_release))]
-fn complements(sets: &mut Sets, f: Known) -> Result<bool, SetErr>
+pub fn complements(sets: &mut Sets, f: Known) -> Result<bool, SetErr>
     requires { IsLive sets.old f.0.0 }
     ensures { KeepsSets sets.old sets.new }
 {
@@ -131,7 +130,7 @@ fn compares(sets: &mut Sets, f: Known, g: Known) -> Result<bool, SetErr>
 }
 
 /// A truth table in which each fluent has the value of another truth table.
-fn replaced(table: u16, images: [u16; 4]) -> u16 {
+pub fn replaced(table: u16, images: [u16; 4]) -> u16 {
     let mut result = 0;
     for s in 0..16u32 {
         let mut from = 0u32;
@@ -149,7 +148,7 @@ fn replaced(table: u16, images: [u16; 4]) -> u16 {
 
 /// Whether the first two fluents are replaced at once, and by the first entry of each.
 #[tactic(auto, using(dd_sets::proofs::FrameLemmas::kept_release))]
-fn replaces(sets: &mut Sets, f: Known, g: Known, h: Known) -> Result<bool, SetErr>
+pub fn replaces(sets: &mut Sets, f: Known, g: Known, h: Known) -> Result<bool, SetErr>
     requires f_live { IsLive sets.old f.0.0 }
     requires g_live { IsLive sets.old g.0.0 }
     requires h_live { IsLive sets.old h.0.0 }
@@ -176,7 +175,7 @@ fn fixes(sets: &mut Sets, f: Known, fluent: u32, value: bool) -> Result<bool, Se
 }
 
 /// The set at a place of a list.
-fn pick(_sets: &Sets, known: &[Known], place: usize) -> Option<Known>
+pub fn pick(_sets: &Sets, known: &[Known], place: usize) -> Option<Known>
     requires { All (λ k. IsLive _sets.now k.0.0) known.now }
     ensures { IfSome result (λ k. IsLive _sets.now k.0.0) }
 {
@@ -185,7 +184,7 @@ fn pick(_sets: &Sets, known: &[Known], place: usize) -> Option<Known>
 
 /// Adds a set to a list.
 #[tactic(auto, using(dd_sets::proofs::FrameLemmas::all_added))]
-fn add(_sets: &Sets, known: &mut Vec<Known>, slot: SetId, table: u16) -> Result<(), AllocError>
+pub fn add(_sets: &Sets, known: &mut Vec<Known>, slot: SetId, table: u16) -> Result<(), AllocError>
     requires live { All (λ k. IsLive _sets.now k.0.0) known.old.items }
     requires new { IsLive _sets.now slot.0 }
     ensures { OnOk result (All (λ k. IsLive _sets.now k.0.0) known.new.items) }
@@ -305,120 +304,5 @@ fn every_set_agrees_anew(alloc: Global) -> Result<bool, Fail> {
 #[test]
 fn operations_agree_with_truth_tables(rt: HostRuntime) -> Result<(), Fail> {
     assert!(rt; every_set_agrees_anew(rt.alloc())?);
-    Ok(())
-}
-
-/// Whether each set of a list has its truth table.
-fn are_kept(sets: &Sets, known: &[Known]) -> bool
-    requires { All (λ k. IsLive sets.now k.0.0) known.now }
-{
-    for k in known {
-        if truth(sets, k.0) != k.1 {
-            return false;
-        }
-    }
-    true
-}
-
-/// The join of two sets, or the complement of the first.
-fn combine(sets: &mut Sets, is_join: bool, f: Known, g: Known) -> Result<SetId, SetErr>
-    requires f_live { IsLive sets.old f.0.0 }
-    requires g_live { IsLive sets.old g.0.0 }
-    ensures live { IfOk result (λ slot. IsLive sets.new slot.0) }
-    ensures kept { KeepsSets sets.old sets.new }
-{
-    if is_join {
-        sets.join(f.0, g.0)
-    } else {
-        sets.complement(f.0)
-    }
-}
-
-/// The empty set and the values of the four fluents, as far as there is room.
-#[tactic(auto, using(dd_sets::proofs::FrameLemmas::all_kept))]
-fn start(alloc: Global, sets: &mut Sets) -> Result<Vec<Known>, Fail>
-    requires { sets.old.vars ≡ 4 }
-    ensures { IfOk result (λ known. All (λ k. IsLive sets.new k.0.0) known.items) }
-{
-    let mut known = Vec::new(alloc);
-    let none = sets.none()?;
-    add(sets, &mut known, none, 0)?;
-    for f in 0..4u32 {
-        match sets.of_fluent(FluentId(f)) {
-            Ok(slot) => add(sets, &mut known, slot, FLUENTS[f as usize])?,
-            Err(SetErr::Full) => {}
-            Err(e) => return Err(Fail::from(e)),
-        }
-    }
-    Ok(known)
-}
-
-/// What became of a step: a set was added, or there was no room and each set is as it was, or not.
-enum Step {
-    Added,
-    Refused,
-    Lost,
-}
-
-/// Adds a set to a list, if there is room.
-#[tactic(auto, using(dd_sets::proofs::FrameLemmas::all_kept))]
-fn grow(
-    sets: &mut Sets,
-    known: &mut Vec<Known>,
-    is_join: bool,
-    places: (usize, usize),
-) -> Result<Step, Fail>
-    requires { All (λ k. IsLive sets.old k.0.0) known.old.items }
-    ensures { OnOk result (All (λ k. IsLive sets.new k.0.0) known.new.items) }
-{
-    let f = pick(sets, known, places.0).ok_or("a set is missing")?;
-    let g = pick(sets, known, places.1).ok_or("a set is missing")?;
-    match combine(sets, is_join, f, g) {
-        Ok(slot) => {
-            add(sets, known, slot, if is_join { f.1 | g.1 } else { !f.1 })?;
-            Ok(Step::Added)
-        }
-        Err(SetErr::Full) if are_kept(sets, known) => Ok(Step::Refused),
-        Err(SetErr::Full) => Ok(Step::Lost),
-        Err(e) => Err(Fail::from(e)),
-    }
-}
-
-/// Fills a table by joins and complements over four fluents, and counts the refusals; `None` where
-/// a slot lost its set.
-fn fill(alloc: Global, sets: &mut Sets) -> Result<Option<u32>, Fail>
-    requires { sets.old.vars ≡ 4 }
-{
-    let mut known = start(alloc, sets)?;
-    let mut refusals = 0u32;
-    let mut seed = 1u32;
-    for step in 0..200u32 {
-        seed = seed.wrapping_mul(1664525).wrapping_add(1013904223);
-        let count = known.len().max(1);
-        let places = ((seed >> 8) as usize % count, (seed >> 20) as usize % count);
-        match grow(sets, &mut known, step % 2 == 0, places)? {
-            Step::Added => {}
-            Step::Refused => refusals = refusals.saturating_add(1),
-            Step::Lost => return Ok(None),
-        }
-    }
-    Ok(Some(refusals))
-}
-
-/// The same from no set on.
-fn fill_anew(alloc: Global, limit: u32) -> Result<Option<u32>, Fail>
-    requires some { 0 < limit }
-    requires few { limit ≤ 40 }
-{
-    let mut sets = Sets::new(alloc, 4, limit)?;
-    fill(alloc, &mut sets)
-}
-
-#[test]
-fn slots_keep_their_sets_when_full(rt: HostRuntime) -> Result<(), Fail> {
-    for limit in 1..41u32 {
-        let refusals = fill_anew(rt.alloc(), limit)?.ok_or("a slot lost its set")?;
-        assert!(rt; refusals > 0, "at {limit}");
-    }
     Ok(())
 }

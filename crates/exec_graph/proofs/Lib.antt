@@ -4,6 +4,7 @@ pub mod Executes
 pub mod ListWrites
 pub mod Lists
 pub mod Listed
+pub mod RowFacts
 pub mod DenotedPairs
 pub mod RuleMoves
 pub mod RuleLists
@@ -11,3 +12,4 @@ pub mod Numbering
 pub mod Reaching
 pub mod Searching
 pub mod Visits
+pub mod Taken

@@ -3,7 +3,7 @@ use Rattle.std.proofs.Common.{ℕ, ◌<◌, List, map, subst, sym}
 use Rattle.std.specs.List.{All}
 use Rattle.std.proofs.lemmas.List.{get_or-map, length-map}
 use Rattle.plan_rules.specs.Advices.{AreCasesOf}
-use Rattle.plan_rules.specs.Plans.{IsCubeOf, IsNextOf}
+use Rattle.plan_rules.specs.Plans.{IsNextOf}
 use Rattle.plan_rules.specs.Rules.{PlanNext, always, by_cases}
 
 pub unmapped : {X Y : Type 0} (P : X → Type 0) (f : Y → X) (ys : List Y) → All P (map f ys) → All (λ y. P (f y)) ys

@@ -80,7 +80,7 @@ or_assoc : (a b c : Bool) → ((a || b) || c) ≡ (a || (b || c))
 or_assoc true b c = refl
 or_assoc false b c = refl
 
-or_false : (a : Bool) → (a || false) ≡ a
+pub or_false : (a : Bool) → (a || false) ≡ a
 or_false true = refl
 or_false false = refl
 
@@ -93,13 +93,13 @@ outcomes_lost next [] m = sym (or_false m.lost)
 outcomes_lost next (t ∷ ts) m = outcomes_lost next ts (with_outcome next m t) ∙ or_assoc m.lost (loses next t) (list_any (loses next) ts)
 
 -- one rule more
-rule_refused : (sys : System) (s : Vector) (m : Moved) (a : Advised) → (with_rule sys s m a).refused ≡ (m.refused || not (can_execute sys s a.action))
+pub rule_refused : (sys : System) (s : Vector) (m : Moved) (a : Advised) → (with_rule sys s m a).refused ≡ (m.refused || not (can_execute sys s a.action))
 rule_refused sys s m a = ap (λ b. b || not (can_execute sys s a.action)) (outcomes_refused a.next (sys.next s a.action) m)
 
 rule_next : (sys : System) (s : Vector) (m : Moved) (a : Advised) (y : Configuration) → Contains (with_rule sys s m a).next y → Contains m.next y ⊎ IsLedTo sys s a y
 rule_next sys s m a y c = ⊎_elim (λ d. inl d) (λ d. inr (record { outcome = d.0; context = d.1 })) (outcomes_next a.next (sys.next s a.action) m y c)
 
-next_rule : (sys : System) (s : Vector) (m : Moved) (a : Advised) (y : Configuration) → Contains m.next y ⊎ IsLedTo sys s a y → Contains (with_rule sys s m a).next y
+pub next_rule : (sys : System) (s : Vector) (m : Moved) (a : Advised) (y : Configuration) → Contains m.next y ⊎ IsLedTo sys s a y → Contains (with_rule sys s m a).next y
 next_rule sys s m a y c = next_outcomes a.next (sys.next s a.action) m y (⊎_elim (λ d. inl d) (λ d. inr (d.outcome, d.context)) c)
 
 rule_differ : (sys : System) (s : Vector) (m : Moved) (a : Advised) → AreDifferent m.next → AreDifferent (with_rule sys s m a).next

@@ -21,6 +21,8 @@ use Rattle.exec_graph.proofs.Lists.{Contains-head, Contains-cons, Contains-nil, 
 use Rattle.exec_graph.proofs.Listed.{AreDifferent, All-number, Contains-number, all_added_all, all_added_differ, all_added_get, all_added_length, first_differs, get-front, number-Contains, one_number, rest_differ}
 use Rattle.exec_graph.proofs.Places.{same_configuration_equal, same_configuration_refl}
 use Rattle.exec_graph.proofs.Reaching.{goes_to_state, reached_first, reached_keeps, reached_next}
+use Rattle.exec_graph.specs.Rows.{edges_of, sources}
+use Rattle.exec_graph.proofs.RowFacts.{source_from, source_means, sources_once}
 use Rattle.exec_graph.proofs.RuleMoves.{goes_next, lost_means, next_differ, next_goes, refused_means}
 
 -- `same_configuration` decides whether two configurations are the same
@@ -240,12 +242,20 @@ module _ (sys : System) (plan : PlainPlan) where
           h.1 (record { number = at.0; below = subst (λ k. at.0 < k) (sym whole) at.1; place = s.0; is = at.2; has = s.2 })),
     )
 
+    -- each follower is a configuration that was found
+    pub followers_found : (i j : ℕ) (numbers : List ℕ) → i < length draft.found → slice_get draft.next i ≡ Some numbers → Contains numbers j → j < length draft.found
+    followers_found i j numbers l at c =
+        let x = get-known draft.found i (record { state = []; context = 0 }) l in
+        let w = (d.followed i x.0 numbers x.1 at).sound j c in
+        slice_get_within draft.found j w.place w.is
+
     -- the graph of a draft
     pub record IsShownBy (graph : PlainGraph) : Type 0 where
       pub size : graph.size ≡ length draft.found
       pub configuration : (i : ℕ) → i < graph.size → slice_get draft.found i ≡ Some (graph.configuration i)
       pub initial : (i : ℕ) → graph.initial i ≡ nat_lt i (length sys.initial)
       pub next : (i : ℕ) → i < graph.size → slice_get draft.next i ≡ Some (graph.next i)
+      pub prev : (j : ℕ) → j < graph.size → graph.prev j ≡ sources (edges_of graph.next graph.size) j
       pub unexecutable : graph.unexecutable ≡ draft.unexecutable
       pub stuck : graph.stuck ≡ draft.stuck
 
@@ -281,6 +291,11 @@ module _ (sys : System) (plan : PlainPlan) where
                 subst (Contains (graph.next i)) same w.listed),
           );
           next_once = λ i l. (followed i l).once;
+          prev = λ i j lj. (
+            (λ c. source_means graph.next graph.size i j (subst (λ xs. Contains xs i) (s.prev j lj) c)),
+            (λ w. subst (λ xs. Contains xs i) (sym (s.prev j lj)) (source_from graph.next graph.size i j w.0 w.1)),
+          );
+          prev_once = λ j lj. subst (AllPairs (λ i k. i ≢ k)) (sym (s.prev j lj)) (sources_once graph.next graph.size j (λ i l. (followed i l).once));
           unexecutable = (
             (λ e. let w = bad.0 (sym s.unexecutable ∙ e) in record { place = w.0; reached = w.1; unexecutable = w.2 }),
             (λ w. s.unexecutable ∙ bad.1 (w.place, w.reached, w.unexecutable)),

@@ -1,9 +1,8 @@
 -- Visits and graphs as the code holds them.
-use Rattle.std.proofs.Common.{◌≡◌, ℕ, zero, suc, ◌<◌, ◌≤◌, ◌||◌, false, List, [], ◌∷◌, ◌++◌, length, map, slice_get, nat_lt, Some, Vec, refl, sym, ap, ◌∙◌, subst, arith, take_all, ⊎_elim}
+use Rattle.std.proofs.Common.{◌≡◌, ℕ, zero, suc, ◌<◌, ◌≤◌, ◌||◌, false, List, [], ◌∷◌, ◌++◌, length, map, slice_get, nat_lt, Some, refl, sym, ap, ◌∙◌, subst, arith, take_all, ⊎_elim}
 use Rattle.std.specs.List.{AllPairs, fold}
 use Rattle.std.specs.Option.{option_map, option_map_or}
-use Rattle.std.specs.declared.alloc.Global.{Global}
-use Rattle.std.proofs.lemmas.List.{length-map, map-append, get_or-map}
+use Rattle.std.proofs.lemmas.List.{length-map, get_or-map}
 use Rattle.std.proofs.lemmas.Option.{slice_get-map}
 use Rattle.task_core.specs.Vectors.{Vector}
 use Rattle.task_core.specs.States.{vector}
@@ -22,38 +21,41 @@ use Rattle.exec_graph.specs.Drafts.{HasTooMany, IsNumbered, IsSearched, IsVisit,
 use Rattle.exec_graph.specs.Executions.{ReachesMoreThan}
 use Rattle.exec_graph.specs.Graphs.{IsGraphOf}
 use Rattle.exec_graph.specs.Moves.{configuration_of, moves_value}
+use Rattle.exec_graph.specs.Rows.{HasRowsInside, edges_of, row_count, row_of, rows_of, sources}
+use Rattle.exec_graph.specs.declared.rows.Rows.{Rows}
+use Rattle.exec_graph.proofs.RowFacts.{firsts_get, firsts_length}
 use Rattle.exec_graph.specs.Values.{plain_graph}
 use Rattle.exec_graph.specs.declared.exploration.Draft.{Draft}
 use Rattle.exec_graph.specs.declared.graphs.Graph.{Graph}
 use Rattle.exec_graph.specs.declared.graphs.Place.{Place}
 use Rattle.exec_graph.specs.declared.moves.Moves.{Moves}
 use Rattle.exec_graph.proofs.Listed.{AreDifferent, fold_different}
-use Rattle.exec_graph.proofs.Searching.{IsShownBy, no_more, searched_first, shown_graph}
+use Rattle.exec_graph.proofs.Searching.{IsShownBy, followers_found, no_more, searched_first, shown_graph}
 
 -- the place that is visited
-place_is : (n : ℕ) (before : Draft) (place : Place) → slice_get before.places.keys (length before.next.items) ≡ Some place
+place_is : (n : ℕ) (before : Draft) (place : Place) → slice_get before.places.keys (row_count before.next) ≡ Some place
     → slice_get (draft_value n before).found (length (draft_value n before).next) ≡ Some (configuration_of n place)
 place_is n before place at =
-    ap (slice_get (draft_value n before).found) (length-map before.next.items (λ next. next.items))
-    ∙ slice_get-map (configuration_of n) before.places.keys (length before.next.items)
+    ap (slice_get (draft_value n before).found) (firsts_length (row_of before.next) (row_count before.next))
+    ∙ slice_get-map (configuration_of n) before.places.keys (row_count before.next)
     ∙ ap (option_map (configuration_of n)) at
 
 module _ (n : ℕ) (sys : System) (plan : PlainPlan) (before : Draft) (place : Place) (moves : Moves)
-    (at : slice_get before.places.keys (length before.next.items) ≡ Some place)
+    (at : slice_get before.places.keys (row_count before.next) ≡ Some place)
     (value : moves_value n moves ≡ moves_from sys plan (configuration_of n place)) where
   next_is : map (configuration_of n) moves.next.keys ≡ (moves_from sys plan (configuration_of n place)).next
   next_is = ap (λ m. m.next) value
 
-  pub visit_made : (after : Draft) (numbers : Vec ℕ Global)
-      → IsNumbered (map (configuration_of n) before.places.keys) (map (configuration_of n) moves.next.keys) (map (configuration_of n) after.places.keys) numbers.items
-      → after.next.items ≡ before.next.items ++ numbers ∷ [] → after.unexecutable ≡ (before.unexecutable || moves.refused) → after.stuck ≡ (before.stuck || moves.lost)
+  pub visit_made : (after : Draft) (numbers : List ℕ)
+      → IsNumbered (map (configuration_of n) before.places.keys) (map (configuration_of n) moves.next.keys) (map (configuration_of n) after.places.keys) numbers
+      → rows_of after.next ≡ rows_of before.next ++ numbers ∷ [] → after.unexecutable ≡ (before.unexecutable || moves.refused) → after.stuck ≡ (before.stuck || moves.lost)
       → IsVisit sys plan (draft_value n before) (draft_value n after)
   visit_made after numbers numbered next bad stuck = record {
     place = configuration_of n place;
     is = place_is n before place at;
-    numbers = numbers.items;
-    numbered = subst (λ ys. IsNumbered (map (configuration_of n) before.places.keys) ys (map (configuration_of n) after.places.keys) numbers.items) next_is numbered;
-    next = ap (map (λ next. next.items)) next ∙ map-append (λ next. next.items) before.next.items (numbers ∷ []);
+    numbers = numbers;
+    numbered = subst (λ ys. IsNumbered (map (configuration_of n) before.places.keys) ys (map (configuration_of n) after.places.keys) numbers) next_is numbered;
+    next = next;
     unexecutable = bad ∙ ap (λ m. before.unexecutable || m.refused) value;
     stuck = stuck ∙ ap (λ m. before.stuck || m.lost) value;
   }
@@ -68,9 +70,17 @@ module _ (n : ℕ) (sys : System) (plan : PlainPlan) (before : Draft) (place : P
 
 -- the graph of a draft in which every configuration was visited
 module _ (n : ℕ) (sys : System) (plan : PlainPlan) (draft : Draft) (searched : IsSearched sys plan (draft_value n draft))
-    (whole : length draft.next.items ≡ length draft.places.keys) where
+    (whole : row_count draft.next ≡ length draft.places.keys) where
   whole_is : length (draft_value n draft).next ≡ length (draft_value n draft).found
-  whole_is = length-map draft.next.items (λ next. next.items) ∙ whole ∙ sym (length-map draft.places.keys (configuration_of n))
+  whole_is = firsts_length (row_of draft.next) (row_count draft.next) ∙ whole ∙ sym (length-map draft.places.keys (configuration_of n))
+
+  -- each follower has a list
+  pub rows_inside : HasRowsInside draft.next
+  rows_inside i j l c =
+      let count : length (draft_value n draft).found ≡ row_count draft.next = length-map draft.places.keys (configuration_of n) ∙ sym whole in
+      subst (λ k. j < k) count
+      (followers_found sys plan (draft_value n draft) searched whole_is i j (row_of draft.next i) (subst (λ k. i < k) (sym count) l)
+      (firsts_get (row_of draft.next) (row_count draft.next) i l) c)
 
   read_place : (keys : List Place) (i : ℕ) → i < length keys → slice_get (map (configuration_of n) keys) i
       ≡ Some (record { state = option_map_or (λ (p : Place). vector n p.state) (slice_get keys i) []; context = option_map_or (λ (p : Place). p.context) (slice_get keys i) 0 })
@@ -78,23 +88,26 @@ module _ (n : ℕ) (sys : System) (plan : PlainPlan) (draft : Draft) (searched :
   read_place (k ∷ keys) zero h = refl
   read_place (k ∷ keys) (suc i) h = read_place keys i (omega arith)
 
-  read_next : (lists : List (Vec ℕ Global)) (i : ℕ) → i < length lists → slice_get (map (λ (v : Vec ℕ Global). v.items) lists) i
-      ≡ Some (option_map_or (λ (v : Vec ℕ Global). v.items) (slice_get lists i) [])
-  read_next [] i h = absurd (omega arith)
-  read_next (l ∷ lists) zero h = refl
-  read_next (l ∷ lists) (suc i) h = read_next lists i (omega arith)
+  size_is : (graph : Graph) → graph.places.keys ≡ draft.places.keys → graph.next ≡ draft.next → length graph.places.keys ≡ row_count graph.next
+  size_is graph places next = ap length places ∙ sym whole ∙ ap row_count (sym next)
 
   pub graph_made : (graph : Graph) → graph.places.keys ≡ draft.places.keys → graph.initials ≡ length sys.initial → graph.next ≡ draft.next
+      → (turned : Rows) → graph.prev ≡ turned → ((j : ℕ) → j < row_count draft.next → row_of turned j ≡ sources (edges_of (row_of draft.next) (row_count draft.next)) j)
       → graph.unexecutable ≡ draft.unexecutable → graph.stuck ≡ draft.stuck → IsGraphOf sys plan (plain_graph n graph)
-  graph_made graph places initials next bad stuck =
+  graph_made graph places initials next turned prev sources_are bad stuck =
       let shown : IsShownBy sys plan (draft_value n draft) searched whole_is (plain_graph n graph) = record {
         size = ap length places ∙ sym (length-map draft.places.keys (configuration_of n));
         configuration = λ i h. ap (λ keys. slice_get (map (configuration_of n) keys) i) (sym places) ∙ read_place graph.places.keys i h;
         initial = λ i. ap (nat_lt i) initials;
         next = λ i h.
-            let few : i < length graph.next.items =
-            subst (λ k. i < k) (ap length places ∙ sym whole ∙ ap (λ v. length v.items) (sym next)) h in
-            ap (λ v. slice_get (map (λ (w : Vec ℕ Global). w.items) v.items) i) (sym next) ∙ read_next graph.next.items i few;
+            ap (λ rows. slice_get (rows_of rows) i) (sym next)
+            ∙ firsts_get (row_of graph.next) (row_count graph.next) i (subst (λ k. i < k) (size_is graph places next) h);
+        prev = λ j h.
+            let e : row_count draft.next ≡ length graph.places.keys = whole ∙ ap length (sym places) in
+            ap (λ rows. row_of rows j) prev
+            ∙ sources_are j (subst (λ k. j < k) (sym e) h)
+            ∙ ap (λ rows. sources (edges_of (row_of rows) (row_count draft.next)) j) (sym next)
+            ∙ ap (λ k. sources (edges_of (row_of graph.next) k) j) e;
         unexecutable = bad;
         stuck = stuck;
       } in
@@ -128,9 +141,9 @@ module _ (n : ℕ) (sys : System) (states : List State) (initial : map (vector n
   count_is = sym (length-map states (vector n)) ∙ ap length initial
 
   pub first_draft : (plan : PlainPlan) → IsSystem sys → (draft : Draft) → map (configuration_of n) draft.places.keys ≡ fold add_configuration [] (beginnings n states)
-      → draft.next.items ≡ [] → draft.unexecutable ≡ false → draft.stuck ≡ false → IsSearched sys plan (draft_value n draft)
+      → rows_of draft.next ≡ [] → draft.unexecutable ≡ false → draft.stuck ≡ false → IsSearched sys plan (draft_value n draft)
   first_draft plan ok draft places next bad stuck =
-      searched_first sys plan ok (firsts_differ sys.initial differ) (draft_value n draft) (places ∙ firsts_are) (ap (map (λ next. next.items)) next) bad stuck
+      searched_first sys plan ok (firsts_differ sys.initial differ) (draft_value n draft) (places ∙ firsts_are) next bad stuck
 
   pub first_count : (draft : Draft) → map (configuration_of n) draft.places.keys ≡ fold add_configuration [] (beginnings n states) → length draft.places.keys ≡ length sys.initial
   first_count draft places =

@@ -1,9 +1,9 @@
 -- Private: the rules of a plan that count in a configuration, and what each of them leads to, as
 -- lists.
-use Rattle.std.specs.Prelude.{ℕ, ◌<◌, Bool, false, true, not, ◌||◌, ◌&&◌, ◌==◌, List, [], ◌∷◌, ◌++◌}
-use Rattle.std.specs.Prelude.{map, All, ⊤, Option, Some, None, is_some, option_to_list, find}
+use Rattle.std.specs.Prelude.{◌≡◌, ℕ, ◌<◌, Bool, false, true, not, ◌||◌, ◌&&◌, ◌==◌, List, [], ◌∷◌, ◌++◌}
+use Rattle.std.specs.Prelude.{Option, Some, None, is_some, option_to_list, find, slice_index_or}
 use Rattle.std.specs.Prelude.{if◌then◌else◌}
-use Rattle.std.specs.List.{fold, list_any}
+use Rattle.std.specs.List.{Contains, fold, list_any}
 use Rattle.std.specs.Option.{option_map}
 use Rattle.task_core.specs.Vectors.{Vector, same_vector}
 use Rattle.task_core.specs.Systems.{System}
@@ -12,8 +12,8 @@ use Rattle.task_core.specs.Cubes.{matches}
 use Rattle.plan_rules.specs.Advices.{Advised, AreCasesOf, advised_by}
 use Rattle.plan_rules.specs.Denoted.{can_execute, next_context, rule_at}
 use Rattle.plan_rules.specs.Plans.{IsCubeOf}
-use Rattle.plan_rules.specs.Rules.{PlanRule, PlanCase, PlanNext, ContextRule, PlainPlan, always}
-use Rattle.plan_rules.specs.Rules.{by_cases, case_of, table, automaton}
+use Rattle.plan_rules.specs.Rules.{PlanRule, PlanNext, ContextRule, PlainPlan, always}
+use Rattle.plan_rules.specs.Rules.{table, automaton}
 
 -- Private: what a rule of a table says; it keeps the first context
 abbrev pub advised_in_table : PlanRule → Advised
@@ -69,6 +69,17 @@ moves_by sys s (Some a) = with_rule sys s (no_moves false) a
 abbrev pub with_table_rule : System → Vector → Moved → PlanRule → Moved
 with_table_rule sys s m rule =
     if matches rule.cube s then with_rule sys s m (advised_in_table rule) else m
+
+-- Private: the moves already have those by an action that keeps the first context
+pub record HasTaken (sys : System) (s : Vector) (m : Moved) (action : ℕ) : Type 0 where
+  pub next : (t : Vector) → Contains (sys.next s action) t
+      → Contains m.next (record { state = t; context = first_context })
+  pub refused : can_execute sys s action ≡ false → m.refused ≡ true
+
+-- Private: they have those by each action that is marked
+abbrev pub HaveTaken : System → Vector → Moved → List Bool → Type 0
+HaveTaken sys s m taken =
+    (action : ℕ) → slice_index_or taken action false ≡ true → HasTaken sys s m action
 
 -- Private: the moves by the rules of a table
 abbrev pub moves_in_table : System → Vector → List PlanRule → Moved

@@ -12,6 +12,7 @@ use Rattle.plan_rules.specs.Rules.{PlainPlan}
 use Rattle.exec_graph.specs.Counting.{add_configuration, moves_from}
 use Rattle.exec_graph.specs.Executions.{GoesTo, IsReachedBy, IsStuckAt, IsUnexecutableAt}
 use Rattle.exec_graph.specs.Moves.{IsPlaceWithin, configuration_of}
+use Rattle.exec_graph.specs.Rows.{rows_of}
 use Rattle.exec_graph.specs.declared.exploration.Draft.{Draft}
 
 -- Private: a state in the first context
@@ -33,7 +34,7 @@ pub record PlainDraft : Type 0 where
 abbrev pub draft_value : ℕ → Draft → PlainDraft
 draft_value n draft = record {
   found = map (configuration_of n) draft.places.keys;
-  next = map (λ next. next.items) draft.next.items;
+  next = rows_of draft.next;
   unexecutable = draft.unexecutable;
   stuck = draft.stuck;
 }

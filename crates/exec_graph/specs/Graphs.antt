@@ -7,13 +7,14 @@ use Rattle.plan_rules.specs.Rules.{PlainPlan}
 use Rattle.exec_graph.specs.Executions.{GoesTo, IsReachedBy, MayBeStuck, MayBeUnexecutable}
 
 -- a graph as plain data. Its nodes are the numbers below `size`: each has a configuration, a mark
--- whether an execution may begin there, and the list of the numbers that follow it. Two marks are
--- of the whole graph.
+-- whether an execution may begin there, the list of the numbers that follow it and the list of
+-- those that it follows. Two marks are of the whole graph.
 pub record PlainGraph : Type 0 where
   pub size : ℕ
   pub configuration : ℕ → Configuration
   pub initial : ℕ → Bool
   pub next : ℕ → List ℕ
+  pub prev : ℕ → List ℕ
   pub unexecutable : Bool
   pub stuck : Bool
 
@@ -38,6 +39,10 @@ pub record IsGraphOf (sys : System) (plan : PlainPlan) (graph : PlainGraph) : Ty
   pub next : (i j : ℕ) → i < graph.size → j < graph.size
       → Contains (graph.next i) j ↔ GoesTo sys plan (graph.configuration i) (graph.configuration j)
   pub next_once : (i : ℕ) → i < graph.size → AllPairs (λ j k. j ≢ k) (graph.next i)
+  -- before each come exactly those that it follows, each once
+  pub prev : (i j : ℕ) → j < graph.size
+      → Contains (graph.prev j) i ↔ (i < graph.size) × Contains (graph.next i) j
+  pub prev_once : (j : ℕ) → j < graph.size → AllPairs (λ i k. i ≢ k) (graph.prev j)
   -- whether some rule counts where it can't be followed, and whether the plan may get stuck
   pub unexecutable : IsTrue graph.unexecutable ↔ MayBeUnexecutable sys plan
   pub stuck : IsTrue graph.stuck ↔ MayBeStuck sys plan

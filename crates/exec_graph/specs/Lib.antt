@@ -6,3 +6,4 @@ pub mod Counting
 pub mod ByContext
 pub mod Moves
 pub mod Drafts
+pub mod Rows

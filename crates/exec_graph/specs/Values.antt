@@ -5,6 +5,7 @@ use Rattle.std.specs.Option.{option_map_or}
 use Rattle.task_core.specs.Vectors.{Vector}
 use Rattle.task_core.specs.States.{IsWithin, vector}
 use Rattle.exec_graph.specs.Graphs.{PlainGraph}
+use Rattle.exec_graph.specs.Rows.{row_of}
 use Rattle.exec_graph.specs.declared.graphs.Place.{Place}
 use Rattle.exec_graph.specs.declared.graphs.Graph.{Graph}
 
@@ -22,9 +23,12 @@ abbrev pub context_at : Graph → ℕ → ℕ
 context_at graph i =
     option_map_or (λ (place : Place). place.context) (slice_get graph.places.keys i) 0
 
--- the numbers of those that follow it; none past the last one
+-- the numbers of those that follow it, and of those that it follows
 abbrev pub followers_at : Graph → ℕ → List ℕ
-followers_at graph i = option_map_or (λ next. next.items) (slice_get graph.next.items i) []
+followers_at graph = row_of graph.next
+
+abbrev pub predecessors_at : Graph → ℕ → List ℕ
+predecessors_at graph = row_of graph.prev
 
 -- the graph over n fluents
 abbrev pub plain_graph : ℕ → Graph → PlainGraph
@@ -33,6 +37,7 @@ plain_graph n graph = record {
   configuration = λ i. record { state = state_at n graph i; context = context_at graph i };
   initial = λ i. nat_lt i graph.initials;
   next = followers_at graph;
+  prev = predecessors_at graph;
   unexecutable = graph.unexecutable;
   stuck = graph.stuck;
 }

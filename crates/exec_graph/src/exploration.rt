@@ -4,6 +4,7 @@ ghost use Rattle.std.specs.Prelude.{
   ◌≡◌,
   ◌<◌,
   ◌≤◌,
+  ◌+◌,
   ℕ,
   All,
   IfOk,
@@ -39,10 +40,12 @@ ghost use Rattle.exec_graph.specs.Executions.{ReachesMoreThan};
 ghost use Rattle.exec_graph.specs.Graphs.{IsGraphOf};
 ghost use Rattle.exec_graph.specs.Initials.{HasTooManyInitial};
 ghost use Rattle.exec_graph.specs.Moves.{IsPlaceWithin, configuration_of};
+ghost use Rattle.exec_graph.specs.Rows.{AreRows, row_count, rows_of};
 ghost use Rattle.exec_graph.specs.Values.{IsWithinFluents, plain_graph};
 
 use crate::graphs::{Graph, Place};
 use crate::moves::{moves_of, number_of};
+use crate::rows::{Rows, turned};
 use crate::rules::{ByContext, by_context};
 use indexmap::IndexSet;
 use plan_rules::{FIRST_CONTEXT, Plan};
@@ -82,7 +85,7 @@ impl From<AllocError> for GraphErr {
 #[derive(Drop)]
 pub(crate) struct Draft {
     pub(crate) places: IndexSet<Place>,
-    pub(crate) next: Vec<Vec<u32>>,
+    pub(crate) next: Rows,
     pub(crate) unexecutable: bool,
     pub(crate) stuck: bool,
 }
@@ -113,12 +116,13 @@ pub fn explore(alloc: Global, task: &Task, plan: &Plan) -> Result<Graph, GraphEr
     let index = index_of(alloc, plan)?;
     let mut draft = Draft {
         places: first_places(alloc, &states)?,
-        next: Vec::new(alloc),
+        next: Rows::new(alloc)?,
         unexecutable: false,
         stuck: false,
     };
     draft.visit_all(alloc, task, plan, &index)?;
-    Ok(draft.into_graph(states.len()))
+    let prev = turned(alloc, &draft.next)?;
+    Ok(draft.into_graph(prev, states.len()))
 }
 
 impl Draft {
@@ -132,13 +136,15 @@ impl Draft {
     ) -> Result<(), GraphErr>
         requires plan_of_task { IsPlanOf (fluent_count task.now) (action_count task.now) plan.now }
         requires index { IsIndexOf plan.now index.now }
+        requires rows { AreRows self.old.next }
         requires within { IsDraftWithin (fluent_count task.now) self.old }
         requires few { length self.old.places.keys ≤ 262144 }
         requires searched { IsSearched (system_of task.now) (plain_of plan.now)
             (draft_value (fluent_count task.now) self.old) }
         ensures searched { OnOk result (IsSearched (system_of task.now) (plain_of plan.now)
             (draft_value (fluent_count task.now) self.new)) }
-        ensures whole { OnOk result (length self.new.next.items ≡ length self.new.places.keys) }
+        ensures rows { OnOk result (AreRows self.new.next) }
+        ensures whole { OnOk result (row_count self.new.next ≡ length self.new.places.keys) }
         ensures within { OnOk result (IsDraftWithin (fluent_count task.now) self.new) }
         ensures few { OnOk result (length self.new.places.keys ≤ 262144) }
         ensures too_large { IsErrOf result GraphErr.TooLarge
@@ -161,12 +167,15 @@ impl Draft {
     ) -> Result<(), GraphErr>
         requires plan_of_task { IsPlanOf (fluent_count task.now) (action_count task.now) plan.now }
         requires index { IsIndexOf plan.now index.now }
+        requires rows { AreRows self.old.next }
         requires within { IsDraftWithin (fluent_count task.now) self.old }
         requires few { length self.old.places.keys ≤ 262144 }
-        requires left { length self.old.next.items < length self.old.places.keys }
+        requires left { row_count self.old.next < length self.old.places.keys }
         ensures visit { let n = fluent_count task.now in OnOk result
             (IsVisit (system_of task.now) (plain_of plan.now)
             (draft_value n self.old) (draft_value n self.new)) }
+        ensures count { OnOk result (row_count self.new.next ≡ row_count self.old.next + 1) }
+        ensures rows { OnOk result (AreRows self.new.next) }
         ensures within { OnOk result (IsDraftWithin (fluent_count task.now) self.new) }
         ensures few { OnOk result (length self.new.places.keys ≤ 262144) }
         ensures too_large { IsErrOf result GraphErr.TooLarge
@@ -177,14 +186,18 @@ impl Draft {
         let place = self.places[self.next.len()];
         let moves = moves_of(alloc, task, plan, index, &place)?;
         let numbers = numbers_of(alloc, &mut self.places, moves.next.as_slice())?;
-        self.note(numbers, moves.refused, moves.lost)?;
+        self.note(&numbers, moves.refused, moves.lost)?;
         Ok(())
     }
 
     /// Notes what was found of the configuration that is being visited.
-    fn note(&mut self, numbers: Vec<u32>, refused: bool, lost: bool) -> Result<(), AllocError>
+    fn note(&mut self, numbers: &[u32], refused: bool, lost: bool) -> Result<(), AllocError>
+        requires { AreRows self.old.next }
         ensures places { OnOk result (self.new.places ≡ self.old.places) }
-        ensures next { OnOk result (self.new.next.items ≡ self.old.next.items ++ numbers ∷ []) }
+        ensures rows { OnOk result (AreRows self.new.next) }
+        ensures next { OnOk result
+            (rows_of self.new.next ≡ rows_of self.old.next ++ numbers.now ∷ []) }
+        ensures count { OnOk result (row_count self.new.next ≡ row_count self.old.next + 1) }
         ensures unexecutable { OnOk result
             (self.new.unexecutable ≡ (self.old.unexecutable || refused)) }
         ensures stuck { OnOk result (self.new.stuck ≡ (self.old.stuck || lost)) }
@@ -196,12 +209,16 @@ impl Draft {
     }
 
     /// The graph, of which so many configurations are initial.
-    fn into_graph(self, initials: usize) -> Graph
+    fn into_graph(self, prev: Rows, initials: usize) -> Graph
         requires few { length self.places.keys ≤ 262144 }
-        requires whole { length self.next.items ≡ length self.places.keys }
+        requires next { AreRows self.next }
+        requires each_has_next { row_count self.next ≡ length self.places.keys }
+        requires prev { AreRows prev }
+        requires each_has_prev { row_count prev ≡ length self.places.keys }
         ensures places { result.places.keys ≡ self.places.keys }
         ensures initials { result.initials ≡ initials }
         ensures next { result.next ≡ self.next }
+        ensures prev { result.prev ≡ prev }
         ensures unexecutable { result.unexecutable ≡ self.unexecutable }
         ensures stuck { result.stuck ≡ self.stuck }
     {
@@ -215,6 +232,7 @@ impl Draft {
             places,
             initials,
             next,
+            prev,
             unexecutable,
             stuck,
         }

@@ -1,7 +1,9 @@
 //! Graphs of plans.
 
-ghost use Rattle.std.specs.Prelude.{◌≡◌, ◌<◌, ◌≤◌, ℕ, IsTrue, length};
+ghost use Rattle.std.specs.Prelude.{◌≡◌, ◌<◌, ◌≤◌, ◌+◌, ℕ, IsTrue, length};
+ghost use Rattle.exec_graph.specs.Rows.{IsRowed};
 
+use crate::rows::Rows;
 use indexmap::IndexSet;
 use task_core::State;
 
@@ -14,17 +16,21 @@ pub(crate) struct Place {
 
 /// The graph of a plan in a task: the configurations that the plan may reach, numbered from 0 in
 /// the order in which they were found, the initial ones first, and for each the numbers of those
-/// that may follow it.
+/// that may follow it and of those that it may follow.
 #[derive(Drop)]
 pub struct Graph {
     pub(crate) places: IndexSet<Place>,
     // The first so many are the initial ones.
     pub(crate) initials: usize,
-    pub(crate) next: Vec<Vec<u32>>,
+    pub(crate) next: Rows,
+    pub(crate) prev: Rows,
     pub(crate) unexecutable: bool,
     pub(crate) stuck: bool,
     pub(crate) ghost few: { length places.keys ≤ 262144 },
-    pub(crate) ghost each_has_next: { length next.items ≡ length places.keys },
+    pub(crate) ghost next_rows: { IsRowed next.starts.items next.numbers.items },
+    pub(crate) ghost each_has_next: { length next.starts.items ≡ length places.keys + 1 },
+    pub(crate) ghost prev_rows: { IsRowed prev.starts.items prev.numbers.items },
+    pub(crate) ghost each_has_prev: { length prev.starts.items ≡ length places.keys + 1 },
 }
 
 impl Graph {
@@ -71,7 +77,15 @@ impl Graph {
         requires { i < graph_size self.now }
         ensures { (n : ℕ) → (plain_graph n self.now).next i ≡ result.now }
     {
-        &self.next[i as usize]
+        self.next.row(i as usize)
+    }
+
+    /// The numbers of the configurations that the one of this number may follow, each once.
+    pub fn prev(&self, i: u32) -> &[u32]
+        requires { i < graph_size self.now }
+        ensures { (n : ℕ) → (plain_graph n self.now).prev i ≡ result.now }
+    {
+        self.prev.row(i as usize)
     }
 
     /// Whether in some configuration a rule counts whose action can't be executed there. In a table

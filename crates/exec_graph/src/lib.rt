@@ -10,6 +10,7 @@
 mod exploration;
 mod graphs;
 mod moves;
+mod rows;
 mod rules;
 #[cfg(test)]
 mod tests;

@@ -16,6 +16,7 @@ ghost use Rattle.std.specs.Prelude.{
   IsTrue,
   ◌↔◌,
   slice_get,
+  slice_index_or,
   Some,
 };
 ghost use Rattle.std.specs.List.{filter, fold};
@@ -33,7 +34,7 @@ ghost use Rattle.plan_rules.specs.Denoted.{can_execute};
 ghost use Rattle.plan_rules.specs.Plans.{IsPlanOf, IsRuleOf};
 ghost use Rattle.plan_rules.specs.Rules.{plain_of, rule_of};
 ghost use Rattle.exec_graph.specs.ByContext.{IsIndexOf};
-ghost use Rattle.exec_graph.specs.Counting.{add_configuration, moves_by, moves_from, moves_in_table, no_moves, with_outcome, with_rule, with_table_rule};
+ghost use Rattle.exec_graph.specs.Counting.{HaveTaken, add_configuration, moves_by, moves_from, moves_in_table, no_moves, with_outcome, with_rule, with_table_rule};
 ghost use Rattle.plan_rules.specs.Advices.{AreCasesOf, IsAdviceOf, advice_value, onward_value};
 ghost use Rattle.exec_graph.specs.Moves.{AreWithin, IsPlaceWithin, configuration_of, moves_value};
 
@@ -89,29 +90,47 @@ impl Moves {
         }
     }
 
-    // Adds the moves by a rule of a table, if it matches the state.
-    fn add_matching(&mut self, task: &Task, state: &State, rule: &Rule) -> Result<(), AllocError>
+    // Adds the moves by a rule of a table, if it matches the state. An action that was taken there
+    // is passed over: it leads to nothing new.
+    fn add_matching(
+        &mut self,
+        task: &Task,
+        state: &State,
+        rule: &Rule,
+        taken: &mut Vec<bool>,
+    ) -> Result<(), AllocError>
         requires in_task { let n = fluent_count task.now in let m = action_count task.now in
             IsRuleOf n m (rule_of rule.now) }
         requires within { IsWithin (fluent_count task.now) state.now }
         requires next_within { AreWithin (fluent_count task.now) self.old }
+        requires count { length taken.old.items ≡ action_count task.now }
+        requires taken { let n = fluent_count task.now in HaveTaken (system_of task.now)
+            (vector n state.now) (moves_value n self.old) taken.old.items }
         ensures value { let n = fluent_count task.now in OnOk result (moves_value n self.new
             ≡ with_table_rule (system_of task.now) (vector n state.now) (moves_value n self.old)
             (rule_of rule.now)) }
         ensures next_within { OnOk result (AreWithin (fluent_count task.now) self.new) }
+        ensures count { OnOk result (length taken.new.items ≡ action_count task.now) }
+        ensures taken { let n = fluent_count task.now in OnOk result (HaveTaken
+            (system_of task.now) (vector n state.now) (moves_value n self.new) taken.new.items) }
     {
-        if has_all(task, &rule.cube, state) {
-            self.add_rule(
-                task,
-                state,
-                &Advice {
-                    action: rule.action,
-                    onward: Onward::Always(FIRST_CONTEXT),
-                },
-            )
-        } else {
-            Ok(())
+        let action = rule.action.0 as usize;
+        if taken[action] {
+            return Ok(());
         }
+        if !has_all(task, &rule.cube, state) {
+            return Ok(());
+        }
+        taken[action] = true;
+        self.add_rule(
+            task,
+            state,
+            &Advice {
+                action: rule.action,
+                onward: Onward::Always(FIRST_CONTEXT),
+            },
+        )?;
+        Ok(())
     }
 
     // Adds the moves by a rule whose action can be executed.
@@ -231,10 +250,20 @@ fn table_moves(
     ensures within { IfOk result (AreWithin (fluent_count task.now)) }
 {
     let mut moves = Moves::none(alloc, false);
+    let mut taken = no_actions(alloc, task)?;
     for rule in rules {
-        moves.add_matching(task, state, rule)?;
+        moves.add_matching(task, state, rule, &mut taken)?;
     }
     Ok(moves)
+}
+
+/// A mark for each action, which it doesn't have yet.
+fn no_actions(alloc: Global, task: &Task) -> Result<Vec<bool>, AllocError>
+    ensures count { IfOk result (λ marks. length marks.items ≡ action_count task.now) }
+    ensures none { IfOk result (λ marks. (a : ℕ) → a < action_count task.now
+        → slice_index_or marks.items a false ≡ false) }
+{
+    vec![in alloc; false; task.actions.len()]
 }
 
 /// The number of a configuration in a set of them, to which it is added if it isn't there.

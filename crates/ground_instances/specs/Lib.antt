@@ -2,5 +2,6 @@ pub mod Atoms
 pub mod Counts
 pub mod Entering
 pub mod Kept
+pub mod Settled
 pub mod Tables
 pub mod Values

@@ -12,6 +12,7 @@ mod changed;
 mod instances;
 mod objects;
 mod setting;
+mod settled;
 mod sizes;
 mod values;
 

@@ -22,14 +22,14 @@ pub enum Value {
 }
 
 /// The value of a formula that is known to be true or to be false.
-fn certainly(holds: bool) -> Value
+pub(crate) fn certainly(holds: bool) -> Value
     ensures { known_value result ≡ Some holds }
 {
     if holds { Value::Yes } else { Value::No }
 }
 
 /// What is known of "both".
-fn both(first: Value, second: Value) -> Value
+pub(crate) fn both(first: Value, second: Value) -> Value
     ensures { known_value result ≡ value_and (known_value first) (known_value second) }
 {
     match (first, second) {
@@ -47,7 +47,7 @@ fn either(first: Value, second: Value) -> Value
 }
 
 /// What is known of "not".
-fn opposite(value: Value) -> Value
+pub(crate) fn opposite(value: Value) -> Value
     ensures { known_value result ≡ value_not (known_value value) }
 {
     match value {
@@ -76,8 +76,9 @@ impl Setting {
         Ok(certainly(self.is_fact(&atom)))
     }
 
-    /// The value of a formula where the variables in scope stand for these objects. The scope is
-    /// afterwards as it was before. Fails only where memory runs out, or where a quantifier has
+    /// The value of a formula where the variables in scope stand for these objects. A quantifier
+    /// whose value doesn't depend on its own variables is decided without binding them. The scope
+    /// is afterwards as it was before. Fails only where memory runs out, or where a quantifier has
     /// more than 1,000,000 bindings, which no formula within the limit of size has.
     pub fn value(
         &self,
@@ -124,6 +125,9 @@ impl Setting {
                 Ok(either(opposite(premise), conclusion))
             }
             Formula::Exists(types, part) => {
+                if let Some(known) = self.settled(alloc, formula, scope)? {
+                    return Ok(known);
+                }
                 let count = self.few_bindings(types)?;
                 let outer = scope.len();
                 let mut known = Value::No;
@@ -138,6 +142,9 @@ impl Setting {
                 Ok(known)
             }
             Formula::Forall(types, part) => {
+                if let Some(known) = self.settled(alloc, formula, scope)? {
+                    return Ok(known);
+                }
                 let count = self.few_bindings(types)?;
                 let outer = scope.len();
                 let mut known = Value::Yes;

@@ -1,7 +1,7 @@
 -- Counts that stand at a bound: a part that stands there gives the same whole.
-use Rattle.std.proofs.Common.{◌≡◌, ℕ, zero, suc, ◌+◌, ◌*◌, ◌^◌, ◌<◌, ◌≤◌, List, [], ◌∷◌, length, get_or, drop, min, refl, ap, sym, subst, ◌∙◌, arith, ◌⊎◌, inl, inr}
+use Rattle.std.proofs.Common.{◌≡◌, ℕ, zero, suc, ◌+◌, ◌*◌, ◌^◌, ◌<◌, ◌≤◌, min, ap, sym, ◌∙◌, arith, inl, inr}
 use Rattle.std.proofs.lemmas.Bool.{cases_lt}
-use Rattle.std.proofs.Math.Nat.{min-eq_left, min-eq_right, mul-le-mul_right, mul_comm, mul_assoc, mul-suc, mul-zero, pow-suc, pow-zero}
+use Rattle.std.proofs.Math.Nat.{min-eq_left, mul_comm, mul_assoc, mul-suc, mul-zero, pow-suc, pow-zero}
 use Rattle.ground_instances.specs.Counts.{shown}
 use Rattle.ground_task.specs.Capped.{capped}
 

@@ -1,5 +1,5 @@
 -- What is collected: nothing else than what is named, and all of it where there aren't too many.
-use Rattle.std.proofs.Common.{◌≡◌, ℕ, ◌+◌, ◌<◌, ◌≤◌, Bool, true, false, ◌||◌, List, [], ◌∷◌, ◌++◌, length, refl, ap, sym, ◌∙◌, arith, if◌then◌else◌}
+use Rattle.std.proofs.Common.{◌≡◌, ◌≤◌, Bool, true, false, ◌||◌, List, [], ◌∷◌, ◌++◌, length, refl, ap, sym, ◌∙◌, arith, if◌then◌else◌}
 use Rattle.std.specs.Prelude.{nat_lt}
 use Rattle.std.proofs.lemmas.Bool.{le-ltb, ltb-false}
 use Rattle.std.proofs.lemmas.List.{length-append}
@@ -75,7 +75,7 @@ longer : (t atoms : List AtomTree) → length t ≤ length (collected t atoms)
 longer t [] = omega arith
 longer t (x ∷ atoms) = omega (arith, one_longer t x, longer (with_atom t x) atoms)
 
-still_few : (t atoms : List AtomTree) → nat_lt 256 (length (collected t atoms)) ≡ false → nat_lt 256 (length t) ≡ false
+pub still_few : (t atoms : List AtomTree) → nat_lt 256 (length (collected t atoms)) ≡ false → nat_lt 256 (length t) ≡ false
 still_few t atoms few =
     let small : length (collected t atoms) ≤ 256 = ltb-false 256 (length (collected t atoms)) few in
     le-ltb 256 (length t) (omega (arith, longer t atoms))

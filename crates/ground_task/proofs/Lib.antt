@@ -1,10 +1,10 @@
 pub mod AtomLemmas
 pub mod BindingLemmas
-pub mod BuiltLemmas
 pub mod Capping
 pub mod CollectedLemmas
 pub mod ConditionLemmas
 pub mod CountLemmas
+pub mod DraftLemmas
 pub mod EffectLemmas
 pub mod FactLemmas
 pub mod FoundLemmas
@@ -15,4 +15,5 @@ pub mod NamingLemmas
 pub mod NumberedLemmas
 pub mod OrderLemmas
 pub mod PartLemmas
+pub mod PartTrees
 pub mod WordLemmas

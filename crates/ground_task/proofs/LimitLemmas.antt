@@ -1,5 +1,5 @@
 -- The first limit that is passed, from what is known of each in their order.
-use Rattle.std.proofs.Common.{◌≡◌, Bool, true, false, not, cond, Option, Some, None, refl, ap, sym, ◌∙◌}
+use Rattle.std.proofs.Common.{◌≡◌, Bool, true, false, not, cond, Option, Some, None, refl, ap, ◌∙◌}
 use Rattle.pddl_ast.specs.Trees.{DomainTree, ProblemTree}
 use Rattle.pddl_system.specs.Sizes.{Limit, object_limit, size_limit, instance_limit, action_limit, outcome_limit, fluent_limit, first_passed, keeps}
 use Rattle.ground_task.specs.Limits.{KeepsFirst}

@@ -1,13 +1,11 @@
 -- Atoms collected part by part.
-use Rattle.std.proofs.Common.{add-one, arith, zero, suc, Option, Some, ◌≡◌, ℕ, ◌+◌, ◌<◌, ◌≤◌, Bool, true, false, ◌||◌, List, [], ◌∷◌, ◌++◌, map, length, get_or, drop, refl, ap, sym, ◌∙◌, if◌then◌else◌}
+use Rattle.std.proofs.Common.{add-one, arith, zero, suc, Option, Some, ◌≡◌, ℕ, ◌+◌, ◌<◌, ◌≤◌, true, ◌||◌, List, [], ◌∷◌, ◌++◌, map, length, get_or, drop, refl, ap, sym, ◌∙◌, if◌then◌else◌}
 use Rattle.std.specs.Prelude.{nat_lt}
 use Rattle.std.specs.List.{flat_map}
 use Rattle.std.proofs.lemmas.List.{at_drop_more, at_drop_all, length-map}
 use Rattle.std.proofs.lemmas.List.Sums.{fold-append}
-use Rattle.pddl_ast.specs.Trees.{AtomTree, EffectTree, effect_row}
-use Rattle.pddl_system.specs.Fluents.{named_by_effect, named_by_effects}
+use Rattle.pddl_ast.specs.Trees.{AtomTree}
 use Rattle.pddl_system.specs.GroundAtoms.{is_among}
-use Rattle.pddl_system.specs.Settings.{Setting}
 use Rattle.ground_task.specs.Collecting.{collected, with_atom}
 
 pub collected-append : (t xs ys : List AtomTree) → collected t (xs ++ ys) ≡ collected (collected t xs) ys
@@ -33,23 +31,23 @@ collect_step f xs i d t grown whole within grows so_far =
 pub collect_end : {X : Type 0} (f : X → List AtomTree) (xs : List X) (i : ℕ) (t whole : List AtomTree) → length xs ≤ i → collected t (flat_map f (drop i xs)) ≡ whole → t ≡ whole
 collect_end f xs i t whole past so_far = sym (ap (collected t) (at_drop_all (flat_map f) xs i past)) ∙ so_far
 
-pub effects_are : {X : Type 0} (at : Setting) (read : X → EffectTree) (es : List X) (scope : List ℕ) → named_by_effects at (effect_row (map read es)) scope ≡ flat_map (λ e. named_by_effect at (read e) scope) es
-effects_are at read [] scope = refl
-effects_are at read (e ∷ es) scope = ap (λ l. named_by_effect at (read e) scope ++ l) (effects_are at read es scope)
-
 -- the next of a list that is numbered by another
-pub turn : {X Y : Type 0} (f : X → Option Y) (xs : List X) (ys : List Y) (i : ℕ) (x : X) → map f xs ≡ map Some ys → i < length xs → x ≡ get_or xs i x
-    → (y : Y) × (f x ≡ Some y) × (drop i ys ≡ y ∷ drop (suc i) ys)
-turn f [] ys i x same within is = absurd (omega arith)
-turn f (z ∷ xs) [] i x same within is = cc
-turn f (z ∷ xs) (y ∷ ys) zero x same within is = (y, ap f is ∙ head_of (f z) (Some y) (map f xs) (map Some ys) same, refl)
+pub turn_by : {X Y Z : Type 0} (f : X → Z) (g : Y → Z) (xs : List X) (ys : List Y) (i : ℕ) (x : X) → map f xs ≡ map g ys → i < length xs → x ≡ get_or xs i x
+    → (y : Y) × (f x ≡ g y) × (drop i ys ≡ y ∷ drop (suc i) ys)
+turn_by f g [] ys i x same within is = absurd (omega arith)
+turn_by f g (z ∷ xs) [] i x same within is = cc
+turn_by f g (z ∷ xs) (y ∷ ys) zero x same within is = (y, ap f is ∙ head_of (f z) (g y) (map f xs) (map g ys) same, refl)
   where
     head_of : {B : Type 0} (a b : B) (l m : List B) → a ∷ l ≡ b ∷ m → a ≡ b
     head_of a b l m e = cc
-turn f (z ∷ xs) (y ∷ ys) (suc i) x same within is = turn f xs ys i x (tail_of (f z) (Some y) (map f xs) (map Some ys) same) (omega arith) is
+turn_by f g (z ∷ xs) (y ∷ ys) (suc i) x same within is = turn_by f g xs ys i x (tail_of (f z) (g y) (map f xs) (map g ys) same) (omega arith) is
   where
     tail_of : {B : Type 0} (a b : B) (l m : List B) → a ∷ l ≡ b ∷ m → l ≡ m
     tail_of a b l m e = cc
+
+pub turn : {X Y : Type 0} (f : X → Option Y) (xs : List X) (ys : List Y) (i : ℕ) (x : X) → map f xs ≡ map Some ys → i < length xs → x ≡ get_or xs i x
+    → (y : Y) × (f x ≡ Some y) × (drop i ys ≡ y ∷ drop (suc i) ys)
+turn f = turn_by f Some
 
 pub same_length : {X Y : Type 0} (f : X → Option Y) (xs : List X) (ys : List Y) → map f xs ≡ map Some ys → length xs ≡ length ys
 same_length f xs ys same = sym (length-map xs f) ∙ ap length same ∙ length-map ys Some

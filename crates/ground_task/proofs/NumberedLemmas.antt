@@ -1,14 +1,14 @@
 -- Instances by the numbers of their actions.
-use Rattle.std.proofs.Common.{◌≡◌, ℕ, zero, suc, ◌+◌, ◌<◌, ◌≤◌, Bool, true, false, ◌&&◌, List, [], ◌∷◌, map, length, get_or, drop, Option, Some, None, refl, ap, sym, ◌∙◌, arith, add-one}
+use Rattle.std.proofs.Common.{◌≡◌, ℕ, zero, suc, ◌+◌, ◌<◌, Bool, true, false, ◌&&◌, List, [], ◌∷◌, map, length, get_or, drop, Some, ap, sym, ◌∙◌, arith, add-one}
 use Rattle.std.specs.Prelude.{nat_le, slice_get}
 use Rattle.std.specs.List.{list_all}
 use Rattle.std.specs.Option.{option_map}
-use Rattle.std.proofs.lemmas.List.{get_or-map, at_drop_all, length-map}
+use Rattle.std.proofs.lemmas.List.{get_or-map, length-map}
 use Rattle.pddl_ast.specs.Trees.{SchemaTree, DomainTree}
 use Rattle.pddl_system.specs.Instances.{Instance as InstanceTree}
 use Rattle.pddl_system.specs.Outcomes.{outcomes_of}
 use Rattle.pddl_system.specs.Settings.{Setting}
-use Rattle.pddl_system.specs.Sizes.{most_outcomes_of_one, outcome_count}
+use Rattle.pddl_system.specs.Sizes.{most_outcomes_of_one}
 use Rattle.pddl_system.proofs.Counts.{outcomes_are_counted}
 use Rattle.ground_instances.specs.Kept.{instance_of}
 use Rattle.ground_instances.specs.declared.instances.Instance.{Instance}

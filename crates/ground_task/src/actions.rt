@@ -3,24 +3,26 @@
 ghost use Rattle.std.specs.Prelude.{◌≡◌, Some, map, IfOk};
 ghost use Rattle.ground_instances.specs.Kept.{instance_of, kept_by};
 ghost use Rattle.ground_instances.specs.Tables.{setting_in};
-ghost use Rattle.ground_task.specs.Actions.{action_in};
+ghost use Rattle.ground_task.specs.Actions.{action_in, action_over};
+ghost use Rattle.ground_task.specs.Drafts.{action_tree, draft_trees, drafted};
 ghost use Rattle.ground_task.specs.Numbered.{instance_with};
 ghost use Rattle.pddl_ast.specs.Values.{domain_value, problem_value, schema_value};
 ghost use Rattle.pddl_system.specs.Names.{NamesAreWords};
 ghost use Rattle.pddl_system.specs.Values.{action_value};
 ghost use Rattle.task_core.specs.Names.{IsWord};
 
+use crate::changes::drafted_outcomes;
 use crate::conditions::condition;
+use crate::drafts::{ActionDraft, OutcomeDraft};
 use crate::fluents::Fluents;
 use crate::names::action_name;
-use crate::outcomes::effect_outcomes;
 use crate::schemas::schema_of;
 use ground_instances::{Instance, Setting};
 use pddl_ast::{Domain, Problem, Schema};
 use std::alloc::{AllocError, Global};
 use task_core::GroundAction;
 
-/// The action of an instance.
+/// The action of an instance, whose outcomes are drafted.
 fn action(
     alloc: Global,
     setting: &Setting,
@@ -29,17 +31,19 @@ fn action(
     problem: &Problem,
     schema: &Schema,
     instance: &Instance,
+    outcomes: &[OutcomeDraft<'_>],
 ) -> Result<GroundAction, AllocError>
     requires names { NamesAreWords (domain_value domain.now) (problem_value problem.now) }
     requires word { IsWord (schema_value schema.now).name }
     ensures { IfOk result (λ action. action_value action
-        ≡ action_in (setting_in setting.now) fluents.now (domain_value domain.now)
-        (problem_value problem.now) (instance_with (schema_value schema.now) instance.now)) }
+        ≡ action_over (setting_in setting.now) fluents.now (domain_value domain.now)
+        (problem_value problem.now) (instance_with (schema_value schema.now) instance.now)
+        (draft_trees outcomes.now)) }
 {
     let name = action_name(alloc, domain, problem, schema, instance)?;
     let mut scope = Vec::from_slice(alloc, &instance.objects)?;
     let exec = condition(alloc, setting, fluents, &schema.precondition, &mut scope)?;
-    let outcomes = effect_outcomes(alloc, setting, fluents, &schema.effect, &mut scope)?;
+    let outcomes = drafted_outcomes(alloc, setting, fluents, outcomes)?;
     Ok(GroundAction {
         name,
         exec,
@@ -47,26 +51,36 @@ fn action(
     })
 }
 
-/// The actions of the kept instances.
+/// The actions of the kept instances, whose outcomes are drafted.
 pub(crate) fn actions(
     alloc: Global,
     setting: &Setting,
     fluents: &Fluents,
     domain: &Domain,
     problem: &Problem,
-    instances: &[Instance],
+    drafts: &[ActionDraft<'_>],
 ) -> Result<Vec<GroundAction>, AllocError>
     requires names { NamesAreWords (domain_value domain.now) (problem_value problem.now) }
-    requires instances { map (instance_of (domain_value domain.now)) instances.now
-        ≡ map Some (kept_by (setting_in setting.now) (domain_value domain.now)) }
+    requires drafts { map (action_tree (domain_value domain.now)) drafts.now
+        ≡ map (drafted (setting_in setting.now))
+        (kept_by (setting_in setting.now) (domain_value domain.now)) }
     ensures { IfOk result (λ actions. map action_value actions.items
         ≡ map (action_in (setting_in setting.now) fluents.now (domain_value domain.now)
         (problem_value problem.now)) (kept_by (setting_in setting.now) (domain_value domain.now))) }
 {
     let mut actions = Vec::new(alloc);
-    for instance in instances {
-        let schema = schema_of(domain, instance);
-        actions.push(action(alloc, setting, fluents, domain, problem, schema, instance)?)?;
+    for draft in drafts {
+        let schema = schema_of(domain, draft.instance);
+        actions.push(action(
+            alloc,
+            setting,
+            fluents,
+            domain,
+            problem,
+            schema,
+            draft.instance,
+            &draft.outcomes,
+        )?)?;
     }
     Ok(actions)
 }

@@ -1,47 +1,62 @@
-//! The fluents of a domain and a problem.
+//! The fluents of a domain and a problem, and the outcomes that change them.
 
 ghost use Rattle.std.specs.Prelude.{◌≡◌, Some, is_some, map, IfOk, IfSome};
 ghost use Rattle.ground_instances.specs.Kept.{instance_of, kept_by};
 ghost use Rattle.ground_instances.specs.Tables.{setting_in};
+ghost use Rattle.ground_task.specs.Drafts.{action_tree, drafted};
 ghost use Rattle.pddl_ast.specs.Fits.{FitsDomain, FitsProblem};
 ghost use Rattle.pddl_ast.specs.Values.{domain_value, problem_value};
-ghost use Rattle.pddl_system.specs.Fluents.{fluents};
+ghost use Rattle.pddl_system.specs.Fluents.{fluents as fluents_of};
 ghost use Rattle.pddl_system.specs.Settings.{setting as setting_of};
 ghost use Rattle.pddl_system.specs.Sizes.{fluent_limit, keeps};
 
+use crate::drafts::ActionDraft;
 use crate::fluents::Fluents;
-use crate::naming::{name_entries, name_instances};
+use crate::naming::name_entries;
+use crate::walk::instances_outcomes;
 use ground_instances::{Instance, Setting};
 use pddl_ast::{Domain, Problem};
 use std::alloc::{AllocError, Global};
 
+/// The fluents, and the outcomes of the kept instances.
+#[derive(Drop)]
+pub(crate) struct Found<'a> {
+    pub fluents: Fluents,
+    pub drafts: Vec<ActionDraft<'a>>,
+}
+
 /// The fluents of a domain and a problem, unless there are more than 256: the atoms that some
-/// effect of a kept instance may change and those that an uncertain entry names, in order. The
-/// setting and the kept instances are those of the domain and the problem.
-pub(crate) fn find_fluents(
+/// outcome of a kept instance may change and those that an uncertain entry names, in order; and the
+/// outcomes of the kept instances. The setting and the kept instances are those of the domain and
+/// the problem.
+pub(crate) fn find_fluents<'a>(
     alloc: Global,
     setting: &Setting,
-    domain: &Domain,
+    domain: &'a Domain,
     problem: &Problem,
-    instances: &[Instance],
-) -> Result<Option<Fluents>, AllocError>
+    instances: &'a [Instance],
+) -> Result<Option<Found<'a>>, AllocError>
     requires fits_domain { FitsDomain (domain_value domain.now) }
     requires fits_problem { FitsProblem (domain_value domain.now) (problem_value problem.now) }
     requires setting { setting_in setting.now
         ≡ setting_of (domain_value domain.now) (problem_value problem.now) }
     requires instances { map (instance_of (domain_value domain.now)) instances.now
         ≡ map Some (kept_by (setting_in setting.now) (domain_value domain.now)) }
-    ensures fluents { IfOk result (λ found. IfSome found (λ fs.
-        fs ≡ fluents (domain_value domain.now) (problem_value problem.now))) }
+    ensures fluents { IfOk result (λ found. IfSome found (λ f.
+        f.fluents ≡ fluents_of (domain_value domain.now) (problem_value problem.now))) }
+    ensures drafts { IfOk result (λ found. IfSome found (λ f.
+        map (action_tree (domain_value domain.now)) f.drafts.items
+        ≡ map (drafted (setting_in setting.now))
+        (kept_by (setting_in setting.now) (domain_value domain.now)))) }
     ensures within { IfOk result (λ found. is_some found
         ≡ keeps (domain_value domain.now) (problem_value problem.now) fluent_limit) }
 {
     let mut fluents = Fluents::new(alloc);
-    name_instances(alloc, setting, domain, instances, &mut fluents)?;
+    let drafts = instances_outcomes(alloc, setting, domain, instances, &mut fluents)?;
     name_entries(alloc, &problem.entries, &mut fluents)?;
     fluents.sort()?;
     if fluents.is_full() {
         return Ok(None);
     }
-    Ok(Some(fluents))
+    Ok(Some(Found { fluents, drafts }))
 }

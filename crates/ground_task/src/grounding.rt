@@ -18,6 +18,7 @@ ghost use Rattle.std.specs.Option.{option_map};
 ghost use Rattle.ctl_syntax.specs.Values.{IsAtMostDeep, NamesBelow, ctl_value};
 ghost use Rattle.ground_instances.specs.Kept.{instance_of, kept_by};
 ghost use Rattle.ground_instances.specs.Tables.{setting_in};
+ghost use Rattle.ground_task.specs.Drafts.{action_tree, drafted};
 ghost use Rattle.ground_task.specs.Limits.{KeepsFirst, limit_of};
 ghost use Rattle.pddl_ast.specs.Fits.{FitsDomain, FitsProblem};
 ghost use Rattle.pddl_ast.specs.Values.{domain_value, formula_value, problem_value};
@@ -35,8 +36,9 @@ ghost use Rattle.task_core.specs.Tasks.{fluent_count, system_of};
 use crate::actions::actions;
 use crate::conditions::condition;
 use crate::counts::has_few_outcomes;
+use crate::drafts::ActionDraft;
 use crate::fluents::Fluents;
-use crate::found::find_fluents;
+use crate::found::{Found, find_fluents};
 use crate::goals::ctl_goal;
 use crate::initial::{entries, facts};
 use crate::names::fluent_names;
@@ -145,14 +147,14 @@ fn small_setting(alloc: Global, domain: &Domain, problem: &Problem) -> Result<Se
 }
 
 /// The fluents of a domain and a problem, of which these are the setting and the kept instances,
-/// where the last limits are kept.
-fn all_fluents(
+/// and the outcomes of the instances, where the last limits are kept.
+fn all_fluents<'a>(
     alloc: Global,
     setting: &Setting,
-    domain: &Domain,
+    domain: &'a Domain,
     problem: &Problem,
-    instances: &[Instance],
-) -> Result<Fluents, GroundErr>
+    instances: &'a [Instance],
+) -> Result<Found<'a>, GroundErr>
     requires fits_domain { FitsDomain (domain_value domain.now) }
     requires fits_problem { FitsProblem (domain_value domain.now) (problem_value problem.now) }
     requires setting { setting_in setting.now
@@ -162,9 +164,13 @@ fn all_fluents(
     requires first { KeepsFirst (domain_value domain.now) (problem_value problem.now) }
     requires actions { keeps (domain_value domain.now) (problem_value problem.now) action_limit
         ≡ true }
-    ensures fluents { IfOk result (λ fs.
-        fs ≡ fluents_of (domain_value domain.now) (problem_value problem.now)) }
-    ensures few { IfOk result (λ fs. length fs ≤ 256) }
+    ensures fluents { IfOk result (λ found. found.fluents
+        ≡ fluents_of (domain_value domain.now) (problem_value problem.now)) }
+    ensures few { IfOk result (λ found. length found.fluents ≤ 256) }
+    ensures drafts { IfOk result (λ found.
+        map (action_tree (domain_value domain.now)) found.drafts.items
+        ≡ map (drafted (setting_in setting.now))
+        (kept_by (setting_in setting.now) (domain_value domain.now))) }
     ensures within { IfOk result (λ _.
         first_passed (domain_value domain.now) (problem_value problem.now) ≡ None) }
     ensures limit { IfErr result (λ refusal. (refusal ≡ GroundErr.Memory)
@@ -176,7 +182,7 @@ fn all_fluents(
         return Err(GroundErr::Outcomes);
     }
     match find_fluents(alloc, setting, domain, problem, instances)? {
-        Some(fluents) => Ok(fluents),
+        Some(found) => Ok(found),
         None => Err(GroundErr::Fluents),
     }
 }
@@ -202,14 +208,14 @@ fn goal_condition(
     }
 }
 
-/// The task of a domain and a problem that pass no limit, from their setting, kept instances and
-/// fluents.
+/// The task of a domain and a problem that pass no limit, from their setting, the outcomes of the
+/// kept instances and the fluents.
 fn build(
     alloc: Global,
     domain: &Domain,
     problem: &Problem,
     setting: &Setting,
-    instances: &[Instance],
+    drafts: &[ActionDraft<'_>],
     fluents: &Fluents,
 ) -> Result<Task, AllocError>
     requires fits_domain { FitsDomain (domain_value domain.now) }
@@ -218,8 +224,9 @@ fn build(
     requires within { first_passed (domain_value domain.now) (problem_value problem.now) ≡ None }
     requires setting { setting_in setting.now
         ≡ setting_of (domain_value domain.now) (problem_value problem.now) }
-    requires instances { map (instance_of (domain_value domain.now)) instances.now
-        ≡ map Some (kept_by (setting_in setting.now) (domain_value domain.now)) }
+    requires drafts { map (action_tree (domain_value domain.now)) drafts.now
+        ≡ map (drafted (setting_in setting.now))
+        (kept_by (setting_in setting.now) (domain_value domain.now)) }
     requires fluents { fluents.now
         ≡ fluents_of (domain_value domain.now) (problem_value problem.now) }
     requires few { length fluents.now ≤ 256 }
@@ -227,7 +234,7 @@ fn build(
         ≡ task_of (domain_value domain.now) (problem_value problem.now)) }
 {
     let names = fluent_names(alloc, domain, problem, fluents)?;
-    let actions = actions(alloc, setting, fluents, domain, problem, instances)?;
+    let actions = actions(alloc, setting, fluents, domain, problem, drafts)?;
     let entries = entries(alloc, fluents, &problem.entries)?;
     let goal = goal_condition(alloc, setting, fluents, &problem.goal)?;
     let facts = facts(setting, fluents);
@@ -263,9 +270,16 @@ fn ground_kept(
         ⊎ (first_passed (domain_value domain.now) (problem_value problem.now)
         ≡ limit_of refusal)) }
 {
-    let fluents = all_fluents(alloc, setting, domain, problem, instances)?;
-    let task = build(alloc, domain, problem, setting, instances, &fluents)?;
-    let ctl = ctl_goal(alloc, setting, &fluents, &problem.ctl)?;
+    let found = all_fluents(alloc, setting, domain, problem, instances)?;
+    let task = build(
+        alloc,
+        domain,
+        problem,
+        setting,
+        &found.drafts,
+        &found.fluents,
+    )?;
+    let ctl = ctl_goal(alloc, setting, &found.fluents, &problem.ctl)?;
     Ok(Grounded { task, ctl })
 }
 

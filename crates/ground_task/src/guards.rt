@@ -1,27 +1,20 @@
-//! The conditions under which a part of an effect stands.
+//! Changes under the conditions of a `when`.
 
-ghost use Rattle.std.specs.Prelude.{◌≡◌, ◌&&◌, ◌++◌, ◌∷◌, [], true, IfOk};
+ghost use Rattle.std.specs.Prelude.{◌≡◌, ◌&&◌, ◌++◌, IfOk, map};
+ghost use Rattle.std.specs.List.{flat_map};
 ghost use Rattle.ground_instances.specs.Values.{known_value};
-ghost use Rattle.ground_task.specs.Built.{all_or_yes, guard_conditions};
-ghost use Rattle.pddl_system.specs.ThreeValues.{may_hold};
-ghost use Rattle.ctl_syntax.specs.Conditions.{condition_value};
+ghost use Rattle.ground_task.specs.Drafts.{draft_tree, draft_trees, guard_of, part_tree};
+ghost use Rattle.pddl_system.specs.Outcomes.{under};
+ghost use Rattle.pddl_system.specs.ThreeValues as three;
 
-use ctl_syntax::copied_conditions;
+use crate::drafts::{OutcomeDraft, PartDraft, guarded_by};
 use ground_instances::Value;
+use pddl_ast::{Formula, ObjectId};
 use std::alloc::{AllocError, Global};
-use task_core::Cond;
-
-/// The conditions of the `when`s around a part of an effect, the outermost first, and whether they
-/// may all hold, as far as is known before any action is looked at.
-#[derive(Debug, Drop)]
-pub(crate) struct Guards {
-    pub conds: Vec<Cond>,
-    pub may_hold: bool,
-}
 
 /// Whether a formula of this value may hold.
-pub(crate) fn may_hold(value: Value) -> bool
-    ensures { result ≡ may_hold (known_value value) }
+fn may_hold(value: Value) -> bool
+    ensures { result ≡ three.may_hold (known_value value) }
 {
     match value {
         Value::No => false,
@@ -29,42 +22,61 @@ pub(crate) fn may_hold(value: Value) -> bool
     }
 }
 
-impl Guards {
-    /// No conditions.
-    pub fn none(alloc: Global) -> Guards
-        ensures conditions { guard_conditions result ≡ [] }
-        ensures may_hold { result.may_hold ≡ true }
-    {
-        Guards {
-            conds: Vec::new(alloc),
-            may_hold: true,
-        }
-    }
+/// Whether the conditions around a `when` and its formula, which has this value, may hold.
+pub(crate) fn may_also_hold(outer: bool, value: Value) -> bool
+    ensures { result ≡ (outer && three.may_hold (known_value value)) }
+{
+    outer && may_hold(value)
+}
 
-    /// These conditions and one more, inside the others.
-    pub fn with(&self, alloc: Global, cond: Cond, may_hold: bool) -> Result<Guards, AllocError>
-        ensures conditions { IfOk result (λ guards. guard_conditions guards
-            ≡ guard_conditions self.now ++ condition_value cond ∷ []) }
-        ensures may_hold { IfOk result (λ guards. guards.may_hold
-            ≡ (self.now.may_hold && may_hold)) }
-    {
-        let mut conds = copied_conditions(alloc, &self.conds)?;
-        conds.push(cond)?;
-        Ok(Guards {
-            conds,
-            may_hold: self.may_hold && may_hold,
-        })
-    }
+/// A part under one more condition, around the others.
+fn part_under<'a>(
+    alloc: Global,
+    formula: &'a Formula,
+    scope: &[ObjectId],
+    part: PartDraft<'a>,
+) -> Result<PartDraft<'a>, AllocError>
+    ensures { IfOk result (λ inner.
+        part_tree inner ≡ map (under (guard_of formula.now scope.now)) (part_tree part.entry)) }
+{
+    let mut guards = part.guards;
+    guards.insert(0, guarded_by(alloc, formula, scope)?)?;
+    Ok(PartDraft {
+        guards,
+        changes: part.changes,
+    })
+}
 
-    /// That all the conditions hold.
-    pub fn cond(&self, alloc: Global) -> Result<Cond, AllocError>
-        ensures { IfOk result (λ cond.
-            condition_value cond ≡ all_or_yes (guard_conditions self.now)) }
-    {
-        if self.conds.is_empty() {
-            Ok(Cond::Yes)
-        } else {
-            Ok(Cond::All(copied_conditions(alloc, &self.conds)?))
-        }
+/// An outcome under one more condition, around the others.
+fn outcome_under<'a>(
+    alloc: Global,
+    formula: &'a Formula,
+    scope: &[ObjectId],
+    outcome: OutcomeDraft<'a>,
+) -> Result<OutcomeDraft<'a>, AllocError>
+    ensures { IfOk result (λ inner.
+        draft_tree inner ≡ map (under (guard_of formula.now scope.now)) (draft_tree outcome.entry)) }
+{
+    let mut parts = Vec::new(alloc);
+    for part in outcome.parts {
+        parts.push(part_under(alloc, formula, scope, part)?)?;
     }
+    Ok(OutcomeDraft { parts })
+}
+
+/// Outcomes under one more condition, around the others.
+pub(crate) fn outcomes_under<'a>(
+    alloc: Global,
+    formula: &'a Formula,
+    scope: &[ObjectId],
+    outcomes: Vec<OutcomeDraft<'a>>,
+) -> Result<Vec<OutcomeDraft<'a>>, AllocError>
+    ensures { IfOk result (λ inner. draft_trees inner.items
+        ≡ map (map (under (guard_of formula.now scope.now))) (draft_trees outcomes.entry.items)) }
+{
+    let mut inner = Vec::new(alloc);
+    for outcome in outcomes {
+        inner.push(outcome_under(alloc, formula, scope, outcome)?)?;
+    }
+    Ok(inner)
 }

@@ -4,9 +4,10 @@
 #![tactic(auto)]
 
 mod actions;
+mod changes;
 mod conditions;
-mod copies;
 mod counts;
+mod drafts;
 mod fluents;
 mod found;
 mod goals;
@@ -18,5 +19,6 @@ mod naming;
 mod outcomes;
 mod products;
 mod schemas;
+mod walk;
 
 pub use grounding::{GroundErr, Grounded, ground};

@@ -1,72 +1,68 @@
 //! The outcomes of effects.
 
-ghost use Rattle.std.specs.Prelude.{◌≡◌, ◌++◌, ◌∷◌, [], IfOk, OnOk, map};
+ghost use Rattle.std.specs.Prelude.{◌≡◌, ◌++◌, IfOk, OnOk, map};
 ghost use Rattle.ground_instances.specs.Atoms.{atom_tree};
 ghost use Rattle.ground_instances.specs.Tables.{setting_in};
-ghost use Rattle.ground_task.specs.Built.{change_made, guard_conditions, outcomes_under};
+ghost use Rattle.ground_task.specs.Drafts.{draft_trees, possible_where};
 ghost use Rattle.pddl_ast.specs.Trees.{effect_row};
 ghost use Rattle.pddl_ast.specs.Values.{effect_value};
 ghost use Rattle.pddl_system.specs.Objects.{bindings};
 ghost use Rattle.pddl_system.specs.Outcomes as plain;
 ghost use Rattle.pddl_system.specs.Settings.{Setting as PlainSetting};
-ghost use Rattle.pddl_system.specs.Tasks.{outcome_of};
-ghost use Rattle.pddl_system.specs.Values.{change_value, outcome_value};
 
-use crate::conditions::condition;
-use crate::fluents::Fluents;
-use crate::guards::{Guards, may_hold};
+use crate::drafts::{ChangeDraft, OutcomeDraft, PartDraft};
+use crate::guards::{may_also_hold, outcomes_under};
 use crate::products::{no_change, products};
 use ground_instances::{Atom, Setting};
 use pddl_ast::{Effect, ObjectId, TypeId};
 use std::alloc::{AllocError, Global};
-use task_core::{Change, Lit, Outcome};
 
-/// The change that adds an atom (positive) or deletes it under the conditions of the guards.
-fn change(
+/// The outcome that adds an atom (positive) or deletes it.
+fn changing<'a>(
     alloc: Global,
-    fluents: &Fluents,
-    guards: &Guards,
-    atom: &Atom,
+    atom: Atom,
     positive: bool,
-) -> Result<Change, AllocError>
-    ensures { IfOk result (λ change. change_value change
-        ≡ change_made fluents.now (guard_conditions guards.now) (atom_tree atom.now) positive) }
+) -> Result<Vec<OutcomeDraft<'a>>, AllocError>
+    ensures { IfOk result (λ outcomes. draft_trees outcomes.items
+        ≡ plain.one_change (atom_tree atom) positive) }
 {
-    Ok(Change {
-        cond: guards.cond(alloc)?,
-        lit: Lit {
-            fluent: fluents.place_of(atom),
-            positive,
-        },
-    })
-}
-
-/// The one outcome that adds an atom (positive) or deletes it under the conditions of the guards.
-fn one_change(
-    alloc: Global,
-    fluents: &Fluents,
-    guards: &Guards,
-    atom: &Atom,
-    positive: bool,
-) -> Result<Vec<Outcome>, AllocError>
-    ensures { IfOk result (λ outcomes. (at : PlainSetting) → map outcome_value outcomes.items
-        ≡ outcomes_under at fluents.now guards.now
-        (plain.one_change (atom_tree atom.now) positive)) }
-{
-    if !guards.may_hold {
-        return Ok(no_change(alloc)?);
-    }
     let mut changes = Vec::new(alloc);
-    changes.push(change(alloc, fluents, guards, atom, positive)?)?;
+    changes.push(ChangeDraft { atom, positive })?;
+    let mut parts = Vec::new(alloc);
+    parts.push(PartDraft {
+        guards: Vec::new(alloc),
+        changes,
+    })?;
     let mut outcomes = Vec::new(alloc);
-    outcomes.push(Outcome { changes })?;
+    outcomes.push(OutcomeDraft { parts })?;
     Ok(outcomes)
 }
 
+/// The one outcome that adds an atom (positive) or deletes it, where the conditions around may
+/// hold; else one that changes nothing.
+fn one_change<'a>(
+    alloc: Global,
+    possible: bool,
+    atom: Atom,
+    positive: bool,
+) -> Result<Vec<OutcomeDraft<'a>>, AllocError>
+    ensures { IfOk result (λ outcomes. (at : PlainSetting) → draft_trees outcomes.items
+        ≡ map (possible_where at possible) (plain.one_change (atom_tree atom) positive)) }
+{
+    if possible {
+        Ok(changing(alloc, atom, positive)?)
+    } else {
+        Ok(no_change(alloc)?)
+    }
+}
+
 /// Adds more outcomes after the others.
-fn push_all(outcomes: &mut Vec<Outcome>, more: Vec<Outcome>) -> Result<(), AllocError>
-    ensures { OnOk result (map outcome_value outcomes.new.items
-        ≡ map outcome_value outcomes.old.items ++ map outcome_value more.items) }
+fn push_all<'a>(
+    outcomes: &mut Vec<OutcomeDraft<'a>>,
+    more: Vec<OutcomeDraft<'a>>,
+) -> Result<(), AllocError>
+    ensures { OnOk result (draft_trees outcomes.new.items
+        ≡ draft_trees outcomes.old.items ++ draft_trees more.entry.items) }
 {
     for outcome in more {
         outcomes.push(outcome)?;
@@ -76,23 +72,22 @@ fn push_all(outcomes: &mut Vec<Outcome>, more: Vec<Outcome>) -> Result<(), Alloc
 
 /// The outcomes of effects that happen together. The scope is afterwards as it was before.
 #[cycle(building)]
-fn outcomes_of_both(
+fn outcomes_of_both<'a>(
     alloc: Global,
     setting: &Setting,
-    fluents: &Fluents,
-    guards: &Guards,
-    effects: &[Effect],
+    possible: bool,
+    effects: &'a [Effect],
     scope: &mut Vec<ObjectId>,
-) -> Result<Vec<Outcome>, AllocError>
-    ensures outcomes { IfOk result (λ outcomes. map outcome_value outcomes.items
-        ≡ outcomes_under (setting_in setting.now) fluents.now guards.now
+) -> Result<Vec<OutcomeDraft<'a>>, AllocError>
+    ensures outcomes { IfOk result (λ outcomes. draft_trees outcomes.items
+        ≡ map (possible_where (setting_in setting.now) possible)
         (plain.outcomes_of_both (setting_in setting.now).objects
         (effect_row (map effect_value effects.now)) scope.old.items)) }
     ensures scope { OnOk result (scope.new.items ≡ scope.old.items) }
 {
     let mut made = no_change(alloc)?;
     for effect in effects {
-        let next = outcomes(alloc, setting, fluents, guards, effect, scope)?;
+        let next = outcomes(alloc, setting, possible, effect, scope)?;
         made = products(alloc, made, &next)?;
     }
     Ok(made)
@@ -100,23 +95,22 @@ fn outcomes_of_both(
 
 /// The outcomes of a choice between effects. The scope is afterwards as it was before.
 #[cycle(building)]
-fn outcomes_of_either(
+fn outcomes_of_either<'a>(
     alloc: Global,
     setting: &Setting,
-    fluents: &Fluents,
-    guards: &Guards,
-    effects: &[Effect],
+    possible: bool,
+    effects: &'a [Effect],
     scope: &mut Vec<ObjectId>,
-) -> Result<Vec<Outcome>, AllocError>
-    ensures outcomes { IfOk result (λ outcomes. map outcome_value outcomes.items
-        ≡ outcomes_under (setting_in setting.now) fluents.now guards.now
+) -> Result<Vec<OutcomeDraft<'a>>, AllocError>
+    ensures outcomes { IfOk result (λ outcomes. draft_trees outcomes.items
+        ≡ map (possible_where (setting_in setting.now) possible)
         (plain.outcomes_of_either (setting_in setting.now).objects
         (effect_row (map effect_value effects.now)) scope.old.items)) }
     ensures scope { OnOk result (scope.new.items ≡ scope.old.items) }
 {
     let mut made = Vec::new(alloc);
     for effect in effects {
-        let next = outcomes(alloc, setting, fluents, guards, effect, scope)?;
+        let next = outcomes(alloc, setting, possible, effect, scope)?;
         push_all(&mut made, next)?;
     }
     Ok(made)
@@ -125,17 +119,16 @@ fn outcomes_of_either(
 /// The outcomes of an effect for all objects of these types. The scope is afterwards as it was
 /// before.
 #[cycle(building)]
-fn outcomes_of_each(
+fn outcomes_of_each<'a>(
     alloc: Global,
     setting: &Setting,
-    fluents: &Fluents,
-    guards: &Guards,
+    possible: bool,
     types: &[TypeId],
-    effect: &Effect,
+    effect: &'a Effect,
     scope: &mut Vec<ObjectId>,
-) -> Result<Vec<Outcome>, AllocError>
-    ensures outcomes { IfOk result (λ outcomes. map outcome_value outcomes.items
-        ≡ outcomes_under (setting_in setting.now) fluents.now guards.now
+) -> Result<Vec<OutcomeDraft<'a>>, AllocError>
+    ensures outcomes { IfOk result (λ outcomes. draft_trees outcomes.items
+        ≡ map (possible_where (setting_in setting.now) possible)
         (plain.product_of_all (map (λ chosen. plain.outcomes (setting_in setting.now).objects
         (effect_value effect.now) (scope.old.items ++ chosen))
         (bindings (setting_in setting.now).objects types.now)))) }
@@ -146,26 +139,26 @@ fn outcomes_of_each(
     let mut made = no_change(alloc)?;
     for number in 0..count {
         setting.bind(types, count, number, scope)?;
-        let next = outcomes(alloc, setting, fluents, guards, effect, scope)?;
+        let next = outcomes(alloc, setting, possible, effect, scope)?;
         scope.truncate(outer);
         made = products(alloc, made, &next)?;
     }
     Ok(made)
 }
 
-/// The outcomes of an effect under the conditions of the guards, where the variables in scope stand
-/// for these objects. The scope is afterwards as it was before.
+/// The outcomes of an effect, where the variables in scope stand for these objects: of each the
+/// changes that may come about, and none where the conditions around can't hold. The scope is
+/// afterwards as it was before.
 #[cycle(building)]
-fn outcomes(
+fn outcomes<'a>(
     alloc: Global,
     setting: &Setting,
-    fluents: &Fluents,
-    guards: &Guards,
-    effect: &Effect,
+    possible: bool,
+    effect: &'a Effect,
     scope: &mut Vec<ObjectId>,
-) -> Result<Vec<Outcome>, AllocError>
-    ensures outcomes { IfOk result (λ outcomes. map outcome_value outcomes.items
-        ≡ outcomes_under (setting_in setting.now) fluents.now guards.now
+) -> Result<Vec<OutcomeDraft<'a>>, AllocError>
+    ensures outcomes { IfOk result (λ outcomes. draft_trees outcomes.items
+        ≡ map (possible_where (setting_in setting.now) possible)
         (plain.outcomes (setting_in setting.now).objects (effect_value effect.now)
         scope.old.items)) }
     ensures scope { OnOk result (scope.new.items ≡ scope.old.items) }
@@ -173,44 +166,41 @@ fn outcomes(
     match effect {
         Effect::Add(predicate, terms) => {
             let atom = Atom::of_terms(alloc, *predicate, terms, scope)?;
-            Ok(one_change(alloc, fluents, guards, &atom, true)?)
+            Ok(one_change(alloc, possible, atom, true)?)
         }
         Effect::Delete(predicate, terms) => {
             let atom = Atom::of_terms(alloc, *predicate, terms, scope)?;
-            Ok(one_change(alloc, fluents, guards, &atom, false)?)
+            Ok(one_change(alloc, possible, atom, false)?)
         }
-        Effect::Both(parts) => Ok(outcomes_of_both(alloc, setting, fluents, guards, parts, scope)?),
-        Effect::OneOf(parts) => Ok(outcomes_of_either(
-            alloc, setting, fluents, guards, parts, scope,
-        )?),
+        Effect::Both(parts) => Ok(outcomes_of_both(alloc, setting, possible, parts, scope)?),
+        Effect::OneOf(parts) => Ok(outcomes_of_either(alloc, setting, possible, parts, scope)?),
         Effect::When(formula, part) => {
             let value = setting.value(alloc, formula, scope)?;
-            let cond = condition(alloc, setting, fluents, formula, scope)?;
-            let inner = guards.with(alloc, cond, may_hold(value))?;
-            Ok(outcomes(alloc, setting, fluents, &inner, part, scope)?)
+            let inner = may_also_hold(possible, value);
+            let made = outcomes(alloc, setting, inner, part, scope)?;
+            Ok(outcomes_under(alloc, formula, scope, made)?)
         }
         Effect::Each(types, part) => {
-            Ok(outcomes_of_each(alloc, setting, fluents, guards, types, part, scope)?)
+            Ok(outcomes_of_each(alloc, setting, possible, types, part, scope)?)
         }
     }
 }
 
-/// The outcomes of an effect, where the variables in scope stand for these objects. The scope is
-/// afterwards as it was before. Fails only where memory runs out, or where a quantifier or a
-/// `forall` has more than 1,000,000 bindings, which none within the limit of size has.
-pub(crate) fn effect_outcomes(
+/// The outcomes of an effect, where the variables in scope stand for these objects, each with the
+/// changes that may come about. This is the one walk over the effect. The scope is afterwards as it
+/// was before. Fails only where memory runs out, or where a quantifier or a `forall` has more than
+/// 1,000,000 bindings, which none within the limit of size has.
+pub(crate) fn effect_outcomes<'a>(
     alloc: Global,
     setting: &Setting,
-    fluents: &Fluents,
-    effect: &Effect,
+    effect: &'a Effect,
     scope: &mut Vec<ObjectId>,
-) -> Result<Vec<Outcome>, AllocError>
-    ensures outcomes { IfOk result (λ outcomes. map outcome_value outcomes.items
-        ≡ map (outcome_of (setting_in setting.now) fluents.now)
+) -> Result<Vec<OutcomeDraft<'a>>, AllocError>
+    ensures outcomes { IfOk result (λ outcomes. draft_trees outcomes.items
+        ≡ map (plain.possible_changes (setting_in setting.now))
         (plain.outcomes (setting_in setting.now).objects (effect_value effect.now)
         scope.old.items)) }
     ensures scope { OnOk result (scope.new.items ≡ scope.old.items) }
 {
-    let guards = Guards::none(alloc);
-    Ok(outcomes(alloc, setting, fluents, &guards, effect, scope)?)
+    Ok(outcomes(alloc, setting, true, effect, scope)?)
 }

@@ -7,12 +7,14 @@ use Rattle.task_core.specs.declared.classes.Class.TheVariants.{Weak, Strong, Cyc
 use Rattle.plan_io.specs.Held.{Held}
 use Rattle.mbp_top.specs.Answers.{Answer, refused, full, no_command, no_memory}
 use Rattle.mbp_top.specs.Causes.{IsAnswerOf, HasCause}
+use Rattle.mbp_top.specs.DrillCommand.{IsDrillAnswer}
 use Rattle.mbp_top.specs.PlanCommand.{IsPlanAnswer}
 use Rattle.mbp_top.specs.ReplayCommand.{Tallies}
 use Rattle.mbp_top.specs.Told.{AreFilesTold, IsDue, MayStandIn}
-use Rattle.mbp_top.specs.Words.{Bytes, Command, PlanKind, kind_word, of_class, with_contexts, plan, ground, check, replay, PlanOptions, PlanWords, GroundWords, CheckWords, ReplayWords, IsNodeLimit, Says, SaysOptions, SaysPlan, SaysGround, SaysCheck, SaysReplay}
+use Rattle.mbp_top.specs.Words.{Bytes, Command, PlanKind, kind_word, of_class, with_contexts, plan, ground, check, replay, drill, PlanOptions, PlanWords, GroundWords, CheckWords, ReplayWords, DrillWords, DrillKind, corridors, roads, drill_word, IsNodeLimit, Says, SaysOptions, SaysPlan, SaysGround, SaysCheck, SaysReplay, SaysDrill, default_nodes}
 use Rattle.plan_rules.specs.Texts.{class_word}
 use Rattle.mbp_top.proofs.CheckDecides.{check_decides}
+use Rattle.mbp_top.proofs.DrillDecides.{drill_decides}
 use Rattle.mbp_top.proofs.GroundDecides.{ground_command_decides}
 use Rattle.mbp_top.specs.OneReading.{OneReading}
 use Rattle.mbp_top.proofs.PlanDecides.{plan_decides}
@@ -86,42 +88,62 @@ same_replay words v w says says' =
     let records : v.recorded ≡ w.recorded = ap (λ (ws : List Bytes). get_or ws 4 []) both in
     λ i. record { domain = domains i; problem = problems i; plan = plans i; recorded = records i }
 
+same_problems : (k l : DrillKind) → drill_word k ≡ drill_word l → k ≡ l
+same_problems corridors corridors same = refl
+same_problems corridors roads same = absurd (omega (arith, ap (λ (w : Bytes). get_or w 0 0) same))
+same_problems roads corridors same = absurd (omega (arith, ap (λ (w : Bytes). get_or w 0 0) same))
+same_problems roads roads same = refl
+
+same_drill : (words : List Bytes) (v w : DrillWords) → SaysDrill words v → SaysDrill words w → v ≡ w
+same_drill words v w says says' =
+    let both = sym says.written ∙ says'.written in
+    let kinds = same_problems v.kind w.kind (ap (λ (ws : List Bytes). get_or ws 1 []) both) in
+    let numerals : decimal v.size ≡ decimal w.size = ap (λ (ws : List Bytes). get_or ws 2 []) both in
+    let sizes = decimal_injective v.size w.size (omega (arith, says.room.1)) (omega (arith, says'.room.1)) numerals in
+    λ i. record { kind = kinds i; size = sizes i }
+
 -- the commands without what they are asked
 data Form : Type 0 where
   planning : Form
   grounding : Form
   checking : Form
   replaying : Form
+  drilling : Form
 
 abbrev WordsOf : Form → Type 0
 WordsOf planning = PlanWords
 WordsOf grounding = GroundWords
 WordsOf checking = CheckWords
 WordsOf replaying = ReplayWords
+WordsOf drilling = DrillWords
 
 abbrev form_of : Command → Form
 form_of (plan v) = planning
 form_of (ground v) = grounding
 form_of (check v) = checking
 form_of (replay v) = replaying
+form_of (drill v) = drilling
 
 abbrev asked_of : (c : Command) → WordsOf (form_of c)
 asked_of (plan v) = v
 asked_of (ground v) = v
 asked_of (check v) = v
 asked_of (replay v) = v
+asked_of (drill v) = v
 
 abbrev made : (f : Form) → WordsOf f → Command
 made planning v = plan v
 made grounding v = ground v
 made checking v = check v
 made replaying v = replay v
+made drilling v = drill v
 
 made_of : (c : Command) → made (form_of c) (asked_of c) ≡ c
 made_of (plan v) = refl
 made_of (ground v) = refl
 made_of (check v) = refl
 made_of (replay v) = refl
+made_of (drill v) = refl
 
 -- the letter with which the first word begins, and the form that it stands for
 abbrev letter : Form → ℕ
@@ -129,15 +151,17 @@ letter planning = 112
 letter grounding = 103
 letter checking = 99
 letter replaying = 114
+letter drilling = 100
 
 abbrev form_at : ℕ → Form
-form_at n = if n == 112 then planning else if n == 103 then grounding else if n == 99 then checking else replaying
+form_at n = if n == 112 then planning else if n == 103 then grounding else if n == 99 then checking else if n == 114 then replaying else drilling
 
 form_at-letter : (f : Form) → form_at (letter f) ≡ f
 form_at-letter planning = refl
 form_at-letter grounding = refl
 form_at-letter checking = refl
 form_at-letter replaying = refl
+form_at-letter drilling = refl
 
 abbrev first_letter : List Bytes → ℕ
 first_letter words = get_or (get_or words 0 []) 0 0
@@ -147,12 +171,14 @@ letter_is words (plan v) says = ap first_letter says.written
 letter_is words (ground v) says = ap first_letter says
 letter_is words (check v) says = ap first_letter says
 letter_is words (replay v) says = ap first_letter says
+letter_is words (drill v) says = ap first_letter says.written
 
 same_asked : (words : List Bytes) (f : Form) (v w : WordsOf f) → Says words (made f v) → Says words (made f w) → v ≡ w
 same_asked words planning v w says says' = same_plan words v w says says'
 same_asked words grounding v w says says' = same_ground words v w says says'
 same_asked words checking v w says says' = same_check words v w says says'
 same_asked words replaying v w says says' = same_replay words v w says says'
+same_asked words drilling v w says says' = same_drill words v w says says'
 
 -- the words say one command at most: the first decides its form
 pub one_command : (words : List Bytes) (c d : Command) → Says words c → Says words d → c ≡ d
@@ -167,10 +193,17 @@ one_plan_answer : OneReading → (held : Bytes → Held) (failed failed' : Bytes
     → SaysPlan words asked → AreFilesTold held words → ((file : Bytes) → failed file → ⊥) → ((file : Bytes) → failed' file → ⊥)
     → (a b : Answer) → ((nodes : ℕ) → b ≢ refused (full nodes)) → IsPlanAnswer held failed asked a → IsPlanAnswer held failed' asked b
     → (a ≡ b) ⊎ MayStandIn held words a
-one_plan_answer once held failed failed' words asked says told quiet quiet' a b not_full (inl (may, is)) is' = inr (inr (asked, says, may, is))
+one_plan_answer once held failed failed' words asked says told quiet quiet' a b not_full (inl (may, is)) is' = inr (inr (inl (asked, says, may, is)))
 one_plan_answer once held failed failed' words asked says told quiet quiet' a b not_full (inr read) (inl (may, is)) = absurd (not_full asked.options.nodes is)
 one_plan_answer once held failed failed' words asked says told quiet quiet' a b not_full (inr read) (inr read') =
     inl (plan_decides once held failed failed' asked (told (plan asked) asked.domain says (0, omega arith, refl)) (told (plan asked) asked.problem says (1, omega arith, refl)) quiet quiet' a b read read')
+
+-- the words decide that of `drill`, unless it is
+one_drill_answer : OneReading → (held : Bytes → Held) (words : List Bytes) (asked : DrillWords) → SaysDrill words asked
+    → (a b : Answer) → ((nodes : ℕ) → b ≢ refused (full nodes)) → IsDrillAnswer asked a → IsDrillAnswer asked b → (a ≡ b) ⊎ MayStandIn held words a
+one_drill_answer once held words asked says a b not_full (inl (may, is)) is' = inr (inr (inr (asked, says, may, is)))
+one_drill_answer once held words asked says a b not_full (inr read) (inl (may, is)) = absurd (not_full default_nodes is)
+one_drill_answer once held words asked says a b not_full (inr read) (inr read') = inl (drill_decides once asked a b read read')
 
 -- the words and the files decide the answer of a command, but for one that may stand in
 one_answer : OneReading → (held : Bytes → Held) (failed failed' : Bytes → Type 0) (tallies : Tallies) (words : List Bytes) (command : Command)
@@ -187,6 +220,8 @@ one_answer once held failed failed' tallies words (check asked) says told quiet 
 one_answer once held failed failed' tallies words (replay asked) says told quiet quiet' a b not_full is is' =
     inl (replay_decides once held failed failed' tallies asked (told (replay asked) asked.domain says (0, omega arith, refl)) (told (replay asked) asked.problem says (1, omega arith, refl))
     (told (replay asked) asked.plan says (2, omega arith, refl)) (told (replay asked) asked.recorded says (3, omega arith, refl)) quiet quiet' a b is is')
+one_answer once held failed failed' tallies words (drill asked) says told quiet quiet' a b not_full is is' =
+    one_drill_answer once held words asked says a b not_full is is'
 
 -- where the words say a command, an answer that has its cause is that command's, or want of memory
 pub of_command : (held : Bytes → Held) (failed : Bytes → Type 0) (tallies : Tallies) (words : List Bytes) (command : Command) (a : Answer)

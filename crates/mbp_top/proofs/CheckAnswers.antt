@@ -146,7 +146,7 @@ context_verdict_for law d p sys formula plan v same stands verdict =
           (λ x. law d p behind.0 (ctl_value formula) (system d p) plan x behind.2) v here,
     )
 
-verdict_for : GroundedGoalsAreTrue → (kind : PlanKind) (d : DomainTree) (p : ProblemTree) (t : Task) (goal : Option Ctl) (plan : PlainPlan) (v : Verdict)
+pub verdict_for : GroundedGoalsAreTrue → (kind : PlanKind) (d : DomainTree) (p : ProblemTree) (t : Task) (goal : Option Ctl) (plan : PlainPlan) (v : Verdict)
     → system_of t ≡ system d p → option_map goal_value goal ≡ ctl_goal_of d p → IsTaskVerdict kind t goal plan v → IsVerdictOf kind d p plan v
 verdict_for law (of_class class) d p t goal (table written rules) v same stands verdict = subst (λ (s : System). IsVerdict s rules class v) same verdict
 verdict_for law (of_class class) d p t goal (automaton contexts rules) v same stands never = absurd never
@@ -158,7 +158,7 @@ verdict_for law with_contexts d p t goal (automaton contexts rules) v same stand
 shown_for : (Of Of' : Verdict → Type 0) (a : Answer) → ((v : Verdict) → Of v → Of' v) → ShowsVerdict Of a → ShowsVerdict Of' a
 shown_for Of Of' a f (v, of, is) = (v, f v of, is)
 
-explored : (X Y : Type 0) (sys sys' : System) (plan : PlainPlan) (P Q : Answer → Type 0) (a : Answer) → (X → Y) → (Y → X) → sys ≡ sys' → (P a → Q a)
+pub explored : (X Y : Type 0) (sys sys' : System) (plan : PlainPlan) (P Q : Answer → Type 0) (a : Answer) → (X → Y) → (Y → X) → sys ≡ sys' → (P a → Q a)
     → ExploreThen X sys plan P a → ExploreThen Y sys' plan Q a
 explored X Y sys sys' plan P Q a to from same f (inl (many, is)) = inl (to many, is)
 explored X Y sys sys' plan P Q a to from same f (inr (inl (few, more, is))) =

@@ -58,7 +58,7 @@ judged_decides : OneReading → (kind : PlanKind) (d : DomainTree) (p : ProblemT
     → Decides (ShowsVerdict (IsVerdictOf kind d p plan)) (ShowsVerdict (IsVerdictOf kind d p plan))
 judged_decides one kind d p plan a b (v, of_v, is) (w, of_w, is') = is ∙ (ap verdict_answer (one_of_kind one kind d p plan v w of_v of_w) ∙ sym is')
 
-explore_decides : (TooMany : Type 0) (sys : System) (plan : PlainPlan) (Then : Answer → Type 0) → Decides Then Then
+pub explore_decides : (TooMany : Type 0) (sys : System) (plan : PlainPlan) (Then : Answer → Type 0) → Decides Then Then
     → Decides (ExploreThen TooMany sys plan Then) (ExploreThen TooMany sys plan Then)
 explore_decides TooMany sys plan Then next a b (inl (many, is)) (inl (many', is')) = is ∙ sym is'
 explore_decides TooMany sys plan Then next a b (inl (many, is)) (inr (inl (few, more, is'))) = absurd (few many)

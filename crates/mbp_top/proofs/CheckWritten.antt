@@ -53,7 +53,7 @@ pub record CheckFor (held : Bytes → Held) (asked : CheckWords) (answer : Answe
   pub of_plan : IsVerdictOf asked.kind domain problem plan verdict
   pub shown : answer ≡ verdict_answer verdict
 
-shown_judged : (TooMany : Type 0) (sys : System) (plan : PlainPlan) (Then : Answer → Type 0) (a : Answer) → is_shown a ≡ true
+pub shown_judged : (TooMany : Type 0) (sys : System) (plan : PlainPlan) (Then : Answer → Type 0) (a : Answer) → is_shown a ≡ true
     → ExploreThen TooMany sys plan Then a → Then a
 shown_judged TooMany sys plan Then a shown (inl (many, is)) = absurd (not_refused _ a is shown)
 shown_judged TooMany sys plan Then a shown (inr (inl (few, more, is))) = absurd (not_refused _ a is shown)
@@ -126,7 +126,7 @@ yes_zero None = refl
 yes_zero (Some n) = refl
 
 -- a yes is one of a plan that meets the goal
-yes_is_met : YesSolves → (kind : PlanKind) (d : DomainTree) (p : ProblemTree) (plan : PlainPlan) (bound : Option ℕ) → IsVerdictOf kind d p plan (Yes bound) → PlanMeets kind d p plan
+pub yes_is_met : YesSolves → (kind : PlanKind) (d : DomainTree) (p : ProblemTree) (plan : PlainPlan) (bound : Option ℕ) → IsVerdictOf kind d p plan (Yes bound) → PlanMeets kind d p plan
 yes_is_met law (of_class class) d p (table written rules) bound is =
     let both = (law (system d p) rules class (Yes bound) is).0 tt in
     table_meets class written d p rules both.0 both.1

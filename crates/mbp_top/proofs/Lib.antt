@@ -15,8 +15,13 @@ pub mod ReplayDecides
 pub mod ReplayAnswers
 pub mod ReplayRuns
 pub mod ReplayWritten
+pub mod DrillSizes
+pub mod DrillDecides
+pub mod DrillAnswers
+pub mod DrillWritten
 pub mod ByCommand
 pub mod Statuses
+pub mod Unread
 pub mod RunLaws
 pub mod Listings
 pub mod PlanAnswers

@@ -3,7 +3,7 @@ use Rattle.std.proofs.Common.{◌≡◌, ◌≢◌, ◌⊎◌, inl, inr, sym, su
 use Rattle.std.proofs.lemmas.Bool.{false≢true}
 use Rattle.plan_io.specs.Held.{Held, Untold}
 use Rattle.pddl_ast.specs.Trees.{DomainTree, ProblemTree}
-use Rattle.pddl_domain.specs.Domains.{SpellsDomain}
+use Rattle.domain_read.specs.Domains.{SpellsDomain}
 use Rattle.pddl_system.specs.Sizes.{Limit, first_passed}
 use Rattle.mbp_top.specs.Answers.{Answer, Refusal, refused, text_fault, over_limit, no_memory, is_shown}
 use Rattle.mbp_top.specs.Grounding.{GoalThen, GroundThen, has_goal_for, limit_name}
@@ -13,14 +13,14 @@ use Rattle.mbp_top.specs.Reading.{ReadThen}
 use Rattle.mbp_top.specs.Words.{Bytes, PlanKind}
 use Rattle.mbp_top.proofs.Deciding.{Decides, IsGrammar, read_decides, read_as}
 
-domain_grammar : OneReading → IsGrammar SpellsDomain IsFaultyDomain
+pub domain_grammar : OneReading → IsGrammar SpellsDomain IsFaultyDomain
 domain_grammar one = record {
   one_tree = one.one_domain;
   one_refusal = λ name bytes r s wrong other. wrong.2 ∙ ap (text_fault name) (one.one_domain_fault bytes wrong.0 other.0 wrong.1 other.1) ∙ sym other.2;
   not_both = λ name bytes r t wrong spelled. one.not_both_domain bytes t wrong.0 spelled wrong.1;
 }
 
-problem_grammar : OneReading → (domain : DomainTree) → IsGrammar (SpellsProblemOf domain) (IsFaultyProblem domain)
+pub problem_grammar : OneReading → (domain : DomainTree) → IsGrammar (SpellsProblemOf domain) (IsFaultyProblem domain)
 problem_grammar one domain = record {
   one_tree = λ bytes p q. one.one_problem bytes domain p q;
   one_refusal = λ name bytes r s wrong other. wrong.2 ∙ ap (text_fault name) (one.one_problem_fault bytes domain wrong.0 other.0 wrong.1 other.1) ∙ sym other.2;

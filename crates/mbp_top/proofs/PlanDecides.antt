@@ -40,7 +40,7 @@ of_layers : (class : Class) (sys : System) (rules other : List PlanRule) → Are
 of_layers class sys rules other first second = first.2 ∙ ap (printed_rules class sys) (one_last class sys first.0 second.0 first.1 second.1) ∙ sym second.2
 
 -- one list of rules at most is printed
-one_list : (class : Class) (sys : System) → IsSystem sys → (rules other : List PlanRule) → ArePrintedRules class sys rules → ArePrintedRules class sys other → rules ≡ other
+pub one_list : (class : Class) (sys : System) → IsSystem sys → (rules other : List PlanRule) → ArePrintedRules class sys rules → ArePrintedRules class sys other → rules ≡ other
 one_list Weak sys ok rules other first second = of_layers Weak sys rules other first second
 one_list Strong sys ok rules other first second = of_layers Strong sys rules other first second
 one_list Cyclic sys ok rules other first second = first.2 ∙ one_cyclic sys ok first.0 second.0 first.1 second.1 ∙ sym second.2

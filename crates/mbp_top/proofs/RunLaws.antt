@@ -13,7 +13,7 @@ use Rattle.mbp_top.specs.Delivery.{IsDelivered}
 use Rattle.mbp_top.specs.Enough.{IsTightLimit}
 use Rattle.mbp_top.specs.Fetching.{FetchesFiles}
 use Rattle.mbp_top.specs.Grounding.{has_goal_for}
-use Rattle.mbp_top.specs.Laws.{AreQuietSinks, ComesToListing, ComesToReplay, HasStatus, IsAnswered, IsCutOff, IsDueAnswer, IsDueStatus, IsFullAtLimit, IsListing, IsNo, IsQuietShelf, IsReplayOf, IsYes}
+use Rattle.mbp_top.specs.Laws.{AreQuietSinks, ComesToListing, ComesToReplay, HasStatus, IsAnswered, IsCutOff, IsDrillOf, IsDueAnswer, IsDueStatus, IsFullAtLimit, IsFullDrill, IsListing, IsNo, IsQuietShelf, IsReplayOf, IsYes}
 use Rattle.mbp_top.specs.Meets.{PlanMeets}
 use Rattle.mbp_top.specs.OneReading.{OneReading}
 use Rattle.mbp_top.specs.PddlTexts.{HoldBoth}
@@ -24,6 +24,7 @@ use Rattle.mbp_top.specs.Told.{AreFilesTold, NoFault}
 use Rattle.mbp_top.specs.Words.{Bytes, CheckWords, Command, PlanWords, SayNothing, Says, SaysCheck, SaysPlan}
 use Rattle.mbp_top.proofs.ByCommand.{due_answer}
 use Rattle.mbp_top.proofs.CheckWritten.{YesSolves, check_no_written, check_status, check_yes_written}
+use Rattle.mbp_top.proofs.DrillWritten.{drill_written, full_drill}
 use Rattle.mbp_top.proofs.GroundWritten.{listing_status, listing_written}
 use Rattle.mbp_top.proofs.PlanWritten.{NoPlanWritten, PlanWritten, full_written, no_plan_written, plan_status, plan_written}
 use Rattle.mbp_top.proofs.ReplayWritten.{run_status, run_written}
@@ -103,6 +104,14 @@ module _ {S : Type 0} (held : S → Bytes → Held) (faults : S → ℕ) (fetche
     is_replay asked says zero =
         let w = run_written _ _ _ _ _ _ _ _ _ _ _ _ asked it_is says zero in
         (w.domain, w.problem, w.plan, w.recorded, w.first, w.told, w.both, w.within, w.files, w.steps, w.written)
+
+    pub is_drill : IsDrillOf run
+    is_drill asked says zero =
+        let w = drill_written _ _ _ _ _ _ _ _ _ _ _ _ asked it_is says zero in
+        (w.domain, w.problem, w.weak, w.strong, w.cyclic, w.both, w.within, w.weak_is, w.strong_is, w.cyclic_is, w.written)
+
+    pub is_full_drill : IsFullDrill run
+    is_full_drill asked says five = full_drill _ _ _ _ _ _ _ _ _ _ _ _ asked it_is says five
 
     pub quiet_shelf_is : IsQuietShelf faults run
     quiet_shelf_is six seven eight =

@@ -8,10 +8,11 @@ use Rattle.plan_io.specs.Held.{Held}
 use Rattle.mbp_top.specs.Answers.{Answer, affirmed, denied, refused, no_command, text_fault, over_limit, read_fault, no_memory, full, stray_outcome, unexecutable, status_of, text_of, is_shown}
 use Rattle.mbp_top.specs.Causes.{HasCause, IsQuietAt, MayHaveFault}
 use Rattle.mbp_top.specs.Delivery.{Seen, IsWhole, IsCut, IsDelivered}
+use Rattle.mbp_top.specs.DrillCommand.{MayDrillRunOut}
 use Rattle.mbp_top.specs.PlanCommand.{MayRunOut}
 use Rattle.mbp_top.specs.ReplayCommand.{Tallies}
 use Rattle.mbp_top.specs.Told.{AreFilesTold, IsDue, MayStandIn, NoFault}
-use Rattle.mbp_top.specs.Words.{Bytes, PlanWords, SaysPlan}
+use Rattle.mbp_top.specs.Words.{Bytes, DrillWords, PlanWords, SaysDrill, SaysPlan}
 use Rattle.mbp_top.proofs.ByCommand.{due_answer, memory_instead}
 use Rattle.mbp_top.specs.OneReading.{OneReading}
 
@@ -114,13 +115,16 @@ undisturbed answer out out' err err' status no_out no_err (inr (is, inr cut)) = 
 
 -- the status where the table of nodes is full
 abbrev pub IsFullStatus : (Bytes → Held) → List Bytes → ℕ → Type 0
-IsFullStatus held words status = (status ≡ 5) × (asked : PlanWords) × SaysPlan words asked × MayRunOut held asked
+IsFullStatus held words status =
+    ((status ≡ 5) × (asked : PlanWords) × SaysPlan words asked × MayRunOut held asked)
+    ⊎ ((status ≡ 5) × (asked : DrillWords) × SaysDrill words asked × MayDrillRunOut asked)
 
 same_code : (held : Bytes → Held) (words : List Bytes) (a b : Answer) (status : ℕ) → (a ≡ b) ⊎ MayStandIn held words a → status ≡ status_of a
     → (status ≡ status_of b) ⊎ (status ≡ 8) ⊎ IsFullStatus held words status
 same_code held words a b status (inl is) code = inl (code ∙ ap status_of is)
 same_code held words a b status (inr (inl is)) code = inr (inl (code ∙ ap status_of is))
-same_code held words a b status (inr (inr (asked, says, may, is))) code = inr (inr (code ∙ ap status_of is, asked, says, may))
+same_code held words a b status (inr (inr (inl (asked, says, may, is)))) code = inr (inr (inl (code ∙ ap status_of is, asked, says, may)))
+same_code held words a b status (inr (inr (inr (asked, says, may, is)))) code = inr (inr (inr (code ∙ ap status_of is, asked, says, may)))
 
 -- the status is that of the answer that is due
 pub due_status : OneReading → (held : Bytes → Held) (failed : Bytes → Type 0) (tallies : Tallies) (words : List Bytes) (before after : ℕ) (out out' err err' : Seen) (status : ℕ) (a b : Answer)

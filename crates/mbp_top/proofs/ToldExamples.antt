@@ -7,7 +7,7 @@ use Rattle.task_core.specs.declared.classes.Class.TheVariants.{Weak, Strong}
 use Rattle.mbp_top.specs.Answers.{full, no_command, over_limit, read_fault, refused, status_of, text_of}
 use Rattle.mbp_top.specs.ReplayCommand.{Tallies}
 use Rattle.mbp_top.specs.Told.{AreFilesTold, IsDue}
-use Rattle.mbp_top.specs.Words.{Bytes, Command, PlanWords, of_class, plan, ground, check, replay, Says, files_of}
+use Rattle.mbp_top.specs.Words.{Bytes, Command, PlanWords, of_class, plan, ground, check, replay, drill, Says, files_of}
 
 -- the words `plan weak coin-d coin-p`, the command that they say, and the two files that it names
 abbrev coin_words : List Bytes
@@ -62,6 +62,7 @@ plan_alone (plan asked) says = let written = says.written in cc
 plan_alone (ground asked) says = cc
 plan_alone (check asked) says = cc
 plan_alone (replay asked) says = cc
+plan_alone (drill asked) says = let written = says.written in cc
 
 -- so the answer to it is that, whatever the files
 no_command_due : (held : Bytes → Held) (tallies : Tallies) → IsDue held tallies (codes "plan" ∷ []) (refused no_command)

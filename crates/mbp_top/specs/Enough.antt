@@ -14,6 +14,9 @@ enough stages sys =
     + (sys.actions * (most_outcomes sys * (sys.fluents + 1) + stages + 6) + 8 * stages + 256)
     * 2 ^ sys.fluents
 
--- a table for so many nodes may be too small for a problem
+-- a table for so many nodes may be too small for a problem: they are fewer than are enough, and
+-- fewer than all sets that there are over its fluents. With as many as are enough no call finds the
+-- table full, since it finds it so only where the live sets and its own pieces have more nodes than
+-- the limit, once all others are dropped
 abbrev pub IsTightLimit : ℕ → ℕ → System → Type 0
 IsTightLimit stages nodes sys = Tight nodes sys.fluents (enough stages sys)

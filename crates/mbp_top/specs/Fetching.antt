@@ -2,7 +2,7 @@
 -- and nothing in them refuses the command. `held` and `fetched` are what the shelf tells.
 use Rattle.std.specs.Prelude.{◌≡◌, ⊤, List, None, true}
 use Rattle.pddl_ast.specs.Trees.{DomainTree, ProblemTree}
-use Rattle.pddl_domain.specs.Domains.{SpellsDomain}
+use Rattle.domain_read.specs.Domains.{SpellsDomain}
 use Rattle.pddl_system.specs.Sizes.{first_passed}
 use Rattle.pddl_system.specs.Systems.{action_names, fluent_names}
 use Rattle.plan_io.specs.Fetches.{FetchesNothing, MayFetch}
@@ -14,7 +14,7 @@ use Rattle.mbp_top.specs.PddlTexts.{HoldBoth}
 use Rattle.mbp_top.specs.PlanFiles.{HoldsPlan}
 use Rattle.mbp_top.specs.Reading.{Holds}
 use Rattle.mbp_top.specs.Words.{Bytes, CheckWords, Command, ReplayWords, check, ground, plan}
-use Rattle.mbp_top.specs.Words.{replay}
+use Rattle.mbp_top.specs.Words.{drill, replay}
 
 -- the file of this name spells a domain
 abbrev pub HoldsDomain : (Bytes → Held) → Bytes → Type 0
@@ -74,3 +74,4 @@ FetchesFiles {S} held fetched (check asked) =
 FetchesFiles {S} held fetched (replay asked) =
     FetchesBoth held fetched asked.domain asked.problem
     (FetchesRun fetched asked (AsksForRun held asked) (AsksForRecord held asked))
+FetchesFiles {S} held fetched (drill asked) = FetchesNothing

@@ -1,31 +1,36 @@
 -- What follows for every run that has its cause: statements of laws. `held`, `faults` and `fetched`
 -- are what the shelf tells.
-use Rattle.std.specs.Prelude.{◌≡◌, ◌≢◌, ◌⊎◌, ℕ, [], ◌∷◌, Contains, List, None, Option}
+use Rattle.std.specs.Prelude.{◌≡◌, ◌≢◌, ◌<◌, ◌⊎◌, ℕ, [], ◌∷◌, Contains, List, None, Option}
+use Rattle.std.specs.Prelude.{length, slice_index_or}
 use Rattle.std.specs.Io.KnownBytes.{append_known}
 use Rattle.pddl_ast.specs.Trees.{DomainTree, ProblemTree}
 use Rattle.pddl_system.specs.Sizes.{first_passed}
 use Rattle.pddl_system.specs.Systems.{action_names, fluent_names, system}
 use Rattle.plan_check.specs.declared.verdicts.Reason.{Reason}
 use Rattle.plan_check.specs.declared.verdicts.Verdict.TheVariants.{Yes, No}
-use Rattle.plan_io.specs.Held.{Held}
+use Rattle.plan_io.specs.Held.{Held, Missing}
 use Rattle.plan_rules.specs.Rules.{PlainPlan}
 use Rattle.run_replay.specs.Records.{RecordTree}
 use Rattle.run_replay.specs.declared.worlds.Step.{Step}
 use Rattle.task_core.specs.Vectors.{Vector}
-use Rattle.mbp_top.specs.Answers.{Answer, full, refused, status_of, text_of}
+use Rattle.task_core.specs.declared.classes.Class.TheVariants.{Weak, Strong, Cyclic}
+use Rattle.mbp_top.specs.Answers.{Answer, full, read_fault, refused, status_of, text_of}
 use Rattle.mbp_top.specs.Causes.{HasCause, IsQuietAt}
 use Rattle.mbp_top.specs.CheckCommand.{HasBound, HasTooManyStates, IsFirstAgainst, verdict_answer}
 use Rattle.mbp_top.specs.Delivery.{IsCut, IsDelivered, IsWhole}
+use Rattle.mbp_top.specs.DrillCommand.{IsClassLine, MayDrillRunOut, SpellBoth, drill_text}
 use Rattle.mbp_top.specs.GroundCommand.{listing_of}
 use Rattle.mbp_top.specs.Meets.{PlanMeets}
 use Rattle.mbp_top.specs.PddlTexts.{HoldBoth}
 use Rattle.mbp_top.specs.PlanCommand.{MayRunOut}
 use Rattle.mbp_top.specs.PlanFiles.{HoldsPlan}
+use Rattle.mbp_top.specs.Reading.{IsFile}
 use Rattle.mbp_top.specs.ReplayCommand.{AreToldAs, HoldRun, ended_status, replay_text, trace_under}
 use Rattle.mbp_top.specs.Runs.{FailedIn, HasRun, IsTold, IsUndisturbed, Run}
 use Rattle.mbp_top.specs.Told.{IsDue, MayStandIn}
 use Rattle.mbp_top.specs.Words.{Bytes, CheckWords, GroundWords, PlanWords, ReplayWords, SaysCheck}
-use Rattle.mbp_top.specs.Words.{SaysGround, SaysPlan, SaysReplay}
+use Rattle.mbp_top.specs.Words.{DrillWords, SaysDrill, SaysGround, SaysPlan, SaysReplay}
+use Rattle.mbp_top.specs.Words.{Command, Says, default_nodes, files_of}
 
 -- of every run that has its cause
 abbrev pub OfRuns : {S : Type 0} → (S → Bytes → Held) → (S → ℕ) → (S → Bytes → S → Type 0)
@@ -143,6 +148,52 @@ ComesToReplay {S} held faults run =
     ≡ ended_status (trace_under (system domain problem) plan first recorded.words).ending)
     ⊎ (run.status ≡ 8)
 
+-- `drill`, status 0: the two texts that are made spell a domain and a problem within the limits, and
+-- the text that was written has the number of their fluents and actions, and for each class the line
+-- that no table is a solution of it, or that of the printed rules, with their number and the verdict
+-- on them
+abbrev pub IsDrillOf : {S : Type 0} → Run S → Type 0
+IsDrillOf {S} run =
+    (asked : DrillWords) → SaysDrill run.words asked → run.status ≡ 0
+    → (domain : DomainTree) × (problem : ProblemTree) × (weak : Bytes) × (strong : Bytes)
+    × (cyclic : Bytes) × SpellBoth asked domain problem × (first_passed domain problem ≡ None)
+    × IsClassLine (HasTooManyStates domain problem) Weak (system domain problem) weak
+    × IsClassLine (HasTooManyStates domain problem) Strong (system domain problem) strong
+    × IsClassLine (HasTooManyStates domain problem) Cyclic (system domain problem) cyclic
+    × (run.out_after.written ≡ append_known run.out.written
+    (drill_text asked (system domain problem) weak strong cyclic))
+
+-- `drill`, status 5: the number of nodes may be too small for the problem that the two texts spell,
+-- and it is what was written
+abbrev pub IsFullDrill : {S : Type 0} → Run S → Type 0
+IsFullDrill {S} run =
+    (asked : DrillWords) → SaysDrill run.words asked → run.status ≡ 5
+    → MayDrillRunOut asked
+    × (run.err_after.written
+    ≡ append_known run.err.written (text_of (refused (full default_nodes))))
+
+-- the file of this place in the command can't be read: there is none of its name, or the count of
+-- faults rose in its fetch, the last of the run. The files before it were read, and its name is what
+-- was written
+pub record IsUnreadAt {S : Type 0} (held : S → Bytes → Held) (faults : S → ℕ)
+    (fetched : S → Bytes → S → Type 0) (run : Run S) (files : List Bytes)
+    (place : ℕ) (name : Bytes) : Type 0 where
+  pub there : place < length files
+  pub named : slice_index_or files place [] ≡ name
+  pub before : (i : ℕ) → i < place
+      → (bytes : Bytes) × IsFile (held run.shelf) (slice_index_or files i []) bytes
+  pub unread : (held run.shelf name ≡ Missing) ⊎ FailedIn faults fetched run name
+  pub written : run.err_after.written
+      ≡ append_known run.err.written (text_of (refused (read_fault name)))
+
+-- status 6: a file of the command can't be read
+abbrev pub IsUnread : {S : Type 0} → (S → Bytes → Held) → (S → ℕ) → (S → Bytes → S → Type 0)
+    → Run S → Type 0
+IsUnread {S} held faults fetched run =
+    (command : Command) → Says run.words command → run.status ≡ 6
+    → (place : ℕ) × (name : Bytes)
+    × IsUnreadAt held faults fetched run (files_of command) place name
+
 -- where the shelf tells of the files and has no fault, the words and the files alone decide the
 -- answer, but for want of memory, or of nodes where there may be too few; of `replay` also what the
 -- monitors make of its steps
@@ -161,6 +212,8 @@ IsDueStatus {S} held faults run =
     → (run.status ≡ status_of answer) ⊎ (run.status ≡ 8)
     ⊎ ((run.status ≡ 5) × (asked : PlanWords) × SaysPlan run.words asked
     × MayRunOut (held run.shelf) asked)
+    ⊎ ((run.status ≡ 5) × (asked : DrillWords) × SaysDrill run.words asked
+    × MayDrillRunOut asked)
 
 -- the shelf's count of faults is as it was unless a file can't be read, the answer can't be written
 -- or memory is wanted

@@ -12,6 +12,7 @@ pub mod PlanCommand
 pub mod PlanFiles
 pub mod CheckCommand
 pub mod ReplayCommand
+pub mod DrillCommand
 pub mod Fetching
 pub mod Causes
 pub mod Told

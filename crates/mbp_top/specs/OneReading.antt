@@ -1,7 +1,7 @@
 -- Private: that a text is read in one way.
 use Rattle.std.specs.Prelude.{◌≡◌, ℕ, List}
 use Rattle.pddl_ast.specs.Trees.{DomainTree, ProblemTree}
-use Rattle.pddl_domain.specs.Domains.{SpellsDomain, HasDomainFault}
+use Rattle.domain_read.specs.Domains.{SpellsDomain, HasDomainFault}
 use Rattle.pddl_problem.specs.Problems.{SpellsProblem, HasProblemFault}
 use Rattle.plan_check.specs.Verdicts.{IsVerdict}
 use Rattle.plan_check.specs.declared.verdicts.Verdict.{Verdict}

@@ -2,7 +2,7 @@
 -- fault other bytes are refused.
 use Rattle.std.specs.Prelude.{◌≡◌}
 use Rattle.pddl_ast.specs.Trees.{DomainTree, ProblemTree}
-use Rattle.pddl_domain.specs.Domains.{HasDomainFault, ReadsAsDomain, SpellsDomain}
+use Rattle.domain_read.specs.Domains.{HasDomainFault, ReadsAsDomain, SpellsDomain}
 use Rattle.pddl_problem.specs.Problems.{HasProblemFault, ReadsAsProblem, SpellsProblem}
 use Rattle.plan_io.specs.Held.{Held}
 use Rattle.sexpr_text.specs.declared.faults.InputFault.{InputFault}

@@ -4,9 +4,11 @@ use Rattle.plan_io.specs.Counts.{Rose}
 use Rattle.plan_io.specs.Held.{Held, Untold}
 use Rattle.mbp_top.specs.Answers.{Answer, refused, full, no_memory}
 use Rattle.mbp_top.specs.Causes.{HasCause}
+use Rattle.mbp_top.specs.DrillCommand.{MayDrillRunOut}
 use Rattle.mbp_top.specs.PlanCommand.{MayRunOut}
 use Rattle.mbp_top.specs.ReplayCommand.{Tallies}
-use Rattle.mbp_top.specs.Words.{Bytes, Command, PlanWords, Says, SaysPlan, files_of}
+use Rattle.mbp_top.specs.Words.{Bytes, Command, DrillWords, PlanWords, Says, SaysDrill, SaysPlan}
+use Rattle.mbp_top.specs.Words.{default_nodes, files_of}
 
 -- of each file that the words name, the shelf tells its bytes, or that there is none
 abbrev pub AreFilesTold : (Bytes → Held) → List Bytes → Type 0
@@ -24,12 +26,15 @@ pub record IsDue (held : Bytes → Held) (tallies : Tallies) (words : List Bytes
   pub not_full : (nodes : ℕ) → answer ≢ refused (full nodes)
 
 -- an answer that may be given in place of one that is due: want of memory; or that the table of
--- nodes is full, where the words ask for a plan of a problem for which their limit may be too small
+-- nodes is full, where the words ask for a plan of a problem, or for plans of one that is made, for
+-- which the limit may be too small
 abbrev pub MayStandIn : (Bytes → Held) → List Bytes → Answer → Type 0
 MayStandIn held words given =
     (given ≡ refused no_memory)
     ⊎ ((asked : PlanWords) × SaysPlan words asked × MayRunOut held asked
     × (given ≡ refused (full asked.options.nodes)))
+    ⊎ ((asked : DrillWords) × SaysDrill words asked × MayDrillRunOut asked
+    × (given ≡ refused (full default_nodes)))
 
 -- no fault came: the count of faults didn't rise
 abbrev pub NoFault : ℕ → ℕ → Type 0

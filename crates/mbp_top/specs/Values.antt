@@ -12,6 +12,7 @@ use Rattle.mbp_top.specs.PlanFiles.{PlacedPlan}
 use Rattle.mbp_top.specs.Words.{Bytes, PlanKind, PlanOptions, PlanWords, GroundWords, CheckWords}
 use Rattle.mbp_top.specs.Words.{of_class, plan, with_contexts}
 use Rattle.mbp_top.specs.Words.{ReplayWords, ground, check, replay, Says, SayNothing}
+use Rattle.mbp_top.specs.Words.{DrillKind, DrillWords, corridors, roads, drill}
 use Rattle.sexpr_text.specs.declared.faults.ReadErr.{ReadErr}
 use Rattle.sexpr_text.specs.declared.faults.ReadErr.TheVariants.{Fault, Memory}
 use Rattle.mbp_top.specs.declared.answers.Limit.{Limit}
@@ -27,7 +28,11 @@ use Rattle.mbp_top.specs.declared.answers.Shown.TheVariants.{Affirmed, Denied}
 use Rattle.mbp_top.specs.declared.answers.Text.{Text}
 use Rattle.mbp_top.specs.declared.answers.Text.TheVariants.{Fixed, Made}
 use Rattle.mbp_top.specs.declared.words.Command.{Command as CodeCommand}
-use Rattle.mbp_top.specs.declared.words.Command.TheVariants.{Plan, Ground, Check, Replay, Nothing}
+use Rattle.mbp_top.specs.declared.words.Command.TheVariants.{Plan, Ground, Check, Replay, Drill}
+use Rattle.mbp_top.specs.declared.words.Command.TheVariants.{Nothing}
+use Rattle.mbp_top.specs.declared.words.DrillKind.{DrillKind as CodeDrillKind}
+use Rattle.mbp_top.specs.declared.words.DrillKind.TheVariants.{Corridor, Tyres}
+use Rattle.mbp_top.specs.declared.words.DrillWords.{DrillWords as CodeDrillWords}
 use Rattle.mbp_top.specs.declared.words.PlanKind.{PlanKind as CodePlanKind}
 use Rattle.mbp_top.specs.declared.words.PlanKind.TheVariants.{Class, Contexts}
 use Rattle.mbp_top.specs.declared.words.PlanOptions.{PlanOptions as CodePlanOptions}
@@ -104,6 +109,13 @@ replay_words_of words = record {
   recorded = words.recorded.now;
 }
 
+abbrev pub drill_kind_of : CodeDrillKind → DrillKind
+drill_kind_of Corridor = corridors
+drill_kind_of Tyres = roads
+
+abbrev pub drill_words_of : CodeDrillWords → DrillWords
+drill_words_of words = record { kind = drill_kind_of words.kind; size = words.size }
+
 abbrev pub placed_of : PlanRead → PlacedPlan
 placed_of read = record { plan = plain_of read.plan; place = read.place }
 
@@ -113,6 +125,7 @@ IsSaid words (Plan asked) = Says words (plan (plan_words_of asked))
 IsSaid words (Ground asked) = Says words (ground (ground_words_of asked))
 IsSaid words (Check asked) = Says words (check (check_words_of asked))
 IsSaid words (Replay asked) = Says words (replay (replay_words_of asked))
+IsSaid words (Drill asked) = Says words (drill (drill_words_of asked))
 IsSaid words Nothing = SayNothing words
 
 -- the refusal of the file of this name for what was wrong in reading it

@@ -50,11 +50,27 @@ pub record ReplayWords : Type 0 where
   pub plan : Bytes
   pub recorded : Bytes
 
+-- the classes of problems that are made from a number: a corridor of rooms, and a road on which tyres
+-- go flat
+pub data DrillKind : Type 0 where
+  corridors : DrillKind
+  roads : DrillKind
+
+abbrev pub drill_word : DrillKind → Bytes
+drill_word corridors = codes "corridor"
+drill_word roads = codes "tyres"
+
+-- what `drill` is asked: to make the problem of this class of this size, and to plan for it
+pub record DrillWords : Type 0 where
+  pub kind : DrillKind
+  pub size : ℕ
+
 pub data Command : Type 0 where
   plan : PlanWords → Command
   ground : GroundWords → Command
   check : CheckWords → Command
   replay : ReplayWords → Command
+  drill : DrillWords → Command
 
 -- the most nodes that may be asked for, and how many there may be where nothing is said of them
 abbrev pub most_nodes : ℕ
@@ -66,6 +82,10 @@ default_nodes = 1048576
 -- so many nodes may be asked for
 abbrev pub IsNodeLimit : ℕ → Type 0
 IsNodeLimit nodes = (1 ≤ nodes) × (nodes ≤ most_nodes)
+
+-- a problem of this size may be asked for
+abbrev pub IsDrillSize : ℕ → Type 0
+IsDrillSize size = (2 ≤ size) × (size ≤ 120)
 
 -- nothing, or `--nodes N`, N in decimal digits without sign and without a leading zero
 abbrev pub SaysOptions : List Bytes → PlanOptions → Type 0
@@ -94,6 +114,11 @@ abbrev pub SaysReplay : List Bytes → ReplayWords → Type 0
 SaysReplay words asked =
     words ≡ codes "replay" ∷ asked.domain ∷ asked.problem ∷ asked.plan ∷ asked.recorded ∷ []
 
+-- `drill corridor N` or `drill tyres N`, N in decimal digits without sign and without a leading zero
+pub record SaysDrill (words : List Bytes) (asked : DrillWords) : Type 0 where
+  pub room : IsDrillSize asked.size
+  pub written : words ≡ codes "drill" ∷ drill_word asked.kind ∷ decimal asked.size ∷ []
+
 -- the words say the command. Fixed words are compared exactly, with case, and names may be any
 -- words
 abbrev pub Says : List Bytes → Command → Type 0
@@ -101,6 +126,7 @@ Says words (plan asked) = SaysPlan words asked
 Says words (ground asked) = SaysGround words asked
 Says words (check asked) = SaysCheck words asked
 Says words (replay asked) = SaysReplay words asked
+Says words (drill asked) = SaysDrill words asked
 
 -- the words say no command
 abbrev pub SayNothing : List Bytes → Type 0
@@ -112,3 +138,4 @@ files_of (plan asked) = asked.domain ∷ asked.problem ∷ []
 files_of (ground asked) = asked.domain ∷ asked.problem ∷ []
 files_of (check asked) = asked.domain ∷ asked.problem ∷ asked.plan ∷ []
 files_of (replay asked) = asked.domain ∷ asked.problem ∷ asked.plan ∷ asked.recorded ∷ []
+files_of (drill asked) = []

@@ -30,13 +30,13 @@ pub(crate) const WRITE_FAULT: u8 = 7;
 
 /// A text: one that is always the same, or one that was made.
 #[derive(Drop)]
-pub(crate) enum Text {
+pub enum Text {
     Fixed(&'static str),
     Made(Vec<u8>),
 }
 
 impl Text {
-    pub(crate) fn as_bytes(&self) -> &[u8]
+    pub fn as_bytes(&self) -> &[u8]
         ensures { result.now ≡ bytes_of self.now }
     {
         match self {
@@ -48,7 +48,7 @@ impl Text {
 
 /// What a command shows on standard output, with its text.
 #[derive(Drop)]
-pub(crate) enum Shown {
+pub enum Shown {
     /// It says yes: a plan.
     Affirmed(Text),
     /// It says no: that there is no plan.
@@ -57,7 +57,7 @@ pub(crate) enum Shown {
 
 impl Shown {
     /// The exit status.
-    pub(crate) fn status(&self) -> u8
+    pub fn status(&self) -> u8
         ensures { result ≡ status_of (shown_of self.now) }
     {
         match self {
@@ -66,7 +66,7 @@ impl Shown {
         }
     }
 
-    pub(crate) fn as_bytes(&self) -> &[u8]
+    pub fn as_bytes(&self) -> &[u8]
         ensures { result.now ≡ text_of (shown_of self.now) }
     {
         match self {
@@ -78,7 +78,7 @@ impl Shown {
 
 /// What must not be passed.
 #[derive(Clone, Copy)]
-pub(crate) enum Limit {
+pub enum Limit {
     /// The bytes of a file.
     File,
     /// Constants and objects.
@@ -101,7 +101,7 @@ pub(crate) enum Limit {
 }
 
 impl Limit {
-    pub(crate) fn name(self) -> &'static str
+    pub fn name(self) -> &'static str
         ensures { result.now ≡ limit_of self }
     {
         match self {
@@ -121,7 +121,7 @@ impl Limit {
 
 /// Why a command, or what is no command, is refused: one line on standard error.
 #[derive(Drop)]
-pub(crate) enum Refusal {
+pub enum Refusal {
     /// The words are none of the commands.
     NoCommand,
     /// The text of the file of this name has this fault.
@@ -151,7 +151,7 @@ impl From<AllocError> for Refusal {
 
 impl Refusal {
     /// The exit status.
-    pub(crate) fn status(&self) -> u8
+    pub fn status(&self) -> u8
         ensures { result ≡ status_of_refusal (refusal_of self.now) }
     {
         match self {
@@ -166,7 +166,7 @@ impl Refusal {
     }
 
     /// The line, with its end.
-    pub(crate) fn line(&self, alloc: Global) -> Result<Text, AllocError>
+    pub fn line(&self, alloc: Global) -> Result<Text, AllocError>
         ensures line { IfOk result (λ line. bytes_of line
             ≡ line_of (refusal_of self.now) ++ line_feed) }
         ensures no_command { refusal_of self.now ≡ no_command → IsOk result }

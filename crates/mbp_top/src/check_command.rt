@@ -141,7 +141,12 @@ fn is_plan_of_kind(kind: PlanKind, plan: &Plan) -> bool
 }
 
 /// The verdict on a plan of the kind.
-fn judge(alloc: Global, kind: PlanKind, grounded: &Grounded, plan: &Plan) -> Result<Shown, Refusal>
+pub fn judge(
+    alloc: Global,
+    kind: PlanKind,
+    grounded: &Grounded,
+    plan: &Plan,
+) -> Result<Shown, Refusal>
     requires goal { HasGoalIn (kind_of kind) grounded.now.task grounded.now.ctl }
     requires goal_names { IfSome grounded.now.ctl
         (λ goal. NamesBelow (fluent_count grounded.now.task) (ctl_value goal)) }
@@ -207,7 +212,7 @@ fn context_verdict(alloc: Global, grounded: &Grounded, graph: &Graph) -> Result<
 }
 
 /// What is shown of a verdict.
-fn show_verdict(alloc: Global, verdict: &Verdict) -> Result<Shown, AllocError>
+pub(crate) fn show_verdict(alloc: Global, verdict: &Verdict) -> Result<Shown, AllocError>
     ensures { IfOk result (λ shown. shown_of shown ≡ verdict_answer verdict.now) }
 {
     Ok(match verdict {

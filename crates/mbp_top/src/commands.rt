@@ -10,6 +10,7 @@ ghost use Rattle.std.specs.Prelude.{◌≡◌, ◌≤◌, All, List, map, string
 
 use crate::answers::{Refusal, Shown};
 use crate::check_command::check_files;
+use crate::drill_command::run_drill;
 use crate::ground_command::ground_files;
 use crate::plan_command::plan_files;
 use crate::replay_command::replay_files;
@@ -43,6 +44,7 @@ pub(crate) fn answer<S: Shelf>(
         Command::Ground(asked) => ground_files(alloc, shelf, &asked),
         Command::Check(asked) => check_files(alloc, shelf, &asked),
         Command::Replay(asked) => replay_files(alloc, shelf, &asked, world, monitors),
+        Command::Drill(asked) => run_drill(alloc, &asked),
         Command::Nothing => Err(Refusal::NoCommand),
     }
 }

@@ -26,7 +26,7 @@ use std::alloc::{AllocError, Global};
 
 /// Writes an answer where it belongs, and gives the exit status that comes of it. Where there is no
 /// memory for the line of a refusal, that is the answer.
-pub(crate) fn deliver<O: Sink, E: Sink>(
+pub fn deliver<O: Sink, E: Sink>(
     alloc: Global,
     answer: &Result<Shown, Refusal>,
     out: &mut O,

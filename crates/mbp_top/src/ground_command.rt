@@ -92,7 +92,7 @@ fn list_task(alloc: Global, task: &Task) -> Result<String, AllocError>
 }
 
 /// Appends a line with a word and a number.
-fn push_count(out: &mut String, word: &str, count: usize) -> Result<(), AllocError>
+pub(crate) fn push_count(out: &mut String, word: &str, count: usize) -> Result<(), AllocError>
     ensures { OnOk result
         (string_bytes out.new ≡ string_bytes out.old ++ line_of_count word.now count) }
 {

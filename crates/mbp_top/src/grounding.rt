@@ -37,7 +37,7 @@ fn has_goal(kind: PlanKind, problem: &Problem) -> bool
 }
 
 /// Whether the problem in the file of this name has a goal for plans of the kind.
-pub(crate) fn check_goal(
+pub fn check_goal(
     alloc: Global,
     kind: PlanKind,
     name: &str,
@@ -62,11 +62,7 @@ pub(crate) fn check_goal(
 }
 
 /// The task of a domain and a problem, and the goal in computation tree logic.
-pub(crate) fn ground_both(
-    alloc: Global,
-    domain: &Domain,
-    problem: &Problem,
-) -> Result<Grounded, Refusal>
+pub fn ground_both(alloc: Global, domain: &Domain, problem: &Problem) -> Result<Grounded, Refusal>
     requires fits_domain { FitsDomain (domain_value domain.now) }
     requires fits_problem { FitsProblem (domain_value domain.now) (problem_value problem.now) }
     requires names { NamesAreWords (domain_value domain.now) (problem_value problem.now) }

@@ -7,19 +7,22 @@ ghost use Rattle.mbp_top.specs.Laws.{
   HasStatus,
   IsAnswered,
   IsCutOff,
+  IsDrillOf,
   IsDueAnswer,
   IsDueStatus,
   IsFullAtLimit,
+  IsFullDrill,
   IsListing,
   IsNo,
   IsQuietShelf,
   IsReplayOf,
+  IsUnread,
   IsYes,
   OfRuns,
 };
 ghost use Rattle.mbp_top.specs.OneReading.{OneReading};
 
-use pddl_domain::domain_or_fault;
+use domain_read::domain_or_fault;
 use pddl_problem::one_answer;
 use plan_check::{one_verdict, yes_is_solution};
 use plan_io::Shelf;
@@ -96,6 +99,21 @@ pub fn plans_are_replayed<S: Shelf>()
     // This does nothing: all rests on what it promises.
     texts_are_read_one_way();
 }
+
+/// Status 0 of `drill` comes with the line of each class.
+pub fn drills_are_written<S: Shelf>()
+    ensures { OfRuns S.held S.faults S.fetched IsDrillOf }
+{}
+
+/// Status 5 of `drill` comes where the number of nodes may be too small.
+pub fn full_drills_are_tight<S: Shelf>()
+    ensures { OfRuns S.held S.faults S.fetched IsFullDrill }
+{}
+
+/// Status 6 comes with the name of the command's file that can't be read.
+pub fn unread_files_are_named<S: Shelf>()
+    ensures { OfRuns S.held S.faults S.fetched (IsUnread S.held S.faults S.fetched) }
+{}
 
 /// The words and the files alone decide the answer.
 pub fn due_answers_come<S: Shelf>()

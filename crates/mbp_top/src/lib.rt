@@ -2,11 +2,11 @@
 //!
 //! `specs/` says what the call answers: `Words` the commands, `Answers` each answer with its status
 //! and its text, `Reading` how a command reads its files, `PddlTexts` which domain and problem they
-//! spell, `Grounding` the limits, `PlanCommand`, `GroundCommand`, `CheckCommand` and
-//! `ReplayCommand` the answers of `plan`, `ground`, `check` and `replay`, `Enough` how many nodes
-//! are enough for a plan, `PlanFiles` how a plan is read, `Causes` the cause of each answer, `Told`
-//! what the words and the files alone decide, `Delivery` what is written, `Meets` when a plan meets
-//! a problem, `Runs` a run with all that, and `Laws` what follows of each run.
+//! spell, `Grounding` the limits, `PlanCommand`, `GroundCommand`, `CheckCommand`, `ReplayCommand` and
+//! `DrillCommand` the answers of `plan`, `ground`, `check`, `replay` and `drill`, `Enough` how many
+//! nodes are enough for a plan, `PlanFiles` how a plan is read, `Causes` the cause of each answer,
+//! `Told` what the words and the files alone decide, `Delivery` what is written, `Meets` when a plan
+//! meets a problem, `Runs` a run with all that, and `Laws` what follows of each run.
 #![tactic(auto)]
 
 mod answers;
@@ -14,6 +14,7 @@ mod chain_command;
 mod check_command;
 mod commands;
 mod delivery;
+mod drill_command;
 mod files;
 mod ground_command;
 mod grounding;
@@ -27,10 +28,17 @@ mod runs;
 mod top;
 mod words;
 
-pub use answers::NO_MEMORY;
+pub use answers::{Limit, NO_MEMORY, Refusal, Shown, Text};
+pub use check_command::judge;
+pub use delivery::deliver;
+pub use grounding::{check_goal, ground_both};
 pub use laws::{
-    answers_are_cut, answers_are_whole, due_answers_come, due_statuses_come, full_tables_are_tight,
-    listings_are_written, plans_are_replayed, plans_meet_at_yes, problems_are_listed,
-    reasons_come_at_no, shelves_stay_quiet, sinks_stay_quiet, statuses_are_ten, traces_are_written,
+    answers_are_cut, answers_are_whole, drills_are_written, due_answers_come, due_statuses_come,
+    full_drills_are_tight, full_tables_are_tight, listings_are_written, plans_are_replayed,
+    plans_meet_at_yes, problems_are_listed, reasons_come_at_no, shelves_stay_quiet,
+    sinks_stay_quiet, statuses_are_ten, traces_are_written, unread_files_are_named,
 };
+pub use pddl_texts::read_both;
+pub use plan_command::plan_grounded;
 pub use top::run;
+pub use words::{PlanKind, PlanOptions, PlanWords, plan_words};

@@ -10,21 +10,21 @@ ghost use Rattle.mbp_top.specs.PddlTexts.{
   ReadBoth,
   SpellsProblemOf,
 };
-ghost use Rattle.mbp_top.specs.Reading.{Holds, IsRefusedFile};
+ghost use Rattle.mbp_top.specs.Reading.{Holds, IsRefusedFile, file_limit};
 ghost use Rattle.mbp_top.specs.Values.{refusal_for, refusal_of};
 ghost use Rattle.pddl_ast.specs.Fits.{FitsDomain, FitsProblem};
 ghost use Rattle.pddl_ast.specs.Values.{domain_value, problem_value};
 ghost use Rattle.pddl_system.specs.Names.{NamesAreWords};
-ghost use Rattle.pddl_domain.specs.Domains.{SpellsDomain};
+ghost use Rattle.domain_read.specs.Domains.{SpellsDomain};
 ghost use Rattle.pddl_domain.specs.WordNames.{HasWordNames};
 ghost use Rattle.pddl_problem.specs.WordNames.{HasWordObjects};
 ghost use Rattle.plan_io.specs.Fetches.{FailedLast, Fetches, FetchesNothing};
-ghost use Rattle.std.specs.Prelude.{◌≡◌, ◌≤◌, ◌⊎◌, [], ◌∷◌, IfErr, IfOk, List, OnOk, ℕ};
+ghost use Rattle.std.specs.Prelude.{◌≡◌, ◌≤◌, ◌⊎◌, [], ◌∷◌, IfErr, IfOk, List, OnOk, length, ℕ};
 
 use crate::answers::Refusal;
 use crate::files::fetch;
+use domain_read::read_domain;
 use pddl_ast::{Domain, Problem};
-use pddl_domain::read_domain;
 use pddl_problem::read_problem;
 use pddl_system::read_names_are_words;
 use plan_io::Shelf;
@@ -39,6 +39,43 @@ pub(crate) fn misread(alloc: Global, name: &str, error: ReadErr) -> Result<Refus
         ReadErr::Fault(fault) => Refusal::TextFault(String::from_str(alloc, name)?, fault),
         ReadErr::Memory => Refusal::NoMemory,
     })
+}
+
+/// The domain that a text under this name spells.
+pub(crate) fn domain_in(alloc: Global, name: &str, text: &[u8]) -> Result<Domain, Refusal>
+    requires short { length text.now ≤ file_limit }
+    ensures spells { IfOk result (λ d. SpellsDomain text.now (domain_value d)) }
+    ensures fits { IfOk result (λ d. FitsDomain (domain_value d)) }
+    ensures words { IfOk result (λ d. HasWordNames (domain_value d)) }
+    ensures refused { IfErr result (λ refusal. (refusal_of refusal ≡ no_memory)
+        ⊎ IsFaultyDomain name.now text.now (refusal_of refusal)) }
+{
+    match read_domain(alloc, text) {
+        Ok(domain) => Ok(domain),
+        Err(error) => Err(misread(alloc, name, error)?),
+    }
+}
+
+/// The problem of a domain that a text under this name spells.
+pub(crate) fn problem_in(
+    alloc: Global,
+    name: &str,
+    text: &[u8],
+    domain: &Domain,
+) -> Result<Problem, Refusal>
+    requires short { length text.now ≤ file_limit }
+    requires fits { FitsDomain (domain_value domain.now) }
+    ensures spells { IfOk result
+        (λ p. SpellsProblemOf (domain_value domain.now) text.now (problem_value p)) }
+    ensures fits { IfOk result (λ p. FitsProblem (domain_value domain.now) (problem_value p)) }
+    ensures words { IfOk result (λ p. HasWordObjects (problem_value p)) }
+    ensures refused { IfErr result (λ refusal. (refusal_of refusal ≡ no_memory)
+        ⊎ IsFaultyProblem (domain_value domain.now) name.now text.now (refusal_of refusal)) }
+{
+    match read_problem(alloc, text, domain) {
+        Ok(problem) => Ok(problem),
+        Err(error) => Err(misread(alloc, name, error)?),
+    }
 }
 
 /// The domain in a file.
@@ -63,10 +100,7 @@ pub(crate) fn read_domain_file<S: Shelf>(
     ensures later { S.faults shelf.old ≤ S.faults shelf.new }
 {
     let bytes = fetch(alloc, shelf, name)?;
-    match read_domain(alloc, &bytes) {
-        Ok(domain) => Ok(domain),
-        Err(error) => Err(misread(alloc, name, error)?),
-    }
+    domain_in(alloc, name, &bytes)
 }
 
 /// The problem of a domain in a file.
@@ -95,14 +129,11 @@ pub(crate) fn read_problem_file<S: Shelf>(
     ensures later { S.faults shelf.old ≤ S.faults shelf.new }
 {
     let bytes = fetch(alloc, shelf, name)?;
-    match read_problem(alloc, &bytes, domain) {
-        Ok(problem) => Ok(problem),
-        Err(error) => Err(misread(alloc, name, error)?),
-    }
+    problem_in(alloc, name, &bytes, domain)
 }
 
 /// The domain and the problem of it in two files.
-pub(crate) fn read_both<S: Shelf>(
+pub fn read_both<S: Shelf>(
     alloc: Global,
     shelf: &mut S,
     domain_name: &str,

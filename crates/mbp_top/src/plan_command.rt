@@ -1,5 +1,6 @@
 //! The command `plan`.
 
+ghost use Rattle.dd_sets.specs.Frames.{Owns};
 ghost use Rattle.dd_sets.specs.Rooms.{IsTightFor};
 ghost use Rattle.encode_task.specs.Made.{MadeOf};
 ghost use Rattle.mbp_top.specs.Answers.{full, no_memory, refused};
@@ -25,6 +26,7 @@ ghost use Rattle.std.specs.Prelude.{
   ◌+◌,
   ◌*◌,
   ◌⊎◌,
+  [],
   IfOk,
   IsErrOf,
   IsSome,
@@ -96,7 +98,7 @@ fn plan_problem(
 }
 
 /// The plan for a task and its goals, which are those of the domain and the problem.
-fn plan_grounded(
+pub fn plan_grounded(
     alloc: Global,
     asked: &PlanWords,
     domain: &Domain,
@@ -177,13 +179,20 @@ fn search_task(alloc: Global, class: Class, nodes: u32, task: &Task) -> Result<F
     find_plan(alloc, class, task, &mut enc)
 }
 
-/// The plan for a task, over its sets.
-fn find_plan(alloc: Global, class: Class, task: &Task, enc: &mut Enc) -> Result<Found, SetErr>
+/// The plan for a task, over its sets, which stay the sets of the task.
+pub(crate) fn find_plan(
+    alloc: Global,
+    class: Class,
+    task: &Task,
+    enc: &mut Enc,
+) -> Result<Found, SetErr>
     requires made { MadeOf task.now enc.old }
     requires goal { IsSome task.now.goal }
     ensures found { IsSearched class task.now result }
     ensures full { IsErrOf result SetErr.Full
         → IsTightFor (3 * action_count task.now + 32) enc.old.sets }
+    ensures still_made { MadeOf task.now enc.new }
+    ensures slots { Owns enc.old.sets enc.new.sets [] }
 {
     // This does nothing: that the limit is tight for more slots, too, rests on what it promises.
     tight_is_monotone();
@@ -201,6 +210,8 @@ fn weak_plan(alloc: Global, task: &Task, enc: &mut Enc) -> Result<Found, SetErr>
     ensures found { IsSearched Class.Weak task.now result }
     ensures full { IsErrOf result SetErr.Full
         → IsTightFor (action_count task.now + 24) enc.old.sets }
+    ensures still_made { MadeOf task.now enc.new }
+    ensures slots { Owns enc.old.sets enc.new.sets [] }
 {
     // These do nothing: that no solution is shorter, and that the limit is tight where there was no
     // room, rests on what they promise.
@@ -217,6 +228,8 @@ fn strong_plan(alloc: Global, task: &Task, enc: &mut Enc) -> Result<Found, SetEr
     ensures found { IsSearched Class.Strong task.now result }
     ensures full { IsErrOf result SetErr.Full
         → IsTightFor (action_count task.now + 24) enc.old.sets }
+    ensures still_made { MadeOf task.now enc.new }
+    ensures slots { Owns enc.old.sets enc.new.sets [] }
 {
     // These do nothing: that no solution is shorter, and that the limit is tight where there was no
     // room, rests on what they promise.
@@ -233,6 +246,8 @@ fn strong_cyclic_plan(alloc: Global, task: &Task, enc: &mut Enc) -> Result<Found
     ensures found { IsSearched Class.Cyclic task.now result }
     ensures full { IsErrOf result SetErr.Full
         → IsTightFor (3 * action_count task.now + 32) enc.old.sets }
+    ensures still_made { MadeOf task.now enc.new }
+    ensures slots { Owns enc.old.sets enc.new.sets [] }
 {
     // This does nothing: that the limit is tight where there was no room rests on what it promises.
     no_room_is_tight();

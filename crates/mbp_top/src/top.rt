@@ -42,19 +42,22 @@ use std::alloc::Global;
 /// with contexts and a goal in computation tree logic: `plan KIND DOMAIN PROBLEM`, with or without
 /// the words `--nodes N` after it, N being the most nodes of a table of diagrams, 1 to 16,777,216
 /// and 1,048,576 where nothing is said; `ground DOMAIN PROBLEM`; `check KIND DOMAIN PROBLEM PLAN`,
-/// PLAN being the name of a plan's file; or `replay DOMAIN PROBLEM PLAN RECORD`, RECORD being the
-/// name of a record's file. The text of a plan, `no plan`, the listing of the fluents and actions,
-/// the verdict on the plan, or its run with what the monitors show of it goes to `out`; every other
-/// answer is one line on `err`.
+/// PLAN being the name of a plan's file; `replay DOMAIN PROBLEM PLAN RECORD`, RECORD being the name
+/// of a record's file; or `drill corridor N` or `drill tyres N`, N being the size of a problem that
+/// is made, 2 to 120. The text of a plan, `no plan`, the listing of the fluents and actions, the
+/// verdict on the plan, its run with what the monitors show of it, or the drill's lines go to `out`;
+/// every other answer is one line on `err`.
 ///
 /// `replay` hands the record's outcome numbers to the world, runs the plan with what the world then
 /// chooses, and tells the monitors of each step. No monitor has counted anything yet. The other
-/// commands use neither. The world and the monitors are dropped on every exit. The statuses:
+/// commands use neither, and `drill` no file. The world and the monitors are dropped on every exit. The statuses:
 ///
 /// - 0: a plan of the kind is on `out` (weak: from each initial state it may reach the goal;
 ///   strong: it does, whatever the outcomes; cyclic: whatever they are it may still reach it, and
 ///   ends nowhere else; with contexts: it always goes on, and the goal in computation tree logic is
-///   true where it begins), or the listing, or that the plan is one of the kind, or the run;
+///   true where it begins), or the listing, or that the plan is one of the kind, or the run, or for
+///   each class the number of rules of its plan for the problem that was made with the verdict on
+///   them, or that it has no plan;
 /// - 1: there is no plan of the kind, or the plan is none of it;
 /// - 2: the words are no command;
 /// - 3: a file spells no domain, no problem of it, no plan or no record, the problem's goal or the
@@ -62,7 +65,8 @@ use std::alloc::Global;
 ///   of no initial state, with the place of the fault;
 /// - 4: a limit is passed: a file is longer than 1,048,576 bytes, there is too much to ground or to
 ///   follow, or a chain has more than 32 stages;
-/// - 5: the table of diagram nodes is full before a plan is found, or that there is none;
+/// - 5: the table of diagram nodes is full before a plan is found, or that there is none (`plan` and
+///   `drill`);
 /// - 6: a file can't be read;
 /// - 7: the answer can't be written, and only a part of it is on `out` or `err`;
 /// - 8: there is not enough memory;

@@ -3,6 +3,8 @@
 ghost use Rattle.mbp_top.specs.Values.{
   IsSaid,
   check_words_of,
+  drill_kind_of,
+  drill_words_of,
   ground_words_of,
   kind_of,
   plan_options_of,
@@ -11,22 +13,29 @@ ghost use Rattle.mbp_top.specs.Values.{
 };
 ghost use Rattle.mbp_top.specs.Words.{
   CheckWords as AskedCheck,
+  DrillKind as AskedProblems,
+  DrillWords as AskedDrill,
   GroundWords as AskedGround,
+  IsDrillSize,
   IsNodeLimit,
   PlanKind as AskedKind,
   PlanOptions as AskedOptions,
   PlanWords as AskedPlan,
   ReplayWords as AskedReplay,
   SaysCheck,
+  SaysDrill,
   SaysGround,
   SaysOptions,
   SaysPlan,
   SaysReplay,
+  drill_word,
   kind_word,
+  most_nodes,
 };
 ghost use Rattle.plan_rules.specs.Texts.{class_word};
 ghost use Rattle.std.specs.Prelude.{
   ◌≡◌,
+  ◌≤◌,
   [],
   ◌∷◌,
   ◌↔◌,
@@ -47,7 +56,12 @@ use plan_rules::Class;
 const MOST_NODES: u32 = 16_777_216;
 
 /// How many nodes there may be where nothing is said of them.
-const DEFAULT_NODES: u32 = 1_048_576;
+pub(crate) const DEFAULT_NODES: u32 = 1_048_576;
+
+/// The size of a problem that may be asked for.
+const LEAST_SIZE: u32 = 2;
+
+const MOST_SIZE: u32 = 120;
 
 /// What the words say to do.
 pub(crate) enum Command<'a> {
@@ -55,13 +69,14 @@ pub(crate) enum Command<'a> {
     Ground(GroundWords<'a>),
     Check(CheckWords<'a>),
     Replay(ReplayWords<'a>),
+    Drill(DrillWords),
     /// The words are none of the commands.
     Nothing,
 }
 
 /// Of what kind a plan is to be.
 #[derive(Clone, Copy)]
-pub(crate) enum PlanKind {
+pub enum PlanKind {
     /// A table of this class, for the goal by reachability.
     Class(Class),
     /// A plan with contexts, for the goal in computation tree logic.
@@ -71,18 +86,18 @@ pub(crate) enum PlanKind {
 /// What `plan` is asked: a plan of this kind, for the domain and the problem in the files of these
 /// names, with these options.
 #[derive(Clone, Copy)]
-pub(crate) struct PlanWords<'a> {
-    pub(crate) kind: PlanKind,
-    pub(crate) domain: &'a str,
-    pub(crate) problem: &'a str,
-    pub(crate) options: PlanOptions,
+pub struct PlanWords<'a> {
+    pub kind: PlanKind,
+    pub domain: &'a str,
+    pub problem: &'a str,
+    pub options: PlanOptions,
 }
 
 /// The options of `plan`.
 #[derive(Clone, Copy)]
-pub(crate) struct PlanOptions {
+pub struct PlanOptions {
     /// How many nodes the table of diagrams may hold: 1 to `MOST_NODES`.
-    pub(crate) nodes: u32,
+    pub nodes: u32,
 }
 
 /// What `ground` is asked: a listing of the domain and the problem in the files of these names.
@@ -110,6 +125,34 @@ pub(crate) struct ReplayWords<'a> {
     pub(crate) problem: &'a str,
     pub(crate) plan: &'a str,
     pub(crate) recorded: &'a str,
+}
+
+/// The classes of problems that are made from a number.
+#[derive(Clone, Copy)]
+pub(crate) enum DrillKind {
+    /// A corridor of rooms.
+    Corridor,
+    /// A road on which tyres go flat.
+    Tyres,
+}
+
+impl DrillKind {
+    pub(crate) fn name(self) -> &'static str
+        ensures { result.now ≡ drill_word (drill_kind_of self) }
+    {
+        match self {
+            DrillKind::Corridor => "corridor",
+            DrillKind::Tyres => "tyres",
+        }
+    }
+}
+
+/// What `drill` is asked: to make the problem of this class of this size, and to plan for it.
+#[derive(Clone, Copy)]
+pub(crate) struct DrillWords {
+    pub(crate) kind: DrillKind,
+    /// `LEAST_SIZE` to `MOST_SIZE`.
+    pub(crate) size: u32,
 }
 
 /// The command that the words say.
@@ -143,11 +186,17 @@ pub(crate) fn read_words<'a>(words: &'a [String]) -> Command<'a>
             None => Command::Nothing,
         };
     }
+    if command.as_str() == "drill" {
+        return match drill_words(rest) {
+            Some(asked) => Command::Drill(asked),
+            None => Command::Nothing,
+        };
+    }
     Command::Nothing
 }
 
 /// `plan`, and these words after it.
-fn plan_words<'a>(words: &'a [String]) -> Option<PlanWords<'a>>
+pub fn plan_words<'a>(words: &'a [String]) -> Option<PlanWords<'a>>
     ensures { let said = codes "plan" ∷ map string_bytes words.now in
         MatchOption result ((asked : AskedPlan) → SaysPlan said asked → ⊥)
         (λ asked. SaysPlan said (plan_words_of asked)) }
@@ -196,27 +245,37 @@ fn nodes_option(option: &str, nodes: &str) -> Option<PlanOptions>
     })
 }
 
-/// The number of nodes that the word writes, in decimal digits without sign and without a leading
-/// zero, if it is one that may be asked for.
+/// The number of nodes that the word writes, if it is one that may be asked for.
 fn node_limit(word: &str) -> Option<u32>
     ensures { MatchOption result ((nodes : ℕ) → IsNodeLimit nodes → word.now ≡ decimal nodes → ⊥)
         (λ nodes. IsNodeLimit nodes × (word.now ≡ decimal nodes)) }
 {
-    let nodes = word.parse::<u32>().ok()?;
-    if !is_node_limit(nodes) {
-        return None;
-    }
-    if !is_decimal_of(word, nodes) {
-        return None;
-    }
-    Some(nodes)
+    number_within(word, 1, MOST_NODES)
 }
 
-/// Whether so many nodes may be asked for.
-fn is_node_limit(nodes: u32) -> bool
-    ensures { IsTrue result ↔ IsNodeLimit nodes }
+/// The number that the word writes, in decimal digits without sign and without a leading zero, if it
+/// lies within the bounds.
+fn number_within(word: &str, least: u32, most: u32) -> Option<u32>
+    requires { most ≤ most_nodes }
+    ensures { MatchOption result ((number : ℕ) → least ≤ number → number ≤ most
+        → word.now ≡ decimal number → ⊥)
+        (λ number. (least ≤ number) × (number ≤ most) × (word.now ≡ decimal number)) }
 {
-    1 <= nodes && nodes <= MOST_NODES
+    let number = word.parse::<u32>().ok()?;
+    if !is_within(number, least, most) {
+        return None;
+    }
+    if !is_decimal_of(word, number) {
+        return None;
+    }
+    Some(number)
+}
+
+/// Whether the number lies within the bounds.
+fn is_within(number: u32, least: u32, most: u32) -> bool
+    ensures { IsTrue result ↔ ((least ≤ number) × (number ≤ most)) }
+{
+    least <= number && number <= most
 }
 
 /// Whether the word is the number in decimal digits, without sign and without a leading zero.
@@ -301,4 +360,52 @@ fn class_named(word: &str) -> Option<Class>
         return Some(Class::Cyclic);
     }
     None
+}
+
+/// The name of a class.
+pub(crate) fn class_name(class: Class) -> &'static str
+    ensures { result.now ≡ class_word class }
+{
+    match class {
+        Class::Weak => "weak",
+        Class::Strong => "strong",
+        Class::Cyclic => "cyclic",
+    }
+}
+
+/// `drill`, and these words after it.
+fn drill_words(words: &[String]) -> Option<DrillWords>
+    ensures { let said = codes "drill" ∷ map string_bytes words.now in
+        MatchOption result ((asked : AskedDrill) → SaysDrill said asked → ⊥)
+        (λ asked. SaysDrill said (drill_words_of asked)) }
+{
+    match words {
+        [kind, size] => Some(DrillWords {
+            kind: problems_named(kind)?,
+            size: drill_size(size)?,
+        }),
+        _ => None,
+    }
+}
+
+/// The class of problems of this name.
+fn problems_named(word: &str) -> Option<DrillKind>
+    ensures { MatchOption result ((kind : AskedProblems) → word.now ≡ drill_word kind → ⊥)
+        (λ kind. word.now ≡ drill_word (drill_kind_of kind)) }
+{
+    if word == "corridor" {
+        return Some(DrillKind::Corridor);
+    }
+    if word == "tyres" {
+        return Some(DrillKind::Tyres);
+    }
+    None
+}
+
+/// The size that the word writes, if it is one that may be asked for.
+fn drill_size(word: &str) -> Option<u32>
+    ensures { MatchOption result ((size : ℕ) → IsDrillSize size → word.now ≡ decimal size → ⊥)
+        (λ size. IsDrillSize size × (word.now ≡ decimal size)) }
+{
+    number_within(word, LEAST_SIZE, MOST_SIZE)
 }

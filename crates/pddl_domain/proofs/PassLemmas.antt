@@ -1,8 +1,11 @@
 -- Passes in turn: the first flaw of the first pass that has one.
-use Rattle.std.proofs.Common.{◌≡◌, ℕ, List, [], ◌∷◌, ◌++◌, refl, sym, ◌∙◌, ap, append_assoc}
+use Rattle.std.proofs.Common.{◌≡◌, ℕ, List, Some, [], ◌∷◌, ◌++◌, refl, sym, ◌∙◌, ap, append_assoc}
 use Rattle.sexpr_text.specs.Forest.{Forest, nothing, word, group}
 use Rattle.sexpr_text.specs.Flaws.{Flaw, fault_of_passes, first_listed, IsInOrder}
-use Rattle.sexpr_text.proofs.FlawLaws.{in_order-first_of}
+use Rattle.sexpr_text.specs.Passes.{IfFault}
+use Rattle.sexpr_text.specs.declared.faults.ReadErr.{ReadErr}
+use Rattle.sexpr_text.specs.declared.faults.ReadErr.TheVariants.{Fault, Memory}
+use Rattle.sexpr_text.proofs.FlawLaws.{in_order-first_of, listed-earlier}
 use Rattle.pddl_ast.specs.Known.{Known}
 use Rattle.pddl_domain.specs.Actions.{action_in, actions_passes, schemas_of, section_passes, names_after, section_schemas}
 use Rattle.pddl_domain.specs.ActionParts.{in_turn, section_flaws, section_names, section_actions, actions_flaws, all_actions}
@@ -71,3 +74,9 @@ domain_in_turn forms =
 pub tree_is : (forms : Forest) → tree_of (defined_name forms) (sections_of forms) ≡ domain_tree forms
 unfolding tree_of
 tree_is forms = ap (λ actions. record (domain_tree forms) { actions = actions }) (actions_read (known_of (sections_of forms)) (sections_of forms))
+
+-- a flaw that is listed first is the first of a longer list, too
+pub fault-earlier : (fs gs : List Flaw) (e : ReadErr)
+    → IfFault e (λ f. first_listed fs ≡ Some f) → IfFault e (λ f. first_listed (fs ++ gs) ≡ Some f)
+fault-earlier fs gs Memory k = k
+fault-earlier fs gs (Fault f) k = listed-earlier fs gs f k

@@ -1,19 +1,17 @@
 -- Labels that are written mark by mark, and what a label reaches in rounds.
-use Rattle.std.proofs.Common.{◌≡◌, ◌⊎◌, ℕ, zero, suc, ◌+◌, ◌<◌, ◌≤◌, Bool, true, false, not, ◌&&◌, ◌||◌, cond, List, [], ◌∷◌, ◌++◌, length, get_or, set, refl, sym, ap, ◌∙◌, subst, arith, ⊎_elim, inl, inr}
+use Rattle.std.proofs.Common.{◌≡◌, ◌⊎◌, ℕ, zero, suc, ◌+◌, ◌<◌, Bool, true, false, not, ◌&&◌, ◌||◌, List, [], ◌∷◌, ◌++◌, length, get_or, set, refl, sym, ap, ◌∙◌, subst, arith, ⊎_elim, inl, inr}
 use Rattle.std.specs.List.{All, Contains}
 use Rattle.std.proofs.lemmas.Bool.{false≢true}
-use Rattle.std.proofs.lemmas.List.{length-set, get_or_append_left, get_or_push}
+use Rattle.std.proofs.lemmas.List.{get_or_append_left, get_or_push}
 use Rattle.std.proofs.lemmas.List.Elements.{Contains-get_or}
 use borrow.Author.Count.{below_more}
 use Rattle.exec_graph.specs.Values.{followers_at, graph_size}
 use Rattle.exec_graph.specs.declared.graphs.Graph.{Graph}
 use Rattle.plan_check.specs.Plain.{HasFollowersInside}
 use Rattle.plan_check.specs.Labels.{IsWithinRounds, in_round, is_led, mark_at}
-use Rattle.plan_check.specs.Marks.{unmarked}
-use Rattle.plan_check.specs.Spreads.{IsPass, is_due}
 use Rattle.plan_check.specs.declared.spreading.Need.{Need}
 use Rattle.plan_check.specs.declared.spreading.Need.TheVariants.{One, Each}
-use Rattle.plan_check.proofs.MarkFacts.{fewer_unmarked, marked_cases, marked_more}
+use Rattle.plan_check.proofs.MarkFacts.{marked_cases}
 
 -- one more mark at the end
 pub mark_push : (marks : List Bool) (b : Bool) (value : ℕ → Bool) (i : ℕ) → length marks ≡ i → ((k : ℕ) → k < i → mark_at marks k ≡ value k) → b ≡ value i
@@ -121,55 +119,3 @@ module _ (need : Need) (next : ℕ → List ℕ) (guard target : ℕ → Bool) w
             (led_weaker need (mark_at marks) (in_round need next guard target w.rounds) (next i) w.each led))))
             (marked_cases marks i j m);
       }
-
--- a round, number by number
-module _ (n : ℕ) (need : Need) (next : ℕ → List ℕ) (guard before : List Bool) where
-  pub pass_none : length before ≡ n → IsPass n need next guard before before 0 false
-  pass_none count =
-      record { count = count; kept = λ j m. m; within = λ target w. w; closed = λ e j l. absurd (omega arith); fewer = omega arith }
-
-  module _ (marks : List Bool) (i : ℕ) (changed : Bool) (l : i < n) (h : IsPass n need next guard before marks i changed) where
-    -- it isn't to be marked
-    pass_kept : is_due need next guard marks i ≡ false → IsPass n need next guard before marks (i + 1) changed
-    pass_kept none =
-        record {
-          count = h.count;
-          kept = h.kept;
-          within = h.within;
-          closed = λ e. below_more (λ j. mark_at guard j ≡ true → is_led need (mark_at marks) (next j) ≡ true → mark_at marks j ≡ true) i (h.closed e)
-              (λ g led. ⊎_elim (λ m. m)
-              (λ (m : mark_at marks i ≡ false). absurd (false≢true (sym none ∙ and_true (not (mark_at marks i)) (mark_at guard i && is_led need (mark_at marks) (next i)) (ap not m) (and_true (mark_at guard i) (is_led need (mark_at marks) (next i)) g led))))
-              (decided (mark_at marks i)));
-          fewer = h.fewer;
-        }
-
-    -- it is
-    pass_more : is_due need next guard marks i ≡ true → IsPass n need next guard before (set marks i true) (i + 1) true
-    pass_more due =
-        let within : i < length marks = subst (λ m. i < m) (sym h.count) l in
-        let unset : mark_at marks i ≡ false = not_true (mark_at marks i) (and_left (not (mark_at marks i)) (mark_at guard i && is_led need (mark_at marks) (next i)) due) in
-        let both = and_right (not (mark_at marks i)) (mark_at guard i && is_led need (mark_at marks) (next i)) due in
-        let fewer : unmarked (set marks i true) + 1 ≡ unmarked marks = fewer_unmarked marks i within unset in
-        let was = h.fewer in
-        record {
-          count = length-set marks i true ∙ h.count;
-          kept = λ j m. marked_more marks i j within (h.kept j m);
-          within = λ target w. within_more need next (mark_at guard) target marks i within (and_left (mark_at guard i) (is_led need (mark_at marks) (next i)) both) (and_right (mark_at guard i) (is_led need (mark_at marks) (next i)) both) (h.within target w);
-          closed = λ e. absurd (false≢true (sym e));
-          fewer = fewer_than (unmarked (set marks i true)) (unmarked marks) (unmarked before) (cond changed 1 0) fewer was;
-        }
-      where
-        fewer_than : (a b c d : ℕ) → a + 1 ≡ b → b + d ≤ c → a + 1 ≤ c
-        fewer_than a b c d e f = omega arith
-
-    pub pass_step : (due : Bool) → due ≡ is_due need next guard marks i → (now : List Bool) → now ≡ cond due (set marks i true) marks → (after : Bool) → after ≡ cond due true changed → IsPass n need next guard before now (i + 1) after
-    pass_step true is now e after a =
-        subst (λ c. IsPass n need next guard before now (i + 1) c) (sym a) (subst (λ ms. IsPass n need next guard before ms (i + 1) true) (sym e) (pass_more (sym is)))
-    pass_step false is now e after a =
-        subst (λ c. IsPass n need next guard before now (i + 1) c) (sym a) (subst (λ ms. IsPass n need next guard before ms (i + 1) changed) (sym e) (pass_kept (sym is)))
-
--- a number without a mark that has the guard is to be marked where it is led to marks
-pub due_where_led : (need : Need) (next : ℕ → List ℕ) (guard marks : List Bool) (i : ℕ) (led : Bool) (read : List ℕ) → mark_at marks i ≡ false → mark_at guard i ≡ true → next i ≡ read → led ≡ is_led need (mark_at marks) read → led ≡ is_due need next guard marks i
-due_where_led need next guard marks i led read f t is e =
-    e ∙ ap (is_led need (mark_at marks)) (sym is)
-    ∙ sym (ap (λ a. not a && (mark_at guard i && is_led need (mark_at marks) (next i))) f ∙ ap (λ b. b && is_led need (mark_at marks) (next i)) t)

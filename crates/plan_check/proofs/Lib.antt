@@ -9,3 +9,4 @@ pub mod LabelFacts
 pub mod LabelTruth
 pub mod GoalLabels
 pub mod ContextLaws
+pub mod SpreadSteps

@@ -1,8 +1,6 @@
 -- Private: marks on numbers, and the list of the marked ones.
-use Rattle.std.specs.Prelude.{ℕ, Bool, not, List, [], count_by, slice_get, Vec}
+use Rattle.std.specs.Prelude.{ℕ, Bool, not, List, count_by}
 use Rattle.std.specs.List.{All, Contains}
-use Rattle.std.specs.Option.{option_map_or}
-use Rattle.std.specs.declared.alloc.Global.{Global}
 use Rattle.plan_check.specs.Walks.{IsMarked}
 
 -- Private: the numbers with a mark are those of the list
@@ -13,7 +11,3 @@ pub record ListsMarked (marks : List Bool) (found : List ℕ) : Type 0 where
 -- Private: how many numbers have no mark
 abbrev pub unmarked : List Bool → ℕ
 unmarked marks = count_by not marks
-
--- Private: the list at a place; empty past the last one
-abbrev pub list_at : List (Vec ℕ Global) → ℕ → List ℕ
-list_at lists i = option_map_or (λ (list : Vec ℕ Global). list.items) (slice_get lists i) []

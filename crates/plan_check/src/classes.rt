@@ -9,7 +9,7 @@ ghost use Rattle.task_core.specs.declared.classes.Class.TheVariants.{Cyclic, Str
 ghost use Rattle.plan_rules.specs.Rules.{PlanRule, table};
 ghost use Rattle.exec_graph.specs.Graphs.{IsGraphOf};
 ghost use Rattle.exec_graph.specs.Values.{plain_graph};
-ghost use Rattle.plan_check.specs.Plain.{HasFollowersInside};
+ghost use Rattle.plan_check.specs.Plain.{HasFollowersInside, HasPredecessors};
 ghost use Rattle.plan_check.specs.Verdicts.{CanFollowRules, IsVerdict};
 
 use crate::ends::{goal_ends, has_all_marked, has_end_outside, has_marked_starts};
@@ -55,6 +55,7 @@ pub fn check_class(
 fn check_weak(alloc: Global, goal: &Cond, graph: &Graph) -> Result<Verdict, AllocError>
     requires goal { IsTrue (ids_below 256 goal.now) }
     requires inside { HasFollowersInside graph.now }
+    requires turned { HasPredecessors graph.now }
     ensures { (task : Task) (word : Class) (rules : List PlanRule) → task.goal ≡ Some goal.now
         → IsGraphOf (system_of task) (table word rules)
         (plain_graph (fluent_count task) graph.now)
@@ -93,6 +94,7 @@ fn check_strong(alloc: Global, goal: &Cond, graph: &Graph) -> Result<Verdict, Al
 fn check_cyclic(alloc: Global, goal: &Cond, graph: &Graph) -> Result<Verdict, AllocError>
     requires goal { IsTrue (ids_below 256 goal.now) }
     requires inside { HasFollowersInside graph.now }
+    requires turned { HasPredecessors graph.now }
     ensures { (task : Task) (word : Class) (rules : List PlanRule) → task.goal ≡ Some goal.now
         → IsGraphOf (system_of task) (table word rules)
         (plain_graph (fluent_count task) graph.now)

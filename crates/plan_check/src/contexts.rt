@@ -23,8 +23,8 @@ use task_core::Task;
 /// It is yes exactly where the plan is complete and each initial configuration has the goal. The
 /// plan itself isn't asked for: whatever plan with contexts the graph is the graph of, the verdict
 /// is that of the context plan that its rules denote. The goal names fluents of the task alone. For
-/// each operator of the goal the labels are found in rounds over all configurations, each of which
-/// takes as many steps as the graph has edges. An `Err` says that memory ran out.
+/// each operator of the goal each configuration that gets the label looks at those that it follows,
+/// once. An `Err` says that memory ran out.
 pub fn check_ctl(
     alloc: Global,
     task: &Task,

@@ -5,7 +5,7 @@ ghost use Rattle.ctl_syntax.specs.Goals.{all, any, goal_row};
 ghost use Rattle.ctl_syntax.specs.Values.{NamesBelow, ctl_value};
 ghost use Rattle.exec_graph.specs.Values.{graph_size};
 ghost use Rattle.plan_check.specs.Labels.{HasFollowers, ShowsGoal};
-ghost use Rattle.plan_check.specs.Plain.{HasFollowersInside};
+ghost use Rattle.plan_check.specs.Plain.{HasFollowersInside, HasPredecessors};
 
 use crate::labelling::{Join, joined, negated, next_label, plain_label, same_label, weak_until};
 use crate::spreading::{Need, spread};
@@ -17,6 +17,7 @@ use std::alloc::{AllocError, Global};
 #[cycle(labelling)]
 fn labels_of_all(alloc: Global, graph: &Graph, goals: &[Ctl]) -> Result<Vec<bool>, AllocError>
     requires inside { HasFollowersInside graph.now }
+    requires turned { HasPredecessors graph.now }
     requires followers { HasFollowers graph.now }
     requires names { NamesBelow 256 (all (goal_row (map ctl_value goals.now))) }
     ensures { (n : ℕ) → NamesBelow n (all (goal_row (map ctl_value goals.now)))
@@ -35,6 +36,7 @@ fn labels_of_all(alloc: Global, graph: &Graph, goals: &[Ctl]) -> Result<Vec<bool
 #[cycle(labelling)]
 fn labels_of_any(alloc: Global, graph: &Graph, goals: &[Ctl]) -> Result<Vec<bool>, AllocError>
     requires inside { HasFollowersInside graph.now }
+    requires turned { HasPredecessors graph.now }
     requires followers { HasFollowers graph.now }
     requires names { NamesBelow 256 (any (goal_row (map ctl_value goals.now))) }
     ensures { (n : ℕ) → NamesBelow n (any (goal_row (map ctl_value goals.now)))
@@ -53,6 +55,7 @@ fn labels_of_any(alloc: Global, graph: &Graph, goals: &[Ctl]) -> Result<Vec<bool
 #[cycle(labelling)]
 pub(crate) fn labels(alloc: Global, graph: &Graph, goal: &Ctl) -> Result<Vec<bool>, AllocError>
     requires inside { HasFollowersInside graph.now }
+    requires turned { HasPredecessors graph.now }
     requires followers { HasFollowers graph.now }
     requires names { NamesBelow 256 (ctl_value goal.now) }
     ensures { (n : ℕ) → NamesBelow n (ctl_value goal.now)
@@ -82,13 +85,13 @@ pub(crate) fn labels(alloc: Global, graph: &Graph, goal: &Ctl) -> Result<Vec<boo
         Ctl::Af(part) => {
             let guard = same_label(alloc, graph, true)?;
             let mut marks = labels(alloc, graph, part)?;
-            spread(Need::Each, graph, &guard, &mut marks);
+            spread(alloc, Need::Each, graph, &guard, &mut marks)?;
             Ok(marks)
         }
         Ctl::Ef(part) => {
             let guard = same_label(alloc, graph, true)?;
             let mut marks = labels(alloc, graph, part)?;
-            spread(Need::One, graph, &guard, &mut marks);
+            spread(alloc, Need::One, graph, &guard, &mut marks)?;
             Ok(marks)
         }
         Ctl::Ag(part) => {
@@ -104,13 +107,13 @@ pub(crate) fn labels(alloc: Global, graph: &Graph, goal: &Ctl) -> Result<Vec<boo
         Ctl::Au(left, right) => {
             let guard = labels(alloc, graph, left)?;
             let mut marks = labels(alloc, graph, right)?;
-            spread(Need::Each, graph, &guard, &mut marks);
+            spread(alloc, Need::Each, graph, &guard, &mut marks)?;
             Ok(marks)
         }
         Ctl::Eu(left, right) => {
             let guard = labels(alloc, graph, left)?;
             let mut marks = labels(alloc, graph, right)?;
-            spread(Need::One, graph, &guard, &mut marks);
+            spread(alloc, Need::One, graph, &guard, &mut marks)?;
             Ok(marks)
         }
         Ctl::Aw(left, right) => {

@@ -14,6 +14,7 @@ ghost use Rattle.std.specs.List.{All};
 ghost use Rattle.task_core.specs.Conditions.{ids_below};
 ghost use Rattle.exec_graph.specs.Values.{followers_at, graph_size};
 ghost use Rattle.plan_check.specs.Labels.{
+  HasFollowers,
   IsJoined,
   IsLeast,
   IsNegated,
@@ -22,7 +23,7 @@ ghost use Rattle.plan_check.specs.Labels.{
   joins,
   mark_at,
 };
-ghost use Rattle.plan_check.specs.Plain.{HasFollowersInside, is_goal_at};
+ghost use Rattle.plan_check.specs.Plain.{HasFollowersInside, HasPredecessors, is_goal_at};
 
 use crate::ends::is_goal;
 use crate::spreading::{Need, is_led, other, spread};
@@ -128,7 +129,7 @@ pub(crate) fn next_label(
 }
 
 /// Where on each, or one, of the paths the guard holds until the target does, or for ever. It is
-/// the complement of an until that is found in rounds.
+/// the complement of an until.
 pub(crate) fn weak_until(
     alloc: Global,
     need: Need,
@@ -136,7 +137,8 @@ pub(crate) fn weak_until(
     guard: &[bool],
     target: &[bool],
 ) -> Result<Vec<bool>, AllocError>
-    requires inside { HasFollowersInside graph.now }
+    requires turned { HasPredecessors graph.now }
+    requires followers { HasFollowers graph.now }
     requires guard { length guard.now ≡ graph_size graph.now }
     requires target { length target.now ≡ graph_size graph.now }
     ensures { IfOk result (λ marks. IsWeakest (graph_size graph.now) need
@@ -144,6 +146,6 @@ pub(crate) fn weak_until(
 {
     let without = negated(alloc, target)?;
     let mut marks = joined(alloc, Join::Neither, guard, target)?;
-    spread(other(need), graph, &without, &mut marks);
+    spread(alloc, other(need), graph, &without, &mut marks)?;
     negated(alloc, &marks)
 }

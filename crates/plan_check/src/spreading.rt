@@ -1,35 +1,41 @@
-//! Labels that spread backwards through a graph, in rounds over all configurations until nothing
-//! changes.
+//! Labels that spread backwards through a graph. Each configuration that has the label looks at
+//! those that it follows, once; a counter of each says how many of its followers still lack it.
 
 ghost use Rattle.std.specs.Prelude.{
   ◌≡◌,
+  ◌≢◌,
+  ◌+◌,
+  ◌-◌,
+  ◌^◌,
   ◌<◌,
-  ◌≤◌,
-  ◌&&◌,
+  ◌++◌,
+  ◌∷◌,
   if◌then◌else◌,
-  Bool,
-  false,
+  [],
+  IfOk,
   length,
-  not,
+  slice_index_or,
   slice_set,
+  take,
   true,
   ℕ,
 };
-ghost use Rattle.std.specs.List.{All};
-ghost use Rattle.exec_graph.specs.Values.{followers_at, graph_size};
-ghost use Rattle.plan_check.specs.Labels.{
-  IsClosed,
-  IsLeast,
-  IsWithinRounds,
-  is_led,
-  mark_at,
-  other,
+ghost use Rattle.std.specs.List.{All, AllPairs};
+ghost use Rattle.exec_graph.specs.Values.{followers_at, graph_size, predecessors_at};
+ghost use Rattle.plan_check.specs.Labels.{IsLeast, is_led, mark_at, other};
+ghost use Rattle.plan_check.specs.Marks.{ListsMarked, unmarked};
+ghost use Rattle.plan_check.specs.Plain.{HasPredecessors};
+ghost use Rattle.plan_check.specs.Spreads.{
+  IsSpreading,
+  NeedsFollowers,
+  Reaches,
+  edges_to,
+  is_due,
+  is_enough,
 };
-ghost use Rattle.plan_check.specs.Marks.{unmarked};
-ghost use Rattle.plan_check.specs.Plain.{HasFollowersInside};
-ghost use Rattle.plan_check.specs.Spreads.{is_due};
 
 use exec_graph::Graph;
+use std::alloc::{AllocError, Global};
 
 /// How many of the followers of a configuration must have a label.
 #[derive(Clone, Copy, Debug, PartialEq, Eq)]
@@ -87,75 +93,158 @@ pub(crate) fn is_led(need: Need, marks: &[bool], numbers: &[u32]) -> bool
     }
 }
 
-/// Whether a configuration is to be marked: it isn't, has the guard and is led to marked ones.
-fn is_due(need: Need, graph: &Graph, guard: &[bool], marks: &[bool], number: u32) -> bool
-    requires inside { HasFollowersInside graph.now }
-    requires number { number < graph_size graph.now }
-    requires guard { length guard.now ≡ graph_size graph.now }
-    requires marks { length marks.now ≡ graph_size graph.now }
-    ensures { result ≡ is_due need (followers_at graph.now) guard.now marks.now number }
+/// How many followers each configuration has.
+fn follower_counts(alloc: Global, graph: &Graph) -> Result<Vec<usize>, AllocError>
+    ensures count { IfOk result (λ counts. length counts.items ≡ graph_size graph.now) }
+    ensures each { IfOk result (λ counts. (i : ℕ) → i < graph_size graph.now
+        → slice_index_or counts.items i 0 ≡ length (followers_at graph.now i)) }
+{
+    let mut counts = Vec::new(alloc);
+    for i in 0..graph.len() {
+        counts.push(graph.next(i).len())?;
+    }
+    Ok(counts)
+}
+
+/// The numbers with a mark.
+fn marked_numbers(alloc: Global, marks: &[bool]) -> Result<Vec<u32>, AllocError>
+    requires { length marks.now < 2 ^ 32 }
+    ensures listed { IfOk result (λ found. ListsMarked marks.now found.items) }
+    ensures different { IfOk result (λ found. AllPairs (λ i j. i ≢ j) found.items) }
+{
+    let mut found = Vec::new(alloc);
+    for i in 0..marks.len() {
+        list_marked(marks, &mut found, i as u32)?;
+    }
+    Ok(found)
+}
+
+/// Lists a number where it has a mark.
+fn list_marked(marks: &[bool], found: &mut Vec<u32>, number: u32) -> Result<(), AllocError>
+    requires { number < length marks.now }
+    ensures { IfOk result (λ _. found.new.items
+        ≡ (if mark_at marks.now number then found.old.items ++ number ∷ [] else found.old.items)) }
+{
+    if !marks[number as usize] {
+        return Ok(());
+    }
+    found.push(number)?;
+    Ok(())
+}
+
+/// Whether enough of the followers have the label, where one has and so many haven't yet.
+fn is_enough(need: Need, left: usize) -> bool
+    ensures { result ≡ is_enough need left }
+{
+    match need {
+        Need::One => true,
+        Need::Each => left == 0,
+    }
+}
+
+/// Whether a configuration gets the label, where one of its followers has it and so many haven't
+/// yet.
+fn is_due(need: Need, guard: &[bool], marks: &[bool], left: usize, number: u32) -> bool
+    requires guard { number < length guard.now }
+    requires marks { number < length marks.now }
+    ensures { result ≡ is_due need guard.now marks.now left number }
 {
     if marks[number as usize] {
         return false;
     }
-    guard[number as usize] && is_led(need, marks, graph.next(number))
+    if !guard[number as usize] {
+        return false;
+    }
+    is_enough(need, left)
 }
 
-/// Marks a configuration that is to be marked. Says whether it is.
-fn mark_due(need: Need, graph: &Graph, guard: &[bool], marks: &mut Vec<bool>, number: u32) -> bool
-    requires inside { HasFollowersInside graph.now }
-    requires number { number < graph_size graph.now }
-    requires guard { length guard.now ≡ graph_size graph.now }
-    requires marks { length marks.old.items ≡ graph_size graph.now }
-    ensures due { result
-        ≡ is_due need (followers_at graph.now) guard.now marks.old.items number }
-    ensures marks { marks.new.items ≡ (if result then slice_set marks.old.items number true
-        else marks.old.items) }
+/// Looks at an edge from a configuration to one that has the label.
+fn look(
+    need: Need,
+    guard: &[bool],
+    marks: &mut Vec<bool>,
+    lacks: &mut Vec<usize>,
+    found: &mut Vec<u32>,
+    number: u32,
+) -> Result<(), AllocError>
+    requires guard { number < length guard.now }
+    requires marks { number < length marks.old.items }
+    requires lacks { number < length lacks.old.items }
+    requires left { 0 < slice_index_or lacks.old.items number 0 }
+    ensures lacks { IfOk result (λ _. lacks.new.items ≡ slice_set lacks.old.items number
+        (slice_index_or lacks.old.items number 0 - 1)) }
+    ensures marks { IfOk result (λ _. marks.new.items
+        ≡ (if is_due need guard.now marks.old.items
+        (slice_index_or lacks.old.items number 0 - 1) number
+        then slice_set marks.old.items number true else marks.old.items)) }
+    ensures found { IfOk result (λ _. found.new.items
+        ≡ (if is_due need guard.now marks.old.items
+        (slice_index_or lacks.old.items number 0 - 1) number
+        then found.old.items ++ number ∷ [] else found.old.items)) }
 {
-    let due = is_due(need, graph, guard, marks, number);
-    if due {
-        marks[number as usize] = true;
+    let left = lacks[number as usize] - 1;
+    lacks[number as usize] = left;
+    if !is_due(need, guard, marks, left, number) {
+        return Ok(());
     }
-    due
+    marks[number as usize] = true;
+    found.push(number)?;
+    Ok(())
 }
 
-/// One round over all configurations: each that has the guard and is led to marked ones is marked.
-/// Says whether some of them is new.
-fn spread_once(need: Need, graph: &Graph, guard: &[bool], marks: &mut Vec<bool>) -> bool
-    requires inside { HasFollowersInside graph.now }
+/// Looks at the edges to a configuration that has the label: the one at a place of those found.
+fn look_back(
+    need: Need,
+    graph: &Graph,
+    guard: &[bool],
+    marks: &mut Vec<bool>,
+    lacks: &mut Vec<usize>,
+    found: &mut Vec<u32>,
+    done: usize,
+) -> Result<(), AllocError>
+    requires turned { HasPredecessors graph.now }
     requires guard { length guard.now ≡ graph_size graph.now }
-    requires marks { length marks.old.items ≡ graph_size graph.now }
-    ensures count { length marks.new.items ≡ graph_size graph.now }
-    ensures kept { (i : ℕ) → mark_at marks.old.items i ≡ true → mark_at marks.new.items i ≡ true }
-    ensures within { (target : ℕ → Bool)
-        → IsWithinRounds need (followers_at graph.now) (mark_at guard.now) target marks.old.items
-        → IsWithinRounds need (followers_at graph.now) (mark_at guard.now) target
-        marks.new.items }
-    ensures closed { result ≡ false → IsClosed (graph_size graph.now) need
-        (followers_at graph.now) guard.now marks.new.items }
-    ensures fewer { result ≡ true → unmarked marks.new.items < unmarked marks.old.items }
-    ensures no_more { unmarked marks.new.items ≤ unmarked marks.old.items }
+    requires done { done < length found.old.items }
+    requires spreading { IsSpreading (graph_size graph.now) need (followers_at graph.now) guard.now
+        marks.old.items lacks.old.items found.old.items
+        (edges_to (predecessors_at graph.now) (take done found.old.items)) }
+    ensures spreading { IfOk result (λ _. IsSpreading (graph_size graph.now) need
+        (followers_at graph.now) guard.now marks.new.items lacks.new.items found.new.items
+        (edges_to (predecessors_at graph.now) (take (done + 1) found.new.items))) }
+    ensures reaches { IfOk result (λ _. Reaches need (followers_at graph.now) guard.now
+        marks.old.items marks.new.items) }
+    ensures even { IfOk result (λ _. unmarked marks.new.items + length found.new.items
+        ≡ unmarked marks.old.items + length found.old.items) }
 {
-    let mut changed = false;
-    for i in 0..graph.len() {
-        if mark_due(need, graph, guard, marks, i) {
-            changed = true;
-        }
+    let number = found[done];
+    for before in graph.prev(number) {
+        look(need, guard, marks, lacks, found, *before)?;
     }
-    changed
+    Ok(())
 }
 
 /// Marks each configuration that has the guard and is led to marked ones, until there are none
-/// left.
-pub(crate) fn spread(need: Need, graph: &Graph, guard: &[bool], marks: &mut Vec<bool>)
-    requires inside { HasFollowersInside graph.now }
+/// left. Each that has a mark or gets one looks at those that it follows, once.
+pub(crate) fn spread(
+    alloc: Global,
+    need: Need,
+    graph: &Graph,
+    guard: &[bool],
+    marks: &mut Vec<bool>,
+) -> Result<(), AllocError>
+    requires turned { HasPredecessors graph.now }
+    requires followers { NeedsFollowers need graph.now }
     requires guard { length guard.now ≡ graph_size graph.now }
     requires marks { length marks.old.items ≡ graph_size graph.now }
-    ensures { IsLeast (graph_size graph.now) need (followers_at graph.now) guard.now
-        marks.old.items marks.new.items }
+    ensures { IfOk result (λ _. IsLeast (graph_size graph.now) need (followers_at graph.now)
+        guard.now marks.old.items marks.new.items) }
 {
-    let mut changed = true;
-    while changed {
-        changed = spread_once(need, graph, guard, marks);
+    let mut lacks = follower_counts(alloc, graph)?;
+    let mut found = marked_numbers(alloc, marks)?;
+    let mut done = 0;
+    while done < found.len() {
+        look_back(need, graph, guard, marks, &mut lacks, &mut found, done)?;
+        done += 1;
     }
+    Ok(())
 }

@@ -56,6 +56,10 @@ pub enum FaultKind {
     BadNumber,
     /// 22: a plan of another kind than the command takes.
     WrongPlanKind,
+    /// 24: a weight of another form than a decimal number or a fraction.
+    BadWeight,
+    /// 25: weights with a sum above 1.
+    MassOver,
 }
 
 impl FaultKind {
@@ -86,10 +90,12 @@ impl FaultKind {
             FaultKind::UnknownAction => (20, "UnknownAction"),
             FaultKind::BadNumber => (21, "BadNumber"),
             FaultKind::WrongPlanKind => (22, "WrongPlanKind"),
+            FaultKind::BadWeight => (24, "BadWeight"),
+            FaultKind::MassOver => (25, "MassOver"),
         }
     }
 
-    /// The number of the kind, from 1 to 22.
+    /// The number of the kind, from 1 to 25; none has 23.
     pub fn code(&self) -> u8
         ensures { result ≡ code_of self.now }
     {

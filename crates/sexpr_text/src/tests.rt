@@ -190,6 +190,8 @@ fn kinds_have_numbers_and_names(rt: HostRuntime) -> Result<(), Fail> {
         (FaultKind::UnknownAction, 20, "UnknownAction"),
         (FaultKind::BadNumber, 21, "BadNumber"),
         (FaultKind::WrongPlanKind, 22, "WrongPlanKind"),
+        (FaultKind::BadWeight, 24, "BadWeight"),
+        (FaultKind::MassOver, 25, "MassOver"),
     ];
     for (kind, code, name) in table {
         assert_eq!(rt; kind.code(), code);

@@ -4,4 +4,6 @@
 #![tactic(auto)]
 
 #[cfg(test)]
+mod generated;
+#[cfg(test)]
 mod tests;

@@ -100,6 +100,12 @@ const NO_STEP: &str = "end terminal\ntally steps 0\ntally changes 0\n";
 
 const LEFT_OUT: &str = "(define (domain d) (:requirements) (:functions (f)))\n";
 
+const CORRIDOR: &str = "drill corridor 3\nfluents 3\nactions 2
+weak rules 2 yes\nstrong no plan\ncyclic rules 2 yes\n";
+
+const TYRES: &str = "drill tyres 3\nfluents 5\nactions 4
+weak rules 4 yes\nstrong rules 4 yes bound 4\ncyclic rules 4 yes\n";
+
 const NO_COMMAND: &str = "mbp: the words are none of the command forms\n";
 
 /// The text, and spaces up to so many bytes.
@@ -265,6 +271,12 @@ fn each_answer_goes_where_it_belongs(rt: HostRuntime) -> Result<(), Fail> {
             "",
             "stray outcome step 2 word 2 outcomes 2\n",
         ),
+        ("drill corridor 3", 0, CORRIDOR, ""),
+        ("drill tyres 3", 0, TYRES, ""),
+        ("drill corridor 1", 2, "", NO_COMMAND),
+        ("drill corridor 121", 2, "", NO_COMMAND),
+        ("drill tyres 02", 2, "", NO_COMMAND),
+        ("drill Tyres 2", 2, "", NO_COMMAND),
         (
             "ground left-out nowhere",
             3,

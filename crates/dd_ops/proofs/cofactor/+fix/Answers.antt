@@ -1,18 +1,37 @@
 -- The memo answers rightly, the children have a greater level, and their cofactors are what
 -- `join_fixed` requires.
-use Rattle.std.proofs.Common.{◌≡◌, ◌<◌, ◌-◌, Some, sym, arith}
+use Rattle.std.proofs.Common.{◌≡◌, ◌<◌, ◌-◌, Some, sym, subst, arith}
 use Rattle.dd_nodes.specs.NodeList.{node_at}
-use Rattle.dd_nodes.proofs.Extending.{extends_more}
+use Rattle.dd_nodes.proofs.Extending.{extends_same, extends_more}
 use Rattle.dd_ops.specs.Answers.{level_of}
-use Rattle.dd_ops.proofs.CofactorLemmas.{hi_smaller, hi_later, node_later, cofactor_extends}
+use Rattle.dd_ops.specs.Cached.{RemembersCofactors, IsFixed}
+use Rattle.dd_ops.proofs.CachedLemmas.{same_pairs, adds_more}
+use Rattle.dd_ops.proofs.CofactorLemmas.{lo_smaller, lo_later, hi_smaller, hi_later, node_later, cofactor_extends}
 use Rattle.dd_nodes.specs.declared.node.DdErr.TheVariants.{Full}
 use Rattle.dd_ops.proofs.ErrorLemmas.{passed_on}
 use Rattle.dd_ops.proofs.HalvesLemmas.{keeps_more}
 use Rattle.dd_ops.proofs.GrowthFixed.{fixed_lo_adds, fixed_lo_full, fixed_hi_adds, fixed_hi_full, fixed_rest_adds, fixed_rest_full}
 use Rattle.dd_ops.proofs.cofactor.+fix.Goals as goal
 
-pub returns-in-Some-recall_number-clause-answer : goal.returns-in-Some-recall_number-clause-answer
-returns-in-Some-recall_number-clause-answer t c = c.requires.memo c.args.f c.in-Some-recall_number.r c.in-Some-recall_number.ensures
+pub returns-in-Some-recall_cofactor-clause-memo : goal.returns-in-Some-recall_cofactor-clause-memo
+returns-in-Some-recall_cofactor-clause-memo t c = subst (RemembersCofactors c.args.dd.now.nodes) (sym c.recall_cofactor.ensures.same) c.requires.memo
+
+pub fix-requires : goal.fix-requires
+fix-requires t c =
+    let dd = c.args.dd.now in
+    let there : node_at dd.nodes c.args.f.0 ≡ Some c.in-Some.node = sym c.in-Some.ensures.node in
+    let smaller : 256 - level_of dd.nodes c.in-Some.node.lo.0 < 256 - level_of dd.nodes c.args.f.0 =
+    lo_smaller dd c.requires.table c.args.f.0 c.in-Some.node there dd.nodes (extends_same dd.nodes) in
+    let falls : 256 - level_of dd.nodes c.in-Some.node.lo.0 < t = omega (arith, c.decreases) in (
+      falls,
+      (
+        c.requires.table,
+        (
+          lo_later dd c.requires.table c.args.f.0 c.in-Some.node there dd.nodes (extends_same dd.nodes),
+          subst (RemembersCofactors dd.nodes) (sym c.recall_cofactor.ensures.same) c.requires.memo,
+        ),
+      ),
+    )
 
 pub fix-requires-2 : goal.fix-requires-2
 fix-requires-2 t c =
@@ -64,3 +83,21 @@ returns-in_err-hi-clause-kept t c = keeps_more c.args.dd.now c.fix.new.dd c.fix-
 pub returns-clause-kept : goal.returns-clause-kept
 returns-clause-kept t c = keeps_more c.args.dd.now c.fix.new.dd c.join_fixed.new.dd c.fix.ensures.kept
     (keeps_more c.fix.new.dd c.fix-2.new.dd c.join_fixed.new.dd c.fix-2.ensures.kept c.join_fixed.ensures.kept)
+
+pub returns-in_err-lo-clause-others : goal.returns-in_err-lo-clause-others
+returns-in_err-lo-clause-others t c =
+    adds_more IsFixed c.args.cache.now.pairs c.recall_cofactor.new.cache.pairs c.fix.new.cache.pairs
+    (same_pairs c.args.cache.now.pairs c.recall_cofactor.new.cache.pairs IsFixed c.recall_cofactor.ensures.same) c.fix.ensures.others
+
+pub returns-in_err-hi-clause-others : goal.returns-in_err-hi-clause-others
+returns-in_err-hi-clause-others t c =
+    adds_more IsFixed c.args.cache.now.pairs c.recall_cofactor.new.cache.pairs c.fix-2.new.cache.pairs
+    (same_pairs c.args.cache.now.pairs c.recall_cofactor.new.cache.pairs IsFixed c.recall_cofactor.ensures.same)
+    (adds_more IsFixed c.recall_cofactor.new.cache.pairs c.fix.new.cache.pairs c.fix-2.new.cache.pairs c.fix.ensures.others c.fix-2.ensures.others)
+
+pub returns-clause-others : goal.returns-clause-others
+returns-clause-others t c =
+    adds_more IsFixed c.args.cache.now.pairs c.recall_cofactor.new.cache.pairs c.join_fixed.new.cache.pairs
+    (same_pairs c.args.cache.now.pairs c.recall_cofactor.new.cache.pairs IsFixed c.recall_cofactor.ensures.same)
+    (adds_more IsFixed c.recall_cofactor.new.cache.pairs c.fix.new.cache.pairs c.join_fixed.new.cache.pairs c.fix.ensures.others
+    (adds_more IsFixed c.fix.new.cache.pairs c.fix-2.new.cache.pairs c.join_fixed.new.cache.pairs c.fix-2.ensures.others c.join_fixed.ensures.others))

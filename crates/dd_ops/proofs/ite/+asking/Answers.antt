@@ -1,6 +1,8 @@
 -- The halves have a greater top, and their answers are what `join` requires.
-use Rattle.std.proofs.Common.{refl, true, false, ◌+◌, ◌*◌, ◌<◌, ◌≤◌, ◌-◌, arith}
+use Rattle.std.proofs.Common.{refl, sym, subst, true, false, ◌+◌, ◌*◌, ◌<◌, ◌≤◌, ◌-◌, arith}
 use Rattle.dd_ops.specs.Answers.{top_of, IsRestated}
+use Rattle.dd_ops.specs.Cached.{Remembers, IsQuestion}
+use Rattle.dd_ops.proofs.CachedLemmas.{same_pairs, adds_more}
 use Rattle.dd_ops.proofs.QuestionLemmas.{half_asked, asked_extends}
 use Rattle.dd_ops.proofs.Restated.{half_extends, restated_answer, restated_top}
 use Rattle.dd_ops.proofs.ValueLemmas.{ok_then}
@@ -32,7 +34,7 @@ answer_open-answer-requires t c =
     let smaller : 256 - top_of dd.nodes c.halve-halves.result.lo < 256 - top_of dd.nodes c.args.q =
     half_smaller dd c.requires.table c.args.q c.requires.asked c.requires.tests c.halve-halves.result.var c.halve-halves.ensures.top dd c.requires.table refl false c.halve-halves.result.lo c.halve-halves.ensures.lo in
     let falls : 2 * (256 - top_of dd.nodes c.halve-halves.result.lo) + 1 < t = omega (arith, c.decreases) in
-    (falls, (c.requires.table, (half_asked dd.nodes c.halve-halves.result.var false c.args.q c.halve-halves.result.lo c.halve-halves.ensures.lo, c.requires.memo)))
+    (falls, (c.requires.table, (half_asked dd.nodes c.halve-halves.result.var false c.args.q c.halve-halves.result.lo c.halve-halves.ensures.lo, subst (Remembers dd.nodes) (sym c.recall_answer.ensures.same) c.requires.memo)))
 
 pub answer_open-answer-requires-2 : goal.answer_open-answer-requires-2
 answer_open-answer-requires-2 t c =
@@ -112,3 +114,30 @@ answer_open-returns-clause-full t c is =
 pub answer_open-returns-clause-kept : goal.answer_open-returns-clause-kept
 answer_open-returns-clause-kept t c = keeps_more c.args.dd.now c.answer.new.dd c.join.new.dd c.answer.ensures.kept
     (keeps_more c.answer.new.dd c.answer-2.new.dd c.join.new.dd c.answer-2.ensures.kept c.join.ensures.kept)
+
+pub answer-returns-in-Known-clause-others : goal.answer-returns-in-Known-clause-others
+answer-returns-in-Known-clause-others t c = same_pairs c.args.cache.now.pairs c.args.cache.now.pairs IsQuestion refl
+
+pub answer_open-returns-in-Some-clause-memo : goal.answer_open-returns-in-Some-clause-memo
+answer_open-returns-in-Some-clause-memo t c = subst (Remembers c.args.dd.now.nodes) (sym c.recall_answer.ensures.same) c.requires.memo
+
+pub answer_open-returns-in-Some-clause-others : goal.answer_open-returns-in-Some-clause-others
+answer_open-returns-in-Some-clause-others t c = same_pairs c.args.cache.now.pairs c.recall_answer.new.cache.pairs IsQuestion c.recall_answer.ensures.same
+
+pub answer_open-returns-in_err-lo-clause-others : goal.answer_open-returns-in_err-lo-clause-others
+answer_open-returns-in_err-lo-clause-others t c =
+    adds_more IsQuestion c.args.cache.now.pairs c.recall_answer.new.cache.pairs c.answer.new.cache.pairs
+    (same_pairs c.args.cache.now.pairs c.recall_answer.new.cache.pairs IsQuestion c.recall_answer.ensures.same) c.answer.ensures.others
+
+pub answer_open-returns-in_err-hi-clause-others : goal.answer_open-returns-in_err-hi-clause-others
+answer_open-returns-in_err-hi-clause-others t c =
+    adds_more IsQuestion c.args.cache.now.pairs c.recall_answer.new.cache.pairs c.answer-2.new.cache.pairs
+    (same_pairs c.args.cache.now.pairs c.recall_answer.new.cache.pairs IsQuestion c.recall_answer.ensures.same)
+    (adds_more IsQuestion c.recall_answer.new.cache.pairs c.answer.new.cache.pairs c.answer-2.new.cache.pairs c.answer.ensures.others c.answer-2.ensures.others)
+
+pub answer_open-returns-clause-others : goal.answer_open-returns-clause-others
+answer_open-returns-clause-others t c =
+    adds_more IsQuestion c.args.cache.now.pairs c.recall_answer.new.cache.pairs c.join.new.cache.pairs
+    (same_pairs c.args.cache.now.pairs c.recall_answer.new.cache.pairs IsQuestion c.recall_answer.ensures.same)
+    (adds_more IsQuestion c.recall_answer.new.cache.pairs c.answer.new.cache.pairs c.join.new.cache.pairs c.answer.ensures.others
+    (adds_more IsQuestion c.answer.new.cache.pairs c.answer-2.new.cache.pairs c.join.new.cache.pairs c.answer-2.ensures.others c.join.ensures.others))

@@ -1,12 +1,14 @@
 -- The memo answers rightly, the children have a greater level, and the numbers found stay right as
 -- the table grows.
-use Rattle.std.proofs.Common.{◌≡◌, ◌<◌, ◌-◌, Option, Some, subst, arith}
+use Rattle.std.proofs.Common.{◌≡◌, ◌<◌, ◌-◌, Option, Some, refl, sym, subst, arith}
 use Rattle.dd_nodes.specs.declared.node.Ref.{Ref}
 use Rattle.dd_ops.specs.Answers.{Follows}
 use Rattle.dd_nodes.specs.NodeList.{node_at}
-use Rattle.dd_nodes.proofs.Extending.{extends_more}
+use Rattle.dd_nodes.proofs.Extending.{extends_same, extends_more}
 use Rattle.dd_ops.specs.Answers.{level_of}
-use Rattle.dd_ops.proofs.CofactorLemmas.{hi_smaller, hi_later, node_later}
+use Rattle.dd_ops.specs.Cached.{Remembers, RemembersReplaced, MayAdd}
+use Rattle.dd_ops.proofs.CachedLemmas.{same_pairs, adds_more}
+use Rattle.dd_ops.proofs.CofactorLemmas.{lo_smaller, lo_later, hi_smaller, hi_later, node_later}
 use Rattle.dd_ops.proofs.ReplacedLemmas.{indexed_extends, followed_answer, followed_adds, followed_full}
 use Rattle.dd_ops.proofs.ValueLemmas.{ok_then}
 use Rattle.dd_ops.proofs.SubstLemmas.{numbers_extend, is_replaced_extends}
@@ -32,10 +34,42 @@ returns-in-Some-follow-clause-full t c is = followed_full c.args.dd.now c.requir
 pub remember_choice-requires-clause-images : goal.remember_choice-requires-clause-images
 remember_choice-requires-clause-images t c =
     indexed_extends c.args.dd.now.nodes c.replace-3.new.dd.nodes (extends_more c.args.dd.now.nodes c.replace-2.new.dd.nodes c.replace-3.new.dd.nodes c.in_ok-lo.ensures.kept.nodes c.in_ok-hi.ensures.kept.nodes)
-    c.args.dd.now.vars c.requires.table.reduced c.args.images.now.map.now c.args.images.now.by_var.items c.requires.images
+    c.args.dd.now.vars c.requires.table.reduced c.args.images.now.map.now c.args.images.now.by_var c.args.images.now.end c.requires.images
 
-pub returns-in-Some-recall_number-clause-answer : goal.returns-in-Some-recall_number-clause-answer
-returns-in-Some-recall_number-clause-answer t c = c.requires.memo c.args.f c.in-Some-recall_number.r c.in-Some-recall_number.ensures
+pub returns-in-Some-recall_replaced-clause-others : goal.returns-in-Some-recall_replaced-clause-others
+returns-in-Some-recall_replaced-clause-others t c = same_pairs c.args.cache.now.pairs c.recall_replaced.new.cache.pairs (MayAdd c.args.call) c.recall_replaced.ensures.same
+
+pub returns-in-Some-recall_replaced-clause-answer : goal.returns-in-Some-recall_replaced-clause-answer
+returns-in-Some-recall_replaced-clause-answer t c = c.in-Some-recall_replaced.ensures.answer c.args.dd.now.nodes c.args.images.now.map.now c.requires.memo
+
+pub returns-in-Some-recall_replaced-clause-questions : goal.returns-in-Some-recall_replaced-clause-questions
+returns-in-Some-recall_replaced-clause-questions t c = subst (Remembers c.args.dd.now.nodes) (sym c.recall_replaced.ensures.same) c.requires.questions
+
+pub returns-in-Some-recall_replaced-clause-memo : goal.returns-in-Some-recall_replaced-clause-memo
+returns-in-Some-recall_replaced-clause-memo t c = subst (RemembersReplaced c.args.dd.now.nodes c.args.images.now.map.now c.args.call) (sym c.recall_replaced.ensures.same) c.requires.memo
+
+pub replace-requires-2 : goal.replace-requires-2
+replace-requires-2 t c =
+    let dd = c.args.dd.now in
+    let there : node_at dd.nodes c.args.f.0 ≡ Some c.in-Some.node = c.in-Some.ensures.node in
+    let smaller : 256 - level_of dd.nodes c.in-Some.node.lo.0 < 256 - level_of dd.nodes c.args.f.0 =
+    lo_smaller dd c.requires.table c.args.f.0 c.in-Some.node there dd.nodes (extends_same dd.nodes) in
+    let falls : 256 - level_of dd.nodes c.in-Some.node.lo.0 < t = omega (arith, c.decreases) in (
+      falls,
+      (
+        c.requires.table,
+        (
+          lo_later dd c.requires.table c.args.f.0 c.in-Some.node there dd.nodes (extends_same dd.nodes),
+          (
+            c.requires.images,
+            (
+              subst (Remembers dd.nodes) (sym c.recall_replaced.ensures.same) c.requires.questions,
+              subst (RemembersReplaced dd.nodes c.args.images.now.map.now c.args.call) (sym c.recall_replaced.ensures.same) c.requires.memo,
+            ),
+          ),
+        ),
+      ),
+    )
 
 pub replace-requires-3 : goal.replace-requires-3
 replace-requires-3 t c =
@@ -50,7 +84,7 @@ replace-requires-3 t c =
         c.in_ok-lo.ensures.table,
         (
           hi_later dd c.requires.table c.args.f.0 c.in-Some.node there later.nodes c.in_ok-lo.ensures.kept.nodes,
-          (indexed_extends dd.nodes later.nodes c.in_ok-lo.ensures.kept.nodes dd.vars c.requires.table.reduced c.args.images.now.map.now c.args.images.now.by_var.items c.requires.images, (c.in_ok-lo.ensures.questions, c.in_ok-lo.ensures.memo)),
+          (indexed_extends dd.nodes later.nodes c.in_ok-lo.ensures.kept.nodes dd.vars c.requires.table.reduced c.args.images.now.map.now c.args.images.now.by_var c.args.images.now.end c.requires.images, (c.in_ok-lo.ensures.questions, c.in_ok-lo.ensures.memo)),
         ),
       ),
     )
@@ -96,3 +130,24 @@ returns-in_err-hi-clause-kept t c = keeps_more c.args.dd.now c.replace-2.new.dd 
 pub returns-clause-kept : goal.returns-clause-kept
 returns-clause-kept t c = keeps_more c.args.dd.now c.replace-2.new.dd c.remember_choice.new.dd c.replace-2.ensures.kept
     (keeps_more c.replace-2.new.dd c.replace-3.new.dd c.remember_choice.new.dd c.replace-3.ensures.kept c.remember_choice.ensures.kept)
+
+pub returns-in_default-clause-others : goal.returns-in_default-clause-others
+returns-in_default-clause-others t c = same_pairs c.args.cache.now.pairs c.args.cache.now.pairs (MayAdd c.args.call) refl
+
+pub returns-in_err-lo-clause-others : goal.returns-in_err-lo-clause-others
+returns-in_err-lo-clause-others t c =
+    adds_more (MayAdd c.args.call) c.args.cache.now.pairs c.recall_replaced.new.cache.pairs c.replace-2.new.cache.pairs
+    (same_pairs c.args.cache.now.pairs c.recall_replaced.new.cache.pairs (MayAdd c.args.call) c.recall_replaced.ensures.same) c.replace-2.ensures.others
+
+pub returns-in_err-hi-clause-others : goal.returns-in_err-hi-clause-others
+returns-in_err-hi-clause-others t c =
+    adds_more (MayAdd c.args.call) c.args.cache.now.pairs c.recall_replaced.new.cache.pairs c.replace-3.new.cache.pairs
+    (same_pairs c.args.cache.now.pairs c.recall_replaced.new.cache.pairs (MayAdd c.args.call) c.recall_replaced.ensures.same)
+    (adds_more (MayAdd c.args.call) c.recall_replaced.new.cache.pairs c.replace-2.new.cache.pairs c.replace-3.new.cache.pairs c.replace-2.ensures.others c.replace-3.ensures.others)
+
+pub returns-clause-others : goal.returns-clause-others
+returns-clause-others t c =
+    adds_more (MayAdd c.args.call) c.args.cache.now.pairs c.recall_replaced.new.cache.pairs c.remember_choice.new.cache.pairs
+    (same_pairs c.args.cache.now.pairs c.recall_replaced.new.cache.pairs (MayAdd c.args.call) c.recall_replaced.ensures.same)
+    (adds_more (MayAdd c.args.call) c.recall_replaced.new.cache.pairs c.replace-2.new.cache.pairs c.remember_choice.new.cache.pairs c.replace-2.ensures.others
+    (adds_more (MayAdd c.args.call) c.replace-2.new.cache.pairs c.replace-3.new.cache.pairs c.remember_choice.new.cache.pairs c.replace-3.ensures.others c.remember_choice.ensures.others))

@@ -1,6 +1,8 @@
 -- The answer to the question whether the variable's replacement is true.
+use Rattle.std.proofs.Common.{refl}
 use Rattle.dd_ops.proofs.ValueLemmas.{ok_then}
-use Rattle.dd_ops.proofs.HalvesLemmas.{remembers_extends}
+use Rattle.dd_ops.specs.Cached.{IsQuestion}
+use Rattle.dd_ops.proofs.CachedLemmas.{questions_extend, same_pairs}
 use Rattle.dd_ops.proofs.SubstLemmas.{chosen_later}
 use Rattle.dd_nodes.specs.declared.node.DdErr.TheVariants.{Full}
 use Rattle.dd_ops.proofs.ErrorLemmas.{passed_on}
@@ -9,11 +11,14 @@ use Rattle.dd_ops.proofs.subst.ask_image.Goals as goal
 
 pub returns-in_err-test-clause-questions : goal.returns-in_err-test-clause-questions
 returns-in_err-test-clause-questions c =
-    remembers_extends c.args.dd.now.nodes c.image.new.dd.nodes c.image.ensures.kept.nodes c.args.dd.now.vars c.requires.table.reduced c.args.questions.now.entries c.requires.questions
+    questions_extend c.args.dd.now c.image.new.dd c.image.ensures.kept c.requires.table c.args.cache.now.pairs c.requires.questions
+
+pub returns-in_err-test-clause-others : goal.returns-in_err-test-clause-others
+returns-in_err-test-clause-others c = same_pairs c.args.cache.now.pairs c.args.cache.now.pairs IsQuestion refl
 
 pub answer-requires-clause-memo : goal.answer-requires-clause-memo
 answer-requires-clause-memo c =
-    remembers_extends c.args.dd.now.nodes c.image.new.dd.nodes c.image.ensures.kept.nodes c.args.dd.now.vars c.requires.table.reduced c.args.questions.now.entries c.requires.questions
+    questions_extend c.args.dd.now c.image.new.dd c.image.ensures.kept c.requires.table c.args.cache.now.pairs c.requires.questions
 
 pub returns-clause-answer : goal.returns-clause-answer
 returns-clause-answer c = ok_then c.answer.result c.answer.ensures.answer

@@ -1,22 +1,28 @@
--- What was remembered stays right as the table grows, and so is what is added.
-use Rattle.dd_ops.proofs.SubstLemmas.{remembers_replaced_extends, replaced_remembered}
+-- What is remembered stays right as the table grows, and so is what is added.
+use Rattle.dd_ops.specs.Cached.{MayAdd}
+use Rattle.dd_ops.proofs.CachedLemmas.{replaced_extend, replaced_beside_questions, questions_beside_call, adds_questions, adds_own, adds_more}
 use Rattle.dd_ops.proofs.subst.remember_choice.Goals as goal
 
 pub returns-in_err-r-clause-memo : goal.returns-in_err-r-clause-memo
 returns-in_err-r-clause-memo c =
-    remembers_replaced_extends c.args.dd.now.nodes c.choose.new.dd.nodes c.choose.ensures.kept.nodes c.args.dd.now.vars c.requires.table.reduced c.args.images.now.map.now c.requires.images.numbers
-    c.args.memo.now.entries c.requires.memo
+    replaced_beside_questions c.args.cache.now.pairs c.choose.new.cache.pairs c.choose.new.dd.nodes c.args.images.now.map.now c.args.call c.choose.ensures.others
+    (replaced_extend c.args.dd.now c.choose.new.dd c.choose.ensures.kept c.requires.table c.args.images.now.map.now c.requires.images.numbers c.args.call c.args.cache.now.pairs c.requires.memo)
 
-pub returns-in_err-remember_number-clause-memo : goal.returns-in_err-remember_number-clause-memo
-returns-in_err-remember_number-clause-memo c =
-    replaced_remembered c.choose.new.dd.nodes c.args.images.now.map.now c.args.memo.now.entries c.remember_number.new.memo.entries c.args.f c.in_ok-r.r c.remember_number.ensures.entries
-    (remembers_replaced_extends c.args.dd.now.nodes c.choose.new.dd.nodes c.choose.ensures.kept.nodes c.args.dd.now.vars c.requires.table.reduced c.args.images.now.map.now c.requires.images.numbers
-    c.args.memo.now.entries c.requires.memo)
-    c.in_ok-r.ensures.answer
+pub returns-in_err-r-clause-others : goal.returns-in_err-r-clause-others
+returns-in_err-r-clause-others c = adds_questions c.args.cache.now.pairs c.choose.new.cache.pairs c.args.call c.choose.ensures.others
+
+pub returns-clause-questions : goal.returns-clause-questions
+returns-clause-questions c =
+    questions_beside_call c.choose.new.cache.pairs c.remember_replaced.new.cache.pairs c.choose.new.dd.nodes c.args.call c.remember_replaced.ensures.others c.choose.ensures.questions
 
 pub returns-clause-memo : goal.returns-clause-memo
 returns-clause-memo c =
-    replaced_remembered c.choose.new.dd.nodes c.args.images.now.map.now c.args.memo.now.entries c.remember_number.new.memo.entries c.args.f c.in_ok-r.r c.remember_number.ensures.entries
-    (remembers_replaced_extends c.args.dd.now.nodes c.choose.new.dd.nodes c.choose.ensures.kept.nodes c.args.dd.now.vars c.requires.table.reduced c.args.images.now.map.now c.requires.images.numbers
-    c.args.memo.now.entries c.requires.memo)
+    c.remember_replaced.ensures.kept c.choose.new.dd.nodes c.args.images.now.map.now
+    (replaced_beside_questions c.args.cache.now.pairs c.choose.new.cache.pairs c.choose.new.dd.nodes c.args.images.now.map.now c.args.call c.choose.ensures.others
+    (replaced_extend c.args.dd.now c.choose.new.dd c.choose.ensures.kept c.requires.table c.args.images.now.map.now c.requires.images.numbers c.args.call c.args.cache.now.pairs c.requires.memo))
     c.in_ok-r.ensures.answer
+
+pub returns-clause-others : goal.returns-clause-others
+returns-clause-others c = adds_more (MayAdd c.args.call) c.args.cache.now.pairs c.choose.new.cache.pairs c.remember_replaced.new.cache.pairs
+    (adds_questions c.args.cache.now.pairs c.choose.new.cache.pairs c.args.call c.choose.ensures.others)
+    (adds_own c.choose.new.cache.pairs c.remember_replaced.new.cache.pairs c.args.call c.remember_replaced.ensures.others)

@@ -8,7 +8,7 @@ use Rattle.exec_graph.specs.Counting.{add_configuration}
 use Rattle.exec_graph.specs.Drafts.{beginnings}
 use Rattle.exec_graph.specs.Moves.{IsPlaceWithin, configuration_of}
 use Rattle.exec_graph.specs.declared.exploration.Draft.{Draft}
-use Rattle.exec_graph.proofs.Visits.{count_is, few_initial, first_count, first_draft, graph_made, initial_differ, none_more}
+use Rattle.exec_graph.proofs.Visits.{count_is, few_initial, first_count, first_draft, graph_made, initial_differ, none_more, rows_inside}
 use Rattle.exec_graph.proofs.exploration.explore.Goals as goal
 
 pub visit_all-requires-clause-few : goal.visit_all-requires-clause-few
@@ -16,7 +16,7 @@ visit_all-requires-clause-few c =
     let task = c.args.task.now in
     let n = fluent_count task in
     let states = c.in_ok-states.states.items in
-    let draft : Draft = record { places = c.in_ok-first_places.field-0; next = c.new.result; unexecutable = false; stuck = false } in
+    let draft : Draft = record { places = c.in_ok-first_places.field-0; next = c.in_ok-new.field-0; unexecutable = false; stuck = false } in
     let within = subst (All (IsWithin n)) (sym c.deref.ensures.value) c.in_ok-states.ensures.within in
     let places : map (configuration_of n) draft.places.keys ≡ fold add_configuration [] (beginnings n states) =
     c.in_ok-first_places.ensures.list n within ∙ ap (λ ss. fold add_configuration [] (beginnings n ss)) c.deref.ensures.value in
@@ -28,12 +28,17 @@ visit_all-requires-clause-searched c =
     let task = c.args.task.now in
     let n = fluent_count task in
     let states = c.in_ok-states.states.items in
-    let draft : Draft = record { places = c.in_ok-first_places.field-0; next = c.new.result; unexecutable = false; stuck = false } in
+    let draft : Draft = record { places = c.in_ok-first_places.field-0; next = c.in_ok-new.field-0; unexecutable = false; stuck = false } in
     let within = subst (All (IsWithin n)) (sym c.deref.ensures.value) c.in_ok-states.ensures.within in
     let places : map (configuration_of n) draft.places.keys ≡ fold add_configuration [] (beginnings n states) =
     c.in_ok-first_places.ensures.list n within ∙ ap (λ ss. fold add_configuration [] (beginnings n ss)) c.deref.ensures.value in
     first_draft n (system_of task) states c.in_ok-states.ensures.list (initial_differ task) (plain_of c.args.plan.now) (is_system task) draft places
-    c.new.ensures.items refl refl
+    c.in_ok-new.ensures.none refl refl
+
+pub turned-requires-clause-inside : goal.turned-requires-clause-inside
+turned-requires-clause-inside c =
+    rows_inside (fluent_count c.args.task.now) (system_of c.args.task.now) (plain_of c.args.plan.now) c.visit_all.new.self
+    c.in_ok-visit_all.ensures.searched c.in_ok-visit_all.ensures.whole
 
 pub returns-clause-graph : goal.returns-clause-graph
 returns-clause-graph c =
@@ -44,7 +49,7 @@ returns-clause-graph c =
     graph_made n (system_of task) (plain_of c.args.plan.now) c.visit_all.new.self c.in_ok-visit_all.ensures.searched c.in_ok-visit_all.ensures.whole
     c.into_graph.result made.places
     (made.initials ∙ c.len.ensures ∙ states.ok.0 ∙ count_is n (system_of task) states.items c.in_ok-states.ensures.list (initial_differ task))
-    made.next made.unexecutable made.stuck
+    made.next c.in_ok-prev.prev made.prev c.in_ok-prev.ensures.turned made.unexecutable made.stuck
 
 pub returns-clause-within : goal.returns-clause-within
 returns-clause-within c = subst (All (IsPlaceWithin (fluent_count c.args.task.now))) (sym c.into_graph.ensures.places) c.in_ok-visit_all.ensures.within

@@ -6,7 +6,7 @@ use Rattle.pddl_system.specs.Values.{action_value}
 use Rattle.ground_task.specs.Actions.{action_in}
 use Rattle.ground_task.proofs.actions.actions.Given as goal
 
-abbrev pub invariant-loop-instance : goal.invariant-loop-instance
-invariant-loop-instance l =
-    map action_value l.actions.items ++ map (action_in (setting_in l.setting) l.fluents (domain_value l.domain) (problem_value l.problem)) (drop l.instance-index (kept_by (setting_in l.setting) (domain_value l.domain)))
+abbrev pub invariant-loop-draft : goal.invariant-loop-draft
+invariant-loop-draft l =
+    map action_value l.actions.items ++ map (action_in (setting_in l.setting) l.fluents (domain_value l.domain) (problem_value l.problem)) (drop l.draft-index (kept_by (setting_in l.setting) (domain_value l.domain)))
     ≡ map (action_in (setting_in l.setting) l.fluents (domain_value l.domain) (problem_value l.problem)) (kept_by (setting_in l.setting) (domain_value l.domain))

@@ -1,5 +1,5 @@
 use Rattle.ground_task.proofs.conditions.+making.Goals as goal
-use Rattle.std.proofs.Common.{◌≡◌, ◌+◌, ◌<◌, [], ◌++◌, map, length, get_or, drop, ap, ◌∙◌, arith}
+use Rattle.std.proofs.Common.{◌≡◌, ◌+◌, ◌<◌, [], ◌++◌, map, length, get_or, drop, ap, ◌∙◌}
 use Rattle.pddl_ast.specs.Values.{formula_value}
 use Rattle.pddl_system.specs.Objects.{bindings}
 use Rattle.pddl_system.specs.Tasks.{atom_condition, condition_of}

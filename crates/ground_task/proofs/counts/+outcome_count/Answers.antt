@@ -1,4 +1,4 @@
-use Rattle.std.proofs.Common.{◌≡◌, ap, sym, ◌∙◌, arith}
+use Rattle.std.proofs.Common.{ap, sym, ◌∙◌, arith}
 use Rattle.ground_instances.specs.Tables.{setting_in}
 use Rattle.pddl_ast.specs.Values.{effect_value}
 use Rattle.pddl_system.specs.Sizes.{binding_count, outcome_count}

@@ -1,4 +1,4 @@
-use Rattle.std.proofs.Common.{◌≡◌, ℕ, ◌<◌, true, List, length, map, ap, sym, ◌∙◌, arith}
+use Rattle.std.proofs.Common.{true, length, map, ap, sym, ◌∙◌, arith}
 use Rattle.std.specs.Prelude.{nat_le}
 use Rattle.ground_instances.specs.Kept.{instance_of, kept_by}
 use Rattle.ground_instances.specs.Tables.{setting_in}

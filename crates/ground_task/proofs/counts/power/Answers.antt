@@ -1,4 +1,4 @@
-use Rattle.std.proofs.Common.{◌≡◌, ◌+◌, ◌*◌, ◌^◌, min, ap, sym, ◌∙◌, add-one, arith}
+use Rattle.std.proofs.Common.{◌≡◌, ◌*◌, ◌^◌, min, ap, sym, ◌∙◌, add-one, arith}
 use Rattle.std.proofs.Math.Nat.{pow-suc}
 use Rattle.ground_task.specs.Capped.{capped}
 use Rattle.ground_task.proofs.Capping.{bounded_power, capped_factor}

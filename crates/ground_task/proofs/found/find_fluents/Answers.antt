@@ -1,23 +1,23 @@
-use Rattle.std.proofs.Common.{◌≡◌, ℕ, List, [], ◌∷◌, ◌++◌, map, ap, sym, ◌∙◌, Bool}
+use Rattle.std.proofs.Common.{◌≡◌, List, [], ap, sym, ◌∙◌}
 use Rattle.std.specs.Prelude.{nat_lt, length}
 use Rattle.std.specs.List.{flat_map}
 use Rattle.ground_instances.specs.Kept.{kept_by}
 use Rattle.ground_instances.specs.Tables.{setting_in}
 use Rattle.pddl_ast.specs.Trees.{AtomTree, DomainTree, ProblemTree}
 use Rattle.pddl_ast.specs.Values.{domain_value, problem_value}
-use Rattle.pddl_system.specs.Fluents.{named_atoms, named_by, named_by_effect}
-use Rattle.pddl_system.specs.Instances.{Instance as InstanceTree}
+use Rattle.pddl_system.specs.Fluents.{changed_by, named_by}
 use Rattle.pddl_system.specs.Settings.{Setting, setting}
 use Rattle.ground_task.specs.Collecting.{collected, entries_value}
-use Rattle.ground_task.proofs.FoundLemmas.{AreInOrder, are_few, are_fluents, are_many}
+use Rattle.ground_task.proofs.FoundLemmas.{changed_atoms, are_few, are_fluents, are_many}
+use Rattle.ground_task.proofs.CollectedLemmas.{still_few}
 use Rattle.ground_task.proofs.NamingLemmas.{collected-append}
 use Rattle.ground_task.proofs.found.find_fluents.Goals as goal
 
 abbrev names : DomainTree → Setting → List AtomTree
-names d at = flat_map (λ (i : InstanceTree). named_by_effect at i.schema.effect i.objects) (kept_by at d)
+names d at = flat_map (changed_by at) (kept_by at d)
 
 gathers : (d : DomainTree) (p : ProblemTree) (at : Setting) (none first all : List AtomTree) → none ≡ [] → at ≡ setting d p
-    → first ≡ collected none (names d at) → all ≡ collected first (flat_map named_by p.entries) → all ≡ collected [] (named_atoms d p)
+    → first ≡ collected none (names d at) → all ≡ collected first (flat_map named_by p.entries) → all ≡ collected [] (changed_atoms d p)
 gathers d p at none first all empty is one two =
     two
     ∙ ap (λ t. collected t (flat_map named_by p.entries)) (one ∙ ap (λ t. collected t (names d at)) empty ∙ ap (λ s. collected [] (names d s)) is)
@@ -28,7 +28,7 @@ returns-then-is_full-clause-within c =
     let d = domain_value c.args.domain.now in
     let p = problem_value c.args.problem.now in
     are_many d p c.requires.fits_domain c.requires.fits_problem c.name_entries.new.fluents c.sort.new.self
-    (gathers d p (setting_in c.args.setting.now) c.new-fluents.result c.name_instances.new.fluents c.name_entries.new.fluents c.new-fluents.ensures c.requires.setting c.in_ok-name_instances.ensures (c.in_ok-name_entries.ensures ∙ ap (λ l. collected c.name_instances.new.fluents (flat_map named_by (entries_value l))) c.deref.ensures.value))
+    (gathers d p (setting_in c.args.setting.now) c.new-fluents.result c.instances_outcomes.new.fluents c.name_entries.new.fluents c.new-fluents.ensures c.requires.setting c.in_ok-drafts.ensures.fluents (c.in_ok-name_entries.ensures ∙ ap (λ l. collected c.instances_outcomes.new.fluents (flat_map named_by (entries_value l))) c.deref.ensures.value))
     (record { sorted = c.in_ok-sort.ensures.sorted; differ = c.in_ok-sort.ensures.differ; same = c.in_ok-sort.ensures.same; count = c.in_ok-sort.ensures.count })
     (sym c.is_full.ensures ∙ c.if-is_full.true)
 
@@ -37,7 +37,7 @@ returns-clause-fluents c =
     let d = domain_value c.args.domain.now in
     let p = problem_value c.args.problem.now in
     are_fluents d p c.requires.fits_domain c.requires.fits_problem c.name_entries.new.fluents c.sort.new.self
-    (gathers d p (setting_in c.args.setting.now) c.new-fluents.result c.name_instances.new.fluents c.name_entries.new.fluents c.new-fluents.ensures c.requires.setting c.in_ok-name_instances.ensures (c.in_ok-name_entries.ensures ∙ ap (λ l. collected c.name_instances.new.fluents (flat_map named_by (entries_value l))) c.deref.ensures.value))
+    (gathers d p (setting_in c.args.setting.now) c.new-fluents.result c.instances_outcomes.new.fluents c.name_entries.new.fluents c.new-fluents.ensures c.requires.setting c.in_ok-drafts.ensures.fluents (c.in_ok-name_entries.ensures ∙ ap (λ l. collected c.instances_outcomes.new.fluents (flat_map named_by (entries_value l))) c.deref.ensures.value))
     (record { sorted = c.in_ok-sort.ensures.sorted; differ = c.in_ok-sort.ensures.differ; same = c.in_ok-sort.ensures.same; count = c.in_ok-sort.ensures.count })
     (sym c.is_full.ensures ∙ c.if-is_full.false)
 
@@ -46,6 +46,12 @@ returns-clause-within c =
     let d = domain_value c.args.domain.now in
     let p = problem_value c.args.problem.now in
     are_few d p c.requires.fits_domain c.requires.fits_problem c.name_entries.new.fluents c.sort.new.self
-    (gathers d p (setting_in c.args.setting.now) c.new-fluents.result c.name_instances.new.fluents c.name_entries.new.fluents c.new-fluents.ensures c.requires.setting c.in_ok-name_instances.ensures (c.in_ok-name_entries.ensures ∙ ap (λ l. collected c.name_instances.new.fluents (flat_map named_by (entries_value l))) c.deref.ensures.value))
+    (gathers d p (setting_in c.args.setting.now) c.new-fluents.result c.instances_outcomes.new.fluents c.name_entries.new.fluents c.new-fluents.ensures c.requires.setting c.in_ok-drafts.ensures.fluents (c.in_ok-name_entries.ensures ∙ ap (λ l. collected c.instances_outcomes.new.fluents (flat_map named_by (entries_value l))) c.deref.ensures.value))
     (record { sorted = c.in_ok-sort.ensures.sorted; differ = c.in_ok-sort.ensures.differ; same = c.in_ok-sort.ensures.same; count = c.in_ok-sort.ensures.count })
     (sym c.is_full.ensures ∙ c.if-is_full.false)
+
+pub returns-clause-drafts : goal.returns-clause-drafts
+returns-clause-drafts c =
+    c.in_ok-drafts.ensures.outcomes
+    (still_few c.instances_outcomes.new.fluents (flat_map named_by (entries_value c.deref.result.now))
+    (sym (ap (λ l. nat_lt 256 (length l)) c.in_ok-name_entries.ensures) ∙ sym (ap (nat_lt 256) c.in_ok-sort.ensures.count) ∙ sym c.is_full.ensures ∙ c.if-is_full.false))

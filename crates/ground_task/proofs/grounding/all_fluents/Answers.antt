@@ -29,4 +29,4 @@ pub returns-in-None-clause-limit : goal.returns-in-None-clause-limit
 returns-in-None-clause-limit c =
     let d = domain_value c.args.domain.now in
     let p = problem_value c.args.problem.now in
-    inr (passes_fluents d p c.requires.first c.requires.actions (counted d p (setting_in c.args.setting.now) c.in_ok-few.few _ c.requires.setting c.in_ok-few.ensures c.if-not-few.false) (sym c.in_ok-fluents.ensures.within ∙ ap is_some c.in-None.is))
+    inr (passes_fluents d p c.requires.first c.requires.actions (counted d p (setting_in c.args.setting.now) c.in_ok-few.few _ c.requires.setting c.in_ok-few.ensures c.if-not-few.false) (sym c.in_ok-found.ensures.within ∙ ap is_some c.in-None.is))

@@ -1,4 +1,4 @@
-use Rattle.std.proofs.Common.{◌≡◌, List, map, ap, sym, ◌∙◌, refl}
+use Rattle.std.proofs.Common.{map, ap, ◌∙◌}
 use Rattle.ground_instances.specs.Tables.{setting_in}
 use Rattle.pddl_ast.specs.Values.{domain_value, problem_value}
 use Rattle.pddl_system.specs.Systems as systems

@@ -1,4 +1,4 @@
-use Rattle.std.proofs.Common.{◌≡◌, ◌<◌, ℕ, false, length, ap, ◌∙◌, sym, arith}
+use Rattle.std.proofs.Common.{◌<◌, false, length, ap, ◌∙◌, sym, arith}
 use Rattle.std.proofs.lemmas.List.{get_or-map}
 use Rattle.ground_instances.specs.Atoms.{atom_tree}
 use Rattle.ground_instances.specs.Tables.{setting_in}

@@ -1,4 +1,4 @@
-use Rattle.std.proofs.Common.{◌≡◌, ◌+◌, ◌++◌, drop, map, ap, ◌∙◌, arith, ◌<◌, length}
+use Rattle.std.proofs.Common.{◌+◌, ◌++◌, drop, map, ap, ◌∙◌, arith, ◌<◌, length}
 use Rattle.ground_instances.specs.Atoms.{atom_tree}
 use Rattle.pddl_ast.specs.Values.{domain_value, problem_value}
 use Rattle.pddl_system.specs.Systems.{atom_name}

@@ -1,4 +1,4 @@
-use Rattle.std.proofs.Common.{◌≡◌, ◌∙◌}
+use Rattle.std.proofs.Common.{◌∙◌}
 use Rattle.std.specs.Str.{IsUtf8}
 use Rattle.ground_task.proofs.WordLemmas.{word_is_text}
 use Rattle.ground_task.proofs.names.word.Goals as goal

@@ -1,7 +1,7 @@
-use Rattle.std.proofs.Common.{◌≡◌, map}
-use Rattle.pddl_system.specs.Values.{outcome_value}
-use Rattle.ground_task.specs.Built.{crossed}
+use Rattle.std.proofs.Common.{◌≡◌}
+use Rattle.pddl_system.specs.Outcomes as plain
+use Rattle.ground_task.specs.Drafts.{draft_trees}
 use Rattle.ground_task.proofs.products.products.Given as goal
 
 abbrev pub invariant-loop-first : goal.invariant-loop-first
-invariant-loop-first l = map outcome_value l.products.items ≡ crossed (map outcome_value l.yielded) (map outcome_value l.seconds)
+invariant-loop-first l = draft_trees l.products.items ≡ plain.products (draft_trees l.yielded) (draft_trees l.seconds)

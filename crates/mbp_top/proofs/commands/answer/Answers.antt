@@ -1,7 +1,7 @@
-use Rattle.std.proofs.Common.{map, string_bytes, inr, subst}
+use Rattle.std.proofs.Common.{map, string_bytes, inr, refl, subst}
 use Rattle.mbp_top.specs.Fetching.{FetchesFiles}
-use Rattle.mbp_top.specs.Values.{check_words_of, ground_words_of, plan_words_of, replay_words_of}
-use Rattle.mbp_top.specs.Words.{Command, plan, ground, check, replay}
+use Rattle.mbp_top.specs.Values.{check_words_of, drill_words_of, ground_words_of, plan_words_of, replay_words_of}
+use Rattle.mbp_top.specs.Words.{Command, plan, ground, check, replay, drill}
 use Rattle.mbp_top.proofs.ByCommand.{one_command}
 use Rattle.mbp_top.proofs.commands.answer.Goals as goal
 
@@ -52,3 +52,15 @@ returns-in-Replay-clause-fetches g c = λ command says.
 
 pub returns-in-Replay-clause-no_fetch : goal.returns-in-Replay-clause-no_fetch
 returns-in-Replay-clause-no_fetch g c = λ nothing. absurd (nothing (replay (replay_words_of c.in-Replay.asked)) c.in-Replay.ensures)
+
+pub returns-in-Drill-clause-cause : goal.returns-in-Drill-clause-cause
+returns-in-Drill-clause-cause g c = inr (drill (drill_words_of c.in-Drill.asked), c.in-Drill.ensures, c.run_drill.ensures)
+
+pub returns-in-Drill-clause-fetches : goal.returns-in-Drill-clause-fetches
+returns-in-Drill-clause-fetches g c = λ command says.
+    subst (λ (said : Command). FetchesFiles (g.S.Shelf.held c.args.shelf.now) g.S.Shelf.fetched said c.args.shelf.now c.args.shelf.now)
+    (one_command (map string_bytes c.args.words.now) (drill (drill_words_of c.in-Drill.asked)) command c.in-Drill.ensures says)
+    refl
+
+pub returns-in-Drill-clause-no_fetch : goal.returns-in-Drill-clause-no_fetch
+returns-in-Drill-clause-no_fetch g c = λ nothing. absurd (nothing (drill (drill_words_of c.in-Drill.asked)) c.in-Drill.ensures)

@@ -2,7 +2,7 @@ use Rattle.std.proofs.Common.{inl, inr, refl}
 use Rattle.std.proofs.lemmas.Result.{err_from_is_err_and}
 use Rattle.plan_io.specs.Fetches.{FailedLast}
 use Rattle.pddl_ast.specs.Values.{domain_value, problem_value}
-use Rattle.pddl_domain.specs.Domains.{SpellsDomain}
+use Rattle.domain_read.specs.Domains.{SpellsDomain}
 use Rattle.mbp_top.specs.Answers.{refused}
 use Rattle.mbp_top.specs.PddlTexts.{SpellsProblemOf, IsFaultyDomain, IsFaultyProblem}
 use Rattle.mbp_top.specs.Reading.{ReadThen}

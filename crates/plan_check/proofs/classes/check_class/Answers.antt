@@ -2,8 +2,10 @@ use Rattle.std.proofs.Common.{ap, sym, ◌∙◌, subst}
 use Rattle.std.specs.Prelude.{IfOk}
 use Rattle.std.specs.Option.{option_copied}
 use Rattle.task_core.specs.Tasks.{fluent_count, system_of}
+use Rattle.plan_rules.specs.Rules.{table}
 use Rattle.plan_check.specs.Verdicts.{IsVerdict}
 use Rattle.plan_check.proofs.GraphVerdicts.{bad_rule, can_follow, goal_small, never_follows}
+use Rattle.plan_check.proofs.SpreadSteps.{graph_turned}
 use Rattle.plan_check.proofs.classes.check_class.Goals as goal
 
 pub returns-then-unexecutable : goal.returns-then-unexecutable
@@ -33,3 +35,9 @@ pub returns-in-Cyclic : goal.returns-in-Cyclic
 returns-in-Cyclic c = λ word rules h.
     subst (λ k. IfOk c.check_cyclic.result (IsVerdict (system_of c.args.task.now) rules k)) (sym c.in-Cyclic.is)
     (c.check_cyclic.ensures c.args.task.now word rules (sym c.as_ref.ensures.value ∙ ap option_copied c.unwrap-goal.ensures) h (can_follow (system_of c.args.task.now) word rules (fluent_count c.args.task.now) c.args.graph.now h (sym (c.unexecutable.ensures 0) ∙ c.if-unexecutable.false)))
+
+pub check_weak-requires-clause-turned : goal.check_weak-requires-clause-turned
+check_weak-requires-clause-turned c = graph_turned (system_of c.args.task.now) (table c.requires.graph.0 c.requires.graph.1.0) (fluent_count c.args.task.now) c.args.graph.now c.requires.graph.1.1
+
+pub check_cyclic-requires-clause-turned : goal.check_cyclic-requires-clause-turned
+check_cyclic-requires-clause-turned c = graph_turned (system_of c.args.task.now) (table c.requires.graph.0 c.requires.graph.1.0) (fluent_count c.args.task.now) c.args.graph.now c.requires.graph.1.1

@@ -2,9 +2,11 @@ use Rattle.std.proofs.Common.{sym, ◌∙◌, subst}
 use Rattle.task_core.specs.Tasks.{fluent_count, system_of}
 use Rattle.ctl_syntax.specs.Values.{ctl_value}
 use Rattle.plan_rules.specs.Denoted.{denoted_contexts}
+use Rattle.plan_rules.specs.Rules.{automaton}
 use Rattle.plan_check.specs.ContextVerdicts.{IsTrueAt}
 use Rattle.plan_check.specs.Plain.{HasMarkedStarts, HasUnmarkedStart}
 use Rattle.plan_check.proofs.ContextLaws.{all_have, executes_always, few_names, gets_stuck, has_followers, may_get_stuck, may_not_execute, meets_formula, never_stuck, not_executed, one_misses}
+use Rattle.plan_check.proofs.SpreadSteps.{graph_turned}
 use Rattle.plan_check.proofs.contexts.check_ctl.Goals as goal
 
 pub returns-then-unexecutable : goal.returns-then-unexecutable
@@ -60,3 +62,6 @@ returns c = record {
       (never_stuck sys contexts rules n c.args.graph.now h (sym (c.stuck.ensures 0) ∙ c.if-stuck.false))
       (subst (HasUnmarkedStart c.args.graph.now) c.deref.ensures.value c.if-has_marked_starts.ensures);
 }
+
+pub labels-requires-clause-turned : goal.labels-requires-clause-turned
+labels-requires-clause-turned c = graph_turned (system_of c.args.task.now) (automaton c.requires.graph.0 c.requires.graph.1.0) (fluent_count c.args.task.now) c.args.graph.now c.requires.graph.1.1

@@ -4,7 +4,7 @@ use Rattle.plan_check.specs.declared.spreading.Need.TheVariants.{One, Each}
 use Rattle.plan_check.specs.declared.labelling.Join.TheVariants.{And, Or}
 use Rattle.ctl_syntax.specs.Values.{ctl_value}
 use Rattle.exec_graph.specs.Values.{followers_at, graph_size}
-use Rattle.plan_check.proofs.GoalLabels.{all_step, any_step, joined_as, of_Af, of_Ag, of_Au, of_Aw, of_Ax, of_Ef, of_Eg, of_Eu, of_Ew, of_Ex, ok_with}
+use Rattle.plan_check.proofs.GoalLabels.{all_end, all_step, any_end, any_step, joined_as, of_Af, of_Ag, of_Au, of_Aw, of_Ax, of_Ef, of_Eg, of_Eu, of_Ew, of_Ex, ok_with}
 use Rattle.plan_check.proofs.goals.+labelling.Goals as goal
 
 pub labels-returns-in_ok-part-in-Ax : goal.labels-returns-in_ok-part-in-Ax
@@ -19,21 +19,21 @@ labels-returns-in_ok-part-in-Ex t c = λ n k.
     (λ marks h. of_Ex n c.args.graph.now c.requires.inside c.requires.followers c.args.goal.now c.in-Ex.part c.deref-in-Ex.result.now c.in_ok-part-in-Ex.part.items c.deref-in-Ex-2.result.now marks.items c.deref-in-Ex.ensures (c.in_ok-part-in-Ex.ensures n) c.deref-in-Ex-2.ensures.value c.in-Ex.is h k)
     c.next_label-in-Ex.ensures
 
-pub labels-returns-in_ok-marks-in-Af : goal.labels-returns-in_ok-marks-in-Af
-labels-returns-in_ok-marks-in-Af t c = λ n k.
-    of_Af n c.args.graph.now c.requires.inside c.requires.followers c.args.goal.now c.in-Af.part c.deref-in-Af.result.now c.in_ok-guard-in-Af.guard.items c.deref-in-Af-2.result.now c.in_ok-marks-in-Af.marks.items c.spread.new.marks.items c.deref-in-Af.ensures (c.in_ok-marks-in-Af.ensures n) c.deref-in-Af-2.ensures.value c.in_ok-guard-in-Af.ensures.count c.in_ok-guard-in-Af.ensures.each c.in-Af.is c.spread.ensures k
+pub labels-returns-in_ok-spread-in-Af : goal.labels-returns-in_ok-spread-in-Af
+labels-returns-in_ok-spread-in-Af t c = λ n k.
+    of_Af n c.args.graph.now c.requires.inside c.requires.followers c.args.goal.now c.in-Af.part c.deref-in-Af.result.now c.in_ok-guard-in-Af.guard.items c.deref-in-Af-2.result.now c.in_ok-marks-in-Af.marks.items c.spread.new.marks.items c.deref-in-Af.ensures (c.in_ok-marks-in-Af.ensures n) c.deref-in-Af-2.ensures.value c.in_ok-guard-in-Af.ensures.count c.in_ok-guard-in-Af.ensures.each c.in-Af.is c.in_ok-spread-in-Af.ensures k
 
-pub labels-returns-in_ok-marks-in-Ef : goal.labels-returns-in_ok-marks-in-Ef
-labels-returns-in_ok-marks-in-Ef t c = λ n k.
-    of_Ef n c.args.graph.now c.requires.inside c.requires.followers c.args.goal.now c.in-Ef.part c.deref-in-Ef.result.now c.in_ok-guard-in-Ef.guard.items c.deref-in-Ef-2.result.now c.in_ok-marks-in-Ef.marks.items c.spread-in-Ef.new.marks.items c.deref-in-Ef.ensures (c.in_ok-marks-in-Ef.ensures n) c.deref-in-Ef-2.ensures.value c.in_ok-guard-in-Ef.ensures.count c.in_ok-guard-in-Ef.ensures.each c.in-Ef.is c.spread-in-Ef.ensures k
+pub labels-returns-in_ok-spread-in-Ef : goal.labels-returns-in_ok-spread-in-Ef
+labels-returns-in_ok-spread-in-Ef t c = λ n k.
+    of_Ef n c.args.graph.now c.requires.inside c.requires.followers c.args.goal.now c.in-Ef.part c.deref-in-Ef.result.now c.in_ok-guard-in-Ef.guard.items c.deref-in-Ef-2.result.now c.in_ok-marks-in-Ef.marks.items c.spread-in-Ef.new.marks.items c.deref-in-Ef.ensures (c.in_ok-marks-in-Ef.ensures n) c.deref-in-Ef-2.ensures.value c.in_ok-guard-in-Ef.ensures.count c.in_ok-guard-in-Ef.ensures.each c.in-Ef.is c.in_ok-spread-in-Ef.ensures k
 
-pub labels-returns-in_ok-marks-in-Au : goal.labels-returns-in_ok-marks-in-Au
-labels-returns-in_ok-marks-in-Au t c = λ n k.
-    of_Au n c.args.graph.now c.requires.inside c.requires.followers c.args.goal.now c.in-Au.left c.in-Au.right c.deref-in-Au.result.now c.deref-in-Au-2.result.now c.in_ok-guard-in-Au.guard.items c.deref-in-Au-3.result.now c.in_ok-marks-in-Au.marks.items c.spread-in-Au.new.marks.items c.deref-in-Au.ensures c.deref-in-Au-2.ensures (c.in_ok-guard-in-Au.ensures n) (c.in_ok-marks-in-Au.ensures n) c.deref-in-Au-3.ensures.value c.in-Au.is c.spread-in-Au.ensures k
+pub labels-returns-in_ok-spread-in-Au : goal.labels-returns-in_ok-spread-in-Au
+labels-returns-in_ok-spread-in-Au t c = λ n k.
+    of_Au n c.args.graph.now c.requires.inside c.requires.followers c.args.goal.now c.in-Au.left c.in-Au.right c.deref-in-Au.result.now c.deref-in-Au-2.result.now c.in_ok-guard-in-Au.guard.items c.deref-in-Au-3.result.now c.in_ok-marks-in-Au.marks.items c.spread-in-Au.new.marks.items c.deref-in-Au.ensures c.deref-in-Au-2.ensures (c.in_ok-guard-in-Au.ensures n) (c.in_ok-marks-in-Au.ensures n) c.deref-in-Au-3.ensures.value c.in-Au.is c.in_ok-spread-in-Au.ensures k
 
-pub labels-returns-in_ok-marks-in-Eu : goal.labels-returns-in_ok-marks-in-Eu
-labels-returns-in_ok-marks-in-Eu t c = λ n k.
-    of_Eu n c.args.graph.now c.requires.inside c.requires.followers c.args.goal.now c.in-Eu.left c.in-Eu.right c.deref-in-Eu.result.now c.deref-in-Eu-2.result.now c.in_ok-guard-in-Eu.guard.items c.deref-in-Eu-3.result.now c.in_ok-marks-in-Eu.marks.items c.spread-in-Eu.new.marks.items c.deref-in-Eu.ensures c.deref-in-Eu-2.ensures (c.in_ok-guard-in-Eu.ensures n) (c.in_ok-marks-in-Eu.ensures n) c.deref-in-Eu-3.ensures.value c.in-Eu.is c.spread-in-Eu.ensures k
+pub labels-returns-in_ok-spread-in-Eu : goal.labels-returns-in_ok-spread-in-Eu
+labels-returns-in_ok-spread-in-Eu t c = λ n k.
+    of_Eu n c.args.graph.now c.requires.inside c.requires.followers c.args.goal.now c.in-Eu.left c.in-Eu.right c.deref-in-Eu.result.now c.deref-in-Eu-2.result.now c.in_ok-guard-in-Eu.guard.items c.deref-in-Eu-3.result.now c.in_ok-marks-in-Eu.marks.items c.spread-in-Eu.new.marks.items c.deref-in-Eu.ensures c.deref-in-Eu-2.ensures (c.in_ok-guard-in-Eu.ensures n) (c.in_ok-marks-in-Eu.ensures n) c.deref-in-Eu-3.ensures.value c.in-Eu.is c.in_ok-spread-in-Eu.ensures k
 
 pub labels-returns-in_ok-target-in-Ag : goal.labels-returns-in_ok-target-in-Ag
 labels-returns-in_ok-target-in-Ag t c = λ n k.
@@ -68,3 +68,9 @@ pub labels_of_any-loop-goal-preserved : goal.labels_of_any-loop-goal-preserved
 labels_of_any-loop-goal-preserved t c =
     any_step c.args.graph.now c.args.goals.now c.loop-goal.goal-index c.goal-item.result c.loop-goal.marks.items c.in_ok-part.part.items c.in_ok-marks-2.marks.items c.loop-goal-test.true (sym c.goal-item.is) c.loop-goal.invariant c.in_ok-part.ensures
     (joined_as Or c.loop-goal.marks.items c.in_ok-part.part.items c.deref.result.now c.deref-in-loop-goal.result.now c.in_ok-marks-2.marks.items c.deref.ensures.value c.deref-in-loop-goal.ensures.value c.in_ok-marks-2.ensures)
+
+pub labels_of_all-returns : goal.labels_of_all-returns
+labels_of_all-returns t c = all_end c.args.graph.now c.args.goals.now c.loop-goal.goal-index c.loop-goal.marks.items c.loop-goal-test.false c.loop-goal.invariant
+
+pub labels_of_any-returns : goal.labels_of_any-returns
+labels_of_any-returns t c = any_end c.args.graph.now c.args.goals.now c.loop-goal.goal-index c.loop-goal.marks.items c.loop-goal-test.false c.loop-goal.invariant

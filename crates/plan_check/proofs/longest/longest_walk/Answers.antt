@@ -1,6 +1,7 @@
 use Rattle.std.proofs.Common.{subst, arith}
+use borrow.Author.Count.{below_more}
 use Rattle.exec_graph.specs.Values.{followers_at, graph_size}
-use Rattle.plan_check.specs.Searches.{IsSearch}
+use Rattle.plan_check.specs.Searches.{IsSearch, IsSeen}
 use Rattle.plan_check.proofs.SearchSteps.{greatest_longest}
 use Rattle.plan_check.proofs.longest.longest_walk.Goals as goal
 
@@ -24,3 +25,14 @@ returns-clause-longest c =
     (subst (IsSearch (graph_size c.args.graph.now) next visits) c.loop-root.invariant.path c.loop-root.invariant.search)
     (λ i l. c.loop-root.invariant.seen i (omega (arith, c.len-root-end.ensures.size 0)))
     c.requires c.greatest.result c.greatest.ensures.most c.greatest.ensures.attained
+
+pub loop-root-preserved : goal.loop-root-preserved
+loop-root-preserved c =
+    let is = c.in-Further.is in
+    record {
+      search = c.in_ok-search_from.ensures.search is;
+      path = c.in_ok-search_from.ensures.path is;
+      seen = below_more (IsSeen c.search_from.new.self.visits.items) c.loop-root.root
+          (λ k l. c.in_ok-search_from.ensures.kept is k (c.loop-root.invariant.seen k l))
+          (c.in_ok-search_from.ensures.seen is);
+    }

@@ -5,7 +5,9 @@ use Rattle.dd_nodes.specs.NodeList.{IsNumber, function}
 use Rattle.dd_nodes.specs.Subfunctions.{Function}
 use Rattle.dd_nodes.specs.Table.{NodeTable}
 use Rattle.dd_ops.specs.Growth.{pieces_of_subst}
+use Rattle.dd_ops.specs.Cached.{key_of_question}
 use Rattle.dd_ops.specs.Operations.{subst_of}
+use Rattle.dd_ops.proofs.CachedLemmas.{cache_after_subst}
 use Rattle.dd_ops.proofs.GrowthOps.{grows}
 use Rattle.dd_ops.proofs.SubstLemmas.{listed_numbers}
 use Rattle.dd_ops.proofs.ValueLemmas.{answers, ok_then, subst_function}
@@ -13,11 +15,12 @@ use Rattle.dd_ops.proofs.ops.Ops.subst.Goals as goal
 
 pub returns-clause-answers : goal.returns-clause-answers
 returns-clause-answers c =
-    answers c.self.inside.dd c.args.self.now c.substitute.new.dd c.self.view_is c.self.invariant c.substitute.ensures.kept c.substitute.ensures.table
+    answers c.self.inside.dd c.args.self.now c.substitute.new.dd c.self.view_is c.self.invariant.table c.substitute.ensures.kept c.substitute.ensures.table
     (subst_of c.args.self.now.nodes c.args.map.now (function c.args.self.now.nodes c.args.f.0)) c.substitute.result
     (ok_then c.substitute.result c.substitute.ensures.answer
-    (λ r answer. subst_function c.self.inside.dd c.args.self.now c.substitute.new.dd c.self.view_is c.self.invariant c.substitute.ensures.kept c.args.map.now (listed_numbers c.args.self.now.nodes c.args.map.now c.requires.map_in_table) c.args.f.0 c.requires.f_in_table r.0 answer))
+    (λ r answer. subst_function c.self.inside.dd c.args.self.now c.substitute.new.dd c.self.view_is c.self.invariant.table c.substitute.ensures.kept c.args.map.now (listed_numbers c.args.self.now.nodes c.args.map.now c.requires.map_in_table) c.args.f.0 c.requires.f_in_table r.0 answer))
     (ok_then c.substitute.result c.substitute.ensures.answer (λ r answer. answer.number))
+    c.substitute.ensures.only_full
 
 -- the pieces of the call, over any table
 subst_pieces_of : List (ℕ × Ref) → ℕ → NodeTable → List Function
@@ -26,7 +29,15 @@ subst_pieces_of map f t = pieces_of_subst t.vars t.nodes map f
 pub returns-clause-grows : goal.returns-clause-grows
 unfolding subst_pieces_of
 returns-clause-grows c =
-    grows (subst_pieces_of c.args.map.now c.args.f.0) c.self.inside.dd c.args.self.now c.substitute.new.dd c.self.view_is c.self.invariant c.substitute.ensures.adds c.substitute.result c.substitute.ensures.kept c.substitute.ensures.full
+    grows (subst_pieces_of c.args.map.now c.args.f.0) c.self.inside.dd c.args.self.now c.substitute.new.dd c.self.view_is c.self.invariant.table c.substitute.ensures.adds c.substitute.result c.substitute.ensures.kept c.substitute.ensures.full
 
 pub substitute-requires-clause-map : goal.substitute-requires-clause-map
 substitute-requires-clause-map c = subst (λ (t : NodeTable). All (λ (entry : ℕ × Ref). IsNumber t.nodes entry.1.0) c.args.map.now) (sym c.self.view_is) c.requires.map_in_table
+
+pub invariant_of-self : goal.invariant_of-self
+invariant_of-self c = cache_after_subst c.self.inside.dd c.substitute.new.dd c.substitute.ensures.kept c.self.invariant.table
+    c.self.inside.cache.pairs c.next_call-call.new.cache.pairs c.substitute.new.cache.pairs c.self.inside.next c.next_call-call.result c.next_call-call.new.next
+    c.self.invariant c.substitute.ensures.table c.next_call-call.ensures.within c.next_call-call.ensures.calls c.next_call-call.ensures.next c.substitute.ensures.questions c.substitute.ensures.others
+
+pub substitute-requires-clause-questions : goal.substitute-requires-clause-questions
+substitute-requires-clause-questions c q r has = c.self.invariant.questions q r (c.next_call-call.ensures.within (key_of_question q) r has)

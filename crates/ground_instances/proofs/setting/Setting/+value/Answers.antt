@@ -1,11 +1,14 @@
 use Rattle.std.proofs.Common.{◌≡◌, ℕ, ◌+◌, ◌<◌, ◌≤◌, List, [], ◌++◌, length, get_or, map, drop, ◌∙◌, ap, sym, subst, arith}
 use Rattle.ground_instances.specs.Tables.{setting_in}
+use Rattle.std.specs.Option.{option_map}
+use Rattle.ground_instances.specs.Settled.{settled}
 use Rattle.ground_instances.specs.Values.{known_value}
 use Rattle.pddl_ast.specs.Values.{formula_value}
 use Rattle.pddl_system.specs.Objects.{bindings}
 use Rattle.pddl_system.specs.Sizes.{binding_count}
 use Rattle.pddl_system.specs.ThreeValues.{Value as Known, value, value_of_any, value_of_all, value_or, value_and}
 use Rattle.ground_instances.proofs.Numbered.{length_bindings}
+use Rattle.ground_instances.proofs.SettledLemmas.{settled_is}
 use Rattle.ground_instances.proofs.ValueLemmas.{or_step, or_end, and_step, and_end, is_yes, is_no, left_again}
 use Rattle.ground_instances.proofs.setting.Setting.+value.Goals as goal
 
@@ -18,7 +21,7 @@ loop-number-preserved t c =
     let part = λ (chosen : List ℕ). value at (formula_value c.in-Exists.part.value) (scope ++ chosen) in
     let counted : length rows ≡ c.in_ok-count-in-Exists.count =
     length_bindings at.objects c.in-Exists.types.items
-    ∙ sym (c.in_ok-count-in-Exists.ensures.count ∙ ap (binding_count at.objects) c.deref-in-Exists.ensures.value) in
+    ∙ sym (c.in_ok-count-in-Exists.ensures.count ∙ ap (binding_count at.objects) c.deref-in-Exists-2.ensures.value) in
     let within : n < length rows = subst (λ k. n < k) (sym counted) c.loop-number-test.true in
     let bound : c.bind.new.scope.items ≡ scope ++ get_or rows n [] =
     c.in_ok-bind-in-Exists.ensures
@@ -42,7 +45,7 @@ returns-then-eq-4-clause-value t c =
     let part = λ (chosen : List ℕ). value at (formula_value c.in-Exists.part.value) (scope ++ chosen) in
     let counted : length rows ≡ c.in_ok-count-in-Exists.count =
     length_bindings at.objects c.in-Exists.types.items
-    ∙ sym (c.in_ok-count-in-Exists.ensures.count ∙ ap (binding_count at.objects) c.deref-in-Exists.ensures.value) in
+    ∙ sym (c.in_ok-count-in-Exists.ensures.count ∙ ap (binding_count at.objects) c.deref-in-Exists-2.ensures.value) in
     let within : n < length rows = subst (λ k. n < k) (sym counted) c.loop-number-test.true in
     let bound : c.bind.new.scope.items ≡ scope ++ get_or rows n [] =
     c.in_ok-bind-in-Exists.ensures
@@ -64,7 +67,7 @@ returns-after-loop-number-clause-value t c =
     let part = λ (chosen : List ℕ). value at (formula_value c.in-Exists.part.value) (scope ++ chosen) in
     let counted : length rows ≡ c.in_ok-count-in-Exists.count =
     length_bindings at.objects c.in-Exists.types.items
-    ∙ sym (c.in_ok-count-in-Exists.ensures.count ∙ ap (binding_count at.objects) c.deref-in-Exists.ensures.value) in
+    ∙ sym (c.in_ok-count-in-Exists.ensures.count ∙ ap (binding_count at.objects) c.deref-in-Exists-2.ensures.value) in
     or_end part rows n (known_value c.loop-number.known) _ (subst (λ k. k ≤ n) (sym counted) (omega arith)) c.loop-number.invariant.known
 
 pub loop-number-2-preserved : goal.loop-number-2-preserved
@@ -76,7 +79,7 @@ loop-number-2-preserved t c =
     let part = λ (chosen : List ℕ). value at (formula_value c.in-Forall.part.value) (scope ++ chosen) in
     let counted : length rows ≡ c.in_ok-count-in-Forall.count =
     length_bindings at.objects c.in-Forall.types.items
-    ∙ sym (c.in_ok-count-in-Forall.ensures.count ∙ ap (binding_count at.objects) c.deref-in-Forall.ensures.value) in
+    ∙ sym (c.in_ok-count-in-Forall.ensures.count ∙ ap (binding_count at.objects) c.deref-in-Forall-2.ensures.value) in
     let within : n < length rows = subst (λ k. n < k) (sym counted) c.loop-number-2-test.true in
     let bound : c.bind-in-loop-number-2.new.scope.items ≡ scope ++ get_or rows n [] =
     c.in_ok-bind-in-Forall.ensures
@@ -100,7 +103,7 @@ returns-then-eq-5-clause-value t c =
     let part = λ (chosen : List ℕ). value at (formula_value c.in-Forall.part.value) (scope ++ chosen) in
     let counted : length rows ≡ c.in_ok-count-in-Forall.count =
     length_bindings at.objects c.in-Forall.types.items
-    ∙ sym (c.in_ok-count-in-Forall.ensures.count ∙ ap (binding_count at.objects) c.deref-in-Forall.ensures.value) in
+    ∙ sym (c.in_ok-count-in-Forall.ensures.count ∙ ap (binding_count at.objects) c.deref-in-Forall-2.ensures.value) in
     let within : n < length rows = subst (λ k. n < k) (sym counted) c.loop-number-2-test.true in
     let bound : c.bind-in-loop-number-2.new.scope.items ≡ scope ++ get_or rows n [] =
     c.in_ok-bind-in-Forall.ensures
@@ -122,5 +125,15 @@ returns-after-loop-number-2-clause-value t c =
     let part = λ (chosen : List ℕ). value at (formula_value c.in-Forall.part.value) (scope ++ chosen) in
     let counted : length rows ≡ c.in_ok-count-in-Forall.count =
     length_bindings at.objects c.in-Forall.types.items
-    ∙ sym (c.in_ok-count-in-Forall.ensures.count ∙ ap (binding_count at.objects) c.deref-in-Forall.ensures.value) in
+    ∙ sym (c.in_ok-count-in-Forall.ensures.count ∙ ap (binding_count at.objects) c.deref-in-Forall-2.ensures.value) in
     and_end part rows n (known_value c.loop-number-2.known) _ (subst (λ k. k ≤ n) (sym counted) (omega arith)) c.loop-number-2.invariant.known
+
+pub returns-in-Some-clause-value : goal.returns-in-Some-clause-value
+returns-in-Some-clause-value t c =
+    settled_is (setting_in c.args.self.now) (formula_value c.args.formula.now) c.args.scope.now.items (known_value c.in-Some.known)
+    (ap (option_map known_value) (sym c.in-Some.is) ∙ c.in_ok-known-in-Exists.ensures ∙ ap (settled (setting_in c.args.self.now) (formula_value c.args.formula.now)) c.deref-in-Exists.ensures.value)
+
+pub returns-in-Some-2-clause-value : goal.returns-in-Some-2-clause-value
+returns-in-Some-2-clause-value t c =
+    settled_is (setting_in c.args.self.now) (formula_value c.args.formula.now) c.args.scope.now.items (known_value c.in-Some-2.known)
+    (ap (option_map known_value) (sym c.in-Some-2.is) ∙ c.in_ok-known-in-Forall.ensures ∙ ap (settled (setting_in c.args.self.now) (formula_value c.args.formula.now)) c.deref-in-Forall.ensures.value)

@@ -1,4 +1,4 @@
-use Rattle.std.proofs.Common.{◌≡◌, List, length, ap, sym, ◌∙◌}
+use Rattle.std.proofs.Common.{List, length, ap, sym, ◌∙◌}
 use Rattle.std.specs.Prelude.{nat_lt}
 use Rattle.ground_instances.specs.Atoms.{atom_tree}
 use Rattle.pddl_ast.specs.Trees.{AtomTree}

@@ -1,4 +1,4 @@
-use Rattle.std.proofs.Common.{◌≡◌, List, length, ap, sym, ◌∙◌}
+use Rattle.std.proofs.Common.{List, length, ap, ◌∙◌}
 use Rattle.pddl_ast.specs.Trees.{AtomTree}
 use Rattle.pddl_system.specs.GroundAtoms.{is_among}
 use Rattle.ground_task.proofs.OrderLemmas.{trees_count, trees_differ, trees_same, trees_sorted}

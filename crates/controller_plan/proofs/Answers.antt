@@ -1,0 +1,124 @@
+-- From what follows the reading of both files to the answer, and from the answer to a run.
+use Rattle.std.proofs.Common.{◌≡◌, ◌≢◌, ◌⊎◌, ◌≤◌, ℕ, List, inl, inr, refl, sym, subst, ap, ◌∙◌, arith, codes, None, true}
+use Rattle.std.specs.Prelude.{IfErr, IfOk, Result, Ok, Err}
+use Rattle.pddl_ast.specs.Trees.{DomainTree, ProblemTree}
+use Rattle.pddl_system.specs.Sizes.{first_passed}
+use Rattle.plan_io.specs.Fetches.{FailedLast, FetchesNothing}
+use Rattle.plan_io.specs.Held.{Held}
+use Rattle.mbp_top.specs.Answers.{Answer, Refusal, affirmed, denied, full, no_command, no_memory, over_limit, refused}
+use Rattle.mbp_top.specs.Causes.{IsQuietAt}
+use Rattle.mbp_top.specs.Delivery.{IsDelivered}
+use Rattle.mbp_top.specs.Fetching.{FetchesBoth}
+use Rattle.mbp_top.specs.Grounding.{has_goal_for}
+use Rattle.mbp_top.specs.PddlTexts.{HoldBoth, ReadBoth}
+use Rattle.mbp_top.specs.PlanCommand.{MayBeTooFew, PlanThen}
+use Rattle.mbp_top.specs.Values.{answer_of, refusal_of, shown_of}
+use Rattle.mbp_top.specs.Words.{Bytes}
+use Rattle.mbp_top.specs.declared.answers.Refusal.{Refusal as CodeRefusal}
+use Rattle.mbp_top.specs.declared.answers.Shown.{Shown}
+use Rattle.controller_plan.specs.Controllers.{AffirmsNothing, ControlThen, IsControlAnswer, IsControlLimit, IsControlled, IsControllerShown}
+use Rattle.controller_plan.specs.Judged.{IsControlRefusal}
+use Rattle.controller_plan.specs.Runs.{ControlRun, HasControlCause, HasControlled}
+use Rattle.controller_plan.specs.Words.{AskNothing, ControlWords, SaysControl}
+
+-- one of the files is refused
+pub before_control : (held : Bytes → Held) (failed : Bytes → Type 0) (asked : ControlWords) (a : Answer)
+    → (a ≡ refused no_memory) ⊎ ReadBoth held failed asked.plan.domain asked.plan.problem (IsControlled asked) a
+    → (a ≡ refused no_memory) ⊎ IsControlAnswer held failed asked a
+before_control held failed asked a (inl memory) = inl memory
+before_control held failed asked a (inr read) = inr (inr read)
+
+-- after both files were read: the table of nodes is full, or what follows
+pub after_control : (held : Bytes → Held) (failed : Bytes → Type 0) (asked : ControlWords) (d : DomainTree) (p : ProblemTree) (a : Answer)
+    → HoldBoth held asked.plan.domain asked.plan.problem d p
+    → (a ≡ refused no_memory) ⊎ (MayBeTooFew asked.plan d p × (a ≡ refused (full asked.plan.options.nodes))) ⊎ IsControlled asked d p a
+    → (a ≡ refused no_memory) ⊎ IsControlAnswer held failed asked a
+after_control held failed asked d p a both (inl memory) = inl memory
+after_control held failed asked d p a both (inr (inl (few, is))) = inr (inl (record { domain = d; problem = p; both = both; few = few }, is))
+after_control held failed asked d p a both (inr (inr then)) = inr (inr (inr (d, both.holds_domain, inr (p, both.holds_problem, then))))
+
+-- once the goal and the limits are found to be as they are wanted, what follows is the answer
+pub controlled_then : (asked : ControlWords) (d : DomainTree) (p : ProblemTree) (a : Answer) → has_goal_for asked.plan.kind p ≡ true → first_passed d p ≡ None
+    → (a ≡ refused no_memory) ⊎ (MayBeTooFew asked.plan d p × (a ≡ refused (full asked.plan.options.nodes))) ⊎ ControlThen asked d p a
+    → (a ≡ refused no_memory) ⊎ (MayBeTooFew asked.plan d p × (a ≡ refused (full asked.plan.options.nodes))) ⊎ IsControlled asked d p a
+controlled_then asked d p a goal within (inl memory) = inl memory
+controlled_then asked d p a goal within (inr (inl few)) = inr (inl few)
+controlled_then asked d p a goal within (inr (inr then)) = inr (inr (inr (goal, inr (within, then))))
+
+-- the answer of `plan`, where it affirms nothing
+pub of_plan : (asked : ControlWords) (d : DomainTree) (p : ProblemTree) (a : Answer) → AffirmsNothing a
+    → (a ≡ refused no_memory) ⊎ (MayBeTooFew asked.plan d p × (a ≡ refused (full asked.plan.options.nodes))) ⊎ PlanThen asked.plan d p a
+    → (a ≡ refused no_memory) ⊎ (MayBeTooFew asked.plan d p × (a ≡ refused (full asked.plan.options.nodes))) ⊎ ControlThen asked d p a
+of_plan asked d p a none (inl memory) = inl memory
+of_plan asked d p a none (inr (inl few)) = inr (inl few)
+of_plan asked d p a none (inr (inr then)) = inr (inr (inr (inr (then, none))))
+
+pub denied_affirms_nothing : (text : Bytes) → AffirmsNothing (denied text)
+denied_affirms_nothing text other is = cc is
+
+pub refused_affirms_nothing : (refusal : Refusal) → AffirmsNothing (refused refusal)
+refused_affirms_nothing refusal other is = cc is
+
+-- the answer of `plan`, unless it affirms
+pub of_unless : (asked : ControlWords) (d : DomainTree) (p : ProblemTree) (found a : Answer)
+    → ((a ≡ found) × AffirmsNothing found) ⊎ (a ≡ refused (over_limit (codes "configurations")))
+    → (found ≡ refused no_memory) ⊎ (MayBeTooFew asked.plan d p × (found ≡ refused (full asked.plan.options.nodes))) ⊎ PlanThen asked.plan d p found
+    → (a ≡ refused no_memory) ⊎ (MayBeTooFew asked.plan d p × (a ≡ refused (full asked.plan.options.nodes))) ⊎ ControlThen asked d p a
+of_unless asked d p found a (inl (same, none)) why =
+    subst (λ (x : Answer). (x ≡ refused no_memory) ⊎ (MayBeTooFew asked.plan d p × (x ≡ refused (full asked.plan.options.nodes))) ⊎ ControlThen asked d p x) (sym same)
+    (of_plan asked d p found none why)
+of_unless asked d p found a (inr is) why = inr (inr (inr (inl (codes "configurations", (1, omega arith, refl), is))))
+
+-- a limit that a controller may pass
+pub limited : (asked : ControlWords) (d : DomainTree) (p : ProblemTree) (r : Refusal) → IsControlRefusal r
+    → (refused r ≡ refused no_memory) ⊎ (MayBeTooFew asked.plan d p × (refused r ≡ refused (full asked.plan.options.nodes))) ⊎ ControlThen asked d p (refused r)
+limited asked d p r (inl memory) = inl (ap refused memory)
+limited asked d p r (inr (name, is_name, is)) = inr (inr (inr (inl (name, is_name, ap refused is))))
+
+-- a controller, or a limit that it passes
+pub of_shown : (asked : ControlWords) (d : DomainTree) (p : ProblemTree) (r : Result Shown CodeRefusal)
+    → IfOk r (λ shown. IsControllerShown asked d p (shown_of shown)) → IfErr r (λ refusal. IsControlRefusal (refusal_of refusal))
+    → (answer_of r ≡ refused no_memory) ⊎ (MayBeTooFew asked.plan d p × (answer_of r ≡ refused (full asked.plan.options.nodes))) ⊎ ControlThen asked d p (answer_of r)
+of_shown asked d p (Ok shown) controller refusal = inr (inr (inl controller))
+of_shown asked d p (Err e) controller refusal = limited asked d p (refusal_of e) refusal
+
+-- the cause of want of memory that came in place of an answer
+memory_instead : (held : Bytes → Held) (failed : Bytes → Type 0) (words : List Bytes) (a : Answer) → a ≢ refused no_command
+    → HasControlCause held failed words a → HasControlCause held failed words (refused no_memory)
+memory_instead held failed words a said (inl (nothing, is)) = absurd (said is)
+memory_instead held failed words a said (inr (asked, says, why)) = inr (asked, says, inl refl)
+
+module _ {S : Type 0} (held : S → Bytes → Held) (faults : S → ℕ) (fetched : S → Bytes → S → Type 0) (run : ControlRun S) where
+  abbrev pub Cause : Answer → Type 0
+  Cause = HasControlCause (held run.shelf) (FailedLast fetched faults run.shelf run.shelf_after) run.words
+
+  abbrev pub Quiet : Answer → Type 0
+  Quiet a = IsQuietAt a (faults run.shelf) (faults run.shelf_after)
+
+  given_cause : (found given : Answer) → Cause found → (given ≡ found) ⊎ ((given ≡ refused no_memory) × (found ≢ refused no_command)) → Cause given
+  given_cause found given cause (inl is) = subst Cause (sym is) cause
+  given_cause found given cause (inr (is, said)) =
+      subst Cause (sym is) (memory_instead (held run.shelf) (FailedLast fetched faults run.shelf run.shelf_after) run.words found said cause)
+
+  given_quiet : (found given : Answer) → Quiet found → (given ≡ found) ⊎ ((given ≡ refused no_memory) × (found ≢ refused no_command)) → Quiet given
+  given_quiet found given quiet (inl is) = subst Quiet (sym is) quiet
+  given_quiet found given quiet (inr (is, said)) = subst Quiet (sym is) (inr tt)
+
+  -- what was found for the words, and what was given for it
+  pub has_controlled : (found given : Answer) → Cause found
+      → ((asked : ControlWords) → SaysControl run.words asked
+      → FetchesBoth (held run.shelf) fetched asked.plan.domain asked.plan.problem FetchesNothing run.shelf run.shelf_after)
+      → (AskNothing run.words → run.shelf_after ≡ run.shelf) → Quiet found
+      → ((file : Bytes) → held run.shelf_after file ≡ held run.shelf file) → faults run.shelf ≤ faults run.shelf_after
+      → (given ≡ found) ⊎ ((given ≡ refused no_memory) × (found ≢ refused no_command))
+      → IsDelivered given run.out run.out_after run.err run.err_after run.status → HasControlled held faults fetched run
+  has_controlled found given cause fetches unfetched quiet kept later same delivered = record {
+    answer = given;
+    cause = given_cause found given cause same;
+    delivered = delivered;
+    fetches = fetches;
+    unfetched = unfetched;
+    quiet = given_quiet found given quiet same;
+    kept = kept;
+    later = later;
+  }

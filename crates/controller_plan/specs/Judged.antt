@@ -1,0 +1,37 @@
+-- Private: that a text was judged.
+use Rattle.std.specs.Prelude.{◌≡◌, ◌≤◌, ◌⊎◌, Option, length}
+use Rattle.ctl_syntax.specs.declared.goals.Ctl.{Ctl}
+use Rattle.exec_graph.specs.Initials.{HasTooManyInitial}
+use Rattle.plan_rules.specs.Readings.{SpellsPlanAt}
+use Rattle.plan_rules.specs.Rules.{PlainPlan, plain_of}
+use Rattle.plan_rules.specs.declared.rules.PlanRead.{PlanRead}
+use Rattle.task_core.specs.Tasks.{action_names, fluent_names, system_of}
+use Rattle.task_core.specs.declared.tasks.Task.{Task}
+use Rattle.mbp_top.specs.Answers.{Refusal, affirmed, no_memory, over_limit}
+use Rattle.mbp_top.specs.CheckCommand.{ExploreThen, ShowsVerdict, most_followed}
+use Rattle.mbp_top.specs.Judged.{IsTaskVerdict}
+use Rattle.mbp_top.specs.PlanCommand.{IsWrittenFor}
+use Rattle.mbp_top.specs.Reading.{file_limit}
+use Rattle.mbp_top.specs.Words.{Bytes, PlanKind}
+use Rattle.controller_plan.specs.Controllers.{IsControlLimit}
+
+-- the checker says yes to a plan of a task
+pub record IsAffirmed (kind : PlanKind) (task : Task) (goal : Option Ctl) (plan : PlainPlan)
+    : Type 0 where
+  pub said : Bytes
+  pub verdict : ExploreThen (HasTooManyInitial task most_followed) (system_of task) plan
+      (ShowsVerdict (IsTaskVerdict kind task goal plan)) (affirmed said)
+
+-- a text spells this plan, it is of the kind, and the checker says yes to it
+pub record IsJudged (kind : PlanKind) (task : Task) (goal : Option Ctl) (text : Bytes)
+    (read : PlanRead) : Type 0 where
+  pub short : length text ≤ file_limit
+  pub spelled : SpellsPlanAt (fluent_names task) (action_names task) text (plain_of read.plan)
+      read.place
+  pub written : IsWrittenFor kind (plain_of read.plan)
+  pub yes : IsAffirmed kind task goal (plain_of read.plan)
+
+-- want of memory, or a limit that a controller may pass
+abbrev pub IsControlRefusal : Refusal → Type 0
+IsControlRefusal refusal =
+    (refusal ≡ no_memory) ⊎ ((name : Bytes) × IsControlLimit name × (refusal ≡ over_limit name))

@@ -1,0 +1,7 @@
+pub mod Controllers
+pub mod Followed
+pub mod Judged
+pub mod Laws
+pub mod Runs
+pub mod Values
+pub mod Words

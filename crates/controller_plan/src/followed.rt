@@ -1,0 +1,236 @@
+//! What a plan reaches, and what it does there.
+
+ghost use Rattle.controller_plan.specs.Followed.{AreReachedWithin, AreSlotsLive};
+ghost use Rattle.std.specs.Prelude.{◌≡◌, ◌<◌, ℕ, All, IfOk, IfSome, OnOk, length};
+ghost use Rattle.task_core.specs.States.{IsWithin};
+ghost use Rattle.task_core.specs.Tasks.{action_count, fluent_count, outcomes_at};
+
+use crate::searches::Stop;
+use dd_sets::SetId;
+use encode_task::Enc;
+use exec_graph::MAX_CONFIGURATIONS;
+use indexmap::IndexSet;
+use std::alloc::Global;
+use task_core::{ActionId, State, Task, step};
+
+/// A configuration: a state, and the context that the plan is in, counted from 0.
+#[derive(Clone, Copy, PartialEq, Eq, Hash)]
+pub(crate) struct Place {
+    pub(crate) state: State,
+    pub(crate) context: u32,
+}
+
+/// What a plan does in a configuration: it takes the action, and goes on in the next context.
+#[derive(Clone, Copy, PartialEq, Eq)]
+pub(crate) struct Move {
+    pub(crate) action: ActionId,
+    pub(crate) next: u32,
+}
+
+/// The configurations that a plan reaches, in the order in which they were found, the initial ones
+/// first; after how many steps each was found; and what the plan does in each, if it does anything.
+#[derive(Drop)]
+pub(crate) struct Followed {
+    pub(crate) places: Vec<Place>,
+    pub(crate) steps: Vec<u32>,
+    pub(crate) moves: Vec<Option<Move>>,
+    /// How many contexts the plan has.
+    pub(crate) contexts: u32,
+    seen: IndexSet<Place>,
+}
+
+impl Followed {
+    /// The initial configurations of a plan with so many contexts.
+    pub(crate) fn begin(alloc: Global, states: &[State], contexts: u32) -> Result<Followed, Stop>
+        ensures { IfOk result (λ followed. (n : ℕ) → All (IsWithin n) states.now
+            → AreReachedWithin n followed.places.items) }
+    {
+        let mut followed = Followed {
+            places: Vec::new(alloc),
+            steps: Vec::new(alloc),
+            moves: Vec::new(alloc),
+            contexts,
+            seen: IndexSet::new(alloc),
+        };
+        for state in states {
+            followed.add(
+                Place {
+                    state: *state,
+                    context: 0,
+                },
+                0,
+            )?;
+        }
+        Ok(followed)
+    }
+
+    /// Adds a configuration that is found after so many steps, if it isn't there.
+    fn add(&mut self, place: Place, steps: u32) -> Result<(), Stop>
+        ensures { OnOk result ((n : ℕ) → IsWithin n place.state
+            → AreReachedWithin n self.old.places.items
+            → AreReachedWithin n self.new.places.items) }
+    {
+        let (_, is_new) = self.seen.insert_full(place)?;
+        if !is_new {
+            return Ok(());
+        }
+        if self.places.len() >= MAX_CONFIGURATIONS {
+            return Err(Stop::Configurations);
+        }
+        self.steps.push(steps)?;
+        self.moves.push(None)?;
+        self.places.push(place)?;
+        Ok(())
+    }
+
+    /// Finds what the plan does in the configurations of a context in which it goes on in a next
+    /// one, and adds what follows them. The states in which it takes the actions are in the slots
+    /// from the first place on, in the order of the actions' numbers.
+    pub(crate) fn visit(
+        &mut self,
+        task: &Task,
+        enc: &Enc,
+        slots: &[SetId],
+        first: usize,
+        context: u32,
+        next: u32,
+    ) -> Result<(), Stop>
+        requires live { AreSlotsLive enc.now.sets slots.now }
+        requires within { AreReachedWithin (fluent_count task.now) self.old.places.items }
+        ensures within { OnOk result
+            (AreReachedWithin (fluent_count task.now) self.new.places.items) }
+    {
+        for number in 0..MAX_CONFIGURATIONS {
+            if number >= self.places.len() {
+                return Ok(());
+            }
+            let place = self.places[number];
+            if place.context == context && self.is_idle(number) {
+                self.visit_place(task, enc, slots, first, number, &place, next)?;
+            }
+        }
+        Ok(())
+    }
+
+    /// Whether it isn't known of the configuration of a number what the plan does there.
+    fn is_idle(&self, number: usize) -> bool {
+        match self.moves.get(number) {
+            Some(None) => true,
+            _ => false,
+        }
+    }
+
+    /// Finds what the plan does in a configuration, and adds what follows it.
+    fn visit_place(
+        &mut self,
+        task: &Task,
+        enc: &Enc,
+        slots: &[SetId],
+        first: usize,
+        number: usize,
+        place: &Place,
+        next: u32,
+    ) -> Result<(), Stop>
+        requires live { AreSlotsLive enc.now.sets slots.now }
+        requires state { IsWithin (fluent_count task.now) place.now.state }
+        requires within { AreReachedWithin (fluent_count task.now) self.old.places.items }
+        ensures within { OnOk result
+            (AreReachedWithin (fluent_count task.now) self.new.places.items) }
+    {
+        match action_in(task, enc, slots, first, &place.state) {
+            Some(action) => {
+                self.decide(number, Move { action, next });
+                let steps = self.steps_after(number);
+                self.add_outcomes(task, &place.state, action, next, steps)
+            }
+            None => Ok(()),
+        }
+    }
+
+    /// Notes what the plan does in the configuration of a number.
+    fn decide(&mut self, number: usize, taken: Move)
+        ensures { self.new.places ≡ self.old.places }
+    {
+        if number < self.moves.len() {
+            self.moves[number] = Some(taken);
+        }
+    }
+
+    /// How many steps it takes up to what follows the configuration of a number.
+    fn steps_after(&self, number: usize) -> u32 {
+        match self.steps.get(number) {
+            Some(steps) => steps.saturating_add(1),
+            None => 0,
+        }
+    }
+
+    /// Adds the configurations that follow a state by an action.
+    fn add_outcomes(
+        &mut self,
+        task: &Task,
+        state: &State,
+        action: ActionId,
+        next: u32,
+        steps: u32,
+    ) -> Result<(), Stop>
+        requires action { action.0 < action_count task.now }
+        requires state { IsWithin (fluent_count task.now) state.now }
+        requires within { AreReachedWithin (fluent_count task.now) self.old.places.items }
+        ensures within { OnOk result
+            (AreReachedWithin (fluent_count task.now) self.new.places.items) }
+    {
+        for outcome in 0..outcome_count(task, action) {
+            let after = step(task, state, action, outcome);
+            self.add(
+                Place {
+                    state: after,
+                    context: next,
+                },
+                steps,
+            )?;
+        }
+        Ok(())
+    }
+}
+
+/// The least-numbered action whose slot, from the first place on, has the state in its set.
+fn action_in(
+    task: &Task,
+    enc: &Enc,
+    slots: &[SetId],
+    first: usize,
+    state: &State,
+) -> Option<ActionId>
+    requires live { AreSlotsLive enc.now.sets slots.now }
+    ensures { IfSome result (λ action. action.0 < action_count task.now) }
+{
+    for number in 0..task.actions.len() {
+        if is_taken_in(enc, slots, first, number, state) {
+            return Some(ActionId(number as u32));
+        }
+    }
+    None
+}
+
+/// Whether the state is in the set of the slot that stands so many places after the first one.
+fn is_taken_in(enc: &Enc, slots: &[SetId], first: usize, after: usize, state: &State) -> bool
+    requires live { AreSlotsLive enc.now.sets slots.now }
+{
+    match first.checked_add(after) {
+        Some(place) => {
+            if place >= slots.len() {
+                return false;
+            }
+            enc.sets().holds(slots[place], state)
+        }
+        None => false,
+    }
+}
+
+/// How many outcomes an action has.
+fn outcome_count(task: &Task, action: ActionId) -> u32
+    requires { action.0 < action_count task.now }
+    ensures { result ≡ length (outcomes_at task.now action.0) }
+{
+    task.actions[action.0 as usize].outcomes.len() as u32
+}

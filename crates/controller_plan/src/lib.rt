@@ -1,0 +1,26 @@
+//! A controller: the plan of `mbp_top` for the states alone that it reaches, with few and short
+//! rules, as a text that `mbp_top` reads, or as a JSON document.
+//!
+//! `control` finds the plan with the planners of `mbp_top`, as sets of states, follows it from the
+//! initial states (`followed`, `searches`), and makes rules of what it does there (`rules`,
+//! `rule_texts`). None of that is trusted: the text is read back and judged by the proved checker,
+//! and what isn't judged to be a plan of the kind that meets the problem isn't shown (`judged`). All
+//! other answers are those of `mbp_top::run`: that there is no plan, and each refusal.
+//!
+//! `specs/` says what the call answers: `Words` which words say what is wanted, `Controllers` the
+//! answer, `Runs` a run with its cause, and `Laws` what follows of each run.
+#![tactic(auto)]
+
+mod commands;
+mod documents;
+mod followed;
+mod judged;
+mod laws;
+mod rule_texts;
+mod rules;
+mod searches;
+mod top;
+mod words;
+
+pub use laws::{controllers_meet, no_plan_is_there};
+pub use top::control;

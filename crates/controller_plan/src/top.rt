@@ -1,0 +1,46 @@
+//! The call.
+
+ghost use Rattle.controller_plan.specs.Runs.{HasControlled};
+ghost use Rattle.mbp_top.specs.Delivery.{seen};
+ghost use Rattle.std.specs.Prelude.{◌≡◌, map, string_bytes};
+
+use crate::commands::answer;
+use mbp_top::deliver;
+use plan_io::{Shelf, Sink};
+use std::alloc::Global;
+
+/// Makes the controller that the words ask for, writes it, and gives the exit status.
+///
+/// The words are `KIND DOMAIN PROBLEM`, then `--nodes N` or nothing, and then `--json` or nothing,
+/// where KIND, DOMAIN, PROBLEM and N are those of `mbp_top::run`'s `plan`. The controller, or
+/// `no plan`, goes to `out`; every other answer is one line on `err`. The statuses are those of
+/// `plan`:
+///
+/// - 0: a controller is on `out`: a plan of the kind that meets the problem, with rules for the
+///   states alone that it reaches, as text or as a JSON document;
+/// - 1: there is no plan of the kind;
+/// - 4: a limit is passed, one of those of `plan`, or: there are more than 262,144 initial states,
+///   more than 262,144 configurations are reached, or the text would be longer than 1,048,576
+///   bytes;
+/// - 2, 3, 5, 6, 7, 8: as for `plan`.
+pub fn control<S: Shelf, O: Sink, E: Sink>(
+    alloc: Global,
+    words: &[String],
+    shelf: &mut S,
+    out: &mut O,
+    err: &mut E,
+) -> u8
+    ensures { HasControlled S.held S.faults S.fetched (record {
+      words = map string_bytes words.now;
+      shelf = shelf.old;
+      shelf_after = shelf.new;
+      out = seen (O.written out.old) (O.faults out.old);
+      out_after = seen (O.written out.new) (O.faults out.new);
+      err = seen (E.written err.old) (E.faults err.old);
+      err_after = seen (E.written err.new) (E.faults err.new);
+      status = result;
+    }) }
+{
+    let found = answer(alloc, words, shelf);
+    deliver(alloc, &found, out, err)
+}

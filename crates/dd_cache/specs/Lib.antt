@@ -1,0 +1,2 @@
+pub mod CacheMap
+pub mod Places

@@ -1,0 +1,9 @@
+-- The key is that of the question.
+use Rattle.std.proofs.Common.{Contains, subst}
+use Rattle.std.proofs.lemmas.Option.{IfSome_then}
+use Rattle.dd_cache.specs.declared.key.Key.{Key}
+use Rattle.dd_ops.proofs.memo.recall_answer.Goals as goal
+
+pub returns-clause-answer : goal.returns-clause-answer
+returns-clause-answer c = IfSome_then c.recall.result c.recall.ensures.found
+    (λ r has nodes remembers. remembers c.args.q r.0 (subst (λ (k : Key). Contains c.args.cache.now.pairs (k, r.0)) c.question_key.ensures has))

@@ -1,0 +1,19 @@
+//! What holds of every text. The law is a function that does nothing, so that callers' proofs can
+//! cite it.
+
+ghost use Rattle.std.specs.Prelude.{◌≡◌, ◌⊎◌, ℕ, List};
+ghost use Rattle.sexpr_text.specs.declared.faults.InputFault.{InputFault};
+ghost use Rattle.pddl_ast.specs.Trees.{DomainTree};
+ghost use Rattle.domain_read.specs.Domains.{SpellsDomain, HasDomainFault};
+
+/// Every text spells exactly one domain or has exactly one fault.
+pub fn domain_or_fault()
+    ensures spelled_or_faulty { (b : List ℕ) → ((d : DomainTree) × SpellsDomain b d)
+        ⊎ ((f : InputFault) × HasDomainFault b f) }
+    ensures one_domain { (b : List ℕ) (d e : DomainTree) → SpellsDomain b d → SpellsDomain b e → d
+        ≡ e }
+    ensures one_fault { (b : List ℕ) (f g : InputFault) → HasDomainFault b f → HasDomainFault b g
+        → f ≡ g }
+    ensures never_both { (b : List ℕ) (d : DomainTree) (f : InputFault) → SpellsDomain b d
+        → HasDomainFault b f → ⊥ }
+{}

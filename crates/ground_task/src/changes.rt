@@ -1,0 +1,168 @@
+//! Outcomes over fluents.
+
+ghost use Rattle.std.specs.Prelude.{◌≡◌, ◌++◌, IfOk, OnOk, map};
+ghost use Rattle.std.specs.List.{flat_map};
+ghost use Rattle.ctl_syntax.specs.Conditions.{condition_value};
+ghost use Rattle.ground_instances.specs.Tables.{setting_in};
+ghost use Rattle.ground_task.specs.Built.{change_made, condition_at, part_made};
+ghost use Rattle.ground_task.specs.Drafts.{change_tree, draft_tree, draft_trees, guard_tree};
+ghost use Rattle.ground_task.specs.Drafts.{guard_trees, part_tree};
+ghost use Rattle.pddl_system.specs.Tasks.{change_of, changed_if};
+ghost use Rattle.pddl_system.specs.Values.{change_value, outcome_value};
+
+use crate::conditions::condition;
+use crate::drafts::{ChangeDraft, Guard, OutcomeDraft, PartDraft};
+use crate::fluents::Fluents;
+use ctl_syntax::copied_condition;
+use ground_instances::Setting;
+use std::alloc::{AllocError, Global};
+use task_core::{Change, Cond, Lit, Outcome};
+
+/// The condition of a guard.
+fn guard_condition(
+    alloc: Global,
+    setting: &Setting,
+    fluents: &Fluents,
+    guard: &Guard<'_>,
+) -> Result<Cond, AllocError>
+    ensures { IfOk result (λ cond. condition_value cond
+        ≡ condition_at (setting_in setting.now) fluents.now (guard_tree guard.now)) }
+{
+    let mut scope = Vec::from_slice(alloc, &guard.scope)?;
+    Ok(condition(alloc, setting, fluents, guard.formula, &mut scope)?)
+}
+
+/// The conditions of guards.
+fn guard_conditions(
+    alloc: Global,
+    setting: &Setting,
+    fluents: &Fluents,
+    guards: &[Guard<'_>],
+) -> Result<Vec<Cond>, AllocError>
+    ensures { IfOk result (λ conds. map condition_value conds.items
+        ≡ map (condition_at (setting_in setting.now) fluents.now) (guard_trees guards.now)) }
+{
+    let mut conds = Vec::new(alloc);
+    for guard in guards {
+        conds.push(guard_condition(alloc, setting, fluents, guard)?)?;
+    }
+    Ok(conds)
+}
+
+/// That all guards hold: `Yes` where there are none.
+fn all_hold(
+    alloc: Global,
+    setting: &Setting,
+    fluents: &Fluents,
+    guards: &[Guard<'_>],
+) -> Result<Cond, AllocError>
+    ensures { IfOk result (λ cond. condition_value cond
+        ≡ changed_if (setting_in setting.now) fluents.now (guard_trees guards.now)) }
+{
+    if guards.is_empty() {
+        return Ok(Cond::Yes);
+    }
+    Ok(Cond::All(guard_conditions(alloc, setting, fluents, guards)?))
+}
+
+/// The change of an atom under a condition.
+fn change(
+    alloc: Global,
+    fluents: &Fluents,
+    cond: &Cond,
+    draft: &ChangeDraft,
+) -> Result<Change, AllocError>
+    ensures { IfOk result (λ change. change_value change
+        ≡ change_made fluents.now (condition_value cond.now) (change_tree draft.now)) }
+{
+    Ok(Change {
+        cond: copied_condition(alloc, cond)?,
+        lit: Lit {
+            fluent: fluents.place_of(&draft.atom),
+            positive: draft.positive,
+        },
+    })
+}
+
+/// Adds the changes of atoms under one condition after the others.
+fn push_changes(
+    alloc: Global,
+    fluents: &Fluents,
+    cond: &Cond,
+    drafts: &[ChangeDraft],
+    changes: &mut Vec<Change>,
+) -> Result<(), AllocError>
+    ensures { OnOk result (map change_value changes.new.items
+        ≡ map change_value changes.old.items
+        ++ map (change_made fluents.now (condition_value cond.now))
+        (map change_tree drafts.now)) }
+{
+    for draft in drafts {
+        changes.push(change(alloc, fluents, cond, draft)?)?;
+    }
+    Ok(())
+}
+
+/// Adds the changes of a part after the others.
+fn push_part(
+    alloc: Global,
+    setting: &Setting,
+    fluents: &Fluents,
+    part: &PartDraft<'_>,
+    changes: &mut Vec<Change>,
+) -> Result<(), AllocError>
+    ensures { OnOk result (map change_value changes.new.items
+        ≡ map change_value changes.old.items
+        ++ part_made (setting_in setting.now) fluents.now part.now) }
+{
+    let cond = all_hold(alloc, setting, fluents, &part.guards)?;
+    push_changes(alloc, fluents, &cond, &part.changes, changes)?;
+    Ok(())
+}
+
+/// The outcome of a draft.
+fn outcome(
+    alloc: Global,
+    setting: &Setting,
+    fluents: &Fluents,
+    parts: &[PartDraft<'_>],
+) -> Result<Outcome, AllocError>
+    ensures { IfOk result (λ outcome. outcome_value outcome
+        ≡ flat_map (part_made (setting_in setting.now) fluents.now) parts.now) }
+{
+    let mut changes = Vec::new(alloc);
+    for part in parts {
+        push_part(alloc, setting, fluents, part, &mut changes)?;
+    }
+    Ok(Outcome { changes })
+}
+
+/// The outcome of a draft.
+fn drafted_outcome(
+    alloc: Global,
+    setting: &Setting,
+    fluents: &Fluents,
+    draft: &OutcomeDraft<'_>,
+) -> Result<Outcome, AllocError>
+    ensures { IfOk result (λ outcome. outcome_value outcome
+        ≡ map (change_of (setting_in setting.now) fluents.now) (draft_tree draft.now)) }
+{
+    Ok(outcome(alloc, setting, fluents, &draft.parts)?)
+}
+
+/// The outcomes of drafts.
+pub(crate) fn drafted_outcomes(
+    alloc: Global,
+    setting: &Setting,
+    fluents: &Fluents,
+    drafts: &[OutcomeDraft<'_>],
+) -> Result<Vec<Outcome>, AllocError>
+    ensures { IfOk result (λ outcomes. map outcome_value outcomes.items
+        ≡ map (map (change_of (setting_in setting.now) fluents.now)) (draft_trees drafts.now)) }
+{
+    let mut outcomes = Vec::new(alloc);
+    for draft in drafts {
+        outcomes.push(drafted_outcome(alloc, setting, fluents, draft)?)?;
+    }
+    Ok(outcomes)
+}

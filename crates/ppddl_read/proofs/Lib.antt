@@ -1,0 +1,12 @@
+pub mod Sizes
+pub mod Counts
+pub mod Multiples
+pub mod Replaced
+pub mod Rows
+pub mod Twins
+pub mod Mild
+pub mod Choices
+pub mod Walk
+pub mod Ordered
+pub mod Answered
+pub mod Exact
