@@ -1,9 +1,7 @@
-"""Runs a plan of `mbp` or `mbp_controller` in a world: python3 controller.py PLAN [SEED]
+"""Runs a plan of `mbp` or `mbp_controller`, its text or a JSON document: python3 controller.py PLAN [SEED]
 
-PLAN is a plan's text, or the JSON document that `mbp_controller --json` writes. The world here is
-simulated: the courier of examples/courier, whose door may stay open. A real controller puts its
-sensors into `observe` and its motors into `act`.
-"""
+The world here is simulated: the courier of examples/courier, whose door may stay open. A real
+controller puts its sensors into `observe` and its motors into `act`."""
 import json
 import random
 import re

@@ -100,9 +100,11 @@ fn action(alloc: Global, random: &mut Random, number: u32) -> Result<GroundActio
     for place in 0..LITERALS {
         let wanted = literal(random, place);
         parts.push(condition(alloc, wanted)?)?;
+        let mut lits = Vec::new(alloc);
+        lits.push(literal(random, place))?;
         changes.push(Change {
             cond: Cond::Yes,
-            lit: literal(random, place),
+            lits,
         })?;
     }
     let mut outcomes = Vec::new(alloc);

@@ -2,6 +2,7 @@ pub mod SceneSteps
 pub mod RoundSteps
 pub mod StageLemmas
 pub mod TakerSteps
+pub mod SkipSteps
 pub mod WinSteps
 pub mod TakenSteps
 pub mod StageOrder

@@ -2,8 +2,8 @@
 -- round begins with stand at place 0, those that it ends with at 1; at 3 stand the states that are
 -- still without an action, or whose stage is still to be found, and at 4 those that are new, or of
 -- some rules.
-use Rattle.std.specs.Prelude.{◌≡◌, ℕ, suc, ◌+◌, ◌*◌, ◌<◌, ◌≤◌, false, not, ◌&&◌, ◌||◌}
-use Rattle.std.specs.Prelude.{List, [], ◌∷◌, drop, nat_le}
+use Rattle.std.specs.Prelude.{◌≡◌, ◌≢◌, ℕ, suc, ◌+◌, ◌*◌, ◌<◌, ◌≤◌, true, false, not, ◌&&◌, ◌||◌}
+use Rattle.std.specs.Prelude.{List, [], ◌∷◌, drop, length, nat_le}
 use Rattle.std.specs.List.{find, list_any, range_with_len}
 use Rattle.plan_theory.specs.Chains.{Chained}
 use Rattle.plan_theory.specs.ChainPrinted.{action_towards}
@@ -13,8 +13,9 @@ use Rattle.plan_theory.specs.Wins.{met_count, met_set, win}
 use Rattle.plan_theory.specs.Layers.{action_numbers, must_lead}
 use Rattle.plan_theory.specs.LayerPlans.{is_action}
 use Rattle.task_core.specs.Cubes.{SetOfVectors}
-use Rattle.task_core.specs.Systems.{System}
+use Rattle.task_core.specs.Systems.{IsState, System}
 use Rattle.task_core.specs.Tasks.{action_count}
+use Rattle.task_core.specs.Vectors.{Vector}
 use Rattle.task_core.specs.declared.conditions.Cond.{Cond}
 use Rattle.ctl_syntax.specs.ChainValues.{states_of}
 use Rattle.chain_plan.specs.Scenes.{Changed, IsReady, SameStates, Scene, Start, Worked}
@@ -46,6 +47,22 @@ turn_by Growing sys set n v = set v || list_any (must_lead sys set v) (range_wit
 abbrev pub hits_by : Way → SetOfVectors → SetOfVectors → SetOfVectors
 hits_by Shrinking set hits v = set v && hits v
 hits_by Growing set hits v = hits v
+
+-- the states at 2 alone changed
+pub record OnlyHits (start : Start) (x y : Scene) : Type 0 where
+  pub ready : IsReady start y
+  pub kept : (k : ℕ) → k < length y.1 → k ≢ 2 → states_at y k ≡ states_at x k
+
+-- an action leads into the states at 0 from states at 1 alone
+abbrev pub LeadsAmong : Start → Scene → ℕ → Type 0
+LeadsAmong start x a = (v : Vector) → IsState (sys_of start) v
+    → must_lead (sys_of start) (states_at x 0) v a ≡ true → states_at x 1 v ≡ true
+
+-- a round on the states at 0 adds by an action states at 1 alone
+abbrev pub HitsAmong : Way → Start → Scene → ℕ → Type 0
+HitsAmong way start x a = (v : Vector) → IsState (sys_of start) v
+    → hits_by way (states_at x 0) (λ u. must_lead (sys_of start) (states_at x 0) u a) v ≡ true
+    → states_at x 1 v ≡ true
 
 -- of the states at 2 stayed those that a round adds
 pub record KeepsHits (way : Way) (start : Start) (x y : Scene) : Type 0 where

@@ -1,9 +1,10 @@
 //! Rounds on sets of states: what can be kept for one step more, or met in one step more.
 
-ghost use Rattle.std.specs.Prelude.{◌≡◌, ◌<◌, length};
+ghost use Rattle.std.specs.Prelude.{◌≡◌, ◌<◌, length, true, IfOk};
 ghost use Rattle.task_core.specs.Tasks.{action_count};
 ghost use Rattle.chain_plan.specs.Scenes.{IsReady, Left, Start, states_at};
-ghost use Rattle.chain_plan.specs.Steps.{AddsHits, HasLast, KeepsHits, Leads, TurnedFrom};
+ghost use Rattle.chain_plan.specs.Steps.{AddsHits, HasLast, HitsAmong, KeepsHits, Leads};
+ghost use Rattle.chain_plan.specs.Steps.{LeadsAmong, OnlyHits, TurnedFrom};
 
 use crate::places::{HITS, NEAR, NEXT};
 use dd_sets::SetErr;
@@ -35,9 +36,46 @@ fn keep_hits(enc: &mut Enc, board: &mut Board, way: Way) -> Result<(), SetErr>
     }
 }
 
+/// Whether the states in which an action can be executed are all among the next ones already.
+pub(crate) fn is_joined(enc: &mut Enc, board: &mut Board, a: ActionId) -> Result<bool, SetErr>
+    requires ready { (start : Start) × IsReady start (enc.old, board.old.slots.items) }
+    requires action { a.0 < length enc.old.actions }
+    ensures left { (start : Start) → IsReady start (enc.old, board.old.slots.items)
+        → Left start (enc.new, board.new.slots.items)
+        (OnlyHits start (enc.old, board.old.slots.items) (enc.new, board.new.slots.items))
+        result }
+    ensures joined { (start : Start) → IsReady start (enc.old, board.old.slots.items)
+        → IfOk result (λ joined. joined ≡ true
+        → LeadsAmong start (enc.old, board.old.slots.items) a.0) }
+{
+    let executable = enc.exec(a);
+    board.copy(enc, HITS, executable)?;
+    board.combine(enc, HITS, Operation::Minus, HITS, NEXT)?;
+    Ok(board.is_empty(enc, HITS))
+}
+
+/// Whether the states that a round adds by an action are all among the next ones already, as far as
+/// that can be seen without a preimage.
+fn adds_none(enc: &mut Enc, board: &mut Board, way: Way, a: ActionId) -> Result<bool, SetErr>
+    requires ready { (start : Start) × IsReady start (enc.old, board.old.slots.items) }
+    requires action { a.0 < length enc.old.actions }
+    ensures left { (start : Start) → IsReady start (enc.old, board.old.slots.items)
+        → Left start (enc.new, board.new.slots.items)
+        (OnlyHits start (enc.old, board.old.slots.items) (enc.new, board.new.slots.items))
+        result }
+    ensures none { (start : Start) → IsReady start (enc.old, board.old.slots.items)
+        → IfOk result (λ none. none ≡ true
+        → HitsAmong way start (enc.old, board.old.slots.items) a.0) }
+{
+    match way {
+        Way::Shrinking => Ok(board.is_same(enc, NEXT, NEAR)),
+        Way::Growing => is_joined(enc, board, a),
+    }
+}
+
 /// Adds the states from which an action leads into the first states to the next ones, where rounds
 /// shrink those of the first states alone.
-fn add_hits(enc: &mut Enc, board: &mut Board, way: Way, a: ActionId) -> Result<(), SetErr>
+fn join_hits(enc: &mut Enc, board: &mut Board, way: Way, a: ActionId) -> Result<(), SetErr>
     requires ready { (start : Start) × IsReady start (enc.old, board.old.slots.items) }
     requires action { a.0 < length enc.old.actions }
     ensures { (start : Start) → IsReady start (enc.old, board.old.slots.items)
@@ -48,6 +86,21 @@ fn add_hits(enc: &mut Enc, board: &mut Board, way: Way, a: ActionId) -> Result<(
     board.lead(enc, HITS, Outcomes::Every, a, NEAR)?;
     keep_hits(enc, board, way)?;
     board.combine(enc, NEXT, Operation::Join, NEXT, HITS)
+}
+
+/// The same, with no preimage where it would add nothing.
+fn add_hits(enc: &mut Enc, board: &mut Board, way: Way, a: ActionId) -> Result<(), SetErr>
+    requires ready { (start : Start) × IsReady start (enc.old, board.old.slots.items) }
+    requires action { a.0 < length enc.old.actions }
+    ensures { (start : Start) → IsReady start (enc.old, board.old.slots.items)
+        → Left start (enc.new, board.new.slots.items)
+        (AddsHits way start (enc.old, board.old.slots.items) (enc.new, board.new.slots.items)
+        a.0) result }
+{
+    if adds_none(enc, board, way, a)? {
+        return Ok(());
+    }
+    join_hits(enc, board, way, a)
 }
 
 /// Puts the states that a round begins with to the next ones where rounds grow, and none where they

@@ -9,6 +9,7 @@ ghost use Rattle.chain_plan.specs.Steps.{Climbed, ClimbedFrom, Climbs, EndTaken,
 ghost use Rattle.chain_plan.specs.Steps.{Shared};
 
 use crate::places::{HITS, NEAR, NEW, NEXT, REST, met_at, takers_at, win_at};
+use crate::rounds::is_joined;
 use dd_sets::SetErr;
 use encode_task::Enc;
 use slot_board::{Board, Operation, Outcomes};
@@ -33,6 +34,24 @@ fn share_one(enc: &mut Enc, board: &mut Board, takers: usize, a: ActionId) -> Re
     board.combine(enc, REST, Operation::Minus, REST, HITS)
 }
 
+/// The same, with no preimage where no state is without an action.
+fn share_rest(enc: &mut Enc, board: &mut Board, takers: usize, a: ActionId) -> Result<(), SetErr>
+    requires ready { (start : Start) × (x : Scene)
+        × Shared start x (enc.old, board.old.slots.items) takers a.0 }
+    requires action { a.0 < length enc.old.actions }
+    requires places { takers + length enc.old.actions ≤ length board.old.slots.items }
+    requires high { 8 ≤ takers }
+    ensures { (start : Start) (x : Scene)
+        → Shared start x (enc.old, board.old.slots.items) takers a.0
+        → Left start (enc.new, board.new.slots.items)
+        (Shared start x (enc.new, board.new.slots.items) takers (a.0 + 1)) result }
+{
+    if board.is_empty(enc, REST) {
+        return Ok(());
+    }
+    share_one(enc, board, takers, a)
+}
+
 /// Gives each of the states without an action the least-numbered one that leads into the first
 /// states.
 fn share(enc: &mut Enc, board: &mut Board, actions: u32, takers: usize) -> Result<(), SetErr>
@@ -46,14 +65,14 @@ fn share(enc: &mut Enc, board: &mut Board, actions: u32, takers: usize) -> Resul
         (action_count start.task)) result }
 {
     for a in 0..actions {
-        share_one(enc, board, takers, ActionId(a))?;
+        share_rest(enc, board, takers, ActionId(a))?;
     }
     Ok(())
 }
 
 /// Adds the states from which an action leads into the first states to the next ones, and has it
 /// taken by those that are new.
-fn climb_by(enc: &mut Enc, board: &mut Board, takers: usize, a: ActionId) -> Result<(), SetErr>
+fn climb_hits(enc: &mut Enc, board: &mut Board, takers: usize, a: ActionId) -> Result<(), SetErr>
     requires ready { (start : Start) × (x : Scene)
         × Climbs start x (enc.old, board.old.slots.items) takers a.0 }
     requires action { a.0 < length enc.old.actions }
@@ -69,6 +88,24 @@ fn climb_by(enc: &mut Enc, board: &mut Board, takers: usize, a: ActionId) -> Res
     board.combine(enc, NEW, Operation::Minus, HITS, NEXT)?;
     board.combine(enc, place, Operation::Join, place, NEW)?;
     board.combine(enc, NEXT, Operation::Join, NEXT, HITS)
+}
+
+/// The same, with no preimage where no state would be new.
+fn climb_by(enc: &mut Enc, board: &mut Board, takers: usize, a: ActionId) -> Result<(), SetErr>
+    requires ready { (start : Start) × (x : Scene)
+        × Climbs start x (enc.old, board.old.slots.items) takers a.0 }
+    requires action { a.0 < length enc.old.actions }
+    requires places { takers + length enc.old.actions ≤ length board.old.slots.items }
+    requires high { 8 ≤ takers }
+    ensures { (start : Start) (x : Scene)
+        → Climbs start x (enc.old, board.old.slots.items) takers a.0
+        → Left start (enc.new, board.new.slots.items)
+        (Climbs start x (enc.new, board.new.slots.items) takers (a.0 + 1)) result }
+{
+    if is_joined(enc, board, a)? {
+        return Ok(());
+    }
+    climb_hits(enc, board, takers, a)
 }
 
 /// Makes a round on the first states, and gives each new state its action.

@@ -1,7 +1,7 @@
 -- From what follows the reading of both files to the answer, and from the answer to a run.
 use Rattle.std.proofs.Common.{◌≡◌, ◌≢◌, ◌⊎◌, ◌≤◌, ℕ, List, inl, inr, refl, sym, subst, ap, ◌∙◌, arith, codes, None, true}
-use Rattle.std.specs.Prelude.{IfErr, IfOk, Result, Ok, Err}
 use Rattle.pddl_ast.specs.Trees.{DomainTree, ProblemTree}
+use Rattle.ground_task.specs.declared.grounding.Grounded.{Grounded}
 use Rattle.pddl_system.specs.Sizes.{first_passed}
 use Rattle.plan_io.specs.Fetches.{FailedLast, FetchesNothing}
 use Rattle.plan_io.specs.Held.{Held}
@@ -9,14 +9,14 @@ use Rattle.mbp_top.specs.Answers.{Answer, Refusal, affirmed, denied, full, no_co
 use Rattle.mbp_top.specs.Causes.{IsQuietAt}
 use Rattle.mbp_top.specs.Delivery.{IsDelivered}
 use Rattle.mbp_top.specs.Fetching.{FetchesBoth}
+use Rattle.mbp_top.specs.Grounded.{IsGroundedOf, IsTaskOf}
 use Rattle.mbp_top.specs.Grounding.{has_goal_for}
 use Rattle.mbp_top.specs.PddlTexts.{HoldBoth, ReadBoth}
 use Rattle.mbp_top.specs.PlanCommand.{MayBeTooFew, PlanThen}
-use Rattle.mbp_top.specs.Values.{answer_of, refusal_of, shown_of}
 use Rattle.mbp_top.specs.Words.{Bytes}
-use Rattle.mbp_top.specs.declared.answers.Refusal.{Refusal as CodeRefusal}
-use Rattle.mbp_top.specs.declared.answers.Shown.{Shown}
-use Rattle.controller_plan.specs.Controllers.{AffirmsNothing, ControlThen, IsControlAnswer, IsControlLimit, IsControlled, IsControllerShown}
+use Rattle.task_core.specs.declared.tasks.Task.{Task}
+use Rattle.mbp_top.proofs.CheckAnswers.{too_many}
+use Rattle.controller_plan.specs.Controllers.{AffirmsNothing, ControlThen, FindsPlan, IsControlAnswer, IsControlled, IsControllerShown, MayReachTooMany}
 use Rattle.controller_plan.specs.Judged.{IsControlRefusal}
 use Rattle.controller_plan.specs.Runs.{ControlRun, HasControlCause, HasControlled}
 use Rattle.controller_plan.specs.Words.{AskNothing, ControlWords, SaysControl}
@@ -59,28 +59,37 @@ denied_affirms_nothing text other is = cc is
 pub refused_affirms_nothing : (refusal : Refusal) → AffirmsNothing (refused refusal)
 refused_affirms_nothing refusal other is = cc is
 
+-- `plan` has a plan where its answer affirms
+finds_plan : (asked : ControlWords) (d : DomainTree) (p : ProblemTree) (text : Bytes) (found : Answer) → found ≡ affirmed text
+    → (found ≡ refused no_memory) ⊎ (MayBeTooFew asked.plan d p × (found ≡ refused (full asked.plan.options.nodes))) ⊎ PlanThen asked.plan d p found → FindsPlan asked d p
+finds_plan asked d p text found is (inl memory) = absurd (refused_affirms_nothing _ text (sym memory ∙ is))
+finds_plan asked d p text found is (inr (inl (few, full_is))) = absurd (refused_affirms_nothing _ text (sym full_is ∙ is))
+finds_plan asked d p text found is (inr (inr then)) = (text, subst (λ (x : Answer). PlanThen asked.plan d p x) is then)
+
 -- the answer of `plan`, unless it affirms
 pub of_unless : (asked : ControlWords) (d : DomainTree) (p : ProblemTree) (found a : Answer)
-    → ((a ≡ found) × AffirmsNothing found) ⊎ (a ≡ refused (over_limit (codes "configurations")))
+    → ((a ≡ found) × AffirmsNothing found) ⊎ ((text : Bytes) × (found ≡ affirmed text) × (a ≡ refused (over_limit (codes "configurations"))))
     → (found ≡ refused no_memory) ⊎ (MayBeTooFew asked.plan d p × (found ≡ refused (full asked.plan.options.nodes))) ⊎ PlanThen asked.plan d p found
     → (a ≡ refused no_memory) ⊎ (MayBeTooFew asked.plan d p × (a ≡ refused (full asked.plan.options.nodes))) ⊎ ControlThen asked d p a
 of_unless asked d p found a (inl (same, none)) why =
     subst (λ (x : Answer). (x ≡ refused no_memory) ⊎ (MayBeTooFew asked.plan d p × (x ≡ refused (full asked.plan.options.nodes))) ⊎ ControlThen asked d p x) (sym same)
     (of_plan asked d p found none why)
-of_unless asked d p found a (inr is) why = inr (inr (inr (inl (codes "configurations", (1, omega arith, refl), is))))
+of_unless asked d p found a (inr (text, affirms, is)) why =
+    inr (inr (inr (inl (codes "configurations", inr (inl (refl, inr (finds_plan asked d p text found affirms why))), is))))
 
--- a limit that a controller may pass
-pub limited : (asked : ControlWords) (d : DomainTree) (p : ProblemTree) (r : Refusal) → IsControlRefusal r
+-- want of memory, or a limit that is passed for its cause
+pub limited : (asked : ControlWords) (d : DomainTree) (p : ProblemTree) (task : Task) (r : Refusal) → IsTaskOf d p task → IsControlRefusal task r
     → (refused r ≡ refused no_memory) ⊎ (MayBeTooFew asked.plan d p × (refused r ≡ refused (full asked.plan.options.nodes))) ⊎ ControlThen asked d p (refused r)
-limited asked d p r (inl memory) = inl (ap refused memory)
-limited asked d p r (inr (name, is_name, is)) = inr (inr (inr (inl (name, is_name, ap refused is))))
+limited asked d p task r of (inl memory) = inl (ap refused memory)
+limited asked d p task r of (inr (inl (many, is))) = inr (inr (inr (inl (codes "initial", inl (refl, too_many d p task of.task_is many), ap refused is))))
+limited asked d p task r of (inr (inr (inl (reach, is)))) =
+    inr (inr (inr (inl (codes "configurations", inr (inl (refl, inl (subst MayReachTooMany of.system_is reach))), ap refused is))))
+limited asked d p task r of (inr (inr (inr is))) = inr (inr (inr (inl (codes "file", inr (inr refl), ap refused is))))
 
--- a controller, or a limit that it passes
-pub of_shown : (asked : ControlWords) (d : DomainTree) (p : ProblemTree) (r : Result Shown CodeRefusal)
-    → IfOk r (λ shown. IsControllerShown asked d p (shown_of shown)) → IfErr r (λ refusal. IsControlRefusal (refusal_of refusal))
-    → (answer_of r ≡ refused no_memory) ⊎ (MayBeTooFew asked.plan d p × (answer_of r ≡ refused (full asked.plan.options.nodes))) ⊎ ControlThen asked d p (answer_of r)
-of_shown asked d p (Ok shown) controller refusal = inr (inr (inl controller))
-of_shown asked d p (Err e) controller refusal = limited asked d p (refusal_of e) refusal
+-- the same in the answer
+pub limit_passed : (asked : ControlWords) (d : DomainTree) (p : ProblemTree) (g : Grounded) (r : Refusal) → IsGroundedOf d p g → IsControlRefusal g.task r
+    → (refused r ≡ refused no_memory) ⊎ (MayBeTooFew asked.plan d p × (refused r ≡ refused (full asked.plan.options.nodes))) ⊎ ControlThen asked d p (refused r)
+limit_passed asked d p g r of why = limited asked d p g.task r of.of_task why
 
 -- the cause of want of memory that came in place of an answer
 memory_instead : (held : Bytes → Held) (failed : Bytes → Type 0) (words : List Bytes) (a : Answer) → a ≢ refused no_command

@@ -1,5 +1,5 @@
 -- What follows from a run that has its cause.
-use Rattle.std.proofs.Common.{◌≡◌, ◌≢◌, ◌⊎◌, ◌≤◌, ◌<◌, ℕ, Bool, true, false, List, length, inl, inr, refl, sym, subst, ap, ◌∙◌, arith, Some, None}
+use Rattle.std.proofs.Common.{◌≡◌, ◌≢◌, ◌⊎◌, ◌≤◌, ◌<◌, ℕ, true, List, length, inl, inr, refl, sym, subst, ap, ◌∙◌, arith, Some, None}
 use Rattle.std.specs.Io.KnownBytes.{append_known}
 use Rattle.pddl_ast.specs.Trees.{DomainTree, ProblemTree}
 use Rattle.plan_io.specs.Fetches.{FailedLast}
@@ -13,8 +13,8 @@ use Rattle.mbp_top.specs.PlanCommand.{HasNoPlan, IsPlanResult, IsResultOf, no_pl
 use Rattle.mbp_top.specs.Words.{Bytes, PlanKind, of_class, with_contexts}
 use Rattle.mbp_top.proofs.PddlDecides.{ReadFor, not_refused, shown_both, shown_goal, shown_grounded}
 use Rattle.mbp_top.proofs.Statuses.{shown_at, whole_delivery, written_shown}
-use Rattle.controller_plan.specs.Controllers.{AffirmsNothing, ControlThen, IsControlAnswer, IsControlled, IsController, IsControllerShown, IsShownAs}
-use Rattle.controller_plan.specs.Laws.{IsControllerRun, IsNoPlanRun, IsWrittenAs}
+use Rattle.controller_plan.specs.Controllers.{AffirmsNothing, ControlThen, IsControlAnswer, IsControlled, IsController, IsControllerShown}
+use Rattle.controller_plan.specs.Laws.{IsControllerRun, IsNoPlanRun}
 use Rattle.controller_plan.specs.Runs.{ControlRun, HasControlCause, HasControlled}
 use Rattle.controller_plan.specs.Words.{ControlWords, SaysControl}
 use Rattle.controller_plan.proofs.OneAsked.{one_asked}
@@ -62,10 +62,9 @@ denies : (a : Answer) → is_shown a ≡ true → status_of a ≡ 1 → (text : 
 denies a shown one text is = let e : 0 ≡ 1 = ap status_of (sym is) ∙ one in omega (arith, e)
 
 -- what is written of a controller
-as_written : (json : Bool) (text : Bytes) (a : Answer) (out out' : Seen) → IsShownAs json text a
-    → out'.written ≡ append_known out.written (text_of a) → IsWrittenAs json text out out'
-as_written false text a out out' is written = written ∙ ap (λ (b : Answer). append_known out.written (text_of b)) is
-as_written true text a out out' (document, is) written = (document, written ∙ ap (λ (b : Answer). append_known out.written (text_of b)) is)
+as_written : (text : Bytes) (a : Answer) (out out' : Seen) → a ≡ affirmed text
+    → out'.written ≡ append_known out.written (text_of a) → out'.written ≡ append_known out.written text
+as_written text a out out' is written = written ∙ ap (λ (b : Answer). append_known out.written (text_of b)) is
 
 -- a controller is shown where the answer affirms
 controller_for : (asked : ControlWords) (d : DomainTree) (p : ProblemTree) (a : Answer) (text : Bytes) → a ≡ affirmed text → is_shown a ≡ true
@@ -87,14 +86,9 @@ result_missing with_contexts name d p a shown none (inl (no_chain, is)) = absurd
 result_missing with_contexts name d p a shown none (inr (chain, is_chain, inl (many, is))) = absurd (not_refused _ a is shown)
 result_missing with_contexts name d p a shown none (inr (chain, is_chain, inr (few, result))) = plan_missing with_contexts d p a none result
 
--- what is shown of a controller affirms
-shown_affirms : (json : Bool) (text : Bytes) (a : Answer) → ((other : Bytes) → a ≡ affirmed other → ⊥) → IsShownAs json text a → ⊥
-shown_affirms false text a none is = none text is
-shown_affirms true text a none (document, is) = none document is
-
 missing_for : (asked : ControlWords) (d : DomainTree) (p : ProblemTree) (a : Answer) → is_shown a ≡ true → ((text : Bytes) → a ≡ affirmed text → ⊥)
     → ControlThen asked d p a → (a ≡ denied no_plan_text) × HasNoPlan asked.plan.kind d p
-missing_for asked d p a shown none (inl controller) = absurd (shown_affirms asked.json controller.text a none controller.shown)
+missing_for asked d p a shown none (inl controller) = absurd (none _ controller.shown)
 missing_for asked d p a shown none (inr (inl (name, is_name, is))) = absurd (not_refused _ a is shown)
 missing_for asked d p a shown none (inr (inr (plan, nothing))) = result_missing asked.plan.kind asked.plan.problem d p a shown none plan
 
@@ -112,7 +106,7 @@ module _ {S : Type 0} (held : S → Bytes → Held) (faults : S → ℕ) (fetche
       let text = affirms a shown code in
       let controller = controller_for asked found.domain found.problem a text.0 text.1 shown found.then in
       let written = written_shown a (text_of a) run.out run.out_after run.err run.err_after whole.1 shown refl in
-      (found.domain, found.problem, controller.text, found.both, controller.controller, as_written asked.json controller.text a run.out run.out_after controller.shown written)
+      (found.domain, found.problem, controller.text, found.both, controller.controller, as_written _ a run.out run.out_after controller.shown written)
 
   pub no_plan_run : IsNoPlanRun held run
   no_plan_run asked says one =

@@ -1,10 +1,9 @@
 -- What a refusal of the checker is.
-use Rattle.std.proofs.Common.{◌≡◌, ◌⊎◌, ◌∙◌, ap, inl, inr, refl, arith, codes, subst, Option, None, Some}
+use Rattle.std.proofs.Common.{◌≡◌, ◌⊎◌, ◌∙◌, ap, inl, inr, subst, Option, None, Some}
 use Rattle.std.specs.Prelude.{Result, Ok, Err}
 use Rattle.plan_check.specs.declared.verdicts.Verdict.{Verdict}
 use Rattle.plan_check.specs.declared.verdicts.Verdict.TheVariants.{Yes, No}
 use Rattle.plan_rules.specs.Rules.{PlainPlan}
-use Rattle.task_core.specs.Systems.{System}
 use Rattle.task_core.specs.Tasks.{system_of}
 use Rattle.task_core.specs.declared.tasks.Task.{Task}
 use Rattle.ctl_syntax.specs.declared.goals.Ctl.{Ctl}
@@ -26,18 +25,22 @@ shows_something (Yes None) r is = cc is
 shows_something (Yes (Some bound)) r is = cc is
 shows_something (No reason) r is = cc is
 
-refusal_is : (TooMany : Type 0) (sys : System) (plan : PlainPlan) (Of : Verdict → Type 0) (r : Refusal)
-    → (refused r ≡ refused no_memory) ⊎ ExploreThen TooMany sys plan (ShowsVerdict Of) (refused r) → IsControlRefusal r
-refusal_is TooMany sys plan Of r (inl is) = inl (one_refusal r no_memory is)
-refusal_is TooMany sys plan Of r (inr (inl (many, is))) = inr (codes "initial", (0, omega arith, refl), one_refusal r _ is)
-refusal_is TooMany sys plan Of r (inr (inr (inl (few, more, is)))) = inr (codes "configurations", (1, omega arith, refl), one_refusal r _ is)
-refusal_is TooMany sys plan Of r (inr (inr (inr (few, small, (v, of, is))))) = absurd (shows_something v r is)
+-- what the checker answers over a task, unless it is want of memory
+abbrev pub CheckedThen : Task → PlainPlan → (Verdict → Type 0) → Answer → Type 0
+CheckedThen task plan Of = ExploreThen (HasTooManyInitial task most_followed) (system_of task) plan (ShowsVerdict Of)
 
-pub judged_refusal : (TooMany : Type 0) (sys : System) (plan : PlainPlan) (Of : Verdict → Type 0) (result : Result Shown CodeRefusal) (r : CodeRefusal) → result ≡ Err r
-    → (answer_of result ≡ refused no_memory) ⊎ ExploreThen TooMany sys plan (ShowsVerdict Of) (answer_of result) → IsControlRefusal (refusal_of r)
-judged_refusal TooMany sys plan Of result r is why =
-    refusal_is TooMany sys plan Of (refusal_of r)
-    (subst (λ (x : Result Shown CodeRefusal). (answer_of x ≡ refused no_memory) ⊎ ExploreThen TooMany sys plan (ShowsVerdict Of) (answer_of x)) is why)
+refusal_is : (task : Task) (plan : PlainPlan) (Of : Verdict → Type 0) (r : Refusal)
+    → (refused r ≡ refused no_memory) ⊎ CheckedThen task plan Of (refused r) → IsControlRefusal task r
+refusal_is task plan Of r (inl is) = inl (one_refusal r no_memory is)
+refusal_is task plan Of r (inr (inl (many, is))) = inr (inl (many, one_refusal r _ is))
+refusal_is task plan Of r (inr (inr (inl (few, more, is)))) = inr (inr (inl ((plan, more), one_refusal r _ is)))
+refusal_is task plan Of r (inr (inr (inr (few, small, (v, of, is))))) = absurd (shows_something v r is)
+
+pub judged_refusal : (task : Task) (plan : PlainPlan) (Of : Verdict → Type 0) (result : Result Shown CodeRefusal) (r : CodeRefusal) → result ≡ Err r
+    → (answer_of result ≡ refused no_memory) ⊎ CheckedThen task plan Of (answer_of result) → IsControlRefusal task (refusal_of r)
+judged_refusal task plan Of result r is why =
+    refusal_is task plan Of (refusal_of r)
+    (subst (λ (x : Result Shown CodeRefusal). (answer_of x ≡ refused no_memory) ⊎ CheckedThen task plan Of (answer_of x)) is why)
 
 -- an answer of the checker that affirms is a yes
 affirmed_then : (kind : PlanKind) (task : Task) (goal : Option Ctl) (plan : PlainPlan) (said : Bytes)

@@ -27,7 +27,7 @@ use Rattle.mbp_top.specs.Words.{Bytes, PlanKind}
 use Rattle.mbp_top.proofs.CheckAnswers.{goal_in, verdict_for}
 use Rattle.mbp_top.proofs.CheckWritten.{YesSolves, shown_judged, yes_is_met}
 use Rattle.mbp_top.proofs.Listings.{same_actions, same_fluents}
-use Rattle.controller_plan.specs.Controllers.{IsController, IsControllerShown, IsShownAs}
+use Rattle.controller_plan.specs.Controllers.{IsController, IsControllerShown, shown_bytes}
 use Rattle.controller_plan.specs.Judged.{IsAffirmed, IsJudged}
 use Rattle.controller_plan.specs.Words.{ControlWords}
 
@@ -61,17 +61,23 @@ judged_controller true_goals law kind d p g text read of judged = record {
   meets = affirmed_meets true_goals law kind d p g (plain_of read.plan) of judged.yes;
 }
 
+-- what is shown of a text that was judged, over the names of the task
+abbrev pub IsShownOf : ControlWords → Grounded → Bytes → PlanRead → Answer → Type 0
+IsShownOf asked g text read a = a ≡ affirmed (shown_bytes asked.json (names_of_fluents g.task) (names_of_actions g.task) (plain_of read.plan) text)
+
 -- it is shown, as itself or as a document
 pub controller_shown : GroundedGoalsAreTrue → YesSolves → (asked : ControlWords) (d : DomainTree) (p : ProblemTree) (g : Grounded) (text : Bytes) (read : PlanRead) (a : Answer)
-    → IsGroundedOf d p g → IsJudged asked.plan.kind g.task g.ctl text read → IsShownAs asked.json text a → IsControllerShown asked d p a
+    → IsGroundedOf d p g → IsJudged asked.plan.kind g.task g.ctl text read → IsShownOf asked g text read a → IsControllerShown asked d p a
+unfolding judged_controller
 controller_shown true_goals law asked d p g text read a of judged shown = record {
   text = text;
   controller = judged_controller true_goals law asked.plan.kind d p g text read of judged;
-  shown = shown;
+  shown = subst (λ (ns : List Name). a ≡ affirmed (shown_bytes asked.json (fluent_names d p) ns (plain_of read.plan) text)) (same_actions d p g.task of.of_task.task_is)
+      (subst (λ (ns : List Name). a ≡ affirmed (shown_bytes asked.json ns (names_of_actions g.task) (plain_of read.plan) text)) (same_fluents d p g.task of.of_task.task_is) shown);
 }
 
 pub shown_if_judged : GroundedGoalsAreTrue → YesSolves → (asked : ControlWords) (d : DomainTree) (p : ProblemTree) (g : Grounded) (bytes text : Bytes) (found : Option PlanRead) (read : PlanRead) (a : Answer)
-    → IsGroundedOf d p g → found ≡ Some read → bytes ≡ text → IfSome found (IsJudged asked.plan.kind g.task g.ctl bytes) → IsShownAs asked.json text a → IsControllerShown asked d p a
+    → IsGroundedOf d p g → found ≡ Some read → bytes ≡ text → IfSome found (IsJudged asked.plan.kind g.task g.ctl bytes) → IsShownOf asked g text read a → IsControllerShown asked d p a
 shown_if_judged true_goals law asked d p g bytes text found read a of is same judged shown =
     controller_shown true_goals law asked d p g text read a of
     (subst (λ (t : Bytes). IsJudged asked.plan.kind g.task g.ctl t read) same

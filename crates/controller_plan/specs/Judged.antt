@@ -1,11 +1,12 @@
 -- Private: that a text was judged.
-use Rattle.std.specs.Prelude.{◌≡◌, ◌≤◌, ◌⊎◌, Option, length}
+use Rattle.std.specs.Prelude.{◌≡◌, ◌≤◌, ◌⊎◌, Option, codes, length}
 use Rattle.ctl_syntax.specs.declared.goals.Ctl.{Ctl}
 use Rattle.exec_graph.specs.Initials.{HasTooManyInitial}
+use Rattle.plan_rules.specs.Plans.{IsPlanOf}
 use Rattle.plan_rules.specs.Readings.{SpellsPlanAt}
 use Rattle.plan_rules.specs.Rules.{PlainPlan, plain_of}
 use Rattle.plan_rules.specs.declared.rules.PlanRead.{PlanRead}
-use Rattle.task_core.specs.Tasks.{action_names, fluent_names, system_of}
+use Rattle.task_core.specs.Tasks.{action_count, action_names, fluent_count, fluent_names, system_of}
 use Rattle.task_core.specs.declared.tasks.Task.{Task}
 use Rattle.mbp_top.specs.Answers.{Refusal, affirmed, no_memory, over_limit}
 use Rattle.mbp_top.specs.CheckCommand.{ExploreThen, ShowsVerdict, most_followed}
@@ -13,7 +14,7 @@ use Rattle.mbp_top.specs.Judged.{IsTaskVerdict}
 use Rattle.mbp_top.specs.PlanCommand.{IsWrittenFor}
 use Rattle.mbp_top.specs.Reading.{file_limit}
 use Rattle.mbp_top.specs.Words.{Bytes, PlanKind}
-use Rattle.controller_plan.specs.Controllers.{IsControlLimit}
+use Rattle.controller_plan.specs.Controllers.{MayReachTooMany}
 
 -- the checker says yes to a plan of a task
 pub record IsAffirmed (kind : PlanKind) (task : Task) (goal : Option Ctl) (plan : PlainPlan)
@@ -28,10 +29,14 @@ pub record IsJudged (kind : PlanKind) (task : Task) (goal : Option Ctl) (text : 
   pub short : length text ≤ file_limit
   pub spelled : SpellsPlanAt (fluent_names task) (action_names task) text (plain_of read.plan)
       read.place
+  pub in_task : IsPlanOf (fluent_count task) (action_count task) read.plan
   pub written : IsWrittenFor kind (plain_of read.plan)
   pub yes : IsAffirmed kind task goal (plain_of read.plan)
 
--- want of memory, or a limit that a controller may pass
-abbrev pub IsControlRefusal : Refusal → Type 0
-IsControlRefusal refusal =
-    (refusal ≡ no_memory) ⊎ ((name : Bytes) × IsControlLimit name × (refusal ≡ over_limit name))
+-- want of memory, or a limit that is passed over a task, for its cause
+abbrev pub IsControlRefusal : Task → Refusal → Type 0
+IsControlRefusal task refusal =
+    (refusal ≡ no_memory)
+    ⊎ (HasTooManyInitial task most_followed × (refusal ≡ over_limit (codes "initial")))
+    ⊎ (MayReachTooMany (system_of task) × (refusal ≡ over_limit (codes "configurations")))
+    ⊎ (refusal ≡ over_limit (codes "file"))

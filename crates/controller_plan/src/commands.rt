@@ -6,13 +6,13 @@ ghost use Rattle.controller_plan.specs.Controllers.{
   IsControlAnswer,
   IsControlled,
   IsControllerShown,
-  IsShownAs,
+  shown_bytes,
 };
 ghost use Rattle.controller_plan.specs.Judged.{IsControlRefusal};
 ghost use Rattle.controller_plan.specs.Runs.{HasControlCause};
 ghost use Rattle.controller_plan.specs.Values.{control_words_of};
 ghost use Rattle.controller_plan.specs.Words.{AskNothing, ControlWords as AskedControl, SaysControl};
-ghost use Rattle.mbp_top.specs.Answers.{full, no_memory, over_limit, refused};
+ghost use Rattle.mbp_top.specs.Answers.{affirmed, full, no_memory, over_limit, refused};
 ghost use Rattle.mbp_top.specs.Causes.{IsQuietAt};
 ghost use Rattle.mbp_top.specs.Fetching.{FetchesBoth};
 ghost use Rattle.mbp_top.specs.Grounded.{IsGroundedOf};
@@ -24,6 +24,8 @@ ghost use Rattle.pddl_ast.specs.Fits.{FitsDomain, FitsProblem};
 ghost use Rattle.pddl_ast.specs.Values.{domain_value, problem_value};
 ghost use Rattle.pddl_system.specs.Names.{NamesAreWords};
 ghost use Rattle.plan_io.specs.Fetches.{FailedLast, FetchesNothing};
+ghost use Rattle.plan_rules.specs.Plans.{IsPlanOf};
+ghost use Rattle.plan_rules.specs.Rules.{plain_of};
 ghost use Rattle.std.specs.Prelude.{
   ◌≡◌,
   ◌≤◌,
@@ -38,10 +40,11 @@ ghost use Rattle.std.specs.Prelude.{
   true,
   ℕ,
 };
+ghost use Rattle.task_core.specs.Tasks.{action_count, action_names, fluent_count, fluent_names};
 
-use crate::documents::document_of;
 use crate::followed::Followed;
 use crate::judged::judged;
+use crate::reach::check_reach;
 use crate::rule_texts::rules_text;
 use crate::rules::{Length, rules_of};
 use crate::searches::{Sought, seek};
@@ -51,6 +54,7 @@ use mbp_top::{Limit, Refusal, Shown, Text, check_goal, ground_both, plan_grounde
 use pddl_ast::{Domain, Problem};
 use pddl_system::grounded_goals_are_true;
 use plan_check::yes_is_solution;
+use plan_document::plan_document;
 use plan_io::Shelf;
 use plan_rules::Plan;
 use std::alloc::{AllocError, Global};
@@ -143,18 +147,45 @@ fn control_grounded(
         ⊎ ControlThen asked (domain_value domain.now) (problem_value problem.now)
         (answer_of result) }
 {
+    if let Some(shown) = shown_sought(alloc, asked, domain, problem, grounded)? {
+        return Ok(shown);
+    }
+    without_controller(alloc, asked, domain, problem, grounded)
+}
+
+/// The controller for what the plan reaches that is found, if there is one.
+fn shown_sought(
+    alloc: Global,
+    asked: &ControlWords,
+    domain: &Domain,
+    problem: &Problem,
+    grounded: &Grounded,
+) -> Result<Option<Shown>, Refusal>
+    requires room { IsNodeLimit asked.now.plan.options.nodes }
+    requires goal { has_goal_for (kind_of asked.now.plan.kind) (problem_value problem.now)
+        ≡ true }
+    requires grounded { IsGroundedOf (domain_value domain.now) (problem_value problem.now)
+        grounded.now }
+    ensures shown { IfOk result (λ found. IfSome found (λ shown.
+        IsControllerShown (control_words_of asked.now)
+        (domain_value domain.now) (problem_value problem.now) (shown_of shown))) }
+    ensures refused { IfErr result
+        (λ refusal. IsControlRefusal grounded.now.task (refusal_of refusal)) }
+{
     match seek(alloc, &asked.plan, grounded)? {
         Sought::Followed(followed) => {
             shown_controller(alloc, asked, domain, problem, grounded, &followed)
         }
-        Sought::TooManyInitial => Err(Refusal::OverLimit(Limit::Initial)),
-        Sought::TooManyConfigurations => Err(Refusal::OverLimit(Limit::Configurations)),
-        Sought::Nothing => without_controller(alloc, asked, domain, problem, grounded),
+        Sought::TooMany => {
+            check_reach(alloc, &grounded.task)?;
+            Ok(None)
+        }
+        Sought::Nothing => Ok(None),
     }
 }
 
-/// The answer of `plan` where no plan was found to follow. If it is a plan after all, none is shown:
-/// what it reaches couldn't be followed.
+/// The answer of `plan` where no controller is shown. If it is a plan, that isn't shown: what it
+/// reaches couldn't be followed.
 fn without_controller(
     alloc: Global,
     asked: &ControlWords,
@@ -181,7 +212,8 @@ fn without_controller(
 /// The same answer, unless it affirms; then that too much is reached.
 fn unless_affirmed(found: Result<Shown, Refusal>) -> Result<Shown, Refusal>
     ensures { ((answer_of result ≡ answer_of found) × AffirmsNothing (answer_of found))
-        ⊎ (answer_of result ≡ refused (over_limit (codes "configurations"))) }
+        ⊎ ((text : List ℕ) × (answer_of found ≡ affirmed text)
+        × (answer_of result ≡ refused (over_limit (codes "configurations")))) }
 {
     match found {
         Ok(Shown::Affirmed(_)) => Err(Refusal::OverLimit(Limit::Configurations)),
@@ -191,7 +223,7 @@ fn unless_affirmed(found: Result<Shown, Refusal>) -> Result<Shown, Refusal>
 }
 
 /// The controller for what a plan does where it reaches: first with short rules, and if these aren't
-/// judged to be a plan, with full ones.
+/// judged to be a plan, with full ones. `None` where these aren't, either.
 fn shown_controller(
     alloc: Global,
     asked: &ControlWords,
@@ -199,14 +231,16 @@ fn shown_controller(
     problem: &Problem,
     grounded: &Grounded,
     followed: &Followed,
-) -> Result<Shown, Refusal>
+) -> Result<Option<Shown>, Refusal>
     requires goal { has_goal_for (kind_of asked.now.plan.kind) (problem_value problem.now)
         ≡ true }
     requires grounded { IsGroundedOf (domain_value domain.now) (problem_value problem.now)
         grounded.now }
-    ensures shown { IfOk result (λ shown. IsControllerShown (control_words_of asked.now)
-        (domain_value domain.now) (problem_value problem.now) (shown_of shown)) }
-    ensures refused { IfErr result (λ refusal. IsControlRefusal (refusal_of refusal)) }
+    ensures shown { IfOk result (λ found. IfSome found (λ shown.
+        IsControllerShown (control_words_of asked.now)
+        (domain_value domain.now) (problem_value problem.now) (shown_of shown))) }
+    ensures refused { IfErr result
+        (λ refusal. IsControlRefusal grounded.now.task (refusal_of refusal)) }
 {
     let short = shown_rules(
         alloc,
@@ -217,10 +251,10 @@ fn shown_controller(
         followed,
         Length::Short,
     )?;
-    if let Some(shown) = short {
-        return Ok(shown);
+    if short.is_some() {
+        return Ok(short);
     }
-    let full = shown_rules(
+    shown_rules(
         alloc,
         asked,
         domain,
@@ -228,18 +262,7 @@ fn shown_controller(
         grounded,
         followed,
         Length::Full,
-    )?;
-    match full {
-        Some(shown) => Ok(shown),
-        None => Err(unjudged()),
-    }
-}
-
-/// The refusal where no rules are judged to be a plan that meets the problem.
-fn unjudged() -> Refusal
-    ensures { IsControlRefusal (refusal_of result) }
-{
-    Refusal::OverLimit(Limit::Configurations)
+    )
 }
 
 /// The controller with rules of this length, if they are judged to be a plan that meets the problem.
@@ -259,7 +282,8 @@ fn shown_rules(
     ensures shown { IfOk result (λ found. IfSome found (λ shown.
         IsControllerShown (control_words_of asked.now)
         (domain_value domain.now) (problem_value problem.now) (shown_of shown))) }
-    ensures refused { IfErr result (λ refusal. IsControlRefusal (refusal_of refusal)) }
+    ensures refused { IfErr result
+        (λ refusal. IsControlRefusal grounded.now.task (refusal_of refusal)) }
 {
     let text = text_of_rules(alloc, asked, &grounded.task, followed, length)?;
     shown_text(alloc, asked, domain, problem, grounded, text)
@@ -293,7 +317,8 @@ fn shown_text(
     ensures shown { IfOk result (λ found. IfSome found (λ shown.
         IsControllerShown (control_words_of asked.now)
         (domain_value domain.now) (problem_value problem.now) (shown_of shown))) }
-    ensures refused { IfErr result (λ refusal. IsControlRefusal (refusal_of refusal)) }
+    ensures refused { IfErr result
+        (λ refusal. IsControlRefusal grounded.now.task (refusal_of refusal)) }
 {
     // These do nothing: that what the checker says yes to meets the problem rests on what they
     // promise.
@@ -316,10 +341,13 @@ fn shown_as(
     plan: &Plan,
     task: &Task,
 ) -> Result<Shown, AllocError>
-    ensures { IfOk result (λ shown. IsShownAs json text.items (shown_of shown)) }
+    requires { IsPlanOf (fluent_count task.now) (action_count task.now) plan.now }
+    ensures { IfOk result (λ shown. shown_of shown
+        ≡ affirmed (shown_bytes json (fluent_names task.now) (action_names task.now)
+        (plain_of plan.now) text.items)) }
 {
     if json {
-        let document = document_of(alloc, plan, task)?;
+        let document = plan_document(alloc, plan, task)?;
         return Ok(Shown::Affirmed(Text::Made(document)));
     }
     Ok(Shown::Affirmed(Text::Made(text)))

@@ -10,6 +10,7 @@ use dd_sets::SetId;
 use encode_task::Enc;
 use exec_graph::MAX_CONFIGURATIONS;
 use indexmap::IndexSet;
+use reached_plan::ReachedPlan;
 use std::alloc::Global;
 use task_core::{ActionId, State, Task, step};
 
@@ -75,7 +76,7 @@ impl Followed {
             return Ok(());
         }
         if self.places.len() >= MAX_CONFIGURATIONS {
-            return Err(Stop::Configurations);
+            return Err(Stop::TooMany);
         }
         self.steps.push(steps)?;
         self.moves.push(None)?;
@@ -138,13 +139,46 @@ impl Followed {
             (AreReachedWithin (fluent_count task.now) self.new.places.items) }
     {
         match action_in(task, enc, slots, first, &place.state) {
-            Some(action) => {
-                self.decide(number, Move { action, next });
-                let steps = self.steps_after(number);
-                self.add_outcomes(task, &place.state, action, next, steps)
-            }
+            Some(action) => self.take(task, number, &place.state, action, next),
             None => Ok(()),
         }
+    }
+
+    /// Finds what a plan for states that can be reached does in the configurations, all of one
+    /// context, and adds what follows them.
+    pub(crate) fn visit_reached(&mut self, task: &Task, plan: &ReachedPlan) -> Result<(), Stop>
+        requires within { AreReachedWithin (fluent_count task.now) self.old.places.items }
+    {
+        for number in 0..MAX_CONFIGURATIONS {
+            if number >= self.places.len() {
+                return Ok(());
+            }
+            let place = self.places[number];
+            if let Some(action) = action_of(task, plan, &place.state) {
+                self.take(task, number, &place.state, action, 0)?;
+            }
+        }
+        Ok(())
+    }
+
+    /// Notes that the plan takes an action in the state of a configuration, and adds what follows.
+    fn take(
+        &mut self,
+        task: &Task,
+        number: usize,
+        state: &State,
+        action: ActionId,
+        next: u32,
+    ) -> Result<(), Stop>
+        requires action { action.0 < action_count task.now }
+        requires state { IsWithin (fluent_count task.now) state.now }
+        requires within { AreReachedWithin (fluent_count task.now) self.old.places.items }
+        ensures within { OnOk result
+            (AreReachedWithin (fluent_count task.now) self.new.places.items) }
+    {
+        self.decide(number, Move { action, next });
+        let steps = self.steps_after(number);
+        self.add_outcomes(task, state, action, next, steps)
     }
 
     /// Notes what the plan does in the configuration of a number.
@@ -190,6 +224,18 @@ impl Followed {
             )?;
         }
         Ok(())
+    }
+}
+
+/// The action that a plan for states that can be reached takes in a state, if it is one of the task.
+fn action_of(task: &Task, plan: &ReachedPlan, state: &State) -> Option<ActionId>
+    ensures { IfSome result (λ action. action.0 < action_count task.now) }
+{
+    let action = plan.action_in(state)?;
+    if (action.0 as usize) < task.actions.len() {
+        Some(action)
+    } else {
+        None
     }
 }
 

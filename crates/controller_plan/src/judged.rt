@@ -30,7 +30,8 @@ pub(crate) fn judged(
         (λ goal. NamesBelow (fluent_count grounded.now.task) (ctl_value goal)) }
     ensures yes { IfOk result (λ found. IfSome found
         (IsJudged (kind_of kind) grounded.now.task grounded.now.ctl text.now)) }
-    ensures refused { IfErr result (λ refusal. IsControlRefusal (refusal_of refusal)) }
+    ensures refused { IfErr result
+        (λ refusal. IsControlRefusal grounded.now.task (refusal_of refusal)) }
 {
     if text.len() > MAX_BYTES {
         return Err(Refusal::OverLimit(Limit::File));
@@ -60,7 +61,8 @@ fn judged_plan(
     ensures yes { IfOk result (λ found. IfSome found
         (λ plan. IsAffirmed (kind_of kind) grounded.now.task grounded.now.ctl
         (plain_of plan.plan))) }
-    ensures refused { IfErr result (λ refusal. IsControlRefusal (refusal_of refusal)) }
+    ensures refused { IfErr result
+        (λ refusal. IsControlRefusal grounded.now.task (refusal_of refusal)) }
 {
     if is_written_for(kind, &read.plan) && is_affirmed(alloc, kind, grounded, &read.plan)? {
         return Ok(Some(read));
@@ -83,7 +85,8 @@ fn is_affirmed(
     requires of_kind { is_of_kind (kind_of kind) (plain_of plan.now) ≡ true }
     ensures yes { IfOk result (λ is. IsTrue is
         → IsAffirmed (kind_of kind) grounded.now.task grounded.now.ctl (plain_of plan.now)) }
-    ensures refused { IfErr result (λ refusal. IsControlRefusal (refusal_of refusal)) }
+    ensures refused { IfErr result
+        (λ refusal. IsControlRefusal grounded.now.task (refusal_of refusal)) }
 {
     match judge(alloc, kind, grounded, plan) {
         Ok(shown) => Ok(affirms(&shown)),

@@ -12,10 +12,10 @@
 #![tactic(auto)]
 
 mod commands;
-mod documents;
 mod followed;
 mod judged;
 mod laws;
+mod reach;
 mod rule_texts;
 mod rules;
 mod searches;

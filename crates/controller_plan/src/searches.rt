@@ -21,6 +21,7 @@ use ground_task::Grounded;
 use mbp_top::{PlanKind, PlanWords};
 use plan_rules::Class;
 use reach_plan::{Takers, find_takers};
+use reached_plan::{ReachedPlan, plan_reached};
 use slot_board::Board;
 use std::alloc::{AllocError, AllocFailed, Global};
 use task_core::{ActionId, InitErr, Task, init_states};
@@ -33,10 +34,8 @@ const MOST_STAGES: usize = 32;
 pub(crate) enum Sought {
     /// This is what a plan reaches, and what it does there.
     Followed(Followed),
-    /// There are too many initial states.
-    TooManyInitial,
-    /// More is reached than may be followed.
-    TooManyConfigurations,
+    /// There are too many initial states, or more is reached than may be followed.
+    TooMany,
     /// No plan was found, for whatever reason.
     Nothing,
 }
@@ -46,10 +45,8 @@ pub(crate) enum Sought {
 pub(crate) enum Stop {
     /// The table of diagram nodes is full.
     Full,
-    /// There are too many initial states.
-    Initial,
-    /// The plan reaches too many configurations.
-    Configurations,
+    /// There are too many initial states, or the plan reaches too many configurations.
+    TooMany,
     Memory,
 }
 
@@ -77,7 +74,7 @@ impl From<SetErr> for Stop {
 impl From<InitErr> for Stop {
     fn from(error: InitErr) -> Stop {
         match error {
-            InitErr::TooMany => Stop::Initial,
+            InitErr::TooMany => Stop::TooMany,
             InitErr::Memory => Stop::Memory,
         }
     }
@@ -104,14 +101,40 @@ pub(crate) fn seek(
         Ok(Some(followed)) => Ok(Sought::Followed(followed)),
         Ok(None) => Ok(Sought::Nothing),
         Err(Stop::Full) => Ok(Sought::Nothing),
-        Err(Stop::Initial) => Ok(Sought::TooManyInitial),
-        Err(Stop::Configurations) => Ok(Sought::TooManyConfigurations),
+        Err(Stop::TooMany) => Ok(Sought::TooMany),
         Err(Stop::Memory) => Err(AllocError),
     }
 }
 
-/// What the plan of a class reaches, if there is one.
+/// What the plan of a class reaches, if there is one: found state by state where few can be reached,
+/// and over sets of states where not.
 fn follow_class(
+    alloc: Global,
+    class: Class,
+    nodes: u32,
+    task: &Task,
+) -> Result<Option<Followed>, Stop>
+    requires room { IsNodeLimit nodes }
+{
+    match plan_reached(alloc, task, class)? {
+        Some(plan) => follow_reached(alloc, task, &plan),
+        None => follow_encoded(alloc, class, nodes, task),
+    }
+}
+
+/// What a plan for states that can be reached does.
+fn follow_reached(
+    alloc: Global,
+    task: &Task,
+    plan: &ReachedPlan,
+) -> Result<Option<Followed>, Stop> {
+    let mut followed = begun(alloc, task, 1)?;
+    followed.visit_reached(task, plan)?;
+    Ok(Some(followed))
+}
+
+/// What the plan of a class reaches that is found over sets of states, if there is one.
+fn follow_encoded(
     alloc: Global,
     class: Class,
     nodes: u32,

@@ -1,13 +1,13 @@
 -- The planner's answer: what is said of it.
-use Rattle.std.proofs.Common.{◌≡◌, ℕ, ◌+◌, ◌*◌, arith, ◌^◌, Bool, true, false, List, All, Option, Some, IfSome, Result, Ok, Err, IfOk, refl, sym, subst, ◌∙◌}
+use Rattle.std.proofs.Common.{◌≡◌, ℕ, suc, ap, ◌<◌, ◌≤◌, ⊎_elim, ◌+◌, ◌*◌, arith, ◌^◌, Bool, true, false, List, All, Option, Some, IfSome, Result, Ok, Err, IfOk, refl, sym, subst, ◌∙◌}
 use Rattle.std.specs.List.{list_all}
-use Rattle.std.proofs.lemmas.Bool.{false_from_ne_true, true≢false}
+use Rattle.std.proofs.lemmas.Bool.{cases_lt, false_from_ne_true, true≢false}
 use Rattle.dd_sets.specs.declared.errors.SetErr.{SetErr}
 use Rattle.dd_sets.specs.declared.errors.SetErr.TheVariants.{Full}
 use Rattle.dd_sets.specs.declared.slots.SetId.{SetId}
 use Rattle.encode_task.specs.Slots.{Encoded}
 use Rattle.task_core.specs.Solutions.{HasNoSolution, IsStrongCyclicSolution}
-use Rattle.task_core.specs.Tasks.{action_count, fluent_count, system_of}
+use Rattle.task_core.specs.Tasks.{action_count, fluent_count, initial_states, system_of}
 use Rattle.task_core.specs.declared.classes.Class.TheVariants.{Cyclic, Weak}
 use Rattle.task_core.specs.declared.tasks.Task.{Task}
 use Rattle.task_core.proofs.TaskSystem.{is_system}
@@ -21,15 +21,20 @@ use Rattle.plan_theory.specs.Found.{IfNoPlan, IfPlan}
 use Rattle.encode_task.specs.Made.{MadeOf}
 use Rattle.plan_theory.proofs.PrintedWithin.{printed_within}
 use Rattle.plan_theory.proofs.WeakDenoted.{denoted-table}
-use Rattle.plan_theory.proofs.WeakLists.{list_all-at, list_all-from}
+use Rattle.plan_theory.proofs.WeakLists.{list_all-agree, list_all-at, list_all-from}
+use Rattle.plan_theory.proofs.RoundSteps.{later_rounds, rounds_end, rounds_shrink_to}
+use Rattle.task_core.specs.Systems.{IsState}
+use Rattle.task_core.specs.Vectors.{Vector, value_of}
 use Rattle.task_core.specs.Cubes.{SetOfVectors}
 use Rattle.cyclic_plan.specs.Answers.{Ends, IsAnswer, IsPlanOf}
-use Rattle.cyclic_plan.specs.Stages.{HasNear, kept_system, takers_within}
+use Rattle.cyclic_plan.specs.Rounds.{RoundsEnd}
+use Rattle.cyclic_plan.specs.Stages.{HasNear, HasRounds, Takings, kept_system, none_taken, takers_within}
+use Rattle.cyclic_plan.proofs.PlanMade.{covered_is, near_stays}
 use Rattle.cyclic_plan.specs.Takers.{HasTable, start_of}
 use Rattle.dd_sets.specs.LiveSets.{LiveSets}
 use Rattle.dd_sets.specs.Rooms.{AnySet, NoRoom}
 use Rattle.slot_board.specs.Board as board
-use Rattle.slot_board.specs.Board.{At, HasNoRoom, Left, Start}
+use Rattle.slot_board.specs.Board.{At, HasNoRoom, Left, Start, Stayed, set_at}
 use Rattle.cyclic_plan.specs.Stages.{HasNothing, place_count}
 use Rattle.plan_theory.specs.LargestSets.{covers, goal_or_pair}
 use Rattle.plan_theory.specs.Pairs.{restricted}
@@ -60,6 +65,55 @@ module _ (task : Task) (r : ℕ) (last : IsLastRound (system_of task) r) where
   no_plan_is short =
       let sys = system_of task in
       none_without_cover sys (kept sys (round sys r)) (is_system task) (last_is_largest sys (is_system task) r last) (not_covered short)
+
+-- nor is there a plan where some round leaves not all initial states: the last one leaves no others
+pub lost_is : (task : Task) (r : ℕ) → list_all (round (system_of task) r) (system_of task).initial ≡ false → HasNoSolution Cyclic (system_of task)
+lost_is task r short =
+    let sys = system_of task in
+    let last = rounds_end sys in
+    let down : (s : Vector) → IsState sys s → round sys last.0 s ≡ true → round sys r s ≡ true =
+    λ s is h.
+    ⊎_elim (λ (l : last.0 < r). later_rounds sys last.0 (is_system task) last.2 r (omega arith) s is ∙ h)
+    (λ (l : r ≤ last.0). rounds_shrink_to sys s r last.0 l h)
+    (cases_lt last.0 r) in
+    no_plan_is task last.0 last.2
+    (false_from_ne_true (list_all (round sys last.0) sys.initial)
+    (λ all. true≢false (sym (list_all-from (round sys r) sys.initial (λ s c. down s ((is_system task).initial s c) (list_all-at (round sys last.0) sys.initial s all c))) ∙ short)))
+
+-- what the rounds end with: a refusal, an early end, and the last round
+pub rounds_refused : {T : Type 0} (start : Start) (now : Encoded) (slots : List SetId) (P : Type 0) (inner : Result T SetErr) (outer : Result Bool SetErr) (e : SetErr) → inner ≡ Err e → (x : SetErr) × (outer ≡ Err x) × (x ≡ e) → Left start now slots P inner → RoundsEnd start now slots outer
+rounds_refused start now slots P inner outer e was p left =
+    subst (RoundsEnd start now slots) (sym p.1) (let kept = subst (Left start now slots P) was left in (kept.0, λ full. kept.1 (sym p.2 ∙ full)))
+
+pub near_covered_is : (start : Start) (enc : Encoded) (slots : List SetId) (left : SetOfVectors) (taken : Takings) (near : SetOfVectors) → HasNear start enc slots left taken near
+    → list_all (λ state. set_at enc.sets slots 3 (value_of state)) (initial_states start.task) ≡ list_all near (system_of start.task).initial
+near_covered_is start enc slots left taken near h =
+    list_all-agree (λ state. set_at enc.sets slots 3 (value_of state)) near (initial_states start.task) (λ s c. h.holds_near s ((is_system start.task).initial s c))
+
+pub rounds_ended : (start : Start) (enc now : Encoded) (slots : List SetId) (r : ℕ) (result : Result Bool SetErr) → IsLastRound (system_of start.task) r → HasRounds start enc slots r → Left start now slots (Stayed start enc.sets now slots) result
+    → IfOk result (λ covered. covered ≡ list_all (λ state. set_at enc.sets slots 1 (value_of state)) (initial_states start.task)) → RoundsEnd start now slots result
+rounds_ended start enc now slots r (Ok true) last h left answer = (
+  r,
+  last,
+  sym (answer ∙ covered_is start enc slots (round (system_of start.task) r) none_taken (round (system_of start.task) (suc r)) h),
+  near_stays start enc now slots (round (system_of start.task) r) none_taken (round (system_of start.task) (suc r)) h left,
+)
+rounds_ended start enc now slots r (Ok false) last h left answer = (
+  left.at,
+  lost_is start.task r (sym (answer ∙ covered_is start enc slots (round (system_of start.task) r) none_taken (round (system_of start.task) (suc r)) h)),
+)
+rounds_ended start enc now slots r (Err e) last h left answer = left
+
+pub rounds_found : (start : Start) (now : Encoded) (slots : List SetId) (result : Result Bool SetErr) (covered : Bool) → result ≡ Ok covered → covered ≡ true → RoundsEnd start now slots result
+    → (r : ℕ) × IsLastRound (system_of start.task) r × (list_all (round (system_of start.task) r) (system_of start.task).initial ≡ true) × HasRounds start now slots r
+rounds_found start now slots result covered was is ends = subst (RoundsEnd start now slots) (was ∙ ap Ok is) ends
+
+pub rounds_lost : (start : Start) (now : Encoded) (slots : List SetId) (result : Result Bool SetErr) (covered : Bool) → result ≡ Ok covered → covered ≡ false → RoundsEnd start now slots result → At start now slots × HasNoSolution Cyclic (system_of start.task)
+rounds_lost start now slots result covered was is ends = subst (RoundsEnd start now slots) (was ∙ ap Ok is) ends
+
+pub rounds_refusal : (start : Start) (now : Encoded) (slots : List SetId) (inner outer : Result Bool SetErr) (e : SetErr) → inner ≡ Err e → (x : SetErr) × (outer ≡ Err x) × (x ≡ e) → RoundsEnd start now slots inner → Ends start now slots outer
+rounds_refusal start now slots inner outer e was p ends =
+    subst (Ends start now slots) (sym p.1) (let kept = subst (RoundsEnd start now slots) was ends in (kept.0, λ full. kept.1 (sym p.2 ∙ full)))
 
 -- the search's board has the printed table
 pub table_is : (start : Start) (r : ℕ) (last : IsLastRound (system_of start.task) r) → list_all (round (system_of start.task) r) (system_of start.task).initial ≡ true → (now : Encoded) (slots : List SetId) (near : SetOfVectors)

@@ -2,4 +2,5 @@ pub mod StageSteps
 pub mod Growth
 pub mod RoundsMade
 pub mod PlanMade
+pub mod Narrowing
 pub mod Answered

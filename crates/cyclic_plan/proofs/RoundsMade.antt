@@ -11,8 +11,8 @@ use Rattle.plan_theory.proofs.Cubes.{all_vectors-agree, all_vectors-length}
 use Rattle.slot_board.proofs.BoardSlots.{depends}
 use Rattle.slot_board.specs.Board.{set_at}
 use Rattle.slot_board.specs.Board.{Moved, Start}
-use Rattle.plan_theory.specs.PairRounds.{round}
-use Rattle.cyclic_plan.specs.Stages.{HasLastRound, HasNear, HasPairs, HasRound, HasRounds, Takings}
+use Rattle.plan_theory.specs.PairRounds.{IsLastRound, round}
+use Rattle.cyclic_plan.specs.Stages.{HasNear, HasPairs, HasRound, HasRounds, Takings}
 use Rattle.cyclic_plan.proofs.Growth.{same_functions}
 use Rattle.plan_theory.proofs.RoundSteps.{held, holds_fewer, round_shrinks}
 use Rattle.cyclic_plan.proofs.StageSteps.{here, still}
@@ -38,9 +38,9 @@ left_copied start enc now old new left taken near h m = record {
 }
 
 -- where a round left the same states as the one before, it is the last
-pub round_done : (start : Start) (now : Encoded) (slots : List SetId) (r : ℕ) → HasRounds start now slots r → set_at now.sets slots 3 ≡ set_at now.sets slots 1 → HasLastRound start now slots
-round_done start now slots r h same =
-    (r, (λ v is. sym (h.holds_near v is) ∙ ap (λ (f : Function). f (value_of v)) same ∙ h.round.holds_left v is), h)
+pub round_last : (start : Start) (now : Encoded) (slots : List SetId) (r : ℕ) → HasRounds start now slots r → set_at now.sets slots 3 ≡ set_at now.sets slots 1 → IsLastRound (system_of start.task) r
+round_last start now slots r h same v is =
+    sym (h.holds_near v is) ∙ ap (λ (f : Function). f (value_of v)) same ∙ h.round.holds_left v is
 
 -- and where it left others, fewer are left
 pub round_less : (start : Start) (enc now : Encoded) (old new : List SetId) (r n : ℕ) → HasRounds start enc old r → (set_at enc.sets old 3 ≡ set_at enc.sets old 1 → ⊥) → n ≡ fluent_count start.task → (taken : Takings) (near : SetOfVectors)

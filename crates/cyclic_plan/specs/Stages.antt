@@ -19,7 +19,7 @@ use Rattle.plan_theory.specs.Layers.{layer, may_lead}
 use Rattle.plan_theory.specs.LayerPlans.{takers}
 use Rattle.slot_board.specs.Board.{AllNothing, At, Start, set_at}
 use Rattle.plan_theory.specs.Pairs.{is_goal, restricted}
-use Rattle.plan_theory.specs.PairRounds.{IsLastRound, kept, round}
+use Rattle.plan_theory.specs.PairRounds.{kept, round}
 
 -- a set on diagrams has the states of a set
 abbrev pub Agrees : Start → Function → SetOfVectors → Type 0
@@ -120,8 +120,3 @@ HasStep start now slots left taking k = let sys = kept_system start left in
 abbrev pub HasRounds : Start → Encoded → List SetId → ℕ → Type 0
 HasRounds start now slots r = let sys = system_of start.task in
     HasNear start now slots (round sys r) none_taken (round sys (suc r))
-
--- and the last round was made
-abbrev pub HasLastRound : Start → Encoded → List SetId → Type 0
-HasLastRound start now slots =
-    (r : ℕ) × IsLastRound (system_of start.task) r × HasRounds start now slots r

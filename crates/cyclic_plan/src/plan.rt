@@ -78,8 +78,7 @@ fn search(enc: &mut Enc, board: &mut Board, goal: SetId, actions: u32) -> Result
         → Ends start enc.new board.new.slots.items result }
 {
     begin(enc, board, goal)?;
-    last_round(enc, board, actions)?;
-    if !board.covers_initial(enc, LEFT)? {
+    if !last_round(enc, board, actions)? {
         return Ok(false);
     }
     spread(enc, board, actions, true)?;
@@ -92,10 +91,11 @@ fn search(enc: &mut Enc, board: &mut Board, goal: SetId, actions: u32) -> Result
 ///
 /// It makes rounds on sets of states. Each keeps the state-action pairs outside the goal that don't
 /// lead out of the states that are left, and then the states from which these pairs reach the goal,
-/// until a round leaves the same states as the one before (Cimatti, Pistore, Roveri and Traverso
-/// 2003). Where the initial states are left, each state takes the least-numbered action of its kept
-/// pairs that makes a step towards the goal. The time grows with the rounds, their steps and the
-/// actions, and not with the number of states.
+/// until a round leaves the same states as the one before, or not all initial states (Cimatti,
+/// Pistore, Roveri and Traverso 2003). Where the initial states are left, each state takes the
+/// least-numbered action of its kept pairs that makes a step towards the goal. The time grows with
+/// the rounds, their steps and the actions, and not with the number of states. A round that loses no
+/// pair makes no steps, and a step has no preimage for an action whose states are joined already.
 ///
 /// `takers_of` tells the place of an action's states. `Full` comes only where the table holds as many
 /// nodes as it may, and its limit is tight with at most three sets of the search's own for each

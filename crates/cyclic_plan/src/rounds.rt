@@ -1,12 +1,14 @@
 //! The rounds of the search for the largest set of pairs, on sets of states.
 
 ghost use Rattle.std.specs.Prelude.{◌≡◌, ℕ, suc, ◌+◌, ◌<◌, ◌^◌, ◌&&◌, ◌||◌, not, length, false};
+ghost use Rattle.std.specs.Prelude.{IfOk, true};
 ghost use Rattle.task_core.specs.Cubes.{SetOfVectors};
 ghost use Rattle.task_core.specs.Tasks.{system_of, action_count, fluent_count};
 ghost use Rattle.plan_theory.specs.Layers.{may_lead};
 ghost use Rattle.slot_board.specs.Board.{Left, Start};
 ghost use Rattle.plan_theory.specs.PairRounds.{connected, kept, round as round_of};
-ghost use Rattle.cyclic_plan.specs.Stages.{HasHits, HasLastRound, HasNear, HasNext, HasPairs};
+ghost use Rattle.cyclic_plan.specs.Rounds.{ArePairsAmong, HasDropped, HasMet, LosesNone, RoundsEnd};
+ghost use Rattle.cyclic_plan.specs.Stages.{HasHits, HasNear, HasNext, HasPairs, HasRounds};
 ghost use Rattle.cyclic_plan.specs.Stages.{HasRound, HasStep, Takings, kept_system, next_by};
 ghost use Rattle.cyclic_plan.specs.Stages.{none_taken, taken_also, taken_by, taken_if};
 ghost use Rattle.cyclic_plan.specs.Stages.{takers_within};
@@ -142,8 +144,29 @@ fn take_where(
     }
 }
 
-/// Adds the states from which an action leads into the near ones.
-fn advance(
+/// Whether the states of an action's kept pairs are all among the next ones already.
+fn is_joined(enc: &mut Enc, board: &mut Board, a: ActionId) -> Result<bool, SetErr>
+    requires ready { (start : Start) × (left : SetOfVectors) × (taken : Takings)
+        × (near : SetOfVectors) × (next : SetOfVectors)
+        × HasNext start enc.old board.old.slots.items left taken near next }
+    requires action { a.0 < length enc.old.actions }
+    ensures left { (start : Start) (left : SetOfVectors) (taken : Takings)
+        (near : SetOfVectors) (next : SetOfVectors)
+        → HasNext start enc.old board.old.slots.items left taken near next
+        → Left start enc.new board.new.slots.items
+        (HasNext start enc.new board.new.slots.items left taken near next) result }
+    ensures joined { (start : Start) (left : SetOfVectors) (taken : Takings)
+        (near : SetOfVectors) (next : SetOfVectors)
+        → HasNext start enc.old board.old.slots.items left taken near next
+        → IfOk result (λ joined. joined ≡ true
+        → ArePairsAmong (system_of start.task) left next a.0) }
+{
+    board.combine(enc, NEW, Operation::Minus, pairs_of(a), NEXT)?;
+    Ok(board.is_empty(enc, NEW))
+}
+
+/// Adds the states from which an action leads into the near ones by its kept pairs.
+fn join_hits(
     enc: &mut Enc,
     board: &mut Board,
     actions: u32,
@@ -166,6 +189,33 @@ fn advance(
     hit(enc, board, a)?;
     take_where(enc, board, actions, a, taking)?;
     board.combine(enc, NEXT, Operation::Join, NEXT, HITS)
+}
+
+/// The same, with no preimage where all states of the action's kept pairs are joined already.
+fn advance(
+    enc: &mut Enc,
+    board: &mut Board,
+    actions: u32,
+    a: ActionId,
+    taking: bool,
+) -> Result<(), SetErr>
+    requires ready { (start : Start) × (left : SetOfVectors) × (taken : Takings)
+        × (near : SetOfVectors) × (next : SetOfVectors)
+        × HasNext start enc.old board.old.slots.items left taken near next }
+    requires actions { actions ≡ length enc.old.actions }
+    requires action { a.0 < length enc.old.actions }
+    ensures { (start : Start) (left : SetOfVectors) (taken : Takings)
+        (near : SetOfVectors) (next : SetOfVectors)
+        → HasNext start enc.old board.old.slots.items left taken near next
+        → Left start enc.new board.new.slots.items
+        (HasNext start enc.new board.new.slots.items left (taken_if taking taken a.0
+        (λ v. may_lead (kept_system start left) near v a.0 && not (next v))) near
+        (λ v. next v || may_lead (kept_system start left) near v a.0)) result }
+{
+    if is_joined(enc, board, a)? {
+        return Ok(());
+    }
+    join_hits(enc, board, actions, a, taking)
 }
 
 /// Adds the states that are one step farther from the goal.
@@ -255,34 +305,108 @@ fn round(enc: &mut Enc, board: &mut Board, actions: u32) -> Result<(), SetErr>
     spread(enc, board, actions, false)
 }
 
-/// The next round, with the states that the last one left.
-fn next_round(enc: &mut Enc, board: &mut Board, actions: u32) -> Result<(), SetErr>
-    requires ready { (start : Start) × (left : SetOfVectors) × (near : SetOfVectors)
-        × HasNear start enc.old board.old.slots.items left none_taken near }
-    requires actions { actions ≡ length enc.old.actions }
-    ensures { (start : Start) (left : SetOfVectors) (near : SetOfVectors)
-        → HasNear start enc.old board.old.slots.items left none_taken near
+/// Keeps of an action's pairs, of which there are some among the states that are left, those that
+/// don't lead out of these: whether that loses any.
+fn keep_inside(enc: &mut Enc, board: &mut Board, a: ActionId) -> Result<bool, SetErr>
+    requires ready { (start : Start) × (r : ℕ)
+        × HasMet start enc.old board.old.slots.items r a.0 }
+    requires action { a.0 < length enc.old.actions }
+    ensures left { (start : Start) (r : ℕ) → HasMet start enc.old board.old.slots.items r a.0
         → Left start enc.new board.new.slots.items
-        (HasNear start enc.new board.new.slots.items near none_taken
-        (connected (system_of start.task) (kept (system_of start.task) near))) result }
+        (HasDropped start enc.new board.new.slots.items r (a.0 + 1)) result }
+    ensures lost { (start : Start) (r : ℕ) → HasMet start enc.old board.old.slots.items r a.0
+        → IfOk result (λ lost. lost ≡ false → LosesNone (system_of start.task) r a.0) }
 {
-    board.copy_of(enc, LEFT, NEAR)?;
-    round(enc, board, actions)
+    let pairs = pairs_of(a);
+    board.lead(enc, HITS, Outcomes::Every, a, LEFT)?;
+    board.combine(enc, HITS, Operation::Meet, HITS, pairs)?;
+    let kept = board.is_same(enc, HITS, pairs);
+    board.copy_of(enc, pairs, HITS)?;
+    Ok(!kept)
 }
 
-/// Makes rounds until one leaves the same states as the one before.
-pub(crate) fn last_round(enc: &mut Enc, board: &mut Board, actions: u32) -> Result<(), SetErr>
+/// Keeps of an action's pairs those of states that are left which don't lead out of these: whether
+/// that loses a pair of a state that is left.
+fn keep_left(enc: &mut Enc, board: &mut Board, a: ActionId) -> Result<bool, SetErr>
+    requires ready { (start : Start) × (r : ℕ)
+        × HasDropped start enc.old board.old.slots.items r a.0 }
+    requires action { a.0 < length enc.old.actions }
+    ensures left { (start : Start) (r : ℕ) → HasDropped start enc.old board.old.slots.items r a.0
+        → Left start enc.new board.new.slots.items
+        (HasDropped start enc.new board.new.slots.items r (a.0 + 1)) result }
+    ensures lost { (start : Start) (r : ℕ) → HasDropped start enc.old board.old.slots.items r a.0
+        → IfOk result (λ lost. lost ≡ false → LosesNone (system_of start.task) r a.0) }
+{
+    let pairs = pairs_of(a);
+    board.combine(enc, pairs, Operation::Meet, pairs, LEFT)?;
+    if board.is_empty(enc, pairs) {
+        Ok(false)
+    } else {
+        keep_inside(enc, board, a)
+    }
+}
+
+/// Whether one of two things is so.
+fn either(a: bool, b: bool) -> bool
+    ensures { result ≡ (a || b) }
+{
+    a || b
+}
+
+/// Keeps of the pairs of the round before those of states that are left which don't lead out of
+/// these: whether that loses a pair of a state that is left.
+fn drop_pairs(enc: &mut Enc, board: &mut Board, actions: u32) -> Result<bool, SetErr>
+    requires ready { (start : Start) × (r : ℕ)
+        × HasDropped start enc.old board.old.slots.items r 0 }
+    requires actions { actions ≡ length enc.old.actions }
+    ensures left { (start : Start) (r : ℕ) → HasDropped start enc.old board.old.slots.items r 0
+        → Left start enc.new board.new.slots.items
+        (HasDropped start enc.new board.new.slots.items r (action_count start.task)) result }
+    ensures lost { (start : Start) (r : ℕ) → HasDropped start enc.old board.old.slots.items r 0
+        → IfOk result (λ lost. lost ≡ false → (a : ℕ) → a < action_count start.task
+        → LosesNone (system_of start.task) r a) }
+{
+    let mut lost = false;
+    for a in 0..actions {
+        let loses = keep_left(enc, board, ActionId(a))?;
+        lost = either(loses, lost);
+    }
+    Ok(lost)
+}
+
+/// The next round, with the states that the last one left. Where these lose no pair, they are the
+/// states from which the goal is reached, and no step is made.
+fn next_round(enc: &mut Enc, board: &mut Board, actions: u32) -> Result<(), SetErr>
+    requires ready { (start : Start) × (r : ℕ)
+        × HasRounds start enc.old board.old.slots.items r }
+    requires actions { actions ≡ length enc.old.actions }
+    ensures { (start : Start) (r : ℕ) → HasRounds start enc.old board.old.slots.items r
+        → Left start enc.new board.new.slots.items
+        (HasRounds start enc.new board.new.slots.items (suc r)) result }
+{
+    board.copy_of(enc, LEFT, NEAR)?;
+    if !drop_pairs(enc, board, actions)? {
+        return Ok(());
+    }
+    spread(enc, board, actions, false)
+}
+
+/// Makes rounds until one leaves the same states as the one before, or not all initial states:
+/// whether all of these are left.
+pub(crate) fn last_round(enc: &mut Enc, board: &mut Board, actions: u32) -> Result<bool, SetErr>
     requires ready { (start : Start) × HasRound start enc.old board.old.slots.items
         (round_of (system_of start.task) 0) none_taken }
     requires actions { actions ≡ length enc.old.actions }
     ensures { (start : Start) → HasRound start enc.old board.old.slots.items
         (round_of (system_of start.task) 0) none_taken
-        → Left start enc.new board.new.slots.items
-        (HasLastRound start enc.new board.new.slots.items) result }
+        → RoundsEnd start enc.new board.new.slots.items result }
 {
     round(enc, board, actions)?;
     while !board.is_same(enc, NEAR, LEFT) {
+        if !board.covers_initial(enc, NEAR)? {
+            return Ok(false);
+        }
         next_round(enc, board, actions)?;
     }
-    Ok(())
+    board.covers_initial(enc, LEFT)
 }

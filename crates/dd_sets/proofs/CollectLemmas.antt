@@ -1,24 +1,23 @@
 -- What a collection leaves in the slots and in the table.
-use Rattle.std.proofs.Common.{◌≡◌, inl, ℕ, zero, suc, ◌+◌, ◌-◌, ◌<◌, ◌≤◌, cond, List, [], ◌∷◌, length, map, filter_map, drop, get_or, Option, Some, None, is_some, count_by, slice_index_or, All, refl, sym, ap, subst, ◌∙◌, arith}
-use Rattle.std.specs.List.{Any}
+use Rattle.std.proofs.Common.{◌≡◌, inl, ℕ, zero, suc, ◌+◌, ◌<◌, cond, List, [], ◌∷◌, length, map, filter_map, drop, get_or, Option, Some, None, is_some, count_by, slice_index_or, All, refl, sym, ap, subst, ◌∙◌, arith}
 use Rattle.std.specs.Option.{option_map_or}
 use Rattle.std.proofs.lemmas.List.Sums.{sum_by-cons}
 use Rattle.std.proofs.lemmas.Option.{none-some, same_Some}
 use Rattle.slab.specs.Slab.{entries_from}
 use Rattle.dd_nodes.specs.declared.node.Node.{Node}
 use Rattle.dd_nodes.specs.declared.node.Ref.{Ref}
-use Rattle.dd_nodes.specs.Laws.{AreReachedNodes}
 use Rattle.dd_nodes.specs.NodeList.{IsNumber, IsReduced, function}
-use Rattle.dd_nodes.specs.Reached.{IsReached}
 use Rattle.dd_nodes.specs.Subfunctions.{Function, IsSubfunction, nodes}
 use Rattle.dd_nodes.specs.Table.{NodeTable, IsNodeTable}
-use Rattle.dd_nodes.proofs.NodeCount.{nodes_counted}
+use Rattle.dd_nodes.proofs.CollectedCount.{collected_counted}
 use Rattle.dd_nodes.proofs.NodeLemmas.{function_false, function_true}
 use Rattle.dd_nodes.proofs.Reaching.{reached_number, reached_sub, sub_reached}
 use Rattle.dd_nodes.specs.Collecting.{Collected}
 use Rattle.dd_sets.specs.LiveSets.{LiveSets, IsSets, is_live, live_count, live_sets, nothing, set_of}
+use Rattle.dd_sets.specs.Orders.{read}
 use Rattle.dd_sets.specs.Stores.{renumbered, view_of}
 use Rattle.dd_sets.specs.Tries.{Collects}
+use Rattle.dd_sets.proofs.OrderLemmas.{order_kept}
 
 -- the numbers that slots hold
 abbrev held : List (Option Ref) → List Ref
@@ -98,78 +97,6 @@ root_at after before (first ∷ new) (was ∷ old) same (suc k) number within at
     let inner : k < length old = rest.1 in
     (rest.0, omega arith, rest.2, rest.3)
 
--- so many numbers from one on
-from_on : ℕ → ℕ → List ℕ
-from_on first zero = []
-from_on first (suc k) = first ∷ from_on (suc first) k
-
-length-from_on : (first k : ℕ) → length (from_on first k) ≡ k
-unfolding from_on
-length-from_on first zero = refl
-length-from_on first (suc k) = ap suc (length-from_on (suc first) k)
-
-from_on_at : (first k i d : ℕ) → i < k → slice_index_or (from_on first k) i d ≡ first + i
-unfolding from_on
-from_on_at first zero i d within = absurd (omega arith)
-from_on_at first (suc k) zero d within = omega arith
-from_on_at first (suc k) (suc i) d within = omega (arith, from_on_at (suc first) k i d (omega arith))
-
-numbers_of : (new : List Ref) → List ℕ
-numbers_of new = map (λ (number : Ref). number.0) new
-
-module _ (vars : ℕ) (list : List Node) (reduced : IsReduced vars list) (new : List Ref) (numbers : All (λ (r : Ref). IsNumber list r.0) new)
-    (reached : (n : ℕ) → 2 ≤ n → IsNumber list n → Any (λ (r : Ref). IsReached list r.0 n) new) where
-  map_numbers : (roots : List Ref) → map (function list) (numbers_of roots) ≡ map (λ (r : Ref). function list r.0) roots
-  unfolding numbers_of
-  map_numbers [] = refl
-  map_numbers (r ∷ roots) = ap (λ rest. function list r.0 ∷ rest) (map_numbers roots)
-
-  all_numbers : (roots : List Ref) → All (λ (r : Ref). IsNumber list r.0) roots → All (IsNumber list) (numbers_of roots)
-  unfolding numbers_of
-  all_numbers [] all k d within = absurd (omega arith)
-  all_numbers (r ∷ roots) all zero d within = all 0 r (omega arith)
-  all_numbers (r ∷ roots) all (suc k) d within = all_numbers roots (λ j e inside. all (suc j) e (omega arith)) k d (omega arith)
-
-  any_number : (n : ℕ) (roots : List Ref) → Any (λ (r : Ref). IsReached list r.0 n) roots → Any (λ m. IsReached list m n) (numbers_of roots)
-  unfolding numbers_of
-  any_number n [] some = let within : some.0 < 0 = some.2 in absurd (omega arith)
-  any_number n (r ∷ roots) (zero, s, within, at, leads) = (zero, r.0, omega arith, refl, subst (λ (q : Ref). IsReached list q.0 n) (sym at) leads)
-  any_number n (r ∷ roots) (suc k, s, within, at, leads) =
-      let rest = any_number n roots (k, s, omega arith, at, leads) in
-      let inside : rest.0 < length (numbers_of roots) = rest.2 in
-      (suc rest.0, rest.1, omega arith, rest.3, rest.4)
-
-  -- the nodes are those that are reached
-  nodes_all : AreReachedNodes list (numbers_of new) (from_on 2 (length list))
-  nodes_all = record {
-    once = λ i j d less within same.
-        let long : length (from_on 2 (length list)) ≡ length list = length-from_on 2 (length list) in
-        let inside : j < length list = omega arith in
-        let first : slice_index_or (from_on 2 (length list)) i d ≡ 2 + i = from_on_at 2 (length list) i d (omega arith) in
-        let second : slice_index_or (from_on 2 (length list)) j d ≡ 2 + j = from_on_at 2 (length list) j d inside in
-        omega (arith, first, second, same);
-    all = λ m. (
-      λ (k, within, at).
-          let long : length (from_on 2 (length list)) ≡ length list = length-from_on 2 (length list) in
-          let inside : k < length list = omega arith in
-          let is : slice_index_or (from_on 2 (length list)) k m ≡ 2 + k = from_on_at 2 (length list) k m inside in
-          let place : m ≡ 2 + k = sym at ∙ is in
-          (omega arith, any_number m new (reached m (omega arith) (omega arith))),
-      λ (large, (k, n, within, at, leads)).
-          let root : IsNumber list n = subst (IsNumber list) at (all_numbers new numbers k n within) in
-          let number : IsNumber list m = reached_number vars list reduced n m leads root in
-          let long : length (from_on 2 (length list)) ≡ length list = length-from_on 2 (length list) in
-          let place : slice_index_or (from_on 2 (length list)) (m - 2) m ≡ 2 + (m - 2) = from_on_at 2 (length list) (m - 2) m (omega arith) in
-          (m - 2, omega arith, omega (arith, place)),
-    );
-  }
-
-  pub nodes_left : length list ≡ nodes vars (map (λ (r : Ref). function list r.0) new)
-  nodes_left =
-      sym (length-from_on 2 (length list))
-      ∙ sym (nodes_counted vars list reduced (numbers_of new) (from_on 2 (length list)) (all_numbers new numbers) nodes_all)
-      ∙ ap (nodes vars) (map_numbers new)
-
 -- each number of the table has a function that a number had before
 was_there : (vars : ℕ) (before after : List Node) → IsReduced vars before → IsReduced vars after → (old new : List Ref) → All (λ (r : Ref). IsNumber before r.0) old → Collected before after old new
     → (n : ℕ) → IsNumber after n → (m : ℕ) × IsNumber before m × (function after n ≡ function before m)
@@ -184,29 +111,37 @@ was_there vars before after was is old new roots collected (suc (suc n)) number 
     (there.0, reached_number vars before was same.0.0 there.0 there.1 root_number, sym there.2)
 
 -- the roots of a collection are numbers
-pub roots_ready : {t : NodeTable} {l : List (Option Ref)} → IsSets (view_of t l) → (old : List Ref) → old ≡ map (λ (entry : ℕ × Ref). entry.1) (entries_from 0 l) → All (λ (r : Ref). IsNumber t.nodes r.0) old
-roots_ready {t} {l} sound old are =
+pub roots_ready : {o : List ℕ} {t : NodeTable} {l : List (Option Ref)} → IsSets (view_of o t l) → (old : List Ref) → old ≡ map (λ (entry : ℕ × Ref). entry.1) (entries_from 0 l) → All (λ (r : Ref). IsNumber t.nodes r.0) old
+roots_ready {o} {t} {l} sound old are =
     subst (λ (roots : List Ref). All (λ (r : Ref). IsNumber t.nodes r.0) roots) (sym (are ∙ entries_held 0 l)) (all_held (λ (r : Ref). IsNumber t.nodes r.0) l (λ slot number is. sound.numbers slot number is))
 
+-- functions that are read one by one
+read_all : (o : List ℕ) (f : Ref → Function) (roots : List Ref) → map (λ (r : Ref). read o (f r)) roots ≡ map (read o) (map f roots)
+read_all o f [] = refl
+read_all o f (r ∷ roots) = ap (λ rest. read o (f r) ∷ rest) (read_all o f roots)
+
 -- a collection whose new numbers the slots took
-pub collected_sets : {t0 t : NodeTable} {l0 l : List (Option Ref)} {before : LiveSets} → view_of t0 l0 ≡ before → IsSets (view_of t0 l0) → (old new : List Ref) → old ≡ map (λ (entry : ℕ × Ref). entry.1) (entries_from 0 l0)
-    → t.vars ≡ t0.vars → t.limit ≡ t0.limit → IsNodeTable t → Collected t0.nodes t.nodes old new → l ≡ renumbered l0 new → Collects before (view_of t l)
+pub collected_sets : {o : List ℕ} {t0 t : NodeTable} {l0 l : List (Option Ref)} {before : LiveSets} → view_of o t0 l0 ≡ before → IsSets (view_of o t0 l0) → (old new : List Ref) → old ≡ map (λ (entry : ℕ × Ref). entry.1) (entries_from 0 l0)
+    → t.vars ≡ t0.vars → t.limit ≡ t0.limit → IsNodeTable t → Collected t0.nodes t.nodes old new → l ≡ renumbered l0 new → Collects before (view_of o t l)
 unfolding is_live set_of live_count live_sets
-collected_sets {t0} {t} {l0} {l} opens sound old new are vars limit table collected numbered = subst (λ s. Collects s (view_of t l)) opens (record {
+collected_sets {o} {t0} {t} {l0} {l} opens sound old new are vars limit table collected numbered = subst (λ s. Collects s (view_of o t l)) opens (record {
   vars = vars;
   limit = limit;
+  order = refl;
   sound = record {
     table = table;
     numbers = λ slot number is. each_new (λ (r : Ref). IsNumber t.nodes r.0) l0 new many collected.numbers slot number (ap (λ s. slice_index_or s slot None) (sym numbered) ∙ is);
+    order = order_kept vars refl sound.order;
   };
   live = λ slot. ap (λ s. is_some (slice_index_or s slot None)) numbered ∙ same_liveness l0 new slot;
-  sets = λ slot. ap (λ s. option_map_or (λ (r : Ref). function t.nodes r.0) (slice_index_or s slot None) nothing) numbered
-      ∙ same_functions (λ (r : Ref). function t.nodes r.0) (λ (r : Ref). function t0.nodes r.0) l0 new functions slot;
+  sets = λ slot. ap (λ s. option_map_or (λ (r : Ref). read o (function t.nodes r.0)) (slice_index_or s slot None) nothing) numbered
+      ∙ same_functions (λ (r : Ref). read o (function t.nodes r.0)) (λ (r : Ref). read o (function t0.nodes r.0)) l0 new functions slot;
   count = ap (count_by is_some) numbered ∙ same_count l0 new;
   all = sets_same;
-  nodes_left = nodes_left t.vars t.nodes table.reduced new collected.numbers collected.reached ∙ ap (λ roots. nodes t.vars (map (λ (r : Ref). function t.nodes r.0) roots)) (sym held_same);
+  nodes_left = λ none. collected_counted t.vars t0.nodes t.nodes old new table.reduced collected
+      ∙ (λ i. nodes t.vars (map (λ (r : Ref). read (sym none i) (function t.nodes r.0)) (sym held_same i)));
   made = record {
-    numbers = λ n number. inl (was_there t.vars t0.nodes t.nodes (subst (λ v. IsReduced v t0.nodes) (sym vars) sound.table.reduced) table.reduced old new (roots_ready sound old are) collected n number);
+    numbers = λ _ n number. inl (was_there t.vars t0.nodes t.nodes (subst (λ v. IsReduced v t0.nodes) (sym vars) sound.table.reduced) table.reduced old new (roots_ready sound old are) collected n number);
   };
 })
   where
@@ -216,11 +151,14 @@ collected_sets {t0} {t} {l0} {l} opens sound old new are vars limit table collec
     many : length new ≡ length (held l0)
     many = collected.count ∙ ap length roots
 
-    functions : map (λ (r : Ref). function t.nodes r.0) new ≡ map (λ (r : Ref). function t0.nodes r.0) (held l0)
-    functions = collected.functions ∙ ap (map (λ (r : Ref). function t0.nodes r.0)) roots
+    functions : map (λ (r : Ref). read o (function t.nodes r.0)) new ≡ map (λ (r : Ref). read o (function t0.nodes r.0)) (held l0)
+    functions =
+        read_all o (λ (r : Ref). function t.nodes r.0) new
+        ∙ ap (map (read o)) (collected.functions ∙ ap (map (λ (r : Ref). function t0.nodes r.0)) roots)
+        ∙ sym (read_all o (λ (r : Ref). function t0.nodes r.0) (held l0))
 
     held_same : held l ≡ new
     held_same = ap held numbered ∙ held_new l0 new many
 
-    sets_same : map (λ (r : Ref). function t.nodes r.0) (held l) ≡ map (λ (r : Ref). function t0.nodes r.0) (held l0)
-    sets_same = ap (map (λ (r : Ref). function t.nodes r.0)) held_same ∙ functions
+    sets_same : map (λ (r : Ref). read o (function t.nodes r.0)) (held l) ≡ map (λ (r : Ref). read o (function t0.nodes r.0)) (held l0)
+    sets_same = ap (map (λ (r : Ref). read o (function t.nodes r.0))) held_same ∙ functions

@@ -6,12 +6,13 @@ use Rattle.dd_sets.specs.Calls.{KeepsSets, Releases}
 use Rattle.dd_sets.specs.LiveSets.{LiveSets, is_live, IsLive}
 
 pub kept_same : (sets : LiveSets) → KeepsSets sets sets
-kept_same sets = record { vars = refl; limit = refl; live = λ slot live. live; sets = λ slot live. refl }
+kept_same sets = record { vars = refl; limit = refl; order = refl; live = λ slot live. live; sets = λ slot live. refl }
 
 pub kept_chain : (a b c : LiveSets) → KeepsSets a b → KeepsSets b c → KeepsSets a c
 kept_chain a b c first second = record {
   vars = second.vars ∙ first.vars;
   limit = second.limit ∙ first.limit;
+  order = second.order ∙ first.order;
   live = λ slot live. second.live slot (first.live slot live);
   sets = λ slot live. second.sets slot (first.live slot live) ∙ first.sets slot live;
 }
@@ -27,6 +28,7 @@ kept_release a b c slot kept ends free =
     record {
       vars = ends.vars ∙ kept.vars;
       limit = ends.limit ∙ kept.limit;
+      order = ends.order ∙ kept.order;
       live = λ other live. ends.live other (differs other live) ∙ kept.live other live;
       sets = λ other live. ends.sets other (differs other live) ∙ kept.sets other live;
     }

@@ -5,8 +5,11 @@ pub mod FrameLemmas
 pub mod LiveLemmas
 pub mod MadeLemmas
 pub mod NoRoomLemmas
+pub mod OrderLemmas
+pub mod OrderedLemmas
 pub mod OwnLemmas
 pub mod OwnedLemmas
+pub mod RebuildLemmas
 pub mod RenumberLemmas
 pub mod RoomLemmas
 pub mod RoomSteps

@@ -9,6 +9,7 @@ use Rattle.dd_nodes.specs.NodeList.{function}
 use Rattle.dd_nodes.specs.Subfunctions.{Function}
 use Rattle.dd_sets.specs.Frames.{AreNew, Owns, Slots, has_slot}
 use Rattle.dd_sets.specs.LiveSets.{LiveSets, IsLive, is_live, live_sets, set_of}
+use Rattle.dd_sets.specs.Orders.{read}
 use Rattle.dd_sets.specs.Rooms.{sets_in}
 use Rattle.dd_sets.proofs.SlotLemmas.{live_number, set_is}
 
@@ -38,13 +39,13 @@ pub live_in : (sets : LiveSets) (slot : ℕ) → IsLive sets slot → Contains (
 unfolding live_sets
 live_in sets slot live =
     let found = live_number sets slot live in
-    let has = held_in (λ (r : Ref). function sets.nodes r.0) sets.live slot found.0 found.1 in
-    moved (map (λ (r : Ref). function sets.nodes r.0) (filter_map (λ o. o) sets.live)) (sym (set_is sets slot found.0 found.1)) has
+    let has = held_in (λ (r : Ref). read sets.order (function sets.nodes r.0)) sets.live slot found.0 found.1 in
+    moved (map (λ (r : Ref). read sets.order (function sets.nodes r.0)) (filter_map (λ o. o) sets.live)) (sym (set_is sets slot found.0 found.1)) has
 
 pub in_live : (sets : LiveSets) (f : Function) → Contains (live_sets sets) f → (slot : ℕ) × IsLive sets slot × (set_of sets slot ≡ f)
 unfolding live_sets is_live
 in_live sets f has =
-    let found = in_held (λ (r : Ref). function sets.nodes r.0) sets.live f has in
+    let found = in_held (λ (r : Ref). read sets.order (function sets.nodes r.0)) sets.live f has in
     (found.0, ap is_some found.2, set_is sets found.0 found.1 found.2 ∙ found.3)
 
 -- a set of a caller's slot is one of the caller's sets

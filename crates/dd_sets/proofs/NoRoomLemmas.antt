@@ -1,5 +1,5 @@
 -- Calls that found no room.
-use Rattle.std.proofs.Common.{◌≡◌, inl, inr, ℕ, ◌+◌, ◌*◌, ◌^◌, ◌<◌, ◌≤◌, List, [], ◌∷◌, ◌++◌, length, Contains, refl, sym, ap, subst, ⊎_elim, arith, length-append, mul-le-mul_right}
+use Rattle.std.proofs.Common.{◌≡◌, inl, inr, ℕ, ◌+◌, ◌*◌, ◌^◌, ◌<◌, ◌≤◌, List, [], ◌∷◌, ◌++◌, length, Contains, refl, sym, ap, subst, ◌∙◌, ⊎_elim, arith, length-append, mul-le-mul_right}
 use Rattle.std.proofs.lemmas.List.{append-nil, length-map}
 use Rattle.std.proofs.lemmas.List.Elements.{Contains-append_cases}
 use Rattle.dd_nodes.specs.Subfunctions.{Function, nodes}
@@ -25,9 +25,9 @@ module _ (P : Function → Type 0) where
     each = λ set has. let within = has.1 in absurd (omega arith);
     pieces = pieces;
     one_call = one;
-    tight = subst (λ known. Tight before.limit before.vars (nodes before.vars (known ++ pieces))) (sym (append-nil (live_sets before)))
+    tight = λ fluents. subst (λ known. Tight before.limit before.vars (nodes before.vars (known ++ pieces))) (sym (append-nil (live_sets before)))
         (subst (λ v. Tight before.limit v (nodes v (live_sets before ++ pieces))) vars
-        (subst (λ l. Tight l after.vars (nodes after.vars (live_sets before ++ pieces))) limit full.tight));
+        (subst (λ l. Tight l after.vars (nodes after.vars (live_sets before ++ pieces))) limit (full.tight fluents)));
   }
 
   pub no_room_of_piece : (before after : LiveSets) (piece : Function) → IsFull before after (piece ∷ []) → after.vars ≡ before.vars → after.limit ≡ before.limit → NoRoom P 0 before after
@@ -73,14 +73,14 @@ module _ (P : Function → Type 0) where
         each = λ set has. ⊎_elim (none.each set) (good set) (Contains-append_cases none.own (sets_in mine) set has);
         pieces = none.pieces;
         one_call = subst (λ v. IsOneCall v none.pieces) owns.kept.vars none.one_call;
-        tight = tight_within before middle (live_sets middle ++ none.own ++ none.pieces) (live_sets before ++ (none.own ++ sets_in mine) ++ none.pieces) owns.kept.vars owns.kept.limit
-            (with_new (live_sets middle) (live_sets before) none.own (sets_in mine) none.pieces (owned_live before middle mine owns)) none.tight;
+        tight = λ fluents. tight_within before middle (live_sets middle ++ none.own ++ none.pieces) (live_sets before ++ (none.own ++ sets_in mine) ++ none.pieces) owns.kept.vars owns.kept.limit
+            (with_new (live_sets middle) (live_sets before) none.own (sets_in mine) none.pieces (owned_live before middle mine owns)) (none.tight (owns.kept.order ∙ fluents));
       }
 
   -- the limit is tight by slots
   pub no_room_tight : (before after : LiveSets) (most : ℕ) → NoRoom P most before after → IsTightFor most before
-  no_room_tight before after most none =
-      tight_more before.limit before.vars (nodes before.vars (live_sets before ++ none.own ++ none.pieces)) (nodes_of_slots (live_count before + most) before.vars) fits none.tight
+  no_room_tight before after most none fluents =
+      tight_more before.limit before.vars (nodes before.vars (live_sets before ++ none.own ++ none.pieces)) (nodes_of_slots (live_count before + most) before.vars) fits (none.tight fluents)
     where
       call_within : (pieces : List Function) → IsOneCall before.vars pieces → grow before.vars [] pieces ≤ 4 ^ before.vars
       call_within pieces (inl one) =

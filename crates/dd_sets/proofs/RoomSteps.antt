@@ -3,13 +3,13 @@ use Rattle.std.proofs.Common.{◌≡◌, ◌⊎◌, inl, inr, ℕ, zero, suc, �
 use Rattle.std.proofs.lemmas.Bool.{cases_Bool}
 use Rattle.std.proofs.lemmas.Option.{none-some}
 use Rattle.std.proofs.lemmas.List.Sums.{sum_by-cons}
-use Rattle.dd_nodes.specs.declared.node.Node.{Node}
 use Rattle.dd_nodes.specs.declared.node.Ref.{Ref}
 use Rattle.dd_nodes.specs.NodeList.{function}
 use Rattle.dd_nodes.specs.Subfunctions.{Function}
 use Rattle.dd_sets.specs.Calls.{KeepsSets, Releases}
 use Rattle.dd_sets.specs.Frames.{Slots, Owns, OwnsAnswer}
 use Rattle.dd_sets.specs.LiveSets.{LiveSets, is_live, live_count, live_sets}
+use Rattle.dd_sets.specs.Orders.{read}
 use Rattle.dd_sets.specs.Rooms.{AnySet, IsFull, IsOneCall, NoRoom}
 use Rattle.dd_sets.specs.declared.errors.SetErr.{SetErr}
 use Rattle.dd_sets.specs.declared.errors.SetErr.TheVariants.{Full}
@@ -24,9 +24,9 @@ later : (g : Function) (sets : List Function) {f : Function} → Contains sets f
 later g sets {f} has = let within : has.0 < length sets = has.1 in (suc has.0, omega arith, has.2)
 
 -- the sets of the slots that are live now and were not before
-module _ (nodes : List Node) where
+module _ (meaning : Ref → Function) where
   added : Option Ref → Option Ref → List Function → List Function
-  added None (Some n) sets = function nodes n.0 ∷ sets
+  added None (Some n) sets = meaning n ∷ sets
   added None None sets = sets
   added (Some b) now sets = sets
 
@@ -53,29 +53,33 @@ module _ (nodes : List Node) where
 
   -- a slot that is live now and was not before is among them
   new_in : (before now : List (Option Ref)) (slot : ℕ) (number : Ref) → slice_index_or now slot None ≡ Some number → is_some (slice_index_or before slot None) ≡ false
-      → Contains (new_sets before now) (function nodes number.0)
+      → Contains (new_sets before now) (meaning number)
   unfolding new_sets added
   new_in before [] slot number is free = absurd (none-some number is)
   new_in [] (None ∷ now) zero number is free = absurd (none-some number is)
   new_in [] (None ∷ now) (suc slot) number is free = new_in [] now slot number is free
-  new_in [] (Some n ∷ now) zero number is free = (zero, omega arith, ap (λ (o : Option Ref). function nodes (unwrap_or o n).0) is)
-  new_in [] (Some n ∷ now) (suc slot) number is free = later (function nodes n.0) (new_sets [] now) (new_in [] now slot number is free)
+  new_in [] (Some n ∷ now) zero number is free = (zero, omega arith, ap (λ (o : Option Ref). meaning (unwrap_or o n)) is)
+  new_in [] (Some n ∷ now) (suc slot) number is free = later (meaning n) (new_sets [] now) (new_in [] now slot number is free)
   new_in (None ∷ before) (None ∷ now) zero number is free = absurd (none-some number is)
   new_in (None ∷ before) (None ∷ now) (suc slot) number is free = new_in before now slot number is free
-  new_in (None ∷ before) (Some n ∷ now) zero number is free = (zero, omega arith, ap (λ (o : Option Ref). function nodes (unwrap_or o n).0) is)
-  new_in (None ∷ before) (Some n ∷ now) (suc slot) number is free = later (function nodes n.0) (new_sets before now) (new_in before now slot number is free)
+  new_in (None ∷ before) (Some n ∷ now) zero number is free = (zero, omega arith, ap (λ (o : Option Ref). meaning (unwrap_or o n)) is)
+  new_in (None ∷ before) (Some n ∷ now) (suc slot) number is free = later (meaning n) (new_sets before now) (new_in before now slot number is free)
   new_in (Some b ∷ before) (x ∷ now) zero number is free = absurd (cc)
   new_in (Some b ∷ before) (x ∷ now) (suc slot) number is free = new_in before now slot number is free
 
+-- the set of a number
+abbrev meaning_of : LiveSets → Ref → Function
+meaning_of sets number = read sets.order (function sets.nodes number.0)
+
 -- each live set was live before, or is a new slot's
-before_or_new : (before now : LiveSets) → KeepsSets before now → (f : Function) → Contains (live_sets now) f → Contains (live_sets before) f ⊎ Contains (new_sets now.nodes before.live now.live) f
+before_or_new : (before now : LiveSets) → KeepsSets before now → (f : Function) → Contains (live_sets now) f → Contains (live_sets before) f ⊎ Contains (new_sets (meaning_of now) before.live now.live) f
 unfolding is_live
 before_or_new before now kept f has =
     let found = in_live now f has in ⊎_elim
     (λ (was : is_live before found.0 ≡ true). inl (moved (live_sets before) (sym (kept.sets found.0 was) ∙ found.2) (live_in before found.0 was)))
     (λ (free : is_live before found.0 ≡ false).
     let number = live_number now found.0 found.1 in
-    inr (moved (new_sets now.nodes before.live now.live) (sym (set_is now found.0 number.0 number.1) ∙ found.2) (new_in now.nodes before.live now.live found.0 number.0 number.1 free)))
+    inr (moved (new_sets (meaning_of now) before.live now.live) (sym (set_is now found.0 number.0 number.1) ∙ found.2) (new_in (meaning_of now) before.live now.live found.0 number.0 number.1 free)))
     (cases_Bool (is_live before found.0))
 
 -- what was live still is, and so many slots more
@@ -83,16 +87,16 @@ pub room_before : (before now : LiveSets) {after : LiveSets} → KeepsSets befor
 unfolding is_live live_count
 room_before before now {after} kept few many room none =
     let within : length none.own ≤ few = none.few in
-    let new : length (new_sets now.nodes before.live now.live) + count_by is_some before.live ≤ count_by is_some now.live = new_count now.nodes before.live now.live kept.live in
+    let new : length (new_sets (meaning_of now) before.live now.live) + count_by is_some before.live ≤ count_by is_some now.live = new_count (meaning_of now) before.live now.live kept.live in
     record {
       at_limit = none.at_limit;
-      own = none.own ++ new_sets now.nodes before.live now.live;
-      few = omega (arith, length-append none.own (new_sets now.nodes before.live now.live));
+      own = none.own ++ new_sets (meaning_of now) before.live now.live;
+      few = omega (arith, length-append none.own (new_sets (meaning_of now) before.live now.live));
       each = λ set has. tt;
       pieces = none.pieces;
       one_call = subst (λ v. IsOneCall v none.pieces) kept.vars none.one_call;
-      tight = tight_within before now (live_sets now ++ none.own ++ none.pieces) (live_sets before ++ (none.own ++ new_sets now.nodes before.live now.live) ++ none.pieces) kept.vars kept.limit
-          (with_new (live_sets now) (live_sets before) none.own (new_sets now.nodes before.live now.live) none.pieces (before_or_new before now kept)) none.tight;
+      tight = λ fluents. tight_within before now (live_sets now ++ none.own ++ none.pieces) (live_sets before ++ (none.own ++ new_sets (meaning_of now) before.live now.live) ++ none.pieces) kept.vars kept.limit
+          (with_new (live_sets now) (live_sets before) none.own (new_sets (meaning_of now) before.live now.live) none.pieces (before_or_new before now kept)) (none.tight (kept.order ∙ fluents));
     }
 
 -- an operation with one piece

@@ -12,36 +12,40 @@ use Rattle.dd_nodes.specs.Table.{NodeTable, IsNodeTable}
 use Rattle.dd_ops.specs.Calls.{Answers}
 use Rattle.dd_sets.specs.Calls.{KeepsSets, Adds, AddsNone}
 use Rattle.dd_sets.specs.LiveSets.{LiveSets, IsSets, IsLive, is_live, set_of, live_count, live_sets, nothing, number_at, table_of}
+use Rattle.dd_sets.specs.Orders.{read}
 use Rattle.dd_sets.specs.Stores.{IsStored, Stored, view_of}
 use Rattle.dd_sets.specs.Tries.{KeepsNumbers}
 use Rattle.dd_sets.proofs.FrameLemmas.{kept_chain}
+use Rattle.dd_sets.proofs.OrderLemmas.{order_kept}
 use Rattle.dd_sets.specs.declared.slots.SetId.{SetId}
 use Rattle.dd_sets.specs.declared.errors.SetErr.{SetErr}
 
 -- the answer of an operation keeps the numbers
-pub kept_by_answer : (before after : LiveSets) (wanted : Function) (answer : Result Ref DdErr) → Answers wanted (table_of before) (table_of after) answer → KeepsNumbers before after
-kept_by_answer before after wanted answer answers = record {
+pub kept_by_answer : (before after : LiveSets) (wanted : Function) (answer : Result Ref DdErr) → after.order ≡ before.order → Answers wanted (table_of before) (table_of after) answer → KeepsNumbers before after
+kept_by_answer before after wanted answer order answers = record {
   vars = answers.vars;
   limit = answers.limit;
+  order = order;
   table = answers.table;
   longer = answers.longer;
   earlier = answers.earlier;
 }
 
 -- so does what leaves the nodes as they are
-pub kept_nodes : (before after : LiveSets) → IsSets before → table_of after ≡ table_of before → KeepsNumbers before after
-kept_nodes before after sound same = record {
+pub kept_nodes : (before after : LiveSets) → IsSets before → after.order ≡ before.order → table_of after ≡ table_of before → KeepsNumbers before after
+kept_nodes before after sound order same = record {
   vars = ap (λ t. t.vars) same;
   limit = ap (λ t. t.limit) same;
+  order = order;
   table = subst IsNodeTable (sym same) sound.table;
   longer = let e : length after.nodes ≡ length before.nodes = ap (λ t. length t.nodes) same in omega arith;
   earlier = λ n _. ap (λ t. function t.nodes n) same;
 }
 
 -- the set of a slot is the function of its number
-pub set_is : (sets : LiveSets) (slot : ℕ) (number : Ref) → number_at sets slot ≡ Some number → set_of sets slot ≡ function sets.nodes number.0
+pub set_is : (sets : LiveSets) (slot : ℕ) (number : Ref) → number_at sets slot ≡ Some number → set_of sets slot ≡ read sets.order (function sets.nodes number.0)
 unfolding set_of
-set_is sets slot number is = ap (λ o. option_map_or (λ (n : Ref). function sets.nodes n.0) o nothing) is
+set_is sets slot number is = ap (λ o. option_map_or (λ (n : Ref). read sets.order (function sets.nodes n.0)) o nothing) is
 
 -- a live slot has a number
 pub live_number : (sets : LiveSets) (slot : ℕ) → IsLive sets slot → (number : Ref) × (number_at sets slot ≡ Some number)
@@ -56,12 +60,12 @@ module _ (before after : LiveSets) (sound : IsSets before) (keeps : KeepsNumbers
   -- a slot with the same number has the same set, and is as live
   same_slot_set : (slot : ℕ) → number_at after slot ≡ number_at before slot → set_of after slot ≡ set_of before slot
   unfolding set_of
-  same_slot_set slot same = ap (λ o. option_map_or (λ (n : Ref). function after.nodes n.0) o nothing) same ∙ go (number_at before slot) refl
+  same_slot_set slot same = ap (λ o. option_map_or (λ (n : Ref). read after.order (function after.nodes n.0)) o nothing) same ∙ go (number_at before slot) refl
     where
       go : (o : Option Ref) → number_at before slot ≡ o
-          → option_map_or (λ (n : Ref). function after.nodes n.0) o nothing ≡ option_map_or (λ (n : Ref). function before.nodes n.0) o nothing
+          → option_map_or (λ (n : Ref). read after.order (function after.nodes n.0)) o nothing ≡ option_map_or (λ (n : Ref). read before.order (function before.nodes n.0)) o nothing
       go None is = refl
-      go (Some number) is = keeps.earlier number.0 (sound.numbers slot number is)
+      go (Some number) is = λ i. read (keeps.order i) (keeps.earlier number.0 (sound.numbers slot number is) i)
 
   same_slot_live : (slot : ℕ) → number_at after slot ≡ number_at before slot → is_live after slot ≡ is_live before slot
   unfolding is_live
@@ -83,13 +87,13 @@ module _ (before after : LiveSets) (sound : IsSets before) (keeps : KeepsNumbers
 
     pub same_list : live_sets after ≡ live_sets before
     unfolding live_sets
-    same_list = ap (λ slots. map (λ (r : Ref). function after.nodes r.0) (filter_map (λ o. o) slots)) same ∙ go before.live (λ slot number is. keeps.earlier number.0 (sound.numbers slot number is))
+    same_list = ap (λ slots. map (λ (r : Ref). read after.order (function after.nodes r.0)) (filter_map (λ o. o) slots)) same ∙ go before.live (λ slot number is. keeps.earlier number.0 (sound.numbers slot number is))
       where
         go : (slots : List (Option Ref)) → ((slot : ℕ) (number : Ref) → slice_index_or slots slot None ≡ Some number → function after.nodes number.0 ≡ function before.nodes number.0)
-            → map (λ (r : Ref). function after.nodes r.0) (filter_map (λ o. o) slots) ≡ map (λ (r : Ref). function before.nodes r.0) (filter_map (λ o. o) slots)
+            → map (λ (r : Ref). read after.order (function after.nodes r.0)) (filter_map (λ o. o) slots) ≡ map (λ (r : Ref). read before.order (function before.nodes r.0)) (filter_map (λ o. o) slots)
         go [] each = refl
         go (None ∷ slots) each = go slots (λ slot number is. each (suc slot) number is)
-        go (Some number ∷ slots) each = λ i. each 0 number refl i ∷ go slots (λ slot other is. each (suc slot) other is) i
+        go (Some number ∷ slots) each = λ i. read (keeps.order i) (each 0 number refl i) ∷ go slots (λ slot other is. each (suc slot) other is) i
 
     pub same_adds_none : AddsNone before after
     unfolding live_count
@@ -102,6 +106,7 @@ module _ (before after : LiveSets) (sound : IsSets before) (keeps : KeepsNumbers
     same_keeps = record {
       vars = keeps.vars;
       limit = keeps.limit;
+      order = keeps.order;
       live = λ slot live. same_slot_live slot (same_at slot) ∙ live;
       sets = λ slot live. same_slot_set slot (same_at slot);
     }
@@ -110,6 +115,7 @@ module _ (before after : LiveSets) (sound : IsSets before) (keeps : KeepsNumbers
     same_sound = record {
       table = keeps.table;
       numbers = λ slot number is. same_slot_sound slot number (same_at slot) is;
+      order = order_kept keeps.vars keeps.order sound.order;
     }
 
   -- a slot got a number
@@ -121,7 +127,7 @@ module _ (before after : LiveSets) (sound : IsSets before) (keeps : KeepsNumbers
     other_slot : (other : ℕ) → IsLive before other → other ≢ slot
     other_slot other live same = let e : is_live before slot ≡ true = ap (is_live before) (sym same) ∙ live in let f = free_slot in absurd (cc)
 
-    pub stored_adds : (set : Function) → function after.nodes number.0 ≡ set → Adds before after slot set
+    pub stored_adds : (set : Function) → read after.order (function after.nodes number.0) ≡ set → Adds before after slot set
     unfolding is_live live_count
     stored_adds set value = record {
       free = free_slot;
@@ -135,6 +141,7 @@ module _ (before after : LiveSets) (sound : IsSets before) (keeps : KeepsNumbers
     stored_keeps = record {
       vars = keeps.vars;
       limit = keeps.limit;
+      order = keeps.order;
       live = λ other live. same_slot_live other (stored.others other (other_slot other live)) ∙ live;
       sets = λ other live. same_slot_set other (stored.others other (other_slot other live));
     }
@@ -148,6 +155,7 @@ module _ (before after : LiveSets) (sound : IsSets before) (keeps : KeepsNumbers
           subst (λ (r : Ref). IsNumber after.nodes r.0) e in_table)
           (λ (differs : other ≢ slot). same_slot_sound other found (stored.others other differs) is)
           (cases_eq other slot);
+      order = order_kept keeps.vars keeps.order sound.order;
     }
 
 -- what a call that answers a slot leaves
@@ -158,7 +166,7 @@ pub record Operated (before after : LiveSets) (set : Function) (result : Result 
   pub sound : IsSets after
 
 operated_from : (before after : LiveSets) (sound : IsSets before) (keeps : KeepsNumbers before after) (set : Function) (number : Ref)
-    → function after.nodes number.0 ≡ set → IsNumber after.nodes number.0 → (result : Result SetId SetErr) → Stored before.live after.live number result
+    → read after.order (function after.nodes number.0) ≡ set → IsNumber after.nodes number.0 → (result : Result SetId SetErr) → Stored before.live after.live number result
     → Operated before after set result
 operated_from before after sound keeps set number value in_table (Ok slot) stores = record {
   added = stored_adds before after sound keeps number slot.0 stores.stored set value;
@@ -197,17 +205,17 @@ after_same before middle after set result kept same operated = record {
     refused (Err e) none = record { others = λ other. none.others other ∙ same.others other; count = none.count ∙ same.count }
 
 -- the function of a slot's number is its set
-pub number_set : {table : NodeTable} {live : List (Option Ref)} {before : LiveSets} → view_of table live ≡ before → (slot : ℕ) (number : Ref) → number_at before slot ≡ Some number
-    → function table.nodes number.0 ≡ set_of before slot
-number_set opens slot number is = ap (λ s. function s.nodes number.0) opens ∙ sym (set_is _ slot number is)
+pub number_set : {o : List ℕ} {table : NodeTable} {live : List (Option Ref)} {before : LiveSets} → view_of o table live ≡ before → (slot : ℕ) (number : Ref) → number_at before slot ≡ Some number
+    → read o (function table.nodes number.0) ≡ set_of before slot
+number_set opens slot number is = ap (λ (s : LiveSets). read s.order (function s.nodes number.0)) opens ∙ sym (set_is _ slot number is)
 
 -- a known number and its slot
-pub placed : {t : NodeTable} {l0 l : List (Option Ref)} {number : Ref} {result : Result SetId SetErr} → Stored l0 l number result
-    → {before : LiveSets} → view_of t l0 ≡ before → IsSets (view_of t l0) → {set : Function} → function t.nodes number.0 ≡ set → IsNumber t.nodes number.0
-    → Operated before (view_of t l) set result
-placed {t} {l0} {l} {number} {result} stores opens sound {set} value in_table =
-    subst (λ s. Operated s (view_of t l) set result) opens
-    (operated_from (view_of t l0) (view_of t l) sound (kept_nodes (view_of t l0) (view_of t l) sound refl) set number value in_table result stores)
+pub placed : {o : List ℕ} {t : NodeTable} {l0 l : List (Option Ref)} {number : Ref} {result : Result SetId SetErr} → Stored l0 l number result
+    → {before : LiveSets} → view_of o t l0 ≡ before → IsSets (view_of o t l0) → {set : Function} → read o (function t.nodes number.0) ≡ set → IsNumber t.nodes number.0
+    → Operated before (view_of o t l) set result
+placed {o} {t} {l0} {l} {number} {result} stores opens sound {set} value in_table =
+    subst (λ s. Operated s (view_of o t l) set result) opens
+    (operated_from (view_of o t l0) (view_of o t l) sound (kept_nodes (view_of o t l0) (view_of o t l) sound refl refl) set number value in_table result stores)
 
-pub number_in_table : {table : NodeTable} {live : List (Option Ref)} {before : LiveSets} → view_of table live ≡ before → {n : ℕ} → IsNumber before.nodes n → IsNumber table.nodes n
+pub number_in_table : {o : List ℕ} {table : NodeTable} {live : List (Option Ref)} {before : LiveSets} → view_of o table live ≡ before → {n : ℕ} → IsNumber before.nodes n → IsNumber table.nodes n
 number_in_table opens {n} number = subst (λ (s : LiveSets). IsNumber s.nodes n) (sym opens) number

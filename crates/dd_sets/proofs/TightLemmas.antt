@@ -46,10 +46,10 @@ pub power_within : (n : ℕ) → 2 ^ n ≤ 4 ^ n
 power_within n = pow-le-pow_left {n = 2} {m = 4} (omega arith) n
 
 pub tight_for : (before after : LiveSets) (piece : Function) → IsFull before after (piece ∷ []) → after.vars ≡ before.vars → after.limit ≡ before.limit → (more : ℕ) → IsTightFor more before
-tight_for before after piece full vars limit more =
+tight_for before after piece full vars limit more fluents =
     subst (λ v. Tight before.limit v (nodes_of_slots (live_count before + more) v)) vars
     (subst (λ l. Tight l after.vars (nodes_of_slots (live_count before + more) after.vars)) limit
-    (tight_more after.limit after.vars (nodes after.vars (live_sets before ++ piece ∷ [])) (nodes_of_slots (live_count before + more) after.vars) fits full.tight))
+    (tight_more after.limit after.vars (nodes after.vars (live_sets before ++ piece ∷ [])) (nodes_of_slots (live_count before + more) after.vars) fits (full.tight fluents)))
   where
     fits : nodes after.vars (live_sets before ++ piece ∷ []) ≤ nodes_of_slots (live_count before + more) after.vars
     fits =

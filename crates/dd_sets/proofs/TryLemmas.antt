@@ -21,6 +21,7 @@ use Rattle.task_core.specs.declared.literals.FluentId.{FluentId}
 use Rattle.dd_sets.specs.Calls.{AddsNone, MakesOnly}
 use Rattle.dd_sets.specs.LiveSets.{LiveSets, IsSets, AllLive, is_live, live_sets, set_of, listed_set, values_by_sets}
 use Rattle.dd_sets.specs.Rooms.{IsFull, Tight}
+use Rattle.dd_sets.specs.Orders.{read}
 use Rattle.dd_sets.specs.Stores.{Stored, view_of}
 use Rattle.dd_sets.specs.Tries.{Collects, Computes, IsReady, Tries, pieces, wanted}
 use Rattle.dd_sets.specs.declared.errors.SetErr.{SetErr}
@@ -30,40 +31,47 @@ use Rattle.dd_sets.specs.declared.slots.SetId.{SetId}
 use Rattle.dd_sets.proofs.CountLemmas.{nodes_with_known}
 use Rattle.dd_sets.proofs.FrameLemmas.{kept_chain}
 use Rattle.dd_sets.proofs.MadeLemmas.{makes_in_turn, makes_no_more, makes_none, makes_only}
+use Rattle.dd_sets.proofs.OrderLemmas.{read_none}
 use Rattle.dd_sets.proofs.RoomLemmas.{numbers_fit}
 use Rattle.dd_sets.proofs.SlotLemmas.{Operated, after_same, kept_by_answer, number_in_table, placed, same_adds_none, same_keeps, same_list, same_sets, same_sound}
 
+-- an answer is read as its function is
+value_read : (o : List ℕ) (list : List Node) (made : Function) (answer : Result Ref DdErr) → IfOk answer (λ (r : Ref). function list r.0 ≡ made) → IfOk answer (λ (r : Ref). read o (function list r.0) ≡ read o made)
+value_read o list made (Ok r) same = ap (read o) same
+value_read o list made (Err e) same = tt
+
 -- one try of an operation, by the operation on numbers
-pub computed : {t0 t : NodeTable} {l : List (Option Ref)} {made : Function} {made_pieces : List Function} {answer : Result Ref DdErr} → Answers made t0 t answer → Grows made_pieces t0 t answer
-    → {before : LiveSets} → view_of t0 l ≡ before → (operation : Operation) → made ≡ wanted before operation → made_pieces ≡ pieces before operation → Computes before (view_of t l) operation answer
-computed {t0} {t} {l} {made} {made_pieces} {answer} answers grows {before} opens operation =
-    subst (λ (s : LiveSets). made ≡ wanted s operation → made_pieces ≡ pieces s operation → Computes s (view_of t l) operation answer) opens
+pub computed : {o : List ℕ} {t0 t : NodeTable} {l : List (Option Ref)} {made : Function} {made_pieces : List Function} {answer : Result Ref DdErr} → Answers made t0 t answer → Grows made_pieces t0 t answer
+    → {before : LiveSets} → view_of o t0 l ≡ before → (operation : Operation) → read o made ≡ wanted before operation → (o ≡ [] → made_pieces ≡ pieces before operation) → Computes before (view_of o t l) operation answer
+computed {o} {t0} {t} {l} {made} {made_pieces} {answer} answers grows {before} opens operation =
+    subst (λ (s : LiveSets). read o made ≡ wanted s operation → (o ≡ [] → made_pieces ≡ pieces s operation) → Computes s (view_of o t l) operation answer) opens
     (λ same same_pieces. record {
       slots = refl;
-      keeps = kept_by_answer (view_of t0 l) (view_of t l) made answer answers;
-      value = subst (λ f. IfOk answer (λ (r : Ref). function t.nodes r.0 ≡ f)) same answers.value;
+      keeps = kept_by_answer (view_of o t0 l) (view_of o t l) made answer refl answers;
+      value = subst (λ f. IfOk answer (λ (r : Ref). read o (function t.nodes r.0) ≡ f)) same (value_read o t.nodes made answer answers.value);
       in_table = answers.in_table;
       made = makes_only answers grows refl same_pieces;
       at_limit = λ is. (grows.full is).at_limit;
-      beyond = λ is. subst (λ ps. t.limit < length t0.nodes + grow t0.vars t0.nodes ps) same_pieces (grows.full is).beyond;
+      beyond = λ none is. subst (λ ps. t.limit < length t0.nodes + grow t0.vars t0.nodes ps) (same_pieces none) (grows.full is).beyond;
     })
 
 -- the same of an operation with one piece
-pub computed_one : {t0 t : NodeTable} {l : List (Option Ref)} {made : Function} {answer : Result Ref DdErr} → Answers made t0 t answer → Grows (made ∷ []) t0 t answer → {before : LiveSets} → view_of t0 l ≡ before
-    → {operation : Operation} (one : Operation) → operation ≡ one → made ≡ wanted before one → pieces before one ≡ wanted before one ∷ [] → Computes before (view_of t l) operation answer
-computed_one {t0} {t} {l} {made} {answer} answers grows {before} opens one is same single =
-    subst (λ (o : Operation). Computes before (view_of t l) o answer) (sym is) (computed answers grows opens one same (ap (λ f. f ∷ []) same ∙ sym single))
+pub computed_one : {o : List ℕ} {t0 t : NodeTable} {l : List (Option Ref)} {made : Function} {answer : Result Ref DdErr} → Answers made t0 t answer → Grows (made ∷ []) t0 t answer → {before : LiveSets} → view_of o t0 l ≡ before
+    → {operation : Operation} (one : Operation) → operation ≡ one → read o made ≡ wanted before one → pieces before one ≡ wanted before one ∷ [] → Computes before (view_of o t l) operation answer
+computed_one {o} {t0} {t} {l} {made} {answer} answers grows {before} opens one is same single =
+    subst (λ (p : Operation). Computes before (view_of o t l) p answer) (sym is)
+    (computed answers grows opens one same (λ none. ap (λ f. f ∷ []) (sym (read_none o made none) ∙ same) ∙ sym single))
 
 -- where an operation was not tried for want of memory
 pub not_computed : (before : LiveSets) → IsSets before → (operation : Operation) → Computes before before operation (Err DdErr.Memory)
 not_computed before sound operation = record {
   slots = refl;
-  keeps = record { vars = refl; limit = refl; table = sound.table; longer = omega arith; earlier = λ n number. refl };
+  keeps = record { vars = refl; limit = refl; order = refl; table = sound.table; longer = omega arith; earlier = λ n number. refl };
   value = tt;
   in_table = tt;
   made = makes_none before before (pieces before operation) refl;
   at_limit = λ is. absurd (cc);
-  beyond = λ is. absurd (cc);
+  beyond = λ none is. absurd (cc);
 }
 
 -- an operation speaks of the sets of slots alone
@@ -158,17 +166,23 @@ module _ (vars : ℕ) (list : List Node) (reduced : IsReduced vars list) where
       (number_known number.0 (each 0 number refl)) (held_known slots (λ slot other is. each (suc slot) other is))
 
 -- so what pieces add to a table with all live sets, these have with the live sets
-known_grow : (sets : LiveSets) → IsSets sets → (made : List Function) → nodes sets.vars (live_sets sets) + grow sets.vars sets.nodes made ≤ nodes sets.vars (live_sets sets ++ made)
-unfolding live_sets is_known
-known_grow sets sound made = nodes_with_known sets.vars (functions sets.nodes) (live_sets sets) made (constant_known sets.vars sets.nodes sound.table.reduced)
-    (held_known sets.vars sets.nodes sound.table.reduced sets.live (λ slot number is. sound.numbers slot number is))
+live_read : (sets : LiveSets) → sets.order ≡ [] → live_sets sets ≡ map (λ (r : Ref). function sets.nodes r.0) (filter_map (λ o. o) sets.live)
+unfolding live_sets
+live_read sets none = λ i. map (λ (r : Ref). read (none i) (function sets.nodes r.0)) (filter_map (λ o. o) sets.live)
+
+known_grow : (sets : LiveSets) → IsSets sets → sets.order ≡ [] → (made : List Function) → nodes sets.vars (live_sets sets) + grow sets.vars sets.nodes made ≤ nodes sets.vars (live_sets sets ++ made)
+unfolding is_known
+known_grow sets sound none made =
+    subst (λ (live : List Function). nodes sets.vars live + grow sets.vars sets.nodes made ≤ nodes sets.vars (live ++ made)) (sym (live_read sets none))
+    (nodes_with_known sets.vars (functions sets.nodes) (map (λ (r : Ref). function sets.nodes r.0) (filter_map (λ o. o) sets.live)) made (constant_known sets.vars sets.nodes sound.table.reduced)
+    (held_known sets.vars sets.nodes sound.table.reduced sets.live (λ slot number is. sound.numbers slot number is)))
 
 none_in_turn : (a b c : LiveSets) → AddsNone a b → AddsNone b c → AddsNone a c
 none_in_turn a b c first second = record { others = λ other. second.others other ∙ first.others other; count = second.count ∙ first.count }
 
 module _ (operation : Operation) where
   -- one try answers, or had no memory
-  tried : (before after : LiveSets) {answer : Result Ref DdErr} → IsSets before → Computes before after operation answer → (result : Result Ref SetErr) → IfOk result (λ r. function after.nodes r.0 ≡ wanted before operation)
+  tried : (before after : LiveSets) {answer : Result Ref DdErr} → IsSets before → Computes before after operation answer → (result : Result Ref SetErr) → IfOk result (λ r. read after.order (function after.nodes r.0) ≡ wanted before operation)
       → IfOk result (λ r. IsNumber after.nodes r.0) → (IsErrOf result SetErr.Full → IsFull before after (pieces before operation)) → Tries before after operation result
   tried before after sound computes result value in_table full = record {
     sound = same_sound before after sound computes.keeps computes.slots;
@@ -182,7 +196,7 @@ module _ (operation : Operation) where
 
   pub tried_ok : (before after : LiveSets) {answer : Result Ref DdErr} → IsSets before → Computes before after operation answer → (number : Ref) → answer ≡ Ok number → Tries before after operation (Ok number)
   tried_ok before after sound computes number is = tried before after sound computes (Ok number)
-      (subst (λ a. IfOk a (λ (r : Ref). function after.nodes r.0 ≡ wanted before operation)) is computes.value)
+      (subst (λ a. IfOk a (λ (r : Ref). read after.order (function after.nodes r.0) ≡ wanted before operation)) is computes.value)
       (subst (λ a. IfOk a (λ (r : Ref). IsNumber after.nodes r.0)) is computes.in_table)
       (λ full. absurd (cc))
 
@@ -199,16 +213,17 @@ module _ (operation : Operation) where
         sound = tries.sound;
         kept = kept_chain before middle after (same_keeps before middle sound computes.keeps computes.slots) tries.kept;
         same = none_in_turn before middle after (same_adds_none before middle sound computes.keeps computes.slots) tries.same;
-        value = subst (λ f. IfOk result (λ (r : Ref). function after.nodes r.0 ≡ f)) (same_wanted middle before computes.keeps.vars sets operation) tries.value;
+        value = subst (λ f. IfOk result (λ (r : Ref). read after.order (function after.nodes r.0) ≡ f)) (same_wanted middle before computes.keeps.vars sets operation) tries.value;
         in_table = tries.in_table;
-        full = λ is. same_full before middle after (same_list before middle sound computes.keeps computes.slots) pieces_are (tries.full is);
-        made = makes_in_turn before middle after (pieces before operation) computes.keeps.vars computes.made (subst (λ ps. MakesOnly ps middle after) pieces_are tries.made);
+        full = λ is. same_full before middle after computes.keeps.order (same_list before middle sound computes.keeps computes.slots) pieces_are (tries.full is);
+        made = makes_in_turn before middle after (pieces before operation) computes.keeps.vars computes.keeps.order computes.made (subst (λ ps. MakesOnly ps middle after) pieces_are tries.made);
       }
     where
-      same_full : (before middle after : LiveSets) → live_sets middle ≡ live_sets before → pieces middle operation ≡ pieces before operation → IsFull middle after (pieces middle operation) → IsFull before after (pieces before operation)
-      same_full before middle after live are full = record {
+      same_full : (before middle after : LiveSets) → middle.order ≡ before.order → live_sets middle ≡ live_sets before → pieces middle operation ≡ pieces before operation → IsFull middle after (pieces middle operation) → IsFull before after (pieces before operation)
+      same_full before middle after order live are full = record {
         at_limit = full.at_limit;
-        tight = subst (λ ps. Tight after.limit after.vars (nodes after.vars (live_sets before ++ ps))) are (subst (λ ls. Tight after.limit after.vars (nodes after.vars (ls ++ pieces middle operation))) live full.tight);
+        tight = λ none. subst (λ ps. Tight after.limit after.vars (nodes after.vars (live_sets before ++ ps))) are
+            (subst (λ ls. Tight after.limit after.vars (nodes after.vars (ls ++ pieces middle operation))) live (full.tight (order ∙ none)));
       }
 
   -- where the second try was left out for want of memory
@@ -217,23 +232,23 @@ module _ (operation : Operation) where
 
   -- a try after a collection
   module _ (before middle after : LiveSets) {answer : Result Ref DdErr} (collects : Collects before middle) (computes : Computes middle after operation answer) where
-    collected_tried : (result : Result Ref SetErr) → IfOk result (λ r. function after.nodes r.0 ≡ wanted middle operation) → IfOk result (λ r. IsNumber after.nodes r.0)
+    collected_tried : (result : Result Ref SetErr) → IfOk result (λ r. read after.order (function after.nodes r.0) ≡ wanted middle operation) → IfOk result (λ r. IsNumber after.nodes r.0)
         → (IsErrOf result SetErr.Full → IsFull before after (pieces before operation)) → Tries before after operation result
     collected_tried result value in_table full = record {
       sound = same_sound middle after collects.sound computes.keeps computes.slots;
-      kept = kept_chain before middle after (record { vars = collects.vars; limit = collects.limit; live = λ slot live. collects.live slot ∙ live; sets = λ slot live. collects.sets slot })
+      kept = kept_chain before middle after (record { vars = collects.vars; limit = collects.limit; order = collects.order; live = λ slot live. collects.live slot ∙ live; sets = λ slot live. collects.sets slot })
           (same_keeps middle after collects.sound computes.keeps computes.slots);
       same = none_in_turn before middle after (record { others = collects.live; count = collects.count }) (same_adds_none middle after collects.sound computes.keeps computes.slots);
-      value = subst (λ f. IfOk result (λ (r : Ref). function after.nodes r.0 ≡ f)) (same_wanted middle before collects.vars collects.sets operation) value;
+      value = subst (λ f. IfOk result (λ (r : Ref). read after.order (function after.nodes r.0) ≡ f)) (same_wanted middle before collects.vars collects.sets operation) value;
       in_table = in_table;
       full = full;
-      made = makes_in_turn before middle after (pieces before operation) collects.vars (makes_no_more before middle (pieces before operation) collects.made)
+      made = makes_in_turn before middle after (pieces before operation) collects.vars collects.order (makes_no_more before middle (pieces before operation) collects.made)
           (subst (λ ps. MakesOnly ps middle after) (same_pieces middle before collects.vars collects.sets operation) computes.made);
     }
 
     pub collected_ok : (number : Ref) → answer ≡ Ok number → Tries before after operation (Ok number)
     collected_ok number is = collected_tried (Ok number)
-        (subst (λ a. IfOk a (λ (r : Ref). function after.nodes r.0 ≡ wanted middle operation)) is computes.value)
+        (subst (λ a. IfOk a (λ (r : Ref). read after.order (function after.nodes r.0) ≡ wanted middle operation)) is computes.value)
         (subst (λ a. IfOk a (λ (r : Ref). IsNumber after.nodes r.0)) is computes.in_table)
         (λ full. absurd (cc))
 
@@ -243,7 +258,7 @@ module _ (operation : Operation) where
     -- the table holds the nodes of the live sets alone, so they and the pieces go beyond the limit
     pub collected_full : {e : DdErr} → answer ≡ Err e → e ≡ DdErr.Full → Tries before after operation (Err SetErr.Full)
     unfolding Tight
-    collected_full {e} is_err is = collected_tried (Err SetErr.Full) tt tt (λ _. record { at_limit = at_limit; tight = (beyond, few) })
+    collected_full {e} is_err is = collected_tried (Err SetErr.Full) tt tt (λ _. record { at_limit = at_limit; tight = λ none. (beyond (collects.order ∙ none), few) })
       where
         is_full : IsErrOf answer DdErr.Full
         is_full = is_err ∙ ap (λ (d : DdErr). Err d) is
@@ -254,18 +269,18 @@ module _ (operation : Operation) where
         few : after.limit < 2 ^ (2 ^ after.vars)
         few = let fits = numbers_fit after.vars after.nodes computes.keeps.table.reduced in omega (arith, fits, at_limit)
 
-        beyond : after.limit < nodes after.vars (live_sets before ++ pieces before operation)
-        beyond =
-            let more : after.limit < length middle.nodes + grow middle.vars middle.nodes (pieces middle operation) = computes.beyond is_full in
-            let left : length middle.nodes ≡ nodes middle.vars (live_sets middle) = collects.nodes_left in
+        beyond : middle.order ≡ [] → after.limit < nodes after.vars (live_sets before ++ pieces before operation)
+        beyond none =
+            let more : after.limit < length middle.nodes + grow middle.vars middle.nodes (pieces middle operation) = computes.beyond none is_full in
+            let left : length middle.nodes ≡ nodes middle.vars (live_sets middle) = collects.nodes_left (sym collects.order ∙ none) in
             let all : nodes middle.vars (live_sets middle) + grow middle.vars middle.nodes (pieces middle operation) ≤ nodes middle.vars (live_sets middle ++ pieces middle operation) =
-            known_grow middle collects.sound (pieces middle operation) in
+            known_grow middle collects.sound none (pieces middle operation) in
             let same : nodes middle.vars (live_sets middle ++ pieces middle operation) ≡ nodes after.vars (live_sets before ++ pieces before operation) =
             (λ i. nodes (sym computes.keeps.vars i) (collects.all i ++ same_pieces middle before collects.vars collects.sets operation i)) in
             omega arith
 
   -- a new slot for the answer
-  pub stored : {before middle : LiveSets} {t : NodeTable} {l0 l : List (Option Ref)} {number : Ref} {result : Result SetId SetErr} → Tries before middle operation (Ok number) → view_of t l0 ≡ middle → IsSets (view_of t l0) → Stored l0 l number result
-      → Operated before (view_of t l) (wanted before operation) result
-  stored {before} {middle} {t} {l0} {l} {number} {result} tries opens sound stores = after_same before middle (view_of t l) (wanted before operation) result tries.kept tries.same
-      (placed stores opens sound (ap (λ (s : LiveSets). function s.nodes number.0) opens ∙ tries.value) (number_in_table opens tries.in_table))
+  pub stored : {before middle : LiveSets} {o : List ℕ} {t : NodeTable} {l0 l : List (Option Ref)} {number : Ref} {result : Result SetId SetErr} → Tries before middle operation (Ok number) → view_of o t l0 ≡ middle → IsSets (view_of o t l0) → Stored l0 l number result
+      → Operated before (view_of o t l) (wanted before operation) result
+  stored {before} {middle} {o} {t} {l0} {l} {number} {result} tries opens sound stores = after_same before middle (view_of o t l) (wanted before operation) result tries.kept tries.same
+      (placed stores opens sound (ap (λ (s : LiveSets). read s.order (function s.nodes number.0)) opens ∙ tries.value) (number_in_table opens tries.in_table))

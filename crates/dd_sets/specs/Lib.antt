@@ -2,6 +2,8 @@ pub mod Calls
 pub mod Frames
 pub mod Laws
 pub mod LiveSets
+pub mod Orders
+pub mod Rebuilt
 pub mod Rooms
 pub mod Stores
 pub mod Tries

@@ -10,13 +10,16 @@ use Rattle.dd_nodes.specs.NodeList.{Values, IsNumber, function}
 use Rattle.dd_nodes.specs.Subfunctions.{Function}
 use Rattle.dd_nodes.specs.Table.{NodeTable, IsNodeTable}
 use Rattle.task_core.specs.declared.literals.FluentId.{FluentId}
+use Rattle.dd_sets.specs.Orders.{read, IsOrder}
 use Rattle.dd_sets.specs.declared.slots.SetId.{SetId}
 
--- the number of fluents, the largest number of nodes, the nodes in the order of their numbers, and
--- for each slot the number of the set that it holds, or nothing
+-- the number of fluents, the largest number of nodes, the fluent of each variable where a variable is
+-- not just the fluent of its own number, the nodes in the order of their numbers, and for each slot
+-- the number of the set that it holds, or nothing
 pub record LiveSets : Type 0 where
   pub vars : ℕ
   pub limit : ℕ
+  pub order : List ℕ
   pub nodes : List Node
   pub live : List (Option Ref)
 
@@ -47,7 +50,7 @@ everything values = true
 -- the slot is not live
 unfoldable pub set_of : LiveSets → ℕ → Function
 set_of sets slot =
-    option_map_or (λ number. function sets.nodes number.0) (number_at sets slot) nothing
+    option_map_or (λ number. read sets.order (function sets.nodes number.0)) (number_at sets slot) nothing
 
 -- how many slots are live, and the sets that they hold
 unfoldable pub live_count : LiveSets → ℕ
@@ -55,7 +58,8 @@ live_count sets = count_by is_some sets.live
 
 unfoldable pub live_sets : LiveSets → List Function
 live_sets sets =
-    map (λ (number : Ref). function sets.nodes number.0) (filter_map (λ slot. slot) sets.live)
+    map (λ (number : Ref). read sets.order (function sets.nodes number.0))
+    (filter_map (λ slot. slot) sets.live)
 
 -- the set that a list gives a fluent, if it lists the fluent; of two entries for a fluent the first
 -- counts
@@ -76,9 +80,10 @@ subst_set sets map set values = set (values_by_sets sets map values)
 abbrev pub AllLive : LiveSets → List (FluentId × SetId) → Type 0
 AllLive sets map = All (λ entry. IsLive sets entry.1.0) map
 
--- what is true of the sets of every table: the table is reduced and within its limit, and each
--- slot's number is in it
+-- what is true of the sets of every table: the table is reduced and within its limit, each slot's
+-- number is in it, and each variable stands for a fluent of its own
 pub record IsSets (sets : LiveSets) : Type 0 where
   pub table : IsNodeTable (table_of sets)
   pub numbers : (slot : ℕ) (number : Ref) → number_at sets slot ≡ Some number
       → IsNumber sets.nodes number.0
+  pub order : IsOrder sets.vars sets.order

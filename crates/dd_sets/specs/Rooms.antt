@@ -16,11 +16,14 @@ Tight limit fluents nodes = (limit < nodes) × (limit < 2 ^ (2 ^ fluents))
 abbrev pub IsAtLimit : LiveSets → Type 0
 IsAtLimit sets = length sets.nodes ≡ sets.limit
 
--- a call with these pieces was refused for want of room: the table holds as many nodes as it may,
--- and its limit is tight for the sets that were live before the call and the pieces
+-- a call with these pieces was refused for want of room: the table holds as many nodes as it may, and
+-- where the variables are the fluents in their own order, its limit is tight for the sets that were
+-- live before the call and the pieces. The nodes are counted in that order, so in another one nothing
+-- more is said than that the table is full
 pub record IsFull (before after : LiveSets) (pieces : List Function) : Type 0 where
   pub at_limit : IsAtLimit after
-  pub tight : Tight after.limit after.vars (nodes after.vars (live_sets before ++ pieces))
+  pub tight : before.order ≡ []
+      → Tight after.limit after.vars (nodes after.vars (live_sets before ++ pieces))
 
 -- a bound on nodes by slots: each set over so many fluents has fewer than 2 ^ fluents nodes, as it
 -- has fewer different subfunctions that are no constants, and the pieces of one call fewer than 4 ^
@@ -28,10 +31,11 @@ pub record IsFull (before after : LiveSets) (pieces : List Function) : Type 0 wh
 abbrev pub nodes_of_slots : ℕ → ℕ → ℕ
 nodes_of_slots slots fluents = slots * 2 ^ fluents + 4 ^ fluents
 
--- the limit is tight for the live sets, so many slots more, and the pieces of one call
+-- where the variables are the fluents in their own order, the limit is tight for the live sets, so
+-- many slots more, and the pieces of one call
 abbrev pub IsTightFor : ℕ → LiveSets → Type 0
 IsTightFor more sets =
-    Tight sets.limit sets.vars (nodes_of_slots (live_count sets + more) sets.vars)
+    sets.order ≡ [] → Tight sets.limit sets.vars (nodes_of_slots (live_count sets + more) sets.vars)
 
 -- the pieces of one substitution in a set over so many fluents
 pub record IsSubstitution (vars : ℕ) (pieces : List Function) : Type 0 where
@@ -51,9 +55,9 @@ abbrev pub AnySet : Function → Type 0
 AnySet set = ⊤
 
 -- a call found no room. It had, besides the slots that were live at entry, at most so many of its
--- own, each with a set of which P holds; the limit is tight for the nodes of the sets that were live
--- at entry, these sets, and the pieces of the operation that was refused; and the table holds as
--- many nodes as it may
+-- own, each with a set of which P holds; the table holds as many nodes as it may; and where the
+-- variables are the fluents in their own order, the limit is tight for the nodes of the sets that were
+-- live at entry, these sets, and the pieces of the operation that was refused
 pub record NoRoom (P : Function → Type 0) (most : ℕ) (before after : LiveSets) : Type 0 where
   pub at_limit : IsAtLimit after
   pub own : List Function
@@ -61,7 +65,7 @@ pub record NoRoom (P : Function → Type 0) (most : ℕ) (before after : LiveSet
   pub each : (set : Function) → Contains own set → P set
   pub pieces : List Function
   pub one_call : IsOneCall before.vars pieces
-  pub tight : Tight before.limit before.vars
+  pub tight : before.order ≡ [] → Tight before.limit before.vars
       (nodes before.vars (live_sets before ++ own ++ pieces))
 
 -- the sets that slots hold

@@ -9,6 +9,7 @@ use Rattle.dd_nodes.specs.declared.node.Node.{Node}
 use Rattle.dd_nodes.specs.Table.{NodeTable}
 use Rattle.dd_sets.specs.declared.errors.SetErr.{SetErr}
 use Rattle.dd_sets.specs.LiveSets.{LiveSets, number_at}
+use Rattle.dd_sets.specs.Orders.{at_place, AreInverse}
 use Rattle.dd_sets.specs.declared.slots.SetId.{SetId}
 use Rattle.dd_nodes.specs.declared.node.Ref.{Ref}
 
@@ -34,18 +35,31 @@ renumbered (None ∷ slots) numbers = None ∷ renumbered slots numbers
 renumbered (Some old ∷ slots) [] = Some old ∷ slots
 renumbered (Some old ∷ slots) (number ∷ numbers) = Some number ∷ renumbered slots numbers
 
--- the sets of a table with these numbers in its slots
-abbrev pub view_of : NodeTable → List (Option Ref) → LiveSets
-view_of table live =
-    record { vars = table.vars; limit = table.limit; nodes = table.nodes; live = live }
+-- the sets of a table with these numbers in its slots, in an order
+abbrev pub view_of : List ℕ → NodeTable → List (Option Ref) → LiveSets
+view_of order table live = record {
+  vars = table.vars;
+  limit = table.limit;
+  order = order;
+  nodes = table.nodes;
+  live = live;
+}
 
 -- the number that a slot holds, and that of the empty set where it holds none
 abbrev pub ref_at : LiveSets → ℕ → Ref
 ref_at sets slot = unwrap_or (number_at sets slot) (record { 0 = 0 })
 
--- the numbers of the sets that a list gives its fluents
-abbrev pub refs_of : LiveSets → List (FluentId × SetId) → List (ℕ × Ref)
-refs_of sets entries = map (λ entry. (entry.0.0, ref_at sets entry.1.0)) entries
+-- the variables of a list's fluents, with the numbers of the sets that it gives them
+abbrev pub refs_of : List ℕ → LiveSets → List (FluentId × SetId) → List (ℕ × Ref)
+refs_of variables sets entries =
+    map (λ entry. (at_place variables entry.0.0, ref_at sets entry.1.0)) entries
+
+-- the variables and numbers for a substitution in an order
+pub record AreRefs (sets : LiveSets) (entries : List (FluentId × SetId))
+    (numbers : List (ℕ × Ref)) : Type 0 where
+  pub variables : List ℕ
+  pub inverse : AreInverse sets.vars sets.order variables
+  pub are : numbers ≡ refs_of variables sets entries
 
 -- the set of a number, over the fluents from the given one on
 abbrev pub set_from : List Node → ℕ → ℕ → SetOfVectors

@@ -11,6 +11,7 @@ use Rattle.dd_ops.specs.Operations.{variable, not_of, and_of, or_of, minus_of, c
 use Rattle.dd_sets.specs.Calls.{AddsNone, KeepsSets, MakesOnly}
 use Rattle.dd_sets.specs.LiveSets.{LiveSets, IsLive, IsSets, AllLive, is_live, set_of, live_count}
 use Rattle.dd_sets.specs.LiveSets.{live_sets, listed_set, subst_set, table_of, values_by_sets}
+use Rattle.dd_sets.specs.Orders.{read}
 use Rattle.dd_sets.specs.Rooms.{IsAtLimit, IsFull}
 use Rattle.dd_sets.specs.declared.errors.SetErr.{SetErr}
 use Rattle.dd_sets.specs.declared.operation.Operation.{Operation}
@@ -53,6 +54,7 @@ pieces sets (Subst a map) =
 pub record KeepsNumbers (before after : LiveSets) : Type 0 where
   pub vars : after.vars ≡ before.vars
   pub limit : after.limit ≡ before.limit
+  pub order : after.order ≡ before.order
   pub table : IsNodeTable (table_of after)
   pub longer : length before.nodes ≤ length after.nodes
   pub earlier : (n : ℕ) → IsNumber before.nodes n → function after.nodes n ≡ function before.nodes n
@@ -63,11 +65,11 @@ pub record Computes (before after : LiveSets) (operation : Operation)
     (result : Result Ref DdErr) : Type 0 where
   pub slots : after.live ≡ before.live
   pub keeps : KeepsNumbers before after
-  pub value : IfOk result (λ r. function after.nodes r.0 ≡ wanted before operation)
+  pub value : IfOk result (λ r. read after.order (function after.nodes r.0) ≡ wanted before operation)
   pub in_table : IfOk result (λ r. IsNumber after.nodes r.0)
   pub made : MakesOnly (pieces before operation) before after
   pub at_limit : IsErrOf result DdErr.Full → IsAtLimit after
-  pub beyond : IsErrOf result DdErr.Full → after.limit
+  pub beyond : before.order ≡ [] → IsErrOf result DdErr.Full → after.limit
       < length before.nodes + grow before.vars before.nodes (pieces before operation)
 
 -- a collection: each slot is as live as before, with its set, and the table has the nodes of these
@@ -75,12 +77,13 @@ pub record Computes (before after : LiveSets) (operation : Operation)
 pub record Collects (before after : LiveSets) : Type 0 where
   pub vars : after.vars ≡ before.vars
   pub limit : after.limit ≡ before.limit
+  pub order : after.order ≡ before.order
   pub sound : IsSets after
   pub live : (slot : ℕ) → is_live after slot ≡ is_live before slot
   pub sets : (slot : ℕ) → set_of after slot ≡ set_of before slot
   pub count : live_count after ≡ live_count before
   pub all : live_sets after ≡ live_sets before
-  pub nodes_left : length after.nodes ≡ nodes after.vars (live_sets after)
+  pub nodes_left : before.order ≡ [] → length after.nodes ≡ nodes after.vars (live_sets after)
   pub made : MakesOnly [] before after
 
 -- an operation with its second try: the slots are as live as before, with their sets, and its answer
@@ -90,7 +93,7 @@ pub record Tries (before after : LiveSets) (operation : Operation)
   pub sound : IsSets after
   pub kept : KeepsSets before after
   pub same : AddsNone before after
-  pub value : IfOk result (λ r. function after.nodes r.0 ≡ wanted before operation)
+  pub value : IfOk result (λ r. read after.order (function after.nodes r.0) ≡ wanted before operation)
   pub in_table : IfOk result (λ r. IsNumber after.nodes r.0)
   pub full : IsErrOf result SetErr.Full → IsFull before after (pieces before operation)
   pub made : MakesOnly (pieces before operation) before after

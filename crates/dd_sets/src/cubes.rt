@@ -1,22 +1,89 @@
 //! The cubes of a diagram, read off its paths.
-ghost use Rattle.std.specs.Prelude.{◌≡◌, ℕ, ◌+◌, ◌++◌, map, OnOk};
-ghost use Rattle.dd_nodes.specs.NodeList.{IsNumber, StandsFrom};
+ghost use Rattle.std.specs.Prelude.{◌≡◌, ℕ, ◌+◌, ◌++◌, [], map, IfOk, OnOk};
+ghost use Rattle.dd_nodes.specs.NodeList.{IsNumber, StandsFrom, function};
 ghost use Rattle.dd_nodes.specs.Table.{IsNodeTable};
-ghost use Rattle.task_core.specs.Cubes.{cubes_from, literal as literal_of};
+ghost use Rattle.task_core.specs.Cubes.{cubes_from, cubes_of, literal as literal_of};
+ghost use Rattle.task_core.specs.Vectors.{value_of};
+ghost use Rattle.dd_sets.specs.Orders.{AreOf, read};
+ghost use Rattle.dd_sets.specs.Rebuilt.{StaysWithin};
 ghost use Rattle.dd_sets.specs.Stores.{set_from};
 
+use crate::order::Order;
+use crate::rebuild::rebuild;
+use dd_cache::Cache;
 use dd_nodes::{Dd, Ref};
+use dd_ops::Ops;
 use std::alloc::{AllocError, Global};
 use task_core::{FluentId, Lit};
 
 /// A conjunction of literals, by rising fluents.
 pub type Cube = Vec<Lit>;
 
+/// The cubes of a number, in the order of the fluents. Where the variables are the fluents in another
+/// order, the set is first built in that order, in a table of its own; want of room there is told as
+/// want of memory.
+pub fn cubes_of_number(
+    alloc: Global,
+    dd: &Dd,
+    order: &Order,
+    number: Ref,
+) -> Result<Vec<Cube>, AllocError>
+    requires table { IsNodeTable dd.now }
+    requires number { IsNumber dd.now.nodes number.0 }
+    requires order { AreOf dd.now.vars order.now.fluents order.now.variables }
+    ensures { IfOk result (λ cubes. map (λ cube. cube.items) cubes.items ≡ cubes_of dd.now.vars
+        (λ state. read order.now.fluents (function dd.now.nodes number.0) (value_of state))) }
+{
+    if order.is_of_fluents() {
+        return cubes_of_table(alloc, dd, number);
+    }
+    let mut to = Ops::new(alloc, order.count() as u32, dd.limit())?;
+    let mut memo = Cache::new(alloc, dd.limit())?;
+    cubes_over(alloc, dd, order, &mut to, &mut memo, number)
+}
+
+/// The cubes of a number, by a table whose variables are the fluents in their own order.
+#[tactic(auto, using(crate::proofs::RebuildLemmas::memo_none))]
+fn cubes_over(
+    alloc: Global,
+    dd: &Dd,
+    order: &Order,
+    to: &mut Ops,
+    memo: &mut Cache,
+    number: Ref,
+) -> Result<Vec<Cube>, AllocError>
+    requires table { IsNodeTable dd.now }
+    requires number { IsNumber dd.now.nodes number.0 }
+    requires order { StaysWithin dd.now.vars order.now.fluents dd.now.vars }
+    requires vars { to.old.vars ≡ dd.now.vars }
+    requires memo { memo.old.pairs ≡ [] }
+    ensures { IfOk result (λ cubes. map (λ cube. cube.items) cubes.items ≡ cubes_of dd.now.vars
+        (λ state. read order.now.fluents (function dd.now.nodes number.0) (value_of state))) }
+{
+    match rebuild(dd, order, to, memo, number) {
+        Ok(rebuilt) => cubes_of_table(alloc, to.table(), rebuilt),
+        Err(_) => Err(AllocError),
+    }
+}
+
+/// The cubes of a number whose variables are the fluents in their own order.
+fn cubes_of_table(alloc: Global, dd: &Dd, number: Ref) -> Result<Vec<Cube>, AllocError>
+    requires table { IsNodeTable dd.now }
+    requires number { IsNumber dd.now.nodes number.0 }
+    ensures { IfOk result (λ cubes. map (λ cube. cube.items) cubes.items ≡ cubes_of dd.now.vars
+        (λ state. function dd.now.nodes number.0 (value_of state))) }
+{
+    let mut path = Vec::new(alloc);
+    let mut cubes = Vec::new(alloc);
+    walk(alloc, dd, number, &mut path, &mut cubes)?;
+    Ok(cubes)
+}
+
 /// Appends the cubes of a number, each behind the literals of the path to it.
 ///
 /// Each node has a path to the constant true, so each step leads to a cube. A child tests a greater
 /// fluent, so the calls are nested at most 257 deep.
-pub fn walk(
+fn walk(
     alloc: Global,
     dd: &Dd,
     number: Ref,

@@ -9,7 +9,10 @@
 mod cubes;
 mod errors;
 mod laws;
+mod member;
 mod operation;
+mod order;
+mod rebuild;
 mod sets;
 mod slots;
 
@@ -20,5 +23,6 @@ pub use laws::{
     no_room_is_tight, no_room_of_fewer, no_room_within, one_set_per_slot, own_slots_follow_calls,
     piece_is_no_room, sets_depend_on_fluents, tight_is_monotone,
 };
+pub use order::Order;
 pub use sets::Sets;
 pub use slots::SetId;

@@ -1,5 +1,5 @@
 //! The sets of a table, each in a slot.
-ghost use Rattle.std.specs.Prelude.{◌≡◌, ℕ, ◌<◌, ◌≤◌, ◌↔◌, Some, Bool, true, false, [], ◌∷◌, map};
+ghost use Rattle.std.specs.Prelude.{◌≡◌, ℕ, ◌<◌, ◌≤◌, ◌↔◌, Some, Bool, true, false, [], ◌∷◌, map, length};
 ghost use Rattle.std.specs.Prelude.{is_some, IsTrue, IfOk, IfErr, OnOk, OnErr, IsErrOf, ◌⊎◌};
 ghost use Rattle.dd_nodes.specs.NodeList.{Values, IsNumber};
 ghost use Rattle.dd_nodes.specs.Subfunctions.{Function};
@@ -14,11 +14,13 @@ ghost use Rattle.dd_sets.specs.LiveSets.{LiveSets, IsSets, IsLive, AllLive, is_l
 ghost use Rattle.dd_sets.specs.LiveSets.{nothing, everything, number_at, listed_set};
 ghost use Rattle.dd_sets.specs.LiveSets.{values_by_sets, subst_set};
 ghost use Rattle.dd_sets.specs.Rooms.{IsFull, AnySet, NoRoom};
-ghost use Rattle.dd_sets.specs.Stores.{ref_at, refs_of};
+ghost use Rattle.dd_sets.specs.Stores.{ref_at, AreRefs};
 ghost use Rattle.dd_sets.specs.Tries.{IsReady, wanted, pieces, Computes, Collects, Tries};
 
-use crate::cubes::{Cube, walk};
+use crate::cubes::{Cube, cubes_of_number};
+use crate::member::is_member;
 use crate::operation::Operation;
+use crate::order::Order;
 use crate::slots::{live_numbers, live_slots, renumber, store};
 use crate::{SetErr, SetId};
 use dd_nodes::{DdErr, Ref};
@@ -31,7 +33,8 @@ use task_core::{FluentId, State};
 /// Sets of states in slots, over one table of diagram nodes.
 ///
 /// A contract sees it as the number of fluents (`vars`), the largest number of nodes (`limit`), the
-/// nodes, and for each live slot its set. A slot is live from the call that answers it up to its
+/// order in which the fluents are the table's variables (`order`), the nodes, and for each live slot
+/// its set, which doesn't depend on the order. A slot is live from the call that answers it up to its
 /// end: `release` ends a slot, and so do the operations in the place of slots (`outside`,
 /// `in_both`, `in_some`, `without`, `rest_of`), which end the slots that they take over whether
 /// they answer or refuse. Each call leaves every other live slot with its set, and an operation's
@@ -43,6 +46,7 @@ use task_core::{FluentId, State};
 #[derive(Drop)]
 pub struct Sets {
     ops: Ops,
+    order: Order,
     slots: Slab<Ref>,
     alloc: Global,
 }
@@ -55,16 +59,20 @@ impl Model for Sets {
     ghost view = { λ s. record {
       vars = s.ops.vars;
       limit = s.ops.limit;
+      order = s.order.fluents;
       nodes = s.ops.nodes;
       live = s.slots.slots;
     } };
 
+    ghost use Rattle.dd_sets.specs.Orders.{AreOf};
+
     ghost invariant = { λ s. IsSets (record {
       vars = s.ops.vars;
       limit = s.ops.limit;
+      order = s.order.fluents;
       nodes = s.ops.nodes;
       live = s.slots.slots;
-    }) };
+    }) × AreOf s.ops.vars s.order.fluents s.order.variables };
 }
 
 impl Sets {
@@ -75,6 +83,7 @@ impl Sets {
         requires small_limit { limit ≤ 16777216 }
         ensures vars { IfOk result (λ sets. sets.vars ≡ vars) }
         ensures limit { IfOk result (λ sets. sets.limit ≡ limit) }
+        ensures order { IfOk result (λ sets. sets.order ≡ []) }
         ensures no_nodes { IfOk result (λ sets. sets.nodes ≡ []) }
         ensures none_live { IfOk result (λ sets. (slot : ℕ) → is_live sets slot ≡ false) }
         ensures count { IfOk result (λ sets. live_count sets ≡ 0) }
@@ -82,6 +91,31 @@ impl Sets {
     {
         Ok(Sets {
             ops: Ops::new(alloc, vars, limit)?,
+            order: Order::of_fluents(alloc),
+            slots: Slab::new(alloc),
+            alloc,
+        })
+    }
+
+    /// No live slot, and a table for at most `limit` nodes over the fluents of an order, which are
+    /// its variables in that order.
+    ///
+    /// What a slot means, and what each call says of it, doesn't depend on the order; how many nodes
+    /// the table has does.
+    pub fn new_in_order(alloc: Global, order: Order, limit: u32) -> Result<Sets, AllocError>
+        requires some_room { 0 < limit }
+        requires small_limit { limit ≤ 16777216 }
+        ensures vars { IfOk result (λ sets. sets.vars ≡ length order.fluents) }
+        ensures limit { IfOk result (λ sets. sets.limit ≡ limit) }
+        ensures order { IfOk result (λ sets. sets.order ≡ order.fluents) }
+        ensures no_nodes { IfOk result (λ sets. sets.nodes ≡ []) }
+        ensures none_live { IfOk result (λ sets. (slot : ℕ) → is_live sets slot ≡ false) }
+        ensures count { IfOk result (λ sets. live_count sets ≡ 0) }
+        ensures sound { IfOk result IsSets }
+    {
+        Ok(Sets {
+            ops: Ops::new(alloc, order.count() as u32, limit)?,
+            order,
             slots: Slab::new(alloc),
             alloc,
         })
@@ -105,14 +139,14 @@ impl Sets {
         self.slots[a.0]
     }
 
-    /// The numbers of the sets that a list gives its fluents.
+    /// The variables of a list's fluents, with the numbers of the sets that it gives them.
     fn numbers(&self, map: &[(FluentId, SetId)]) -> Result<Vec<(u32, Ref)>, AllocError>
         requires { AllLive self.now map.now }
-        ensures { IfOk result (λ numbers. numbers.items ≡ refs_of self.now map.now) }
+        ensures { IfOk result (λ numbers. AreRefs self.now map.now numbers.items) }
     {
         let mut numbers = Vec::new(self.alloc);
         for entry in map {
-            numbers.push((entry.0.0, self.number(entry.1)))?;
+            numbers.push((self.order.variable(entry.0.0), self.number(entry.1)))?;
         }
         Ok(numbers)
     }
@@ -124,7 +158,7 @@ impl Sets {
         ensures sound { IsSets self.old }
     {
         match operation {
-            Operation::Variable(f) => self.ops.var(f.0),
+            Operation::Variable(f) => self.ops.var(self.order.variable(f.0)),
             Operation::Not(a) => {
                 let f = self.number(a);
                 self.ops.not(f)
@@ -146,7 +180,7 @@ impl Sets {
             }
             Operation::Cofactor(a, f, value) => {
                 let number = self.number(a);
-                self.ops.cofactor(number, f.0, value)
+                self.ops.cofactor(number, self.order.variable(f.0), value)
             }
             Operation::Subst(a, map) => {
                 let number = self.number(a);
@@ -424,7 +458,7 @@ impl Sets {
         ensures answer { result ≡ set_of self.now a.0 (truth s.now) }
         ensures sound { IsSets self.now }
     {
-        self.ops.table().eval(self.number(a), s.bits())
+        is_member(self.ops.table(), &self.order, self.number(a), s)
     }
 
     /// Ends a slot. The nodes of its set stay in the table.
@@ -551,22 +585,15 @@ impl Sets {
     /// over the rest, and another has the cubes of the half where the first fluent is false, with
     /// that literal first, and then those of the true half.
     ///
-    /// The time grows with the literals that it gives.
+    /// In the order of the fluents the time grows with the literals that it gives. In another one the
+    /// set is first built in the order of the fluents, with the memory of a second table of the same
+    /// limit; where that finds no room, there is said to be no memory.
     pub fn cubes(&self, a: SetId) -> Result<Vec<Cube>, AllocError>
         requires { IsLive self.now a.0 }
         ensures answer { IfOk result (λ cubes. map (λ cube. cube.items) cubes.items
             ≡ cubes_of self.now.vars (λ state. set_of self.now a.0 (value_of state))) }
         ensures sound { IsSets self.now }
     {
-        let mut path = Vec::new(self.alloc);
-        let mut cubes = Vec::new(self.alloc);
-        walk(
-            self.alloc,
-            self.ops.table(),
-            self.number(a),
-            &mut path,
-            &mut cubes,
-        )?;
-        Ok(cubes)
+        cubes_of_number(self.alloc, self.ops.table(), &self.order, self.number(a))
     }
 }

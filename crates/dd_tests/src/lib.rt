@@ -12,4 +12,6 @@ mod node_tests;
 #[cfg(test)]
 mod operation_tests;
 #[cfg(test)]
+mod order_tests;
+#[cfg(test)]
 mod set_tests;

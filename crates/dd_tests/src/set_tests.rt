@@ -226,7 +226,7 @@ fn with_state(sets: &mut Sets, f: Known, s: u32) -> Result<SetId, SetErr>
 
 /// The sets over three fluents, each at the place of its truth table over these fluents.
 #[tactic(auto, using(dd_sets::proofs::FrameLemmas::all_kept))]
-fn all_sets(alloc: Global, sets: &mut Sets) -> Result<Vec<Known>, Fail>
+pub fn all_sets(alloc: Global, sets: &mut Sets) -> Result<Vec<Known>, Fail>
     requires { 3 ≤ sets.old.vars }
     ensures live { IfOk result (λ known. All (λ k. IsLive sets.new k.0.0) known.items) }
     ensures vars { OnOk result (3 ≤ sets.new.vars) }
@@ -288,7 +288,7 @@ fn all_agree(sets: &mut Sets, known: &[Known]) -> Result<bool, Fail>
 }
 
 /// Whether every operation answers at every set over three fluents, each with every other.
-fn every_set_agrees(alloc: Global, sets: &mut Sets) -> Result<bool, Fail>
+pub fn every_set_agrees(alloc: Global, sets: &mut Sets) -> Result<bool, Fail>
     requires { 3 ≤ sets.old.vars }
 {
     let known = all_sets(alloc, sets)?;

@@ -31,7 +31,7 @@ either_way = refl
 -- one action with one outcome, which changes fluent 0 and leaves fluent 1 alone
 small : Encoded
 small = record {
-  sets = record { vars = 2; limit = 9; nodes = []; live = [] };
+  sets = record { vars = 2; limit = 9; order = []; nodes = []; live = [] };
   fluents = 2;
   initial = record { 0 = 5 };
   goal = None;

@@ -1,5 +1,5 @@
 -- What an outcome leads into a set is a substitution of the next values.
-use Rattle.std.proofs.Common.{◌≡◌, inr, ℕ, Some, None, List, refl, sym, ap, subst, ◌∙◌, Bool}
+use Rattle.std.proofs.Common.{◌≡◌, inr, ℕ, Some, None, List, refl, sym, ap, subst, Bool}
 use Rattle.std.specs.Option.{option_map_or}
 use Rattle.dd_nodes.specs.NodeList.{Values}
 use Rattle.dd_nodes.specs.Subfunctions.{Function, DependsOnly}

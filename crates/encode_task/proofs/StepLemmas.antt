@@ -13,10 +13,14 @@ use Rattle.task_core.specs.Conditions.{holds}
 use Rattle.task_core.specs.declared.actions.Change.{Change}
 use Rattle.task_core.specs.declared.actions.Outcome.{Outcome}
 use Rattle.task_core.specs.declared.literals.FluentId.{FluentId}
+use Rattle.task_core.specs.declared.literals.Lit.{Lit}
+use Rattle.task_core.specs.Cubes.{Cube}
+use Rattle.task_core.specs.Initial.{names_it}
 use Rattle.dd_sets.specs.Calls.{KeepsSets}
 use Rattle.dd_sets.specs.LiveSets.{LiveSets, IsLive, listed_set}
 use Rattle.dd_sets.specs.declared.slots.SetId.{SetId}
 use Rattle.encode_task.specs.Made.{Holds}
+use Rattle.encode_task.specs.Names.{literals_of, names_fluent}
 use Rattle.encode_task.specs.Tables.{IsDone, OutcomeMade}
 use Rattle.encode_task.proofs.MadeLemmas.{all_live_kept, holds_kept}
 
@@ -61,10 +65,6 @@ listing changed e g =
           (cases_Bool (e.0.0 == g))
     ] refl
 
--- whether some change names a fluent
-abbrev names : ℕ → List Change → Bool
-names f changes = list_any (λ change. change.lit.fluent.0 == f) changes
-
 pub nothing_done : (sets : LiveSets) (outcome : Outcome) → IsDone sets [] outcome []
 nothing_done sets outcome = record {
   live = λ k d within. absurd (omega arith);
@@ -72,26 +72,26 @@ nothing_done sets outcome = record {
   named = λ f unlisted. refl;
 }
 
--- another change names no fluent but its own
-names_more : (g : ℕ) (front : List Change) (change : Change) → names g front ≡ false → change.lit.fluent.0 ≢ g → names g (front ++ change ∷ []) ≡ false
-names_more g front change before differs =
-    list_any-append (λ (c : Change). c.lit.fluent.0 == g) front (change ∷ []) ∙ or_from (names g front) (names g (change ∷ [])) before (or_from (change.lit.fluent.0 == g) false (ne_eqb change.lit.fluent.0 g differs) refl)
+-- another literal names no fluent but its own
+names_more : (g : ℕ) (front : Cube) (lit : Lit) → names_fluent g front ≡ false → lit.fluent.0 ≢ g → names_fluent g (front ++ lit ∷ []) ≡ false
+names_more g front lit before differs =
+    list_any-append (λ (l : Lit). l.fluent.0 == g) front (lit ∷ []) ∙ or_from (names_fluent g front) (names_fluent g (lit ∷ [])) before (or_from (lit.fluent.0 == g) false (ne_eqb lit.fluent.0 g differs) refl)
 
--- a change whose fluent is listed already
-pub step_listed : (sets : LiveSets) (changed : List (FluentId × SetId)) (outcome : Outcome) (f : ℕ) (front : List Change) (change : Change) → is_some (listed_set changed f) ≡ true → change.lit.fluent.0 ≡ f
-    → IsDone sets changed outcome front → IsDone sets changed outcome (front ++ change ∷ [])
-step_listed sets changed outcome f front change listed is done = record {
+-- a literal whose fluent is listed already
+pub step_listed : (sets : LiveSets) (changed : List (FluentId × SetId)) (outcome : Outcome) (f : ℕ) (front : Cube) (lit : Lit) → is_some (listed_set changed f) ≡ true → lit.fluent.0 ≡ f
+    → IsDone sets changed outcome front → IsDone sets changed outcome (front ++ lit ∷ [])
+step_listed sets changed outcome f front lit listed is done = record {
   live = done.live;
   listed = done.listed;
-  named = λ g unlisted. names_more g front change (done.named g unlisted)
+  named = λ g unlisted. names_more g front lit (done.named g unlisted)
       (λ same. let no : is_some (listed_set changed f) ≡ false = ap (λ h. is_some (listed_set changed h)) (sym is ∙ same) ∙ ap is_some unlisted in both_ways (is_some (listed_set changed f)) no listed);
 }
 
--- a change whose fluent is new
-pub step_changed : (before after : LiveSets) (changed : List (FluentId × SetId)) (outcome : Outcome) (f : FluentId) (next : SetId) (front : List Change) (change : Change) → KeepsSets before after
-    → Holds after next (λ values. after_value outcome values f.0) → change.lit.fluent.0 ≡ f.0 → IsDone before changed outcome front
-    → IsDone after (changed ++ (f, next) ∷ []) outcome (front ++ change ∷ [])
-step_changed before after changed outcome f next front change kept holds is done = record {
+-- a literal whose fluent is new
+pub step_changed : (before after : LiveSets) (changed : List (FluentId × SetId)) (outcome : Outcome) (f : FluentId) (next : SetId) (front : Cube) (lit : Lit) → KeepsSets before after
+    → Holds after next (λ values. after_value outcome values f.0) → lit.fluent.0 ≡ f.0 → IsDone before changed outcome front
+    → IsDone after (changed ++ (f, next) ∷ []) outcome (front ++ lit ∷ [])
+step_changed before after changed outcome f next front lit kept holds is done = record {
   live = All-push (λ (entry : FluentId × SetId). IsLive after entry.1.0) changed (f, next) (all_live_kept before after kept changed done.live) holds.live;
   listed = listed;
   named = named;
@@ -104,26 +104,32 @@ step_changed before after changed outcome f next front change kept holds is done
       | none differs before_at after_at ↦ absurd (none-some slot (sym after_at ∙ at))
     ]
 
-    named : (g : ℕ) → listed_set (changed ++ (f, next) ∷ []) g ≡ None → names g (front ++ change ∷ []) ≡ false
+    named : (g : ℕ) → listed_set (changed ++ (f, next) ∷ []) g ≡ None → names_fluent g (front ++ lit ∷ []) ≡ false
     named g at = elim (listing changed (f, next) g) [
       | old other before_at after_at ↦ absurd (none-some other (sym at ∙ after_at))
       | new same after_at ↦ absurd (none-some next (sym at ∙ after_at))
-      | none differs before_at after_at ↦ names_more g front change (done.named g before_at) (λ same. differs (sym is ∙ same))
+      | none differs before_at after_at ↦ names_more g front lit (done.named g before_at) (λ same. differs (sym is ∙ same))
     ]
 
 -- a fluent that no change names keeps its value
-makes_nothing : (positive : Bool) (values : Values) (f : ℕ) (changes : List Change) → names f changes ≡ false → list_any (change_makes positive values f) changes ≡ false
+not_named : (positive : Bool) (f : ℕ) (lits : Cube) → names_fluent f lits ≡ false → names_it positive f lits ≡ false
+not_named positive f [] named = refl
+not_named positive f (x ∷ lits) named =
+    let parts = or_parts (x.fluent.0 == f) (names_fluent f lits) named in
+    (λ i. (parts.0 i && same_value x.positive positive) || not_named positive f lits parts.1 i)
+
+makes_nothing : (positive : Bool) (values : Values) (f : ℕ) (changes : List Change) → names_fluent f (literals_of changes) ≡ false → list_any (change_makes positive values f) changes ≡ false
 makes_nothing positive values f [] named = refl
 makes_nothing positive values f (x ∷ changes) named =
-    let parts = or_parts (x.lit.fluent.0 == f) (names f changes) named in
-    (λ i. ((parts.0 i && same_value x.lit.positive positive) && holds x.cond values) || makes_nothing positive values f changes parts.1 i)
+    let parts = or_parts (names_fluent f x.lits.items) (names_fluent f (literals_of changes)) (sym (list_any-append (λ (l : Lit). l.fluent.0 == f) x.lits.items (literals_of changes)) ∙ named) in
+    (λ i. (not_named positive f x.lits.items parts.0 i && holds x.cond values) || makes_nothing positive values f changes parts.1 i)
 
 -- all changes are done
-pub all_done : (sets : LiveSets) (changed : List (FluentId × SetId)) (outcome : Outcome) (front : List Change) → front ≡ outcome.changes.items → IsDone sets changed outcome front → OutcomeMade sets changed outcome
+pub all_done : (sets : LiveSets) (changed : List (FluentId × SetId)) (outcome : Outcome) (front : Cube) → front ≡ literals_of outcome.changes.items → IsDone sets changed outcome front → OutcomeMade sets changed outcome
 all_done sets changed outcome front whole done = record {
   live = done.live;
   listed = done.listed;
   unlisted = λ f unlisted values.
-      let named : names f outcome.changes.items ≡ false = ap (names f) (sym whole) ∙ done.named f unlisted in
+      let named : names_fluent f (literals_of outcome.changes.items) ≡ false = ap (names_fluent f) (sym whole) ∙ done.named f unlisted in
       (λ i. cond (makes_nothing true values f outcome.changes.items named i) true (cond (makes_nothing false values f outcome.changes.items named i) false (values f)));
 }

@@ -69,8 +69,8 @@ pub slots_within : (actions most fluents : ℕ) → actions * (most * fluents + 
 slots_within actions most fluents = mul-le-mul_left actions (omega arith)
 
 -- a limit that is tight while the sets are made
-pub tight_whole : (sets : LiveSets) (limit fluents few many : ℕ) → sets.limit ≡ limit → sets.vars ≡ fluents → live_count sets + few ≤ many → IsTightFor few sets → Tight limit fluents (nodes_of_slots many fluents)
-tight_whole sets limit fluents few many limits vars within tight =
+pub tight_whole : (sets : LiveSets) (limit fluents few many : ℕ) → sets.limit ≡ limit → sets.vars ≡ fluents → sets.order ≡ [] → live_count sets + few ≤ many → IsTightFor few sets → Tight limit fluents (nodes_of_slots many fluents)
+tight_whole sets limit fluents few many limits vars order within tight =
     subst (λ v. Tight limit v (nodes_of_slots many v)) vars
     (subst (λ l. Tight l sets.vars (nodes_of_slots many sets.vars)) limits
-    (tight_more sets.limit sets.vars (nodes_of_slots (live_count sets + few) sets.vars) (nodes_of_slots many sets.vars) (omega (arith, mul-le-mul_right (2 ^ sets.vars) within)) tight))
+    (tight_more sets.limit sets.vars (nodes_of_slots (live_count sets + few) sets.vars) (nodes_of_slots many sets.vars) (omega (arith, mul-le-mul_right (2 ^ sets.vars) within)) (tight order)))

@@ -1,13 +1,17 @@
--- Private: what the changes of an outcome are like.
-use Rattle.std.specs.Prelude.{ℕ, Bool, length, nat_le}
-use Rattle.std.specs.List.{list_all}
-use Rattle.task_core.specs.Conditions.{is_shallow}
+-- Private: what the changes of an outcome name.
+use Rattle.std.specs.Prelude.{ℕ, Bool, ◌==◌, List, length, nat_le}
+use Rattle.std.specs.List.{flat_map, list_any}
+use Rattle.task_core.specs.Cubes.{Cube}
+use Rattle.task_core.specs.declared.actions.Change.{Change}
 use Rattle.task_core.specs.declared.actions.GroundAction.{GroundAction}
-use Rattle.task_core.specs.declared.actions.Outcome.{Outcome}
 
--- whether the conditions of its changes are at most 200 deep
-abbrev pub outcome_is_shallow : Outcome → Bool
-outcome_is_shallow outcome = list_all (λ change. is_shallow change.cond) outcome.changes.items
+-- whether some literal is one of a fluent
+abbrev pub names_fluent : ℕ → Cube → Bool
+names_fluent f lits = list_any (λ lit. lit.fluent.0 == f) lits
+
+-- the literals of changes
+abbrev pub literals_of : List Change → Cube
+literals_of changes = flat_map (λ change. change.lits.items) changes
 
 -- whether an action has at most so many outcomes
 abbrev pub has_outcomes_within : ℕ → GroundAction → Bool

@@ -1,11 +1,10 @@
 -- Private: the tables of slots while they are made.
-use Rattle.std.specs.Prelude.{◌≡◌, ℕ, ◌<◌, ◌==◌, ◌||◌, Bool, true, false, ⊤, List, [], ◌∷◌}
+use Rattle.std.specs.Prelude.{◌≡◌, ℕ, ◌<◌, ◌||◌, Bool, true, false, ⊤, List, [], ◌∷◌}
 use Rattle.std.specs.Prelude.{Option, Some, None, IsSome, slice_index_or}
-use Rattle.std.specs.List.{list_any}
 use Rattle.dd_ops.specs.Operations.{variable}
 use Rattle.task_core.specs.Actions.{after_value}
 use Rattle.task_core.specs.Conditions.{holds}
-use Rattle.task_core.specs.declared.actions.Change.{Change}
+use Rattle.task_core.specs.Cubes.{Cube}
 use Rattle.task_core.specs.declared.actions.GroundAction.{GroundAction}
 use Rattle.task_core.specs.declared.actions.Outcome.{Outcome}
 use Rattle.task_core.specs.declared.literals.FluentId.{FluentId}
@@ -14,6 +13,7 @@ use Rattle.dd_sets.specs.LiveSets.{LiveSets, AllLive, is_live, listed_set}
 use Rattle.dd_sets.specs.declared.slots.SetId.{SetId}
 use Rattle.encode_task.specs.Counts.{some_leaves}
 use Rattle.encode_task.specs.Made.{Holds, HoldsOutcome}
+use Rattle.encode_task.specs.Names.{names_fluent}
 use Rattle.encode_task.specs.Slots.{ActionSlots}
 
 -- the slots that outcomes share hold the values of their fluents
@@ -32,15 +32,14 @@ abbrev pub SharesLeft : ℕ → List ActionSlots → List (Option SetId) → Typ
 SharesLeft n actions shared =
     (f : ℕ) → f < n → some_leaves actions f ≡ true → IsSome (slice_index_or shared f None)
 
--- the first changes of an outcome are done: the fluent of each is listed, and each fluent that is
--- listed has the slot of its next value
+-- the first literals of an outcome's changes are done: the fluent of each is listed, and each fluent
+-- that is listed has the slot of its next value
 pub record IsDone (sets : LiveSets) (changed : List (FluentId × SetId)) (outcome : Outcome)
-    (front : List Change) : Type 0 where
+    (front : Cube) : Type 0 where
   pub live : AllLive sets changed
   pub listed : (f : ℕ) (slot : SetId) → listed_set changed f ≡ Some slot
       → Holds sets slot (λ values. after_value outcome values f)
-  pub named : (f : ℕ) → listed_set changed f ≡ None
-      → list_any (λ change. change.lit.fluent.0 == f) front ≡ false
+  pub named : (f : ℕ) → listed_set changed f ≡ None → names_fluent f front ≡ false
 
 -- two lists are as long as one another, and their elements are related in order
 abbrev pub AllPaired : {X Y : Type 0} → (X → Y → Type 0) → List X → List Y → Type 0

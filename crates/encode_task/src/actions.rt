@@ -21,10 +21,12 @@ ghost use Rattle.std.specs.List.{list_all, list_any};
 ghost use Rattle.dd_sets.specs.Calls.{KeepsSets};
 ghost use Rattle.dd_sets.specs.LiveSets.{LiveSets, live_count};
 ghost use Rattle.dd_sets.specs.Rooms.{AnySet, NoRoom};
-ghost use Rattle.task_core.specs.Actions.{action_is_shallow, action_within, outcome_within};
-ghost use Rattle.task_core.specs.declared.actions.Change.{Change};
+ghost use Rattle.task_core.specs.Actions.{action_is_shallow, action_within, change_within};
+ghost use Rattle.task_core.specs.Actions.{outcome_is_shallow, outcome_within};
+ghost use Rattle.task_core.specs.Cubes.{Cube};
+ghost use Rattle.task_core.specs.declared.literals.Lit.{Lit as Literal};
 ghost use Rattle.encode_task.specs.Counts.{left_by, left_in_actions, left_in_outcomes};
-ghost use Rattle.encode_task.specs.Names.{has_outcomes_within, outcome_is_shallow};
+ghost use Rattle.encode_task.specs.Names.{has_outcomes_within};
 ghost use Rattle.encode_task.specs.Seen.{slots_of};
 ghost use Rattle.encode_task.specs.Slots.{is_listed, is_of_action};
 ghost use Rattle.encode_task.specs.Tables.{ActionMade, AddsOnly, AllPaired, IsDone, OutcomeMade};
@@ -35,7 +37,7 @@ use crate::outcomes::next_value;
 use crate::slots::{put, slot_for};
 use dd_sets::{SetErr, SetId, Sets};
 use std::alloc::Global;
-use task_core::{FluentId, GroundAction, Outcome};
+use task_core::{Change, FluentId, GroundAction, Outcome};
 
 /// The fluents that an outcome changes, each with the slot of its next value.
 pub type Changed = Vec<(FluentId, SetId)>;
@@ -136,9 +138,36 @@ fn encode_outcome(alloc: Global, sets: &mut Sets, outcome: &Outcome) -> Result<C
 {
     let mut changed = Vec::new(alloc);
     for change in &outcome.changes {
-        encode_fluent(sets, &mut changed, outcome, change.lit.fluent)?;
+        encode_change(sets, &mut changed, outcome, change)?;
     }
     Ok(changed)
+}
+
+/// The next values of the fluents that a change of an outcome names.
+fn encode_change(
+    sets: &mut Sets,
+    changed: &mut Changed,
+    outcome: &Outcome,
+    change: &Change,
+) -> Result<(), SetErr>
+    requires named { change_within sets.old.vars change.now ≡ true }
+    requires within { outcome_within sets.old.vars outcome.now ≡ true }
+    requires shallow { outcome_is_shallow outcome.now ≡ true }
+    ensures step { OnOk result ((front : Cube) → IsDone sets.old changed.old.items outcome.now front
+        → IsDone sets.new changed.new.items outcome.now (front ++ change.now.lits.items)) }
+    ensures kept { KeepsSets sets.old sets.new }
+    ensures only { OnOk result ((before : LiveSets)
+        → AddsOnly before sets.old (λ slot. is_listed slot changed.old.items)
+        → AddsOnly before sets.new (λ slot. is_listed slot changed.new.items)) }
+    ensures few { OnOk result (live_count sets.new + left_by sets.old.vars changed.new.items
+        ≤ live_count sets.old + left_by sets.old.vars changed.old.items) }
+    ensures full { IsErrOf result SetErr.Full
+        → NoRoom AnySet (left_by sets.old.vars changed.old.items + 208) sets.old sets.new }
+{
+    for lit in &change.lits {
+        encode_fluent(sets, changed, outcome, lit.fluent)?;
+    }
+    Ok(())
 }
 
 /// The next value of a fluent that an outcome changes, unless the fluent is listed already.
@@ -151,9 +180,9 @@ fn encode_fluent(
     requires fluent { f.0 < sets.old.vars }
     requires within { outcome_within sets.old.vars outcome.now ≡ true }
     requires shallow { outcome_is_shallow outcome.now ≡ true }
-    ensures step { OnOk result ((front : List Change) (change : Change)
-        → change.lit.fluent.0 ≡ f.0 → IsDone sets.old changed.old.items outcome.now front
-        → IsDone sets.new changed.new.items outcome.now (front ++ change ∷ [])) }
+    ensures step { OnOk result ((front : Cube) (lit : Literal)
+        → lit.fluent.0 ≡ f.0 → IsDone sets.old changed.old.items outcome.now front
+        → IsDone sets.new changed.new.items outcome.now (front ++ lit ∷ [])) }
     ensures kept { KeepsSets sets.old sets.new }
     ensures only { OnOk result ((before : LiveSets)
         → AddsOnly before sets.old (λ slot. is_listed slot changed.old.items)

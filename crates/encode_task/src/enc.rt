@@ -7,6 +7,7 @@ ghost use Rattle.std.specs.Prelude.{
   ◌≤◌,
   Some,
   true,
+  [],
   length,
   map,
   IfOk,
@@ -36,7 +37,7 @@ use crate::conditions::set_where;
 use crate::initial::initial_states;
 use crate::left_alone::{Shared, share};
 use crate::slots::{changed_by, slot_for};
-use dd_sets::{SetErr, SetId, Sets};
+use dd_sets::{Order, SetErr, SetId, Sets};
 use std::alloc::Global;
 use std::marker::Model;
 use task_core::{ActionId, Cond, FluentId, Task};
@@ -87,6 +88,7 @@ pub fn encode(alloc: Global, task: &Task, limit: u32) -> Result<Enc, SetErr>
     requires small_limit { limit ≤ 16777216 }
     ensures made { IfOk result (λ enc. MadeOf task.now enc) }
     ensures limit { IfOk result (λ enc. enc.sets.limit ≡ limit) }
+    ensures order { IfOk result (λ enc. enc.sets.order ≡ []) }
     ensures sound { IfOk result (λ enc. IsSets enc.sets) }
     ensures few { IfOk result (λ enc. live_count enc.sets ≤ kept_slots task.now) }
     ensures only_kept { IfOk result (λ enc.
@@ -96,6 +98,34 @@ pub fn encode(alloc: Global, task: &Task, limit: u32) -> Result<Enc, SetErr>
 {
     let fluents = task.fluents.len() as u32;
     let mut sets = Sets::new(alloc, fluents, limit)?;
+    let kept = encode_sets(alloc, &mut sets, task)?;
+    sets.sound();
+    Ok(Enc {
+        sets,
+        fluents,
+        initial: kept.initial,
+        goal: kept.goal,
+        shared: kept.shared,
+        actions: kept.actions,
+    })
+}
+
+/// The sets of a task, in a table for at most `limit` nodes whose variables are the fluents in an
+/// order. They are those that `encode` makes; only the number of nodes differs, and so nothing is
+/// said of the limit where it was too small.
+pub fn encode_in_order(alloc: Global, task: &Task, order: Order, limit: u32) -> Result<Enc, SetErr>
+    requires order { length order.fluents ≡ fluent_count task.now }
+    requires some_room { 0 < limit }
+    requires small_limit { limit ≤ 16777216 }
+    ensures made { IfOk result (λ enc. MadeOf task.now enc) }
+    ensures limit { IfOk result (λ enc. enc.sets.limit ≡ limit) }
+    ensures sound { IfOk result (λ enc. IsSets enc.sets) }
+    ensures few { IfOk result (λ enc. live_count enc.sets ≤ kept_slots task.now) }
+    ensures only_kept { IfOk result (λ enc.
+        (slot : ℕ) → IsLive enc.sets slot → is_kept enc slot ≡ true) }
+{
+    let fluents = task.fluents.len() as u32;
+    let mut sets = Sets::new_in_order(alloc, order, limit)?;
     let kept = encode_sets(alloc, &mut sets, task)?;
     sets.sound();
     Ok(Enc {

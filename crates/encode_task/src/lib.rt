@@ -16,5 +16,5 @@ mod left_alone;
 mod outcomes;
 mod slots;
 
-pub use enc::{Enc, encode};
+pub use enc::{Enc, encode, encode_in_order};
 pub use laws::made_is_kept;

@@ -5,14 +5,14 @@ ghost use Rattle.dd_nodes.specs.Subfunctions.{Function};
 ghost use Rattle.dd_sets.specs.Frames.{Owns, OwnsAnswer};
 ghost use Rattle.dd_sets.specs.LiveSets.{LiveSets, IsLive};
 ghost use Rattle.dd_sets.specs.Rooms.{AnySet, NoRoom};
-ghost use Rattle.task_core.specs.Actions.{after_value, change_makes, change_within, outcome_within};
-ghost use Rattle.task_core.specs.Conditions.{is_shallow};
+ghost use Rattle.task_core.specs.Actions.{after_value, change_is_shallow, change_makes};
+ghost use Rattle.task_core.specs.Actions.{change_within, outcome_is_shallow, outcome_within};
+ghost use Rattle.task_core.specs.Initial.{names_it};
 ghost use Rattle.task_core.specs.Vectors.{same_value};
-ghost use Rattle.encode_task.specs.Names.{outcome_is_shallow};
 
 use crate::conditions::set_where;
 use dd_sets::{SetErr, SetId, Sets};
-use task_core::{Change, FluentId, Outcome};
+use task_core::{Change, FluentId, Lit, Outcome};
 
 /// The lists of truth values at which a fluent is true after an outcome, in a new slot: those at
 /// which a change adds it, and those at which it is true and no change deletes it.
@@ -58,7 +58,7 @@ fn with_change(
 ) -> Result<SetId, SetErr>
     requires live { IsLive sets.old some.0 }
     requires fluents { change_within sets.old.vars change.now ≡ true }
-    requires shallow { is_shallow change.now.cond ≡ true }
+    requires shallow { change_is_shallow change.now ≡ true }
     ensures answer { (before : LiveSets) (set : Function)
         → Owns before sets.old ((some.0, set) ∷ []) → OwnsAnswer before sets.new
         (λ values. set values || change_makes positive values f.0 change.now) result }
@@ -74,8 +74,14 @@ fn with_change(
 
 /// Whether a change has a fluent's literal of the sign.
 fn is_about(change: &Change, f: FluentId, positive: bool) -> bool
-    ensures { result ≡ (change.now.lit.fluent.0 == f.0
-        && same_value change.now.lit.positive positive) }
+    ensures { result ≡ names_it positive f.0 change.now.lits.items }
 {
-    change.lit.fluent == f && change.lit.positive == positive
+    change.lits.iter().any(|lit| is_of(lit, f, positive))
+}
+
+/// Whether a literal is a fluent's, of the sign.
+fn is_of(lit: &Lit, f: FluentId, positive: bool) -> bool
+    ensures { result ≡ (lit.now.fluent.0 == f.0 && same_value lit.now.positive positive) }
+{
+    lit.fluent == f && lit.positive == positive
 }

@@ -5,6 +5,7 @@ pub mod ListWrites
 pub mod Lists
 pub mod Listed
 pub mod RowFacts
+pub mod Lengths
 pub mod DenotedPairs
 pub mod RuleMoves
 pub mod RuleLists

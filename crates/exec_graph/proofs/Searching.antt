@@ -249,6 +249,12 @@ module _ (sys : System) (plan : PlainPlan) where
         let w = (d.followed i x.0 numbers x.1 at).sound j c in
         slice_get_within draft.found j w.place w.is
 
+    -- and they are listed once
+    pub followers_once : (i : ℕ) (numbers : List ℕ) → i < length draft.found → slice_get draft.next i ≡ Some numbers → AllPairs (λ j k. j ≢ k) numbers
+    followers_once i numbers l at =
+        let x = get-known draft.found i (record { state = []; context = 0 }) l in
+        (d.followed i x.0 numbers x.1 at).once
+
     -- the graph of a draft
     pub record IsShownBy (graph : PlainGraph) : Type 0 where
       pub size : graph.size ≡ length draft.found

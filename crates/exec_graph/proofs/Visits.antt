@@ -1,6 +1,6 @@
 -- Visits and graphs as the code holds them.
-use Rattle.std.proofs.Common.{◌≡◌, ℕ, zero, suc, ◌<◌, ◌≤◌, ◌||◌, false, List, [], ◌∷◌, ◌++◌, length, map, slice_get, nat_lt, Some, refl, sym, ap, ◌∙◌, subst, arith, take_all, ⊎_elim}
-use Rattle.std.specs.List.{AllPairs, fold}
+use Rattle.std.proofs.Common.{◌≡◌, ◌≢◌, ℕ, zero, suc, ◌<◌, ◌≤◌, ◌||◌, false, List, [], ◌∷◌, ◌++◌, length, map, slice_get, nat_lt, Some, refl, sym, ap, ◌∙◌, subst, arith, take_all, ⊎_elim}
+use Rattle.std.specs.List.{AllPairs, Contains, fold}
 use Rattle.std.specs.Option.{option_map, option_map_or}
 use Rattle.std.proofs.lemmas.List.{length-map, get_or-map}
 use Rattle.std.proofs.lemmas.Option.{slice_get-map}
@@ -21,16 +21,17 @@ use Rattle.exec_graph.specs.Drafts.{HasTooMany, IsNumbered, IsSearched, IsVisit,
 use Rattle.exec_graph.specs.Executions.{ReachesMoreThan}
 use Rattle.exec_graph.specs.Graphs.{IsGraphOf}
 use Rattle.exec_graph.specs.Moves.{configuration_of, moves_value}
-use Rattle.exec_graph.specs.Rows.{HasRowsInside, edges_of, row_count, row_of, rows_of, sources}
+use Rattle.exec_graph.specs.Rows.{HasRowsInside, HasShortRows, edges_of, row_count, row_of, rows_of, sources}
 use Rattle.exec_graph.specs.declared.rows.Rows.{Rows}
-use Rattle.exec_graph.proofs.RowFacts.{firsts_get, firsts_length}
+use Rattle.exec_graph.proofs.RowFacts.{firsts_get, firsts_length, source_means, sources_once}
+use Rattle.exec_graph.proofs.Lengths.{different_few}
 use Rattle.exec_graph.specs.Values.{plain_graph}
 use Rattle.exec_graph.specs.declared.exploration.Draft.{Draft}
 use Rattle.exec_graph.specs.declared.graphs.Graph.{Graph}
 use Rattle.exec_graph.specs.declared.graphs.Place.{Place}
 use Rattle.exec_graph.specs.declared.moves.Moves.{Moves}
 use Rattle.exec_graph.proofs.Listed.{AreDifferent, fold_different}
-use Rattle.exec_graph.proofs.Searching.{IsShownBy, followers_found, no_more, searched_first, shown_graph}
+use Rattle.exec_graph.proofs.Searching.{IsShownBy, followers_found, followers_once, no_more, searched_first, shown_graph}
 
 -- the place that is visited
 place_is : (n : ℕ) (before : Draft) (place : Place) → slice_get before.places.keys (row_count before.next) ≡ Some place
@@ -81,6 +82,30 @@ module _ (n : ℕ) (sys : System) (plan : PlainPlan) (draft : Draft) (searched :
       subst (λ k. j < k) count
       (followers_found sys plan (draft_value n draft) searched whole_is i j (row_of draft.next i) (subst (λ k. i < k) (sym count) l)
       (firsts_get (row_of draft.next) (row_count draft.next) i l) c)
+
+  -- and no number twice
+  pub rows_once : (i : ℕ) → i < row_count draft.next → AllPairs (λ j k. j ≢ k) (row_of draft.next i)
+  rows_once i l =
+      let count : length (draft_value n draft).found ≡ row_count draft.next = length-map draft.places.keys (configuration_of n) ∙ sym whole in
+      followers_once sys plan (draft_value n draft) searched whole_is i (row_of draft.next i) (subst (λ k. i < k) (sym count) l)
+      (firsts_get (row_of draft.next) (row_count draft.next) i l)
+
+  -- so no list is longer than there are configurations
+  pub next_short : length draft.places.keys ≤ 262144 → HasShortRows draft.next
+  next_short few i l =
+      let most = different_few (row_of draft.next i) (row_count draft.next) (rows_once i l) (λ j c. rows_inside i j l c) in
+      omega (arith, whole)
+
+  pub prev_short : length draft.places.keys ≤ 262144 → (turned : Rows) → row_count turned ≡ row_count draft.next
+      → ((j : ℕ) → j < row_count draft.next → row_of turned j ≡ sources (edges_of (row_of draft.next) (row_count draft.next)) j) → HasShortRows turned
+  prev_short few turned count sources_are j l =
+      let inside : j < row_count draft.next = subst (λ k. j < k) count l in
+      let once = sources_once (row_of draft.next) (row_count draft.next) j rows_once in
+      let below : (i : ℕ) → Contains (sources (edges_of (row_of draft.next) (row_count draft.next)) j) i → i < row_count draft.next =
+      λ i c. (source_means (row_of draft.next) (row_count draft.next) i j c).0 in
+      let most = different_few (sources (edges_of (row_of draft.next) (row_count draft.next)) j) (row_count draft.next) once below in
+      let is = ap length (sources_are j inside) in
+      omega (arith, whole)
 
   read_place : (keys : List Place) (i : ℕ) → i < length keys → slice_get (map (configuration_of n) keys) i
       ≡ Some (record { state = option_map_or (λ (p : Place). vector n p.state) (slice_get keys i) []; context = option_map_or (λ (p : Place). p.context) (slice_get keys i) 0 })

@@ -30,6 +30,10 @@ row_count rows = length rows.starts.items - 1
 abbrev pub AreRows : Rows → Type 0
 AreRows rows = IsRowed rows.starts.items rows.numbers.items
 
+-- Private: no list has more numbers than there may be configurations
+abbrev pub HasShortRows : Rows → Type 0
+HasShortRows rows = (i : ℕ) → i < row_count rows → length (row_of rows i) ≤ 262144
+
 -- Private: all the lists
 abbrev pub firsts : (ℕ → List ℕ) → ℕ → List (List ℕ)
 firsts row zero = []

@@ -1,5 +1,5 @@
 -- What a Graph says, as plain data. A state's vector has as many values as the task has fluents.
-use Rattle.std.specs.Prelude.{ℕ, List, [], length, nat_lt, slice_get}
+use Rattle.std.specs.Prelude.{ℕ, zero, suc, ◌+◌, List, [], length, nat_lt, slice_get}
 use Rattle.std.specs.List.{All}
 use Rattle.std.specs.Option.{option_map_or}
 use Rattle.task_core.specs.Vectors.{Vector}
@@ -29,6 +29,19 @@ followers_at graph = row_of graph.next
 
 abbrev pub predecessors_at : Graph → ℕ → List ℕ
 predecessors_at graph = row_of graph.prev
+
+-- the sum of f at the numbers below n
+abbrev pub sum_below : (ℕ → ℕ) → ℕ → ℕ
+sum_below f zero = 0
+sum_below f (suc n) = sum_below f n + f n
+
+-- how many edges the numbers below n have together: one for each number in their lists
+abbrev pub lengths_below : (ℕ → List ℕ) → ℕ → ℕ
+lengths_below next n = sum_below (λ i. length (next i)) n
+
+-- how many edges the graph has
+abbrev pub edge_count : Graph → ℕ
+edge_count graph = lengths_below (followers_at graph) (graph_size graph)
 
 -- the graph over n fluents
 abbrev pub plain_graph : ℕ → Graph → PlainGraph

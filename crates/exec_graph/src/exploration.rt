@@ -40,7 +40,7 @@ ghost use Rattle.exec_graph.specs.Executions.{ReachesMoreThan};
 ghost use Rattle.exec_graph.specs.Graphs.{IsGraphOf};
 ghost use Rattle.exec_graph.specs.Initials.{HasTooManyInitial};
 ghost use Rattle.exec_graph.specs.Moves.{IsPlaceWithin, configuration_of};
-ghost use Rattle.exec_graph.specs.Rows.{AreRows, row_count, rows_of};
+ghost use Rattle.exec_graph.specs.Rows.{AreRows, HasShortRows, row_count, rows_of};
 ghost use Rattle.exec_graph.specs.Values.{IsWithinFluents, plain_graph};
 
 use crate::graphs::{Graph, Place};
@@ -213,8 +213,11 @@ impl Draft {
         requires few { length self.places.keys ≤ 262144 }
         requires next { AreRows self.next }
         requires each_has_next { row_count self.next ≡ length self.places.keys }
+        requires next_short { HasShortRows self.next }
         requires prev { AreRows prev }
         requires each_has_prev { row_count prev ≡ length self.places.keys }
+        requires prev_short { HasShortRows prev }
+        requires even { length prev.numbers.items ≡ length self.next.numbers.items }
         ensures places { result.places.keys ≡ self.places.keys }
         ensures initials { result.initials ≡ initials }
         ensures next { result.next ≡ self.next }

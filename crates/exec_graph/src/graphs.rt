@@ -1,10 +1,12 @@
 //! Graphs of plans.
 
-ghost use Rattle.std.specs.Prelude.{◌≡◌, ◌<◌, ◌≤◌, ◌+◌, ℕ, IsTrue, length};
-ghost use Rattle.exec_graph.specs.Rows.{IsRowed};
+ghost use Rattle.std.specs.Prelude.{◌≡◌, ◌<◌, ◌≤◌, ◌+◌, ℕ, IsTrue, length, slice_index};
+ghost use Rattle.exec_graph.specs.Rows.{HasShortRows, IsRowed};
 
 use crate::rows::Rows;
+use crate::steps::Steps;
 use indexmap::IndexSet;
+use std::sync::ledger::Ledger;
 use task_core::State;
 
 /// A configuration: a state, and the context that the plan is in.
@@ -29,13 +31,24 @@ pub struct Graph {
     pub(crate) ghost few: { length places.keys ≤ 262144 },
     pub(crate) ghost next_rows: { IsRowed next.starts.items next.numbers.items },
     pub(crate) ghost each_has_next: { length next.starts.items ≡ length places.keys + 1 },
+    pub(crate) ghost next_short: { HasShortRows next },
     pub(crate) ghost prev_rows: { IsRowed prev.starts.items prev.numbers.items },
     pub(crate) ghost each_has_prev: { length prev.starts.items ≡ length places.keys + 1 },
+    pub(crate) ghost prev_short: { HasShortRows prev },
+    pub(crate) ghost even: { length prev.numbers.items ≡ length next.numbers.items },
 }
 
 impl Graph {
     ghost use Rattle.task_core.specs.States.{IsWithin, vector};
-    ghost use Rattle.exec_graph.specs.Values.{IsWithinFluents, graph_size, plain_graph};
+    ghost use Rattle.exec_graph.specs.Values.{
+      IsWithinFluents,
+      edge_count,
+      followers_at,
+      graph_size,
+      lengths_below,
+      plain_graph,
+      predecessors_at,
+    };
 
     /// How many configurations there are: at most 262,144, numbered from 0.
     pub fn len(&self) -> u32
@@ -72,20 +85,54 @@ impl Graph {
         (i as usize) < self.initials
     }
 
-    /// The numbers of the configurations that may follow the one of this number, each once.
-    pub fn next(&self, i: u32) -> &[u32]
+    /// How many configurations may follow the one of this number: at most 262,144. To ask takes no
+    /// step.
+    pub fn next_len(&self, i: u32) -> u32
         requires { i < graph_size self.now }
-        ensures { (n : ℕ) → (plain_graph n self.now).next i ≡ result.now }
+        ensures { result ≡ length (followers_at self.now i) }
     {
-        self.next.row(i as usize)
+        self.next.row(i as usize).len() as u32
     }
 
-    /// The numbers of the configurations that the one of this number may follow, each once.
-    pub fn prev(&self, i: u32) -> &[u32]
+    /// How many configurations the one of this number may follow: at most 262,144. To ask takes no
+    /// step.
+    pub fn prev_len(&self, i: u32) -> u32
         requires { i < graph_size self.now }
-        ensures { (n : ℕ) → (plain_graph n self.now).prev i ≡ result.now }
+        ensures { result ≡ length (predecessors_at self.now i) }
     {
-        self.prev.row(i as usize)
+        self.prev.row(i as usize).len() as u32
+    }
+
+    /// The number of the configuration at place `k` of those that may follow the one of this
+    /// number. Each of them stands there once. It is one step.
+    pub fn next_at<L: Ledger>(&self, i: u32, k: u32, steps: &mut Steps<L>) -> u32
+        requires number { i < graph_size self.now }
+        requires place { k < length (followers_at self.now i) }
+        ensures next { result ≡ slice_index (followers_at self.now i) k }
+        ensures step { steps.new ≡ steps.old + 1 }
+    {
+        steps.tick();
+        self.next.row(i as usize)[k as usize]
+    }
+
+    /// The number of the configuration at place `k` of those that the one of this number may
+    /// follow. Each of them stands there once. It is one step.
+    pub fn prev_at<L: Ledger>(&self, i: u32, k: u32, steps: &mut Steps<L>) -> u32
+        requires number { i < graph_size self.now }
+        requires place { k < length (predecessors_at self.now i) }
+        ensures prev { result ≡ slice_index (predecessors_at self.now i) k }
+        ensures step { steps.new ≡ steps.old + 1 }
+    {
+        steps.tick();
+        self.prev.row(i as usize)[k as usize]
+    }
+
+    /// How many edges there are: as many lead on from the configurations as lead to them.
+    pub fn edge_count(&self) -> u64
+        ensures next { result ≡ edge_count self.now }
+        ensures prev { result ≡ lengths_below (predecessors_at self.now) (graph_size self.now) }
+    {
+        self.next.numbers.len() as u64
     }
 
     /// Whether in some configuration a rule counts whose action can't be executed there. In a table

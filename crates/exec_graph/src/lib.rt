@@ -12,8 +12,10 @@ mod graphs;
 mod moves;
 mod rows;
 mod rules;
+mod steps;
 #[cfg(test)]
 mod tests;
 
 pub use exploration::{GraphErr, MAX_CONFIGURATIONS, explore};
 pub use graphs::Graph;
+pub use steps::Steps;

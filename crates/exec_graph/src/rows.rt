@@ -93,6 +93,8 @@ pub(crate) fn turned(alloc: Global, rows: &Rows) -> Result<Rows, AllocError>
     requires inside { HasRowsInside rows.now }
     ensures rows { IfOk result AreRows }
     ensures count { IfOk result (λ turned. row_count turned ≡ row_count rows.now) }
+    ensures even { IfOk result (λ turned.
+        length turned.numbers.items ≡ length rows.now.numbers.items) }
     ensures turned { IfOk result (λ turned. (j : ℕ) → j < row_count rows.now
         → row_of turned j ≡ sources (edges_of (row_of rows.now) (row_count rows.now)) j) }
 {

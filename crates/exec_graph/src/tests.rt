@@ -1,13 +1,15 @@
 //! Graphs of small plans, worked out by hand, and the two limits.
 
-ghost use Rattle.std.specs.Prelude.{◌≡◌, IfOk};
+ghost use Rattle.std.specs.Prelude.{◌≡◌, ◌<◌, IfOk};
 ghost use Rattle.plan_rules.specs.Plans.{IsPlanOf};
 ghost use Rattle.task_core.specs.Tasks.{action_count, fluent_count};
 
-use crate::{Graph, GraphErr, explore};
+use crate::{Graph, GraphErr, Steps, explore};
 use plan_rules::{Plan, read_plan};
 use std::alloc::{AllocError, Global};
 use std::fmt::Write;
+use std::marker::Brand;
+use std::sync::ledger::{Blank, Ledger};
 use std::test::Fail;
 use task_core::{
     Alternative, Change, Cond, FluentId, GroundAction, InitSpec, Lit, Outcome, State, Task,
@@ -19,12 +21,13 @@ fn name(alloc: Global, word: &str) -> Result<Vec<String>, AllocError> {
 
 // An outcome that makes a fluent true.
 fn makes_true(alloc: Global, fluent: u32) -> Result<Outcome, AllocError> {
+    let lit = Lit {
+        fluent: FluentId(fluent),
+        positive: true,
+    };
     let change = Change {
         cond: Cond::Yes,
-        lit: Lit {
-            fluent: FluentId(fluent),
-            positive: true,
-        },
+        lits: vec![in alloc; lit]?,
     };
     Ok(Outcome {
         changes: vec![in alloc; change]?,
@@ -87,7 +90,12 @@ fn coin(alloc: Global, unknown: u32) -> Result<Option<Task>, AllocError> {
 
 // The graph as a text: each configuration with its values and context, `*` where it is initial, and
 // the numbers that follow it; then the two marks.
-fn shown(alloc: Global, graph: &Graph) -> Result<String, AllocError> {
+fn shown<L: Ledger>(alloc: Global, graph: &Graph, blank: Blank) -> Result<String, AllocError>
+    requires name { blank.name ≡ L.name }
+    requires parts { blank.parts ≡ L.parts }
+    requires some { 0 < blank.parts }
+{
+    let mut steps = Steps::<L>::new(blank);
     let mut out = String::new(alloc);
     for i in 0..graph.len() {
         let state = graph.state(i);
@@ -95,7 +103,8 @@ fn shown(alloc: Global, graph: &Graph) -> Result<String, AllocError> {
         let q = u8::from(state.get(FluentId(1)));
         let mark = if graph.initial(i) { "*" } else { "" };
         write!(out, "{p}{q}.{}{mark}>", graph.context(i))?;
-        for j in graph.next(i) {
+        for k in 0..graph.next_len(i) {
+            let j = graph.next_at(i, k, &mut steps);
             write!(out, "{j},")?;
         }
         out.push(' ')?;
@@ -126,7 +135,7 @@ fn plan_of(alloc: Global, bytes: &[u8], task: &Task) -> Result<Plan, Fail>
 fn answer(alloc: Global, bytes: &[u8], task: &Task) -> Result<String, Fail> {
     let plan = plan_of(alloc, bytes, task)?;
     match explore(alloc, task, &plan) {
-        Ok(graph) => Ok(shown(alloc, &graph)?),
+        Ok(graph) => Ok(shown::<Brand>(alloc, &graph, Blank::new(1))?),
         Err(_) => Err("no graph".into()),
     }
 }

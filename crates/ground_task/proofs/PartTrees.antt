@@ -8,8 +8,12 @@ use Rattle.pddl_system.specs.Fluents.{atoms_changed, changed_by}
 use Rattle.pddl_system.specs.Instances.{Instance as InstanceTree}
 use Rattle.pddl_system.specs.Outcomes.{ChangeTree, OutcomeTree, outcomes_of, possible_changes}
 use Rattle.pddl_system.specs.Settings.{Setting}
-use Rattle.pddl_system.specs.Tasks.{change_of, outcome_of}
-use Rattle.ground_task.specs.Built.{part_made}
+use Rattle.pddl_system.specs.Tasks.{change_of, changed_if, outcome_of}
+use Rattle.pddl_system.specs.Values.{change_value}
+use Rattle.ctl_syntax.specs.Conditions.{CondTree, condition_value}
+use Rattle.task_core.specs.declared.literals.Lit.{Lit}
+use Rattle.task_core.specs.declared.actions.Change.{Change}
+use Rattle.ground_task.specs.Built.{literal_made, part_made}
 use Rattle.ground_task.specs.Drafts.{change_tree, conditional, draft_atoms, draft_tree, draft_trees, guard_trees, part_atoms, part_tree}
 use Rattle.ground_task.specs.declared.drafts.Guard.{Guard}
 use Rattle.ground_task.specs.declared.drafts.OutcomeDraft.{OutcomeDraft}
@@ -57,6 +61,20 @@ draft_over at fluents ps = sym (map_of_flat (change_of at fluents) part_tree (pa
 
 pub possible_over : (at : Setting) (fluents : List AtomTree) (os : List OutcomeTree) → map (map (change_of at fluents)) (map (possible_changes at) os) ≡ map (outcome_of at fluents) os
 possible_over at fluents os = map_twice (map (change_of at fluents)) (possible_changes at) os
+
+-- a change of all literals of a part, under its condition
+pub change_is_part : (at : Setting) (fluents : List AtomTree) (p : PartDraft) (c : Change) → condition_value c.cond ≡ changed_if at fluents (guard_trees p.guards.items)
+    → c.lits.items ≡ map (literal_made fluents) (map change_tree p.changes.items) → change_value c ≡ part_made at fluents p
+change_is_part at fluents p c condition literals =
+    ap (λ k. map (λ (lit : Lit). (k, lit)) c.lits.items) condition
+    ∙ ap (map (λ (lit : Lit). (changed_if at fluents (guard_trees p.guards.items), lit))) literals
+    ∙ map_twice (λ (lit : Lit). (changed_if at fluents (guard_trees p.guards.items), lit)) (literal_made fluents) (map change_tree p.changes.items)
+
+-- one change more
+pub one_change_more : (changes : List Change) (c : Change) (made : List (CondTree × Lit)) → change_value c ≡ made → flat_map change_value (changes ++ c ∷ []) ≡ flat_map change_value changes ++ made
+one_change_more changes c made is =
+    flat_map-append change_value changes (c ∷ [])
+    ∙ ap (λ l. flat_map change_value changes ++ l) (append-nil (change_value c) ∙ is)
 
 -- parts that are put together
 pub merged_trees : (g h : List Guard) (all a b : List (AtomTree × Bool)) → g ≡ [] → h ≡ [] → all ≡ a ++ b

@@ -14,15 +14,16 @@ use Rattle.ground_task.specs.declared.drafts.PartDraft.{PartDraft}
 abbrev pub condition_at : Setting → List AtomTree → Condition → CondTree
 condition_at at fluents c = condition_of at fluents c.formula c.scope
 
+-- the literal of an atom
+abbrev pub literal_made : List AtomTree → AtomTree × Bool → Lit
+literal_made fluents change = record {
+  fluent = record { 0 = position_or_len (same_atom change.0) fluents };
+  positive = change.1;
+}
+
 -- the change of an atom under a condition
 abbrev pub change_made : List AtomTree → CondTree → AtomTree × Bool → CondTree × Lit
-change_made fluents condition change = (
-  condition,
-  record {
-    fluent = record { 0 = position_or_len (same_atom change.0) fluents };
-    positive = change.1;
-  },
-)
+change_made fluents condition change = (condition, literal_made fluents change)
 
 -- the changes of a part
 abbrev pub part_made : Setting → List AtomTree → PartDraft → List (CondTree × Lit)

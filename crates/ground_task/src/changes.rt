@@ -4,7 +4,7 @@ ghost use Rattle.std.specs.Prelude.{◌≡◌, ◌++◌, IfOk, OnOk, map};
 ghost use Rattle.std.specs.List.{flat_map};
 ghost use Rattle.ctl_syntax.specs.Conditions.{condition_value};
 ghost use Rattle.ground_instances.specs.Tables.{setting_in};
-ghost use Rattle.ground_task.specs.Built.{change_made, condition_at, part_made};
+ghost use Rattle.ground_task.specs.Built.{condition_at, literal_made, part_made};
 ghost use Rattle.ground_task.specs.Drafts.{change_tree, draft_tree, draft_trees, guard_tree};
 ghost use Rattle.ground_task.specs.Drafts.{guard_trees, part_tree};
 ghost use Rattle.pddl_system.specs.Tasks.{change_of, changed_if};
@@ -13,7 +13,6 @@ ghost use Rattle.pddl_system.specs.Values.{change_value, outcome_value};
 use crate::conditions::condition;
 use crate::drafts::{ChangeDraft, Guard, OutcomeDraft, PartDraft};
 use crate::fluents::Fluents;
-use ctl_syntax::copied_condition;
 use ground_instances::Setting;
 use std::alloc::{AllocError, Global};
 use task_core::{Change, Cond, Lit, Outcome};
@@ -65,45 +64,49 @@ fn all_hold(
     Ok(Cond::All(guard_conditions(alloc, setting, fluents, guards)?))
 }
 
-/// The change of an atom under a condition.
-fn change(
+/// The literal of an atom that is changed.
+fn literal(fluents: &Fluents, draft: &ChangeDraft) -> Lit
+    ensures { result ≡ literal_made fluents.now (change_tree draft.now) }
+{
+    Lit {
+        fluent: fluents.place_of(&draft.atom),
+        positive: draft.positive,
+    }
+}
+
+/// The literals of atoms that are changed.
+fn literals(
     alloc: Global,
     fluents: &Fluents,
-    cond: &Cond,
-    draft: &ChangeDraft,
+    drafts: &[ChangeDraft],
+) -> Result<Vec<Lit>, AllocError>
+    ensures { IfOk result (λ lits. lits.items
+        ≡ map (literal_made fluents.now) (map change_tree drafts.now)) }
+{
+    let mut lits = Vec::with_capacity(alloc, drafts.len())?;
+    for draft in drafts {
+        lits.push(literal(fluents, draft))?;
+    }
+    Ok(lits)
+}
+
+/// The change of a part: its literals, and its condition once.
+fn part_change(
+    alloc: Global,
+    setting: &Setting,
+    fluents: &Fluents,
+    part: &PartDraft<'_>,
 ) -> Result<Change, AllocError>
     ensures { IfOk result (λ change. change_value change
-        ≡ change_made fluents.now (condition_value cond.now) (change_tree draft.now)) }
+        ≡ part_made (setting_in setting.now) fluents.now part.now) }
 {
-    Ok(Change {
-        cond: copied_condition(alloc, cond)?,
-        lit: Lit {
-            fluent: fluents.place_of(&draft.atom),
-            positive: draft.positive,
-        },
-    })
+    let cond = all_hold(alloc, setting, fluents, &part.guards)?;
+    let lits = literals(alloc, fluents, &part.changes)?;
+    Ok(Change { cond, lits })
 }
 
-/// Adds the changes of atoms under one condition after the others.
-fn push_changes(
-    alloc: Global,
-    fluents: &Fluents,
-    cond: &Cond,
-    drafts: &[ChangeDraft],
-    changes: &mut Vec<Change>,
-) -> Result<(), AllocError>
-    ensures { OnOk result (map change_value changes.new.items
-        ≡ map change_value changes.old.items
-        ++ map (change_made fluents.now (condition_value cond.now))
-        (map change_tree drafts.now)) }
-{
-    for draft in drafts {
-        changes.push(change(alloc, fluents, cond, draft)?)?;
-    }
-    Ok(())
-}
-
-/// Adds the changes of a part after the others.
+/// Adds the change of a part after the others.
+#[tactic(auto, using(crate::proofs::PartTrees::one_change_more))]
 fn push_part(
     alloc: Global,
     setting: &Setting,
@@ -111,12 +114,12 @@ fn push_part(
     part: &PartDraft<'_>,
     changes: &mut Vec<Change>,
 ) -> Result<(), AllocError>
-    ensures { OnOk result (map change_value changes.new.items
-        ≡ map change_value changes.old.items
+    ensures { OnOk result (flat_map change_value changes.new.items
+        ≡ flat_map change_value changes.old.items
         ++ part_made (setting_in setting.now) fluents.now part.now) }
 {
-    let cond = all_hold(alloc, setting, fluents, &part.guards)?;
-    push_changes(alloc, fluents, &cond, &part.changes, changes)?;
+    let change = part_change(alloc, setting, fluents, part)?;
+    changes.push(change)?;
     Ok(())
 }
 

@@ -1,18 +1,18 @@
 -- The plan with contexts of a task is one for the domain and the problem that the task comes from.
-use Rattle.std.proofs.Common.{◌≡◌, ◌⊎◌, ◌↔◌, ◌≤◌, ◌<◌, ℕ, List, length, map, inl, inr, refl, sym, subst, ap, ◌∙◌, None, Some, Option, true, false, codes, All, suc}
+use Rattle.std.proofs.Common.{◌≡◌, ◌≤◌, ◌<◌, ℕ, List, length, inl, inr, refl, sym, subst, ap, ◌∙◌, None, Some, Option, true, false, codes, All, suc}
 use Rattle.std.specs.Option.{option_and_then, option_map, option_map_or}
 use Rattle.std.specs.Prelude.{nat_le}
 use Rattle.std.proofs.lemmas.Bool.{le-leb}
 use Rattle.std.proofs.lemmas.List.{length-map}
 use Rattle.std.proofs.lemmas.List.Elements.{All-weaker}
-use Rattle.plan_theory.specs.Chains.{Chained, HasChain, context_count}
+use Rattle.plan_theory.specs.Chains.{Chained, context_count}
 use Rattle.plan_theory.specs.ChainPlans.{HasNoContextPlan, IsChainPlan}
 use Rattle.plan_theory.specs.ChainPrinted.{chain_rules}
 use Rattle.chain_plan.specs.Chains.{IsChainOver, chain_sets}
 use Rattle.ctl_syntax.specs.ChainValues.{ChainIsAtMostDeep, ChainNamesBelow, ChainTree, IsTrueAlike, chain_conditions, chain_value, states_of}
 use Rattle.ctl_syntax.specs.Chains.{PlainChain, chain_of, map_chain}
 use Rattle.ctl_syntax.specs.Conditions.{CondTree, condition_value}
-use Rattle.ctl_syntax.specs.Goals.{CtlTree, map_plain}
+use Rattle.ctl_syntax.specs.Goals.{CtlTree}
 use Rattle.ctl_syntax.specs.Values.{ctl_value}
 use Rattle.ctl_syntax.specs.declared.chains.Chain.{Chain}
 use Rattle.ctl_syntax.specs.declared.goals.Ctl.{Ctl}
@@ -30,15 +30,15 @@ use Rattle.plan_rules.specs.Rules.{automaton, context_rules_of}
 use Rattle.plan_rules.specs.Texts.{automaton_text}
 use Rattle.plan_rules.specs.declared.rules.AutoPlan.{AutoPlan}
 use Rattle.sexpr_text.specs.declared.faults.FaultKind.TheVariants.{NotChain}
-use Rattle.task_core.specs.Conditions.{depth, ids_below, is_shallow}
-use Rattle.task_core.specs.ContextPlans.{Configuration, ContextPlan, IsInitial}
+use Rattle.task_core.specs.Conditions.{depth, is_shallow}
+use Rattle.task_core.specs.ContextPlans.{ContextPlan}
 use Rattle.task_core.specs.Names.{Name}
 use Rattle.task_core.specs.Systems.{System}
 use Rattle.task_core.specs.Tasks.{action_names as names_of_actions, fluent_names as names_of_fluents, system_of}
 use Rattle.task_core.specs.declared.conditions.Cond.{Cond}
 use Rattle.task_core.specs.declared.tasks.Task.{Task}
 use Rattle.mbp_top.specs.Answers.{Answer, affirmed, over_limit, refused, text_fault}
-use Rattle.mbp_top.specs.ChainGoals.{ChainThen, chained_of, goal_chain, is_short_chain, most_stages, stage_count}
+use Rattle.mbp_top.specs.ChainGoals.{goal_chain, is_short_chain, most_stages, stage_count}
 use Rattle.mbp_top.specs.Enough.{IsTightLimit}
 use Rattle.mbp_top.specs.FoundChains.{IsChainMissing, IsChainResult, IsChainShown, IsFoundChain, StandsForChain}
 use Rattle.mbp_top.specs.Grounded.{IsTaskOf}

@@ -1,10 +1,8 @@
 -- The sets of the chain of a task's goal are those of the chain of the problem's goal.
-use Rattle.std.proofs.Common.{◌≡◌, ℕ, List, [], ◌∷◌, map, length, Option, Some, None, refl, sym, ap, ◌∙◌, Bool, true, false, ◌&&◌}
+use Rattle.std.proofs.Common.{◌≡◌, List, [], ◌∷◌, map, Option, Some, None, refl, sym, ap, ◌∙◌, Bool, true, false, ◌&&◌}
 use Rattle.std.specs.List.{list_all}
 use Rattle.std.specs.Option.{option_map, option_map_or}
 use Rattle.std.specs.Prelude.{option_to_list}
-use Rattle.std.proofs.lemmas.List.{length-map}
-use Rattle.plan_theory.specs.Chains.{Chained}
 use Rattle.chain_plan.specs.Chains.{chain_sets}
 use Rattle.ctl_syntax.specs.ChainValues.{ChainTree, all_conditions, chain_conditions, chain_value, states_of}
 use Rattle.ctl_syntax.specs.Chains.{PlainChain, map_chain}

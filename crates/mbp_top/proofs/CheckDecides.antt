@@ -1,5 +1,5 @@
 -- The three files and the class decide the answer of `check`.
-use Rattle.std.proofs.Common.{◌≡◌, ◌≢◌, List, inl, inr, sym, subst, ap, ◌∙◌, Option, Some, unwrap_or, true, false}
+use Rattle.std.proofs.Common.{◌≡◌, ◌≢◌, List, inl, inr, sym, subst, ap, ◌∙◌, Option, Some, unwrap_or}
 use Rattle.std.proofs.lemmas.Bool.{false≢true}
 use Rattle.pddl_ast.specs.Trees.{DomainTree, ProblemTree, TemporalTree}
 use Rattle.pddl_system.specs.Systems.{action_names, fluent_names, system}

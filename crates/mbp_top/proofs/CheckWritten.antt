@@ -1,5 +1,5 @@
 -- `check`: what was written at status 0 and 1, and which statuses come.
-use Rattle.std.proofs.Common.{◌≡◌, ℕ, List, ◌⊎◌, ◌↔◌, inl, inr, refl, sym, subst, arith, ◌∙◌, ap, true, false, None, Some, Option}
+use Rattle.std.proofs.Common.{◌≡◌, ℕ, List, ◌⊎◌, ◌↔◌, inl, inr, refl, sym, subst, arith, ◌∙◌, ap, true, None, Some, Option}
 use Rattle.std.proofs.lemmas.Bool.{false≢true}
 use Rattle.std.specs.Io.KnownBytes.{append_known}
 use Rattle.exec_graph.specs.Executions.{ReachesMoreThan}

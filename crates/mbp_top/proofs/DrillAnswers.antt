@@ -1,5 +1,5 @@
 -- The lines for a task are those for the domain and the problem that it comes from.
-use Rattle.std.proofs.Common.{◌≡◌, ◌⊎◌, ◌++◌, ◌+◌, ℕ, List, [], length, inl, inr, refl, sym, subst, ap, ◌∙◌, arith, None, true}
+use Rattle.std.proofs.Common.{◌≡◌, ◌⊎◌, ◌+◌, ℕ, [], length, inl, inr, refl, sym, subst, ap, ◌∙◌, arith, None, true}
 use Rattle.std.specs.Prelude.{IfOk, Result, Ok, Err}
 use Rattle.std.proofs.lemmas.List.{length-map}
 use Rattle.dd_sets.specs.Frames.{Owns}
@@ -12,7 +12,7 @@ use Rattle.pddl_system.specs.Systems.{system}
 use Rattle.pddl_system.specs.Tasks.{task_of}
 use Rattle.pddl_system.specs.Values.{task_value}
 use Rattle.domain_read.specs.Domains.{SpellsDomain}
-use Rattle.plan_rules.specs.Rules.{PlanRule, rules_of, table}
+use Rattle.plan_rules.specs.Rules.{rules_of, table}
 use Rattle.plan_rules.specs.declared.rules.TablePlan.{TablePlan}
 use Rattle.task_core.specs.Systems.{System}
 use Rattle.task_core.specs.Tasks.{system_of}
@@ -97,11 +97,11 @@ drill_read asked d p a both (inr (inr then)) = inr (inr (inr (d, both.spells_dom
 
 -- where a call left the slots as they were, a limit that is tight after it was tight before it
 pub tight_before : (before after : LiveSets) (more : ℕ) → Owns before after [] → IsTightFor more after → IsTightFor more before
-tight_before before after more owns tight =
+tight_before before after more owns tight plain =
     let count : live_count after ≡ live_count before = omega (arith, owns.count) in
     subst (λ (l : ℕ). Tight l before.vars (nodes_of_slots (live_count before + more) before.vars)) owns.kept.limit
     (subst (λ (v : ℕ). Tight after.limit v (nodes_of_slots (live_count before + more) v)) owns.kept.vars
-    (subst (λ (c : ℕ). Tight after.limit after.vars (nodes_of_slots (c + more) after.vars)) count tight))
+    (subst (λ (c : ℕ). Tight after.limit after.vars (nodes_of_slots (c + more) after.vars)) count (tight (owns.kept.order ∙ plain))))
 
 -- another property of an answer that is one
 pub if_ok_map : {A E : Type 0} (P Q : A → Type 0) (r : Result A E) → ((x : A) → P x → Q x) → IfOk r P → IfOk r Q

@@ -1,6 +1,5 @@
 -- The words decide the answer of `drill`, unless the table of nodes is full.
 use Rattle.std.proofs.Common.{◌≡◌, List, length, inl, inr, sym, subst, ap, ◌∙◌}
-use Rattle.pddl_ast.specs.Trees.{DomainTree, ProblemTree}
 use Rattle.domain_read.specs.Domains.{SpellsDomain}
 use Rattle.pddl_system.specs.Systems.{system}
 use Rattle.pddl_system.proofs.States.{they_have_a_system}

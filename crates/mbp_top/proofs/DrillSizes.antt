@@ -1,10 +1,10 @@
 -- The texts of a drill are short enough to be read.
-use Rattle.std.proofs.Common.{◌≡◌, ◌≤◌, ◌<◌, ◌+◌, ◌*◌, ◌-◌, ◌^◌, ℕ, zero, suc, List, [], ◌∷◌, ◌++◌, codes, decimal, length, map, arith, refl, ap, ◌∙◌}
-use Rattle.std.specs.List.{flat_map, range_with_len}
+use Rattle.std.proofs.Common.{◌≡◌, ◌≤◌, ◌<◌, ◌+◌, ◌*◌, ◌-◌, ℕ, zero, suc, [], ◌∷◌, ◌++◌, codes, decimal, length, map, arith, ap}
+use Rattle.std.specs.List.{range_with_len}
 use Rattle.std.proofs.lemmas.Fmt.{length-decimal-le}
 use Rattle.std.proofs.lemmas.List.Concat.{flat_map-cons}
-use Rattle.task_gen.specs.Corridors.{corridor_domain, corridor_problem, goal_line, next_room, room, rooms_line, start_line}
-use Rattle.task_gen.specs.Roads.{depot, facts, place, places_line, road, tyres_domain, tyres_problem}
+use Rattle.task_gen.specs.Corridors.{corridor_problem, goal_line, next_room, room, rooms_line, start_line}
+use Rattle.task_gen.specs.Roads.{depot, facts, place, places_line, road, tyres_problem}
 use Rattle.task_gen.specs.Roads.{goal_line as tyres_goal, start_line as tyres_start}
 use Rattle.task_gen.specs.Texts.{line_feed, lines, numbered, spaced}
 use Rattle.mbp_top.specs.DrillCommand.{drill_domain, drill_problem}

@@ -8,7 +8,7 @@ use Rattle.pddl_system.specs.Systems.{system}
 use Rattle.task_core.specs.Systems.{System}
 use Rattle.task_core.specs.declared.classes.Class.{Class}
 use Rattle.task_core.specs.declared.classes.Class.TheVariants.{Weak, Strong, Cyclic}
-use Rattle.mbp_top.specs.Answers.{Answer, Refusal, affirmed, full, refused, no_memory, status_of, status_of_refusal, text_of, is_shown}
+use Rattle.mbp_top.specs.Answers.{Answer, affirmed, full, refused, no_memory, status_of, status_of_refusal, text_of, is_shown}
 use Rattle.mbp_top.specs.CheckCommand.{HasTooManyStates}
 use Rattle.mbp_top.specs.Delivery.{IsWhole, Seen}
 use Rattle.mbp_top.specs.DrillCommand.{DrillThen, IsClassLine, IsDrillAnswer, IsDrilled, IsNotFollowed, MayDrillRunOut, SpellBoth, TextsThen, drill_text, problem_name}

@@ -1,6 +1,6 @@
 -- A limit that is tight for the sets of a task, or for those of its planners, is tight for the
 -- nodes that are enough.
-use Rattle.std.proofs.Common.{◌≡◌, ◌≤◌, ◌+◌, ◌*◌, ◌^◌, ℕ, subst, arith}
+use Rattle.std.proofs.Common.{◌≡◌, ◌≤◌, ◌+◌, ◌*◌, ◌^◌, ℕ, [], subst, arith}
 use Rattle.std.proofs.Math.Nat.{mul-le-mul_right}
 use Rattle.dd_sets.specs.Laws.{TightIsMonotone}
 use Rattle.dd_sets.specs.LiveSets.{LiveSets, live_count}
@@ -48,25 +48,25 @@ tight_for_sets monotone t n limit tight =
     tight_for_slots monotone t n limit (working_slots t) (slots_of_actions n (action_count t) (most_outcomes (system_of t) * (fluent_count t + 1))) tight
 
 -- of the sets that are live
-tight_for_live : TightIsMonotone → (t : Task) (n : ℕ) (sets : LiveSets) (limit more : ℕ) → sets.vars ≡ fluent_count t → sets.limit ≡ limit
+tight_for_live : TightIsMonotone → (t : Task) (n : ℕ) (sets : LiveSets) (limit more : ℕ) → sets.vars ≡ fluent_count t → sets.limit ≡ limit → sets.order ≡ []
     → live_count sets + more ≤ action_count t * (most_outcomes (system_of t) * (fluent_count t + 1) + n + 6) + 8 * n + 256
     → IsTightFor more sets → IsTightLimit n limit (system_of t)
-tight_for_live monotone t n sets limit more of_vars of_limit few tight =
+tight_for_live monotone t n sets limit more of_vars of_limit of_order few tight =
     let slots = live_count sets + more in
     tight_for_slots monotone t n limit slots few
     (subst (λ (l : ℕ). Tight l (fluent_count t) (nodes_of_slots slots (fluent_count t))) of_limit
-    (subst (λ (v : ℕ). Tight sets.limit v (nodes_of_slots slots v)) of_vars tight))
+    (subst (λ (v : ℕ). Tight sets.limit v (nodes_of_slots slots v)) of_vars (tight of_order)))
 
 -- while a plan of a class is looked for
-pub tight_for_planner : TightIsMonotone → (t : Task) (sets : LiveSets) (limit : ℕ) → sets.vars ≡ fluent_count t → sets.limit ≡ limit
+pub tight_for_planner : TightIsMonotone → (t : Task) (sets : LiveSets) (limit : ℕ) → sets.vars ≡ fluent_count t → sets.limit ≡ limit → sets.order ≡ []
     → live_count sets ≤ kept_slots t → IsTightFor (3 * action_count t + 32) sets → IsTightLimit 0 limit (system_of t)
-tight_for_planner monotone t sets limit of_vars of_limit few tight =
-    tight_for_live monotone t 0 sets limit (3 * action_count t + 32) of_vars of_limit
+tight_for_planner monotone t sets limit of_vars of_limit of_order few tight =
+    tight_for_live monotone t 0 sets limit (3 * action_count t + 32) of_vars of_limit of_order
     (slots_of_planner (live_count sets) (action_count t) (most_outcomes (system_of t) * (fluent_count t + 1)) few) tight
 
 -- while a plan for a chain of n stages is
-pub tight_for_chain : TightIsMonotone → (t : Task) (n : ℕ) (sets : LiveSets) (limit : ℕ) → sets.vars ≡ fluent_count t → sets.limit ≡ limit
+pub tight_for_chain : TightIsMonotone → (t : Task) (n : ℕ) (sets : LiveSets) (limit : ℕ) → sets.vars ≡ fluent_count t → sets.limit ≡ limit → sets.order ≡ []
     → live_count sets ≤ kept_slots t → IsTightFor (action_count t * (n + 3) + 8 * n + 236) sets → IsTightLimit n limit (system_of t)
-tight_for_chain monotone t n sets limit of_vars of_limit few tight =
-    tight_for_live monotone t n sets limit (action_count t * (n + 3) + 8 * n + 236) of_vars of_limit
+tight_for_chain monotone t n sets limit of_vars of_limit of_order few tight =
+    tight_for_live monotone t n sets limit (action_count t * (n + 3) + 8 * n + 236) of_vars of_limit of_order
     (slots_of_chain n (live_count sets) (action_count t) (most_outcomes (system_of t) * (fluent_count t + 1)) few) tight

@@ -1,14 +1,13 @@
 -- What a shelf tells stays: what a later step of a command says of its file holds from the
 -- command's start.
 use Rattle.std.proofs.Common.{◌≡◌, ◌⊎◌, ℕ, List, [], ◌∷◌, inl, inr, refl, subst, ap, ◌∙◌}
-use Rattle.std.specs.Prelude.{⊤}
-use Rattle.plan_io.specs.Fetches.{FailedLast, Fetches, FetchesNothing, MayFetch}
+use Rattle.plan_io.specs.Fetches.{FailedLast, Fetches}
 use Rattle.plan_io.specs.Held.{Held}
 use Rattle.task_core.specs.Names.{Name}
 use Rattle.mbp_top.specs.Answers.{Answer, refused, Refusal, no_memory}
-use Rattle.mbp_top.specs.Fetching.{FetchesBoth, FetchesRun, HoldsDomain, HoldsSomePlan}
+use Rattle.mbp_top.specs.Fetching.{HoldsSomePlan}
 use Rattle.mbp_top.specs.Reading.{Holds, IsRefusedFile, ReadThen}
-use Rattle.mbp_top.specs.Words.{Bytes, ReplayWords}
+use Rattle.mbp_top.specs.Words.{Bytes}
 
 -- shelves that tell the same
 same_told : (held held' : Bytes → Held) → ((file : Bytes) → held' file ≡ held file) → held' ≡ held
@@ -60,32 +59,6 @@ read_over held held' failed failed' name Spells Wrong Then a same over (inl (r, 
     inl (r, is, refused_over held failed failed' Wrong name r over (subst (λ h. IsRefusedFile h failed' Wrong name r) (same_told held held' same) why))
 read_over held held' failed failed' name Spells Wrong Then a same over (inr (tree, holds, then)) =
     inr (tree, holds_over held held' Spells name tree same holds, then)
-
--- fetches that may come in place of others, where they are needed
-pub may_map : {S : Type 0} (fetched : S → List ℕ → S → Type 0) (P Q : Type 0) (name : List ℕ) (Then Then' : S → S → Type 0) (before after : S) → (P → Q)
-    → ((x y : S) → Then x y → Then' x y) → MayFetch fetched P name Then before after → MayFetch fetched Q name Then' before after
-may_map fetched P Q name Then Then' before after f g (inl same) = inl same
-may_map fetched P Q name Then Then' before after f g (inr (needed, between, fetch, then)) = inr (f needed, between, fetch, g between after then)
-
--- after those of two files, one of which was refused, none came
-pub both_alone : {S : Type 0} (held : Bytes → Held) (fetched : S → List ℕ → S → Type 0) (a b : List ℕ) (More : S → S → Type 0) (before after : S)
-    → ((x y : S) → FetchesNothing x y → More x y) → FetchesBoth held fetched a b FetchesNothing before after → FetchesBoth held fetched a b More before after
-both_alone held fetched a b More before after none =
-    may_map fetched ⊤ ⊤ a (MayFetch fetched (HoldsDomain held a) b FetchesNothing) (MayFetch fetched (HoldsDomain held a) b More) before after (λ t. t)
-    (λ x y. may_map fetched (HoldsDomain held a) (HoldsDomain held a) b FetchesNothing More x y (λ h. h) none)
-
--- and after those of two files that were read came more
-pub both_then : {S : Type 0} (held : Bytes → Held) (fetched : S → List ℕ → S → Type 0) (a b : List ℕ) (More : S → S → Type 0) (before between after : S)
-    → HoldsDomain held a → Fetches fetched (a ∷ b ∷ []) before between → More between after → FetchesBoth held fetched a b More before after
-both_then {S} held fetched a b More before between after holds (x, first, (y, second, is)) more =
-    inr (tt, x, first, inr (holds, y, second, subst (λ (s : S). More s after) is more))
-
--- the fetches of a plan and a record, where they are needed
-pub run_map : {S : Type 0} (fetched : S → List ℕ → S → Type 0) (asked : ReplayWords) (P P' Q Q' : Type 0) (before after : S) → (P → P') → (Q → Q')
-    → FetchesRun fetched asked P Q before after → FetchesRun fetched asked P' Q' before after
-run_map fetched asked P P' Q Q' before after f g =
-    may_map fetched P P' asked.plan (MayFetch fetched Q asked.recorded FetchesNothing) (MayFetch fetched Q' asked.recorded FetchesNothing) before after f
-    (λ x y. may_map fetched Q Q' asked.recorded FetchesNothing FetchesNothing x y g (λ s t same. same))
 
 -- a plan over names that are equal
 pub some_plan : (held : Bytes → Held) (fluents fluents' actions actions' : List Name) (name : Bytes) → fluents ≡ fluents' → actions ≡ actions'

@@ -27,6 +27,8 @@ pub mod Listings
 pub mod PlanAnswers
 pub mod EnoughNodes
 pub mod Later
+pub mod Fetched
+pub mod AllFetched
 pub mod Refusals
 pub mod WordLists
 pub mod NodeNumerals

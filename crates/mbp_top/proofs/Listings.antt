@@ -1,8 +1,8 @@
 -- The listing of a task is that of the domain and the problem that it comes from.
-use Rattle.std.proofs.Common.{◌≡◌, ℕ, List, [], ◌∷◌, map, length, ap, sym, ◌∙◌, refl}
+use Rattle.std.proofs.Common.{◌≡◌, List, [], ◌∷◌, map, length, ap, sym, ◌∙◌, refl}
 use Rattle.std.proofs.lemmas.List.{length-map}
 use Rattle.task_core.specs.Initial.{entries_of}
-use Rattle.task_core.specs.Names.{Name, name_of}
+use Rattle.task_core.specs.Names.{name_of}
 use Rattle.task_core.specs.Tasks.{fluent_names as names_of_fluents, action_names as names_of_actions}
 use Rattle.task_core.specs.declared.actions.GroundAction.{GroundAction}
 use Rattle.task_core.specs.declared.tasks.Task.{Task}

@@ -1,5 +1,5 @@
 -- Plans that meet a problem, and problems that none meets.
-use Rattle.std.proofs.Common.{ℕ, List, [], ◌∷◌, inl, inr, refl, subst, true}
+use Rattle.std.proofs.Common.{ℕ, List, [], ◌∷◌, inl, inr, refl, subst}
 use Rattle.exec_graph.proofs.DenotedPairs.{can_execute-Exec, denoted-pair}
 use Rattle.pddl_ast.specs.Trees.{DomainTree, ProblemTree}
 use Rattle.pddl_system.specs.Systems.{action_names, fluent_names, system}

@@ -32,7 +32,7 @@ use Rattle.mbp_top.specs.Answers.{Answer, affirmed, full, no_memory, refused}
 use Rattle.mbp_top.specs.Enough.{IsTightLimit}
 use Rattle.mbp_top.specs.FoundPlans.{IsFoundPlan, IsSearched, IsTableResult}
 use Rattle.mbp_top.specs.Grounded.{IsTaskOf}
-use Rattle.mbp_top.specs.Grounding.{GoalThen, GroundThen, has_goal_for}
+use Rattle.mbp_top.specs.Grounding.{has_goal_for}
 use Rattle.mbp_top.specs.PddlTexts.{HoldBoth, ReadBoth}
 use Rattle.mbp_top.specs.PlanCommand.{ArePrintedRules, IsPlanAnswer, IsPlanned, IsResultOf, IsShortest, MayBeTooFew, PlanThen, is_sought, stages_for}
 use Rattle.mbp_top.specs.Words.{Bytes, PlanKind, PlanWords, of_class}

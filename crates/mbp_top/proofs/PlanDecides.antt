@@ -8,7 +8,6 @@ use Rattle.plan_io.specs.Held.{Held, Untold}
 use Rattle.pddl_system.specs.Systems.{system, fluent_names, action_names}
 use Rattle.pddl_system.proofs.States.{they_have_a_system}
 use Rattle.task_core.specs.Systems.{IsSystem, System}
-use Rattle.plan_rules.specs.Denoted.{denoted, denoted_contexts}
 use Rattle.plan_rules.specs.Rules.{PlanRule}
 use Rattle.plan_rules.specs.Texts.{automaton_text, table_text}
 use Rattle.task_core.specs.Names.{Name}

@@ -1,6 +1,5 @@
 -- Worked examples of printed plans and listings, from the trees to the text.
 use Rattle.std.proofs.Common.{◌≡◌, ℕ, true, false, [], ◌∷◌, ◌++◌, codes, None, Some, refl}
-use Rattle.sexpr_text.specs.declared.forms.Place.{Place}
 use Rattle.task_core.specs.declared.classes.Class.TheVariants.{Weak}
 use Rattle.pddl_ast.specs.Trees.{DomainTree, ProblemTree, add, all, atom, both, one_of, no_effect, effect_then, no_formula}
 use Rattle.pddl_system.specs.Systems.{system, fluent_names, action_names}

@@ -1,5 +1,5 @@
 -- What follows for a run that has its cause.
-use Rattle.std.proofs.Common.{◌≡◌, ◌≢◌, ◌≤◌, ◌⊎◌, ℕ, None, true}
+use Rattle.std.proofs.Common.{◌≡◌, ◌≢◌, ◌≤◌, ◌⊎◌, ℕ, None, true, inl, inr, subst, sym}
 use Rattle.exec_graph.specs.Executions.{ReachesMoreThan}
 use Rattle.pddl_ast.specs.Trees.{DomainTree, ProblemTree}
 use Rattle.pddl_system.specs.Sizes.{first_passed}
@@ -24,6 +24,7 @@ use Rattle.mbp_top.specs.Told.{AreFilesTold, NoFault}
 use Rattle.mbp_top.specs.Words.{Bytes, CheckWords, Command, PlanWords, SayNothing, Says, SaysCheck, SaysPlan}
 use Rattle.mbp_top.proofs.ByCommand.{due_answer}
 use Rattle.mbp_top.proofs.CheckWritten.{YesSolves, check_no_written, check_status, check_yes_written}
+use Rattle.mbp_top.proofs.Fetched.{fetched_for_memory}
 use Rattle.mbp_top.proofs.DrillWritten.{drill_written, full_drill}
 use Rattle.mbp_top.proofs.GroundWritten.{listing_status, listing_written}
 use Rattle.mbp_top.proofs.PlanWritten.{NoPlanWritten, PlanWritten, full_written, no_plan_written, plan_status, plan_written}
@@ -39,7 +40,7 @@ module _ {S : Type 0} (held : S → Bytes → Held) (faults : S → ℕ) (fetche
 
   -- what was found for the words, and what was given for it
   pub has_run : (found given : Answer) → Cause found
-      → ((command : Command) → Says run.words command → FetchesFiles (held run.shelf) fetched command run.shelf run.shelf_after)
+      → ((command : Command) → Says run.words command → FetchesFiles (held run.shelf) (FailedIn faults fetched run) fetched command found run.shelf run.shelf_after)
       → (SayNothing run.words → run.shelf_after ≡ run.shelf) → IsQuietAt found (faults run.shelf) (faults run.shelf_after)
       → ((file : Bytes) → held run.shelf_after file ≡ held run.shelf file) → faults run.shelf ≤ faults run.shelf_after
       → (given ≡ found) ⊎ ((given ≡ refused no_memory) × (found ≢ refused no_command))
@@ -51,12 +52,20 @@ module _ {S : Type 0} (held : S → Bytes → Held) (faults : S → ℕ) (fetche
         answer = given;
         cause = d.cause;
         delivered = d.delivered;
-        fetches = fetches;
+        fetches = λ command says. given_fetches command (fetches command says) same;
         unfetched = unfetched;
         quiet = d.quiet;
         kept = kept;
         later = later;
       }
+    where
+      given_fetches : (command : Command) → FetchesFiles (held run.shelf) (FailedIn faults fetched run) fetched command found run.shelf run.shelf_after
+          → (given ≡ found) ⊎ ((given ≡ refused no_memory) × (found ≢ refused no_command))
+          → FetchesFiles (held run.shelf) (FailedIn faults fetched run) fetched command given run.shelf run.shelf_after
+      given_fetches command was (inl is) = subst (λ (a : Answer). FetchesFiles (held run.shelf) (FailedIn faults fetched run) fetched command a run.shelf run.shelf_after) (sym is) was
+      given_fetches command was (inr (is, said)) =
+          subst (λ (a : Answer). FetchesFiles (held run.shelf) (FailedIn faults fetched run) fetched command a run.shelf run.shelf_after) (sym is)
+          (fetched_for_memory (held run.shelf) (FailedIn faults fetched run) fetched command found run.shelf run.shelf_after was)
 
   module _ (has : HasRun held faults fetched run) where
     it_is : IsDone has.answer

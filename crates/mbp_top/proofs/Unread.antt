@@ -3,27 +3,24 @@ use Rattle.std.proofs.Common.{◌≡◌, ◌≢◌, ◌<◌, ℕ, zero, suc, Lis
 use Rattle.std.specs.Prelude.{slice_index_or}
 use Rattle.std.specs.Io.KnownBytes.{append_known}
 use Rattle.pddl_ast.specs.Trees.{DomainTree, ProblemTree}
-use Rattle.domain_read.specs.Domains.{SpellsDomain}
 use Rattle.pddl_system.specs.Systems.{action_names, fluent_names, system}
 use Rattle.plan_check.specs.declared.verdicts.Verdict.{Verdict}
 use Rattle.plan_check.specs.declared.verdicts.Verdict.TheVariants.{Yes, No}
 use Rattle.plan_io.specs.Held.{Held, Missing}
-use Rattle.run_replay.specs.Records.{RecordTree, SpellsRecord}
 use Rattle.run_replay.specs.Traces.{Ending, Terminal, Ended, Capped, Stray, Unexecutable}
 use Rattle.std.specs.Prelude.{None, Some}
-use Rattle.mbp_top.specs.Answers.{Answer, Refusal, refused, no_memory, read_fault, status_of, status_of_refusal, text_of, is_shown}
+use Rattle.mbp_top.specs.Answers.{Answer, Refusal, refused, no_memory, read_fault, status_of, status_of_refusal, text_of}
 use Rattle.mbp_top.specs.Causes.{IsAnswerOf}
-use Rattle.mbp_top.specs.CheckCommand.{CheckThen, ExploreThen, HasTooManyStates, IsChecked, IsVerdictOf, ShowsVerdict, verdict_answer}
-use Rattle.mbp_top.specs.Delivery.{IsWhole, Seen}
-use Rattle.mbp_top.specs.DrillCommand.{DrillThen, IsDrillAnswer, IsDrilled, IsNotFollowed, TextsThen}
+use Rattle.mbp_top.specs.CheckCommand.{HasTooManyStates, IsChecked, verdict_answer}
+use Rattle.mbp_top.specs.Delivery.{IsWhole}
+use Rattle.mbp_top.specs.DrillCommand.{IsDrillAnswer, IsDrilled, IsNotFollowed}
 use Rattle.mbp_top.specs.GroundCommand.{IsListed}
-use Rattle.mbp_top.specs.Grounding.{GroundThen}
 use Rattle.mbp_top.specs.Laws.{IsUnread, IsUnreadAt}
-use Rattle.mbp_top.specs.PddlTexts.{IsFaultyDomain, IsFaultyProblem, ReadBoth, SpellsProblemOf}
+use Rattle.mbp_top.specs.PddlTexts.{IsFaultyDomain, IsFaultyProblem, ReadBoth}
 use Rattle.mbp_top.specs.PlanCommand.{IsPlanResult, IsPlanned, IsResultOf}
-use Rattle.mbp_top.specs.PlanFiles.{IsFaultyPlan, PlacedPlan, SpellsPlaced}
-use Rattle.mbp_top.specs.Reading.{IsFile, IsRefusedFile, ReadThen}
-use Rattle.mbp_top.specs.ReplayCommand.{FirstThen, IsFaultyRecord, IsReplay, IsReplayed, Tallies, ended_answer, trace_under}
+use Rattle.mbp_top.specs.PlanFiles.{IsFaultyPlan}
+use Rattle.mbp_top.specs.Reading.{IsFile, IsRefusedFile}
+use Rattle.mbp_top.specs.ReplayCommand.{IsFaultyRecord, IsReplay, Tallies, ended_answer, trace_under}
 use Rattle.mbp_top.specs.Runs.{FailedIn, HasRun, Run}
 use Rattle.mbp_top.specs.Words.{Bytes, CheckWords, Command, DrillWords, PlanKind, PlanWords, ReplayWords, check, drill, files_of, ground, of_class, plan, replay, with_contexts}
 use Rattle.mbp_top.proofs.ByCommand.{of_command}

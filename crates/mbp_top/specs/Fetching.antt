@@ -1,18 +1,20 @@
 -- Which files a command fetches: the first, and each later one only once those before it were read
--- and nothing in them refuses the command. `held` and `fetched` are what the shelf tells.
-use Rattle.std.specs.Prelude.{◌≡◌, ⊤, List, None, true}
+-- and don't decide the answer. `held`, `failed` and `fetched` are what the shelf tells, as in
+-- Reading.
+use Rattle.std.specs.Prelude.{◌≡◌, ◌⊎◌, ⊤, List, [], ◌∷◌, None, true}
 use Rattle.pddl_ast.specs.Trees.{DomainTree, ProblemTree}
 use Rattle.domain_read.specs.Domains.{SpellsDomain}
 use Rattle.pddl_system.specs.Sizes.{first_passed}
 use Rattle.pddl_system.specs.Systems.{action_names, fluent_names}
-use Rattle.plan_io.specs.Fetches.{FetchesNothing, MayFetch}
+use Rattle.plan_io.specs.Fetches.{Fetches, FetchesNothing, MayFetch}
 use Rattle.plan_io.specs.Held.{Held}
 use Rattle.plan_rules.specs.Rules.{PlainPlan}
 use Rattle.task_core.specs.Names.{Name}
-use Rattle.mbp_top.specs.Grounding.{has_goal_for}
-use Rattle.mbp_top.specs.PddlTexts.{HoldBoth}
-use Rattle.mbp_top.specs.PlanFiles.{HoldsPlan}
-use Rattle.mbp_top.specs.Reading.{Holds}
+use Rattle.mbp_top.specs.Answers.{Answer, no_memory, refused}
+use Rattle.mbp_top.specs.Grounding.{GoalThen, GroundThen, has_goal_for}
+use Rattle.mbp_top.specs.PddlTexts.{HoldBoth, IsFaultyDomain, ReadBoth}
+use Rattle.mbp_top.specs.PlanFiles.{HoldsPlan, IsFaultyPlan, SpellsPlaced}
+use Rattle.mbp_top.specs.Reading.{Holds, ReadThen}
 use Rattle.mbp_top.specs.Words.{Bytes, CheckWords, Command, ReplayWords, check, ground, plan}
 use Rattle.mbp_top.specs.Words.{drill, replay}
 
@@ -55,23 +57,82 @@ AsksForRecord held asked =
     × HoldBoth held asked.domain asked.problem domain problem
     × HoldsSomePlan held (fluent_names domain problem) (action_names domain problem) asked.plan
 
--- the file of a plan is fetched where it is needed, and that of a record only where then it is
-abbrev pub FetchesRun : {S : Type 0} → (S → Bytes → S → Type 0) → ReplayWords → Type 0 → Type 0
-    → S → S → Type 0
-FetchesRun {S} fetched asked Plan Record =
-    MayFetch fetched Plan asked.plan (MayFetch fetched Record asked.recorded FetchesNothing)
+-- the file of this name is fetched; then the answer is decided (`Decided`), and nothing more is
+-- fetched; or a further file is needed (`Needed`), and there come the fetches that Then says
+abbrev pub FetchThen : {S : Type 0} → (S → Bytes → S → Type 0) → Bytes → Type 0 → Type 0
+    → (S → S → Type 0) → S → S → Type 0
+FetchThen {S} fetched name Decided Needed Then before after =
+    (between : S) × fetched before name between
+    × ((Decided × (after ≡ between)) ⊎ (Needed × Then between after))
 
--- the fetches of a command: of its files in their order, each once, as far as they are needed
-abbrev pub FetchesFiles : {S : Type 0} → (Bytes → Held) → (S → Bytes → S → Type 0) → Command → S
-    → S → Type 0
-FetchesFiles {S} held fetched (plan asked) =
-    FetchesBoth held fetched asked.domain asked.problem FetchesNothing
-FetchesFiles {S} held fetched (ground asked) =
-    FetchesBoth held fetched asked.domain asked.problem FetchesNothing
-FetchesFiles {S} held fetched (check asked) =
-    FetchesBoth held fetched asked.domain asked.problem
-    (MayFetch fetched (AsksForPlan held asked) asked.plan FetchesNothing)
-FetchesFiles {S} held fetched (replay asked) =
-    FetchesBoth held fetched asked.domain asked.problem
-    (FetchesRun fetched asked (AsksForRun held asked) (AsksForRecord held asked))
-FetchesFiles {S} held fetched (drill asked) = FetchesNothing
+-- the answer is want of memory, or has this cause
+abbrev pub Stops : (Answer → Type 0) → Answer → Type 0
+Stops Cause answer = (answer ≡ refused no_memory) ⊎ Cause answer
+
+-- the answer is want of memory, or that one of two files is refused
+abbrev pub RefusesBoth : (Bytes → Held) → (Bytes → Type 0) → Bytes → Bytes → Answer → Type 0
+RefusesBoth held failed domain_name problem_name =
+    Stops (ReadBoth held failed domain_name problem_name (λ domain problem answer. ⊥))
+
+-- the file of a domain is fetched; it is refused; or it spells a domain, and then come the fetches
+-- that Then says
+abbrev pub FetchDomain : {S : Type 0} → (Bytes → Held) → (Bytes → Type 0)
+    → (S → Bytes → S → Type 0) → Bytes → Answer → (S → S → Type 0) → S → S → Type 0
+FetchDomain {S} held failed fetched name answer =
+    FetchThen fetched name
+    (Stops (ReadThen held failed name SpellsDomain IsFaultyDomain (λ domain answer. ⊥)) answer)
+    (HoldsDomain held name)
+
+-- `check`: after the problem, whose goal may be of another kind and which may pass a limit, the plan
+abbrev pub FetchPlan : {S : Type 0} → (Bytes → Held) → (Bytes → Type 0)
+    → (S → Bytes → S → Type 0) → CheckWords → Answer → S → S → Type 0
+FetchPlan {S} held failed fetched asked answer =
+    FetchThen fetched asked.problem
+    (Stops (ReadBoth held failed asked.domain asked.problem (λ domain problem.
+    GoalThen asked.kind asked.problem problem (GroundThen domain problem (λ answer. ⊥)))) answer)
+    (AsksForPlan held asked) (Fetches fetched (asked.plan ∷ []))
+
+-- the file of a plan is fetched, which may decide the answer (`Cause`); or it spells a plan
+-- (`HoldsOne`), and then that of a record is
+abbrev pub FetchRecord : {S : Type 0} → (S → Bytes → S → Type 0) → ReplayWords
+    → (Answer → Type 0) → Type 0 → Answer → S → S → Type 0
+FetchRecord {S} fetched asked Cause HoldsOne answer =
+    FetchThen fetched asked.plan (Stops Cause answer) HoldsOne
+    (Fetches fetched (asked.recorded ∷ []))
+
+-- the plan over these names is refused
+abbrev pub RefusesPlan : (Bytes → Held) → (Bytes → Type 0) → List Name → List Name → Bytes
+    → Answer → Type 0
+RefusesPlan held failed fluents actions name =
+    ReadThen held failed name (SpellsPlaced fluents actions) (IsFaultyPlan fluents actions)
+    (λ placed answer. ⊥)
+
+-- `replay`: after the problem, which may pass a limit, the plan, and after the plan the record
+abbrev pub FetchRun : {S : Type 0} → (Bytes → Held) → (Bytes → Type 0)
+    → (S → Bytes → S → Type 0) → ReplayWords → Answer → S → S → Type 0
+FetchRun {S} held failed fetched asked answer =
+    FetchThen fetched asked.problem
+    (Stops (ReadBoth held failed asked.domain asked.problem (λ domain problem.
+    GroundThen domain problem (λ answer. ⊥))) answer)
+    (AsksForRun held asked)
+    (FetchRecord fetched asked
+    (ReadBoth held failed asked.domain asked.problem (λ domain problem.
+    GroundThen domain problem (RefusesPlan held failed (fluent_names domain problem)
+    (action_names domain problem) asked.plan)))
+    (AsksForRecord held asked) answer)
+
+-- the fetches of a command with this answer: of its files in their order, each once, up to the one
+-- that decides the answer
+abbrev pub FetchesFiles : {S : Type 0} → (Bytes → Held) → (Bytes → Type 0)
+    → (S → Bytes → S → Type 0) → Command → Answer → S → S → Type 0
+FetchesFiles {S} held failed fetched (plan asked) answer =
+    FetchDomain held failed fetched asked.domain answer (Fetches fetched (asked.problem ∷ []))
+FetchesFiles {S} held failed fetched (ground asked) answer =
+    FetchDomain held failed fetched asked.domain answer (Fetches fetched (asked.problem ∷ []))
+FetchesFiles {S} held failed fetched (check asked) answer =
+    FetchDomain held failed fetched asked.domain answer
+    (FetchPlan held failed fetched asked answer)
+FetchesFiles {S} held failed fetched (replay asked) answer =
+    FetchDomain held failed fetched asked.domain answer
+    (FetchRun held failed fetched asked answer)
+FetchesFiles {S} held failed fetched (drill asked) answer = FetchesNothing

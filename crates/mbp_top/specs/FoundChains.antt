@@ -1,5 +1,5 @@
 -- Private: what is known of what a search for a plan with contexts of a task found.
-use Rattle.std.specs.Prelude.{◌≡◌, ◌↔◌, ◌⊎◌, ⊤, ℕ, suc, All, length, List, Result, Ok, Err, Some}
+use Rattle.std.specs.Prelude.{◌≡◌, ◌↔◌, ◌⊎◌, ⊤, ℕ, suc, length, List, Result, Ok, Err, Some}
 use Rattle.plan_theory.specs.Chains.{HasChain}
 use Rattle.plan_theory.specs.ChainPlans.{HasNoContextPlan, IsChainPlan}
 use Rattle.plan_theory.specs.ChainPrinted.{chain_rules}

@@ -2,7 +2,7 @@
 use Rattle.std.specs.Prelude.{◌≡◌, ℕ, List, ◌++◌, codes, decimal, length, map}
 use Rattle.std.specs.List.{flat_map}
 use Rattle.pddl_ast.specs.Trees.{DomainTree, ProblemTree}
-use Rattle.pddl_system.specs.Instances.{Instance, kept_instances}
+use Rattle.pddl_system.specs.Instances.{kept_instances}
 use Rattle.pddl_system.specs.Outcomes.{outcomes_of}
 use Rattle.pddl_system.specs.Settings.{setting}
 use Rattle.pddl_system.specs.Systems.{fluent_names, instance_name}

@@ -8,6 +8,7 @@ use Rattle.pddl_system.specs.Sizes.{first_passed}
 use Rattle.pddl_system.specs.Systems.{action_names, fluent_names, system}
 use Rattle.plan_check.specs.declared.verdicts.Reason.{Reason}
 use Rattle.plan_check.specs.declared.verdicts.Verdict.TheVariants.{Yes, No}
+use Rattle.plan_io.specs.Fetches.{Fetches}
 use Rattle.plan_io.specs.Held.{Held, Missing}
 use Rattle.plan_rules.specs.Rules.{PlainPlan}
 use Rattle.run_replay.specs.Records.{RecordTree}
@@ -193,6 +194,14 @@ IsUnread {S} held faults fetched run =
     (command : Command) → Says run.words command → run.status ≡ 6
     → (place : ℕ) × (name : Bytes)
     × IsUnreadAt held faults fetched run (files_of command) place name
+
+-- statuses 0, 1, 5 and 9 are decided by all files of the command: each was fetched, in their order,
+-- each once, and nothing else was
+abbrev pub AreAllFetched : {S : Type 0} → (S → Bytes → S → Type 0) → Run S → Type 0
+AreAllFetched {S} fetched run =
+    (command : Command) → Says run.words command
+    → (run.status ≡ 0) ⊎ (run.status ≡ 1) ⊎ (run.status ≡ 5) ⊎ (run.status ≡ 9)
+    → Fetches fetched (files_of command) run.shelf run.shelf_after
 
 -- where the shelf tells of the files and has no fault, the words and the files alone decide the
 -- answer, but for want of memory, or of nodes where there may be too few; of `replay` also what the

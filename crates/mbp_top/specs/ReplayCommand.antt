@@ -14,7 +14,6 @@ use Rattle.run_replay.specs.TraceTexts.{trace_text}
 use Rattle.run_replay.specs.declared.worlds.Step.{Step}
 use Rattle.sexpr_text.specs.declared.faults.FaultKind.TheVariants.{BadNumber}
 use Rattle.sexpr_text.specs.declared.faults.InputFault.{InputFault}
-use Rattle.sexpr_text.specs.declared.forms.Place.{Place}
 use Rattle.task_core.specs.Names.{Name}
 use Rattle.task_core.specs.Systems.{System}
 use Rattle.task_core.specs.Vectors.{Vector}

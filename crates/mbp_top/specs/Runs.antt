@@ -28,16 +28,17 @@ abbrev pub FailedIn : {S : Type 0} → (S → ℕ) → (S → Bytes → S → Ty
 FailedIn {S} faults fetched run = FailedLast fetched faults run.shelf run.shelf_after
 
 -- an answer was given that has its cause, and was delivered. The files of the command were fetched
--- in their order, each once, as far as they were needed, and none without a command. The shelf's count of
--- faults is as it was, but at the answers that may have had one; it never falls, and what is held
--- stays
+-- in their order, each once, up to the one that decided the answer, and none without a command. The
+-- shelf's count of faults is as it was, but at the answers that may have had one; it never falls,
+-- and what is held stays
 pub record HasRun {S : Type 0} (held : S → Bytes → Held) (faults : S → ℕ)
     (fetched : S → Bytes → S → Type 0) (run : Run S) : Type 0 where
   pub answer : Answer
   pub cause : HasCause (held run.shelf) (FailedIn faults fetched run) run.tallies run.words answer
   pub delivered : IsDelivered answer run.out run.out_after run.err run.err_after run.status
   pub fetches : (command : Command) → Says run.words command
-      → FetchesFiles (held run.shelf) fetched command run.shelf run.shelf_after
+      → FetchesFiles (held run.shelf) (FailedIn faults fetched run) fetched command answer
+      run.shelf run.shelf_after
   pub unfetched : SayNothing run.words → run.shelf_after ≡ run.shelf
   pub quiet : IsQuietAt answer (faults run.shelf) (faults run.shelf_after)
   pub kept : (file : Bytes) → held run.shelf_after file ≡ held run.shelf file

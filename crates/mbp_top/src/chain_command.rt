@@ -5,7 +5,7 @@ ghost use Rattle.ctl_syntax.specs.ChainValues.{ChainIsAtMostDeep, ChainNamesBelo
 ghost use Rattle.ctl_syntax.specs.Values.{IsAtMostDeep, NamesBelow, ctl_value};
 ghost use Rattle.mbp_top.specs.Answers.{full, no_memory, refused};
 ghost use Rattle.mbp_top.specs.Enough.{IsTightLimit};
-ghost use Rattle.mbp_top.specs.FoundChains.{IsChainResult, IsChainSearched, StandsForChain};
+ghost use Rattle.mbp_top.specs.FoundChains.{IsChainResult, StandsForChain};
 ghost use Rattle.mbp_top.specs.Grounded.{IsGroundedOf, IsTaskOf};
 ghost use Rattle.mbp_top.specs.PlanCommand.{MayBeTooFew, PlanThen};
 ghost use Rattle.mbp_top.specs.Values.{answer_of, kind_of, plan_words_of, shown_of};
@@ -16,13 +16,13 @@ ghost use Rattle.std.specs.Prelude.{◌≡◌, ◌⊎◌, IfOk, IsErrOf, IsSome,
 ghost use Rattle.task_core.specs.Tasks.{fluent_count, system_of};
 
 use crate::answers::{Limit, Refusal, Shown, Text};
+use crate::chain_search::search_chain;
 use crate::grounding::goal_in;
 use crate::plan_command::text_of_plan;
 use crate::words::PlanWords;
-use chain_plan::{FoundAuto, plan_chain};
+use chain_plan::FoundAuto;
 use ctl_syntax::{Chain, Ctl, as_chain};
-use dd_sets::{SetErr, no_room_is_tight, tight_is_monotone};
-use encode_task::encode;
+use dd_sets::SetErr;
 use ground_task::Grounded;
 use pddl_ast::{Domain, Problem};
 use pddl_system::grounded_goals_are_true;
@@ -151,20 +151,4 @@ fn chain_task(alloc: Global, nodes: u32, task: &Task, chain: &Chain) -> Result<S
         }
         FoundAuto::NoPlan => Ok(Shown::Denied(Text::Fixed("no plan\n"))),
     }
-}
-
-/// What is found for a task and a chain, in a table for so many nodes.
-fn search_chain(alloc: Global, nodes: u32, task: &Task, chain: &Chain) -> Result<FoundAuto, SetErr>
-    requires room { IsNodeLimit nodes }
-    requires chain { IsChainOver (fluent_count task.now) chain.now }
-    ensures found { IsChainSearched task.now chain.now result }
-    ensures full { IsErrOf result SetErr.Full
-        → IsTightLimit (length chain.now.stages.items) nodes (system_of task.now) }
-{
-    // These do nothing: that few nodes are too few for more sets, and that the limit is tight where
-    // there was no room, rests on what they promise.
-    tight_is_monotone();
-    no_room_is_tight();
-    let mut enc = encode(alloc, task, nodes)?;
-    plan_chain(alloc, task, &mut enc, chain)
 }

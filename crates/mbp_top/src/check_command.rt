@@ -14,8 +14,8 @@ ghost use Rattle.mbp_top.specs.CheckCommand.{
   most_followed,
   verdict_answer,
 };
-ghost use Rattle.mbp_top.specs.Fetching.{FetchesFiles};
-ghost use Rattle.mbp_top.specs.Grounding.{has_goal_for};
+ghost use Rattle.mbp_top.specs.Fetching.{FetchesFiles, Stops};
+ghost use Rattle.mbp_top.specs.Grounding.{GoalThen, GroundThen, has_goal_for};
 ghost use Rattle.mbp_top.specs.Judged.{HasGoalIn, IsTaskVerdict};
 ghost use Rattle.mbp_top.specs.PlanFiles.{KindThen, is_of_kind};
 ghost use Rattle.mbp_top.specs.Values.{answer_of, check_words_of, kind_of, placed_of, shown_of};
@@ -24,10 +24,23 @@ ghost use Rattle.pddl_ast.specs.Fits.{FitsDomain, FitsProblem};
 ghost use Rattle.pddl_ast.specs.Values.{domain_value, problem_value};
 ghost use Rattle.pddl_system.specs.Names.{NamesAreWords};
 ghost use Rattle.pddl_system.specs.Sizes.{first_passed};
-ghost use Rattle.plan_io.specs.Fetches.{FailedLast, FetchesNothing, MayFetch};
+ghost use Rattle.plan_io.specs.Fetches.{FailedLast, Fetches};
 ghost use Rattle.plan_rules.specs.Plans.{IsPlanOf};
 ghost use Rattle.plan_rules.specs.Rules.{ContextRule, PlainPlan, automaton, plain_of};
-ghost use Rattle.std.specs.Prelude.{◌≡◌, ◌≤◌, ◌⊎◌, IfOk, IfSome, IsSome, List, None, true, ℕ};
+ghost use Rattle.std.specs.Prelude.{
+  ◌≡◌,
+  ◌≤◌,
+  ◌⊎◌,
+  [],
+  ◌∷◌,
+  IfOk,
+  IfSome,
+  IsSome,
+  List,
+  None,
+  true,
+  ℕ,
+};
 ghost use Rattle.task_core.specs.Tasks.{action_count, fluent_count, system_of};
 
 use crate::answers::{Limit, Refusal, Shown, Text};
@@ -39,7 +52,7 @@ use exec_graph::{Graph, GraphErr, explore};
 use ground_task::Grounded;
 use pddl_ast::{Domain, Problem};
 use pddl_system::grounded_goals_are_true;
-use plan_check::{Reason, Verdict, check_class, check_ctl};
+use plan_check::{Reason, Verdict, judge_class, judge_ctl};
 use plan_io::Shelf;
 use plan_rules::{Plan, PlanRead};
 use sexpr_text::{FaultKind, InputFault};
@@ -54,8 +67,9 @@ pub(crate) fn check_files<S: Shelf>(
     ensures answer { let failed = FailedLast S.fetched S.faults shelf.old shelf.new in
         (answer_of result ≡ refused no_memory)
         ⊎ IsCheckAnswer (S.held shelf.old) failed (check_words_of asked.now) (answer_of result) }
-    ensures fetches { FetchesFiles (S.held shelf.old) S.fetched (check (check_words_of asked.now))
-        shelf.old shelf.new }
+    ensures fetches { let failed = FailedLast S.fetched S.faults shelf.old shelf.new in
+        FetchesFiles (S.held shelf.old) failed S.fetched (check (check_words_of asked.now))
+        (answer_of result) shelf.old shelf.new }
     ensures quiet_at { IsQuietAt (answer_of result) (S.faults shelf.old) (S.faults shelf.new) }
     ensures kept { (file : List ℕ) → S.held shelf.new file ≡ S.held shelf.old file }
     ensures later { S.faults shelf.old ≤ S.faults shelf.new }
@@ -79,10 +93,13 @@ fn check_problem<S: Shelf>(
         (answer_of result ≡ refused no_memory)
         ⊎ IsChecked (S.held shelf.old) failed (check_words_of asked.now)
         (domain_value domain.now) (problem_value problem.now) (answer_of result) }
-    ensures fetches { MayFetch S.fetched
-        ((has_goal_for (kind_of asked.now.kind) (problem_value problem.now) ≡ true)
+    ensures fetches { let asked = check_words_of asked.now in
+        (Stops (GoalThen asked.kind asked.problem (problem_value problem.now)
+        (GroundThen (domain_value domain.now) (problem_value problem.now) (λ answer. ⊥)))
+        (answer_of result) × (shelf.new ≡ shelf.old))
+        ⊎ (((has_goal_for asked.kind (problem_value problem.now) ≡ true)
         × (first_passed (domain_value domain.now) (problem_value problem.now) ≡ None))
-        asked.now.plan.now FetchesNothing shelf.old shelf.new }
+        × Fetches S.fetched (asked.plan ∷ []) shelf.old shelf.new) }
     ensures quiet_at { IsQuietAt (answer_of result) (S.faults shelf.old) (S.faults shelf.new) }
     ensures kept { (file : List ℕ) → S.held shelf.new file ≡ S.held shelf.old file }
     ensures later { S.faults shelf.old ≤ S.faults shelf.new }
@@ -189,7 +206,7 @@ fn verdict_on(
         → IfOk result (IsTaskVerdict (kind_of kind) grounded.now.task grounded.now.ctl plan) }
 {
     match kind {
-        PlanKind::Class(class) => check_class(alloc, &grounded.task, graph, class),
+        PlanKind::Class(class) => judge_class(alloc, &grounded.task, graph, class),
         PlanKind::Contexts => context_verdict(alloc, grounded, graph),
     }
 }
@@ -208,7 +225,7 @@ fn context_verdict(alloc: Global, grounded: &Grounded, graph: &Graph) -> Result<
         → IfOk result (IsTaskVerdict with_contexts grounded.now.task grounded.now.ctl
         (automaton contexts rules)) }
 {
-    check_ctl(alloc, &grounded.task, graph, goal_in(grounded))
+    judge_ctl(alloc, &grounded.task, graph, goal_in(grounded))
 }
 
 /// What is shown of a verdict.

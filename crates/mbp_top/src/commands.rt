@@ -32,8 +32,10 @@ pub(crate) fn answer<S: Shelf>(
         HasCause (S.held shelf.old) failed
         (tallies_of (map (λ monitor. shown monitor) monitors.old.items))
         (map string_bytes words.now) (answer_of result) }
-    ensures fetches { (command : SaidCommand) → Says (map string_bytes words.now) command
-        → FetchesFiles (S.held shelf.old) S.fetched command shelf.old shelf.new }
+    ensures fetches { let failed = FailedLast S.fetched S.faults shelf.old shelf.new in
+        (command : SaidCommand) → Says (map string_bytes words.now) command
+        → FetchesFiles (S.held shelf.old) failed S.fetched command (answer_of result)
+        shelf.old shelf.new }
     ensures no_fetch { SayNothing (map string_bytes words.now) → shelf.new ≡ shelf.old }
     ensures quiet_at { IsQuietAt (answer_of result) (S.faults shelf.old) (S.faults shelf.new) }
     ensures kept { (file : List ℕ) → S.held shelf.new file ≡ S.held shelf.old file }

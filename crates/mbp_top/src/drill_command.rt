@@ -53,17 +53,17 @@ ghost use Rattle.task_core.specs.Tasks.{action_count, fluent_count, system_of};
 
 use crate::answers::{Limit, Refusal, Shown, Text};
 use crate::check_command::show_verdict;
+use crate::class_search::find_plan;
 use crate::ground_command::push_count;
 use crate::grounding::{check_goal, grounded};
 use crate::pddl_texts::{domain_in, problem_in};
-use crate::plan_command::find_plan;
 use crate::words::{DEFAULT_NODES, DrillKind, DrillWords, PlanKind, class_name};
 use dd_sets::{SetErr, tight_is_monotone};
 use encode_task::{Enc, encode};
 use exec_graph::{Graph, GraphErr, explore};
 use pddl_ast::{Domain, Problem};
 use pddl_system::read_names_are_words;
-use plan_check::{Verdict, check_class};
+use plan_check::{Verdict, judge_class};
 use plan_rules::{Class, Plan, TablePlan};
 use plan_theory::Found;
 use std::alloc::{AllocError, Global};
@@ -366,7 +366,7 @@ fn class_verdict(
         (plain_graph (fluent_count task.now) graph.now)
         → IfOk result (IsVerdict (system_of task.now) rules class) }
 {
-    check_class(alloc, task, graph, class)
+    judge_class(alloc, task, graph, class)
 }
 
 /// The line of a class with so many rules and the verdict on them.

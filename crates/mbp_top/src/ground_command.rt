@@ -2,7 +2,7 @@
 
 ghost use Rattle.mbp_top.specs.Answers.{no_memory, refused};
 ghost use Rattle.mbp_top.specs.Causes.{IsQuietAt};
-ghost use Rattle.mbp_top.specs.Fetching.{FetchesBoth};
+ghost use Rattle.mbp_top.specs.Fetching.{FetchesFiles};
 ghost use Rattle.mbp_top.specs.GroundCommand.{
   IsGroundAnswer,
   IsListed,
@@ -12,10 +12,11 @@ ghost use Rattle.mbp_top.specs.GroundCommand.{
   listing,
 };
 ghost use Rattle.mbp_top.specs.Values.{answer_of, ground_words_of};
+ghost use Rattle.mbp_top.specs.Words.{ground};
 ghost use Rattle.pddl_ast.specs.Fits.{FitsDomain, FitsProblem};
 ghost use Rattle.pddl_ast.specs.Values.{domain_value, problem_value};
 ghost use Rattle.pddl_system.specs.Names.{NamesAreWords};
-ghost use Rattle.plan_io.specs.Fetches.{FailedLast, FetchesNothing};
+ghost use Rattle.plan_io.specs.Fetches.{FailedLast};
 ghost use Rattle.std.specs.List.{flat_map};
 ghost use Rattle.std.specs.Prelude.{
   ◌≡◌,
@@ -54,8 +55,9 @@ pub(crate) fn ground_files<S: Shelf>(
         (answer_of result ≡ refused no_memory)
         ⊎ IsGroundAnswer (S.held shelf.old) failed (ground_words_of asked.now)
         (answer_of result) }
-    ensures fetches { FetchesBoth (S.held shelf.old) S.fetched asked.now.domain.now
-        asked.now.problem.now FetchesNothing shelf.old shelf.new }
+    ensures fetches { let failed = FailedLast S.fetched S.faults shelf.old shelf.new in
+        FetchesFiles (S.held shelf.old) failed S.fetched (ground (ground_words_of asked.now))
+        (answer_of result) shelf.old shelf.new }
     ensures quiet_at { IsQuietAt (answer_of result) (S.faults shelf.old) (S.faults shelf.new) }
     ensures kept { (file : List ℕ) → S.held shelf.new file ≡ S.held shelf.old file }
     ensures later { S.faults shelf.old ≤ S.faults shelf.new }

@@ -1,6 +1,7 @@
 //! Laws on runs: what follows wherever an answer that has its cause was delivered, as `run` says it.
 
 ghost use Rattle.mbp_top.specs.Laws.{
+  AreAllFetched,
   AreQuietSinks,
   ComesToListing,
   ComesToReplay,
@@ -113,6 +114,11 @@ pub fn full_drills_are_tight<S: Shelf>()
 /// Status 6 comes with the name of the command's file that can't be read.
 pub fn unread_files_are_named<S: Shelf>()
     ensures { OfRuns S.held S.faults S.fetched (IsUnread S.held S.faults S.fetched) }
+{}
+
+/// Statuses 0, 1, 5 and 9 come once all files of the command were fetched.
+pub fn answered_files_are_fetched<S: Shelf>()
+    ensures { OfRuns S.held S.faults S.fetched (AreAllFetched S.fetched) }
 {}
 
 /// The words and the files alone decide the answer.

@@ -11,7 +11,9 @@
 
 mod answers;
 mod chain_command;
+mod chain_search;
 mod check_command;
+mod class_search;
 mod commands;
 mod delivery;
 mod drill_command;
@@ -19,6 +21,7 @@ mod files;
 mod ground_command;
 mod grounding;
 mod laws;
+mod ordered_sets;
 mod pddl_texts;
 mod plan_command;
 mod plan_files;
@@ -33,10 +36,11 @@ pub use check_command::judge;
 pub use delivery::deliver;
 pub use grounding::{check_goal, ground_both};
 pub use laws::{
-    answers_are_cut, answers_are_whole, drills_are_written, due_answers_come, due_statuses_come,
-    full_drills_are_tight, full_tables_are_tight, listings_are_written, plans_are_replayed,
-    plans_meet_at_yes, problems_are_listed, reasons_come_at_no, shelves_stay_quiet,
-    sinks_stay_quiet, statuses_are_ten, traces_are_written, unread_files_are_named,
+    answered_files_are_fetched, answers_are_cut, answers_are_whole, drills_are_written,
+    due_answers_come, due_statuses_come, full_drills_are_tight, full_tables_are_tight,
+    listings_are_written, plans_are_replayed, plans_meet_at_yes, problems_are_listed,
+    reasons_come_at_no, shelves_stay_quiet, sinks_stay_quiet, statuses_are_ten, traces_are_written,
+    unread_files_are_named,
 };
 pub use pddl_texts::read_both;
 pub use plan_command::plan_grounded;

@@ -2,15 +2,14 @@
 
 ghost use Rattle.mbp_top.specs.Answers.{no_memory, refused};
 ghost use Rattle.mbp_top.specs.Causes.{IsQuietAt};
-ghost use Rattle.mbp_top.specs.Fetching.{FetchesBoth};
+ghost use Rattle.mbp_top.specs.Fetching.{FetchDomain, FetchesBoth, RefusesBoth};
 ghost use Rattle.mbp_top.specs.PddlTexts.{
   HoldBoth,
   IsFaultyDomain,
   IsFaultyProblem,
-  ReadBoth,
   SpellsProblemOf,
 };
-ghost use Rattle.mbp_top.specs.Reading.{Holds, IsRefusedFile, file_limit};
+ghost use Rattle.mbp_top.specs.Reading.{Holds, IsFile, IsRefusedFile, file_limit};
 ghost use Rattle.mbp_top.specs.Values.{refusal_for, refusal_of};
 ghost use Rattle.pddl_ast.specs.Fits.{FitsDomain, FitsProblem};
 ghost use Rattle.pddl_ast.specs.Values.{domain_value, problem_value};
@@ -103,24 +102,31 @@ pub(crate) fn read_domain_file<S: Shelf>(
     domain_in(alloc, name, &bytes)
 }
 
-/// The problem of a domain in a file.
-pub(crate) fn read_problem_file<S: Shelf>(
+/// The domain in a file, and the bytes of the file of a problem, which is fetched once the domain
+/// was read.
+fn fetch_both<S: Shelf>(
     alloc: Global,
     shelf: &mut S,
-    name: &str,
-    domain: &Domain,
-) -> Result<Problem, Refusal>
-    requires { FitsDomain (domain_value domain.now) }
-    ensures holds { IfOk result
-        (λ p. Holds (S.held shelf.old) (SpellsProblemOf (domain_value domain.now)) name.now
-        (problem_value p)) }
-    ensures fits { IfOk result (λ p. FitsProblem (domain_value domain.now) (problem_value p)) }
-    ensures words { IfOk result (λ p. HasWordObjects (problem_value p)) }
+    domain_name: &str,
+    problem_name: &str,
+) -> Result<(Domain, Vec<u8>), Refusal>
+    ensures holds { IfOk result (λ both.
+        Holds (S.held shelf.old) SpellsDomain domain_name.now (domain_value both.0)) }
+    ensures fits { IfOk result (λ both. FitsDomain (domain_value both.0)) }
+    ensures words { IfOk result (λ both. HasWordNames (domain_value both.0)) }
+    ensures file { IfOk result (λ both.
+        IsFile (S.held shelf.old) problem_name.now both.1.items) }
     ensures refused { let failed = FailedLast S.fetched S.faults shelf.old shelf.new in
-        IfErr result (λ refusal. (refusal_of refusal ≡ no_memory)
-        ⊎ IsRefusedFile (S.held shelf.old) failed (IsFaultyProblem (domain_value domain.now))
-        name.now (refusal_of refusal)) }
-    ensures fetch { S.fetched shelf.old name.now shelf.new }
+        IfErr result (λ refusal. RefusesBoth (S.held shelf.old) failed domain_name.now
+        problem_name.now (refused (refusal_of refusal))) }
+    ensures stopped { let failed = FailedLast S.fetched S.faults shelf.old shelf.new in
+        IfErr result (λ refusal. FetchDomain (S.held shelf.old) failed S.fetched domain_name.now
+        (refused (refusal_of refusal)) (Fetches S.fetched (problem_name.now ∷ []))
+        shelf.old shelf.new) }
+    ensures fetches { FetchesBoth (S.held shelf.old) S.fetched domain_name.now problem_name.now
+        FetchesNothing shelf.old shelf.new }
+    ensures fetched { OnOk result
+        (Fetches S.fetched (domain_name.now ∷ problem_name.now ∷ []) shelf.old shelf.new) }
     ensures quiet { OnOk result (S.faults shelf.new ≡ S.faults shelf.old) }
     ensures quiet_at { IfErr result
         (λ refusal. IsQuietAt (refused (refusal_of refusal)) (S.faults shelf.old)
@@ -128,8 +134,9 @@ pub(crate) fn read_problem_file<S: Shelf>(
     ensures kept { (file : List ℕ) → S.held shelf.new file ≡ S.held shelf.old file }
     ensures later { S.faults shelf.old ≤ S.faults shelf.new }
 {
-    let bytes = fetch(alloc, shelf, name)?;
-    problem_in(alloc, name, &bytes, domain)
+    let domain = read_domain_file(alloc, shelf, domain_name)?;
+    let bytes = fetch(alloc, shelf, problem_name)?;
+    Ok((domain, bytes))
 }
 
 /// The domain and the problem of it in two files.
@@ -147,9 +154,12 @@ pub fn read_both<S: Shelf>(
     ensures names { IfOk result
         (λ both. NamesAreWords (domain_value both.0) (problem_value both.1)) }
     ensures refused { let failed = FailedLast S.fetched S.faults shelf.old shelf.new in
-        IfErr result (λ refusal. (refused (refusal_of refusal) ≡ refused no_memory)
-        ⊎ ReadBoth (S.held shelf.old) failed domain_name.now problem_name.now
-        (λ domain problem answer. ⊥) (refused (refusal_of refusal))) }
+        IfErr result (λ refusal. RefusesBoth (S.held shelf.old) failed domain_name.now
+        problem_name.now (refused (refusal_of refusal))) }
+    ensures stopped { let failed = FailedLast S.fetched S.faults shelf.old shelf.new in
+        IfErr result (λ refusal. FetchDomain (S.held shelf.old) failed S.fetched domain_name.now
+        (refused (refusal_of refusal)) (Fetches S.fetched (problem_name.now ∷ []))
+        shelf.old shelf.new) }
     ensures fetches { FetchesBoth (S.held shelf.old) S.fetched domain_name.now problem_name.now
         FetchesNothing shelf.old shelf.new }
     ensures fetched { OnOk result
@@ -163,7 +173,7 @@ pub fn read_both<S: Shelf>(
 {
     // This does nothing: `names` rests on what it promises.
     read_names_are_words();
-    let domain = read_domain_file(alloc, shelf, domain_name)?;
-    let problem = read_problem_file(alloc, shelf, problem_name, &domain)?;
+    let (domain, bytes) = fetch_both(alloc, shelf, domain_name, problem_name)?;
+    let problem = problem_in(alloc, problem_name, &bytes, &domain)?;
     Ok((domain, problem))
 }

@@ -1,32 +1,26 @@
 //! The command `plan`.
 
-ghost use Rattle.dd_sets.specs.Frames.{Owns};
-ghost use Rattle.dd_sets.specs.Rooms.{IsTightFor};
-ghost use Rattle.encode_task.specs.Made.{MadeOf};
 ghost use Rattle.mbp_top.specs.Answers.{full, no_memory, refused};
 ghost use Rattle.mbp_top.specs.Causes.{IsQuietAt};
 ghost use Rattle.mbp_top.specs.Enough.{IsTightLimit};
-ghost use Rattle.mbp_top.specs.Fetching.{FetchesBoth};
-ghost use Rattle.mbp_top.specs.FoundPlans.{IsSearched, IsTableResult};
+ghost use Rattle.mbp_top.specs.Fetching.{FetchesFiles};
+ghost use Rattle.mbp_top.specs.FoundPlans.{IsTableResult};
 ghost use Rattle.mbp_top.specs.Grounded.{IsGroundedOf, IsTaskOf};
 ghost use Rattle.mbp_top.specs.PlanCommand.{IsPlanAnswer, IsPlanned, MayBeTooFew};
 ghost use Rattle.mbp_top.specs.PlanCommand.{PlanThen};
 ghost use Rattle.mbp_top.specs.Grounding.{has_goal_for};
 ghost use Rattle.mbp_top.specs.Values.{answer_of, bytes_of, kind_of, plan_words_of, shown_of};
-ghost use Rattle.mbp_top.specs.Words.{IsNodeLimit, of_class};
+ghost use Rattle.mbp_top.specs.Words.{Command, IsNodeLimit, of_class};
 ghost use Rattle.pddl_ast.specs.Fits.{FitsDomain, FitsProblem};
 ghost use Rattle.pddl_ast.specs.Values.{domain_value, problem_value};
 ghost use Rattle.pddl_system.specs.Names.{NamesAreWords};
-ghost use Rattle.plan_io.specs.Fetches.{FailedLast, FetchesNothing};
+ghost use Rattle.plan_io.specs.Fetches.{FailedLast};
 ghost use Rattle.plan_rules.specs.Plans.{IsPlanOf, plan_text};
 ghost use Rattle.plan_rules.specs.Readings.{SpellsPlan};
 ghost use Rattle.std.specs.Prelude.{
   ◌≡◌,
   ◌≤◌,
-  ◌+◌,
-  ◌*◌,
   ◌⊎◌,
-  [],
   IfOk,
   IsErrOf,
   IsSome,
@@ -35,22 +29,20 @@ ghost use Rattle.std.specs.Prelude.{
   true,
   ℕ,
 };
-ghost use Rattle.task_core.specs.Tasks.{action_count, action_names, fluent_names, system_of};
+ghost use Rattle.task_core.specs.Tasks.{action_names, fluent_names, system_of};
 
 use crate::answers::{Refusal, Shown, Text};
 use crate::chain_command::plan_contexts;
+use crate::class_search::search_task;
 use crate::grounding::{check_goal, ground_both};
 use crate::pddl_texts::read_both;
 use crate::words::{PlanKind, PlanWords};
-use cyclic_plan::plan_cyclic;
-use dd_sets::{SetErr, no_room_is_tight, tight_is_monotone};
-use encode_task::{Enc, encode};
+use dd_sets::SetErr;
 use ground_task::Grounded;
 use pddl_ast::{Domain, Problem};
 use plan_io::Shelf;
 use plan_rules::{Class, Plan, write_plan};
-use plan_theory::{Found, printed_plan_is_shortest};
-use reach_plan::{plan_strong, plan_weak};
+use plan_theory::Found;
 use std::alloc::{AllocError, Global};
 use task_core::{Task, tasks_have_systems};
 
@@ -64,8 +56,9 @@ pub(crate) fn plan_files<S: Shelf>(
     ensures answer { let failed = FailedLast S.fetched S.faults shelf.old shelf.new in
         (answer_of result ≡ refused no_memory)
         ⊎ IsPlanAnswer (S.held shelf.old) failed (plan_words_of asked.now) (answer_of result) }
-    ensures fetches { FetchesBoth (S.held shelf.old) S.fetched asked.now.domain.now
-        asked.now.problem.now FetchesNothing shelf.old shelf.new }
+    ensures fetches { let failed = FailedLast S.fetched S.faults shelf.old shelf.new in
+        FetchesFiles (S.held shelf.old) failed S.fetched (Command.plan (plan_words_of asked.now))
+        (answer_of result) shelf.old shelf.new }
     ensures quiet_at { IsQuietAt (answer_of result) (S.faults shelf.old) (S.faults shelf.new) }
     ensures kept { (file : List ℕ) → S.held shelf.new file ≡ S.held shelf.old file }
     ensures later { S.faults shelf.old ≤ S.faults shelf.new }
@@ -164,94 +157,6 @@ fn plan_task(alloc: Global, class: Class, nodes: u32, task: &Task) -> Result<Sho
         Found::Plan(table) => Ok(Shown::Affirmed(text_of_plan(alloc, &Plan::Table(table), task)?)),
         Found::NoPlan => Ok(Shown::Denied(Text::Fixed("no plan\n"))),
     }
-}
-
-/// What is found for a task, in a table for so many nodes.
-fn search_task(alloc: Global, class: Class, nodes: u32, task: &Task) -> Result<Found, SetErr>
-    requires room { IsNodeLimit nodes }
-    requires goal { IsSome task.now.goal }
-    ensures found { IsSearched class task.now result }
-    ensures full { IsErrOf result SetErr.Full → IsTightLimit 0 nodes (system_of task.now) }
-{
-    // This does nothing: that few nodes are too few for more sets rests on what it promises.
-    tight_is_monotone();
-    let mut enc = encode(alloc, task, nodes)?;
-    find_plan(alloc, class, task, &mut enc)
-}
-
-/// The plan for a task, over its sets, which stay the sets of the task.
-pub(crate) fn find_plan(
-    alloc: Global,
-    class: Class,
-    task: &Task,
-    enc: &mut Enc,
-) -> Result<Found, SetErr>
-    requires made { MadeOf task.now enc.old }
-    requires goal { IsSome task.now.goal }
-    ensures found { IsSearched class task.now result }
-    ensures full { IsErrOf result SetErr.Full
-        → IsTightFor (3 * action_count task.now + 32) enc.old.sets }
-    ensures still_made { MadeOf task.now enc.new }
-    ensures slots { Owns enc.old.sets enc.new.sets [] }
-{
-    // This does nothing: that the limit is tight for more slots, too, rests on what it promises.
-    tight_is_monotone();
-    match class {
-        Class::Weak => weak_plan(alloc, task, enc),
-        Class::Strong => strong_plan(alloc, task, enc),
-        Class::Cyclic => strong_cyclic_plan(alloc, task, enc),
-    }
-}
-
-/// The weak plan for a task, which is a shortest one.
-fn weak_plan(alloc: Global, task: &Task, enc: &mut Enc) -> Result<Found, SetErr>
-    requires made { MadeOf task.now enc.old }
-    requires goal { IsSome task.now.goal }
-    ensures found { IsSearched Class.Weak task.now result }
-    ensures full { IsErrOf result SetErr.Full
-        → IsTightFor (action_count task.now + 24) enc.old.sets }
-    ensures still_made { MadeOf task.now enc.new }
-    ensures slots { Owns enc.old.sets enc.new.sets [] }
-{
-    // These do nothing: that no solution is shorter, and that the limit is tight where there was no
-    // room, rests on what they promise.
-    tasks_have_systems(task);
-    printed_plan_is_shortest();
-    no_room_is_tight();
-    plan_weak(alloc, task, enc)
-}
-
-/// The strong plan for a task, which is a shortest one.
-fn strong_plan(alloc: Global, task: &Task, enc: &mut Enc) -> Result<Found, SetErr>
-    requires made { MadeOf task.now enc.old }
-    requires goal { IsSome task.now.goal }
-    ensures found { IsSearched Class.Strong task.now result }
-    ensures full { IsErrOf result SetErr.Full
-        → IsTightFor (action_count task.now + 24) enc.old.sets }
-    ensures still_made { MadeOf task.now enc.new }
-    ensures slots { Owns enc.old.sets enc.new.sets [] }
-{
-    // These do nothing: that no solution is shorter, and that the limit is tight where there was no
-    // room, rests on what they promise.
-    tasks_have_systems(task);
-    printed_plan_is_shortest();
-    no_room_is_tight();
-    plan_strong(alloc, task, enc)
-}
-
-/// The strong cyclic plan for a task. Nothing is said of its length.
-fn strong_cyclic_plan(alloc: Global, task: &Task, enc: &mut Enc) -> Result<Found, SetErr>
-    requires made { MadeOf task.now enc.old }
-    requires goal { IsSome task.now.goal }
-    ensures found { IsSearched Class.Cyclic task.now result }
-    ensures full { IsErrOf result SetErr.Full
-        → IsTightFor (3 * action_count task.now + 32) enc.old.sets }
-    ensures still_made { MadeOf task.now enc.new }
-    ensures slots { Owns enc.old.sets enc.new.sets [] }
-{
-    // This does nothing: that the limit is tight where there was no room rests on what it promises.
-    no_room_is_tight();
-    plan_cyclic(alloc, task, enc)
 }
 
 /// The text of a plan.

@@ -4,7 +4,14 @@ ghost use Rattle.exec_graph.specs.Initials.{HasTooManyInitial};
 ghost use Rattle.mbp_top.specs.Answers.{no_memory, refused};
 ghost use Rattle.mbp_top.specs.Causes.{IsQuietAt};
 ghost use Rattle.mbp_top.specs.CheckCommand.{most_followed};
-ghost use Rattle.mbp_top.specs.Fetching.{FetchesFiles, FetchesRun, HoldsSomePlan};
+ghost use Rattle.mbp_top.specs.Fetching.{
+  FetchRecord,
+  FetchesFiles,
+  HoldsSomePlan,
+  RefusesPlan,
+  Stops,
+};
+ghost use Rattle.mbp_top.specs.Grounding.{GroundThen};
 ghost use Rattle.mbp_top.specs.ReplayCommand.{
   FirstThen,
   IsFirstState,
@@ -25,7 +32,7 @@ ghost use Rattle.pddl_system.specs.Systems.{
   action_names as names_of_actions,
   fluent_names as names_of_fluents,
 };
-ghost use Rattle.plan_io.specs.Fetches.{FailedLast, FetchesNothing, MayFetch};
+ghost use Rattle.plan_io.specs.Fetches.{FailedLast, Fetches};
 ghost use Rattle.plan_rules.specs.Plans.{IsPlanOf};
 ghost use Rattle.plan_rules.specs.Rules.{plain_of};
 ghost use Rattle.run_replay.specs.Records.{record_value};
@@ -34,6 +41,8 @@ ghost use Rattle.std.specs.Prelude.{
   ◌≡◌,
   ◌≤◌,
   ◌⊎◌,
+  [],
+  ◌∷◌,
   All,
   IfErr,
   IfOk,
@@ -42,7 +51,6 @@ ghost use Rattle.std.specs.Prelude.{
   OnOk,
   map,
   ℕ,
-  ⊤,
 };
 ghost use Rattle.task_core.specs.States.{IsWithin, vector};
 ghost use Rattle.task_core.specs.Tasks.{
@@ -86,8 +94,9 @@ pub(crate) fn replay_files<S: Shelf>(
         ⊎ IsReplayAnswer (S.held shelf.old) failed
         (tallies_of (map (λ monitor. shown monitor) monitors.old.items))
         (replay_words_of asked.now) (answer_of result) }
-    ensures fetches { FetchesFiles (S.held shelf.old) S.fetched (replay (replay_words_of asked.now))
-        shelf.old shelf.new }
+    ensures fetches { let failed = FailedLast S.fetched S.faults shelf.old shelf.new in
+        FetchesFiles (S.held shelf.old) failed S.fetched (replay (replay_words_of asked.now))
+        (answer_of result) shelf.old shelf.new }
     ensures quiet_at { IsQuietAt (answer_of result) (S.faults shelf.old) (S.faults shelf.new) }
     ensures kept { (file : List ℕ) → S.held shelf.new file ≡ S.held shelf.old file }
     ensures later { S.faults shelf.old ≤ S.faults shelf.new }
@@ -116,12 +125,18 @@ fn replay_problem<S: Shelf>(
         (tallies_of (map (λ monitor. shown monitor) monitors.old.items))
         (replay_words_of asked.now)
         (domain_value domain.now) (problem_value problem.now) (answer_of result) }
-    ensures fetches { FetchesRun S.fetched (replay_words_of asked.now)
-        (first_passed (domain_value domain.now) (problem_value problem.now) ≡ None)
-        (HoldsSomePlan (S.held shelf.old)
-        (names_of_fluents (domain_value domain.now) (problem_value problem.now))
-        (names_of_actions (domain_value domain.now) (problem_value problem.now))
-        asked.now.plan.now) shelf.old shelf.new }
+    ensures fetches { let failed = FailedLast S.fetched S.faults shelf.old shelf.new in
+        let domain = domain_value domain.now in
+        let problem = problem_value problem.now in
+        let fluents = names_of_fluents domain problem in
+        let actions = names_of_actions domain problem in
+        (Stops (GroundThen domain problem (λ answer. ⊥)) (answer_of result)
+        × (shelf.new ≡ shelf.old))
+        ⊎ ((first_passed domain problem ≡ None)
+        × FetchRecord S.fetched (replay_words_of asked.now)
+        (RefusesPlan (S.held shelf.old) failed fluents actions asked.now.plan.now)
+        (HoldsSomePlan (S.held shelf.old) fluents actions asked.now.plan.now)
+        (answer_of result) shelf.old shelf.new) }
     ensures quiet_at { IsQuietAt (answer_of result) (S.faults shelf.old) (S.faults shelf.new) }
     ensures kept { (file : List ℕ) → S.held shelf.new file ≡ S.held shelf.old file }
     ensures later { S.faults shelf.old ≤ S.faults shelf.new }
@@ -146,9 +161,12 @@ fn replay_task<S: Shelf>(
         (tallies_of (map (λ monitor. shown monitor) monitors.old.items))
         (replay_words_of asked.now) (fluent_names task.now) (action_names task.now)
         (HasTooManyInitial task.now most_followed) (system_of task.now) (answer_of result) }
-    ensures fetches { FetchesRun S.fetched (replay_words_of asked.now) ⊤
+    ensures fetches { let failed = FailedLast S.fetched S.faults shelf.old shelf.new in
+        FetchRecord S.fetched (replay_words_of asked.now)
+        (RefusesPlan (S.held shelf.old) failed (fluent_names task.now) (action_names task.now)
+        asked.now.plan.now)
         (HoldsSomePlan (S.held shelf.old) (fluent_names task.now) (action_names task.now)
-        asked.now.plan.now) shelf.old shelf.new }
+        asked.now.plan.now) (answer_of result) shelf.old shelf.new }
     ensures quiet_at { IsQuietAt (answer_of result) (S.faults shelf.old) (S.faults shelf.new) }
     ensures kept { (file : List ℕ) → S.held shelf.new file ≡ S.held shelf.old file }
     ensures later { S.faults shelf.old ≤ S.faults shelf.new }
@@ -183,7 +201,7 @@ fn replay_plan<S: Shelf>(
         (tallies_of (map (λ monitor. shown monitor) monitors.old.items))
         name.now (action_names task.now) (HasTooManyInitial task.now most_followed)
         (system_of task.now) (plain_of plan.now) (answer_of result) }
-    ensures fetches { MayFetch S.fetched ⊤ name.now FetchesNothing shelf.old shelf.new }
+    ensures fetches { Fetches S.fetched (name.now ∷ []) shelf.old shelf.new }
     ensures quiet_at { IsQuietAt (answer_of result) (S.faults shelf.old) (S.faults shelf.new) }
     ensures kept { (file : List ℕ) → S.held shelf.new file ≡ S.held shelf.old file }
     ensures later { S.faults shelf.old ≤ S.faults shelf.new }

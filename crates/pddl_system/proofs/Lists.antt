@@ -36,6 +36,11 @@ pub list_all-same : {X : Type 0} (p q : X → Bool) → ((x : X) → p x ≡ q x
 list_all-same p q same [] = refl
 list_all-same p q same (x ∷ xs) = ap (λ b. b && list_all p xs) (same x) ∙ ap (λ b. q x && b) (list_all-same p q same xs)
 
+-- some element of an image
+pub list_any-map : {X Y : Type 0} (p : Y → Bool) (f : X → Y) (xs : List X) → list_any p (map f xs) ≡ list_any (λ x. p (f x)) xs
+list_any-map p f [] = refl
+list_any-map p f (x ∷ xs) = ap (λ b. p (f x) || b) (list_any-map p f xs)
+
 -- a part of a test that doesn't look at the element
 or_around : (a b c d : Bool) → (a || b || (c || d || b)) ≡ (a || (c || d) || b)
 or_around true b c d = refl

@@ -1,5 +1,5 @@
 -- The system of the task of a domain and a problem is theirs.
-use Rattle.std.proofs.Common.{◌≡◌, ℕ, Bool, true, false, ◌&&◌, cond, List, [], ◌∷◌, map, length, Option, Some, None, refl, sym, ◌∙◌, ap, ◌==◌, if◌then◌else◌}
+use Rattle.std.proofs.Common.{◌≡◌, ℕ, Bool, true, false, ◌&&◌, ◌||◌, cond, List, [], ◌∷◌, map, length, Option, Some, None, refl, sym, ◌∙◌, ap, ◌==◌, if◌then◌else◌}
 use Rattle.std.specs.Prelude.{slice_get}
 use Rattle.std.specs.List.{list_all, list_any, position_or_len}
 use Rattle.std.specs.Option.{option_map, option_map_or}
@@ -8,7 +8,7 @@ use Rattle.std.proofs.lemmas.List.Elements.{filter_agree}
 use Rattle.std.proofs.Math.Nat.{zero-add}
 use Rattle.task_core.specs.Actions.{after, after_value, change_makes, deletes}
 use Rattle.task_core.specs.Conditions.{holds}
-use Rattle.task_core.specs.Initial.{after_entries, entries_of}
+use Rattle.task_core.specs.Initial.{after_entries, entries_of, names_it}
 use Rattle.task_core.specs.Names.{name_bytes}
 use Rattle.task_core.specs.Tasks.{action_count, fluent_count, initial_states, next_states, outcomes_at, system_of}
 use Rattle.task_core.specs.Tasks as tasks
@@ -32,7 +32,7 @@ use Rattle.pddl_system.specs.Systems as systems
 use Rattle.ctl_syntax.specs.Conditions.{CondTree, condition_value}
 use Rattle.pddl_system.specs.Tasks.{ActionTree, TaskTree, action_of, change_of, changed_if, condition_of, outcome_of, task_of}
 use Rattle.pddl_system.specs.Values.{action_value, change_value, outcome_value, task_value}
-use Rattle.pddl_system.proofs.Lists.{list_all-same, list_any-same, list_any-filter, map-range, zip_any, zip_get, zip_length, zip_map}
+use Rattle.pddl_system.proofs.Lists.{list_all-same, list_any-flat_map, list_any-map, list_any-same, list_any-filter, map-range, zip_get, zip_length, zip_map}
 use Rattle.pddl_system.proofs.Members.{Apart}
 use Rattle.pddl_system.proofs.Numbers.{fluents_apart, number_is, place_is}
 use Rattle.pddl_system.proofs.RigidAtoms.{rigid_is_no_fluent}
@@ -51,16 +51,28 @@ module _ (at : Setting) (fl : List AtomTree) (apart : Apart fl) (rigid : RigidIs
 
   -- at the fluent with the number k
   module _ (k : ℕ) (a : AtomTree) (is_at : slice_get fl k ≡ Some a) (positive : Bool) where
-    change_same : (c : Change) (t : ChangeTree) → change_value c ≡ change_of at fl t → change_makes positive (value_of v) k c ≡ makes at fl v positive a t
-    change_same c t e =
-        let lit : c.lit ≡ record { fluent = record { 0 = position_or_len (same_atom t.atom) fl }; positive = t.positive } = ap (λ (x : CondTree × Lit). x.1) e in
-        let condition : condition_value c.cond ≡ changed_if at fl t.conditions = ap (λ (x : CondTree × Lit). x.0) e in
-        let fluent : (c.lit.fluent.0 == k) ≡ same_atom a t.atom = ap (λ (l : Lit). l.fluent.0 == k) lit ∙ place_is fl apart k a is_at t.atom in
-        let sign : same_value c.lit.positive positive ≡ same_value t.positive positive = ap (λ (l : Lit). same_value l.positive positive) lit in
-        let under : holds c.cond (value_of v) ≡ comes_about at fl v t = holds_is c.cond (value_of v) ∙ ap (λ x. tree_holds x (value_of v)) condition ∙ changed_same t.conditions in
-        ap (λ b. b && same_value c.lit.positive positive && holds c.cond (value_of v)) fluent
-        ∙ ap (λ b. same_atom a t.atom && b && holds c.cond (value_of v)) sign
-        ∙ ap (λ b. same_atom a t.atom && same_value t.positive positive && b) under
+    -- whether a literal under a condition makes it so
+    abbrev lit_makes : CondTree × Lit → Bool
+    lit_makes x = x.1.fluent.0 == k && same_value x.1.positive positive && tree_holds x.0 (value_of v)
+
+    distributes : (a b c : Bool) → ((a || b) && c) ≡ ((a && c) || (b && c))
+    distributes true b true = refl
+    distributes true true false = refl
+    distributes true false false = refl
+    distributes false b c = refl
+
+    lits_make : (c : Cond) (lits : List Lit) → (names_it positive k lits && holds c (value_of v)) ≡ list_any lit_makes (map (λ (lit : Lit). (condition_value c, lit)) lits)
+    lits_make c [] = refl
+    lits_make c (x ∷ lits) =
+        let names : Bool = (x.fluent.0 == k && same_value x.positive positive) in
+        distributes names (names_it positive k lits) (holds c (value_of v))
+        ∙ ap (λ b. (names && b) || (names_it positive k lits && holds c (value_of v))) (holds_is c (value_of v))
+        ∙ ap (λ b. (names && tree_holds (condition_value c) (value_of v)) || b) (lits_make c lits)
+
+    lit_same : (t : ChangeTree) → lit_makes (change_of at fl t) ≡ makes at fl v positive a t
+    lit_same t =
+        ap (λ b. b && same_value t.positive positive && tree_holds (changed_if at fl t.conditions) (value_of v)) (place_is fl apart k a is_at t.atom)
+        ∙ ap (λ b. same_atom a t.atom && same_value t.positive positive && b) (changed_same t.conditions)
 
     only_possible : (t : ChangeTree) → (may_change at t && makes at fl v positive a t) ≡ makes at fl v positive a t
     only_possible t = by_test (may_change at t) refl
@@ -73,7 +85,11 @@ module _ (at : Setting) (fl : List AtomTree) (apart : Apart fl) (rigid : RigidIs
 
     changes_same : (o : Outcome) (t : OutcomeTree) → outcome_value o ≡ outcome_of at fl t → list_any (change_makes positive (value_of v) k) o.changes.items ≡ list_any (makes at fl v positive a) t
     changes_same o t e =
-        zip_any change_value (change_of at fl) (change_makes positive (value_of v) k) (makes at fl v positive a) change_same o.changes.items (possible_changes at t) e
+        list_any-same (change_makes positive (value_of v) k) (λ c. list_any lit_makes (change_value c)) (λ c. lits_make c.cond c.lits.items) o.changes.items
+        ∙ sym (list_any-flat_map lit_makes change_value o.changes.items)
+        ∙ ap (list_any lit_makes) e
+        ∙ list_any-map lit_makes (change_of at fl) (possible_changes at t)
+        ∙ list_any-same _ _ lit_same (possible_changes at t)
         ∙ list_any-filter (may_change at) (makes at fl v positive a) t
         ∙ list_any-same _ _ only_possible t
 

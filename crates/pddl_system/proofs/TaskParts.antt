@@ -1,5 +1,5 @@
 -- The parts that stand for those of the task of a domain and a problem make a task.
-use Rattle.std.proofs.Common.{◌≡◌, ℕ, zero, suc, ◌+◌, ◌^◌, ◌<◌, ◌≤◌, Bool, true, false, not, cond, inl, inr, List, [], ◌∷◌, ◌++◌, map, length, Option, Some, None, refl, sym, ◌∙◌, ap, subst, arith}
+use Rattle.std.proofs.Common.{◌≡◌, ℕ, zero, suc, ◌+◌, ◌^◌, ◌<◌, ◌≤◌, Bool, true, false, not, ◌&&◌, cond, inl, inr, List, [], ◌∷◌, ◌++◌, map, length, Option, Some, None, refl, sym, ◌∙◌, ap, subst, arith}
 use Rattle.std.specs.Prelude.{max, nat_le, nat_lt, String, Vec, IfSome}
 use Rattle.std.specs.declared.alloc.Global.{Global}
 use Rattle.std.specs.List.{find, list_all, list_any, position_or_len, range_with_len}
@@ -8,7 +8,7 @@ use Rattle.std.proofs.lemmas.Bool.{and_from, leb-true, le-leb, lt-ltb, or_left, 
 use Rattle.std.proofs.lemmas.List.{length-append, length-map}
 use Rattle.std.proofs.lemmas.Option.{none-some}
 use Rattle.std.proofs.Math.Nat.{max-le}
-use Rattle.task_core.specs.Actions.{action_is_shallow, action_within, change_within, goal_is_shallow, goal_within, outcome_within}
+use Rattle.task_core.specs.Actions.{action_is_shallow, action_within, change_is_shallow, change_within, goal_is_shallow, goal_within, outcome_is_shallow, outcome_within}
 use Rattle.task_core.specs.Conditions.{depth, ids_below, is_shallow}
 use Rattle.task_core.specs.Initial.{entries_within, entry_within, lit_within}
 use Rattle.task_core.specs.Names.{AreActionNames, AreFluentNames, name_bytes, name_of}
@@ -38,7 +38,8 @@ use Rattle.pddl_system.specs.Systems as systems
 use Rattle.ctl_syntax.specs.Conditions.{CondTree, condition_row, condition_value}
 use Rattle.pddl_system.specs.Tasks.{ActionTree, action_of, change_of, changed_if, condition_of, outcome_of}
 use Rattle.pddl_system.specs.Values.{ArePartsOf, action_value, change_value, outcome_value}
-use Rattle.pddl_system.proofs.Lists.{zip_all, zip_length, zip_map}
+use Rattle.pddl_system.proofs.Lists.{list_all-flat_map, list_all-same, zip_all, zip_length, zip_map}
+use Rattle.std.proofs.lemmas.List.Folds.{list_all-map}
 use Rattle.pddl_system.proofs.Members.{Among, All-Among, Among-filter, Among-filter_from, Among-flat_map, Among-flat_map_from, Among-map, Among-map_from, Among-range, list_all-from_Among, list_any-from_Among, passes_Among}
 use Rattle.pddl_system.proofs.NamedAtoms.{effects_have_outcomes}
 use Rattle.pddl_system.proofs.NameLaws.{action_names_are_names, arguments_below, fluent_names_are_names, of_schema, schema_listed}
@@ -182,34 +183,56 @@ module _ (d : DomainTree) (p : ProblemTree) (fits_d : FitsDomain d) (fits_p : Fi
   cond_shallow : (c : Cond) (t : CondTree) → condition_value c ≡ t → tree_depth t ≤ 200 → is_shallow c ≡ true
   cond_shallow c t e h = shallow_if (depth c) (subst (λ m. m ≤ 200) (sym (depth_is c ∙ ap tree_depth e)) h)
 
+  -- a literal under a condition, and a change by its literals
+  abbrev is_lit_within : CondTree × Lit → Bool
+  is_lit_within x = nat_lt x.1.fluent.0 many && tree_below many x.0
+
+  abbrev is_lit_shallow : CondTree × Lit → Bool
+  is_lit_shallow x = nat_le (tree_depth x.0) 200
+
+  change_within_is : (c : Change) → change_within many c ≡ list_all is_lit_within (change_value c)
+  change_within_is c =
+      list_all-same _ _ (λ (lit : Lit). ap (λ b. nat_lt lit.fluent.0 many && b) (below_is many c.cond)) c.lits.items
+      ∙ sym (list_all-map is_lit_within (λ (lit : Lit). (condition_value c.cond, lit)) c.lits.items)
+
+  change_shallow_is : (c : Change) → change_is_shallow c ≡ list_all is_lit_shallow (change_value c)
+  change_shallow_is c =
+      list_all-same _ _ (λ (lit : Lit). ap (λ m. nat_le m 200) (depth_is c.cond)) c.lits.items
+      ∙ sym (list_all-map is_lit_shallow (λ (lit : Lit). (condition_value c.cond, lit)) c.lits.items)
+
   -- the parts of an action
 
   module _ (i : Instance) (kept : Among i (kept_instances d p)) where
     effect_shallow : effect_depth i.schema.effect ≤ 200
     effect_shallow = (schema_fits i kept).effect_depth
 
-    change_within_it : (o : OutcomeTree) → Among o (outcomes_of (setting d p) i) → (c : Change) (t : ChangeTree) → Among t (possible_changes (setting d p) o) → change_value c ≡ change_of (setting d p) (fluents d p) t → change_within many c ≡ true
-    change_within_it o k c t l e =
-        let lit : c.lit.fluent.0 ≡ position_or_len (same_atom t.atom) (fluents d p) = ap (λ (x : CondTree × Lit). x.1.fluent.0) e in
-        let condition : condition_value c.cond ≡ changed_if (setting d p) (fluents d p) t.conditions = ap (λ (x : CondTree × Lit). x.0) e in
-        and_from (nat_lt c.lit.fluent.0 many) (ids_below many c.cond)
-        (ap (λ n. nat_lt n many) lit ∙ lt-ltb (position_or_len (same_atom t.atom) (fluents d p)) many (place_below t.atom (fluents d p) (changed_is_fluent i kept o k t l)))
-        (cond_below c.cond (changed_if (setting d p) (fluents d p) t.conditions) condition (changed_below t.conditions))
+    lit_within_it : (o : OutcomeTree) → Among o (outcomes_of (setting d p) i) → (t : ChangeTree) → Among t (possible_changes (setting d p) o) → is_lit_within (change_of (setting d p) (fluents d p) t) ≡ true
+    lit_within_it o k t l =
+        and_from (nat_lt (position_or_len (same_atom t.atom) (fluents d p)) many) (tree_below many (changed_if (setting d p) (fluents d p) t.conditions))
+        (lt-ltb (position_or_len (same_atom t.atom) (fluents d p)) many (place_below t.atom (fluents d p) (changed_is_fluent i kept o k t l)))
+        (changed_below t.conditions)
 
-    change_shallow : (o : OutcomeTree) → Among o (outcomes_of (setting d p) i) → (c : Change) (t : ChangeTree) → Among t (possible_changes (setting d p) o) → change_value c ≡ change_of (setting d p) (fluents d p) t → is_shallow c.cond ≡ true
-    change_shallow o k c t l e =
-        let condition : condition_value c.cond ≡ changed_if (setting d p) (fluents d p) t.conditions = ap (λ (x : CondTree × Lit). x.0) e in
+    lit_shallow : (o : OutcomeTree) → Among o (outcomes_of (setting d p) i) → (t : ChangeTree) → Among t (possible_changes (setting d p) o) → is_lit_shallow (change_of (setting d p) (fluents d p) t) ≡ true
+    lit_shallow o k t l =
         let deep = changed_no_deeper (effect_depth i.schema.effect) (effect_some i.schema.effect) t.conditions (change_is_fine i kept o k t l).conditions_are_shallow in
         let most = effect_shallow in
-        cond_shallow c.cond (changed_if (setting d p) (fluents d p) t.conditions) condition (omega arith)
+        shallow_if (tree_depth (changed_if (setting d p) (fluents d p) t.conditions)) (omega arith)
 
     outcome_within_it : (o : Outcome) (u : OutcomeTree) → Among u (outcomes_of (setting d p) i) → outcome_value o ≡ outcome_of (setting d p) (fluents d p) u → outcome_within many o ≡ true
     outcome_within_it o u k e =
-        zip_all change_value (change_of (setting d p) (fluents d p)) (change_within many) o.changes.items (possible_changes (setting d p) u) (λ c t l. change_within_it u k c t l) e
+        list_all-same (change_within many) (λ c. list_all is_lit_within (change_value c)) change_within_is o.changes.items
+        ∙ sym (list_all-flat_map is_lit_within change_value o.changes.items)
+        ∙ ap (list_all is_lit_within) e
+        ∙ list_all-map is_lit_within (change_of (setting d p) (fluents d p)) (possible_changes (setting d p) u)
+        ∙ list_all-from_Among (λ t. is_lit_within (change_of (setting d p) (fluents d p) t)) (possible_changes (setting d p) u) (lit_within_it u k)
 
-    outcome_shallow : (o : Outcome) (u : OutcomeTree) → Among u (outcomes_of (setting d p) i) → outcome_value o ≡ outcome_of (setting d p) (fluents d p) u → list_all (λ (c : Change). is_shallow c.cond) o.changes.items ≡ true
+    outcome_shallow : (o : Outcome) (u : OutcomeTree) → Among u (outcomes_of (setting d p) i) → outcome_value o ≡ outcome_of (setting d p) (fluents d p) u → outcome_is_shallow o ≡ true
     outcome_shallow o u k e =
-        zip_all change_value (change_of (setting d p) (fluents d p)) (λ (c : Change). is_shallow c.cond) o.changes.items (possible_changes (setting d p) u) (λ c t l. change_shallow u k c t l) e
+        list_all-same change_is_shallow (λ c. list_all is_lit_shallow (change_value c)) change_shallow_is o.changes.items
+        ∙ sym (list_all-flat_map is_lit_shallow change_value o.changes.items)
+        ∙ ap (list_all is_lit_shallow) e
+        ∙ list_all-map is_lit_shallow (change_of (setting d p) (fluents d p)) (possible_changes (setting d p) u)
+        ∙ list_all-from_Among (λ t. is_lit_shallow (change_of (setting d p) (fluents d p) t)) (possible_changes (setting d p) u) (lit_shallow u k)
 
     module _ (few : length (outcomes_of (setting d p) i) ≤ 64) (x : GroundAction) (e : action_value x ≡ action_of d p i) where
       exec_is : condition_value x.exec ≡ condition_of (setting d p) (fluents d p) i.schema.precondition i.objects
@@ -234,9 +257,9 @@ module _ (d : DomainTree) (p : ProblemTree) (fits_d : FitsDomain d) (fits_p : Fi
       action_shallow =
           let deep = formula_no_deeper (setting d p) (fluents d p) i.schema.precondition i.objects in
           let most = (schema_fits i kept).precondition_depth in
-          and_from (is_shallow x.exec) (list_all (λ (o : Outcome). list_all (λ (c : Change). is_shallow c.cond) o.changes.items) x.outcomes.items)
+          and_from (is_shallow x.exec) (list_all outcome_is_shallow x.outcomes.items)
           (cond_shallow x.exec (condition_of (setting d p) (fluents d p) i.schema.precondition i.objects) exec_is (omega arith))
-          (zip_all outcome_value (outcome_of (setting d p) (fluents d p)) (λ (o : Outcome). list_all (λ (c : Change). is_shallow c.cond) o.changes.items) x.outcomes.items (outcomes_of (setting d p) i) outcome_shallow outcomes_are)
+          (zip_all outcome_value (outcome_of (setting d p) (fluents d p)) outcome_is_shallow x.outcomes.items (outcomes_of (setting d p) i) outcome_shallow outcomes_are)
 
   -- entries
 

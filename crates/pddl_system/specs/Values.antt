@@ -1,6 +1,7 @@
 -- The plain trees that a task's types stand for.
 use Rattle.std.specs.Prelude.{◌≡◌, List, map, length, Option, String, Vec}
 use Rattle.std.specs.declared.alloc.Global.{Global}
+use Rattle.std.specs.List.{flat_map}
 use Rattle.std.specs.Option.{option_map}
 use Rattle.task_core.specs.Initial.{entries_of, facts_of}
 use Rattle.task_core.specs.Names.{name_bytes, name_of}
@@ -16,11 +17,13 @@ use Rattle.pddl_ast.specs.Trees.{DomainTree, ProblemTree}
 use Rattle.ctl_syntax.specs.Conditions.{CondTree, condition_value}
 use Rattle.pddl_system.specs.Tasks.{ActionTree, TaskTree, task_of}
 
-abbrev pub change_value : Change → CondTree × Lit
-change_value change = (condition_value change.cond, change.lit)
+-- each literal of a change, under the change's condition
+abbrev pub change_value : Change → List (CondTree × Lit)
+change_value change =
+    map (λ (lit : Lit). (condition_value change.cond, lit)) change.lits.items
 
 abbrev pub outcome_value : Outcome → List (CondTree × Lit)
-outcome_value outcome = map change_value outcome.changes.items
+outcome_value outcome = flat_map change_value outcome.changes.items
 
 abbrev pub action_value : GroundAction → ActionTree
 action_value action = record {

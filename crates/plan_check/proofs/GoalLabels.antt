@@ -4,12 +4,12 @@ use Rattle.std.proofs.lemmas.Bool.{false≢true}
 use Rattle.std.proofs.lemmas.List.{drop_more, drop_all}
 use Rattle.std.specs.Prelude.{Box, IfOk, Result, Ok, Err}
 use Rattle.std.specs.declared.alloc.Global.{Global}
-use Rattle.ctl_syntax.specs.Goals.{CtlTree, all, any, ax, ex, af, ef, ag, eg, au, eu, aw, ew, goal_row}
+use Rattle.ctl_syntax.specs.Goals.{CtlTree, all, any, implication, ax, ex, af, ef, ag, eg, au, eu, aw, ew, goal_row}
 use Rattle.ctl_syntax.specs.Truth.{Anything, Nothing, Satisfies}
 use Rattle.ctl_syntax.specs.Values.{NamesBelow, ctl_value}
 use Rattle.ctl_syntax.specs.declared.goals.Ctl.{Ctl}
 use Rattle.ctl_syntax.specs.declared.goals.Ctl.TheVariants as Shut
-use Rattle.ctl_syntax.proofs.Shapes.{value_Ax, value_Ex, value_Af, value_Ef, value_Ag, value_Eg, value_Au, value_Eu, value_Aw, value_Ew}
+use Rattle.ctl_syntax.proofs.Shapes.{value_Imply, value_Ax, value_Ex, value_Af, value_Ef, value_Ag, value_Eg, value_Au, value_Eu, value_Aw, value_Ew}
 use Rattle.exec_graph.specs.Values.{followers_at, graph_size}
 use Rattle.exec_graph.specs.declared.graphs.Graph.{Graph}
 use Rattle.task_core.specs.declared.conditions.Cond.{Cond}
@@ -17,9 +17,9 @@ use Rattle.plan_check.specs.Labels.{ComesAfter, HasFollowers, HoldsIn, IsJoined,
 use Rattle.plan_check.specs.Plain.{HasFollowersInside}
 use Rattle.plan_check.specs.declared.spreading.Need.TheVariants.{One, Each}
 use Rattle.plan_check.specs.declared.labelling.Join.{Join}
-use Rattle.plan_check.specs.declared.labelling.Join.TheVariants.{And, Or}
+use Rattle.plan_check.specs.declared.labelling.Join.TheVariants.{And, Or, Implies}
 use Rattle.plan_check.proofs.LabelFacts.{and_left, and_right, and_true, or_cases, or_left, or_right}
-use Rattle.plan_check.proofs.LabelTruth.{each_next, every_until, every_weak, everywhere, nowhere, one_next, some_until, some_weak}
+use Rattle.plan_check.proofs.LabelTruth.{each_next, every_until, every_weak, everywhere, implies_shows, nowhere, one_next, some_until, some_weak}
 
 abbrev row : List Ctl → CtlTree Cond
 row goals = all (goal_row (map ctl_value goals))
@@ -215,3 +215,35 @@ module _ (n : ℕ) (graph : Graph) (inside : HasFollowersInside graph) (full : H
     of_Ew is h =
         shaped goal (ew (ctl_value left.value) (ctl_value right.value)) marks (ap ctl_value is ∙ value_Ew left right)
         (λ k. some_weak size next inside (Is left.value) (Is right.value) read end (subst (λ l. Shows size (Is left.value) l) (sym reads) (same_label left.value first guard same shows k.0)) (subst (λ l. Shows size (Is right.value) l) (sym with) (same_label right.value second target too more k.1)) marks full h)
+
+  -- the first part implies the second
+  pub of_Imply : (goal : Ctl) (left right : Box Ctl Global) (first second : Ctl) (one two read other marks : List Bool) → first ≡ left.value → second ≡ right.value → Labels first one → Labels second two → read ≡ one → other ≡ two
+      → goal ≡ Shut.Imply left right → IsJoined (length read) Implies read other marks → Labels goal marks
+  of_Imply goal left right first second one two read other marks same too shows more reads with is h =
+      shaped goal (implication (ctl_value left.value) (ctl_value right.value)) marks (ap ctl_value is ∙ value_Imply left right)
+      (λ k.
+      let l : Shows size (Is left.value) read = subst (λ l. Shows size (Is left.value) l) (sym reads) (same_label left.value first one same shows k.0) in
+      let r : Shows size (Is right.value) other = subst (λ l. Shows size (Is right.value) l) (sym with) (same_label right.value second two too more k.1) in
+      implies_shows size (Is left.value) (Is right.value) read other l r marks (subst (λ m. IsJoined m Implies read other marks) l.count h))
+
+-- labels of two parts have a mark for each configuration
+module _ (graph : Graph) (goal : Ctl) (left right : Box Ctl Global) (first second : Ctl) (one two : List Bool) (same : first ≡ left.value) (too : second ≡ right.value) (names : NamesBelow 256 (ctl_value goal))
+    (shows : (n : ℕ) → NamesBelow n (ctl_value first) → ShowsGoal n graph (ctl_value first) one) (more : (n : ℕ) → NamesBelow n (ctl_value second) → ShowsGoal n graph (ctl_value second) two) where
+  sizes : NamesBelow 256 (ctl_value left.value) → NamesBelow 256 (ctl_value right.value) → (length one ≡ graph_size graph) × (length two ≡ graph_size graph)
+  sizes a b =
+      ((shows 256 (subst (λ g. NamesBelow 256 (ctl_value g)) (sym same) a)).count, (more 256 (subst (λ g. NamesBelow 256 (ctl_value g)) (sym too) b)).count)
+
+  pub sizes_Imply : goal ≡ Shut.Imply left right → (length one ≡ graph_size graph) × (length two ≡ graph_size graph)
+  sizes_Imply is = let both = subst (NamesBelow 256) (ap ctl_value is ∙ value_Imply left right) names in sizes both.0 both.1
+
+  pub sizes_Au : goal ≡ Shut.Au left right → (length one ≡ graph_size graph) × (length two ≡ graph_size graph)
+  sizes_Au is = let both = subst (NamesBelow 256) (ap ctl_value is ∙ value_Au left right) names in sizes both.0 both.1
+
+  pub sizes_Eu : goal ≡ Shut.Eu left right → (length one ≡ graph_size graph) × (length two ≡ graph_size graph)
+  sizes_Eu is = let both = subst (NamesBelow 256) (ap ctl_value is ∙ value_Eu left right) names in sizes both.0 both.1
+
+  pub sizes_Aw : goal ≡ Shut.Aw left right → (length one ≡ graph_size graph) × (length two ≡ graph_size graph)
+  sizes_Aw is = let both = subst (NamesBelow 256) (ap ctl_value is ∙ value_Aw left right) names in sizes both.0 both.1
+
+  pub sizes_Ew : goal ≡ Shut.Ew left right → (length one ≡ graph_size graph) × (length two ≡ graph_size graph)
+  sizes_Ew is = let both = subst (NamesBelow 256) (ap ctl_value is ∙ value_Ew left right) names in sizes both.0 both.1

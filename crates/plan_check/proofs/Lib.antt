@@ -10,3 +10,8 @@ pub mod LabelTruth
 pub mod GoalLabels
 pub mod ContextLaws
 pub mod SpreadSteps
+pub mod Sums
+pub mod EdgeCounts
+pub mod SearchCounts
+pub mod LedSteps
+pub mod GoalCosts

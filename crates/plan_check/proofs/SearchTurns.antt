@@ -1,15 +1,18 @@
 -- One step at the last number of a search's path, whichever it is.
-use Rattle.std.proofs.Common.{◌≡◌, ℕ, ◌+◌, ◌-◌, ◌<◌, ◌≤◌, ◌^◌, List, [], ◌∷◌, ◌++◌, length, take, get_or, set, max, Some, sym, ap, ◌∙◌, subst}
+use Rattle.std.proofs.Common.{◌≡◌, ℕ, ◌+◌, ◌-◌, ◌*◌, ◌<◌, ◌≤◌, ◌^◌, List, [], ◌∷◌, ◌++◌, length, take, get_or, set, max, Some, sym, ap, ◌∙◌, subst, arith}
 use Rattle.std.specs.Prelude.{slice_get, slice_index}
 use Rattle.std.specs.List.{Contains}
 use Rattle.std.proofs.lemmas.List.{get_or_read}
 use Rattle.std.proofs.lemmas.List.Elements.{Contains-get_or, Contains-push}
 use Rattle.std.proofs.lemmas.Option.{slice_get_within, get_or_from_slice_get}
+use Rattle.exec_graph.specs.Values.{lengths_below, sum_below}
+use Rattle.plan_check.specs.Plain.{IsTurned}
 use Rattle.plan_check.specs.Walks.{ComesRound, StaysBelow}
-use Rattle.plan_check.specs.Searches.{IsSearch, IsTrail, KeepsSeen, left_in, no_visit, visit_at}
+use Rattle.plan_check.specs.Searches.{IsSearch, IsTrail, KeepsSeen, left_in, looks_at, no_visit, visit_at}
 use Rattle.plan_check.specs.declared.search.Mark.TheVariants.{Unseen, Open, Done}
 use Rattle.plan_check.specs.declared.search.Visit.{Visit}
 use Rattle.plan_check.proofs.WalkFacts.{split_last, trail_push, trail_round}
+use Rattle.plan_check.proofs.SearchCounts.{entered_some, looks_ended, looks_left, looks_opened, looks_took}
 use Rattle.plan_check.proofs.SearchSteps.{ended_keeps, ended_less, ended_search, height_fits, on_path_open, opened, opened_keeps, opened_less, seen_below, took, took_keeps, took_less}
 
 -- the search over equal lists
@@ -46,6 +49,14 @@ turn_begins n next visits now path new root visit h none below is unseen a b =
     open_unseen : Open ≡ Unseen → ⊥
     open_unseen e = cc
 
+pub turn_begins_looks : (n : ℕ) (next prev : ℕ → List ℕ) (visits now : List Visit) (path : List ℕ) (root : ℕ) (visit : Visit) → IsTurned n next prev → IsSearch n next visits path → root < n
+    → visit ≡ get_or visits root visit → visit.mark ≡ Unseen → now ≡ set visits root begun → sum_below (looks_at prev visits) n ≤ sum_below (looks_at prev now) n
+turn_begins_looks n next prev visits now path root visit turned h below is unseen a =
+    let l : root < length visits = subst (λ m. root < m) (sym h.count) below in
+    let un : (visit_at visits root).mark ≡ Unseen = sym (ap (λ (w : Visit). w.mark) (get_or_read visits root visit l is no_visit)) ∙ unseen in
+    let more = looks_opened n next prev turned visits path h root now below un a in
+    omega arith
+
 module _ (n : ℕ) (next : ℕ → List ℕ) (visits : List Visit) (path : List ℕ) (stays : StaysBelow n next) (h : IsSearch n next visits path) (top : ℕ) (is : slice_get path (length path - 1) ≡ Some top) where
   abbrev front : List ℕ
   front = take (length path - 1) path
@@ -70,48 +81,58 @@ module _ (n : ℕ) (next : ℕ → List ℕ) (visits : List Visit) (path : List 
     visit_is = get_or_read visits top visit top_within read no_visit
 
     -- a follower is left
-    module _ (left : visit.tried < length followers) where
-      abbrev follower : ℕ
-      follower = get_or followers visit.tried 0
+    module _ (left : visit.tried < length followers) (follower : ℕ) (reads : follower ≡ get_or followers visit.tried 0) where
+      follows : Contains (next top) follower
+      follows = subst (Contains (next top)) (sym reads) (subst (λ xs. Contains xs (get_or followers visit.tried 0)) (sym are) (Contains-get_or followers visit.tried 0 left))
 
-      follows : Contains (next top) (get_or followers visit.tried 0)
-      follows = subst (λ xs. Contains xs (get_or followers visit.tried 0)) (sym are) (Contains-get_or followers visit.tried 0 left)
+      tried_less : (visit_at visits top).tried < length (next top)
+      tried_less = subst (λ xs. (visit_at visits top).tried < length xs) (sym are) (subst (λ (w : Visit). w.tried < length followers) visit_is left)
 
-      pub follower_below : get_or followers visit.tried 0 < n
-      follower_below = stays top (get_or followers visit.tried 0) top_below follows
+      -- one more look is within twice the edges
+      pub turn_looks : (prev : ℕ → List ℕ) → IsTurned n next prev → sum_below (looks_at prev visits) n + 1 ≤ 2 * lengths_below next n
+      turn_looks prev turned = looks_left n next prev turned visits path h top top_below tried_less
 
-      pub follower_within : get_or followers visit.tried 0 < length visits
-      follower_within = subst (λ m. get_or followers visit.tried 0 < m) (sym h.count) follower_below
+      pub follower_below : follower < n
+      follower_below = stays top follower top_below follows
 
-      module _ (other : Visit) (seen : other ≡ get_or visits (get_or followers visit.tried 0) other) where
-        other_is : other ≡ visit_at visits (get_or followers visit.tried 0)
-        other_is = get_or_read visits (get_or followers visit.tried 0) other follower_within seen no_visit
+      pub follower_within : follower < length visits
+      follower_within = subst (λ m. follower < m) (sym h.count) follower_below
+
+      module _ (other : Visit) (seen : other ≡ get_or visits follower other) where
+        other_is : other ≡ visit_at visits follower
+        other_is = get_or_read visits follower other follower_within seen no_visit
 
         pub turn_round : other.mark ≡ Open → ComesRound n next
         turn_round e =
-            trail_round n next front top (get_or followers visit.tried 0) follower_below
+            trail_round n next front top follower follower_below
             (subst (IsTrail next) path_is h.trail)
-            (subst (λ p. Contains p (get_or followers visit.tried 0)) path_is (h.all_on_path (get_or followers visit.tried 0) (sym (ap (λ (w : Visit). w.mark) other_is) ∙ e)))
+            (subst (λ p. Contains p follower) path_is (h.all_on_path follower (sym (ap (λ (w : Visit). w.mark) other_is) ∙ e)))
             follows
 
-        module _ (e : other.mark ≡ Unseen) (now : List Visit) (new : List ℕ) (a : now ≡ set visits (get_or followers visit.tried 0) begun) (b : new ≡ path ++ get_or followers visit.tried 0 ∷ []) where
-          unseen : (visit_at visits (get_or followers visit.tried 0)).mark ≡ Unseen
+        module _ (e : other.mark ≡ Unseen) (now : List Visit) (new : List ℕ) (a : now ≡ set visits follower begun) (b : new ≡ path ++ follower ∷ []) where
+          unseen : (visit_at visits follower).mark ≡ Unseen
           unseen = sym (ap (λ (w : Visit). w.mark) other_is) ∙ e
 
-          trail : IsTrail next (path ++ get_or followers visit.tried 0 ∷ [])
-          trail = subst (λ p. IsTrail next (p ++ get_or followers visit.tried 0 ∷ [])) (sym path_is) (trail_push next front top (get_or followers visit.tried 0) (subst (IsTrail next) path_is h.trail) follows)
+          trail : IsTrail next (path ++ follower ∷ [])
+          trail = subst (λ p. IsTrail next (p ++ follower ∷ [])) (sym path_is) (trail_push next front top follower (subst (IsTrail next) path_is h.trail) follows)
 
           pub turn_opens : IsSearch n next now new
-          turn_opens = same_search n next (set visits (get_or followers visit.tried 0) begun) now (path ++ get_or followers visit.tried 0 ∷ []) new a b (opened n next visits path h (get_or followers visit.tried 0) follower_below unseen trail)
+          turn_opens = same_search n next (set visits follower begun) now (path ++ follower ∷ []) new a b (opened n next visits path h follower follower_below unseen trail)
 
           pub turn_opens_keeps : KeepsSeen visits now
-          turn_opens_keeps = subst (λ vs. KeepsSeen visits vs) (sym a) (opened_keeps n next visits path h (get_or followers visit.tried 0) follower_below unseen trail)
+          turn_opens_keeps = subst (λ vs. KeepsSeen visits vs) (sym a) (opened_keeps n next visits path h follower follower_below unseen trail)
+
+          pub turn_opens_looks : (prev : ℕ → List ℕ) → IsTurned n next prev → sum_below (looks_at prev visits) n + 1 ≤ sum_below (looks_at prev now) n
+          turn_opens_looks prev turned =
+              let one = entered_some (prev follower) top ((turned.lists top follower follower_below).1 (top_below, follows)) in
+              let more = looks_opened n next prev turned visits path h follower now follower_below unseen a in
+              omega arith
 
           pub turn_opens_less : left_in now < left_in visits
-          turn_opens_less = subst (λ vs. left_in vs < left_in visits) (sym a) (opened_less n next visits path h (get_or followers visit.tried 0) follower_below unseen trail)
+          turn_opens_less = subst (λ vs. left_in vs < left_in visits) (sym a) (opened_less n next visits path h follower follower_below unseen trail)
 
         module _ (e : other.mark ≡ Done) (fits : visit.tried < 2 ^ 64) where
-          done : (visit_at visits (get_or followers visit.tried 0)).mark ≡ Done
+          done : (visit_at visits follower).mark ≡ Done
           done = sym (ap (λ (w : Visit). w.mark) other_is) ∙ e
 
           tries : (visit_at visits top).tried < length (next top)
@@ -120,24 +141,27 @@ module _ (n : ℕ) (next : ℕ → List ℕ) (visits : List Visit) (path : List 
           small : (visit_at visits top).tried < 2 ^ 64
           small = subst (λ (w : Visit). w.tried < 2 ^ 64) visit_is fits
 
-          at : slice_index (next top) (visit_at visits top).tried ≡ get_or followers visit.tried 0
-          at = ap (λ xs. get_or xs (visit_at visits top).tried 0) are ∙ ap (λ (w : Visit). get_or followers w.tried 0) (sym visit_is)
+          at : slice_index (next top) (visit_at visits top).tried ≡ follower
+          at = ap (λ xs. get_or xs (visit_at visits top).tried 0) are ∙ ap (λ (w : Visit). get_or followers w.tried 0) (sym visit_is) ∙ sym reads
 
           pub turn_fits : other.height < n
-          turn_fits = subst (λ (w : Visit). w.height < n) (sym other_is) (height_fits n next visits path h top (get_or followers visit.tried 0) top_open tries small at done)
+          turn_fits = subst (λ (w : Visit). w.height < n) (sym other_is) (height_fits n next visits path h top follower top_open tries small at done)
 
           module _ (now : List Visit) (new : List ℕ) (a : now ≡ set visits top (higher (visit_at visits top) other.height)) (b : new ≡ path) where
-            now_is : now ≡ set visits top (higher (visit_at visits top) (visit_at visits (get_or followers visit.tried 0)).height)
+            now_is : now ≡ set visits top (higher (visit_at visits top) (visit_at visits follower).height)
             now_is = a ∙ ap (λ (w : Visit). set visits top (higher (visit_at visits top) w.height)) other_is
 
             pub turn_takes : IsSearch n next now new
-            turn_takes = same_search n next (set visits top (higher (visit_at visits top) (visit_at visits (get_or followers visit.tried 0)).height)) now path new now_is b (took n next visits path h top (get_or followers visit.tried 0) top_open tries small at done)
+            turn_takes = same_search n next (set visits top (higher (visit_at visits top) (visit_at visits follower).height)) now path new now_is b (took n next visits path h top follower top_open tries small at done)
 
             pub turn_takes_keeps : KeepsSeen visits now
-            turn_takes_keeps = subst (λ vs. KeepsSeen visits vs) (sym now_is) (took_keeps n next visits path h top (get_or followers visit.tried 0) top_open tries small at done)
+            turn_takes_keeps = subst (λ vs. KeepsSeen visits vs) (sym now_is) (took_keeps n next visits path h top follower top_open tries small at done)
+
+            pub turn_takes_looks : (prev : ℕ → List ℕ) → IsTurned n next prev → sum_below (looks_at prev visits) n + 1 ≤ sum_below (looks_at prev now) n
+            turn_takes_looks prev turned = looks_took n next prev turned visits path h top (max (visit_at visits top).height (other.height + 1)) now top_below top_open a
 
             pub turn_takes_less : left_in now < left_in visits
-            turn_takes_less = subst (λ vs. left_in vs < left_in visits) (sym now_is) (took_less n next visits path h top (get_or followers visit.tried 0) top_open tries small at done)
+            turn_takes_less = subst (λ vs. left_in vs < left_in visits) (sym now_is) (took_less n next visits path h top follower top_open tries small at done)
 
     -- none is left
     module _ (none : length followers ≤ visit.tried) (fits : visit.tried < 2 ^ 64) (now : List Visit) (new : List ℕ) (a : now ≡ set visits top (over (visit_at visits top))) (b : new ≡ take (length path - 1) path) where
@@ -158,3 +182,6 @@ module _ (n : ℕ) (next : ℕ → List ℕ) (visits : List Visit) (path : List 
 
       pub turn_ends_less : left_in now < left_in visits
       turn_ends_less = subst (λ vs. left_in vs < left_in visits) (sym a) (ended_less n next visits front top split all_tried tried_fits)
+
+      pub turn_ends_looks : (prev : ℕ → List ℕ) → IsTurned n next prev → sum_below (looks_at prev visits) n ≤ sum_below (looks_at prev now) n
+      turn_ends_looks prev turned = looks_ended n next prev turned visits path h top now top_below top_open a

@@ -1,10 +1,10 @@
 -- A label that spreads from edge to edge.
-use Rattle.std.proofs.Common.{◌≡◌, ◌≢◌, ◌⊎◌, ◌↔◌, ℕ, zero, suc, ◌+◌, ◌-◌, ◌<◌, ◌≤◌, ◌==◌, Bool, true, false, not, ◌&&◌, ◌||◌, cond, List, [], ◌∷◌, ◌++◌, length, map, take, get_or, set, refl, sym, ap, ◌∙◌, subst, arith, ⊎_elim, inl, inr, append_assoc, take_all}
+use Rattle.std.proofs.Common.{◌≡◌, ◌≢◌, ◌⊎◌, ◌↔◌, ℕ, zero, suc, ◌+◌, ◌-◌, ◌<◌, ◌≤◌, ◌==◌, Bool, true, false, not, ◌&&◌, ◌||◌, cond, List, [], ◌∷◌, ◌++◌, length, map, take, drop, get_or, set, refl, sym, ap, ◌∙◌, subst, arith, ⊎_elim, inl, inr, append_assoc, take_all}
 use Rattle.std.specs.List.{All, AllPairs, Contains, count_by}
 use Rattle.std.proofs.lemmas.Bool.{cases_eq, cases_lt, eq-eqb, eqb-true, false≢true}
-use Rattle.std.proofs.lemmas.List.{append-nil, length-set, length-take, length_push, get_or-set_same, get_or-set_other, get_or-take, get_or_append_left, get_or_push, get_or_default, map-append, take_more, take-append-le}
+use Rattle.std.proofs.lemmas.List.{append-nil, length-append, length-map, length-set, length-take, length_push, get_or-set_same, get_or-set_other, get_or-take, get_or_append_left, get_or_push, get_or_default, map-append, take_more, take-append-drop, take-append-le}
 use Rattle.std.proofs.lemmas.List.Concat.{flat_map-append}
-use Rattle.std.proofs.lemmas.List.Elements.{All-push, Contains-append_cases, Contains-append_left, Contains-push}
+use Rattle.std.proofs.lemmas.List.Elements.{All-contains, All-push, Contains-append_cases, Contains-append_left, Contains-push}
 use Rattle.std.proofs.lemmas.List.Folds.{list_any-append}
 use Rattle.std.proofs.lemmas.List.Quantifiers.{all_pairs_push}
 use Rattle.std.proofs.lemmas.List.Sums.{sum_by-cons}
@@ -12,7 +12,7 @@ use borrow.Author.Count.{below_more}
 use Rattle.task_core.specs.Systems.{System}
 use Rattle.plan_rules.specs.Rules.{PlainPlan}
 use Rattle.exec_graph.specs.Graphs.{IsGraphOf}
-use Rattle.exec_graph.specs.Values.{followers_at, graph_size, plain_graph}
+use Rattle.exec_graph.specs.Values.{followers_at, graph_size, lengths_below, plain_graph, predecessors_at}
 use Rattle.exec_graph.specs.declared.graphs.Graph.{Graph}
 use Rattle.exec_graph.specs.Rows.{Edge, edge}
 use Rattle.exec_graph.proofs.Lists.{Contains-head, Contains-cons, Contains-nil, Contains-cases, Contains-flat_map, Contains-flat_map-witness, Contains-map, Contains-map-witness, list_any-from, list_any-witness}
@@ -24,14 +24,8 @@ use Rattle.plan_check.specs.Walks.{IsMarked, LeadsToMarked, StaysBelow}
 use Rattle.plan_check.specs.declared.spreading.Need.{Need}
 use Rattle.plan_check.specs.declared.spreading.Need.TheVariants.{One, Each}
 use Rattle.plan_check.proofs.LabelFacts.{and_left, and_right, and_true, decided, each_from, each_of, led_weaker, not_true, one_from, one_of, or_cases, or_left, or_right, within_more}
+use Rattle.plan_check.proofs.EdgeCounts.{edges_even, edges_most, first_once, rest_once}
 use Rattle.plan_check.proofs.MarkFacts.{closed_leads, fewer_unmarked, leads_before, marked_below, marked_cases, marked_more, marked_same}
-
--- lists without doubles
-rest_once : (x : ℕ) (xs : List ℕ) → AllPairs (λ i j. i ≢ j) (x ∷ xs) → AllPairs (λ i j. i ≢ j) xs
-rest_once x xs once i j d l h = once (suc i) (suc j) d (omega arith) (omega arith)
-
-first_once : (x : ℕ) (xs : List ℕ) → AllPairs (λ i j. i ≢ j) (x ∷ xs) → Contains xs x → ⊥
-first_once x xs once c = let l : c.0 < length xs = c.1 in once zero (suc c.0) x (omega arith) (omega arith) (sym c.2)
 
 not_before : (xs : List ℕ) (k x : ℕ) → AllPairs (λ i j. i ≢ j) xs → k < length xs → get_or xs k 0 ≡ x → Contains (take k xs) x → ⊥
 not_before xs k x once l is c =
@@ -307,6 +301,39 @@ module _ (n : ℕ) (need : Need) (next : ℕ → List ℕ) (guard marks : List B
             subst (λ ms. IsStep n need next guard marks ms (set lacks i (get_or lacks i 0 - 1)) found found_now (edges ++ edge i x ∷ [])) (sym (m ∙ ap (λ b. cond b (set marks i true) marks) e))
             (subst (λ fs. IsStep n need next guard marks marks (set lacks i (get_or lacks i 0 - 1)) found fs (edges ++ edge i x ∷ [])) (sym (f ∙ ap (λ b. cond b (found ++ i ∷ []) found) e)) (step_kept e))
 
+-- the edges to one number more
+edges_more : (prev : ℕ → List ℕ) (xs : List ℕ) (x : ℕ) → length (edges_to prev (xs ++ x ∷ [])) ≡ length (edges_to prev xs) + length (prev x)
+edges_more prev xs x =
+    let to : ℕ → Edge = λ i. edge i x in
+    let e : edges_to prev (xs ++ x ∷ []) ≡ edges_to prev xs ++ map to (prev x) =
+    flat_map-append (λ y. map (λ i. edge i y) (prev y)) xs (x ∷ []) ∙ ap (λ es. edges_to prev xs ++ es) (append-nil (map to (prev x))) in
+    let a = length-append (edges_to prev xs) (map to (prev x)) in
+    let b = length-map (prev x) to in
+    ap length e ∙ a ∙ ap (λ k. length (edges_to prev xs) + k) b
+
+-- no more edges were looked at than there are
+module _ (n : ℕ) (need : Need) (next prev : ℕ → List ℕ) (guard marks : List Bool) (lacks found : List ℕ) (edges : List Edge) (turned : IsTurned n next prev)
+    (h : IsSpreading n need next guard marks lacks found edges) where
+  found_below : (x : ℕ) → Contains found x → x < n
+  found_below x c = subst (λ m. x < m) h.count (marked_below marks x (All-contains (IsMarked marks) found x h.listed.all c))
+
+  pub spread_whole : (m : ℕ) → length (edges_to prev (take m found)) ≤ lengths_below next n
+  spread_whole m =
+      let most = edges_most prev n found h.different found_below in
+      let split : edges_to prev found ≡ edges_to prev (take m found) ++ edges_to prev (drop m found) =
+      ap (edges_to prev) (sym (take-append-drop m found)) ∙ flat_map-append (λ y. map (λ i. edge i y) (prev y)) (take m found) (drop m found) in
+      let e = ap length split in
+      let a = length-append (edges_to prev (take m found)) (edges_to prev (drop m found)) in
+      let even = turned.even in
+      omega arith
+
+  pub spread_one : (done : ℕ) → done < length found → length (edges_to prev (take done found)) + length (prev (get_or found done 0)) ≤ lengths_below next n
+  spread_one done l =
+      let whole = spread_whole (done + 1) in
+      let front : take (done + 1) found ≡ take done found ++ get_or found done 0 ∷ [] = take_more found done 0 l in
+      let e = ap (λ xs. length (edges_to prev xs)) front ∙ edges_more prev (take done found) (get_or found done 0) in
+      omega arith
+
 -- the edges to one number, one after another
 pub record IsLooking (n : ℕ) (need : Need) (next prev : ℕ → List ℕ) (guard before : List Bool) (was : List ℕ) (done k : ℕ) (marks : List Bool) (lacks found : List ℕ) : Type 0 where
   pub spreading : IsSpreading n need next guard marks lacks found (edges_to prev (take done was) ++ map (λ m. edge m (get_or was done 0)) (take k (prev (get_or was done 0))))
@@ -398,6 +425,16 @@ module _ (n : ℕ) (need : Need) (next prev : ℕ → List ℕ) (guard before : 
       ap (λ xs. edges_to prev (take done was) ++ map to xs) (take_all k row (subst (λ r. length r ≤ k) (sym is) all)) ∙ sym edges in
       subst (IsSpreading n need next guard marks lacks found) whole h.spreading
 
+  -- as many edges more as lead to this number
+  pub looking_length : (k : ℕ) (marks : List Bool) (lacks found : List ℕ) → IsLooking n need next prev guard before was done k marks lacks found
+      → length (edges_to prev (take (done + 1) found)) ≡ length (edges_to prev (take done was)) + length (prev (get_or was done 0))
+  looking_length k marks lacks found h =
+      let x = get_or was done 0 in
+      let more = h.grown.0 in
+      let front : take (done + 1) found ≡ take done was ++ get_or was done 0 ∷ [] =
+      ap (take (done + 1)) h.grown.1 ∙ take-append-le (done + 1) was more (omega arith) ∙ take_more was done 0 left in
+      ap (λ xs. length (edges_to prev xs)) front ∙ edges_more prev (take done was) x
+
 -- before any edge
 pub spreading_none : (n : ℕ) (need : Need) (next prev : ℕ → List ℕ) (guard marks : List Bool) (lacks found : List ℕ) → length marks ≡ n → length lacks ≡ n
     → ((i : ℕ) → i < n → get_or lacks i 0 ≡ length (next i)) → ListsMarked marks found → AllPairs (λ i j. i ≢ j) found
@@ -455,7 +492,12 @@ needs_any One graph has = tt
 needs_any Each graph has = has
 
 pub graph_turned : (sys : System) (plan : PlainPlan) (n : ℕ) (graph : Graph) → IsGraphOf sys plan (plain_graph n graph) → HasPredecessors graph
-graph_turned sys plan n graph h = record { lists = h.prev; next_once = h.next_once; prev_once = h.prev_once }
+graph_turned sys plan n graph h = record {
+  lists = h.prev;
+  next_once = h.next_once;
+  prev_once = h.prev_once;
+  even = edges_even (graph_size graph) (followers_at graph) (predecessors_at graph) h.prev h.next_once h.prev_once h.next_below;
+}
 
 -- one more count at the end
 pub count_push : (counts : List ℕ) (c : ℕ) (value : ℕ → ℕ) (i : ℕ) → length counts ≡ i → ((k : ℕ) → k < i → get_or counts k 0 ≡ value k) → c ≡ value i

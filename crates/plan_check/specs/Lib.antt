@@ -1,6 +1,7 @@
 pub mod ContextVerdicts
 pub mod Labels
 pub mod Marks
+pub mod Operators
 pub mod Plain
 pub mod Searches
 pub mod Spreads

@@ -4,7 +4,7 @@ use Rattle.std.specs.List.{AllPairs, Contains}
 use Rattle.task_core.specs.Conditions.{holds}
 use Rattle.task_core.specs.Vectors.{value_of}
 use Rattle.task_core.specs.declared.conditions.Cond.{Cond}
-use Rattle.exec_graph.specs.Values.{followers_at, graph_size, predecessors_at, state_at}
+use Rattle.exec_graph.specs.Values.{followers_at, graph_size, lengths_below, predecessors_at, state_at}
 use Rattle.exec_graph.specs.declared.graphs.Graph.{Graph}
 use Rattle.plan_check.specs.Walks.{IsMarked, StaysBelow}
 
@@ -13,11 +13,12 @@ abbrev pub HasFollowersInside : Graph → Type 0
 HasFollowersInside graph = StaysBelow (graph_size graph) (followers_at graph)
 
 -- Private: before each number below n come exactly those that it follows; each stands once in these
--- lists and in those of the numbers that follow
+-- lists and in those of the numbers that follow, and both kinds of lists are together as long
 pub record IsTurned (n : ℕ) (next prev : ℕ → List ℕ) : Type 0 where
   pub lists : (i j : ℕ) → j < n → Contains (prev j) i ↔ (i < n) × Contains (next i) j
   pub next_once : (i : ℕ) → i < n → AllPairs (λ j k. j ≢ k) (next i)
   pub prev_once : (j : ℕ) → j < n → AllPairs (λ i k. i ≢ k) (prev j)
+  pub even : lengths_below prev n ≡ lengths_below next n
 
 abbrev pub HasPredecessors : Graph → Type 0
 HasPredecessors graph = IsTurned (graph_size graph) (followers_at graph) (predecessors_at graph)

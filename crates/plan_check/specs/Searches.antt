@@ -1,6 +1,8 @@
 -- Private: a search in depth, and what it knows on its way.
 use Rattle.std.specs.Prelude.{◌≡◌, ◌≢◌, ◌⊎◌, ◌+◌, ◌-◌, ◌<◌, ◌≤◌, ◌^◌, ℕ, List, [], ◌∷◌, ⊤}
 use Rattle.std.specs.Prelude.{length, slice_index, slice_index_or, sum_by}
+use Rattle.exec_graph.specs.Values.{graph_size, predecessors_at, sum_below}
+use Rattle.exec_graph.specs.declared.graphs.Graph.{Graph}
 use Rattle.std.specs.List.{All, AllPairs, Contains}
 use Rattle.plan_check.specs.Walks.{IsWalk}
 use Rattle.plan_check.specs.declared.search.Mark.{Mark}
@@ -83,3 +85,23 @@ left_by Done tried = 0
 -- Private: how much is left to do with all of them
 abbrev pub left_in : List Visit → ℕ
 left_in visits = sum_by (λ (visit : Visit). left_by visit.mark visit.tried) visits
+
+-- Private: 1 where some edge leads to a number, whose list of predecessors this is, else 0
+abbrev pub entered : List ℕ → ℕ
+entered [] = 0
+entered (i ∷ rest) = 1
+
+-- Private: how often an edge was looked at for a number: once where it was opened along an edge,
+-- and once for each follower that was tried
+abbrev pub looks_by : Mark → ℕ → ℕ → ℕ
+looks_by Unseen entries tried = 0
+looks_by Open entries tried = entries + tried
+looks_by Done entries tried = entries + tried
+
+abbrev pub looks_at : (ℕ → List ℕ) → List Visit → ℕ → ℕ
+looks_at prev visits i =
+    looks_by (visit_at visits i).mark (entered (prev i)) (visit_at visits i).tried
+
+-- Private: how often for all of them, at most
+abbrev pub looks_in : Graph → List Visit → ℕ
+looks_in graph visits = sum_below (looks_at (predecessors_at graph) visits) (graph_size graph)

@@ -1,8 +1,8 @@
 //! Where executions end, and whether all that matter may end.
 
-ghost use Rattle.std.specs.Prelude.{◌≡◌, ◌<◌, ◌↔◌, ℕ, IfOk, IsTrue, MatchBool, length};
+ghost use Rattle.std.specs.Prelude.{◌≡◌, ◌==◌, ◌<◌, ◌↔◌, ℕ, IfOk, IsTrue, MatchBool, length};
 ghost use Rattle.task_core.specs.Conditions.{ids_below};
-ghost use Rattle.exec_graph.specs.Values.{graph_size};
+ghost use Rattle.exec_graph.specs.Values.{followers_at, graph_size};
 ghost use Rattle.plan_check.specs.Plain.{
   HasAllMarked,
   HasEndOutside,
@@ -29,6 +29,14 @@ pub(crate) fn is_goal(goal: &Cond, graph: &Graph, number: u32) -> bool
     cond_holds(goal, graph.state(number))
 }
 
+/// Whether no configuration follows the one of this number.
+fn is_end(graph: &Graph, number: u32) -> bool
+    requires { number < graph_size graph.now }
+    ensures { result ≡ (length (followers_at graph.now number) == 0) }
+{
+    graph.next_len(number) == 0
+}
+
 /// Whether some configuration without a follower is outside the goal.
 pub(crate) fn has_end_outside(goal: &Cond, graph: &Graph) -> bool
     requires { IsTrue (ids_below 256 goal.now) }
@@ -36,7 +44,7 @@ pub(crate) fn has_end_outside(goal: &Cond, graph: &Graph) -> bool
         (HasEndOutside n goal.now graph.now) (HasEndsInside n goal.now graph.now) }
 {
     for i in 0..graph.len() {
-        if graph.next(i).is_empty() && !is_goal(goal, graph, i) {
+        if is_end(graph, i) && !is_goal(goal, graph, i) {
             return true;
         }
     }
@@ -53,7 +61,7 @@ pub(crate) fn goal_ends(alloc: Global, goal: &Cond, graph: &Graph) -> Result<Vec
 {
     let mut marks = Vec::new(alloc);
     for i in 0..graph.len() {
-        marks.push(graph.next(i).is_empty() && is_goal(goal, graph, i))?;
+        marks.push(is_end(graph, i) && is_goal(goal, graph, i))?;
     }
     Ok(marks)
 }

@@ -1,7 +1,7 @@
 //! Goals with up to two operators on small plans, against a direct reading of their definition: the
 //! paths of as many steps as there are configurations are tried one by one.
 
-ghost use Rattle.std.specs.Prelude.{◌<◌, ◌≤◌, IfOk, List, ℕ};
+ghost use Rattle.std.specs.Prelude.{◌≡◌, ◌<◌, ◌≤◌, ◌^◌, IfOk, List, length, ℕ};
 ghost use Rattle.task_core.specs.Tasks.{action_count, fluent_count, system_of};
 ghost use Rattle.ctl_syntax.specs.Values.{NamesBelow, ctl_value};
 ghost use Rattle.plan_rules.specs.Plans.{IsPlanOf};
@@ -10,12 +10,14 @@ ghost use Rattle.exec_graph.specs.Graphs.{IsGraphOf};
 ghost use Rattle.exec_graph.specs.Values.{plain_graph};
 
 use crate::tests::task;
-use crate::{Reason, Verdict, check_ctl};
+use crate::{Reason, Verdict, judge_ctl};
 use ctl_syntax::Ctl;
-use exec_graph::{Graph, explore};
+use exec_graph::{Graph, Steps, explore};
 use plan_rules::{Plan, read_plan};
 use sexpr_text::MAX_BYTES;
 use std::alloc::{AllocError, Global};
+use std::marker::Brand;
+use std::sync::ledger::{Blank, Ledger};
 use std::test::Fail;
 use task_core::{Cond, FluentId, Task};
 
@@ -27,17 +29,46 @@ fn is_marked(marks: &[bool], number: u32) -> bool {
     marks.get(number as usize).copied().unwrap_or(false)
 }
 
+/// What follows each configuration.
+fn followers(alloc: Global, graph: &Graph) -> Result<Vec<Vec<u32>>, AllocError>
+    ensures { IfOk result (λ lists. length lists.items < 2 ^ 32) }
+{
+    followers_in::<Brand>(alloc, graph, Blank::new(1))
+}
+
+fn followers_in<L: Ledger>(
+    alloc: Global,
+    graph: &Graph,
+    blank: Blank,
+) -> Result<Vec<Vec<u32>>, AllocError>
+    requires name { blank.name ≡ L.name }
+    requires parts { blank.parts ≡ L.parts }
+    requires some { 0 < blank.parts }
+    ensures { IfOk result (λ lists. length lists.items < 2 ^ 32) }
+{
+    let mut steps = Steps::<L>::new(blank);
+    let mut lists = Vec::new(alloc);
+    for number in 0..graph.len() {
+        let mut list = Vec::new(alloc);
+        for k in 0..graph.next_len(number) {
+            list.push(graph.next_at(number, k, &mut steps))?;
+        }
+        lists.push(list)?;
+    }
+    Ok(lists)
+}
+
 /// Whether every path of so many steps meets the target, with the guard until then, or, where
 /// `weak` says so, keeps the guard.
 fn every_path(
-    graph: &Graph,
+    lists: &[Vec<u32>],
     guard: &[bool],
     target: &[bool],
     number: u32,
     steps: u32,
     weak: bool,
 ) -> bool {
-    if number >= graph.len() || is_marked(target, number) {
+    if number as usize >= lists.len() || is_marked(target, number) {
         return true;
     }
     if !is_marked(guard, number) {
@@ -46,8 +77,8 @@ fn every_path(
     if steps == 0 {
         return weak;
     }
-    for next in graph.next(number) {
-        if !every_path(graph, guard, target, *next, steps - 1, weak) {
+    for next in &lists[number as usize] {
+        if !every_path(lists, guard, target, *next, steps - 1, weak) {
             return false;
         }
     }
@@ -56,14 +87,14 @@ fn every_path(
 
 /// Whether some path of so many steps does.
 fn some_path(
-    graph: &Graph,
+    lists: &[Vec<u32>],
     guard: &[bool],
     target: &[bool],
     number: u32,
     steps: u32,
     weak: bool,
 ) -> bool {
-    if number >= graph.len() {
+    if number as usize >= lists.len() {
         return false;
     }
     if is_marked(target, number) {
@@ -75,19 +106,19 @@ fn some_path(
     if steps == 0 {
         return weak;
     }
-    for next in graph.next(number) {
-        if some_path(graph, guard, target, *next, steps - 1, weak) {
+    for next in &lists[number as usize] {
+        if some_path(lists, guard, target, *next, steps - 1, weak) {
             return true;
         }
     }
     false
 }
 
-fn every_next(graph: &Graph, label: &[bool], number: u32) -> bool {
-    if number >= graph.len() {
+fn every_next(lists: &[Vec<u32>], label: &[bool], number: u32) -> bool {
+    if number as usize >= lists.len() {
         return false;
     }
-    for next in graph.next(number) {
+    for next in &lists[number as usize] {
         if !is_marked(label, *next) {
             return false;
         }
@@ -95,11 +126,11 @@ fn every_next(graph: &Graph, label: &[bool], number: u32) -> bool {
     true
 }
 
-fn some_next(graph: &Graph, label: &[bool], number: u32) -> bool {
-    if number >= graph.len() {
+fn some_next(lists: &[Vec<u32>], label: &[bool], number: u32) -> bool {
+    if number as usize >= lists.len() {
         return false;
     }
-    for next in graph.next(number) {
+    for next in &lists[number as usize] {
         if is_marked(label, *next) {
             return true;
         }
@@ -110,26 +141,28 @@ fn some_next(graph: &Graph, label: &[bool], number: u32) -> bool {
 /// Whether an operator's goal holds in a configuration, where its parts hold as the labels say. A
 /// path of as many steps as there are configurations shows all that a longer one would.
 fn holds_by(
-    graph: &Graph,
+    lists: &[Vec<u32>],
     operator: u32,
     left: &[bool],
     right: &[bool],
     all: &[bool],
     none: &[bool],
     number: u32,
-) -> bool {
-    let steps = graph.len();
+) -> bool
+    requires { length lists.now < 2 ^ 32 }
+{
+    let steps = lists.len() as u32;
     match operator {
-        0 => every_next(graph, left, number),
-        1 => some_next(graph, left, number),
-        2 => every_path(graph, all, left, number, steps, false),
-        3 => some_path(graph, all, left, number, steps, false),
-        4 => every_path(graph, left, none, number, steps, true),
-        5 => some_path(graph, left, none, number, steps, true),
-        6 => every_path(graph, left, right, number, steps, false),
-        7 => some_path(graph, left, right, number, steps, false),
-        8 => every_path(graph, left, right, number, steps, true),
-        9 => some_path(graph, left, right, number, steps, true),
+        0 => every_next(lists, left, number),
+        1 => some_next(lists, left, number),
+        2 => every_path(lists, all, left, number, steps, false),
+        3 => some_path(lists, all, left, number, steps, false),
+        4 => every_path(lists, left, none, number, steps, true),
+        5 => some_path(lists, left, none, number, steps, true),
+        6 => every_path(lists, left, right, number, steps, false),
+        7 => some_path(lists, left, right, number, steps, false),
+        8 => every_path(lists, left, right, number, steps, true),
+        9 => some_path(lists, left, right, number, steps, true),
         10 => !is_marked(left, number),
         _ => !is_marked(left, number) || is_marked(right, number),
     }
@@ -143,11 +176,12 @@ fn reading(
     left: &[bool],
     right: &[bool],
 ) -> Result<Vec<bool>, AllocError> {
+    let lists = followers(alloc, graph)?;
     let all = vec![in alloc; true; graph.len() as usize]?;
     let none = vec![in alloc; false; graph.len() as usize]?;
     let mut marks = Vec::new(alloc);
     for number in 0..graph.len() {
-        marks.push(holds_by(graph, operator, left, right, &all, &none, number))?;
+        marks.push(holds_by(&lists, operator, left, right, &all, &none, number))?;
     }
     Ok(marks)
 }
@@ -229,7 +263,7 @@ fn agrees(
         × IsGraphOf (system_of task.now) (automaton contexts rules)
         (plain_graph (fluent_count task.now) graph.now)) }
 {
-    let verdict = check_ctl(alloc, task, graph, goal)?;
+    let verdict = judge_ctl(alloc, task, graph, goal)?;
     Ok(verdict == wanted(graph, label))
 }
 

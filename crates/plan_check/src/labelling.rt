@@ -3,6 +3,8 @@
 ghost use Rattle.std.specs.Prelude.{
   ◌≡◌,
   ◌<◌,
+  ◌≤◌,
+  ◌+◌,
   ◌↔◌,
   IfOk,
   IsTrue,
@@ -10,9 +12,8 @@ ghost use Rattle.std.specs.Prelude.{
   true,
   ℕ,
 };
-ghost use Rattle.std.specs.List.{All};
 ghost use Rattle.task_core.specs.Conditions.{ids_below};
-ghost use Rattle.exec_graph.specs.Values.{followers_at, graph_size};
+ghost use Rattle.exec_graph.specs.Values.{edge_count, followers_at, graph_size};
 ghost use Rattle.plan_check.specs.Labels.{
   HasFollowers,
   IsJoined,
@@ -27,8 +28,9 @@ ghost use Rattle.plan_check.specs.Plain.{HasFollowersInside, HasPredecessors, is
 
 use crate::ends::is_goal;
 use crate::spreading::{Need, is_led, other, spread};
-use exec_graph::Graph;
+use exec_graph::{Graph, Steps};
 use std::alloc::{AllocError, Global};
+use std::sync::ledger::Ledger;
 use task_core::Cond;
 
 /// How two labels are put together.
@@ -110,42 +112,46 @@ pub(crate) fn plain_label(
 }
 
 /// Where one, or each, of the followers has a label.
-pub(crate) fn next_label(
+pub(crate) fn next_label<L: Ledger>(
     alloc: Global,
     need: Need,
     graph: &Graph,
     label: &[bool],
+    steps: &mut Steps<L>,
 ) -> Result<Vec<bool>, AllocError>
     requires inside { HasFollowersInside graph.now }
     requires label { length label.now ≡ graph_size graph.now }
-    ensures { IfOk result (λ marks. IsNext (graph_size graph.now) need
+    ensures next { IfOk result (λ marks. IsNext (graph_size graph.now) need
         (followers_at graph.now) label.now marks.items) }
+    ensures steps { steps.new ≤ steps.old + edge_count graph.now }
 {
     let mut marks = Vec::new(alloc);
     for i in 0..graph.len() {
-        marks.push(is_led(need, label, graph.next(i)))?;
+        marks.push(is_led(need, graph, label, i, steps))?;
     }
     Ok(marks)
 }
 
 /// Where on each, or one, of the paths the guard holds until the target does, or for ever. It is
 /// the complement of an until.
-pub(crate) fn weak_until(
+pub(crate) fn weak_until<L: Ledger>(
     alloc: Global,
     need: Need,
     graph: &Graph,
     guard: &[bool],
     target: &[bool],
+    steps: &mut Steps<L>,
 ) -> Result<Vec<bool>, AllocError>
     requires turned { HasPredecessors graph.now }
     requires followers { HasFollowers graph.now }
     requires guard { length guard.now ≡ graph_size graph.now }
     requires target { length target.now ≡ graph_size graph.now }
-    ensures { IfOk result (λ marks. IsWeakest (graph_size graph.now) need
+    ensures weakest { IfOk result (λ marks. IsWeakest (graph_size graph.now) need
         (followers_at graph.now) guard.now target.now marks.items) }
+    ensures steps { steps.new ≤ steps.old + edge_count graph.now }
 {
     let without = negated(alloc, target)?;
     let mut marks = joined(alloc, Join::Neither, guard, target)?;
-    spread(alloc, other(need), graph, &without, &mut marks)?;
+    spread(alloc, other(need), graph, &without, &mut marks, steps)?;
     negated(alloc, &marks)
 }

@@ -8,6 +8,7 @@
 
 mod classes;
 mod contexts;
+mod counted;
 mod ends;
 #[cfg(test)]
 mod goal_tests;
@@ -24,6 +25,7 @@ mod verdicts;
 
 pub use classes::check_class;
 pub use contexts::check_ctl;
+pub use counted::{judge_class, judge_ctl};
 pub use laws::{
     one_context_verdict, one_verdict, reasons_exclude_freedom, yes_is_met, yes_is_solution,
 };

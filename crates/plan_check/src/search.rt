@@ -4,6 +4,7 @@
 ghost use Rattle.std.specs.Prelude.{
   ◌≡◌,
   ◌+◌,
+  ◌*◌,
   ◌^◌,
   ◌-◌,
   ◌<◌,
@@ -22,12 +23,13 @@ ghost use Rattle.std.specs.Prelude.{
   take,
   ℕ,
 };
-ghost use Rattle.exec_graph.specs.Values.{followers_at, graph_size};
-ghost use Rattle.plan_check.specs.Plain.{HasFollowersInside};
+ghost use Rattle.exec_graph.specs.Values.{edge_count, followers_at, graph_size};
+ghost use Rattle.plan_check.specs.Plain.{HasFollowersInside, HasPredecessors};
 ghost use Rattle.plan_check.specs.Walks.{ComesRound};
 
-use exec_graph::Graph;
+use exec_graph::{Graph, Steps};
 use std::alloc::{AllocError, Global};
+use std::sync::ledger::Ledger;
 
 /// How far the search is with a configuration.
 #[derive(Clone, Copy, Debug, PartialEq, Eq)]
@@ -44,7 +46,7 @@ pub(crate) enum Mark {
 #[derive(Clone, Copy, Debug)]
 pub(crate) struct Visit {
     pub(crate) mark: Mark,
-    pub(crate) tried: usize,
+    pub(crate) tried: u32,
     pub(crate) height: u64,
 }
 
@@ -65,7 +67,14 @@ pub(crate) enum Turn {
 }
 
 impl Search {
-    ghost use Rattle.plan_check.specs.Searches.{IsSearch, IsSeen, KeepsSeen, left_in, visit_at};
+    ghost use Rattle.plan_check.specs.Searches.{
+      IsSearch,
+      IsSeen,
+      KeepsSeen,
+      left_in,
+      looks_in,
+      visit_at,
+    };
     ghost use Rattle.plan_check.specs.declared.search.Mark.TheVariants.{Done, Open, Unseen};
     ghost use Rattle.plan_check.specs.declared.search.Turn.TheVariants.{Further, Round};
 
@@ -88,8 +97,14 @@ impl Search {
 
     /// Goes on from a configuration until all that it leads to is done. Says where the path comes
     /// round.
-    pub(crate) fn search_from(&mut self, graph: &Graph, root: u32) -> Result<Turn, AllocError>
+    pub(crate) fn search_from<L: Ledger>(
+        &mut self,
+        graph: &Graph,
+        root: u32,
+        steps: &mut Steps<L>,
+    ) -> Result<Turn, AllocError>
         requires inside { HasFollowersInside graph.now }
+        requires turned { HasPredecessors graph.now }
         requires search { IsSearch (graph_size graph.now) (followers_at graph.now)
             self.old.visits.items self.old.path.items }
         requires path { self.old.path.items ≡ [] }
@@ -103,19 +118,25 @@ impl Search {
         ensures kept { IfOk result (λ turn. turn ≡ Further
             → KeepsSeen self.old.visits.items self.new.visits.items) }
         ensures seen { IfOk result (λ turn. turn ≡ Further → IsSeen self.new.visits.items root) }
+        ensures steps { IfOk result (λ turn. turn ≡ Further
+            → steps.new + looks_in graph.now self.old.visits.items
+            ≤ steps.old + looks_in graph.now self.new.visits.items) }
+        ensures most { steps.new + looks_in graph.now self.old.visits.items
+            ≤ steps.old + 2 * edge_count graph.now }
     {
         match self.visits[root as usize].mark {
             Mark::Open | Mark::Done => Ok(Turn::Further),
             Mark::Unseen => {
                 self.open(root)?;
-                self.follow(graph)
+                self.follow(graph, steps)
             }
         }
     }
 
     /// Goes on until the path is empty.
-    fn follow(&mut self, graph: &Graph) -> Result<Turn, AllocError>
+    fn follow<L: Ledger>(&mut self, graph: &Graph, steps: &mut Steps<L>) -> Result<Turn, AllocError>
         requires inside { HasFollowersInside graph.now }
+        requires turned { HasPredecessors graph.now }
         requires search { IsSearch (graph_size graph.now) (followers_at graph.now)
             self.old.visits.items self.old.path.items }
         ensures round { IfOk result (λ turn. turn ≡ Round
@@ -126,10 +147,15 @@ impl Search {
         ensures path { IfOk result (λ turn. turn ≡ Further → self.new.path.items ≡ []) }
         ensures kept { IfOk result (λ turn. turn ≡ Further
             → KeepsSeen self.old.visits.items self.new.visits.items) }
+        ensures steps { IfOk result (λ turn. turn ≡ Further
+            → steps.new + looks_in graph.now self.old.visits.items
+            ≤ steps.old + looks_in graph.now self.new.visits.items) }
+        ensures most { steps.new + looks_in graph.now self.old.visits.items
+            ≤ steps.old + 2 * edge_count graph.now }
     {
         while let Some(top) = self.path.last() {
             let top = *top;
-            match self.advance(graph, top)? {
+            match self.advance(graph, top, steps)? {
                 Turn::Further => {}
                 Turn::Round => return Ok(Turn::Round),
             }
@@ -139,8 +165,14 @@ impl Search {
 
     /// One step at the last number of the path: its next follower is opened, or its height is
     /// taken in where it is done; without a follower left the last number is done.
-    fn advance(&mut self, graph: &Graph, top: u32) -> Result<Turn, AllocError>
+    fn advance<L: Ledger>(
+        &mut self,
+        graph: &Graph,
+        top: u32,
+        steps: &mut Steps<L>,
+    ) -> Result<Turn, AllocError>
         requires inside { HasFollowersInside graph.now }
+        requires turned { HasPredecessors graph.now }
         requires search { IsSearch (graph_size graph.now) (followers_at graph.now)
             self.old.visits.items self.old.path.items }
         requires top { slice_get self.old.path.items (length self.old.path.items - 1) ≡ Some top }
@@ -153,11 +185,15 @@ impl Search {
             → KeepsSeen self.old.visits.items self.new.visits.items) }
         ensures less { IfOk result (λ turn. turn ≡ Further
             → left_in self.new.visits.items < left_in self.old.visits.items) }
+        ensures steps { IfOk result (λ turn. turn ≡ Further
+            → steps.new + looks_in graph.now self.old.visits.items
+            ≤ steps.old + looks_in graph.now self.new.visits.items) }
+        ensures most { steps.new + looks_in graph.now self.old.visits.items
+            ≤ steps.old + 2 * edge_count graph.now }
     {
-        let followers = graph.next(top);
         let tried = self.visits[top as usize].tried;
-        if tried < followers.len() {
-            let follower = followers[tried];
+        if tried < graph.next_len(top) {
+            let follower = graph.next_at(top, tried, steps);
             let visit = self.visits[follower as usize];
             match visit.mark {
                 Mark::Unseen => self.open(follower)?,
@@ -190,7 +226,7 @@ impl Search {
     /// Takes in the height of a follower of a configuration on the path.
     fn take_height(&mut self, number: u32, below: u64)
         requires number { number < length self.old.visits.items }
-        requires tried { (visit_at self.old.visits.items number).tried + 1 < 2 ^ 64 }
+        requires tried { (visit_at self.old.visits.items number).tried + 1 < 2 ^ 32 }
         requires below { below + 1 < 2 ^ 64 }
         ensures visits { let visit = visit_at self.old.visits.items number in
             self.new.visits.items ≡ slice_set self.old.visits.items number (record {

@@ -8,11 +8,13 @@ ghost use Rattle.std.specs.Prelude.{
   ◌-◌,
   ◌^◌,
   ◌<◌,
+  ◌≤◌,
   ◌++◌,
   ◌∷◌,
   if◌then◌else◌,
   [],
   IfOk,
+  OnOk,
   length,
   slice_index_or,
   slice_set,
@@ -20,11 +22,11 @@ ghost use Rattle.std.specs.Prelude.{
   true,
   ℕ,
 };
-ghost use Rattle.std.specs.List.{All, AllPairs};
-ghost use Rattle.exec_graph.specs.Values.{followers_at, graph_size, predecessors_at};
+ghost use Rattle.std.specs.List.{AllPairs};
+ghost use Rattle.exec_graph.specs.Values.{edge_count, followers_at, graph_size, predecessors_at};
 ghost use Rattle.plan_check.specs.Labels.{IsLeast, is_led, mark_at, other};
 ghost use Rattle.plan_check.specs.Marks.{ListsMarked, unmarked};
-ghost use Rattle.plan_check.specs.Plain.{HasPredecessors};
+ghost use Rattle.plan_check.specs.Plain.{HasFollowersInside, HasPredecessors};
 ghost use Rattle.plan_check.specs.Spreads.{
   IsSpreading,
   NeedsFollowers,
@@ -34,8 +36,9 @@ ghost use Rattle.plan_check.specs.Spreads.{
   is_enough,
 };
 
-use exec_graph::Graph;
+use exec_graph::{Graph, Steps};
 use std::alloc::{AllocError, Global};
+use std::sync::ledger::Ledger;
 
 /// How many of the followers of a configuration must have a label.
 #[derive(Clone, Copy, Debug, PartialEq, Eq)]
@@ -56,52 +59,82 @@ pub(crate) fn other(need: Need) -> Need
     }
 }
 
-/// Whether some of the numbers has a mark.
-fn has_marked(marks: &[bool], numbers: &[u32]) -> bool
-    requires { All (λ i. i < length marks.now) numbers.now }
-    ensures { result ≡ is_led Need.One (mark_at marks.now) numbers.now }
+/// Whether a number has a mark.
+fn is_marked(marks: &[bool], number: u32) -> bool
+    requires { number < length marks.now }
+    ensures { result ≡ mark_at marks.now number }
 {
-    for i in numbers {
-        if marks[*i as usize] {
+    marks[number as usize]
+}
+
+/// Whether some of the followers of a configuration has a mark.
+fn has_marked<L: Ledger>(graph: &Graph, marks: &[bool], number: u32, steps: &mut Steps<L>) -> bool
+    requires inside { HasFollowersInside graph.now }
+    requires marks { length marks.now ≡ graph_size graph.now }
+    requires number { number < graph_size graph.now }
+    ensures led { result ≡ is_led Need.One (mark_at marks.now) (followers_at graph.now number) }
+    ensures steps { steps.new ≤ steps.old + length (followers_at graph.now number) }
+{
+    for k in 0..graph.next_len(number) {
+        let follower = graph.next_at(number, k, steps);
+        if is_marked(marks, follower) {
             return true;
         }
     }
     false
 }
 
-/// Whether each of the numbers has a mark.
-fn has_only_marked(marks: &[bool], numbers: &[u32]) -> bool
-    requires { All (λ i. i < length marks.now) numbers.now }
-    ensures { result ≡ is_led Need.Each (mark_at marks.now) numbers.now }
+/// Whether each of the followers of a configuration has a mark.
+fn has_only_marked<L: Ledger>(
+    graph: &Graph,
+    marks: &[bool],
+    number: u32,
+    steps: &mut Steps<L>,
+) -> bool
+    requires inside { HasFollowersInside graph.now }
+    requires marks { length marks.now ≡ graph_size graph.now }
+    requires number { number < graph_size graph.now }
+    ensures led { result ≡ is_led Need.Each (mark_at marks.now) (followers_at graph.now number) }
+    ensures steps { steps.new ≤ steps.old + length (followers_at graph.now number) }
 {
-    for i in numbers {
-        if !marks[*i as usize] {
+    for k in 0..graph.next_len(number) {
+        let follower = graph.next_at(number, k, steps);
+        if !is_marked(marks, follower) {
             return false;
         }
     }
     true
 }
 
-/// Whether one, or each, of the numbers has a mark.
-pub(crate) fn is_led(need: Need, marks: &[bool], numbers: &[u32]) -> bool
-    requires { All (λ i. i < length marks.now) numbers.now }
-    ensures { result ≡ is_led need (mark_at marks.now) numbers.now }
+/// Whether one, or each, of the followers of a configuration has a mark.
+pub(crate) fn is_led<L: Ledger>(
+    need: Need,
+    graph: &Graph,
+    marks: &[bool],
+    number: u32,
+    steps: &mut Steps<L>,
+) -> bool
+    requires inside { HasFollowersInside graph.now }
+    requires marks { length marks.now ≡ graph_size graph.now }
+    requires number { number < graph_size graph.now }
+    ensures led { result ≡ is_led need (mark_at marks.now) (followers_at graph.now number) }
+    ensures steps { steps.new ≤ steps.old + length (followers_at graph.now number) }
 {
     match need {
-        Need::One => has_marked(marks, numbers),
-        Need::Each => has_only_marked(marks, numbers),
+        Need::One => has_marked(graph, marks, number, steps),
+        Need::Each => has_only_marked(graph, marks, number, steps),
     }
 }
 
 /// How many followers each configuration has.
-fn follower_counts(alloc: Global, graph: &Graph) -> Result<Vec<usize>, AllocError>
+fn follower_counts(alloc: Global, graph: &Graph) -> Result<Vec<u32>, AllocError>
     ensures count { IfOk result (λ counts. length counts.items ≡ graph_size graph.now) }
     ensures each { IfOk result (λ counts. (i : ℕ) → i < graph_size graph.now
         → slice_index_or counts.items i 0 ≡ length (followers_at graph.now i)) }
 {
     let mut counts = Vec::new(alloc);
     for i in 0..graph.len() {
-        counts.push(graph.next(i).len())?;
+        counts.push(graph.next_len(i))?;
     }
     Ok(counts)
 }
@@ -133,7 +166,7 @@ fn list_marked(marks: &[bool], found: &mut Vec<u32>, number: u32) -> Result<(), 
 }
 
 /// Whether enough of the followers have the label, where one has and so many haven't yet.
-fn is_enough(need: Need, left: usize) -> bool
+fn is_enough(need: Need, left: u32) -> bool
     ensures { result ≡ is_enough need left }
 {
     match need {
@@ -144,7 +177,7 @@ fn is_enough(need: Need, left: usize) -> bool
 
 /// Whether a configuration gets the label, where one of its followers has it and so many haven't
 /// yet.
-fn is_due(need: Need, guard: &[bool], marks: &[bool], left: usize, number: u32) -> bool
+fn is_due(need: Need, guard: &[bool], marks: &[bool], left: u32, number: u32) -> bool
     requires guard { number < length guard.now }
     requires marks { number < length marks.now }
     ensures { result ≡ is_due need guard.now marks.now left number }
@@ -163,7 +196,7 @@ fn look(
     need: Need,
     guard: &[bool],
     marks: &mut Vec<bool>,
-    lacks: &mut Vec<usize>,
+    lacks: &mut Vec<u32>,
     found: &mut Vec<u32>,
     number: u32,
 ) -> Result<(), AllocError>
@@ -193,14 +226,15 @@ fn look(
 }
 
 /// Looks at the edges to a configuration that has the label: the one at a place of those found.
-fn look_back(
+fn look_back<L: Ledger>(
     need: Need,
     graph: &Graph,
     guard: &[bool],
     marks: &mut Vec<bool>,
-    lacks: &mut Vec<usize>,
+    lacks: &mut Vec<u32>,
     found: &mut Vec<u32>,
     done: usize,
+    steps: &mut Steps<L>,
 ) -> Result<(), AllocError>
     requires turned { HasPredecessors graph.now }
     requires guard { length guard.now ≡ graph_size graph.now }
@@ -215,35 +249,46 @@ fn look_back(
         marks.old.items marks.new.items) }
     ensures even { IfOk result (λ _. unmarked marks.new.items + length found.new.items
         ≡ unmarked marks.old.items + length found.old.items) }
+    ensures steps { OnOk result
+        (steps.new + length (edges_to (predecessors_at graph.now) (take done found.old.items))
+        ≤ steps.old
+        + length (edges_to (predecessors_at graph.now) (take (done + 1) found.new.items))) }
+    ensures most { steps.new
+        ≤ steps.old + length (predecessors_at graph.now (slice_index_or found.old.items done 0)) }
 {
     let number = found[done];
-    for before in graph.prev(number) {
-        look(need, guard, marks, lacks, found, *before)?;
+    for k in 0..graph.prev_len(number) {
+        let before = graph.prev_at(number, k, steps);
+        look(need, guard, marks, lacks, found, before)?;
     }
     Ok(())
 }
 
 /// Marks each configuration that has the guard and is led to marked ones, until there are none
 /// left. Each that has a mark or gets one looks at those that it follows, once.
-pub(crate) fn spread(
+pub(crate) fn spread<L: Ledger>(
     alloc: Global,
     need: Need,
     graph: &Graph,
     guard: &[bool],
     marks: &mut Vec<bool>,
+    steps: &mut Steps<L>,
 ) -> Result<(), AllocError>
     requires turned { HasPredecessors graph.now }
     requires followers { NeedsFollowers need graph.now }
     requires guard { length guard.now ≡ graph_size graph.now }
     requires marks { length marks.old.items ≡ graph_size graph.now }
-    ensures { IfOk result (λ _. IsLeast (graph_size graph.now) need (followers_at graph.now)
+    ensures least { IfOk result (λ _. IsLeast (graph_size graph.now) need (followers_at graph.now)
         guard.now marks.old.items marks.new.items) }
+    ensures steps { steps.new ≤ steps.old + edge_count graph.now }
 {
     let mut lacks = follower_counts(alloc, graph)?;
     let mut found = marked_numbers(alloc, marks)?;
     let mut done = 0;
     while done < found.len() {
-        look_back(need, graph, guard, marks, &mut lacks, &mut found, done)?;
+        look_back(
+            need, graph, guard, marks, &mut lacks, &mut found, done, steps,
+        )?;
         done += 1;
     }
     Ok(())

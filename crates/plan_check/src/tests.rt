@@ -4,7 +4,7 @@ ghost use Rattle.std.specs.Prelude.{IfOk, IsSome};
 ghost use Rattle.task_core.specs.Tasks.{action_count, fluent_count};
 ghost use Rattle.plan_rules.specs.Plans.{IsPlanOf};
 
-use crate::{Reason, Verdict, check_class};
+use crate::{Reason, Verdict, judge_class};
 use exec_graph::explore;
 use plan_rules::{Plan, read_plan};
 use sexpr_text::MAX_BYTES;
@@ -37,7 +37,7 @@ fn name(alloc: Global, word: &str) -> Result<Vec<String>, AllocError> {
 fn outcome(alloc: Global, fluent: u32, positive: bool) -> Result<Outcome, AllocError> {
     let change = Change {
         cond: Cond::Yes,
-        lit: literal(fluent, positive),
+        lits: vec![in alloc; literal(fluent, positive)]?,
     };
     Ok(Outcome {
         changes: vec![in alloc; change]?,
@@ -125,7 +125,7 @@ fn plan_verdict(alloc: Global, task: &Task, plan: &Plan, class: Class) -> Result
     match plan {
         Plan::Table(_) => {
             let graph = explore(alloc, task, plan)?;
-            Ok(word(check_class(alloc, task, &graph, class)?))
+            Ok(word(judge_class(alloc, task, &graph, class)?))
         }
         Plan::Auto(_) => Ok("no table"),
     }

@@ -18,12 +18,13 @@ use task_core::{
 
 /// The outcome that sets a fluent.
 fn sets(alloc: Global, fluent: u32, positive: bool) -> Result<Outcome, AllocError> {
+    let lit = Lit {
+        fluent: FluentId(fluent),
+        positive,
+    };
     let change = Change {
         cond: Cond::Yes,
-        lit: Lit {
-            fluent: FluentId(fluent),
-            positive,
-        },
+        lits: vec![in alloc; lit]?,
     };
     Ok(Outcome {
         changes: vec![in alloc; change]?,

@@ -20,12 +20,13 @@ const DEAD: u32 = 1;
 
 /// The outcome that adds a fluent.
 fn adds(alloc: Global, fluent: u32) -> Result<Outcome, AllocError> {
+    let lit = Lit {
+        fluent: FluentId(fluent),
+        positive: true,
+    };
     let change = Change {
         cond: Cond::Yes,
-        lit: Lit {
-            fluent: FluentId(fluent),
-            positive: true,
-        },
+        lits: vec![in alloc; lit]?,
     };
     Ok(Outcome {
         changes: vec![in alloc; change]?,

@@ -26,11 +26,12 @@ fn lit(fluent: FluentId, positive: bool) -> Lit {
     Lit { fluent, positive }
 }
 
-fn change(fluent: FluentId, positive: bool) -> Change {
-    Change {
+/// The change of some literals under no condition.
+fn change(alloc: Global, lits: &[Lit]) -> Result<Change, AllocError> {
+    Ok(Change {
         cond: Cond::Yes,
-        lit: lit(fluent, positive),
-    }
+        lits: Vec::from_slice(alloc, lits)?,
+    })
 }
 
 fn name(alloc: Global, word: &str) -> Result<Vec<String>, AllocError> {
@@ -50,8 +51,7 @@ fn here_alone(alloc: Global) -> Result<Cond, AllocError> {
 /// The action: the robot moves, or stays.
 fn go(alloc: Global) -> Result<GroundAction, AllocError> {
     let mut changes = Vec::new(alloc);
-    changes.push(change(HERE, false))?;
-    changes.push(change(THERE, true))?;
+    changes.push(change(alloc, &[lit(HERE, false), lit(THERE, true)])?)?;
     let mut outcomes = Vec::new(alloc);
     outcomes.push(Outcome { changes })?;
     outcomes.push(Outcome {

@@ -72,10 +72,9 @@ fn outcome(alloc: Global, source: &mut Source) -> Result<Outcome, AllocError> {
     let mut changes = Vec::new(alloc);
     for _ in 0..source.below(5) {
         let cond = cond(alloc, source, 2)?;
-        changes.push(Change {
-            cond,
-            lit: source.lit(),
-        })?;
+        let mut lits = Vec::new(alloc);
+        lits.push(source.lit())?;
+        changes.push(Change { cond, lits })?;
     }
     Ok(Outcome { changes })
 }

@@ -51,15 +51,13 @@ fn all_of(alloc: Global, lits: &[Lit]) -> Result<Cond, AllocError> {
     Ok(Cond::All(parts))
 }
 
-/// The change of each literal, where a condition holds.
+/// The change of each literal.
 fn outcome(alloc: Global, lits: &[Lit]) -> Result<Outcome, AllocError> {
     let mut changes = Vec::new(alloc);
-    for lit in lits {
-        changes.push(Change {
-            cond: Cond::Yes,
-            lit: *lit,
-        })?;
-    }
+    changes.push(Change {
+        cond: Cond::Yes,
+        lits: Vec::from_slice(alloc, lits)?,
+    })?;
     Ok(Outcome { changes })
 }
 
@@ -266,7 +264,7 @@ fn counter(alloc: Global) -> Result<Task, Fail>
             let lit = Lit { fluent, positive };
             changes.push(Change {
                 cond: Cond::All(parts),
-                lit,
+                lits: vec![in alloc; lit]?,
             })?;
         }
         goal.push(Cond::Is(fluent))?;

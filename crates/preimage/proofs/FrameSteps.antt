@@ -1,20 +1,18 @@
 -- The sets of a task while slots are taken and ended.
-use Rattle.std.proofs.Common.{◌≡◌, ℕ, ◌<◌, List, [], ◌∷◌, Result, length, sym, ap, subst, ◌∙◌, arith}
+use Rattle.std.proofs.Common.{◌≡◌, ℕ, ◌<◌, Result, length, sym, ap, subst, ◌∙◌, arith}
 use Rattle.std.specs.Prelude.{IfOk, OnErr}
 use Rattle.dd_nodes.specs.Subfunctions.{Function}
 use Rattle.dd_sets.specs.Calls.{KeepsSets, Adds, AddsNone}
-use Rattle.dd_sets.specs.Frames.{Owns, OwnsAnswer}
+use Rattle.dd_sets.specs.Frames.{OwnsAnswer}
 use Rattle.dd_sets.specs.LiveSets.{LiveSets, IsLive, set_of}
 use Rattle.dd_sets.specs.declared.errors.SetErr.{SetErr}
 use Rattle.dd_sets.specs.declared.slots.SetId.{SetId}
-use Rattle.task_core.specs.Tasks.{action_count, outcomes_at}
 use Rattle.task_core.specs.declared.tasks.Task.{Task}
-use Rattle.encode_task.specs.Made.{Holds, IsReady, MadeOf}
-use Rattle.encode_task.specs.Slots.{Encoded, exec_slot, outcome_slots}
+use Rattle.encode_task.specs.Made.{Holds, MadeOf}
+use Rattle.encode_task.specs.Slots.{Encoded, exec_slot}
 use Rattle.encode_task.specs.TaskSets.{exec_set, led_into}
 use Rattle.encode_task.proofs.MadeLemmas.{made_kept}
-use Rattle.dd_sets.proofs.OwnedLemmas.{answered, both}
-use Rattle.dd_sets.specs.Frames.{OwnsBoth}
+use Rattle.dd_sets.proofs.OwnedLemmas.{answered}
 
 pub same_chain : (a b c : Encoded) → b ≡ record a { sets = b.sets } → c ≡ record b { sets = c.sets } → c ≡ record a { sets = c.sets }
 same_chain a b c first second = second ∙ ap (λ (e : Encoded). record e { sets = c.sets }) first

@@ -1,5 +1,5 @@
 -- One outcome more, and the outcomes of the system.
-use Rattle.std.proofs.Common.{◌≡◌, ℕ, zero, suc, ◌+◌, ◌<◌, ◌≤◌, Bool, true, false, cond, not, ◌&&◌, ◌||◌, List, [], ◌∷◌, map, length, get_or, take, Option, Some, slice_get, refl, sym, ap, ◌∙◌, arith}
+use Rattle.std.proofs.Common.{◌≡◌, ℕ, zero, suc, ◌+◌, ◌-◌, ◌<◌, ◌≤◌, Bool, true, false, cond, not, ◌&&◌, ◌||◌, List, [], ◌∷◌, map, length, get_or, take, Option, Some, slice_get, refl, sym, ap, ◌∙◌, arith}
 use Rattle.std.specs.List.{list_all, list_any}
 use Rattle.std.specs.Option.{option_map_or}
 use Rattle.std.proofs.lemmas.List.{take_all}
@@ -8,6 +8,7 @@ use Rattle.std.proofs.lemmas.Option.{get_or_from_slice_get}
 use Rattle.dd_nodes.specs.NodeList.{Values}
 use Rattle.dd_nodes.specs.Subfunctions.{DependsOnly, Function}
 use Rattle.dd_ops.specs.Operations.{and_of, minus_of}
+use Rattle.dd_sets.specs.LiveSets.{nothing}
 use Rattle.task_core.specs.Actions.{after, after_value}
 use Rattle.task_core.specs.Tasks.{fluent_count, is_executable, next_states, outcomes_at}
 use Rattle.task_core.specs.Vectors.{Vector, value_of}
@@ -112,6 +113,33 @@ exec_side Outside = exec_left
 pub side_whole : (side : Side) (task : Task) (a i : ℕ) (set : Function) → length (outcomes_at task a) ≤ i → side_after side task a set i ≡ all_outcomes_on side task a set
 side_whole Inside = strong_whole
 side_whole Outside = left_whole
+
+-- nothing is left of nothing, so the outcomes that follow change nothing
+none_on : (side : Side) (g : Function) → on_side side nothing g ≡ nothing
+none_on Inside g = refl
+none_on Outside g = refl
+
+stays_none : (side : Side) (task : Task) (a : ℕ) (set : Function) (k i : ℕ) → i + k ≡ length (outcomes_at task a) → side_after side task a set i ≡ nothing → all_outcomes_on side task a set ≡ nothing
+stays_none side task a set zero i e none = sym (side_whole side task a i set (omega arith)) ∙ none
+stays_none side task a set (suc k) i e none =
+    stays_none side task a set k (i + 1) (omega arith)
+    (sym (side_more side task a i set (omega arith)) ∙ ap (λ (f : Function). on_side side f (led_into task a i set)) none ∙ none_on side (led_into task a i set))
+
+pub side_emptied : (side : Side) (task : Task) (a i : ℕ) (set : Function) → i < length (outcomes_at task a) → side_after side task a set i ≡ nothing → side_after side task a set i ≡ all_outcomes_on side task a set
+side_emptied side task a i set within none = none ∙ sym (stays_none side task a set (length (outcomes_at task a) - i) i (omega arith) none)
+
+-- of one outcome, some and all are the same
+alone : (b : Bool) → (b && true) ≡ (b || false)
+alone true = refl
+alone false = refl
+
+all_is_some : (set : Function) (values : Values) (outcomes : List Outcome) → length outcomes ≡ 1 → list_all (leads set values) outcomes ≡ list_any (leads set values) outcomes
+all_is_some set values [] one = absurd (omega arith)
+all_is_some set values (o ∷ []) one = alone (leads set values o)
+all_is_some set values (o ∷ p ∷ outcomes) one = absurd (omega arith)
+
+pub strong_is_weak : (task : Task) (a : ℕ) (set : Function) → length (outcomes_at task a) ≡ 1 → strong_preimage task a set ≡ weak_preimage task a set
+strong_is_weak task a set one = λ j values. ap (λ b. exec_set task a values && b) (all_is_some set values (outcomes_at task a) one) j
 
 -- the states after the outcomes have the values after them
 module _ (n : ℕ) (set : Function) (depends : DependsOnly 0 n set) (v : Vector) where

@@ -1,5 +1,5 @@
 -- What the preimages are in the system of the task.
-use Rattle.std.specs.Prelude.{◌≡◌, ℕ, ◌&&◌, length}
+use Rattle.std.specs.Prelude.{◌≡◌, ℕ, ◌&&◌}
 use Rattle.std.specs.List.{list_all, list_any}
 use Rattle.dd_nodes.specs.Subfunctions.{DependsOnly, Function}
 use Rattle.task_core.specs.Tasks.{fluent_count, is_executable, next_states}

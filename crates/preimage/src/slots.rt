@@ -1,10 +1,10 @@
 //! Sets in the place of slots, on the sets of a task.
-ghost use Rattle.std.specs.Prelude.{◌≡◌, ◌⊎◌, [], ◌∷◌, IfErr, IsErrOf};
+ghost use Rattle.std.specs.Prelude.{◌≡◌, ◌⊎◌, ◌↔◌, [], ◌∷◌, IfErr, IsErrOf, IsTrue};
 ghost use Rattle.dd_nodes.specs.Subfunctions.{Function};
 ghost use Rattle.dd_ops.specs.Operations.{minus_of};
 ghost use Rattle.dd_sets.specs.Calls.{Releases};
 ghost use Rattle.dd_sets.specs.Frames.{AreTwo, Owns, OwnsAnswer, OwnsBoth};
-ghost use Rattle.dd_sets.specs.LiveSets.{IsSets, LiveSets, IsLive, set_of};
+ghost use Rattle.dd_sets.specs.LiveSets.{IsSets, LiveSets, IsLive, nothing, set_of};
 ghost use Rattle.dd_sets.specs.Rooms.{AnySet, NoRoom};
 ghost use Rattle.preimage.specs.Sides.{on_side};
 
@@ -29,6 +29,14 @@ pub fn copied(enc: &mut Enc, a: SetId) -> Result<SetId, SetErr>
     ensures sound { IsSets enc.new.sets }
 {
     enc.sets_mut().copy(a)
+}
+
+/// Whether a slot holds the empty set.
+pub fn is_none(enc: &Enc, a: SetId) -> bool
+    requires { IsLive enc.now.sets a.0 }
+    ensures { IsTrue result ↔ (set_of enc.now.sets a.0 ≡ nothing) }
+{
+    enc.sets().is_none(a)
 }
 
 /// The lists of a set on one side of an answer, in the place of their slots; a refusal where one was

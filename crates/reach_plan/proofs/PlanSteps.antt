@@ -31,7 +31,9 @@ use Rattle.task_core.proofs.TaskSystem.{is_system}
 use Rattle.plan_theory.specs.Classes.{IsFoundByLayers}
 use Rattle.plan_theory.specs.Layers.{IsLastLayer}
 use Rattle.plan_theory.specs.LayerPlans.{printed_rules, rules_of_action, takers}
-use Rattle.reach_plan.specs.Searches.{FoundLast, SearchLeft}
+use Rattle.reach_plan.specs.Searches.{HasProgress, SearchLeft}
+use Rattle.reach_plan.specs.Steps.{LeadToLast, Progress, after_steps, at_goal}
+use Rattle.reach_plan.specs.declared.steps.Step.{Step}
 use Rattle.reach_plan.specs.SetRules.{rules_of_place}
 use Rattle.slot_board.specs.Rules.{rule_for}
 use Rattle.reach_plan.specs.Takers.{HoldTakers, IsDecided}
@@ -89,22 +91,18 @@ printed_by_places class task enc slots made has = flat_map_agree (rules_of_place
         ap (λ (m : ℕ). map (rule_for a) (cubes_of m (λ state. set_at enc.sets slots a (value_of state)))) vars
         ∙ ap (map (rule_for a)) (cubes_agree 0 (fluent_count task) (λ state. set_at enc.sets slots a (value_of state)) (takers class (system_of task) has.layers a) (λ v is. has.takes a v below is))
 
--- what a pass found
-pub is_decided : (class : Class) (start : Start) (now : Encoded) (slots : List SetId) (n : ℕ) (covered : Bool) → SearchLeft class start now slots n covered → IsDecided class start.task covered
-is_decided class start now slots n true left = (left.layers, left.last)
-is_decided class start now slots n false left = left.none
+-- what the first pass found
+pub is_decided : (class : Class) (start : Start) (now : Encoded) (slots : List SetId) (steps : List Step) (covered : Bool) → SearchLeft class start now slots steps covered → IsDecided class start.task steps covered
+is_decided class start now slots steps true left = left.leads
+is_decided class start now slots steps false left = left.none
 
-pub left_at : (class : Class) (start : Start) (now : Encoded) (slots : List SetId) (n : ℕ) (covered : Bool) → SearchLeft class start now slots n covered → At start now slots
-left_at class start now slots n true left = left.at
-left_at class start now slots n false left = left.at
+pub left_at : (class : Class) (start : Start) (now : Encoded) (slots : List SetId) (steps : List Step) (covered : Bool) → SearchLeft class start now slots steps covered → At start now slots
+left_at class start now slots steps true left = left.at
+left_at class start now slots steps false left = left.at
 
-pub search_last : (class : Class) → IsFoundByLayers class → (start : Start) (now : Encoded) (slots : List SetId) (n layers : ℕ) → IsLastLayer class (system_of start.task) layers → (found : Bool) → SearchLeft class start now slots n found → FoundLast class start now slots n
-search_last class by_layers start now slots n layers last true left = left
-search_last class by_layers start now slots n layers last false left = absurd (not_none class by_layers start.task layers last left.none)
-
-pub decided_by : (class : Class) (start : Start) (now : Encoded) (slots : List SetId) (n : ℕ) (result : Result Bool SetErr) → Ends start now slots (SearchLeft class start now slots n) result → IfOk result (IsDecided class start.task)
-decided_by class start now slots n (Ok covered) ends = is_decided class start now slots n covered ends
-decided_by class start now slots n (Err e) ends = tt
+pub decided_by : (class : Class) (start : Start) (now : Encoded) (slots : List SetId) (steps : List Step) (result : Result Bool SetErr) → Ends start now slots (SearchLeft class start now slots steps) result → IfOk result (IsDecided class start.task steps)
+decided_by class start now slots steps (Ok covered) ends = is_decided class start now slots steps covered ends
+decided_by class start now slots steps (Err e) ends = tt
 
 -- a refusal for want of room
 pub full_at : {T : Type 0} (start : Start) (now : Encoded) (slots : List SetId) (P : T → Type 0) (result : Result T SetErr) → Ends start now slots P result → IsErrOf result Full → HasNoRoom start now
@@ -141,12 +139,14 @@ owns_after a b c first second =
     }
 
 -- the slots of the last layer
-pub takers_held : (class : Class) (start : Start) (x now : Encoded) (old new : List SetId) (n : ℕ) → FoundLast class start x old n → n ≡ action_count start.task → length new ≡ n → ((a : ℕ) → a < n → set_at now.sets new a ≡ set_at x.sets old a) → HoldTakers class start.task now.sets new
-takers_held class start x now old new n found all long same = record {
-  layers = found.layers;
-  last = found.last;
+pub takers_held : (class : Class) (start : Start) (x now : Encoded) (old new : List SetId) (n : ℕ) (steps : List Step) → LeadToLast class start.task steps → HasProgress start x old n (after_steps class start.task (at_goal start.task) steps) → n ≡ action_count start.task → length new ≡ n
+    → ((a : ℕ) → a < n → set_at now.sets new a ≡ set_at x.sets old a) → HoldTakers class start.task now.sets new
+takers_held class start x now old new n steps leads found all long same = record {
+  layers = leads.layers;
+  last = leads.last;
   long = long ∙ all;
-  takes = λ a v below is. ap (λ (f : Function). f (value_of v)) (same a (omega arith) ∙ found.holds_taken a (omega arith)) ∙ found.are_takers.takes a v below is;
+  takes = λ a v below is.
+      ap (λ (f : Function). f (value_of v)) (same a (omega arith) ∙ found.by_layer.holds_taken a (omega arith) ∙ ap (λ (here : Progress). here.taken a) leads.led.there) ∙ leads.are_takers.takes a v below is;
 }
 
 -- what is so after every refusal

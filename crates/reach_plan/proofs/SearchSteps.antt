@@ -1,30 +1,42 @@
 -- One step of the search: what it leaves on the board.
-use Rattle.std.proofs.Common.{◌≡◌, ◌≢◌, ℕ, suc, ◌+◌, ◌<◌, ◌≤◌, ◌==◌, Bool, true, false, ◌||◌, List, [], ◌∷◌, length, nat_lt, Option, Some, None, Result, Ok, Err, refl, sym, ap, subst, ◌∙◌, ⊎_elim, arith}
+use Rattle.std.proofs.Common.{inl, inr, true≢false, IfErr, OnOk, ◌≡◌, ◌≢◌, ℕ, zero, suc, ◌+◌, ◌<◌, ◌≤◌, ◌==◌, get_or, Bool, true, false, not, ◌&&◌, ◌||◌, List, [], ◌∷◌, ◌++◌, length, nat_lt, Option, Some, None, Result, Ok, Err, refl, sym, ap, subst, ◌∙◌, ⊎_elim, arith}
+use Rattle.std.specs.Prelude.{slice_index_or, slice_set}
 use Rattle.std.specs.List.{list_all, list_any, range_with_len}
+use Rattle.std.specs.Option.{option_map_or}
 use Rattle.std.proofs.Math.Path.{fun_ext}
 use Rattle.std.proofs.lemmas.Bool.{cases_eq, cases_lt, cond-false, cond-true, eq-eqb, lt-ltb, ltb-true, ne_eqb, false_from_ne_true}
-use Rattle.std.proofs.lemmas.List.Folds.{list_any-append}
+use Rattle.std.proofs.lemmas.List.{get_or_past, get_or-set_same, get_or-set_other}
+use Rattle.std.proofs.lemmas.List.Folds.{list_all-append, list_any-append}
 use Rattle.dd_nodes.specs.Subfunctions.{DependsOnly, Function}
 use Rattle.dd_ops.specs.Operations.{minus_of, or_of}
 use Rattle.dd_sets.specs.LiveSets.{IsLive, nothing, set_of}
+use Rattle.dd_nodes.specs.NodeList.{Values}
 use Rattle.dd_sets.specs.declared.errors.SetErr.{SetErr}
+use Rattle.dd_sets.specs.declared.errors.SetErr.TheVariants.{Full, Memory}
 use Rattle.dd_sets.specs.declared.slots.SetId.{SetId}
 use Rattle.encode_task.specs.Made.{Holds, HoldsGoal, MadeOf}
 use Rattle.encode_task.specs.Slots.{Encoded}
+use Rattle.encode_task.specs.TaskSets.{exec_set}
 use Rattle.preimage.specs.Laws.{StrongLeadsToAll, WeakLeadsToSome}
-use Rattle.slot_board.specs.Board.{At, Ends, HasNothing, Moved, Start, Stayed, set_at}
+use Rattle.preimage.specs.Preimages.{every_outcome_in, some_outcome_in}
+use Rattle.slot_board.specs.Board.{At, Ends, HasNothing, Left, Moved, Start, Stayed, set_at}
 use Rattle.slot_board.proofs.BoardSlots.{depends, made_at}
 use Rattle.task_core.specs.Conditions.{holds}
 use Rattle.task_core.specs.Tasks.{action_count, fluent_count, initial_states, system_of}
 use Rattle.task_core.specs.Vectors.{all_vectors, value_of}
 use Rattle.task_core.specs.declared.classes.Class.{Class}
+use Rattle.task_core.specs.declared.classes.Class.TheVariants.{Weak, Strong, Cyclic}
+use Rattle.task_core.specs.declared.literals.ActionId.{ActionId}
 use Rattle.task_core.specs.declared.conditions.Cond.{Cond}
 use Rattle.task_core.specs.declared.tasks.Task.{Task}
 use Rattle.task_core.proofs.TaskSystem.{is_system}
 use Rattle.plan_theory.specs.Classes.{IsFoundByLayers}
 use Rattle.plan_theory.specs.Layers.{covers, layer}
 use Rattle.reach_plan.specs.LayerSets.{AreTakers, IsRound, class_preimage, grown, taken_by}
-use Rattle.reach_plan.specs.Searches.{FoundLast, FoundNone, HasGrown, HasHits, HasLayer, HasNext, HasRound, IsCovered, IsMore, IsStill, with_set}
+use Rattle.reach_plan.specs.Searches.{AreSpent, BeginsRound, FoundLast, FoundNone, HasGrown, HasHits, HasJoined, HasLayer, HasNext, HasRound, IsCovered, IsMore, IsStill}
+use Rattle.reach_plan.specs.Steps.{HaveLed, Progress, after_step, after_steps, at_goal, goal_set as goal_states, is_step_of, untaken, with_set}
+use Rattle.reach_plan.specs.declared.steps.Step.{Step}
+use Rattle.reach_plan.specs.declared.steps.Step.TheVariants.{Advance, Grow}
 use Rattle.plan_theory.proofs.LeastBounds.{none_once_stable}
 use Rattle.plan_theory.proofs.Ranges.{range-more}
 use Rattle.reach_plan.proofs.SetLayers.{fewer_next, goal_set, missed, next_layer_set, next_takers, none_take, stable_same}
@@ -133,21 +145,7 @@ hits_found start x now old new n class a f h g lead long has is m = record {
   holds_hits = m.here ∙ is (set_at x.sets old n) ∙ ap (class_preimage class start.task a) has.by_layer.holds_layer;
 }
 
--- what an action takes: where it has no place, and where it has one
-pub take_none : (start : Start) (now : Encoded) (slots : List SetId) (n a : ℕ) (f : Function) (h : ℕ → Function) (g hits set : Function) → n ≤ a → HasHits start now slots n f h g hits → HasHits start now slots n f (with_set h a set) g hits
-take_none start now slots n a f h g hits set out has = record {
-  by_next = record {
-    by_layer = record {
-      at = has.by_next.by_layer.at;
-      sound = has.by_next.by_layer.sound;
-      holds_layer = has.by_next.by_layer.holds_layer;
-      holds_taken = λ b l. has.by_next.by_layer.holds_taken b l ∙ sym (cond-false (b == a) set (h b) (ne_eqb b a (λ e. absurd (omega arith))));
-    };
-    holds_next = has.by_next.holds_next;
-  };
-  holds_hits = has.holds_hits;
-}
-
+-- what an action takes
 pub take_one : (start : Start) (x mid now : Encoded) (old half new : List SetId) (n a : ℕ) (f : Function) (h : ℕ → Function) (g hits : Function) → length old ≡ n + 4 → a < n → HasHits start x old n f h g hits
     → Moved start x.sets old mid half (n + 3) (minus_of (set_at x.sets old (n + 2)) (set_at x.sets old (n + 1))) → Moved start mid.sets half now new a (or_of (set_at mid.sets half a) (set_at mid.sets half (n + 3)))
     → HasHits start now new n f (with_set h a (or_of (h a) (minus_of hits g))) g hits
@@ -175,27 +173,191 @@ take_one start x mid now old half new n a f h g hits long low has first second =
       holds_hits = second.others (n + 2) (there (n + 2) (omega arith)) (λ e. absurd (omega arith)) ∙ begun.holds_hits;
     }
 
--- one action more
-pub grown_by : (start : Start) (x now : Encoded) (old new : List SetId) (n : ℕ) (class : Class) (a : ℕ) (f : Function) (h : ℕ → Function) → length old ≡ n + 4
-    → HasHits start x old n f (with_set (taken_by class start.task f h a) a (or_of (taken_by class start.task f h a a) (minus_of (class_preimage class start.task a f) (grown class start.task f a)))) (grown class start.task f a) (class_preimage class start.task a f)
-    → Moved start x.sets old now new (n + 1) (or_of (set_at x.sets old (n + 1)) (set_at x.sets old (n + 2))) → HasGrown class start now new n f h (a + 1)
-grown_by start x now old new n class a f h long has m =
-    let kept = layer_still start x now old new n (n + 1) _ long has.by_next.by_layer.at m (omega arith) f _ has.by_next.by_layer in
-    subst (λ (t : ℕ → Function). HasNext start now new n f t (grown class start.task f (a + 1))) (taken_more class start.task f h a)
-    (record {
-      by_layer = kept;
-      holds_next =
-          m.here ∙ ap (λ (s : Function). or_of s (set_at x.sets old (n + 2))) has.by_next.holds_next ∙ ap (or_of (grown class start.task f a)) has.holds_hits
-          ∙ grown_more class start.task f a;
-    })
+-- the hits are joined to the next layer at its place
+pub next_joined : (start : Start) (x now : Encoded) (old new : List SetId) (n : ℕ) (f : Function) (h : ℕ → Function) (g hits : Function) → length old ≡ n + 4 → HasHits start x old n f h g hits → Moved start x.sets old now new (n + 1) (or_of (set_at x.sets old (n + 1)) (set_at x.sets old (n + 2)))
+    → HasNext start now new n f h (or_of g hits)
+next_joined start x now old new n f h g hits long has m = record {
+  by_layer = layer_still start x now old new n (n + 1) _ long has.by_next.by_layer.at m (omega arith) f h has.by_next.by_layer;
+  holds_next = m.here ∙ ap (λ (s : Function). or_of s (set_at x.sets old (n + 2))) has.by_next.holds_next ∙ ap (or_of g) has.holds_hits;
+}
 
-pub grown_first : (start : Start) (x now : Encoded) (old new : List SetId) (n : ℕ) (class : Class) (f : Function) (h : ℕ → Function) → length old ≡ n + 4 → HasLayer start x old n f h → Moved start x.sets old now new (n + 1) (set_at x.sets old n) → HasGrown class start now new n f h 0
-grown_first start x now old new n class f h long has m =
-    subst (λ (t : ℕ → Function). HasNext start now new n f t (grown class start.task f 0)) (taken_none class start.task f h)
-    (record {
-      by_layer = layer_still start x now old new n (n + 1) _ long has.at m (omega arith) f h has;
-      holds_next = m.here ∙ has.holds_layer ∙ grown_none class start.task f;
-    })
+-- the next layer takes the place of this one
+pub advanced : (start : Start) (x now : Encoded) (old new : List SetId) (n : ℕ) (f : Function) (h : ℕ → Function) (g : Function) → length old ≡ n + 4 → HasNext start x old n f h g → Moved start x.sets old now new n (set_at x.sets old (n + 1)) → HasNext start now new n g h g
+advanced start x now old new n f h g long has m =
+    let there : (k : ℕ) → k < n + 4 → k < length new = within start x now old new n n _ long has.by_layer.at m in
+    record {
+      by_layer = record {
+        at = m.at;
+        sound = m.sound;
+        holds_layer = m.here ∙ has.holds_next;
+        holds_taken = λ a l. m.others a (there a (omega arith)) (λ e. absurd (omega arith)) ∙ has.by_layer.holds_taken a l;
+      };
+      holds_next = m.others (n + 1) (there (n + 1) (omega arith)) (λ e. absurd (omega arith)) ∙ has.holds_next;
+    }
+
+-- a copy of this layer is the next one
+pub copied_next : (start : Start) (x now : Encoded) (old new : List SetId) (n : ℕ) (f : Function) (h : ℕ → Function) → length old ≡ n + 4 → HasLayer start x old n f h → Moved start x.sets old now new (n + 1) (set_at x.sets old n) → HasNext start now new n f h f
+copied_next start x now old new n f h long has m = record {
+  by_layer = layer_still start x now old new n (n + 1) _ long has.at m (omega arith) f h has;
+  holds_next = m.here ∙ has.holds_layer;
+}
+
+-- one step more
+after_more : (class : Class) (task : Task) (here : Progress) (steps : List Step) (step : Step) → after_steps class task here (steps ++ step ∷ []) ≡ after_step class task (after_steps class task here steps) step
+after_more class task here [] step = refl
+after_more class task here (first ∷ steps) step = after_more class task (after_step class task here first) steps step
+
+within_more : (p : Step → Bool) (steps : List Step) (step : Step) → list_all p steps ≡ true → p step ≡ true → list_all p (steps ++ step ∷ []) ≡ true
+within_more p steps step all is = list_all-append p steps (step ∷ []) ∙ ap (λ b. b && (p step && true)) all ∙ ap (λ b. b && true) is
+
+pub led_more : (class : Class) (task : Task) (steps : List Step) (here : Progress) (step : Step) → is_step_of (action_count task) step ≡ true → HaveLed class task steps here → HaveLed class task (steps ++ step ∷ []) (after_step class task here step)
+led_more class task steps here step is led = record {
+  there = after_more class task (at_goal task) steps step ∙ ap (λ (p : Progress). after_step class task p step) led.there;
+  within = within_more (is_step_of (action_count task)) steps step led.within is;
+}
+
+-- an action leads into a set from where it can be executed
+and_left : (b c : Bool) → (b && c) ≡ true → b ≡ true
+and_left true c e = refl
+and_left false c e = e
+
+pub preimage_inside : (class : Class) (task : Task) (a : ℕ) (set : Function) (values : Values) → class_preimage class task a set values ≡ true → exec_set task a values ≡ true
+preimage_inside Weak task a set values is = and_left (exec_set task a values) (some_outcome_in task a set values) is
+preimage_inside Strong task a set values is = and_left (exec_set task a values) (every_outcome_in task a set values) is
+preimage_inside Cyclic task a set values is = and_left (exec_set task a values) (some_outcome_in task a set values) is
+
+-- joined with a part of itself a set is itself
+absorbed : (g p : Bool) → (p ≡ true → g ≡ true) → (g || p) ≡ g
+absorbed true p up = refl
+absorbed false false up = refl
+absorbed false true up = sym (up refl)
+
+pub joined_part : (g p : Function) → ((values : Values) → p values ≡ true → g values ≡ true) → or_of g p ≡ g
+joined_part g p part = fun_ext (λ values. absorbed (g values) (p values) (part values))
+
+-- and what is new of the part is nothing
+nothing_new : (x g p : Bool) → (g || p) ≡ g → (x || (p && not g)) ≡ x
+nothing_new x true true e = sym (or_false x)
+nothing_new x true false e = sym (or_false x)
+nothing_new x false false e = sym (or_false x)
+nothing_new x false true e = absurd (true≢false e)
+
+with_own : (h : ℕ → Function) (a : ℕ) (set : Function) → set ≡ h a → with_set h a set ≡ h
+with_own h a set same = fun_ext (λ k. ⊎_elim
+    (λ (e : k ≡ a). cond-true (k == a) set (h k) (eq-eqb k a e) ∙ same ∙ sym (ap h e))
+    (λ (differs : k ≢ a). cond-false (k == a) set (h k) (ne_eqb k a differs))
+    (cases_eq k a))
+
+taken_same : (class : Class) (task : Task) (f : Function) (h : ℕ → Function) (a : ℕ) → or_of (grown class task f a) (class_preimage class task a f) ≡ grown class task f a → taken_by class task f h a ≡ taken_by class task f h (a + 1)
+taken_same class task f h a none =
+    let own : or_of (taken_by class task f h a a) (minus_of (class_preimage class task a f) (grown class task f a)) ≡ taken_by class task f h a a =
+    fun_ext (λ values. nothing_new (taken_by class task f h a a values) (grown class task f a values) (class_preimage class task a f values) (ap (λ (s : Function). s values) none)) in
+    sym (with_own (taken_by class task f h a) a _ own) ∙ taken_more class task f h a
+
+-- one action more
+or_true : (b : Bool) → (b || true) ≡ true
+or_true true = refl
+or_true false = refl
+
+module _ (class : Class) (start : Start) (x now : Encoded) (old new : List SetId) (f : Function) (h : ℕ → Function) (a : ActionId) (before after : List Step) (spent : List Bool) (has : HasGrown class start x old f h a.0 before spent) (within : a.0 < action_count start.task)
+    (joined : HasJoined start now new f (grown class start.task f a.0) (class_preimage class start.task a.0 f) a before after) where
+  task : Task
+  task = start.task
+
+  led_on : HaveLed class start.task after (record { layer = f; taken = taken_by class start.task f h (a.0 + 1); next = grown class start.task f (a.0 + 1) })
+  led_on = ⊎_elim
+      (λ (is : after ≡ before ++ Grow a ∷ []).
+      subst (HaveLed class start.task after) (λ j. record { layer = f; taken = taken_more class start.task f h a.0 j; next = grown_more class start.task f a.0 j })
+      (subst (λ (steps : List Step). HaveLed class start.task steps (after_step class start.task (record { layer = f; taken = taken_by class start.task f h a.0; next = grown class start.task f a.0 }) (Grow a))) (sym is)
+      (led_more class start.task before _ (Grow a) (lt-ltb a.0 (action_count start.task) within) has.led)))
+      (λ (same : (after ≡ before) × (or_of (grown class start.task f a.0) (class_preimage class start.task a.0 f) ≡ grown class start.task f a.0)).
+      subst (HaveLed class start.task after) (λ j. record { layer = f; taken = taken_same class start.task f h a.0 same.1 j; next = (sym same.1 ∙ grown_more class start.task f a.0) j })
+      (subst (λ (steps : List Step). HaveLed class start.task steps (record { layer = f; taken = taken_by class start.task f h a.0; next = grown class start.task f a.0 })) (sym same.0) has.led))
+      joined.noted
+
+  grows : (values : Values) → grown class start.task f a.0 values ≡ true → grown class start.task f (a.0 + 1) values ≡ true
+  grows values is = ap (λ (s : Function). s values) (sym (grown_more class start.task f a.0)) ∙ ap (λ b. b || class_preimage class start.task a.0 f values) is
+
+  gains : (values : Values) → class_preimage class start.task a.0 f values ≡ true → grown class start.task f (a.0 + 1) values ≡ true
+  gains values is = ap (λ (s : Function). s values) (sym (grown_more class start.task f a.0)) ∙ ap (λ b. grown class start.task f a.0 values || b) is ∙ or_true (grown class start.task f a.0 values)
+
+  next_on : HasNext start now new 0 f untaken (grown class start.task f (a.0 + 1))
+  next_on = subst (λ (s : Function). HasNext start now new 0 f untaken s) (grown_more class start.task f a.0) joined.by_next
+
+  -- where the action's mark is as it was
+  pub grown_still : HasGrown class start now new f h (a.0 + 1) after spent
+  grown_still = record {
+    by_next = next_on;
+    led = led_on;
+    are_spent = record { long = has.are_spent.long; inside = λ b is values exec. grows values (has.are_spent.inside b is values exec) };
+  }
+
+  -- where it is written
+  pub grown_on : (is_spent : Bool) → (is_spent ≡ true → class_preimage class start.task a.0 f ≡ exec_set start.task a.0) → length (slice_set spent a.0 is_spent) ≡ length spent → HasGrown class start now new f h (a.0 + 1) after (slice_set spent a.0 is_spent)
+  grown_on is_spent all long = record {
+    by_next = next_on;
+    led = led_on;
+    are_spent = record { long = long ∙ has.are_spent.long; inside = inside };
+  }
+    where
+      inside : (b : ℕ) → slice_index_or (slice_set spent a.0 is_spent) b false ≡ true → (values : Values) → exec_set start.task b values ≡ true → grown class start.task f (a.0 + 1) values ≡ true
+      inside b is values exec = ⊎_elim
+          (λ (e : b ≡ a.0).
+          let here : is_spent ≡ true = sym (get_or-set_same spent a.0 is_spent false (omega (arith, has.are_spent.long))) ∙ sym (ap (λ (i : ℕ). slice_index_or (slice_set spent a.0 is_spent) i false) e) ∙ is in
+          gains values (ap (λ (s : Function). s values) (all here) ∙ sym (ap (λ (i : ℕ). exec_set start.task i values) e) ∙ exec))
+          (λ (differs : b ≢ a.0). grows values (has.are_spent.inside b (sym (get_or-set_other spent a.0 b is_spent false differs) ∙ is) values exec))
+          (cases_eq b a.0)
+
+-- an action that is spent adds nothing
+pub spent_adds_nothing : (class : Class) (task : Task) (f g : Function) (a : ℕ) (spent : List Bool) → AreSpent task g spent → slice_index_or spent a false ≡ true → or_of g (class_preimage class task a f) ≡ g
+spent_adds_nothing class task f g a spent are is = joined_part g (class_preimage class task a f) (λ values p. are.inside a is values (preimage_inside class task a f values p))
+
+pub grown_spent : (class : Class) (start : Start) (x : Encoded) (slots : List SetId) (f : Function) (h : ℕ → Function) (a : ActionId) (steps : List Step) (spent : List Bool) → HasGrown class start x slots f h a.0 steps spent → a.0 < action_count start.task
+    → slice_index_or spent a.0 false ≡ true → HasGrown class start x slots f h (a.0 + 1) steps spent
+grown_spent class start x slots f h a steps spent has within is =
+    let none = spent_adds_nothing class start.task f (grown class start.task f a.0) a.0 spent has.are_spent is in
+    grown_still class start x x slots slots f h a steps steps spent has within
+    (record { by_next = subst (λ (s : Function). HasNext start x slots 0 f untaken s) (sym none) has.by_next; noted = inr (refl, none) })
+
+-- the hits are joined, whether they are new or not
+pub joined_none : (start : Start) (x mid : Encoded) (old half : List SetId) (f g hits : Function) (a : ActionId) (steps : List Step) → length old ≡ 4 → HasHits start x old 0 f untaken g hits → Moved start x.sets old mid half 3 (or_of (set_at x.sets old 1) (set_at x.sets old 2))
+    → set_at mid.sets half 3 ≡ set_at mid.sets half 1 → HasJoined start mid half f g hits a steps steps
+joined_none start x mid old half f g hits a steps long has first same =
+    let begun = hits_still start x mid old half 0 3 _ long has.by_next.by_layer.at first (omega arith) f untaken g hits has in
+    let grown : set_at mid.sets half 3 ≡ or_of g hits = first.here ∙ ap (λ (s : Function). or_of s (set_at x.sets old 2)) has.by_next.holds_next ∙ ap (or_of g) has.holds_hits in
+    let none : or_of g hits ≡ g = sym grown ∙ same ∙ begun.by_next.holds_next in
+    record { by_next = subst (λ (s : Function). HasNext start mid half 0 f untaken s) (sym none) begun.by_next; noted = inr (refl, none) }
+
+pub joined_new : (start : Start) (x mid now : Encoded) (old half new : List SetId) (f g hits : Function) (a : ActionId) (before after : List Step) → length old ≡ 4 → HasHits start x old 0 f untaken g hits → Moved start x.sets old mid half 3 (or_of (set_at x.sets old 1) (set_at x.sets old 2))
+    → Moved start mid.sets half now new 1 (set_at mid.sets half 3) → after ≡ before ++ Grow a ∷ [] → HasJoined start now new f g hits a before after
+joined_new start x mid now old half new f g hits a before after long has first second noted =
+    let begun = hits_still start x mid old half 0 3 _ long has.by_next.by_layer.at first (omega arith) f untaken g hits has in
+    let half_long : length half ≡ 4 = let b : length half ≡ start.places = first.at.long in let d : length old ≡ start.places = has.by_next.by_layer.at.long in omega arith in
+    let grown : set_at mid.sets half 3 ≡ or_of g hits = first.here ∙ ap (λ (s : Function). or_of s (set_at x.sets old 2)) has.by_next.holds_next ∙ ap (or_of g) has.holds_hits in
+    record {
+      by_next = record { by_layer = layer_still start mid now half new 0 1 _ half_long begun.by_next.by_layer.at second (omega arith) f untaken begun.by_next.by_layer; holds_next = second.here ∙ grown };
+      noted = inl noted;
+    }
+
+-- what a note leaves
+pub noted_then : {T : Type 0} (start : Start) (now : Encoded) (slots : List SetId) (P Q : Type 0) (result : Result T SetErr) → IfErr result (λ e. e ≡ Memory) → OnOk result P → At start now slots → (P → Q) → Left start now slots Q result
+noted_then start now slots P Q (Ok x) never done at then = then done
+noted_then start now slots P Q (Err e) never done at then = (at, λ full. absurd (let no : Memory ≡ Full = sym never ∙ full in cc))
+
+-- a refusal for want of memory that is passed on
+pub memory_passed : {S T : Type 0} (start : Start) (now : Encoded) (slots : List SetId) (Q : T → Type 0) (inner : Result S SetErr) (outer : Result T SetErr) (e : SetErr) → inner ≡ Err e → (x : SetErr) × (outer ≡ Err x) × (x ≡ e) → IfErr inner (λ e. e ≡ Memory) → At start now slots
+    → Ends start now slots Q outer
+memory_passed start now slots Q inner outer e was p never at =
+    let memory : e ≡ Memory = subst (λ r. IfErr r (λ e. e ≡ Memory)) was never in
+    subst (Ends start now slots Q) (sym p.1) (at, λ full. absurd (let no : Memory ≡ Full = sym memory ∙ sym p.2 ∙ full in cc))
+
+-- at first the next layer is this one
+pub grown_first : (class : Class) (start : Start) (x now : Encoded) (old new : List SetId) (f : Function) (h : ℕ → Function) (steps : List Step) (spent : List Bool) → length old ≡ 4 → BeginsRound class start x old f h steps spent → Moved start x.sets old now new 1 (set_at x.sets old 0) → HasGrown class start now new f h 0 steps spent
+grown_first class start x now old new f h steps spent long begins m = record {
+  by_next = subst (λ (s : Function). HasNext start now new 0 f untaken s) (grown_none class start.task f) (copied_next start x now old new 0 f untaken long begins.by_layer m);
+  led = subst (HaveLed class start.task steps) (λ j. record { layer = f; taken = taken_none class start.task f h j; next = grown_none class start.task f j }) begins.led;
+  are_spent = subst (λ (s : Function). AreSpent start.task s spent) (grown_none class start.task f) begins.are_spent;
+}
 
 -- the test of the initial states leaves the layer
 pub layer_stays : (start : Start) (x now : Encoded) (slots : List SetId) (n : ℕ) (f : Function) (h : ℕ → Function) → length slots ≡ n + 4 → Stayed start x.sets now slots → HasLayer start x slots n f h → HasLayer start now slots n f h
@@ -206,11 +368,18 @@ layer_stays start x now slots n f h long stayed has = record {
   holds_taken = λ a l. stayed.each a (omega arith) ∙ has.holds_taken a l;
 }
 
-pub covered_at : (class : Class) (start : Start) (x : Encoded) (slots : List SetId) (n k : ℕ) (covered : Bool) → HasRound class start x slots n k → covered ≡ list_all (λ state. set_at x.sets slots n (value_of state)) (initial_states start.task) → covered ≡ covers class (system_of start.task) k
-covered_at class start x slots n k covered has is =
+pub begins_still : (class : Class) (start : Start) (x now : Encoded) (slots : List SetId) (f : Function) (h : ℕ → Function) (steps : List Step) (spent : List Bool) → length slots ≡ 4 → Stayed start x.sets now slots → BeginsRound class start x slots f h steps spent → BeginsRound class start now slots f h steps spent
+begins_still class start x now slots f h steps spent long stayed begins = record {
+  by_layer = layer_stays start x now slots 0 f untaken long stayed begins.by_layer;
+  led = begins.led;
+  are_spent = begins.are_spent;
+}
+
+pub covered_at : (class : Class) (start : Start) (x : Encoded) (slots : List SetId) (k : ℕ) (steps : List Step) (spent : List Bool) (covered : Bool) → HasRound class start x slots k steps spent → covered ≡ list_all (λ state. set_at x.sets slots 0 (value_of state)) (initial_states start.task) → covered ≡ covers class (system_of start.task) k
+covered_at class start x slots k steps spent covered has is =
     is
-    ∙ list_all-agree (λ state. set_at x.sets slots n (value_of state)) (layer class (system_of start.task) k) (initial_states start.task)
-    (λ s c. ap (λ (f : Function). f (value_of s)) has.has.holds_layer ∙ has.round.is_layer.agrees s ((is_system start.task).initial s c))
+    ∙ list_all-agree (λ state. set_at x.sets slots 0 (value_of state)) (layer class (system_of start.task) k) (initial_states start.task)
+    (λ s c. ap (λ (f : Function). f (value_of s)) has.begins.by_layer.holds_layer ∙ has.round.is_layer.agrees s ((is_system start.task).initial s c))
 
 -- one layer more
 next_round : WeakLeadsToSome → StrongLeadsToAll → (class : Class) (task : Task) (k : ℕ) (f : Function) (h : ℕ → Function) (actions : ℕ) → IsRound class task k f h → covers class (system_of task) k ≡ false → actions ≡ action_count task
@@ -221,38 +390,35 @@ next_round weak strong class task k f h actions round short all depends = record
   before = λ j low. ⊎_elim (λ (l : j < k). round.before j l) (λ (l : k ≤ j). let e : k ≡ j = omega arith in subst (λ (n : ℕ). covers class (system_of task) n ≡ false) e short) (cases_lt j k);
 }
 
-module _ (weak : WeakLeadsToSome) (strong : StrongLeadsToAll) (class : Class) (start : Start) (x : Encoded) (slots : List SetId) (n k actions : ℕ) (f : Function) (h : ℕ → Function) (round : IsRound class start.task k f h) (short : covers class (system_of start.task) k ≡ false) (all : actions ≡ action_count start.task)
-    (has : HasGrown class start x slots n f h actions) where
+module _ (weak : WeakLeadsToSome) (strong : StrongLeadsToAll) (class : Class) (start : Start) (x : Encoded) (slots : List SetId) (k actions : ℕ) (f : Function) (h : ℕ → Function) (steps : List Step) (spent : List Bool) (round : IsRound class start.task k f h) (short : covers class (system_of start.task) k ≡ false)
+    (all : actions ≡ action_count start.task) (has : HasGrown class start x slots f h actions steps spent) where
   next : IsRound class start.task (suc k) (grown class start.task f actions) (taken_by class start.task f h actions)
   next =
       next_round weak strong class start.task k f h actions round short all
-      (subst (DependsOnly 0 (fluent_count start.task)) has.holds_next (depends start x slots has.by_layer.at has.by_layer.sound (n + 1)))
+      (subst (DependsOnly 0 (fluent_count start.task)) has.by_next.holds_next (depends start x slots has.by_next.by_layer.at has.by_next.by_layer.sound 1))
 
-  pub is_still : set_at x.sets slots (n + 1) ≡ set_at x.sets slots n → IsStill class start x slots k
+  pub is_still : set_at x.sets slots 1 ≡ set_at x.sets slots 0 → IsStill class start x slots k
   is_still same = record {
-    at = has.by_layer.at;
-    stable = stable_same class start.task k f (grown class start.task f actions) round.is_layer next.is_layer (sym has.holds_next ∙ same ∙ has.by_layer.holds_layer);
+    at = has.by_next.by_layer.at;
+    stable = stable_same class start.task k f (grown class start.task f actions) round.is_layer next.is_layer (sym has.by_next.holds_next ∙ same ∙ has.by_next.by_layer.holds_layer);
     short = short;
   }
 
-  pub is_more : (now : Encoded) (new : List SetId) (before : Function) → length slots ≡ n + 4 → before ≡ f → (set_at x.sets slots (n + 1) ≡ set_at x.sets slots n → ⊥) → Moved start x.sets slots now new n (set_at x.sets slots (n + 1)) → IsMore class start before now new n k
-  is_more now new before long was differ m = record {
+  pub is_more : (now : Encoded) (new : List SetId) (after : List Step) (before : Function) → before ≡ f → (set_at x.sets slots 1 ≡ set_at x.sets slots 0 → ⊥) → HasLayer start now new 0 (grown class start.task f actions) untaken × (after ≡ steps ++ Advance ∷ []) → IsMore class start before now new k after spent
+  is_more now new after before was differ done = record {
     has = record {
       f = grown class start.task f actions;
       h = taken_by class start.task f h actions;
-      has = record {
-        at = m.at;
-        sound = m.sound;
-        holds_layer = m.here ∙ has.holds_next;
-        holds_taken = λ a l. m.others a (there a (omega arith)) (λ e. absurd (omega arith)) ∙ has.by_layer.holds_taken a l;
+      begins = record {
+        by_layer = done.0;
+        led = subst (λ (s : List Step). HaveLed class start.task s (record { layer = grown class start.task f actions; taken = taken_by class start.task f h actions; next = grown class start.task f actions })) (sym done.1)
+            (led_more class start.task steps (record { layer = f; taken = taken_by class start.task f h actions; next = grown class start.task f actions }) Advance refl has.led);
+        are_spent = has.are_spent;
       };
       round = next;
     };
-    differs = λ same. differ (sym m.here ∙ same ∙ was ∙ sym has.by_layer.holds_layer);
+    differs = λ same. differ (has.by_next.holds_next ∙ sym done.0.holds_layer ∙ same ∙ was ∙ sym has.by_next.by_layer.holds_layer);
   }
-    where
-      there : (a : ℕ) → a < n + 4 → a < length new
-      there a l = let b : length new ≡ start.places = m.at.long in let d : length slots ≡ start.places = has.by_layer.at.long in omega arith
 
 -- the goal, where the search begins
 goal_slot : (task : Task) (enc : Encoded) (slot : SetId) → MadeOf task enc → enc.goal ≡ Some slot → (goal : Cond) × (task.goal ≡ Some goal) × Holds enc.sets slot (holds goal)
@@ -265,48 +431,87 @@ goal_slot task enc slot made is = at task.goal refl (subst (λ (o : Option SetId
 pub goal_live : (start : Start) (enc : Encoded) (slots : List SetId) (slot : SetId) → At start enc slots → enc.goal ≡ Some slot → IsLive enc.sets slot.0
 goal_live start enc slots slot at is = (goal_slot start.task enc slot (made_at start enc slots at) is).2.live
 
-pub first_round : (class : Class) (start : Start) (x now : Encoded) (old new : List SetId) (n : ℕ) (slot : SetId) → length old ≡ n + 4 → HasNothing start x old → x.goal ≡ Some slot → Moved start x.sets old now new n (set_of x.sets slot.0) → HasRound class start now new n 0
-first_round class start x now old new n slot long has is m =
+-- none is spent at first
+no_mark : (spent : List Bool) (n : ℕ) → length spent ≡ n → ((a : ℕ) → a < n → slice_index_or spent a false ≡ false) → (a : ℕ) → slice_index_or spent a false ≡ true → ⊥
+no_mark spent n long none a is = ⊎_elim
+    (λ (low : a < n). true≢false (sym is ∙ none a low))
+    (λ (high : n ≤ a). true≢false (sym is ∙ get_or_past spent a false (omega arith)))
+    (cases_lt a n)
+
+pub first_round : (class : Class) (start : Start) (x now : Encoded) (old new : List SetId) (slot : SetId) (steps : List Step) (spent : List Bool) → length old ≡ 4 → HasNothing start x old → x.goal ≡ Some slot → steps ≡ [] → length spent ≡ length x.actions
+    → ((a : ℕ) → a < length x.actions → slice_index_or spent a false ≡ false) → Moved start x.sets old now new 0 (set_of x.sets slot.0) → HasRound class start now new 0 steps spent
+first_round class start x now old new slot steps spent long has is no_steps marks none m =
     let goal = goal_slot start.task x slot (made_at start x old has.at) is in
-    let held : set_at now.sets new n ≡ holds goal.0 = m.here ∙ goal.2.holds in
+    let held : set_at now.sets new 0 ≡ holds goal.0 = m.here ∙ goal.2.holds in
+    let states : goal_states start.task ≡ holds goal.0 = ap (λ (o : Option Cond). option_map_or holds o nothing) goal.1 in
     record {
       f = holds goal.0;
-      h = λ a. nothing;
-      has = record {
-        at = m.at;
-        sound = m.sound;
-        holds_layer = held;
-        holds_taken = λ a l. m.others a (let b : length new ≡ start.places = m.at.long in let d : length old ≡ start.places = has.at.long in omega arith) (λ e. absurd (omega arith)) ∙ has.holds_nothing a (omega arith);
+      h = untaken;
+      begins = record {
+        by_layer = record { at = m.at; sound = m.sound; holds_layer = held; holds_taken = λ a l. absurd (omega arith) };
+        led = record {
+          there = ap (after_steps class start.task (at_goal start.task)) no_steps ∙ ap (λ (s : Function). record { layer = s; taken = untaken; next = s }) states;
+          within = ap (list_all (is_step_of (action_count start.task))) no_steps;
+        };
+        are_spent = record { long = marks ∙ (made_at start x old has.at).actions; inside = λ a mark values exec. absurd (no_mark spent (length x.actions) marks none a mark) };
       };
       round = record {
-        is_layer = goal_set class start.task goal.0 goal.1 (subst (DependsOnly 0 (fluent_count start.task)) held (depends start now new m.at m.sound n));
+        is_layer = goal_set class start.task goal.0 goal.1 (subst (DependsOnly 0 (fluent_count start.task)) held (depends start now new m.at m.sound 0));
         are_takers = none_take class start.task;
         before = λ j low. absurd (omega arith);
       };
     }
 
 -- the layer after it misses fewer states
-pub fewer_after : (class : Class) (start : Start) (x now : Encoded) (old new : List SetId) (n k : ℕ) → HasRound class start x old n k → IsMore class start (set_at x.sets old n) now new n k
-    → missed (set_at now.sets new n) (all_vectors now.fluents) < missed (set_at x.sets old n) (all_vectors x.fluents)
-fewer_after class start x now old new n k has more =
+pub fewer_after : (class : Class) (start : Start) (x now : Encoded) (old new : List SetId) (k : ℕ) (s t : List Step) (u v : List Bool) → HasRound class start x old k s u → IsMore class start (set_at x.sets old 0) now new k t v
+    → missed (set_at now.sets new 0) (all_vectors now.fluents) < missed (set_at x.sets old 0) (all_vectors x.fluents)
+fewer_after class start x now old new k s t u v has more =
     let m = fluent_count start.task in
     let less : missed more.has.f (all_vectors m) < missed has.f (all_vectors m) =
-    fewer_next class start.task k has.f more.has.f has.round.is_layer more.has.round.is_layer (λ same. more.differs (more.has.has.holds_layer ∙ same ∙ sym has.has.holds_layer)) in
-    let was : missed (set_at x.sets old n) (all_vectors x.fluents) ≡ missed has.f (all_vectors m) =
-    ap (λ (g : Function). missed g (all_vectors x.fluents)) has.has.holds_layer ∙ ap (λ (i : ℕ). missed has.f (all_vectors i)) (made_at start x old has.has.at).fluents in
-    let is : missed (set_at now.sets new n) (all_vectors now.fluents) ≡ missed more.has.f (all_vectors m) =
-    ap (λ (g : Function). missed g (all_vectors now.fluents)) more.has.has.holds_layer ∙ ap (λ (i : ℕ). missed more.has.f (all_vectors i)) (made_at start now new more.has.has.at).fluents in
+    fewer_next class start.task k has.f more.has.f has.round.is_layer more.has.round.is_layer (λ same. more.differs (more.has.begins.by_layer.holds_layer ∙ same ∙ sym has.begins.by_layer.holds_layer)) in
+    let was : missed (set_at x.sets old 0) (all_vectors x.fluents) ≡ missed has.f (all_vectors m) =
+    ap (λ (g : Function). missed g (all_vectors x.fluents)) has.begins.by_layer.holds_layer ∙ ap (λ (i : ℕ). missed has.f (all_vectors i)) (made_at start x old has.begins.by_layer.at).fluents in
+    let is : missed (set_at now.sets new 0) (all_vectors now.fluents) ≡ missed more.has.f (all_vectors m) =
+    ap (λ (g : Function). missed g (all_vectors now.fluents)) more.has.begins.by_layer.holds_layer ∙ ap (λ (i : ℕ). missed more.has.f (all_vectors i)) (made_at start now new more.has.begins.by_layer.at).fluents in
     omega arith
 
-pub found_last : (class : Class) (start : Start) (now : Encoded) (slots : List SetId) (n k : ℕ) → IsCovered class start now slots n k → FoundLast class start now slots n
-found_last class start now slots n k is = record {
-  at = is.has.has.at;
-  layers = k;
-  last = record { covered = is.covered; first = is.has.round.before };
-  h = is.has.h;
-  are_takers = is.has.round.are_takers;
-  holds_taken = is.has.has.holds_taken;
+pub found_last : (class : Class) (start : Start) (now : Encoded) (slots : List SetId) (k : ℕ) (steps : List Step) (spent : List Bool) → IsCovered class start now slots k steps spent → FoundLast class start now slots steps
+found_last class start now slots k steps spent is = record {
+  at = is.has.begins.by_layer.at;
+  leads = record {
+    layers = k;
+    last = record { covered = is.covered; first = is.has.round.before };
+    here = record { layer = is.has.f; taken = is.has.h; next = is.has.f };
+    led = is.has.begins.led;
+    are_takers = is.has.round.are_takers;
+  };
 }
 
 pub found_none : (class : Class) → IsFoundByLayers class → (start : Start) (now : Encoded) (slots : List SetId) (k : ℕ) → IsStill class start now slots k → FoundNone class start now slots
 found_none class by_layers start now slots k still = record { at = still.at; none = none_once_stable class by_layers (system_of start.task) k (is_system start.task) still.stable still.short }
+
+-- the second pass: the goal's states at first
+pub at_first : (start : Start) (x now : Encoded) (old new : List SetId) (n : ℕ) (slot : SetId) → length old ≡ n + 4 → HasNothing start x old → x.goal ≡ Some slot → Moved start x.sets old now new n (set_of x.sets slot.0) → HasLayer start now new n (goal_states start.task) untaken
+at_first start x now old new n slot long has is m =
+    let goal = goal_slot start.task x slot (made_at start x old has.at) is in
+    let states : goal_states start.task ≡ holds goal.0 = ap (λ (o : Option Cond). option_map_or holds o nothing) goal.1 in
+    record {
+      at = m.at;
+      sound = m.sound;
+      holds_layer = m.here ∙ goal.2.holds ∙ sym states;
+      holds_taken = λ a l. m.others a (let b : length new ≡ start.places = m.at.long in let d : length old ≡ start.places = has.at.long in omega arith) (λ e. absurd (omega arith)) ∙ has.holds_nothing a (omega arith);
+    }
+
+-- each of the steps is one of the task
+and_right : (b c : Bool) → (b && c) ≡ true → c ≡ true
+and_right true c e = e
+and_right false c e = absurd (true≢false (sym e))
+
+pub step_passes : (n : ℕ) (steps : List Step) (i : ℕ) (x : Step) → list_all (is_step_of n) steps ≡ true → i < length steps → is_step_of n (get_or steps i x) ≡ true
+step_passes n [] i x all within = absurd (omega arith)
+step_passes n (step ∷ steps) zero x all within = and_left (is_step_of n step) (list_all (is_step_of n) steps) all
+step_passes n (step ∷ steps) (suc i) x all within = step_passes n steps i x (and_right (is_step_of n step) (list_all (is_step_of n) steps) all) (omega arith)
+
+-- a list of steps and one more
+pub after_one_more : (class : Class) (task : Task) (here : Progress) (front rest : List Step) (step : Step) → rest ≡ front ++ step ∷ [] → after_step class task (after_steps class task here front) step ≡ after_steps class task here rest
+after_one_more class task here front rest step is = sym (ap (after_steps class task here) is ∙ after_more class task here front step)

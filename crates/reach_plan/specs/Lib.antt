@@ -1,4 +1,5 @@
 pub mod LayerSets
 pub mod Searches
 pub mod SetRules
+pub mod Steps
 pub mod Takers

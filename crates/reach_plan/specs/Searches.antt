@@ -1,25 +1,30 @@
--- Private: what the board of a search has. There is a place for what each of the first n actions
--- takes; behind these stand this layer, the next one, where an action leads into this one, and what
--- is new of that.
-use Rattle.std.specs.Prelude.{◌≡◌, ◌≢◌, ℕ, suc, ◌+◌, ◌<◌, ◌==◌, Bool, true, false}
-use Rattle.std.specs.Prelude.{if◌then◌else◌, List}
+-- Private: what the board of a search has. In the first pass there are this layer, the next one,
+-- where an action leads into this one, and the next one with that. In the second there is a place for
+-- what each of the first n actions takes; behind these stand this layer, the next one, where an
+-- action leads into this one, and what is new of that.
+use Rattle.std.specs.Prelude.{◌≡◌, ◌≢◌, ◌⊎◌, ℕ, suc, ◌+◌, ◌<◌, Bool, true, false, List, [], ◌∷◌}
+use Rattle.std.specs.Prelude.{◌++◌, length, slice_index_or}
+use Rattle.dd_nodes.specs.NodeList.{Values}
 use Rattle.dd_nodes.specs.Subfunctions.{Function}
+use Rattle.dd_ops.specs.Operations.{or_of}
 use Rattle.dd_sets.specs.LiveSets.{IsSets}
 use Rattle.dd_sets.specs.declared.slots.SetId.{SetId}
 use Rattle.encode_task.specs.Slots.{Encoded}
+use Rattle.encode_task.specs.TaskSets.{exec_set}
 use Rattle.slot_board.specs.Board.{At, Start, set_at}
 use Rattle.task_core.specs.Solutions.{HasNoSolution}
-use Rattle.task_core.specs.Tasks.{system_of}
+use Rattle.task_core.specs.Tasks.{action_count, system_of}
 use Rattle.task_core.specs.declared.classes.Class.{Class}
+use Rattle.task_core.specs.declared.literals.ActionId.{ActionId}
+use Rattle.task_core.specs.declared.tasks.Task.{Task}
 use Rattle.plan_theory.specs.Classes.{IsStable}
-use Rattle.plan_theory.specs.Layers.{IsLastLayer, covers}
-use Rattle.reach_plan.specs.LayerSets.{AreTakers, IsRound, grown, taken_by}
+use Rattle.plan_theory.specs.Layers.{covers}
+use Rattle.reach_plan.specs.LayerSets.{IsRound, grown, taken_by}
+use Rattle.reach_plan.specs.Steps.{HaveLed, LeadToLast, Progress, untaken}
 use Rattle.reach_plan.specs.declared.search.Round.{Round}
 use Rattle.reach_plan.specs.declared.search.Round.TheVariants.{Covered, Stable, More}
-
--- the same sets, but for one action
-abbrev pub with_set : (ℕ → Function) → ℕ → Function → ℕ → Function
-with_set sets a set b = if b == a then set else sets b
+use Rattle.reach_plan.specs.declared.steps.Step.{Step}
+use Rattle.reach_plan.specs.declared.steps.Step.TheVariants.{Grow}
 
 -- this layer is f, and the actions take h
 pub record HasLayer (start : Start) (now : Encoded) (slots : List SetId) (n : ℕ) (f : Function)
@@ -41,24 +46,54 @@ pub record HasHits (start : Start) (now : Encoded) (slots : List SetId) (n : ℕ
   pub by_next : HasNext start now slots n f h g
   pub holds_hits : set_at now.sets slots (n + 2) ≡ hits
 
--- the next layer has what the first m actions lead into this one
-abbrev pub HasGrown : Class → Start → Encoded → List SetId → ℕ → Function → (ℕ → Function) → ℕ
-    → Type 0
-HasGrown class start now slots n f h m =
-    HasNext start now slots n f (taken_by class start.task f h m) (grown class start.task f m)
+-- the board is where a search stands
+abbrev pub HasProgress : Start → Encoded → List SetId → ℕ → Progress → Type 0
+HasProgress start now slots n here = HasNext start now slots n here.layer here.taken here.next
+
+-- the hits are joined to the next layer, which is noted as a step of the action unless they were in
+-- it already
+pub record HasJoined (start : Start) (now : Encoded) (slots : List SetId) (f g hits : Function)
+    (a : ActionId) (before after : List Step) : Type 0 where
+  pub by_next : HasNext start now slots 0 f untaken (or_of g hits)
+  pub noted : (after ≡ before ++ Grow a ∷ []) ⊎ ((after ≡ before) × (or_of g hits ≡ g))
+
+-- each action that is spent can be executed in states of a set alone
+pub record AreSpent (task : Task) (set : Function) (spent : List Bool) : Type 0 where
+  pub long : length spent ≡ action_count task
+  pub inside : (a : ℕ) → slice_index_or spent a false ≡ true → (values : Values)
+      → exec_set task a values ≡ true → set values ≡ true
+
+-- this layer is f, and the steps so far lead to it and to what the actions take within it
+pub record BeginsRound (class : Class) (start : Start) (now : Encoded) (slots : List SetId)
+    (f : Function) (h : ℕ → Function) (steps : List Step) (spent : List Bool) : Type 0 where
+  pub by_layer : HasLayer start now slots 0 f untaken
+  pub led : HaveLed class start.task steps (record { layer = f; taken = h; next = f })
+  pub are_spent : AreSpent start.task f spent
+
+-- and the next one has what the first m actions lead into this one
+pub record HasGrown (class : Class) (start : Start) (now : Encoded) (slots : List SetId)
+    (f : Function) (h : ℕ → Function) (m : ℕ) (steps : List Step) (spent : List Bool)
+    : Type 0 where
+  pub by_next : HasNext start now slots 0 f untaken (grown class start.task f m)
+  pub led : HaveLed class start.task steps (record {
+    layer = f;
+    taken = taken_by class start.task f h m;
+    next = grown class start.task f m;
+  })
+  pub are_spent : AreSpent start.task (grown class start.task f m) spent
 
 -- this layer is layer k, and no layer before it holds every initial state
-pub record HasRound (class : Class) (start : Start) (now : Encoded) (slots : List SetId) (n k : ℕ)
-    : Type 0 where
+pub record HasRound (class : Class) (start : Start) (now : Encoded) (slots : List SetId) (k : ℕ)
+    (steps : List Step) (spent : List Bool) : Type 0 where
   pub f : Function
   pub h : ℕ → Function
-  pub has : HasLayer start now slots n f h
+  pub begins : BeginsRound class start now slots f h steps spent
   pub round : IsRound class start.task k f h
 
 -- layer k holds every initial state
-pub record IsCovered (class : Class) (start : Start) (now : Encoded) (slots : List SetId)
-    (n k : ℕ) : Type 0 where
-  pub has : HasRound class start now slots n k
+pub record IsCovered (class : Class) (start : Start) (now : Encoded) (slots : List SetId) (k : ℕ)
+    (steps : List Step) (spent : List Bool) : Type 0 where
+  pub has : HasRound class start now slots k steps spent
   pub covered : covers class (system_of start.task) k ≡ true
 
 -- it doesn't, and the next layer is the same set
@@ -70,31 +105,30 @@ pub record IsStill (class : Class) (start : Start) (now : Encoded) (slots : List
 
 -- it doesn't, and the next layer is another set, which stands in its place
 pub record IsMore (class : Class) (start : Start) (before : Function) (now : Encoded)
-    (slots : List SetId) (n k : ℕ) : Type 0 where
-  pub has : HasRound class start now slots n (suc k)
-  pub differs : set_at now.sets slots n ≢ before
+    (slots : List SetId) (k : ℕ) (steps : List Step) (spent : List Bool) : Type 0 where
+  pub has : HasRound class start now slots (suc k) steps spent
+  pub differs : set_at now.sets slots 0 ≢ before
 
 -- what a round leaves, where the layer was this set before it
-abbrev pub RoundLeft : Class → Start → Function → Encoded → List SetId → ℕ → ℕ → Round → Type 0
-RoundLeft class start before now slots n k Covered = IsCovered class start now slots n k
-RoundLeft class start before now slots n k Stable = IsStill class start now slots k
-RoundLeft class start before now slots n k More = IsMore class start before now slots n k
+abbrev pub RoundLeft : Class → Start → Function → Encoded → List SetId → ℕ → List Step → List Bool
+    → Round → Type 0
+RoundLeft class start before now slots k steps spent Covered =
+    IsCovered class start now slots k steps spent
+RoundLeft class start before now slots k steps spent Stable = IsStill class start now slots k
+RoundLeft class start before now slots k steps spent More =
+    IsMore class start before now slots k steps spent
 
--- a search found the last layer and what the actions take, or that there is no solution
-pub record FoundLast (class : Class) (start : Start) (now : Encoded) (slots : List SetId) (n : ℕ)
-    : Type 0 where
+-- a search found the last layer, and the steps to it, or that there is no solution
+pub record FoundLast (class : Class) (start : Start) (now : Encoded) (slots : List SetId)
+    (steps : List Step) : Type 0 where
   pub at : At start now slots
-  pub layers : ℕ
-  pub last : IsLastLayer class (system_of start.task) layers
-  pub h : ℕ → Function
-  pub are_takers : AreTakers class start.task layers h
-  pub holds_taken : (a : ℕ) → a < n → set_at now.sets slots a ≡ h a
+  pub leads : LeadToLast class start.task steps
 
 pub record FoundNone (class : Class) (start : Start) (now : Encoded) (slots : List SetId)
     : Type 0 where
   pub at : At start now slots
   pub none : HasNoSolution class (system_of start.task)
 
-abbrev pub SearchLeft : Class → Start → Encoded → List SetId → ℕ → Bool → Type 0
-SearchLeft class start now slots n true = FoundLast class start now slots n
-SearchLeft class start now slots n false = FoundNone class start now slots
+abbrev pub SearchLeft : Class → Start → Encoded → List SetId → List Step → Bool → Type 0
+SearchLeft class start now slots steps true = FoundLast class start now slots steps
+SearchLeft class start now slots steps false = FoundNone class start now slots

@@ -11,6 +11,8 @@ use Rattle.task_core.specs.declared.classes.Class.{Class}
 use Rattle.task_core.specs.declared.tasks.Task.{Task}
 use Rattle.plan_theory.specs.Layers.{IsLastLayer}
 use Rattle.plan_theory.specs.LayerPlans.{takers}
+use Rattle.reach_plan.specs.Steps.{LeadToLast}
+use Rattle.reach_plan.specs.declared.steps.Step.{Step}
 use Rattle.reach_plan.specs.declared.takers.Takers.{Takers}
 use Rattle.reach_plan.specs.declared.takers.Takers.TheVariants.{Board, NoPlan}
 
@@ -34,7 +36,7 @@ abbrev pub slots_of : Takers → List SetId
 slots_of (Board board) = board.slots.items
 slots_of NoPlan = []
 
--- whether some layer is the last one, or there is no solution
-abbrev pub IsDecided : Class → Task → Bool → Type 0
-IsDecided class task true = (layers : ℕ) × IsLastLayer class (system_of task) layers
-IsDecided class task false = HasNoSolution class (system_of task)
+-- whether some layer is the last one, to which these steps lead, or there is no solution
+abbrev pub IsDecided : Class → Task → List Step → Bool → Type 0
+IsDecided class task steps true = LeadToLast class task steps
+IsDecided class task steps false = HasNoSolution class (system_of task)

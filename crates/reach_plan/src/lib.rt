@@ -3,20 +3,23 @@
 //!
 //! `plan_weak` and `plan_strong` go back from the goal over sets of states on diagrams, layer by
 //! layer (Cimatti, Pistore, Roveri and Traverso, "Weak, strong, and strong cyclic planning via
-//! symbolic model checking", Artificial Intelligence 147, 2003): `search` has the layers, on the
-//! slots of a board; `find_takers` makes two passes of them, first for the layers alone, and then,
-//! where there is a plan, for the set in which each action is taken, and hands these sets out;
-//! `set_rules` reads the rules off them.
+//! symbolic model checking", Artificial Intelligence 147, 2003): `search` finds the layers, on the
+//! slots of a board, and keeps the steps that changed one; where there is a plan, `retrace` makes
+//! these steps once more and has each action taken in what it added; `find_takers` makes both passes
+//! and hands these sets out; `set_rules` reads the rules off them.
 //!
 //! Which plan is found is said in `plan_theory`, whose laws of planning by layers the planners rest
 //! on. `specs/` has the words of the contracts: `Takers` (the sets that are handed out),
-//! `SetRules`, and of those inside `LayerSets` (the layers as sets on diagrams) and `Searches`
-//! (what the board has).
+//! `SetRules`, and of those inside `LayerSets` (the layers as sets on diagrams), `Steps` (where the
+//! steps of a search lead) and `Searches` (what the board has).
 #![tactic(auto)]
 
 mod planner;
+mod retrace;
 mod search;
 mod set_rules;
+mod spent;
+mod steps;
 mod takers;
 
 pub use planner::{plan_strong, plan_weak};

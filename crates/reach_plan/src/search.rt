@@ -1,27 +1,35 @@
-//! The search back from the goal, layer by layer.
+//! The first pass: back from the goal, layer by layer, with no set of an action's own.
 
-ghost use Rattle.std.specs.Prelude.{◌≡◌, ℕ, ◌+◌, ◌<◌, ◌↔◌, length, IsSome, IsTrue};
+ghost use Rattle.std.specs.Prelude.{◌≡◌, ◌⊎◌, ℕ, ◌+◌, ◌<◌, ◌↔◌, ◌++◌, [], ◌∷◌, false, length};
+ghost use Rattle.std.specs.Prelude.{IsSome, IsTrue, slice_index_or};
 ghost use Rattle.dd_nodes.specs.Subfunctions.{Function};
-ghost use Rattle.dd_ops.specs.Operations.{minus_of, or_of};
 ghost use Rattle.slot_board.specs.Board.{At, Ends, HasNothing, Left, Start, led, set_at};
 ghost use Rattle.plan_theory.specs.Classes.{IsFoundByLayers};
 ghost use Rattle.reach_plan.specs.LayerSets.{class_preimage};
-ghost use Rattle.reach_plan.specs.Searches.{HasGrown, HasHits, HasLayer, HasRound, RoundLeft};
-ghost use Rattle.reach_plan.specs.Searches.{SearchLeft, with_set};
+ghost use Rattle.reach_plan.specs.Searches.{BeginsRound, HasGrown, HasHits, HasJoined, HasLayer};
+ghost use Rattle.reach_plan.specs.Searches.{HasNext, HasRound, RoundLeft, SearchLeft};
+ghost use Rattle.reach_plan.specs.Steps.{untaken};
+ghost use Rattle.reach_plan.specs.declared.steps.Step.{Step as Noted};
+ghost use Rattle.reach_plan.specs.declared.steps.Step.TheVariants.{Advance};
 
+use crate::spent::{has_all, is_noted, none_spent, note_spent};
+use crate::steps::{Step, note};
 use dd_sets::SetErr;
 use encode_task::Enc;
 use plan_rules::Class;
 use preimage::preimages_lead_into_their_sets;
 use slot_board::{Board, Operation, Outcomes};
+use std::alloc::Global;
 use task_core::ActionId;
 
-/// Behind the places of what actions take stands a layer. One place farther on stands the next one,
+/// The places of the board: a layer,
+const LAYER: usize = 0;
+/// the next one, as far as it is made,
 const NEXT: usize = 1;
-/// then where an action leads into the layer,
+/// where an action leads into the layer,
 const HITS: usize = 2;
-/// and then what is new of that.
-const NEW: usize = 3;
+/// and the next layer with that.
+const GROWN: usize = 3;
 
 /// What a round of the search came to.
 enum Round {
@@ -34,7 +42,7 @@ enum Round {
 }
 
 /// Which outcomes have to lead into a layer.
-fn outcomes_of(class: Class) -> Outcomes
+pub(crate) fn outcomes_of(class: Class) -> Outcomes
     ensures { led result ≡ class_preimage class }
 {
     match class {
@@ -43,57 +51,58 @@ fn outcomes_of(class: Class) -> Outcomes
     }
 }
 
-/// Has an action taken where it leads into the layer from outside the next one, if it has a place.
-fn take(enc: &mut Enc, board: &mut Board, takers: usize, a: ActionId) -> Result<(), SetErr>
-    requires ready { (start : Start) × (f : Function) × (h : ℕ → Function) × (g : Function)
-        × (hits : Function) × HasHits start enc.old board.old.slots.items takers f h g hits }
-    requires places { length board.old.slots.items ≡ takers + 4 }
-    ensures { (start : Start) (f : Function) (h : ℕ → Function) (g hits : Function)
-        → HasHits start enc.old board.old.slots.items takers f h g hits
-        → Left start enc.new board.new.slots.items
-        (HasHits start enc.new board.new.slots.items takers f
-        (with_set h a.0 (or_of (h a.0) (minus_of hits g))) g hits) result }
+/// Joins to the next layer what an action leads into this one, and notes the step unless that was
+/// there already.
+fn join_hits(
+    enc: &mut Enc,
+    board: &mut Board,
+    steps: &mut Vec<Step>,
+    a: ActionId,
+) -> Result<(), SetErr>
+    requires ready { (start : Start) × (f : Function) × (g : Function) × (hits : Function)
+        × HasHits start enc.old board.old.slots.items 0 f untaken g hits }
+    requires places { length board.old.slots.items ≡ 4 }
+    ensures { (start : Start) (f g hits : Function)
+        → HasHits start enc.old board.old.slots.items 0 f untaken g hits
+        → Left start enc.new board.new.slots.items (HasJoined start enc.new board.new.slots.items
+        f g hits a steps.old.items steps.new.items) result }
 {
-    let place = a.0 as usize;
-    if place >= takers {
+    board.combine(enc, GROWN, Operation::Join, NEXT, HITS)?;
+    if board.is_same(enc, GROWN, NEXT) {
         return Ok(());
     }
-    board.combine(
-        enc,
-        takers + NEW,
-        Operation::Minus,
-        takers + HITS,
-        takers + NEXT,
-    )?;
-    board.combine(enc, place, Operation::Join, place, takers + NEW)
+    board.copy_of(enc, NEXT, GROWN)?;
+    note(steps, Step::Grow(a))
 }
 
-/// Joins to the next layer what an action leads into this one.
+/// Joins to the next layer what an action leads into this one, unless the action is spent. Where it
+/// leads into this layer from wherever it can be executed, it is spent from now on.
 fn grow_by(
     enc: &mut Enc,
     board: &mut Board,
     class: Class,
-    takers: usize,
+    steps: &mut Vec<Step>,
+    spent: &mut Vec<bool>,
     a: ActionId,
 ) -> Result<(), SetErr>
     requires ready { (start : Start) × (f : Function) × (h : ℕ → Function)
-        × HasGrown class start enc.old board.old.slots.items takers f h a.0 }
-    requires places { length board.old.slots.items ≡ takers + 4 }
+        × HasGrown class start enc.old board.old.slots.items f h a.0 steps.old.items
+        spent.old.items }
+    requires places { length board.old.slots.items ≡ 4 }
     requires action { a.0 < length enc.old.actions }
+    requires long { length spent.old.items ≡ length enc.old.actions }
     ensures { (start : Start) (f : Function) (h : ℕ → Function)
-        → HasGrown class start enc.old board.old.slots.items takers f h a.0
-        → Left start enc.new board.new.slots.items
-        (HasGrown class start enc.new board.new.slots.items takers f h (a.0 + 1)) result }
+        → HasGrown class start enc.old board.old.slots.items f h a.0 steps.old.items
+        spent.old.items → Left start enc.new board.new.slots.items
+        (HasGrown class start enc.new board.new.slots.items f h (a.0 + 1) steps.new.items
+        spent.new.items) result }
 {
-    board.lead(enc, takers + HITS, outcomes_of(class), a, takers)?;
-    take(enc, board, takers, a)?;
-    board.combine(
-        enc,
-        takers + NEXT,
-        Operation::Join,
-        takers + NEXT,
-        takers + HITS,
-    )
+    if is_noted(spent, a) {
+        return Ok(());
+    }
+    board.lead(enc, HITS, outcomes_of(class), a, LAYER)?;
+    note_spent(spent, a, has_all(enc, board, HITS, a));
+    join_hits(enc, board, steps, a)
 }
 
 /// Makes the next layer: this one, joined with what each action leads into it.
@@ -101,23 +110,41 @@ fn grow(
     enc: &mut Enc,
     board: &mut Board,
     class: Class,
-    takers: usize,
+    steps: &mut Vec<Step>,
+    spent: &mut Vec<bool>,
     actions: u32,
 ) -> Result<(), SetErr>
     requires ready { (start : Start) × (f : Function) × (h : ℕ → Function)
-        × HasLayer start enc.old board.old.slots.items takers f h }
-    requires places { length board.old.slots.items ≡ takers + 4 }
+        × BeginsRound class start enc.old board.old.slots.items f h steps.old.items
+        spent.old.items }
+    requires places { length board.old.slots.items ≡ 4 }
     requires actions { actions ≡ length enc.old.actions }
     ensures { (start : Start) (f : Function) (h : ℕ → Function)
-        → HasLayer start enc.old board.old.slots.items takers f h
-        → Left start enc.new board.new.slots.items
-        (HasGrown class start enc.new board.new.slots.items takers f h actions) result }
+        → BeginsRound class start enc.old board.old.slots.items f h steps.old.items
+        spent.old.items → Left start enc.new board.new.slots.items
+        (HasGrown class start enc.new board.new.slots.items f h actions steps.new.items
+        spent.new.items) result }
 {
-    board.copy_of(enc, takers + NEXT, takers)?;
+    board.copy_of(enc, NEXT, LAYER)?;
     for a in 0..actions {
-        grow_by(enc, board, class, takers, ActionId(a))?;
+        grow_by(enc, board, class, steps, spent, ActionId(a))?;
     }
     Ok(())
+}
+
+/// Puts the next layer in the place of this one.
+fn advance(enc: &mut Enc, board: &mut Board, steps: &mut Vec<Step>) -> Result<(), SetErr>
+    requires ready { (start : Start) × (f : Function) × (g : Function)
+        × HasNext start enc.old board.old.slots.items 0 f untaken g }
+    requires places { length board.old.slots.items ≡ 4 }
+    ensures { (start : Start) (f g : Function)
+        → HasNext start enc.old board.old.slots.items 0 f untaken g
+        → Left start enc.new board.new.slots.items
+        (HasLayer start enc.new board.new.slots.items 0 g untaken
+        × (steps.new.items ≡ steps.old.items ++ Advance ∷ [])) result }
+{
+    board.copy_of(enc, LAYER, NEXT)?;
+    note(steps, Step::Advance)
 }
 
 /// One round: whether the layer is the last one, and else the next layer in its place.
@@ -125,53 +152,58 @@ fn one_round(
     enc: &mut Enc,
     board: &mut Board,
     class: Class,
-    takers: usize,
+    steps: &mut Vec<Step>,
+    spent: &mut Vec<bool>,
     actions: u32,
 ) -> Result<Round, SetErr>
-    requires ready { (start : Start) × (k : ℕ)
-        × HasRound class start enc.old board.old.slots.items takers k }
-    requires places { length board.old.slots.items ≡ takers + 4 }
+    requires ready { (start : Start) × (k : ℕ) × HasRound class start enc.old
+        board.old.slots.items k steps.old.items spent.old.items }
+    requires places { length board.old.slots.items ≡ 4 }
     requires actions { actions ≡ length enc.old.actions }
-    ensures { (start : Start) (k : ℕ) → HasRound class start enc.old board.old.slots.items takers k
+    ensures { (start : Start) (k : ℕ) → HasRound class start enc.old board.old.slots.items k
+        steps.old.items spent.old.items
         → Ends start enc.new board.new.slots.items (RoundLeft class start
-        (set_at enc.old.sets board.old.slots.items takers) enc.new board.new.slots.items takers k)
-        result }
+        (set_at enc.old.sets board.old.slots.items 0) enc.new board.new.slots.items k
+        steps.new.items spent.new.items) result }
 {
     preimages_lead_into_their_sets();
-    let covered = board.covers_initial(enc, takers)?;
+    let covered = board.covers_initial(enc, LAYER)?;
     if covered {
         return Ok(Round::Covered);
     }
-    grow(enc, board, class, takers, actions)?;
-    if board.is_same(enc, takers + NEXT, takers) {
+    grow(enc, board, class, steps, spent, actions)?;
+    if board.is_same(enc, NEXT, LAYER) {
         return Ok(Round::Stable);
     }
-    board.copy_of(enc, takers, takers + NEXT)?;
+    advance(enc, board, steps)?;
     Ok(Round::More)
 }
 
-/// Whether some layer holds every initial state. If one does, each action with a place is taken
-/// there in what it takes within the first such layer.
+/// Whether some layer holds every initial state. If one does, the steps are those that lead to the
+/// first such layer.
 pub(crate) fn search_back(
+    alloc: Global,
     enc: &mut Enc,
     board: &mut Board,
     class: Class,
-    takers: usize,
+    steps: &mut Vec<Step>,
     actions: u32,
 ) -> Result<bool, SetErr>
     requires class { IsFoundByLayers class }
     requires goal { IsSome enc.old.goal }
     requires ready { (start : Start) × HasNothing start enc.old board.old.slots.items }
-    requires places { length board.old.slots.items ≡ takers + 4 }
+    requires places { length board.old.slots.items ≡ 4 }
     requires actions { actions ≡ length enc.old.actions }
+    requires no_steps { steps.old.items ≡ [] }
     ensures { (start : Start) → HasNothing start enc.old board.old.slots.items
         → Ends start enc.new board.new.slots.items
-        (SearchLeft class start enc.new board.new.slots.items takers) result }
+        (SearchLeft class start enc.new board.new.slots.items steps.new.items) result }
 {
+    let mut spent = none_spent(alloc, actions)?;
     let goal = enc.goal().unwrap();
-    board.copy(enc, takers, goal)?;
+    board.copy(enc, LAYER, goal)?;
     loop {
-        let round = one_round(enc, board, class, takers, actions)?;
+        let round = one_round(enc, board, class, steps, &mut spent, actions)?;
         match round {
             Round::Covered => return Ok(true),
             Round::Stable => return Ok(false),

@@ -9,10 +9,12 @@ ghost use Rattle.slot_board.specs.Board.{Working};
 ghost use Rattle.task_core.specs.Tasks.{action_count, system_of};
 ghost use Rattle.task_core.specs.declared.tasks.Task.{Task as TaskOf};
 ghost use Rattle.plan_theory.specs.Classes.{IsFoundByLayers};
-ghost use Rattle.plan_theory.specs.Layers.{IsLastLayer};
+ghost use Rattle.reach_plan.specs.Steps.{LeadToLast};
 ghost use Rattle.reach_plan.specs.Takers.{AreFound, HoldTakers, IsDecided, slots_of};
 
+use crate::retrace::retrace;
 use crate::search::search_back;
+use crate::steps::Step;
 use dd_sets::SetErr;
 use encode_task::{Enc, made_is_kept};
 use plan_rules::Class;
@@ -29,33 +31,46 @@ pub enum Takers {
     NoPlan,
 }
 
-/// Whether some layer holds every initial state.
-fn is_covered(alloc: Global, enc: &mut Enc, class: Class, actions: u32) -> Result<bool, SetErr>
+/// Whether some layer holds every initial state; if one does, with the steps that lead to the first
+/// such layer.
+fn is_covered(
+    alloc: Global,
+    enc: &mut Enc,
+    class: Class,
+    steps: &mut Vec<Step>,
+    actions: u32,
+) -> Result<bool, SetErr>
     requires class { IsFoundByLayers class }
     requires goal { IsSome enc.old.goal }
     requires made { OfSomeTask enc.old }
     requires actions { actions ≡ length enc.old.actions }
-    ensures answer { (task : TaskOf) → MadeOf task enc.old → IfOk result (IsDecided class task) }
+    requires no_steps { steps.old.items ≡ [] }
+    ensures answer { (task : TaskOf) → MadeOf task enc.old
+        → IfOk result (IsDecided class task steps.new.items) }
     ensures full { IsErrOf result SetErr.Full
         → NoRoom AnySet (actions + 24) enc.old.sets enc.new.sets }
     ensures slots { Owns enc.old.sets enc.new.sets [] }
     ensures same_slots { enc.new ≡ record enc.old { sets = enc.new.sets } }
 {
     let mut board = Board::new(alloc, enc, 4)?;
-    let covered = search_back(enc, &mut board, class, 0, actions);
+    let covered = search_back(alloc, enc, &mut board, class, steps, actions);
     board.close(enc);
     covered
 }
 
-/// What each action takes, where some layer holds every initial state.
-fn take_all(alloc: Global, enc: &mut Enc, class: Class, actions: u32) -> Result<Board, SetErr>
-    requires class { IsFoundByLayers class }
+/// What each action takes, where some layer holds every initial state and these steps lead to the
+/// first such layer.
+fn take_all(
+    alloc: Global,
+    enc: &mut Enc,
+    class: Class,
+    steps: &[Step],
+    actions: u32,
+) -> Result<Board, SetErr>
     requires goal { IsSome enc.old.goal }
-    requires last { (task : TaskOf) × MadeOf task enc.old
-        × (layers : ℕ) × IsLastLayer class (system_of task) layers }
+    requires last { (task : TaskOf) × MadeOf task enc.old × LeadToLast class task steps.now }
     requires actions { actions ≡ length enc.old.actions }
-    ensures answer { (task : TaskOf) → MadeOf task enc.old
-        → (layers : ℕ) → IsLastLayer class (system_of task) layers
+    ensures answer { (task : TaskOf) → MadeOf task enc.old → LeadToLast class task steps.now
         → IfOk result (λ board. HoldTakers class task enc.new.sets board.slots.items) }
     ensures full { IsErrOf result SetErr.Full
         → NoRoom AnySet (actions + 24) enc.old.sets enc.new.sets }
@@ -65,8 +80,8 @@ fn take_all(alloc: Global, enc: &mut Enc, class: Class, actions: u32) -> Result<
 {
     let takers = actions as usize;
     let mut board = Board::new(alloc, enc, takers + 4)?;
-    match search_back(enc, &mut board, class, takers, actions) {
-        Ok(_) => {
+    match retrace(enc, &mut board, class, takers, steps) {
+        Ok(()) => {
             board.cut(enc, takers);
             Ok(board)
         },
@@ -84,8 +99,8 @@ fn take_all(alloc: Global, enc: &mut Enc, class: Class, actions: u32) -> Result<
 /// into the layer before as the class wants it, until a layer holds every initial state (Cimatti,
 /// Pistore, Roveri and Traverso 2003). Each state of a layer takes the least-numbered action that
 /// leads so into the layer before it; a state in which the goal holds takes none. What each action
-/// takes is found in a second pass, where there is a plan. At most as many slots as there are
-/// actions and 24 are live in between.
+/// takes is found in a second pass, where there is a plan, which makes the steps that changed
+/// something once more. At most as many slots as there are actions and 24 are live in between.
 pub fn find_takers(
     alloc: Global,
     task: &Task,
@@ -105,9 +120,10 @@ pub fn find_takers(
 {
     made_is_kept();
     let actions = task.actions.len() as u32;
-    if !is_covered(alloc, enc, class, actions)? {
+    let mut steps = Vec::new(alloc);
+    if !is_covered(alloc, enc, class, &mut steps, actions)? {
         return Ok(Takers::NoPlan);
     }
-    let board = take_all(alloc, enc, class, actions)?;
+    let board = take_all(alloc, enc, class, &steps, actions)?;
     Ok(Takers::Board(board))
 }

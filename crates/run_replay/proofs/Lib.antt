@@ -1,5 +1,5 @@
 pub mod Counting
-pub mod PlanCubes
+pub mod Mapped
 pub mod Paths
 pub mod Places
 pub mod Telling

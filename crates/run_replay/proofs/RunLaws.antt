@@ -19,7 +19,7 @@ use Rattle.run_replay.specs.Traces.{Trace, TraceStep, Turn, Ends, Goes, Ending, 
 use Rattle.run_replay.specs.TraceTexts.{tallies_of, tally_lines}
 use Rattle.run_replay.specs.Turns.{IsRefusal}
 use Rattle.run_replay.specs.Watching.{AreTold, MonitorData}
-use Rattle.run_replay.proofs.PlanCubes.{unmapped}
+use Rattle.run_replay.proofs.Mapped.{unmapped}
 use Rattle.run_replay.proofs.Telling.{are_told_none, are_told_more, small_tallies, tallies_told}
 
 not_zero : (k : ℕ) → (suc k == 0) ≡ false

@@ -1,5 +1,6 @@
 -- The steps and the ends of runs in the terms of traces.
 use Rattle.std.specs.Prelude.{◌≡◌, ℕ, ◌<◌, List, ◌++◌, map}
+use Rattle.task_core.specs.ContextPlans.{ContextPlan}
 use Rattle.task_core.specs.States.{IsWithin, vector}
 use Rattle.task_core.specs.Tasks.{fluent_count, system_of}
 use Rattle.task_core.specs.declared.states.State.{State}
@@ -49,10 +50,14 @@ abbrev pub trace_value : ℕ → CodeTrace → List ℕ → Trace
 trace_value n trace left =
     record { steps = steps_value n trace.steps.items; ending = ending_of trace.end; left = left }
 
--- the trace of a plan in a task, from this state and with these outcome numbers
+-- the trace of a plan with contexts in a task, from this state and with these outcome numbers
+abbrev pub trace_by : Task → ContextPlan → State → List ℕ → Trace
+trace_by task plan first words =
+    trace_of (system_of task) plan (vector (fluent_count task) first) words
+
+-- the same of a plan as it is run
 abbrev pub trace_in : Task → Plan → State → List ℕ → Trace
-trace_in task plan first words =
-    trace_of (system_of task) (run_plan (plain_of plan)) (vector (fluent_count task) first) words
+trace_in task plan first words = trace_by task (run_plan (plain_of plan)) first words
 
 -- the outcome numbers of steps
 abbrev pub outcome_numbers : List TraceStep → List ℕ

@@ -7,7 +7,8 @@ use Rattle.task_core.specs.Vectors.{Vector}
 use Rattle.task_core.specs.Systems.{System}
 use Rattle.task_core.specs.ContextPlans.{ContextPlan, first_context}
 use Rattle.plan_rules.specs.Denoted.{can_execute, denoted_contexts}
-use Rattle.plan_rules.specs.Rules.{PlanRule, ContextRule, PlainPlan, always, table, automaton}
+use Rattle.plan_rules.specs.Rules.{PlainPlan}
+use Rattle.plan_guide.specs.RunRules.{run_rules}
 
 -- a step: its number, counted from 1, the action, the number of its outcome, counted from 0, and
 -- the states before and after
@@ -87,22 +88,6 @@ most_steps = 1000000
 -- the trace of a plan from a first state, in context 1
 abbrev pub trace_of : System → ContextPlan → Vector → List ℕ → Trace
 trace_of sys plan first words = trace_from sys plan most_steps 1 first (Some first_context) words
-
--- a rule of a table, which stays in one context
-abbrev pub in_one_context : PlanRule → ContextRule
-in_one_context rule =
-    record {
-      context = first_context;
-      cube = rule.cube;
-      action = rule.action;
-      next = always
-          first_context;
-    }
-
--- the rules of a plan as they are run: in each context the first that matches the state counts
-abbrev pub run_rules : PlainPlan → List ContextRule
-run_rules (table class rules) = map in_one_context rules
-run_rules (automaton contexts rules) = rules
 
 -- the context plan that is run
 abbrev pub run_plan : PlainPlan → ContextPlan

@@ -7,7 +7,6 @@
 //! a run. One turn is made in `turns`, and the monitors are told of its step in `watch`.
 #![tactic(auto)]
 
-mod advice;
 mod laws;
 mod monitors;
 mod records;

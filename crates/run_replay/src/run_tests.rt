@@ -120,7 +120,7 @@ fn sets(alloc: Global, fluent: u32, positive: bool) -> Result<Outcome, AllocErro
     };
     let change = Change {
         cond: Cond::Yes,
-        lit,
+        lits: vec![in alloc; lit]?,
     };
     Ok(Outcome {
         changes: vec![in alloc; change]?,

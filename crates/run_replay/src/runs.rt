@@ -1,12 +1,12 @@
 //! Whole runs of a plan.
 
 ghost use Rattle.plan_rules.specs.Plans.{IsPlanOf};
-ghost use Rattle.plan_rules.specs.Rules.{plain_of};
+ghost use Rattle.plan_rules.specs.Denoted.{denoted_contexts};
+ghost use Rattle.plan_guide.specs.Guides.{IsGuideOf, rules_of};
 ghost use Rattle.run_replay.specs.declared.worlds.Step.{Step};
 ghost use Rattle.run_replay.specs.Running.{next_turn_of};
-ghost use Rattle.run_replay.specs.Runs.{IsRefused, IsStepOf, trace_in, trace_value};
+ghost use Rattle.run_replay.specs.Runs.{IsRefused, IsStepOf, trace_by, trace_in, trace_value};
 ghost use Rattle.run_replay.specs.TraceTexts.{tallies_of, tally_lines};
-ghost use Rattle.run_replay.specs.Traces.{run_plan};
 ghost use Rattle.run_replay.specs.Turns.{IsTurn, MakesStepOf};
 ghost use Rattle.run_replay.specs.Watching.{AreTold};
 ghost use Rattle.std.specs.Prelude.{
@@ -32,6 +32,7 @@ use crate::traces::{RunErr, Trace};
 use crate::turns::{Turn, take_turn};
 use crate::watch::tell;
 use crate::worlds::{Step, World};
+use plan_guide::Guide;
 use plan_rules::{FIRST_CONTEXT, Plan};
 use std::alloc::{AllocFailed, Global};
 use task_core::{State, Task};
@@ -94,13 +95,49 @@ pub fn execute(
         (map (λ monitor. shown monitor) monitors.old.items)
         (map (λ monitor. shown monitor) monitors.new.items)) }
 {
+    let guide = Guide::new(alloc, task, plan)?;
+    run_guide(alloc, task, &guide, first, world, monitors)
+}
+
+/// The same by a guide of the plan.
+fn run_guide(
+    alloc: Global,
+    task: &Task,
+    guide: &Guide<'_>,
+    first: State,
+    world: &mut Box<dyn World>,
+    monitors: &mut Vec<Box<dyn Monitor>>,
+) -> Result<Trace, RunErr>
+    requires guide { IsGuideOf (fluent_count task.now) (action_count task.now) guide.now }
+    requires within { IsWithin (fluent_count task.now) first }
+    requires untold { All (λ monitor. (shown monitor).counted ≡ 0) monitors.old.items }
+    ensures first_state { IfOk result (λ trace. trace.first ≡ first) }
+    ensures trace { IfOk result (λ trace. trace_value (fluent_count task.now) trace (left world.new)
+        ≡ trace_by task.now (denoted_contexts (rules_of guide.now)) first (left world.old)) }
+    ensures in_task { IfOk result (λ trace.
+        All (IsStepOf (fluent_count task.now) (action_count task.now)) trace.steps.items) }
+    ensures told { IfOk result (λ trace. AreTold trace.steps.items
+        (map (λ monitor. shown monitor) monitors.old.items)
+        (map (λ monitor. shown monitor) monitors.new.items)) }
+    ensures tallies { IfOk result (λ trace.
+        tally_lines (map (λ monitor. shown monitor) monitors.new.items)
+        ≡ tallies_of (map (λ monitor. shown monitor) monitors.old.items) trace.steps.items) }
+    ensures refused { IfErr result (λ refusal. (steps : List Step) ×
+        IsRefused (fluent_count task.now) refusal
+        (trace_by task.now (denoted_contexts (rules_of guide.now)) first (left world.old))
+        (left world.old) steps (left world.new)
+        × All (IsStepOf (fluent_count task.now) (action_count task.now)) steps
+        × AreTold steps
+        (map (λ monitor. shown monitor) monitors.old.items)
+        (map (λ monitor. shown monitor) monitors.new.items)) }
+{
     let mut run = Run {
         steps: Vec::new(alloc),
         state: first,
         context: Some(FIRST_CONTEXT),
     };
     loop {
-        match next_turn(task, plan, &run, world) {
+        match next_turn(task, guide, &run, world) {
             Turn::Ends(end) => {
                 return Ok(Trace {
                     first,
@@ -115,18 +152,18 @@ pub fn execute(
 }
 
 /// The next turn of a run.
-fn next_turn(task: &Task, plan: &Plan, run: &Run, world: &mut Box<dyn World>) -> Turn
-    requires plan_of_task { IsPlanOf (fluent_count task.now) (action_count task.now) plan.now }
+fn next_turn(task: &Task, guide: &Guide<'_>, run: &Run, world: &mut Box<dyn World>) -> Turn
+    requires guide { IsGuideOf (fluent_count task.now) (action_count task.now) guide.now }
     requires within { IsWithin (fluent_count task.now) run.now.state }
     ensures turn { IsTurn (fluent_count task.now) result (left world.new)
-        (next_turn_of (system_of task.now) (run_plan (plain_of plan.now)) (fluent_count task.now)
+        (next_turn_of (system_of task.now) (denoted_contexts (rules_of guide.now)) (fluent_count task.now)
         run.now.steps.items run.now.state run.now.context (left world.old)) }
     ensures in_task { MakesStepOf (fluent_count task.now) (action_count task.now) result }
 {
     let made = run.steps.len();
     take_turn(
         task,
-        plan,
+        guide,
         made == MOST_STEPS,
         made as u64 + 1,
         &run.state,

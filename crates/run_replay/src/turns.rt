@@ -1,20 +1,19 @@
 //! One turn of a run.
 
-ghost use Rattle.plan_rules.specs.Plans.{IsPlanOf};
-ghost use Rattle.plan_rules.specs.Rules.{plain_of};
-ghost use Rattle.run_replay.specs.Traces.{run_plan, turn as turn_of};
+ghost use Rattle.plan_guide.specs.GuideRules.{rule_value};
+ghost use Rattle.plan_guide.specs.Guides.{IsGuideOf, IsReady, rules_of};
+ghost use Rattle.run_replay.specs.Traces.{turn as turn_of};
 ghost use Rattle.run_replay.specs.Turns.{IsTurn, MakesStepOf, taking, turn_by};
 ghost use Rattle.std.specs.Prelude.{◌≡◌, ◌<◌, ◌↔◌, ◌∷◌, ℕ, IsTrue, length, List, Some};
-ghost use Rattle.plan_rules.specs.Denoted.{can_execute};
+ghost use Rattle.plan_rules.specs.Denoted.{can_execute, denoted_contexts};
 ghost use Rattle.task_core.specs.Systems.{Exec};
-ghost use Rattle.plan_rules.specs.Advices.{IsAdviceOf, advice_value};
+ghost use Rattle.plan_rules.specs.Advices.{advised_by};
 ghost use Rattle.task_core.specs.States.{IsWithin, vector};
 ghost use Rattle.task_core.specs.Tasks.{action_count, fluent_count, outcomes_at, system_of};
 
-use crate::advice::rule_in;
 use crate::traces::{End, RunErr};
 use crate::worlds::{Step, World};
-use plan_rules::{Advice, Plan, context_in};
+use plan_guide::{Guide, GuideRule};
 use task_core::{ActionId, State, Task, is_exec, step};
 
 /// What a turn does.
@@ -31,26 +30,26 @@ pub(crate) enum Turn {
 /// unless the run is full.
 pub(crate) fn take_turn(
     task: &Task,
-    plan: &Plan,
+    guide: &Guide<'_>,
     full: bool,
     number: u64,
     state: &State,
     context: Option<u32>,
     world: &mut Box<dyn World>,
 ) -> Turn
-    requires plan_of_task { IsPlanOf (fluent_count task.now) (action_count task.now) plan.now }
+    requires guide { IsGuideOf (fluent_count task.now) (action_count task.now) guide.now }
     requires within { IsWithin (fluent_count task.now) state.now }
     ensures turn { IsTurn (fluent_count task.now) result (left world.new)
-        (turn_of (system_of task.now) (run_plan (plain_of plan.now)) full number
+        (turn_of (system_of task.now) (denoted_contexts (rules_of guide.now)) full number
         (vector (fluent_count task.now) state.now) context (left world.old)) }
     ensures in_task { MakesStepOf (fluent_count task.now) (action_count task.now) result }
 {
     let Some(context) = context else {
         return Turn::Ends(End::Terminal);
     };
-    match rule_in(task, plan, state, context) {
+    match guide.rule_in(task, state, context) {
         None => Turn::Ends(End::Terminal),
-        Some(rule) => follow(task, full, number, state, &rule, world),
+        Some(rule) => follow(task, full, number, state, rule, world),
     }
 }
 
@@ -60,14 +59,14 @@ fn follow(
     full: bool,
     number: u64,
     state: &State,
-    rule: &Advice<'_>,
+    rule: &GuideRule<'_>,
     world: &mut Box<dyn World>,
 ) -> Turn
-    requires in_task { IsAdviceOf (fluent_count task.now) (action_count task.now) rule.now }
+    requires ready { IsReady (fluent_count task.now) (action_count task.now) rule.now }
     requires within { IsWithin (fluent_count task.now) state.now }
     ensures turn { IsTurn (fluent_count task.now) result (left world.new)
         (turn_by (system_of task.now) full number (vector (fluent_count task.now) state.now)
-        (left world.old) (Some (advice_value rule.now))) }
+        (left world.old) (Some (advised_by (rule_value rule.now)))) }
     ensures in_task { MakesStepOf (fluent_count task.now) (action_count task.now) result }
 {
     if !is_executable(task, state, rule.action) {
@@ -83,14 +82,14 @@ fn follow(
 }
 
 /// The turn in which this rule's action, which can be executed, has this outcome number.
-fn make_step(task: &Task, number: u64, state: &State, rule: &Advice<'_>, word: u32) -> Turn
-    requires in_task { IsAdviceOf (fluent_count task.now) (action_count task.now) rule.now }
+fn make_step(task: &Task, number: u64, state: &State, rule: &GuideRule<'_>, word: u32) -> Turn
+    requires ready { IsReady (fluent_count task.now) (action_count task.now) rule.now }
     requires within { IsWithin (fluent_count task.now) state.now }
     requires executable { Exec (system_of task.now) (vector (fluent_count task.now) state.now)
         rule.now.action.0 }
     ensures turn { (words : List ℕ) → IsTurn (fluent_count task.now) result words
         (taking (system_of task.now) number (vector (fluent_count task.now) state.now)
-        (advice_value rule.now) (word ∷ words)) }
+        (advised_by (rule_value rule.now)) (word ∷ words)) }
     ensures in_task { MakesStepOf (fluent_count task.now) (action_count task.now) result }
 {
     let outcomes = outcome_count(task, rule.action);
@@ -109,7 +108,7 @@ fn make_step(task: &Task, number: u64, state: &State, rule: &Advice<'_>, word: u
         before: *state,
         after,
     };
-    Turn::Goes(made, context_in(task, &rule.onward, &after))
+    Turn::Goes(made, rule.onward.context_in(task, &after))
 }
 
 /// Whether an action can be executed in a state.

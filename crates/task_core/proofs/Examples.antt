@@ -66,7 +66,7 @@ module _ (alloc : Global) where
   vec xs few = record { ptr = null_ptr; len = length xs; cap = length xs; alloc = alloc; items = xs; ok = (refl, omega arith); small = omega arith }
 
   abbrev change : ℕ → Bool → Change
-  change f positive = record { cond = Yes; lit = literal f positive }
+  change f positive = record { cond = Yes; lits = vec (literal f positive ∷ []) (omega arith) }
 
   abbrev nothing : Outcome
   nothing = record { changes = vec [] (omega arith) }

@@ -1,5 +1,6 @@
 pub mod EntryStates
 pub mod StateLists
+pub mod Unchanged
 pub mod Vectors
 pub mod Cubes
 pub mod Bits

@@ -1,10 +1,12 @@
 -- What an outcome does to the values of the fluents, and when the parts of a task name its fluents
 -- alone.
-use Rattle.std.specs.Prelude.{ℕ, ◌^◌, Bool, true, false, ◌&&◌, if◌then◌else◌, ◌==◌, nat_lt, map}
+use Rattle.std.specs.Prelude.{ℕ, ◌^◌, Bool, true, false, ◌&&◌, if◌then◌else◌, nat_lt, map}
 use Rattle.std.specs.Prelude.{length, Option, Some, None}
 use Rattle.std.specs.List.{list_all, list_any, range_with_len}
-use Rattle.task_core.specs.Vectors.{Vector, value_of, same_value}
+use Rattle.task_core.specs.Vectors.{Vector, value_of}
 use Rattle.task_core.specs.Conditions.{holds, ids_below, is_shallow}
+use Rattle.task_core.specs.Initial.{lit_within, names_it}
+use Rattle.task_core.specs.declared.literals.Lit.{Lit}
 use Rattle.task_core.specs.declared.conditions.Cond.{Cond}
 use Rattle.task_core.specs.declared.actions.Change.{Change}
 use Rattle.task_core.specs.declared.actions.Outcome.{Outcome}
@@ -13,8 +15,7 @@ use Rattle.task_core.specs.declared.actions.GroundAction.{GroundAction}
 -- whether a change, its condition read at these values, makes fluent f true (positive) or false
 -- (not positive)
 abbrev pub change_makes : Bool → (ℕ → Bool) → ℕ → Change → Bool
-change_makes positive value f c =
-    c.lit.fluent.0 == f && same_value c.lit.positive positive && holds c.cond value
+change_makes positive value f c = names_it positive f c.lits.items && holds c.cond value
 
 -- whether some change of the outcome adds fluent f; whether some change deletes it
 abbrev pub adds : Outcome → (ℕ → Bool) → ℕ → Bool
@@ -33,9 +34,10 @@ after_value o value f =
 abbrev pub after : ℕ → Outcome → Vector → Vector
 after n o v = map (after_value o (value_of v)) (range_with_len 0 n)
 
--- whether every fluent that an outcome names is below n
+-- whether every fluent that an outcome names is below n. A change stands for as many conditional
+-- literals as it has: what is asked of one is asked of each, and without literals nothing is
 abbrev pub change_within : ℕ → Change → Bool
-change_within n c = nat_lt c.lit.fluent.0 n && ids_below n c.cond
+change_within n c = list_all (λ lit. lit_within n lit && ids_below n c.cond) c.lits.items
 
 abbrev pub outcome_within : ℕ → Outcome → Bool
 outcome_within n o = list_all (change_within n) o.changes.items
@@ -55,10 +57,14 @@ goal_within n None = true
 goal_within n (Some goal) = ids_below n goal
 
 -- whether every condition of an action, or of a goal where there is one, is at most 200 deep
+abbrev pub change_is_shallow : Change → Bool
+change_is_shallow c = list_all (λ (lit : Lit). is_shallow c.cond) c.lits.items
+
+abbrev pub outcome_is_shallow : Outcome → Bool
+outcome_is_shallow o = list_all change_is_shallow o.changes.items
+
 abbrev pub action_is_shallow : GroundAction → Bool
-action_is_shallow a =
-    is_shallow a.exec
-    && list_all (λ o. list_all (λ c. is_shallow c.cond) o.changes.items) a.outcomes.items
+action_is_shallow a = is_shallow a.exec && list_all outcome_is_shallow a.outcomes.items
 
 abbrev pub goal_is_shallow : Option Cond → Bool
 goal_is_shallow None = true

@@ -2,12 +2,13 @@
 
 use crate::{Cond, Lit, State};
 
-/// What one part of an outcome does: where `cond` holds in the old state, `lit` adds its fluent
-/// (makes it true) or deletes it (makes it false).
+/// What one part of an outcome does: where `cond` holds in the old state, each of `lits` adds its
+/// fluent (makes it true) or deletes it (makes it false). The condition of a change without
+/// literals is never read.
 #[derive(Debug, Drop)]
 pub struct Change {
     pub cond: Cond,
-    pub lit: Lit,
+    pub lits: Vec<Lit>,
 }
 
 /// One thing that an action may do. Every condition is read in the old state; a fluent that is both

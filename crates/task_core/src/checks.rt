@@ -21,9 +21,11 @@ ghost use Rattle.task_core.specs.Conditions.{depth, ids_below, is_shallow};
 ghost use Rattle.task_core.specs.Actions.{
   action_is_shallow,
   action_within,
+  change_is_shallow,
   change_within,
   goal_is_shallow,
   goal_within,
+  outcome_is_shallow,
   outcome_within,
 };
 ghost use Rattle.task_core.specs.Initial.{
@@ -229,7 +231,7 @@ fn is_shallow(cond: &Cond) -> bool
 fn change_fits(change: &Change, fluents: usize) -> bool
     ensures { result ≡ change_within fluents change.now }
 {
-    (change.lit.fluent.0 as usize) < fluents && ids_below(&change.cond, fluents)
+    change.lits.is_empty() || (ids_below(&change.cond, fluents) && lits_fit(&change.lits, fluents))
 }
 
 /// Whether an outcome does.
@@ -278,12 +280,19 @@ fn action_fits(action: &GroundAction, fluents: usize) -> bool
         && action.outcomes.len() < 1 << 32
 }
 
-/// Whether the conditions of an outcome are at most 200 deep.
+/// Whether the condition of a change is at most 200 deep, where it is ever read.
+fn change_is_shallow(change: &Change) -> bool
+    ensures { result ≡ change_is_shallow change.now }
+{
+    change.lits.is_empty() || is_shallow(&change.cond)
+}
+
+/// Whether the conditions of an outcome are.
 fn outcome_is_shallow(outcome: &Outcome) -> bool
-    ensures { result ≡ list_all (λ c. is_shallow c.cond) outcome.now.changes.items }
+    ensures { result ≡ outcome_is_shallow outcome.now }
 {
     for change in &outcome.changes {
-        if !is_shallow(&change.cond) {
+        if !change_is_shallow(change) {
             return false;
         }
     }

@@ -35,6 +35,7 @@ ghost use Rattle.task_core.specs.Initial.{
   names_it,
 };
 ghost use Rattle.task_core.specs.Tasks.{fluent_count, initial_states, states_after_entries};
+ghost use Rattle.task_core.specs.Unchanged.{AreOnce, changes_none, holds_in_each};
 
 use crate::{Alternative, Lit, State, Task};
 use indexmap::IndexSet;
@@ -83,9 +84,72 @@ pub fn init_states(alloc: Global, task: &Task, limit: usize) -> Result<Vec<State
     }
     let mut states = Vec::from_slice(alloc, &[task.init.facts])?;
     for entry in &task.init.entries {
-        states = states_after(alloc, &states, entry, limit)?;
+        states = next_states(alloc, states, entry, limit)?;
     }
     Ok(states)
+}
+
+// The states after an entry. Where it changes none of them there is no new list.
+fn next_states(
+    alloc: Global,
+    states: Vec<State>,
+    entry: &[Alternative],
+    limit: usize,
+) -> Result<Vec<State>, InitErr>
+    requires entry { entry_within 256 (entry_of entry.now) ≡ true }
+    requires few { length states.items ≤ limit }
+    ensures list { IfOk result (λ after. (n : ℕ) (vs : List Vector)
+        → entry_within n (entry_of entry.now) ≡ true → AreOnce [] vs
+        → ShowsVectors n states.items vs
+        → ShowsVectors n after.items (after_entry n vs (entry_of entry.now))) }
+    ensures few { IfOk result (λ after. length after.items ≤ limit) }
+    ensures too_many { IsErrOf result InitErr.TooMany → (n : ℕ) (vs : List Vector)
+        → entry_within n (entry_of entry.now) ≡ true → ShowsVectors n states.items vs
+        → limit < length (after_entry n vs (entry_of entry.now)) }
+{
+    if changes_none(&states, entry) {
+        return Ok(states);
+    }
+    states_after(alloc, &states, entry, limit)
+}
+
+// Whether an entry changes none of the states, since all of its literals hold in each.
+fn changes_none(states: &[State], entry: &[Alternative]) -> bool
+    requires { entry_within 256 (entry_of entry.now) ≡ true }
+    ensures { result ≡ changes_none states.now (entry_of entry.now) }
+{
+    for alternative in entry {
+        if !all_hold(states, &alternative.lits) {
+            return false;
+        }
+    }
+    true
+}
+
+// Whether each of the literals holds in each of the states.
+fn all_hold(states: &[State], lits: &[Lit]) -> bool
+    requires { list_all (lit_within 256) lits.now ≡ true }
+    ensures { result ≡ list_all (holds_in_each states.now) lits.now }
+{
+    for lit in lits {
+        if !holds_in_each(states, *lit) {
+            return false;
+        }
+    }
+    true
+}
+
+// Whether a literal holds in each of the states.
+fn holds_in_each(states: &[State], lit: Lit) -> bool
+    requires { lit.fluent.0 < 256 }
+    ensures { result ≡ holds_in_each states.now lit }
+{
+    for state in states {
+        if state.get(lit.fluent) != lit.positive {
+            return false;
+        }
+    }
+    true
 }
 
 // The states after an entry.
@@ -104,11 +168,18 @@ fn states_after(
         → entry_within n (entry_of entry.now) ≡ true → ShowsVectors n states.now vs
         → limit < length (after_entry n vs (entry_of entry.now)) }
 {
-    let mut found = IndexSet::new(alloc);
+    let mut found = roomy_set(alloc, states.len())?;
     for state in states {
         add_alternatives(&mut found, state, entry, limit)?;
     }
     Ok(list_of(alloc, &found)?)
+}
+
+// An empty set with room for so many states.
+fn roomy_set(alloc: Global, room: usize) -> Result<IndexSet<State>, AllocError>
+    ensures { IfOk result (λ set. set.keys ≡ []) }
+{
+    IndexSet::with_capacity(alloc, room)
 }
 
 // The states of a set, in its order.
@@ -173,7 +244,7 @@ fn with_literals(state: &State, lits: &[Lit]) -> State
 }
 
 // The state with each fluent made `positive` that a literal of this sign names.
-fn with_signed(state: State, lits: &[Lit], positive: bool) -> State
+pub(crate) fn with_signed(state: State, lits: &[Lit], positive: bool) -> State
     requires { list_all (lit_within 256) lits.now ≡ true }
     ensures { (f : ℕ) → truth result f
         ≡ (if names_it positive f lits.now then positive else truth state f) }

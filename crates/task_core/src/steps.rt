@@ -8,13 +8,17 @@ ghost use Rattle.std.specs.Prelude.{
   IsTrue,
   Bool,
   true,
+  ◌&&◌,
   if◌then◌else◌,
   length,
   slice_get,
 };
 ghost use Rattle.std.specs.List.{list_any};
 ghost use Rattle.task_core.specs.States.{IsWithin, truth, vector};
-ghost use Rattle.task_core.specs.Actions.{change_makes, outcome_within, after_value};
+ghost use Rattle.task_core.specs.Vectors.{same_value};
+ghost use Rattle.task_core.specs.Actions.{after_value, change_makes, change_within};
+ghost use Rattle.task_core.specs.Actions.{outcome_within};
+ghost use Rattle.task_core.specs.Initial.{names_it};
 ghost use Rattle.task_core.specs.Systems.{Exec};
 ghost use Rattle.task_core.specs.Tasks.{
   fluent_count,
@@ -25,7 +29,8 @@ ghost use Rattle.task_core.specs.Tasks.{
   system_of,
 };
 
-use crate::{ActionId, Outcome, State, Task, cond_holds};
+use crate::initial::with_signed;
+use crate::{ActionId, Change, Lit, Outcome, State, Task, cond_holds};
 
 /// Whether the action can be executed in the state.
 pub fn is_exec(task: &Task, state: &State, action: ActionId) -> bool
@@ -74,9 +79,44 @@ fn with_changes(outcome: &Outcome, old: &State, next: State, positive: bool) -> 
 {
     let mut state = next;
     for change in &outcome.changes {
-        if change.lit.positive == positive && cond_holds(&change.cond, old) {
-            state = state.with(change.lit.fluent, positive);
-        }
+        state = with_change(change, old, state, positive);
     }
     state
+}
+
+/// `next` with each fluent made `positive` that the change makes so, its condition read in the old
+/// state.
+fn with_change(change: &Change, old: &State, next: State, positive: bool) -> State
+    requires within { change_within 256 change.now ≡ true }
+    ensures value { (f : ℕ) → truth result f
+        ≡ (if change_makes positive (truth old.now) f change.now
+        then positive else truth next f) }
+{
+    if comes_about(change, old, positive) {
+        with_signed(next, &change.lits, positive)
+    } else {
+        next
+    }
+}
+
+/// Whether a change has a literal of this sign, and its condition holds. The condition is read only
+/// where there is such a literal.
+fn comes_about(change: &Change, old: &State, positive: bool) -> bool
+    requires within { change_within 256 change.now ≡ true }
+    ensures { (f : ℕ) → change_makes positive (truth old.now) f change.now
+        ≡ (names_it positive f change.now.lits.items && result) }
+{
+    has_sign(&change.lits, positive) && cond_holds(&change.cond, old)
+}
+
+/// Whether one of the literals has this sign.
+fn has_sign(lits: &[Lit], positive: bool) -> bool
+    ensures { result ≡ list_any (λ lit. same_value lit.positive positive) lits.now }
+{
+    for lit in lits {
+        if lit.positive == positive {
+            return true;
+        }
+    }
+    false
 }

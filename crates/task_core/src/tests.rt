@@ -52,7 +52,7 @@ fn coin(alloc: Global) -> Result<Task, Fail>
         changes: vec![in alloc;
             Change {
                 cond: Cond::Yes,
-                lit: lit(0, true)
+                lits: vec![in alloc; lit(0, true)]?
             },
         ]?,
     };

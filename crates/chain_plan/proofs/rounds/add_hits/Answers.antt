@@ -1,83 +1,37 @@
-use Rattle.chain_plan.proofs.RoundSteps.{adds_hits}
-use Rattle.chain_plan.proofs.SceneSteps.{low, moved_ready}
+use Rattle.chain_plan.proofs.SkipSteps.{adds_after, adds_same}
 use Rattle.chain_plan.specs.Scenes.{board_of}
-use Rattle.slot_board.proofs.BoardSlots.{went, passed, left_with}
-use Rattle.std.proofs.Common.{arith}
+use Rattle.slot_board.proofs.BoardSlots.{left_with, passed, same_actions, went}
+use Rattle.std.proofs.Common.{◌≡◌, arith, length}
 use Rattle.std.proofs.lemmas.Result.{err_from_is_err_and}
 use Rattle.chain_plan.proofs.rounds.add_hits.Goals as goal
 
-pub lead-requires-clause-working : goal.lead-requires-clause-working
-lead-requires-clause-working c =
-    let start = c.requires.ready.0 in
-    let ready = c.requires.ready.1 in
-    (board_of start, ready.at)
-
-pub lead-requires-clause-place : goal.lead-requires-clause-place
-lead-requires-clause-place c =
-    let start = c.requires.ready.0 in
-    let ready = c.requires.ready.1 in
-    low start (c.args.enc.now, c.args.board.now.slots.items) ready.at 2 (omega arith)
-
-pub lead-requires-clause-into : goal.lead-requires-clause-into
-lead-requires-clause-into c =
-    let start = c.requires.ready.0 in
-    let ready = c.requires.ready.1 in
-    low start (c.args.enc.now, c.args.board.now.slots.items) ready.at 0 (omega arith)
-
-pub returns-in_err-lead : goal.returns-in_err-lead
-returns-in_err-lead c start ready =
+pub returns-in_err-adds_none : goal.returns-in_err-adds_none
+returns-in_err-adds_none c start ready =
     let p = err_from_is_err_and c.from_residual.result c.from_residual.ensures.1 in
-    passed (board_of start) c.lead.new.enc c.lead.new.self.slots.items _ _ c.lead.result c.from_residual.result _ c.in_err-lead.was p (c.lead.ensures (board_of start) ready.at)
+    passed (board_of start) c.adds_none.new.enc c.adds_none.new.board.slots.items _ _ c.adds_none.result c.from_residual.result _ c.in_err-adds_none.was p (c.adds_none.ensures.left start ready)
 
-pub keep_hits-requires : goal.keep_hits-requires
-keep_hits-requires c =
+pub returns-then-branch : goal.returns-then-branch
+returns-then-branch c start ready =
+    let o = went (board_of start) c.adds_none.new.enc c.adds_none.new.board.slots.items _ c.adds_none.result _ c.in_ok-adds_none.was (c.adds_none.ensures.left start ready) in
+    adds_same c.args.way start (c.args.enc.now, c.args.board.now.slots.items) (c.adds_none.new.enc, c.adds_none.new.board.slots.items) c.args.a.0 o
+    (c.in_ok-adds_none.ensures.none start ready (let t = c.if-branch.true in cc))
+
+pub join_hits-requires-clause-ready : goal.join_hits-requires-clause-ready
+join_hits-requires-clause-ready c =
     let start = c.requires.ready.0 in
-    let ready = c.requires.ready.1 in
-    let m = went (board_of start) c.lead.new.enc c.lead.new.self.slots.items _ c.lead.result _ c.in_ok-lead.was (c.lead.ensures (board_of start) ready.at) in
-    record { ready = (start, (moved_ready start (c.args.enc.now, c.args.board.now.slots.items) (c.lead.new.enc, c.lead.new.self.slots.items) 2 _ m)) }
+    let o = went (board_of start) c.adds_none.new.enc c.adds_none.new.board.slots.items _ c.adds_none.result _ c.in_ok-adds_none.was (c.adds_none.ensures.left start c.requires.ready.1) in
+    (start, o.ready)
 
-pub returns-in_err-keep_hits : goal.returns-in_err-keep_hits
-returns-in_err-keep_hits c start ready =
-    let p = err_from_is_err_and c.from_residual-in_err-keep_hits.result c.from_residual-in_err-keep_hits.ensures.1 in
-    let m = went (board_of start) c.lead.new.enc c.lead.new.self.slots.items _ c.lead.result _ c.in_ok-lead.was (c.lead.ensures (board_of start) ready.at) in
-    passed (board_of start) c.keep_hits.new.enc c.keep_hits.new.board.slots.items _ _ c.keep_hits.result c.from_residual-in_err-keep_hits.result _ c.in_err-keep_hits.was p (c.keep_hits.ensures start (moved_ready start (c.args.enc.now, c.args.board.now.slots.items) (c.lead.new.enc, c.lead.new.self.slots.items) 2 _ m))
-
-pub combine-requires-clause-working : goal.combine-requires-clause-working
-combine-requires-clause-working c =
+pub join_hits-requires-clause-action : goal.join_hits-requires-clause-action
+join_hits-requires-clause-action c =
     let start = c.requires.ready.0 in
-    let ready = c.requires.ready.1 in
-    let m = went (board_of start) c.lead.new.enc c.lead.new.self.slots.items _ c.lead.result _ c.in_ok-lead.was (c.lead.ensures (board_of start) ready.at) in
-    let k = went (board_of start) c.keep_hits.new.enc c.keep_hits.new.board.slots.items _ c.keep_hits.result _ c.in_ok-keep_hits.was (c.keep_hits.ensures start (moved_ready start (c.args.enc.now, c.args.board.now.slots.items) (c.lead.new.enc, c.lead.new.self.slots.items) 2 _ m)) in
-    (board_of start, k.worked.ready.at)
-
-pub combine-requires-clause-place : goal.combine-requires-clause-place
-combine-requires-clause-place c =
-    let start = c.requires.ready.0 in
-    let ready = c.requires.ready.1 in
-    let m = went (board_of start) c.lead.new.enc c.lead.new.self.slots.items _ c.lead.result _ c.in_ok-lead.was (c.lead.ensures (board_of start) ready.at) in
-    let k = went (board_of start) c.keep_hits.new.enc c.keep_hits.new.board.slots.items _ c.keep_hits.result _ c.in_ok-keep_hits.was (c.keep_hits.ensures start (moved_ready start (c.args.enc.now, c.args.board.now.slots.items) (c.lead.new.enc, c.lead.new.self.slots.items) 2 _ m)) in
-    low start (c.keep_hits.new.enc, c.keep_hits.new.board.slots.items) k.worked.ready.at 1 (omega arith)
-
-pub combine-requires-clause-a : goal.combine-requires-clause-a
-combine-requires-clause-a c =
-    let start = c.requires.ready.0 in
-    let ready = c.requires.ready.1 in
-    let m = went (board_of start) c.lead.new.enc c.lead.new.self.slots.items _ c.lead.result _ c.in_ok-lead.was (c.lead.ensures (board_of start) ready.at) in
-    let k = went (board_of start) c.keep_hits.new.enc c.keep_hits.new.board.slots.items _ c.keep_hits.result _ c.in_ok-keep_hits.was (c.keep_hits.ensures start (moved_ready start (c.args.enc.now, c.args.board.now.slots.items) (c.lead.new.enc, c.lead.new.self.slots.items) 2 _ m)) in
-    low start (c.keep_hits.new.enc, c.keep_hits.new.board.slots.items) k.worked.ready.at 1 (omega arith)
-
-pub combine-requires-clause-b : goal.combine-requires-clause-b
-combine-requires-clause-b c =
-    let start = c.requires.ready.0 in
-    let ready = c.requires.ready.1 in
-    let m = went (board_of start) c.lead.new.enc c.lead.new.self.slots.items _ c.lead.result _ c.in_ok-lead.was (c.lead.ensures (board_of start) ready.at) in
-    let k = went (board_of start) c.keep_hits.new.enc c.keep_hits.new.board.slots.items _ c.keep_hits.result _ c.in_ok-keep_hits.was (c.keep_hits.ensures start (moved_ready start (c.args.enc.now, c.args.board.now.slots.items) (c.lead.new.enc, c.lead.new.self.slots.items) 2 _ m)) in
-    low start (c.keep_hits.new.enc, c.keep_hits.new.board.slots.items) k.worked.ready.at 2 (omega arith)
+    let o = went (board_of start) c.adds_none.new.enc c.adds_none.new.board.slots.items _ c.adds_none.result _ c.in_ok-adds_none.was (c.adds_none.ensures.left start c.requires.ready.1) in
+    let e : length c.adds_none.new.enc.actions ≡ length c.args.enc.now.actions = same_actions (board_of start) c.args.enc.now c.adds_none.new.enc c.args.board.now.slots.items c.adds_none.new.board.slots.items c.requires.ready.1.at o.ready.at in
+    omega (arith, c.requires.action)
 
 pub returns : goal.returns
 returns c start ready =
-    let m = went (board_of start) c.lead.new.enc c.lead.new.self.slots.items _ c.lead.result _ c.in_ok-lead.was (c.lead.ensures (board_of start) ready.at) in
-    let k = went (board_of start) c.keep_hits.new.enc c.keep_hits.new.board.slots.items _ c.keep_hits.result _ c.in_ok-keep_hits.was (c.keep_hits.ensures start (moved_ready start (c.args.enc.now, c.args.board.now.slots.items) (c.lead.new.enc, c.lead.new.self.slots.items) 2 _ m)) in
-    left_with (board_of start) c.combine.new.enc c.combine.new.self.slots.items _ _ c.combine.result
-    (λ joined. adds_hits c.args.way start (c.args.enc.now, c.args.board.now.slots.items) (c.lead.new.enc, c.lead.new.self.slots.items) (c.keep_hits.new.enc, c.keep_hits.new.board.slots.items) (c.combine.new.enc, c.combine.new.self.slots.items) c.args.a.0 ready m k joined)
-    (c.combine.ensures (board_of start) k.worked.ready.at)
+    let o = went (board_of start) c.adds_none.new.enc c.adds_none.new.board.slots.items _ c.adds_none.result _ c.in_ok-adds_none.was (c.adds_none.ensures.left start ready) in
+    left_with (board_of start) c.join_hits.new.enc c.join_hits.new.board.slots.items _ _ c.join_hits.result
+    (λ adds. adds_after c.args.way start (c.args.enc.now, c.args.board.now.slots.items) (c.adds_none.new.enc, c.adds_none.new.board.slots.items) (c.join_hits.new.enc, c.join_hits.new.board.slots.items) c.args.a.0 o adds)
+    (c.join_hits.ensures start o.ready)

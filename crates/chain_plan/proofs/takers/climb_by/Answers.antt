@@ -1,165 +1,56 @@
-use Rattle.chain_plan.proofs.SceneSteps.{low, same_length}
-use Rattle.chain_plan.proofs.TakerSteps.{climbs_more}
+use Rattle.chain_plan.proofs.SceneSteps.{same_length}
+use Rattle.chain_plan.proofs.SkipSteps.{climbs_after, climbs_same}
 use Rattle.chain_plan.specs.Scenes.{board_of}
-use Rattle.slot_board.proofs.BoardSlots.{went, passed, left_with, made_at}
+use Rattle.slot_board.proofs.BoardSlots.{made_at, passed, same_actions, went}
 use Rattle.std.proofs.Common.{◌≡◌, arith, length}
 use Rattle.std.proofs.lemmas.Result.{err_from_is_err_and}
 use Rattle.task_core.specs.Tasks.{action_count}
 use Rattle.chain_plan.proofs.takers.climb_by.Goals as goal
 
-pub lead-requires-clause-working : goal.lead-requires-clause-working
-lead-requires-clause-working c =
-    let start = c.requires.ready.0 in
-    let x = c.requires.ready.1 in
-    let h = c.requires.ready.2 in
-    (board_of start, h.changed.ready.at)
+pub is_joined-requires-clause-ready : goal.is_joined-requires-clause-ready
+is_joined-requires-clause-ready c = (c.requires.ready.0, c.requires.ready.2.changed.ready)
 
-pub lead-requires-clause-place : goal.lead-requires-clause-place
-lead-requires-clause-place c =
-    let start = c.requires.ready.0 in
-    let x = c.requires.ready.1 in
-    let h = c.requires.ready.2 in
-    low start (c.args.enc.now, c.args.board.now.slots.items) h.changed.ready.at 2 (omega arith)
-
-pub lead-requires-clause-into : goal.lead-requires-clause-into
-lead-requires-clause-into c =
-    let start = c.requires.ready.0 in
-    let x = c.requires.ready.1 in
-    let h = c.requires.ready.2 in
-    low start (c.args.enc.now, c.args.board.now.slots.items) h.changed.ready.at 0 (omega arith)
-
-pub returns-in_err-lead : goal.returns-in_err-lead
-returns-in_err-lead c start x h =
+pub returns-in_err-is_joined : goal.returns-in_err-is_joined
+returns-in_err-is_joined c start x h =
     let p = err_from_is_err_and c.from_residual.result c.from_residual.ensures.1 in
-    passed (board_of start) c.lead.new.enc c.lead.new.self.slots.items _ _ c.lead.result c.from_residual.result _ c.in_err-lead.was p (c.lead.ensures (board_of start) h.changed.ready.at)
+    passed (board_of start) c.is_joined.new.enc c.is_joined.new.board.slots.items _ _ c.is_joined.result c.from_residual.result _ c.in_err-is_joined.was p (c.is_joined.ensures.left start h.changed.ready)
 
-pub combine-requires-clause-working : goal.combine-requires-clause-working
-combine-requires-clause-working c =
+pub returns-then-branch : goal.returns-then-branch
+returns-then-branch c start x h =
+    let o = went (board_of start) c.is_joined.new.enc c.is_joined.new.board.slots.items _ c.is_joined.result _ c.in_ok-is_joined.was (c.is_joined.ensures.left start h.changed.ready) in
+    let e : length c.args.enc.now.actions ≡ action_count start.task = (made_at (board_of start) c.args.enc.now c.args.board.now.slots.items h.changed.ready.at).actions in
+    climbs_same start x (c.args.enc.now, c.args.board.now.slots.items) (c.is_joined.new.enc, c.is_joined.new.board.slots.items) c.args.takers c.args.a.0 c.requires.high (omega (arith, c.requires.places)) h o (omega (arith, c.requires.action))
+    (c.in_ok-is_joined.ensures.joined start h.changed.ready (let t = c.if-branch.true in cc))
+
+pub climb_hits-requires-clause-ready : goal.climb_hits-requires-clause-ready
+climb_hits-requires-clause-ready c =
     let start = c.requires.ready.0 in
     let x = c.requires.ready.1 in
     let h = c.requires.ready.2 in
-    let d1 = went (board_of start) c.lead.new.enc c.lead.new.self.slots.items _ c.lead.result _ c.in_ok-lead.was (c.lead.ensures (board_of start) h.changed.ready.at) in
-    (board_of start, d1.at)
+    let o = went (board_of start) c.is_joined.new.enc c.is_joined.new.board.slots.items _ c.is_joined.result _ c.in_ok-is_joined.was (c.is_joined.ensures.left start h.changed.ready) in
+    let e : length c.args.enc.now.actions ≡ action_count start.task = (made_at (board_of start) c.args.enc.now c.args.board.now.slots.items h.changed.ready.at).actions in
+    (start, x, climbs_after start x (c.args.enc.now, c.args.board.now.slots.items) (c.is_joined.new.enc, c.is_joined.new.board.slots.items) c.args.takers c.args.a.0 c.requires.high (omega (arith, c.requires.places)) h o)
 
-pub combine-requires-clause-place : goal.combine-requires-clause-place
-combine-requires-clause-place c =
+pub climb_hits-requires-clause-action : goal.climb_hits-requires-clause-action
+climb_hits-requires-clause-action c =
     let start = c.requires.ready.0 in
-    let x = c.requires.ready.1 in
     let h = c.requires.ready.2 in
-    let d1 = went (board_of start) c.lead.new.enc c.lead.new.self.slots.items _ c.lead.result _ c.in_ok-lead.was (c.lead.ensures (board_of start) h.changed.ready.at) in
-    low start (c.lead.new.enc, c.lead.new.self.slots.items) d1.at 4 (omega arith)
+    let o = went (board_of start) c.is_joined.new.enc c.is_joined.new.board.slots.items _ c.is_joined.result _ c.in_ok-is_joined.was (c.is_joined.ensures.left start h.changed.ready) in
+    let e : length c.is_joined.new.enc.actions ≡ length c.args.enc.now.actions = same_actions (board_of start) c.args.enc.now c.is_joined.new.enc c.args.board.now.slots.items c.is_joined.new.board.slots.items h.changed.ready.at o.ready.at in
+    omega (arith, c.requires.action)
 
-pub combine-requires-clause-a : goal.combine-requires-clause-a
-combine-requires-clause-a c =
+pub climb_hits-requires-clause-places : goal.climb_hits-requires-clause-places
+climb_hits-requires-clause-places c =
     let start = c.requires.ready.0 in
-    let x = c.requires.ready.1 in
     let h = c.requires.ready.2 in
-    let d1 = went (board_of start) c.lead.new.enc c.lead.new.self.slots.items _ c.lead.result _ c.in_ok-lead.was (c.lead.ensures (board_of start) h.changed.ready.at) in
-    low start (c.lead.new.enc, c.lead.new.self.slots.items) d1.at 2 (omega arith)
-
-pub combine-requires-clause-b : goal.combine-requires-clause-b
-combine-requires-clause-b c =
-    let start = c.requires.ready.0 in
-    let x = c.requires.ready.1 in
-    let h = c.requires.ready.2 in
-    let d1 = went (board_of start) c.lead.new.enc c.lead.new.self.slots.items _ c.lead.result _ c.in_ok-lead.was (c.lead.ensures (board_of start) h.changed.ready.at) in
-    low start (c.lead.new.enc, c.lead.new.self.slots.items) d1.at 1 (omega arith)
-
-pub returns-in_err-combine : goal.returns-in_err-combine
-returns-in_err-combine c start x h =
-    let p = err_from_is_err_and c.from_residual-in_err-combine.result c.from_residual-in_err-combine.ensures.1 in
-    let d1 = went (board_of start) c.lead.new.enc c.lead.new.self.slots.items _ c.lead.result _ c.in_ok-lead.was (c.lead.ensures (board_of start) h.changed.ready.at) in
-    passed (board_of start) c.combine.new.enc c.combine.new.self.slots.items _ _ c.combine.result c.from_residual-in_err-combine.result _ c.in_err-combine.was p (c.combine.ensures (board_of start) d1.at)
-
-pub combine-requires-2-clause-working : goal.combine-requires-2-clause-working
-combine-requires-2-clause-working c =
-    let start = c.requires.ready.0 in
-    let x = c.requires.ready.1 in
-    let h = c.requires.ready.2 in
-    let d1 = went (board_of start) c.lead.new.enc c.lead.new.self.slots.items _ c.lead.result _ c.in_ok-lead.was (c.lead.ensures (board_of start) h.changed.ready.at) in
-    let d2 = went (board_of start) c.combine.new.enc c.combine.new.self.slots.items _ c.combine.result _ c.in_ok-combine.was (c.combine.ensures (board_of start) d1.at) in
-    (board_of start, d2.at)
-
-pub combine-requires-2-clause-place : goal.combine-requires-2-clause-place
-combine-requires-2-clause-place c =
-    let start = c.requires.ready.0 in
-    let x = c.requires.ready.1 in
-    let h = c.requires.ready.2 in
-    let d1 = went (board_of start) c.lead.new.enc c.lead.new.self.slots.items _ c.lead.result _ c.in_ok-lead.was (c.lead.ensures (board_of start) h.changed.ready.at) in
-    let d2 = went (board_of start) c.combine.new.enc c.combine.new.self.slots.items _ c.combine.result _ c.in_ok-combine.was (c.combine.ensures (board_of start) d1.at) in
-    let e : length c.combine.new.self.slots.items ≡ length c.args.board.now.slots.items = same_length start (c.args.enc.now, c.args.board.now.slots.items) (c.combine.new.enc, c.combine.new.self.slots.items) h.changed.ready.at d2.at in omega (arith, c.requires.places, c.requires.action)
-
-pub combine-requires-2-clause-a : goal.combine-requires-2-clause-a
-combine-requires-2-clause-a c =
-    let start = c.requires.ready.0 in
-    let x = c.requires.ready.1 in
-    let h = c.requires.ready.2 in
-    let d1 = went (board_of start) c.lead.new.enc c.lead.new.self.slots.items _ c.lead.result _ c.in_ok-lead.was (c.lead.ensures (board_of start) h.changed.ready.at) in
-    let d2 = went (board_of start) c.combine.new.enc c.combine.new.self.slots.items _ c.combine.result _ c.in_ok-combine.was (c.combine.ensures (board_of start) d1.at) in
-    let e : length c.combine.new.self.slots.items ≡ length c.args.board.now.slots.items = same_length start (c.args.enc.now, c.args.board.now.slots.items) (c.combine.new.enc, c.combine.new.self.slots.items) h.changed.ready.at d2.at in omega (arith, c.requires.places, c.requires.action)
-
-pub combine-requires-2-clause-b : goal.combine-requires-2-clause-b
-combine-requires-2-clause-b c =
-    let start = c.requires.ready.0 in
-    let x = c.requires.ready.1 in
-    let h = c.requires.ready.2 in
-    let d1 = went (board_of start) c.lead.new.enc c.lead.new.self.slots.items _ c.lead.result _ c.in_ok-lead.was (c.lead.ensures (board_of start) h.changed.ready.at) in
-    let d2 = went (board_of start) c.combine.new.enc c.combine.new.self.slots.items _ c.combine.result _ c.in_ok-combine.was (c.combine.ensures (board_of start) d1.at) in
-    low start (c.combine.new.enc, c.combine.new.self.slots.items) d2.at 4 (omega arith)
-
-pub returns-in_err-combine-2 : goal.returns-in_err-combine-2
-returns-in_err-combine-2 c start x h =
-    let p = err_from_is_err_and c.from_residual-in_err-combine-2.result c.from_residual-in_err-combine-2.ensures.1 in
-    let d1 = went (board_of start) c.lead.new.enc c.lead.new.self.slots.items _ c.lead.result _ c.in_ok-lead.was (c.lead.ensures (board_of start) h.changed.ready.at) in
-    let d2 = went (board_of start) c.combine.new.enc c.combine.new.self.slots.items _ c.combine.result _ c.in_ok-combine.was (c.combine.ensures (board_of start) d1.at) in
-    passed (board_of start) c.combine-2.new.enc c.combine-2.new.self.slots.items _ _ c.combine-2.result c.from_residual-in_err-combine-2.result _ c.in_err-combine-2.was p (c.combine-2.ensures (board_of start) d2.at)
-
-pub combine-requires-3-clause-working : goal.combine-requires-3-clause-working
-combine-requires-3-clause-working c =
-    let start = c.requires.ready.0 in
-    let x = c.requires.ready.1 in
-    let h = c.requires.ready.2 in
-    let d1 = went (board_of start) c.lead.new.enc c.lead.new.self.slots.items _ c.lead.result _ c.in_ok-lead.was (c.lead.ensures (board_of start) h.changed.ready.at) in
-    let d2 = went (board_of start) c.combine.new.enc c.combine.new.self.slots.items _ c.combine.result _ c.in_ok-combine.was (c.combine.ensures (board_of start) d1.at) in
-    let d3 = went (board_of start) c.combine-2.new.enc c.combine-2.new.self.slots.items _ c.combine-2.result _ c.in_ok-combine-2.was (c.combine-2.ensures (board_of start) d2.at) in
-    (board_of start, d3.at)
-
-pub combine-requires-3-clause-place : goal.combine-requires-3-clause-place
-combine-requires-3-clause-place c =
-    let start = c.requires.ready.0 in
-    let x = c.requires.ready.1 in
-    let h = c.requires.ready.2 in
-    let d1 = went (board_of start) c.lead.new.enc c.lead.new.self.slots.items _ c.lead.result _ c.in_ok-lead.was (c.lead.ensures (board_of start) h.changed.ready.at) in
-    let d2 = went (board_of start) c.combine.new.enc c.combine.new.self.slots.items _ c.combine.result _ c.in_ok-combine.was (c.combine.ensures (board_of start) d1.at) in
-    let d3 = went (board_of start) c.combine-2.new.enc c.combine-2.new.self.slots.items _ c.combine-2.result _ c.in_ok-combine-2.was (c.combine-2.ensures (board_of start) d2.at) in
-    low start (c.combine-2.new.enc, c.combine-2.new.self.slots.items) d3.at 1 (omega arith)
-
-pub combine-requires-3-clause-a : goal.combine-requires-3-clause-a
-combine-requires-3-clause-a c =
-    let start = c.requires.ready.0 in
-    let x = c.requires.ready.1 in
-    let h = c.requires.ready.2 in
-    let d1 = went (board_of start) c.lead.new.enc c.lead.new.self.slots.items _ c.lead.result _ c.in_ok-lead.was (c.lead.ensures (board_of start) h.changed.ready.at) in
-    let d2 = went (board_of start) c.combine.new.enc c.combine.new.self.slots.items _ c.combine.result _ c.in_ok-combine.was (c.combine.ensures (board_of start) d1.at) in
-    let d3 = went (board_of start) c.combine-2.new.enc c.combine-2.new.self.slots.items _ c.combine-2.result _ c.in_ok-combine-2.was (c.combine-2.ensures (board_of start) d2.at) in
-    low start (c.combine-2.new.enc, c.combine-2.new.self.slots.items) d3.at 1 (omega arith)
-
-pub combine-requires-3-clause-b : goal.combine-requires-3-clause-b
-combine-requires-3-clause-b c =
-    let start = c.requires.ready.0 in
-    let x = c.requires.ready.1 in
-    let h = c.requires.ready.2 in
-    let d1 = went (board_of start) c.lead.new.enc c.lead.new.self.slots.items _ c.lead.result _ c.in_ok-lead.was (c.lead.ensures (board_of start) h.changed.ready.at) in
-    let d2 = went (board_of start) c.combine.new.enc c.combine.new.self.slots.items _ c.combine.result _ c.in_ok-combine.was (c.combine.ensures (board_of start) d1.at) in
-    let d3 = went (board_of start) c.combine-2.new.enc c.combine-2.new.self.slots.items _ c.combine-2.result _ c.in_ok-combine-2.was (c.combine-2.ensures (board_of start) d2.at) in
-    low start (c.combine-2.new.enc, c.combine-2.new.self.slots.items) d3.at 2 (omega arith)
+    let o = went (board_of start) c.is_joined.new.enc c.is_joined.new.board.slots.items _ c.is_joined.result _ c.in_ok-is_joined.was (c.is_joined.ensures.left start h.changed.ready) in
+    let e : length c.is_joined.new.enc.actions ≡ length c.args.enc.now.actions = same_actions (board_of start) c.args.enc.now c.is_joined.new.enc c.args.board.now.slots.items c.is_joined.new.board.slots.items h.changed.ready.at o.ready.at in
+    let l : length c.is_joined.new.board.slots.items ≡ length c.args.board.now.slots.items = same_length start (c.args.enc.now, c.args.board.now.slots.items) (c.is_joined.new.enc, c.is_joined.new.board.slots.items) h.changed.ready.at o.ready.at in
+    omega (arith, c.requires.places)
 
 pub returns : goal.returns
 returns c start x h =
-    let d1 = went (board_of start) c.lead.new.enc c.lead.new.self.slots.items _ c.lead.result _ c.in_ok-lead.was (c.lead.ensures (board_of start) h.changed.ready.at) in
-    let d2 = went (board_of start) c.combine.new.enc c.combine.new.self.slots.items _ c.combine.result _ c.in_ok-combine.was (c.combine.ensures (board_of start) d1.at) in
-    let d3 = went (board_of start) c.combine-2.new.enc c.combine-2.new.self.slots.items _ c.combine-2.result _ c.in_ok-combine-2.was (c.combine-2.ensures (board_of start) d2.at) in
+    let o = went (board_of start) c.is_joined.new.enc c.is_joined.new.board.slots.items _ c.is_joined.result _ c.in_ok-is_joined.was (c.is_joined.ensures.left start h.changed.ready) in
     let e : length c.args.enc.now.actions ≡ action_count start.task = (made_at (board_of start) c.args.enc.now c.args.board.now.slots.items h.changed.ready.at).actions in
-    left_with (board_of start) c.combine-3.new.enc c.combine-3.new.self.slots.items _ _ c.combine-3.result
-    (λ d4. climbs_more start x (c.args.enc.now, c.args.board.now.slots.items) (c.lead.new.enc, c.lead.new.self.slots.items) (c.combine.new.enc, c.combine.new.self.slots.items) (c.combine-2.new.enc, c.combine-2.new.self.slots.items) (c.combine-3.new.enc, c.combine-3.new.self.slots.items) c.args.takers c.args.a.0 c.requires.high (omega (arith, c.requires.places)) (omega (arith, c.requires.action)) h d1 d2 d3 d4)
-    (c.combine-3.ensures (board_of start) d3.at)
+    c.climb_hits.ensures start x
+    (climbs_after start x (c.args.enc.now, c.args.board.now.slots.items) (c.is_joined.new.enc, c.is_joined.new.board.slots.items) c.args.takers c.args.a.0 c.requires.high (omega (arith, c.requires.places)) h o)

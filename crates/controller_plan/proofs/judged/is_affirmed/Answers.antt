@@ -1,7 +1,4 @@
-use Rattle.exec_graph.specs.Initials.{HasTooManyInitial}
 use Rattle.plan_rules.specs.Rules.{plain_of}
-use Rattle.task_core.specs.Tasks.{system_of}
-use Rattle.mbp_top.specs.CheckCommand.{most_followed}
 use Rattle.mbp_top.specs.Judged.{IsTaskVerdict}
 use Rattle.mbp_top.specs.Values.{kind_of}
 use Rattle.controller_plan.proofs.Verdicts.{affirmed_yes, judged_refusal}
@@ -15,5 +12,5 @@ returns-in-Ok-clause-yes c said =
 pub returns-in-Err-clause-refused : goal.returns-in-Err-clause-refused
 returns-in-Err-clause-refused c =
     let task = c.args.grounded.now.task in
-    judged_refusal (HasTooManyInitial task most_followed) (system_of task) (plain_of c.args.plan.now)
-    (IsTaskVerdict (kind_of c.args.kind) task c.args.grounded.now.ctl (plain_of c.args.plan.now)) c.judge.result c.in-Err.refusal c.in-Err.is c.judge.ensures
+    judged_refusal task (plain_of c.args.plan.now) (IsTaskVerdict (kind_of c.args.kind) task c.args.grounded.now.ctl (plain_of c.args.plan.now)) c.judge.result c.in-Err.refusal
+    c.in-Err.is c.judge.ensures

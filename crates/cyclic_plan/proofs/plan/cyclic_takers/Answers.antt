@@ -1,4 +1,4 @@
-use Rattle.std.proofs.Common.{◌≡◌, ◌+◌, arith}
+use Rattle.std.proofs.Common.{◌+◌, arith}
 use Rattle.task_core.specs.Tasks.{action_count}
 use Rattle.cyclic_plan.specs.Takers.{start_of}
 use Rattle.cyclic_plan.proofs.Answered.{ends_found, ends_none, ends_refusal, first_places, room_of}

@@ -1,79 +1,40 @@
-use Rattle.std.proofs.Common.{◌≡◌, ◌+◌, arith, length, ◌∙◌}
+use Rattle.std.proofs.Common.{◌≡◌, arith, length}
 use Rattle.std.proofs.lemmas.Result.{err_from_is_err_and}
-use Rattle.task_core.specs.Tasks.{action_count}
-use Rattle.plan_theory.specs.Layers.{may_lead}
-use Rattle.cyclic_plan.specs.Stages.{kept_system}
-use Rattle.slot_board.proofs.BoardSlots.{left_with, passed, same_actions, went}
-use Rattle.cyclic_plan.proofs.StageSteps.{next_joined}
+use Rattle.slot_board.proofs.BoardSlots.{passed, same_actions, went}
+use Rattle.cyclic_plan.proofs.Narrowing.{joined_same}
 use Rattle.cyclic_plan.proofs.rounds.advance.Goals as goal
 
-pub returns-in_err-hit : goal.returns-in_err-hit
-returns-in_err-hit c start left taken near next ready =
+pub returns-in_err-is_joined : goal.returns-in_err-is_joined
+returns-in_err-is_joined c start left taken near next ready =
     let p = err_from_is_err_and c.from_residual.result c.from_residual.ensures.1 in
-    passed start c.hit.new.enc c.hit.new.board.slots.items _ _ c.hit.result c.from_residual.result _ c.in_err-hit.was p (c.hit.ensures start left taken near next ready)
+    passed start c.is_joined.new.enc c.is_joined.new.board.slots.items _ _ c.is_joined.result c.from_residual.result _ c.in_err-is_joined.was p (c.is_joined.ensures.left start left taken near next ready)
 
-pub take_where-requires-clause-ready : goal.take_where-requires-clause-ready
-take_where-requires-clause-ready c =
-    let r = c.requires.ready in (
-      r.0,
-      r.1,
-      r.2,
-      r.3,
-      r.4,
-      (λ v. may_lead (kept_system r.0 r.1) r.3 v c.args.a.0),
-      went r.0 c.hit.new.enc c.hit.new.board.slots.items _ c.hit.result _ c.in_ok-hit.was (c.hit.ensures r.0 r.1 r.2 r.3 r.4 r.5),
-    )
+pub returns-then-branch : goal.returns-then-branch
+returns-then-branch c start left taken near next ready =
+    joined_same start c.is_joined.new.enc c.is_joined.new.board.slots.items c.args.a.0 left taken near next c.args.taking
+    (c.in_ok-is_joined.ensures.joined start left taken near next ready (let h = c.if-branch.true in cc))
+    (went start c.is_joined.new.enc c.is_joined.new.board.slots.items _ c.is_joined.result _ c.in_ok-is_joined.was (c.is_joined.ensures.left start left taken near next ready))
 
-pub take_where-requires-clause-actions : goal.take_where-requires-clause-actions
-take_where-requires-clause-actions c =
+pub join_hits-requires-clause-ready : goal.join_hits-requires-clause-ready
+join_hits-requires-clause-ready c =
     let r = c.requires.ready in
-    let h = went r.0 c.hit.new.enc c.hit.new.board.slots.items _ c.hit.result _ c.in_ok-hit.was (c.hit.ensures r.0 r.1 r.2 r.3 r.4 r.5) in
-    let e : length c.hit.new.enc.actions ≡ length c.args.enc.now.actions = same_actions r.0 c.args.enc.now c.hit.new.enc c.args.board.now.slots.items c.hit.new.board.slots.items r.5.by_near.round.at h.by_next.by_near.round.at in
+    (r.0, r.1, r.2, r.3, r.4, went r.0 c.is_joined.new.enc c.is_joined.new.board.slots.items _ c.is_joined.result _ c.in_ok-is_joined.was (c.is_joined.ensures.left r.0 r.1 r.2 r.3 r.4 r.5))
+
+pub join_hits-requires-clause-actions : goal.join_hits-requires-clause-actions
+join_hits-requires-clause-actions c =
+    let r = c.requires.ready in
+    let h = went r.0 c.is_joined.new.enc c.is_joined.new.board.slots.items _ c.is_joined.result _ c.in_ok-is_joined.was (c.is_joined.ensures.left r.0 r.1 r.2 r.3 r.4 r.5) in
+    let e : length c.is_joined.new.enc.actions ≡ length c.args.enc.now.actions = same_actions r.0 c.args.enc.now c.is_joined.new.enc c.args.board.now.slots.items c.is_joined.new.board.slots.items r.5.by_near.round.at h.by_near.round.at in
     omega (arith, c.requires.actions)
 
-pub take_where-requires-clause-action : goal.take_where-requires-clause-action
-take_where-requires-clause-action c =
+pub join_hits-requires-clause-action : goal.join_hits-requires-clause-action
+join_hits-requires-clause-action c =
     let r = c.requires.ready in
-    let h = went r.0 c.hit.new.enc c.hit.new.board.slots.items _ c.hit.result _ c.in_ok-hit.was (c.hit.ensures r.0 r.1 r.2 r.3 r.4 r.5) in
-    let e : length c.hit.new.enc.actions ≡ length c.args.enc.now.actions = same_actions r.0 c.args.enc.now c.hit.new.enc c.args.board.now.slots.items c.hit.new.board.slots.items r.5.by_near.round.at h.by_next.by_near.round.at in
+    let h = went r.0 c.is_joined.new.enc c.is_joined.new.board.slots.items _ c.is_joined.result _ c.in_ok-is_joined.was (c.is_joined.ensures.left r.0 r.1 r.2 r.3 r.4 r.5) in
+    let e : length c.is_joined.new.enc.actions ≡ length c.args.enc.now.actions = same_actions r.0 c.args.enc.now c.is_joined.new.enc c.args.board.now.slots.items c.is_joined.new.board.slots.items r.5.by_near.round.at h.by_near.round.at in
     omega (arith, c.requires.action)
-
-pub returns-in_err-take_where : goal.returns-in_err-take_where
-returns-in_err-take_where c start left taken near next ready =
-    let p = err_from_is_err_and c.from_residual-in_err-take_where.result c.from_residual-in_err-take_where.ensures.1 in
-    let h = went start c.hit.new.enc c.hit.new.board.slots.items _ c.hit.result _ c.in_ok-hit.was (c.hit.ensures start left taken near next ready) in
-    passed start c.take_where.new.enc c.take_where.new.board.slots.items _ _ c.take_where.result c.from_residual-in_err-take_where.result _ c.in_err-take_where.was p (c.take_where.ensures start left taken near next _ h)
-
-pub combine-requires-clause-working : goal.combine-requires-clause-working
-combine-requires-clause-working c =
-    let r = c.requires.ready in
-    let h = went r.0 c.hit.new.enc c.hit.new.board.slots.items _ c.hit.result _ c.in_ok-hit.was (c.hit.ensures r.0 r.1 r.2 r.3 r.4 r.5) in
-    let t = went r.0 c.take_where.new.enc c.take_where.new.board.slots.items _ c.take_where.result _ c.in_ok-take_where.was (c.take_where.ensures r.0 r.1 r.2 r.3 r.4 _ h) in
-    (r.0, t.by_next.by_near.round.at)
-
-pub combine-requires-clause-place : goal.combine-requires-clause-place
-combine-requires-clause-place c =
-    let r = c.requires.ready in
-    let h = went r.0 c.hit.new.enc c.hit.new.board.slots.items _ c.hit.result _ c.in_ok-hit.was (c.hit.ensures r.0 r.1 r.2 r.3 r.4 r.5) in
-    let t = went r.0 c.take_where.new.enc c.take_where.new.board.slots.items _ c.take_where.result _ c.in_ok-take_where.was (c.take_where.ensures r.0 r.1 r.2 r.3 r.4 _ h) in
-    let e : length c.take_where.new.board.slots.items ≡ 7 + action_count r.0.task + action_count r.0.task = t.by_next.by_near.round.at.long ∙ t.by_next.by_near.round.places in
-    omega arith
-
-pub combine-requires-clause-a : goal.combine-requires-clause-a
-combine-requires-clause-a c = combine-requires-clause-place c
-
-pub combine-requires-clause-b : goal.combine-requires-clause-b
-combine-requires-clause-b c =
-    let r = c.requires.ready in
-    let h = went r.0 c.hit.new.enc c.hit.new.board.slots.items _ c.hit.result _ c.in_ok-hit.was (c.hit.ensures r.0 r.1 r.2 r.3 r.4 r.5) in
-    let t = went r.0 c.take_where.new.enc c.take_where.new.board.slots.items _ c.take_where.result _ c.in_ok-take_where.was (c.take_where.ensures r.0 r.1 r.2 r.3 r.4 _ h) in
-    let e : length c.take_where.new.board.slots.items ≡ 7 + action_count r.0.task + action_count r.0.task = t.by_next.by_near.round.at.long ∙ t.by_next.by_near.round.places in
-    omega arith
 
 pub returns : goal.returns
 returns c start left taken near next ready =
-    let h = went start c.hit.new.enc c.hit.new.board.slots.items _ c.hit.result _ c.in_ok-hit.was (c.hit.ensures start left taken near next ready) in
-    let t = went start c.take_where.new.enc c.take_where.new.board.slots.items _ c.take_where.result _ c.in_ok-take_where.was (c.take_where.ensures start left taken near next _ h) in
-    left_with start c.combine.new.enc c.combine.new.self.slots.items _ _ c.combine.result
-    (λ m. next_joined start c.take_where.new.enc c.combine.new.enc c.take_where.new.board.slots.items c.combine.new.self.slots.items left _ near next _ t m)
-    (c.combine.ensures start t.by_next.by_near.round.at)
+    c.join_hits.ensures start left taken near next
+    (went start c.is_joined.new.enc c.is_joined.new.board.slots.items _ c.is_joined.result _ c.in_ok-is_joined.was (c.is_joined.ensures.left start left taken near next ready))

@@ -12,10 +12,10 @@ use Rattle.encode_task.proofs.StepLemmas.{step_changed}
 use Rattle.encode_task.proofs.actions.encode_fluent.Goals as goal
 
 pub returns-clause-step : goal.returns-clause-step
-returns-clause-step c front change is done =
+returns-clause-step c front lit is done =
     let owns = answer_slot _ _ _ c.next_value.result _ c.in_ok-next.was c.next_value.ensures.answer in
-    subst (λ (changed : List (FluentId × SetId)). IsDone c.next_value.new.sets changed c.args.outcome.now (front ++ change ∷ [])) (sym c.in_ok-put.ensures)
-    (step_changed _ _ c.args.changed.now.items c.args.outcome.now c.args.f c.in_ok-next.next front change owns.kept
+    subst (λ (changed : List (FluentId × SetId)). IsDone c.next_value.new.sets changed c.args.outcome.now (front ++ lit ∷ [])) (sym c.in_ok-put.ensures)
+    (step_changed _ _ c.args.changed.now.items c.args.outcome.now c.args.f c.in_ok-next.next front lit owns.kept
     (record { live = one_live _ _ _ _ owns; holds = own_set _ _ _ _ [] [] owns }) is done)
 
 pub returns-clause-few : goal.returns-clause-few

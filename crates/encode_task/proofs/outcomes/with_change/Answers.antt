@@ -1,13 +1,22 @@
 -- What a change adds to the set.
-use Rattle.std.proofs.Common.{[], ◌∷◌, ◌+◌, ◌∙◌, ⊎_elim, arith, subst, sym}
+use Rattle.std.proofs.Common.{[], ◌∷◌, ◌==◌, ◌&&◌, ◌+◌, ◌∙◌, ⊎_elim, arith, subst, sym}
 use Rattle.std.proofs.lemmas.Bool.{leb-true}
 use Rattle.dd_nodes.specs.Subfunctions.{Function}
 use Rattle.dd_sets.specs.Frames.{Owns, OwnsAnswer}
-use Rattle.task_core.specs.Conditions.{depth}
+use Rattle.task_core.specs.Conditions.{depth, ids_below, is_shallow}
+use Rattle.task_core.specs.Initial.{lit_within}
+use Rattle.task_core.specs.Vectors.{same_value}
+use Rattle.task_core.specs.declared.literals.Lit.{Lit}
+use Rattle.task_core.proofs.Changes.{asked_of_each}
 use Rattle.dd_sets.proofs.RoomSteps.{room_answer, room_wider, room_released}
-use Rattle.encode_task.proofs.ChangeLemmas.{about, not_about}
+use Rattle.encode_task.proofs.ChangeLemmas.{about, not_about, said_of_each}
 use Rattle.dd_sets.proofs.OwnedLemmas.{both}
 use Rattle.encode_task.proofs.outcomes.with_change.Goals as goal
+
+pub set_where-answer-requires : goal.set_where-answer-requires
+set_where-answer-requires c =
+    asked_of_each (λ (lit : Lit). lit.fluent.0 == c.args.f.0 && same_value lit.positive c.args.positive) (lit_within c.args.sets.now.vars) (ids_below c.args.sets.now.vars c.args.change.now.cond) c.args.change.now.lits.items (sym c.is_about.ensures ∙ c.if-is_about.true)
+    c.requires.fluents
 
 pub returns-then-is_about-clause-answer : goal.returns-then-is_about-clause-answer
 returns-then-is_about-clause-answer c before set owns =
@@ -16,7 +25,12 @@ returns-then-is_about-clause-answer c before set owns =
 
 pub returns-then-is_about-clause-full : goal.returns-then-is_about-clause-full
 returns-then-is_about-clause-full c full = ⊎_elim
-    (λ refused. room_wider _ (depth c.args.change.now.cond + 4) 205 (omega (arith, leb-true (depth c.args.change.now.cond) 200 c.requires.shallow)) (room_released _ (c.set_where-answer.ensures.full refused.0) refused.1))
+    (λ refused. room_wider _ (depth c.args.change.now.cond + 4) 205
+    (omega (
+      arith,
+      leb-true (depth c.args.change.now.cond) 200
+          (said_of_each (λ (lit : Lit). lit.fluent.0 == c.args.f.0 && same_value lit.positive c.args.positive) (is_shallow c.args.change.now.cond) c.args.change.now.lits.items (sym c.is_about.ensures ∙ c.if-is_about.true) c.requires.shallow),
+    )) (room_released _ (c.set_where-answer.ensures.full refused.0) refused.1))
     (λ tight. room_answer _ _ _ c.set_where-answer.result 0 205 c.set_where-answer.ensures.answer (omega arith) tight)
     (c.in_some.ensures.full full)
 

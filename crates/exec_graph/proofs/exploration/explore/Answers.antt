@@ -8,7 +8,7 @@ use Rattle.exec_graph.specs.Counting.{add_configuration}
 use Rattle.exec_graph.specs.Drafts.{beginnings}
 use Rattle.exec_graph.specs.Moves.{IsPlaceWithin, configuration_of}
 use Rattle.exec_graph.specs.declared.exploration.Draft.{Draft}
-use Rattle.exec_graph.proofs.Visits.{count_is, few_initial, first_count, first_draft, graph_made, initial_differ, none_more, rows_inside}
+use Rattle.exec_graph.proofs.Visits.{count_is, few_initial, first_count, first_draft, graph_made, initial_differ, next_short, none_more, prev_short, rows_inside}
 use Rattle.exec_graph.proofs.exploration.explore.Goals as goal
 
 pub visit_all-requires-clause-few : goal.visit_all-requires-clause-few
@@ -39,6 +39,17 @@ pub turned-requires-clause-inside : goal.turned-requires-clause-inside
 turned-requires-clause-inside c =
     rows_inside (fluent_count c.args.task.now) (system_of c.args.task.now) (plain_of c.args.plan.now) c.visit_all.new.self
     c.in_ok-visit_all.ensures.searched c.in_ok-visit_all.ensures.whole
+
+pub into_graph-requires-clause-next_short : goal.into_graph-requires-clause-next_short
+into_graph-requires-clause-next_short c =
+    next_short (fluent_count c.args.task.now) (system_of c.args.task.now) (plain_of c.args.plan.now) c.visit_all.new.self
+    c.in_ok-visit_all.ensures.searched c.in_ok-visit_all.ensures.whole c.in_ok-visit_all.ensures.few
+
+pub into_graph-requires-clause-prev_short : goal.into_graph-requires-clause-prev_short
+into_graph-requires-clause-prev_short c =
+    prev_short (fluent_count c.args.task.now) (system_of c.args.task.now) (plain_of c.args.plan.now) c.visit_all.new.self
+    c.in_ok-visit_all.ensures.searched c.in_ok-visit_all.ensures.whole c.in_ok-visit_all.ensures.few
+    c.in_ok-prev.prev c.in_ok-prev.ensures.count c.in_ok-prev.ensures.turned
 
 pub returns-clause-graph : goal.returns-clause-graph
 returns-clause-graph c =

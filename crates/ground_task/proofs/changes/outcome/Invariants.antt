@@ -7,5 +7,5 @@ use Rattle.ground_task.proofs.changes.outcome.Given as goal
 
 abbrev pub invariant-loop-part : goal.invariant-loop-part
 invariant-loop-part l =
-    map change_value l.changes.items ++ flat_map (part_made (setting_in l.setting) l.fluents) (drop l.part-index l.parts)
+    flat_map change_value l.changes.items ++ flat_map (part_made (setting_in l.setting) l.fluents) (drop l.part-index l.parts)
     ≡ flat_map (part_made (setting_in l.setting) l.fluents) l.parts

@@ -34,8 +34,8 @@ returns-clause-answer g c =
 
 pub returns-in_err-read-clause-fetches : goal.returns-in_err-read-clause-fetches
 returns-in_err-read-clause-fetches g c =
-    inr ((c.in_ok-check_goal.ensures.goal, c.in_ok-grounded.ensures.within), c.read_plan_file.new.shelf, c.in_err-read.ensures.fetch, refl)
+    inr ((c.in_ok-check_goal.ensures.goal, c.in_ok-grounded.ensures.within), (c.read_plan_file.new.shelf, c.in_err-read.ensures.fetch, refl))
 
 pub returns-clause-fetches : goal.returns-clause-fetches
 returns-clause-fetches g c =
-    inr ((c.in_ok-check_goal.ensures.goal, c.in_ok-grounded.ensures.within), c.read_plan_file.new.shelf, c.in_ok-read.ensures.fetch, refl)
+    inr ((c.in_ok-check_goal.ensures.goal, c.in_ok-grounded.ensures.within), (c.read_plan_file.new.shelf, c.in_ok-read.ensures.fetch, refl))

@@ -23,5 +23,5 @@ of_task t wanted formula contexts rules (Err e) stands is = is
 
 pub returns : goal.returns
 returns c contexts rules graph =
-    of_task c.args.grounded.now.task c.args.grounded.now.ctl c.goal_in.result.now contexts rules c.check_ctl.result
-    c.goal_in.ensures (c.check_ctl.ensures.verdict contexts rules graph)
+    of_task c.args.grounded.now.task c.args.grounded.now.ctl c.goal_in.result.now contexts rules c.judge_ctl.result
+    c.goal_in.ensures (c.judge_ctl.ensures.verdict contexts rules graph)

@@ -1,6 +1,7 @@
 use Rattle.std.proofs.Common.{map, string_bytes, inr, refl, subst}
+use Rattle.plan_io.specs.Fetches.{FailedLast}
 use Rattle.mbp_top.specs.Fetching.{FetchesFiles}
-use Rattle.mbp_top.specs.Values.{check_words_of, drill_words_of, ground_words_of, plan_words_of, replay_words_of}
+use Rattle.mbp_top.specs.Values.{answer_of, check_words_of, drill_words_of, ground_words_of, plan_words_of, replay_words_of}
 use Rattle.mbp_top.specs.Words.{Command, plan, ground, check, replay, drill}
 use Rattle.mbp_top.proofs.ByCommand.{one_command}
 use Rattle.mbp_top.proofs.commands.answer.Goals as goal
@@ -10,7 +11,7 @@ returns-in-Plan-clause-cause g c = inr (plan (plan_words_of c.in-Plan.asked), c.
 
 pub returns-in-Plan-clause-fetches : goal.returns-in-Plan-clause-fetches
 returns-in-Plan-clause-fetches g c = λ command says.
-    subst (λ (said : Command). FetchesFiles (g.S.Shelf.held c.args.shelf.now) g.S.Shelf.fetched said c.args.shelf.now c.plan_files.new.shelf)
+    subst (λ (said : Command). FetchesFiles (g.S.Shelf.held c.args.shelf.now) (FailedLast g.S.Shelf.fetched g.S.Shelf.faults c.args.shelf.now c.plan_files.new.shelf) g.S.Shelf.fetched said (answer_of c.plan_files.result) c.args.shelf.now c.plan_files.new.shelf)
     (one_command (map string_bytes c.args.words.now) (plan (plan_words_of c.in-Plan.asked)) command c.in-Plan.ensures says)
     c.plan_files.ensures.fetches
 
@@ -22,7 +23,7 @@ returns-in-Ground-clause-cause g c = inr (ground (ground_words_of c.in-Ground.as
 
 pub returns-in-Ground-clause-fetches : goal.returns-in-Ground-clause-fetches
 returns-in-Ground-clause-fetches g c = λ command says.
-    subst (λ (said : Command). FetchesFiles (g.S.Shelf.held c.args.shelf.now) g.S.Shelf.fetched said c.args.shelf.now c.ground_files.new.shelf)
+    subst (λ (said : Command). FetchesFiles (g.S.Shelf.held c.args.shelf.now) (FailedLast g.S.Shelf.fetched g.S.Shelf.faults c.args.shelf.now c.ground_files.new.shelf) g.S.Shelf.fetched said (answer_of c.ground_files.result) c.args.shelf.now c.ground_files.new.shelf)
     (one_command (map string_bytes c.args.words.now) (ground (ground_words_of c.in-Ground.asked)) command c.in-Ground.ensures says)
     c.ground_files.ensures.fetches
 
@@ -34,7 +35,7 @@ returns-in-Check-clause-cause g c = inr (check (check_words_of c.in-Check.asked)
 
 pub returns-in-Check-clause-fetches : goal.returns-in-Check-clause-fetches
 returns-in-Check-clause-fetches g c = λ command says.
-    subst (λ (said : Command). FetchesFiles (g.S.Shelf.held c.args.shelf.now) g.S.Shelf.fetched said c.args.shelf.now c.check_files.new.shelf)
+    subst (λ (said : Command). FetchesFiles (g.S.Shelf.held c.args.shelf.now) (FailedLast g.S.Shelf.fetched g.S.Shelf.faults c.args.shelf.now c.check_files.new.shelf) g.S.Shelf.fetched said (answer_of c.check_files.result) c.args.shelf.now c.check_files.new.shelf)
     (one_command (map string_bytes c.args.words.now) (check (check_words_of c.in-Check.asked)) command c.in-Check.ensures says)
     c.check_files.ensures.fetches
 
@@ -46,7 +47,7 @@ returns-in-Replay-clause-cause g c = inr (replay (replay_words_of c.in-Replay.as
 
 pub returns-in-Replay-clause-fetches : goal.returns-in-Replay-clause-fetches
 returns-in-Replay-clause-fetches g c = λ command says.
-    subst (λ (said : Command). FetchesFiles (g.S.Shelf.held c.args.shelf.now) g.S.Shelf.fetched said c.args.shelf.now c.replay_files.new.shelf)
+    subst (λ (said : Command). FetchesFiles (g.S.Shelf.held c.args.shelf.now) (FailedLast g.S.Shelf.fetched g.S.Shelf.faults c.args.shelf.now c.replay_files.new.shelf) g.S.Shelf.fetched said (answer_of c.replay_files.result) c.args.shelf.now c.replay_files.new.shelf)
     (one_command (map string_bytes c.args.words.now) (replay (replay_words_of c.in-Replay.asked)) command c.in-Replay.ensures says)
     c.replay_files.ensures.fetches
 
@@ -58,7 +59,7 @@ returns-in-Drill-clause-cause g c = inr (drill (drill_words_of c.in-Drill.asked)
 
 pub returns-in-Drill-clause-fetches : goal.returns-in-Drill-clause-fetches
 returns-in-Drill-clause-fetches g c = λ command says.
-    subst (λ (said : Command). FetchesFiles (g.S.Shelf.held c.args.shelf.now) g.S.Shelf.fetched said c.args.shelf.now c.args.shelf.now)
+    subst (λ (said : Command). FetchesFiles (g.S.Shelf.held c.args.shelf.now) (FailedLast g.S.Shelf.fetched g.S.Shelf.faults c.args.shelf.now c.args.shelf.now) g.S.Shelf.fetched said (answer_of c.run_drill.result) c.args.shelf.now c.args.shelf.now)
     (one_command (map string_bytes c.args.words.now) (drill (drill_words_of c.in-Drill.asked)) command c.in-Drill.ensures says)
     refl
 

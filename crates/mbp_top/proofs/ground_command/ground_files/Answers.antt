@@ -19,3 +19,8 @@ returns-clause-answer g c =
     let failed = FailedLast g.S.Shelf.fetched g.S.Shelf.faults c.args.shelf.now c.read_both.new.shelf in
     let asked = ground_words_of c.args.asked.now in
     after_both held failed asked.domain asked.problem IsListed _ _ _ c.in_ok-domain.ensures.holds c.list_grounded.ensures
+
+pub returns-in_err-domain-clause-fetches : goal.returns-in_err-domain-clause-fetches
+returns-in_err-domain-clause-fetches g c =
+    let p = err_from_is_err_and c.from_residual.result c.from_residual.ensures.1 in
+    rw (p.1, p.2) c.in_err-domain.ensures.stopped

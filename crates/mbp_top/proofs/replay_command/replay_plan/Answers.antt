@@ -1,4 +1,4 @@
-use Rattle.std.proofs.Common.{inr, map, refl}
+use Rattle.std.proofs.Common.{map, refl}
 use Rattle.std.proofs.lemmas.Result.{err_from_is_err_and}
 use Rattle.exec_graph.specs.Initials.{HasTooManyInitial}
 use Rattle.plan_io.specs.Fetches.{FailedLast}
@@ -22,10 +22,6 @@ returns-in_err-recorded-clause-answer g c =
     rw (p.1, p.2) (record_refused held failed tallies c.args.name.now (action_names task) (HasTooManyInitial task most_followed) (system_of task) (plain_of c.args.plan.now)
     (refusal_of c.in_err-recorded.field-0.0) c.in_err-recorded.ensures.refused)
 
-pub returns-in_err-recorded-clause-fetches : goal.returns-in_err-recorded-clause-fetches
-returns-in_err-recorded-clause-fetches g c =
-    inr (tt, c.read_record_file.new.shelf, c.in_err-recorded.ensures.fetch, refl)
-
 pub returns-clause-answer : goal.returns-clause-answer
 returns-clause-answer g c =
     let held = g.S.Shelf.held c.args.shelf.now in
@@ -35,6 +31,8 @@ returns-clause-answer g c =
     record_answer held failed tallies c.args.name.now (action_names task) (HasTooManyInitial task most_followed) (system_of task) (plain_of c.args.plan.now)
     (record_value c.in_ok-recorded.recorded) (answer_of c.replay_record.result) c.in_ok-recorded.ensures.holds c.replay_record.ensures
 
+pub returns-in_err-recorded-clause-fetches : goal.returns-in_err-recorded-clause-fetches
+returns-in_err-recorded-clause-fetches g c = (c.read_record_file.new.shelf, c.in_err-recorded.ensures.fetch, refl)
+
 pub returns-clause-fetches : goal.returns-clause-fetches
-returns-clause-fetches g c =
-    inr (tt, c.read_record_file.new.shelf, c.in_ok-recorded.ensures.fetch, refl)
+returns-clause-fetches g c = (c.read_record_file.new.shelf, c.in_ok-recorded.ensures.fetch, refl)

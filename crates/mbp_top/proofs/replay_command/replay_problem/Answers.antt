@@ -1,18 +1,13 @@
-use Rattle.std.proofs.Common.{◌≡◌, map, None}
-use Rattle.std.specs.Prelude.{⊤}
+use Rattle.std.proofs.Common.{inr, map}
 use Rattle.std.proofs.lemmas.Result.{err_from_is_err_and}
 use Rattle.pddl_ast.specs.Values.{domain_value, problem_value}
-use Rattle.pddl_system.specs.Sizes.{first_passed}
 use Rattle.pddl_system.specs.Systems.{action_names, fluent_names, system}
 use Rattle.plan_io.specs.Fetches.{FailedLast}
 use Rattle.run_replay.specs.TraceTexts.{tallies_of}
-use Rattle.task_core.specs.Tasks.{action_names as names_of_actions, fluent_names as names_of_fluents}
 use Rattle.mbp_top.specs.CheckCommand.{HasTooManyStates}
-use Rattle.mbp_top.specs.Fetching.{HoldsSomePlan}
 use Rattle.mbp_top.specs.ReplayCommand.{ReplayThen, Tallies}
 use Rattle.mbp_top.specs.Values.{answer_of, refusal_of, replay_words_of}
-use Rattle.mbp_top.proofs.Later.{run_map, some_plan}
-use Rattle.mbp_top.proofs.Listings.{same_actions, same_fluents}
+use Rattle.mbp_top.proofs.Fetched.{task_fetched}
 use Rattle.mbp_top.proofs.ReplayAnswers.{ground_refused, replay_answer}
 use Rattle.mbp_top.proofs.replay_command.replay_problem.Goals as goal
 
@@ -38,14 +33,9 @@ returns-clause-answer g c =
 pub returns-clause-fetches : goal.returns-clause-fetches
 returns-clause-fetches g c =
     let held = g.S.Shelf.held c.args.shelf.now in
-    let asked = replay_words_of c.args.asked.now in
-    let domain = domain_value c.args.domain.now in
-    let problem = problem_value c.args.problem.now in
-    let task = c.in_ok-task.task in
-    let is = c.in_ok-task.ensures.task in
-    run_map g.S.Shelf.fetched asked ⊤ (first_passed domain problem ≡ None)
-    (HoldsSomePlan held (names_of_fluents task) (names_of_actions task) asked.plan) (HoldsSomePlan held (fluent_names domain problem) (action_names domain problem) asked.plan)
-    c.args.shelf.now c.replay_task.new.shelf (λ t. c.in_ok-task.ensures.within)
-    (some_plan held (names_of_fluents task) (fluent_names domain problem) (names_of_actions task) (action_names domain problem) asked.plan
-    (same_fluents domain problem task is) (same_actions domain problem task is))
-    c.replay_task.ensures.fetches
+    let failed = FailedLast g.S.Shelf.fetched g.S.Shelf.faults c.args.shelf.now c.replay_task.new.shelf in
+    inr (
+      c.in_ok-task.ensures.within,
+      task_fetched held failed g.S.Shelf.fetched (replay_words_of c.args.asked.now) (domain_value c.args.domain.now) (problem_value c.args.problem.now) c.in_ok-task.task _
+          c.args.shelf.now c.replay_task.new.shelf c.in_ok-task.ensures.task c.replay_task.ensures.fetches,
+    )

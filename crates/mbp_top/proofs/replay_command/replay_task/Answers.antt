@@ -1,16 +1,15 @@
 use Rattle.std.proofs.Common.{inl, inr, map, refl}
-use Rattle.std.specs.Prelude.{⊤}
 use Rattle.std.proofs.lemmas.Result.{err_from_is_err_and}
 use Rattle.exec_graph.specs.Initials.{HasTooManyInitial}
-use Rattle.plan_io.specs.Fetches.{FailedLast, FetchesNothing}
+use Rattle.plan_io.specs.Fetches.{FailedLast}
 use Rattle.plan_rules.specs.Rules.{plain_of}
 use Rattle.run_replay.specs.TraceTexts.{tallies_of}
 use Rattle.task_core.specs.Tasks.{action_names, fluent_names, system_of}
 use Rattle.mbp_top.specs.CheckCommand.{most_followed}
-use Rattle.mbp_top.specs.Fetching.{HoldsSomePlan}
 use Rattle.mbp_top.specs.ReplayCommand.{Tallies}
 use Rattle.mbp_top.specs.Values.{answer_of, placed_of, refusal_of, replay_words_of}
-use Rattle.mbp_top.proofs.Later.{failed_over, may_map}
+use Rattle.mbp_top.proofs.Fetched.{plan_stops}
+use Rattle.mbp_top.proofs.Later.{failed_over}
 use Rattle.mbp_top.proofs.ReplayAnswers.{plan_answer, plan_refused, record_later}
 use Rattle.mbp_top.proofs.replay_command.replay_task.Goals as goal
 
@@ -23,10 +22,6 @@ returns-in_err-read-clause-answer g c =
     let task = c.args.task.now in
     rw (p.1, p.2) (plan_refused held failed tallies (replay_words_of c.args.asked.now) (fluent_names task) (action_names task) (HasTooManyInitial task most_followed) (system_of task)
     (refusal_of c.in_err-read.field-0.0) c.in_err-read.ensures.refused)
-
-pub returns-in_err-read-clause-fetches : goal.returns-in_err-read-clause-fetches
-returns-in_err-read-clause-fetches g c =
-    inr (tt, c.read_plan_file.new.shelf, c.in_err-read.ensures.fetch, inl refl)
 
 pub returns-clause-answer : goal.returns-clause-answer
 returns-clause-answer g c =
@@ -45,15 +40,22 @@ returns-clause-answer g c =
     plan_answer held failed tallies (replay_words_of c.args.asked.now) (fluent_names task) actions many sys (placed_of c.in_ok-read.read) (answer_of c.replay_plan.result) c.in_ok-read.ensures.holds
     (record_later held held' failed failed' tallies name actions many sys (plain_of c.in_ok-read.read.plan) (answer_of c.replay_plan.result) c.in_ok-read.ensures.kept over c.replay_plan.ensures.answer)
 
+pub returns-in_err-read-clause-fetches : goal.returns-in_err-read-clause-fetches
+returns-in_err-read-clause-fetches g c =
+    let p = err_from_is_err_and c.from_residual.result c.from_residual.ensures.1 in
+    let held = g.S.Shelf.held c.args.shelf.now in
+    let failed = FailedLast g.S.Shelf.fetched g.S.Shelf.faults c.args.shelf.now c.read_plan_file.new.shelf in
+    let task = c.args.task.now in
+    rw (p.1, p.2) (
+      c.read_plan_file.new.shelf,
+      c.in_err-read.ensures.fetch,
+      inl (plan_stops held failed (fluent_names task) (action_names task) c.args.asked.now.plan.now (refusal_of c.in_err-read.field-0.0) c.in_err-read.ensures.refused, refl),
+    )
+
 pub returns-clause-fetches : goal.returns-clause-fetches
 returns-clause-fetches g c =
-    let task = c.args.task.now in
-    let placed = placed_of c.in_ok-read.read in
-    inr (
-      tt,
+    let placed = placed_of c.in_ok-read.read in (
       c.read_plan_file.new.shelf,
       c.in_ok-read.ensures.fetch,
-      may_map g.S.Shelf.fetched ⊤ (HoldsSomePlan (g.S.Shelf.held c.args.shelf.now) (fluent_names task) (action_names task) c.args.asked.now.plan.now) c.args.asked.now.recorded.now
-          FetchesNothing FetchesNothing c.read_plan_file.new.shelf c.replay_plan.new.shelf
-          (λ t. (placed.plan, record { place = placed.place; holds = c.in_ok-read.ensures.holds })) (λ x y same. same) c.replay_plan.ensures.fetches,
+      inr ((placed.plan, record { place = placed.place; holds = c.in_ok-read.ensures.holds }), c.replay_plan.ensures.fetches),
     )

@@ -5,10 +5,10 @@ use Rattle.std.proofs.lemmas.List.{nil_from_length}
 use Rattle.exec_graph.specs.Values.{followers_at}
 use Rattle.plan_check.specs.Plain.{is_goal_at}
 use Rattle.plan_check.proofs.ends.has_end_outside.Goals as goal
-use Rattle.plan_check.proofs.ends.has_end_outside.Goals.{else-is_empty-via-then-is_empty+else-not-is_goal, else-is_empty-via-else-is_empty}
+use Rattle.plan_check.proofs.ends.has_end_outside.Goals.{else-is_end-via-then-is_end+else-not-is_goal, else-is_end-via-else-is_end}
 
-pub next-requires : goal.next-requires
-next-requires c = omega (arith, c.len-i-end.ensures.size 0)
+pub is_end-requires : goal.is_end-requires
+is_end-requires c = omega (arith, c.len-i-end.ensures.size 0)
 
 pub is_goal-requires-clause-number : goal.is_goal-requires-clause-number
 is_goal-requires-clause-number c = omega (arith, c.len-i-end.ensures.size 0)
@@ -18,7 +18,7 @@ returns-then-not-is_goal c = λ n below.
     record {
       number = c.loop-i.i;
       below = omega (arith, c.len-i-end.ensures.size 0);
-      end = c.next.ensures 0 ∙ nil_from_length c.next.result.now (eqb-true (length c.next.result.now) 0 (sym c.is_empty.ensures ∙ c.if-is_empty.true));
+      end = nil_from_length (followers_at c.args.graph.now c.loop-i.i) (eqb-true (length (followers_at c.args.graph.now c.loop-i.i)) 0 (sym c.is_end.ensures ∙ c.if-is_end.true));
       outside = sym (c.is_goal.ensures n below) ∙ c.if-not-is_goal.true;
     }
 
@@ -26,9 +26,9 @@ pub loop-i-preserved : goal.loop-i-preserved
 loop-i-preserved c = λ n k below l.
     below_more (λ j. followers_at c.args.graph.now j ≡ [] → is_goal_at n c.args.goal.now c.args.graph.now j ≡ true) c.loop-i.i
     (λ j m. c.loop-i.invariant n j below m)
-    (elim c.else-is_empty.branch [
-      | else-is_empty-via-then-is_empty+else-not-is_goal w ↦ λ _. sym (w.is_goal.ensures n below) ∙ w.if-not-is_goal.false
-      | else-is_empty-via-else-is_empty w ↦ λ e. absurd (false≢true (sym w.if-is_empty.false ∙ (c.is_empty.ensures ∙ ap (λ xs. eqb (length xs) 0) (sym (c.next.ensures 0) ∙ e))))
+    (elim c.else-is_end.branch [
+      | else-is_end-via-then-is_end+else-not-is_goal w ↦ λ _. sym (w.is_goal.ensures n below) ∙ w.if-not-is_goal.false
+      | else-is_end-via-else-is_end w ↦ λ e. absurd (false≢true (sym w.if-is_end.false ∙ (c.is_end.ensures ∙ ap (λ xs. eqb (length xs) 0) e)))
     ])
     k l
 

@@ -7,11 +7,12 @@ use Rattle.dd_sets.specs.LiveSets.{set_of}
 use Rattle.dd_sets.specs.declared.errors.SetErr.TheVariants.{Full, Memory}
 use Rattle.task_core.specs.Tasks.{outcomes_at}
 use Rattle.encode_task.specs.Slots.{Encoded, outcome_slots}
-use Rattle.dd_sets.proofs.OwnedLemmas.{answer_kept, both}
+use Rattle.dd_sets.proofs.OwnLemmas.{own_one}
+use Rattle.dd_sets.proofs.OwnedLemmas.{answer_kept, both, one_live}
 use Rattle.dd_sets.proofs.RoomSteps.{room_join}
 use Rattle.encode_task.proofs.PartLemmas.{answer_ready, answer_refusal, answer_slot, same_refusal}
 use Rattle.preimage.proofs.FrameSteps.{exec_holds, led_answer, made_now, same_chain}
-use Rattle.preimage.proofs.OutcomeLemmas.{exec_side, side_more, side_whole}
+use Rattle.preimage.proofs.OutcomeLemmas.{exec_side, side_after, side_emptied, side_more, side_whole}
 use Rattle.preimage.proofs.preimages.all_on_side.Goals as goal
 
 pub exec-exec-requires : goal.exec-exec-requires
@@ -49,6 +50,31 @@ loop-o-init c = record {
       ((exec_holds task c.args.enc.now c.args.a.0 c.exec-exec.result made c.requires.action c.exec-exec.ensures).holds ∙ exec_side c.args.side task c.args.a.0 (set_of c.args.enc.now.sets c.args.x.0))
       (answer_slot _ _ _ c.copied.result _ c.in_ok-rest.was c.copied.ensures.answer);
 }
+
+-- nothing is left
+pub is_none-requires : goal.is_none-requires
+is_none-requires c = let owns = c.loop-o.invariant.owns c.requires.made.0 c.requires.made.1 in one_live _ _ _ _ owns
+
+pub returns-then-is_none-clause-answer : goal.returns-then-is_none-clause-answer
+returns-then-is_none-clause-answer c task made =
+    let owns = c.loop-o.invariant.owns task made in
+    let there : length (outcome_slots c.copied.new.enc c.args.a.0) ≡ length (outcome_slots c.args.enc.now c.args.a.0) = ap (λ (e : Encoded). length (outcome_slots e c.args.a.0)) c.copied.ensures.same_slots in
+    let within : c.loop-o.o < length (outcomes_at task c.args.a.0) = omega (arith, c.outcomes-o-end.ensures, made.outcomes c.args.a.0) in
+    let holds = (own_one c.args.enc.now.sets c.loop-o.enc.sets c.loop-o.rest.0 (side_after c.args.side task c.args.a.0 (set_of c.args.enc.now.sets c.args.x.0) c.loop-o.o) owns).holds in
+    subst (λ (f : Function). Owns c.args.enc.now.sets c.loop-o.enc.sets ((c.loop-o.rest.0, f) ∷ []))
+    (side_emptied c.args.side task c.args.a.0 c.loop-o.o (set_of c.args.enc.now.sets c.args.x.0) within (sym holds ∙ c.is_none.ensures.0 c.if-is_none.true)) owns
+
+pub returns-then-is_none-clause-full : goal.returns-then-is_none-clause-full
+returns-then-is_none-clause-full c full = cc
+
+pub returns-then-is_none-clause-same_slots : goal.returns-then-is_none-clause-same_slots
+returns-then-is_none-clause-same_slots c = c.loop-o.invariant.same
+
+pub returns-then-is_none-clause-made : goal.returns-then-is_none-clause-made
+returns-then-is_none-clause-made c task made = made_now task c.args.enc.now c.loop-o.enc c.loop-o.invariant.same (c.loop-o.invariant.owns task made).kept made
+
+pub returns-then-is_none-clause-sound : goal.returns-then-is_none-clause-sound
+returns-then-is_none-clause-sound c = c.loop-o.invariant.sound
 
 pub led_into-led-requires-clause-ready : goal.led_into-led-requires-clause-ready
 led_into-led-requires-clause-ready c =

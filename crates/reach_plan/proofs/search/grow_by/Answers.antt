@@ -1,106 +1,78 @@
--- Where the action leads into the layer, what it takes, and the next layer with that.
-use Rattle.std.proofs.Common.{◌≡◌, ℕ, arith, length, ap}
+-- Where the action leads into the layer, whether it is spent, and the next layer with that.
+use Rattle.std.proofs.Common.{◌≡◌, ◌+◌, ◌∙◌, ℕ, Bool, false, List, arith, length, ap, subst, sym}
+use Rattle.std.specs.Prelude.{slice_index_or}
+use Rattle.std.proofs.lemmas.List.{length-set}
 use Rattle.std.proofs.lemmas.Result.{err_from_is_err_and}
 use Rattle.dd_nodes.specs.Subfunctions.{Function}
 use Rattle.slot_board.specs.Board.{led}
-use Rattle.slot_board.proofs.BoardSlots.{left_with, passed, went}
+use Rattle.slot_board.proofs.BoardSlots.{action_within, left_with, passed, same_actions, went}
 use Rattle.task_core.specs.declared.tasks.Task.{Task}
-use Rattle.reach_plan.specs.LayerSets.{class_preimage, grown, taken_by}
-use Rattle.reach_plan.proofs.SearchSteps.{grown_by, hits_found}
+use Rattle.reach_plan.specs.LayerSets.{class_preimage, grown}
+use Rattle.reach_plan.specs.Searches.{HasGrown}
+use Rattle.reach_plan.proofs.SearchSteps.{grown_on, grown_spent, hits_found}
 use Rattle.reach_plan.proofs.search.grow_by.Goals as goal
 
+pub returns-then-is_noted : goal.returns-then-is_noted
+returns-then-is_noted c start f h ready =
+    grown_spent c.args.class start c.args.enc.now c.args.board.now.slots.items f h c.args.a c.args.steps.now.items c.args.spent.now.items ready
+    (action_within start c.args.enc.now c.args.board.now.slots.items c.args.a.0 ready.by_next.by_layer.at c.requires.action)
+    (sym (ap (λ marks. slice_index_or marks c.args.a.0 false) c.deref.ensures.value) ∙ sym c.is_noted.ensures ∙ c.if-is_noted.true)
+
 pub lead-requires-clause-working : goal.lead-requires-clause-working
-lead-requires-clause-working c = let r = c.requires.ready in (r.0, r.3.by_layer.at)
+lead-requires-clause-working c = let r = c.requires.ready in (r.0, r.3.by_next.by_layer.at)
 
 pub returns-in_err-lead : goal.returns-in_err-lead
 returns-in_err-lead c start f h ready =
     let p = err_from_is_err_and c.from_residual.result c.from_residual.ensures.1 in
-    passed start c.lead.new.enc c.lead.new.self.slots.items _ _ c.lead.result c.from_residual.result _ c.in_err-lead.was p (c.lead.ensures start ready.by_layer.at)
+    passed start c.lead.new.enc c.lead.new.self.slots.items _ _ c.lead.result c.from_residual.result _ c.in_err-lead.was p (c.lead.ensures start ready.by_next.by_layer.at)
 
-pub take-requires-clause-ready : goal.take-requires-clause-ready
-take-requires-clause-ready c =
+pub has_all-requires-clause-ready : goal.has_all-requires-clause-ready
+has_all-requires-clause-ready c =
     let r = c.requires.ready in
-    let m = went r.0 c.lead.new.enc c.lead.new.self.slots.items _ c.lead.result _ c.in_ok-lead.was (c.lead.ensures r.0 r.3.by_layer.at) in (
+    (r.0, (went r.0 c.lead.new.enc c.lead.new.self.slots.items _ c.lead.result _ c.in_ok-lead.was (c.lead.ensures r.0 r.3.by_next.by_layer.at)).at)
+
+pub has_all-requires-clause-place : goal.has_all-requires-clause-place
+has_all-requires-clause-place c =
+    let r = c.requires.ready in
+    let now : length c.lead.new.self.slots.items ≡ r.0.places = (went r.0 c.lead.new.enc c.lead.new.self.slots.items _ c.lead.result _ c.in_ok-lead.was (c.lead.ensures r.0 r.3.by_next.by_layer.at)).at.long in
+    let was : length c.args.board.now.slots.items ≡ r.0.places = r.3.by_next.by_layer.at.long in
+    omega (arith, c.requires.places)
+
+pub has_all-requires-clause-action : goal.has_all-requires-clause-action
+has_all-requires-clause-action c =
+    let r = c.requires.ready in
+    let m = went r.0 c.lead.new.enc c.lead.new.self.slots.items _ c.lead.result _ c.in_ok-lead.was (c.lead.ensures r.0 r.3.by_next.by_layer.at) in
+    let e : length c.lead.new.enc.actions ≡ length c.args.enc.now.actions = same_actions r.0 c.args.enc.now c.lead.new.enc c.args.board.now.slots.items c.lead.new.self.slots.items r.3.by_next.by_layer.at m.at in
+    omega (arith, c.requires.action)
+
+pub join_hits-requires-clause-ready : goal.join_hits-requires-clause-ready
+join_hits-requires-clause-ready c =
+    let r = c.requires.ready in
+    let m = went r.0 c.lead.new.enc c.lead.new.self.slots.items _ c.lead.result _ c.in_ok-lead.was (c.lead.ensures r.0 r.3.by_next.by_layer.at) in (
       r.0,
       r.1,
-      taken_by c.args.class r.0.task r.1 r.2 c.args.a.0,
       grown c.args.class r.0.task r.1 c.args.a.0,
       class_preimage c.args.class r.0.task c.args.a.0 r.1,
-      hits_found r.0 c.args.enc.now c.lead.new.enc c.args.board.now.slots.items c.lead.new.self.slots.items c.args.takers c.args.class c.args.a.0 r.1 _ _ (led c.outcomes_of.result r.0.task c.args.a.0) c.requires.places r.3
+      hits_found r.0 c.args.enc.now c.lead.new.enc c.args.board.now.slots.items c.lead.new.self.slots.items 0 c.args.class c.args.a.0 r.1 _ _ (led c.outcomes_of.result r.0.task c.args.a.0) c.requires.places r.3.by_next
           (λ s. ap (λ (l : Task → ℕ → Function → Function). l r.0.task c.args.a.0 s) c.outcomes_of.ensures) m,
     )
 
-pub take-requires-clause-places : goal.take-requires-clause-places
-take-requires-clause-places c =
+pub join_hits-requires-clause-places : goal.join_hits-requires-clause-places
+join_hits-requires-clause-places c =
     let r = c.requires.ready in
-    let m = went r.0 c.lead.new.enc c.lead.new.self.slots.items _ c.lead.result _ c.in_ok-lead.was (c.lead.ensures r.0 r.3.by_layer.at) in
-    let now : length c.lead.new.self.slots.items ≡ r.0.places = m.at.long in
-    let was : length c.args.board.now.slots.items ≡ r.0.places = r.3.by_layer.at.long in
-    omega (arith, c.requires.places)
-
-pub returns-in_err-take : goal.returns-in_err-take
-returns-in_err-take c start f h ready =
-    let p = err_from_is_err_and c.from_residual-in_err-take.result c.from_residual-in_err-take.ensures.1 in
-    let m = went start c.lead.new.enc c.lead.new.self.slots.items _ c.lead.result _ c.in_ok-lead.was (c.lead.ensures start ready.by_layer.at) in
-    let hits =
-    hits_found start c.args.enc.now c.lead.new.enc c.args.board.now.slots.items c.lead.new.self.slots.items c.args.takers c.args.class c.args.a.0 f _ _ (led c.outcomes_of.result start.task c.args.a.0) c.requires.places ready
-    (λ s. ap (λ (l : Task → ℕ → Function → Function). l start.task c.args.a.0 s) c.outcomes_of.ensures) m in
-    passed start c.take.new.enc c.take.new.board.slots.items _ _ c.take.result c.from_residual-in_err-take.result _ c.in_err-take.was p (c.take.ensures start f _ _ _ hits)
-
-pub combine-requires-clause-working : goal.combine-requires-clause-working
-combine-requires-clause-working c =
-    let r = c.requires.ready in
-    let m = went r.0 c.lead.new.enc c.lead.new.self.slots.items _ c.lead.result _ c.in_ok-lead.was (c.lead.ensures r.0 r.3.by_layer.at) in
-    let hits =
-    hits_found r.0 c.args.enc.now c.lead.new.enc c.args.board.now.slots.items c.lead.new.self.slots.items c.args.takers c.args.class c.args.a.0 r.1 _ _ (led c.outcomes_of.result r.0.task c.args.a.0) c.requires.places r.3
-    (λ s. ap (λ (l : Task → ℕ → Function → Function). l r.0.task c.args.a.0 s) c.outcomes_of.ensures) m in
-    (r.0, (went r.0 c.take.new.enc c.take.new.board.slots.items _ c.take.result _ c.in_ok-take.was (c.take.ensures r.0 r.1 _ _ _ hits)).by_next.by_layer.at)
-
-pub combine-requires-clause-place : goal.combine-requires-clause-place
-combine-requires-clause-place c =
-    let r = c.requires.ready in
-    let m = went r.0 c.lead.new.enc c.lead.new.self.slots.items _ c.lead.result _ c.in_ok-lead.was (c.lead.ensures r.0 r.3.by_layer.at) in
-    let hits =
-    hits_found r.0 c.args.enc.now c.lead.new.enc c.args.board.now.slots.items c.lead.new.self.slots.items c.args.takers c.args.class c.args.a.0 r.1 _ _ (led c.outcomes_of.result r.0.task c.args.a.0) c.requires.places r.3
-    (λ s. ap (λ (l : Task → ℕ → Function → Function). l r.0.task c.args.a.0 s) c.outcomes_of.ensures) m in
-    let at = (went r.0 c.take.new.enc c.take.new.board.slots.items _ c.take.result _ c.in_ok-take.was (c.take.ensures r.0 r.1 _ _ _ hits)).by_next.by_layer.at in
-    let now : length c.take.new.board.slots.items ≡ r.0.places = at.long in
-    let was : length c.args.board.now.slots.items ≡ r.0.places = r.3.by_layer.at.long in
-    omega (arith, c.requires.places)
-
-pub combine-requires-clause-a : goal.combine-requires-clause-a
-combine-requires-clause-a c =
-    let r = c.requires.ready in
-    let m = went r.0 c.lead.new.enc c.lead.new.self.slots.items _ c.lead.result _ c.in_ok-lead.was (c.lead.ensures r.0 r.3.by_layer.at) in
-    let hits =
-    hits_found r.0 c.args.enc.now c.lead.new.enc c.args.board.now.slots.items c.lead.new.self.slots.items c.args.takers c.args.class c.args.a.0 r.1 _ _ (led c.outcomes_of.result r.0.task c.args.a.0) c.requires.places r.3
-    (λ s. ap (λ (l : Task → ℕ → Function → Function). l r.0.task c.args.a.0 s) c.outcomes_of.ensures) m in
-    let at = (went r.0 c.take.new.enc c.take.new.board.slots.items _ c.take.result _ c.in_ok-take.was (c.take.ensures r.0 r.1 _ _ _ hits)).by_next.by_layer.at in
-    let now : length c.take.new.board.slots.items ≡ r.0.places = at.long in
-    let was : length c.args.board.now.slots.items ≡ r.0.places = r.3.by_layer.at.long in
-    omega (arith, c.requires.places)
-
-pub combine-requires-clause-b : goal.combine-requires-clause-b
-combine-requires-clause-b c =
-    let r = c.requires.ready in
-    let m = went r.0 c.lead.new.enc c.lead.new.self.slots.items _ c.lead.result _ c.in_ok-lead.was (c.lead.ensures r.0 r.3.by_layer.at) in
-    let hits =
-    hits_found r.0 c.args.enc.now c.lead.new.enc c.args.board.now.slots.items c.lead.new.self.slots.items c.args.takers c.args.class c.args.a.0 r.1 _ _ (led c.outcomes_of.result r.0.task c.args.a.0) c.requires.places r.3
-    (λ s. ap (λ (l : Task → ℕ → Function → Function). l r.0.task c.args.a.0 s) c.outcomes_of.ensures) m in
-    let at = (went r.0 c.take.new.enc c.take.new.board.slots.items _ c.take.result _ c.in_ok-take.was (c.take.ensures r.0 r.1 _ _ _ hits)).by_next.by_layer.at in
-    let now : length c.take.new.board.slots.items ≡ r.0.places = at.long in
-    let was : length c.args.board.now.slots.items ≡ r.0.places = r.3.by_layer.at.long in
+    let now : length c.lead.new.self.slots.items ≡ r.0.places = (went r.0 c.lead.new.enc c.lead.new.self.slots.items _ c.lead.result _ c.in_ok-lead.was (c.lead.ensures r.0 r.3.by_next.by_layer.at)).at.long in
+    let was : length c.args.board.now.slots.items ≡ r.0.places = r.3.by_next.by_layer.at.long in
     omega (arith, c.requires.places)
 
 pub returns : goal.returns
 returns c start f h ready =
-    let m = went start c.lead.new.enc c.lead.new.self.slots.items _ c.lead.result _ c.in_ok-lead.was (c.lead.ensures start ready.by_layer.at) in
+    let m = went start c.lead.new.enc c.lead.new.self.slots.items _ c.lead.result _ c.in_ok-lead.was (c.lead.ensures start ready.by_next.by_layer.at) in
     let hits =
-    hits_found start c.args.enc.now c.lead.new.enc c.args.board.now.slots.items c.lead.new.self.slots.items c.args.takers c.args.class c.args.a.0 f _ _ (led c.outcomes_of.result start.task c.args.a.0) c.requires.places ready
+    hits_found start c.args.enc.now c.lead.new.enc c.args.board.now.slots.items c.lead.new.self.slots.items 0 c.args.class c.args.a.0 f _ _ (led c.outcomes_of.result start.task c.args.a.0) c.requires.places ready.by_next
     (λ s. ap (λ (l : Task → ℕ → Function → Function). l start.task c.args.a.0 s) c.outcomes_of.ensures) m in
-    let took = went start c.take.new.enc c.take.new.board.slots.items _ c.take.result _ c.in_ok-take.was (c.take.ensures start f _ _ _ hits) in
-    let now : length c.take.new.board.slots.items ≡ start.places = took.by_next.by_layer.at.long in
-    let was : length c.args.board.now.slots.items ≡ start.places = ready.by_layer.at.long in
-    left_with start c.combine.new.enc c.combine.new.self.slots.items _ _ c.combine.result
-    (λ w. grown_by start c.take.new.enc c.combine.new.enc c.take.new.board.slots.items c.combine.new.self.slots.items c.args.takers c.args.class c.args.a.0 f h (omega (arith, c.requires.places)) took w)
-    (c.combine.ensures start took.by_next.by_layer.at)
+    let within = action_within start c.args.enc.now c.args.board.now.slots.items c.args.a.0 ready.by_next.by_layer.at c.requires.action in
+    left_with start c.join_hits.new.enc c.join_hits.new.board.slots.items _ _ c.join_hits.result
+    (λ joined. subst (λ (marks : List Bool). HasGrown c.args.class start c.join_hits.new.enc c.join_hits.new.board.slots.items f h (c.args.a.0 + 1) c.join_hits.new.steps.items marks) (sym c.note_spent.ensures)
+    (grown_on c.args.class start c.args.enc.now c.join_hits.new.enc c.args.board.now.slots.items c.join_hits.new.board.slots.items f h c.args.a c.args.steps.now.items c.join_hits.new.steps.items c.args.spent.now.items ready within joined
+    c.has_all.result (λ all. sym hits.holds_hits ∙ c.has_all.ensures start m.at all) (length-set c.args.spent.now.items c.args.a.0 c.has_all.result)))
+    (c.join_hits.ensures start f _ _ hits)

@@ -6,9 +6,9 @@ use Rattle.reach_plan.specs.Searches.{HasRound}
 use Rattle.reach_plan.proofs.SetLayers.{missed}
 use Rattle.reach_plan.proofs.search.search_back.Given as goal
 
-abbrev pub invariant-loop-round : goal.invariant-loop-round
-invariant-loop-round l = (start : Start) → HasNothing start l.fn.enc l.fn.board.slots.items → (k : ℕ) × HasRound l.fn.class start l.enc l.board.slots.items l.fn.takers k
+abbrev pub invariant-loop-spent : goal.invariant-loop-spent
+invariant-loop-spent l = (start : Start) → HasNothing start l.fn.enc l.fn.board.slots.items → (k : ℕ) × HasRound l.fn.class start l.enc l.board.slots.items k l.steps.items l.spent.items
 
 -- how many states it misses
-abbrev pub decreases-loop-round : goal.decreases-loop-round
-decreases-loop-round l = missed (set_at l.enc.sets l.board.slots.items l.fn.takers) (all_vectors l.enc.fluents)
+abbrev pub decreases-loop-spent : goal.decreases-loop-spent
+decreases-loop-spent l = missed (set_at l.enc.sets l.board.slots.items 0) (all_vectors l.enc.fluents)

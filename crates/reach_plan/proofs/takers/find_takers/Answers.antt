@@ -8,6 +8,7 @@ use Rattle.encode_task.specs.Slots.{Encoded}
 use Rattle.slot_board.proofs.BoardSlots.{same_chain}
 use Rattle.preimage.proofs.FrameSteps.{made_now}
 use Rattle.task_core.specs.Tasks.{action_count}
+use Rattle.reach_plan.specs.Steps.{LeadToLast}
 use Rattle.reach_plan.specs.Takers.{IsDecided}
 use Rattle.reach_plan.proofs.PlanSteps.{goal_there, on_err, owns_after, owns_working, room_after, working_after}
 use Rattle.reach_plan.proofs.takers.find_takers.Goals as goal
@@ -26,7 +27,7 @@ pub returns-in_err-is_covered-clause-made : goal.returns-in_err-is_covered-claus
 returns-in_err-is_covered-clause-made c task made = made_now task c.args.enc.now c.is_covered.new.enc c.is_covered.ensures.same_slots c.is_covered.ensures.slots.kept made
 
 pub returns-then-not-branch-clause-found : goal.returns-then-not-branch-clause-found
-returns-then-not-branch-clause-found c = subst (IsDecided c.args.class c.args.task.now) c.if-not-branch.true (c.in_ok-is_covered.ensures.answer c.args.task.now c.requires.made)
+returns-then-not-branch-clause-found c = subst (IsDecided c.args.class c.args.task.now c.is_covered.new.steps.items) c.if-not-branch.true (c.in_ok-is_covered.ensures.answer c.args.task.now c.requires.made)
 
 pub returns-then-not-branch-clause-slots : goal.returns-then-not-branch-clause-slots
 returns-then-not-branch-clause-slots c = owns_working c.args.enc.now.sets c.is_covered.new.enc.sets c.is_covered.ensures.slots
@@ -41,8 +42,8 @@ pub take_all-requires-clause-last : goal.take_all-requires-clause-last
 take_all-requires-clause-last c =
     let mid = c.is_covered.new.enc in
     let made = made_now c.args.task.now c.args.enc.now mid c.is_covered.ensures.same_slots c.is_covered.ensures.slots.kept c.requires.made in
-    let decided = subst (IsDecided c.args.class c.args.task.now) c.if-not-branch.false (c.in_ok-is_covered.ensures.answer c.args.task.now c.requires.made) in
-    (c.args.task.now, made, decided.0, decided.1)
+    let decided = subst (IsDecided c.args.class c.args.task.now c.is_covered.new.steps.items) c.if-not-branch.false (c.in_ok-is_covered.ensures.answer c.args.task.now c.requires.made) in
+    (c.args.task.now, made, subst (LeadToLast c.args.class c.args.task.now) (sym c.deref.ensures.value) decided)
 
 pub take_all-requires-clause-actions : goal.take_all-requires-clause-actions
 take_all-requires-clause-actions c =
@@ -73,8 +74,8 @@ pub returns-clause-found : goal.returns-clause-found
 returns-clause-found c =
     let mid = c.is_covered.new.enc in
     let made = made_now c.args.task.now c.args.enc.now mid c.is_covered.ensures.same_slots c.is_covered.ensures.slots.kept c.requires.made in
-    let decided = subst (IsDecided c.args.class c.args.task.now) c.if-not-branch.false (c.in_ok-is_covered.ensures.answer c.args.task.now c.requires.made) in
-    c.in_ok-board.ensures.answer c.args.task.now made decided.0 decided.1
+    let decided = subst (IsDecided c.args.class c.args.task.now c.is_covered.new.steps.items) c.if-not-branch.false (c.in_ok-is_covered.ensures.answer c.args.task.now c.requires.made) in
+    c.in_ok-board.ensures.answer c.args.task.now made (subst (LeadToLast c.args.class c.args.task.now) (sym c.deref.ensures.value) decided)
 
 pub returns-clause-slots : goal.returns-clause-slots
 returns-clause-slots c = working_after c.args.enc.now.sets c.is_covered.new.enc.sets c.take_all.new.enc.sets c.in_ok-board.board.slots.items c.is_covered.ensures.slots c.in_ok-board.ensures.slots

@@ -32,13 +32,13 @@ close-requires c =
     let now = c.search_back-covered.new.enc in
     let slots = c.search_back-covered.new.board.slots.items in (
       c.args.enc.now.sets,
-      (ends_at start now slots _ c.search_back-covered.result (λ b left. left_at c.args.class start now slots 0 b left) (c.search_back-covered.ensures start (c.in_ok-board.ensures.opened m.0 m.1 (c.args.actions + 12)))).working,
+      (ends_at start now slots _ c.search_back-covered.result (λ b left. left_at c.args.class start now slots c.search_back-covered.new.steps.items b left) (c.search_back-covered.ensures start (c.in_ok-board.ensures.opened m.0 m.1 (c.args.actions + 12)))).working,
     )
 
 pub returns-clause-answer : goal.returns-clause-answer
 returns-clause-answer c task made =
     let start = start_of task c.args.enc.now made 4 (c.args.actions + 12) in
-    decided_by c.args.class start c.search_back-covered.new.enc c.search_back-covered.new.board.slots.items 0 c.search_back-covered.result (c.search_back-covered.ensures start (c.in_ok-board.ensures.opened task made (c.args.actions + 12)))
+    decided_by c.args.class start c.search_back-covered.new.enc c.search_back-covered.new.board.slots.items c.search_back-covered.new.steps.items c.search_back-covered.result (c.search_back-covered.ensures start (c.in_ok-board.ensures.opened task made (c.args.actions + 12)))
 
 pub returns-clause-full : goal.returns-clause-full
 returns-clause-full c full =
@@ -54,7 +54,7 @@ returns-clause-slots c =
     let now = c.search_back-covered.new.enc in
     let slots = c.search_back-covered.new.board.slots.items in
     c.close.ensures.frame c.args.enc.now.sets
-    (ends_at start now slots _ c.search_back-covered.result (λ b left. left_at c.args.class start now slots 0 b left) (c.search_back-covered.ensures start (c.in_ok-board.ensures.opened m.0 m.1 (c.args.actions + 12)))).working
+    (ends_at start now slots _ c.search_back-covered.result (λ b left. left_at c.args.class start now slots c.search_back-covered.new.steps.items b left) (c.search_back-covered.ensures start (c.in_ok-board.ensures.opened m.0 m.1 (c.args.actions + 12)))).working
 
 pub returns-clause-same_slots : goal.returns-clause-same_slots
 returns-clause-same_slots c =
@@ -63,5 +63,5 @@ returns-clause-same_slots c =
     let now = c.search_back-covered.new.enc in
     let slots = c.search_back-covered.new.board.slots.items in
     same_chain c.args.enc.now now c.close.new.enc
-    (ends_at start now slots _ c.search_back-covered.result (λ b left. left_at c.args.class start now slots 0 b left) (c.search_back-covered.ensures start (c.in_ok-board.ensures.opened m.0 m.1 (c.args.actions + 12)))).same
+    (ends_at start now slots _ c.search_back-covered.result (λ b left. left_at c.args.class start now slots c.search_back-covered.new.steps.items b left) (c.search_back-covered.ensures start (c.in_ok-board.ensures.opened m.0 m.1 (c.args.actions + 12)))).same
     c.close.ensures.same_slots

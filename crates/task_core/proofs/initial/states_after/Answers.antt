@@ -8,7 +8,7 @@ use Rattle.task_core.proofs.initial.states_after.Goals as goal
 
 pub returns-in_err-add_alternatives-clause-too_many : goal.returns-in_err-add_alternatives-clause-too_many
 returns-in_err-add_alternatives-clause-too_many c =
-    let p = err_from_is_err_and c.from_residual.result c.from_residual.ensures.1 in
+    let p = err_from_is_err_and c.from_residual-in_err-add_alternatives.result c.from_residual-in_err-add_alternatives.ensures.1 in
     let entry = entry_of c.args.entry.now in
     let i = c.loop-state.state-index in
     let s = c.state-item.result in

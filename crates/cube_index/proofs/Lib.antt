@@ -1,0 +1,4 @@
+pub mod Bits
+pub mod TestLists
+pub mod BlockLists
+pub mod Laws

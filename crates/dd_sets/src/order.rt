@@ -1,0 +1,161 @@
+//! Orders of the fluents as variables of diagrams.
+ghost use Rattle.std.specs.Prelude.{◌≡◌, ◌<◌, ◌≤◌, [], length, IfOk, IfSome, IsTrue};
+ghost use Rattle.dd_sets.specs.Orders.{at_place, Undoes};
+
+use std::alloc::{AllocError, Global};
+use std::marker::Model;
+
+/// The most fluents that have an order.
+const MOST: usize = 256;
+
+/// An order of at most 256 fluents as variables of diagrams, which test their variables in the order
+/// of their numbers.
+///
+/// A contract sees it as two lists: the fluent of each variable, and the variable of each fluent.
+/// Where they are empty, each variable is the fluent of its own number.
+#[derive(Drop)]
+pub struct Order {
+    fluents: Vec<u32>,
+    variables: Vec<u32>,
+}
+
+impl Model for Order {
+    ghost use Rattle.dd_sets.specs.Orders.{Ordered};
+
+    ghost Value = { Ordered };
+
+    ghost view = { λ order. record {
+      fluents = order.fluents.items;
+      variables = order.variables.items;
+    } };
+
+    ghost use Rattle.dd_sets.specs.Orders.{IsOrdered};
+
+    ghost invariant = { λ order. IsOrdered order.fluents.items order.variables.items };
+}
+
+impl Order {
+    /// The order in which each fluent has its place, counted from 0. `None` where the places are not
+    /// those from 0 on, each once, or are more than 256.
+    pub fn of_places(alloc: Global, places: &[usize]) -> Result<Option<Order>, AllocError>
+        ensures count { IfOk result (λ found. IfSome found
+            (λ order. length order.fluents ≡ length places.now)) }
+    {
+        if places.len() > MOST {
+            return Ok(None);
+        }
+        let variables = small_numbers(alloc, places)?;
+        let fluents = turned_round(alloc, &variables)?;
+        if fluents.len() == variables.len()
+            && undoes(&fluents, &variables)
+            && undoes(&variables, &fluents)
+        {
+            Ok(Some(Order { fluents, variables }))
+        } else {
+            Ok(None)
+        }
+    }
+
+    /// The order in which each variable is the fluent of its own number.
+    pub(crate) fn of_fluents(alloc: Global) -> Order
+        ensures fluents { result.fluents ≡ [] }
+        ensures variables { result.variables ≡ [] }
+    {
+        Order {
+            fluents: Vec::new(alloc),
+            variables: Vec::new(alloc),
+        }
+    }
+
+    /// How many fluents it orders.
+    pub fn count(&self) -> usize
+        ensures count { result ≡ length self.now.fluents }
+        ensures few { result ≤ 256 }
+    {
+        self.fluents.len()
+    }
+
+    /// Whether no order was given, so that each variable is the fluent of its own number.
+    pub(crate) fn is_of_fluents(&self) -> bool
+        ensures yes { IsTrue result → self.now.fluents ≡ [] }
+        ensures no { self.now.fluents ≡ [] → IsTrue result }
+    {
+        self.fluents.is_empty()
+    }
+
+    /// The variable of a fluent.
+    pub(crate) fn variable(&self, fluent: u32) -> u32
+        ensures { result ≡ at_place self.now.variables fluent }
+    {
+        number_at(&self.variables, fluent)
+    }
+
+    /// The fluent of a variable.
+    pub(crate) fn fluent(&self, variable: u32) -> u32
+        ensures { result ≡ at_place self.now.fluents variable }
+    {
+        number_at(&self.fluents, variable)
+    }
+}
+
+/// The number at a place, and the place's own number past the end.
+fn number_at(numbers: &[u32], place: u32) -> u32
+    ensures { result ≡ at_place numbers.now place }
+{
+    match numbers.get(place as usize) {
+        Some(number) => *number,
+        None => place,
+    }
+}
+
+/// Places as numbers of variables; one that is none becomes a number that is none either.
+fn small_numbers(alloc: Global, places: &[usize]) -> Result<Vec<u32>, AllocError>
+    ensures { IfOk result (λ numbers. length numbers.items ≡ length places.now) }
+{
+    let mut numbers = Vec::new(alloc);
+    for place in places {
+        numbers.push((*place).min(MOST) as u32)?;
+    }
+    Ok(numbers)
+}
+
+/// The list that has each place of a list at the place that stands there, where the list has each of
+/// its places once.
+fn turned_round(alloc: Global, numbers: &[u32]) -> Result<Vec<u32>, AllocError>
+    requires { length numbers.now ≤ 256 }
+{
+    let mut turned = vec![in alloc; 0; numbers.len()]?;
+    for place in 0..numbers.len() {
+        write(&mut turned, numbers[place], place as u32);
+    }
+    Ok(turned)
+}
+
+/// Writes a number at a place, if the list has the place.
+fn write(numbers: &mut Vec<u32>, place: u32, number: u32) {
+    if (place as usize) < numbers.len() {
+        numbers[place as usize] = number;
+    }
+}
+
+/// Whether a list leads back from each number of another to the number's place.
+fn undoes(back: &[u32], there: &[u32]) -> bool
+    requires { length there.now ≤ 256 }
+    ensures { IsTrue result → Undoes back.now there.now }
+{
+    for place in 0..there.len() {
+        if !leads_back(back, there, place as u32) {
+            return false;
+        }
+    }
+    true
+}
+
+/// Whether a list leads back from the number at a place of another to that place.
+fn leads_back(back: &[u32], there: &[u32], place: u32) -> bool
+    ensures within { IsTrue result → at_place there.now place < length back.now }
+    ensures back { IsTrue result → at_place back.now (at_place there.now place) ≡ place }
+{
+    let number = number_at(there, place);
+    (number as usize) < back.len() && number_at(back, number) == place
+}

@@ -1,0 +1,74 @@
+//! The search for the plan with contexts of a chain, in two tries.
+
+ghost use Rattle.chain_plan.specs.Chains.{IsChainOver};
+ghost use Rattle.mbp_top.specs.Enough.{IsTightLimit};
+ghost use Rattle.mbp_top.specs.FoundChains.{IsChainSearched};
+ghost use Rattle.mbp_top.specs.Words.{IsNodeLimit};
+ghost use Rattle.std.specs.Prelude.{IsErrOf, length};
+ghost use Rattle.task_core.specs.Tasks.{fluent_count, system_of};
+
+use crate::ordered_sets::encode_ordered;
+use chain_plan::{FoundAuto, plan_chain};
+use ctl_syntax::Chain;
+use dd_sets::{SetErr, no_room_is_tight, tight_is_monotone};
+use encode_task::encode;
+use std::alloc::Global;
+use task_core::Task;
+
+/// What is found for a task and a chain, in a table for so many nodes: over variables in an order
+/// that is chosen for the task, and where that fails, once more from nothing, over the fluents in
+/// their own order. What is found is the same in either order, and a refusal is that of the second.
+pub(crate) fn search_chain(
+    alloc: Global,
+    nodes: u32,
+    task: &Task,
+    chain: &Chain,
+) -> Result<FoundAuto, SetErr>
+    requires room { IsNodeLimit nodes }
+    requires chain { IsChainOver (fluent_count task.now) chain.now }
+    ensures found { IsChainSearched task.now chain.now result }
+    ensures full { IsErrOf result SetErr.Full
+        → IsTightLimit (length chain.now.stages.items) nodes (system_of task.now) }
+{
+    match search_in_order(alloc, nodes, task, chain) {
+        Ok(found) => Ok(found),
+        Err(_) => search_plainly(alloc, nodes, task, chain),
+    }
+}
+
+/// The first try: over variables in an order that is chosen for the task. Nothing is said of why it
+/// fails.
+fn search_in_order(
+    alloc: Global,
+    nodes: u32,
+    task: &Task,
+    chain: &Chain,
+) -> Result<FoundAuto, SetErr>
+    requires room { IsNodeLimit nodes }
+    requires chain { IsChainOver (fluent_count task.now) chain.now }
+    ensures found { IsChainSearched task.now chain.now result }
+{
+    let mut enc = encode_ordered(alloc, task, nodes)?;
+    plan_chain(alloc, task, &mut enc, chain)
+}
+
+/// The second try: over the fluents in their own order.
+fn search_plainly(
+    alloc: Global,
+    nodes: u32,
+    task: &Task,
+    chain: &Chain,
+) -> Result<FoundAuto, SetErr>
+    requires room { IsNodeLimit nodes }
+    requires chain { IsChainOver (fluent_count task.now) chain.now }
+    ensures found { IsChainSearched task.now chain.now result }
+    ensures full { IsErrOf result SetErr.Full
+        → IsTightLimit (length chain.now.stages.items) nodes (system_of task.now) }
+{
+    // These do nothing: that few nodes are too few for more sets, and that the limit is tight where
+    // there was no room, rests on what they promise.
+    tight_is_monotone();
+    no_room_is_tight();
+    let mut enc = encode(alloc, task, nodes)?;
+    plan_chain(alloc, task, &mut enc, chain)
+}

@@ -1,0 +1,139 @@
+//! The search for the plan of a class, in two tries.
+
+ghost use Rattle.dd_sets.specs.Frames.{Owns};
+ghost use Rattle.dd_sets.specs.Rooms.{IsTightFor};
+ghost use Rattle.encode_task.specs.Made.{MadeOf};
+ghost use Rattle.mbp_top.specs.Enough.{IsTightLimit};
+ghost use Rattle.mbp_top.specs.FoundPlans.{IsSearched};
+ghost use Rattle.mbp_top.specs.Words.{IsNodeLimit};
+ghost use Rattle.std.specs.Prelude.{◌+◌, ◌*◌, [], IsErrOf, IsSome};
+ghost use Rattle.task_core.specs.Tasks.{action_count, system_of};
+
+use crate::ordered_sets::encode_ordered;
+use cyclic_plan::plan_cyclic;
+use dd_sets::{SetErr, no_room_is_tight, tight_is_monotone};
+use encode_task::{Enc, encode};
+use plan_rules::Class;
+use plan_theory::{Found, printed_plan_is_shortest};
+use reach_plan::{plan_strong, plan_weak};
+use std::alloc::Global;
+use task_core::{Task, tasks_have_systems};
+
+/// What is found for a task, in a table for so many nodes: over variables in an order that is chosen
+/// for the task, and where that fails, once more from nothing, over the fluents in their own order.
+/// What is found is the same in either order, and a refusal is that of the second.
+pub(crate) fn search_task(
+    alloc: Global,
+    class: Class,
+    nodes: u32,
+    task: &Task,
+) -> Result<Found, SetErr>
+    requires room { IsNodeLimit nodes }
+    requires goal { IsSome task.now.goal }
+    ensures found { IsSearched class task.now result }
+    ensures full { IsErrOf result SetErr.Full → IsTightLimit 0 nodes (system_of task.now) }
+{
+    match search_in_order(alloc, class, nodes, task) {
+        Ok(found) => Ok(found),
+        Err(_) => search_plainly(alloc, class, nodes, task),
+    }
+}
+
+/// The first try: over variables in an order that is chosen for the task. Nothing is said of why it
+/// fails.
+fn search_in_order(alloc: Global, class: Class, nodes: u32, task: &Task) -> Result<Found, SetErr>
+    requires room { IsNodeLimit nodes }
+    requires goal { IsSome task.now.goal }
+    ensures found { IsSearched class task.now result }
+{
+    let mut enc = encode_ordered(alloc, task, nodes)?;
+    find_plan(alloc, class, task, &mut enc)
+}
+
+/// The second try: over the fluents in their own order.
+fn search_plainly(alloc: Global, class: Class, nodes: u32, task: &Task) -> Result<Found, SetErr>
+    requires room { IsNodeLimit nodes }
+    requires goal { IsSome task.now.goal }
+    ensures found { IsSearched class task.now result }
+    ensures full { IsErrOf result SetErr.Full → IsTightLimit 0 nodes (system_of task.now) }
+{
+    // This does nothing: that few nodes are too few for more sets rests on what it promises.
+    tight_is_monotone();
+    let mut enc = encode(alloc, task, nodes)?;
+    find_plan(alloc, class, task, &mut enc)
+}
+
+/// The plan for a task, over its sets, which stay the sets of the task.
+pub(crate) fn find_plan(
+    alloc: Global,
+    class: Class,
+    task: &Task,
+    enc: &mut Enc,
+) -> Result<Found, SetErr>
+    requires made { MadeOf task.now enc.old }
+    requires goal { IsSome task.now.goal }
+    ensures found { IsSearched class task.now result }
+    ensures full { IsErrOf result SetErr.Full
+        → IsTightFor (3 * action_count task.now + 32) enc.old.sets }
+    ensures still_made { MadeOf task.now enc.new }
+    ensures slots { Owns enc.old.sets enc.new.sets [] }
+{
+    // This does nothing: that the limit is tight for more slots, too, rests on what it promises.
+    tight_is_monotone();
+    match class {
+        Class::Weak => weak_plan(alloc, task, enc),
+        Class::Strong => strong_plan(alloc, task, enc),
+        Class::Cyclic => strong_cyclic_plan(alloc, task, enc),
+    }
+}
+
+/// The weak plan for a task, which is a shortest one.
+fn weak_plan(alloc: Global, task: &Task, enc: &mut Enc) -> Result<Found, SetErr>
+    requires made { MadeOf task.now enc.old }
+    requires goal { IsSome task.now.goal }
+    ensures found { IsSearched Class.Weak task.now result }
+    ensures full { IsErrOf result SetErr.Full
+        → IsTightFor (action_count task.now + 24) enc.old.sets }
+    ensures still_made { MadeOf task.now enc.new }
+    ensures slots { Owns enc.old.sets enc.new.sets [] }
+{
+    // These do nothing: that no solution is shorter, and that the limit is tight where there was no
+    // room, rests on what they promise.
+    tasks_have_systems(task);
+    printed_plan_is_shortest();
+    no_room_is_tight();
+    plan_weak(alloc, task, enc)
+}
+
+/// The strong plan for a task, which is a shortest one.
+fn strong_plan(alloc: Global, task: &Task, enc: &mut Enc) -> Result<Found, SetErr>
+    requires made { MadeOf task.now enc.old }
+    requires goal { IsSome task.now.goal }
+    ensures found { IsSearched Class.Strong task.now result }
+    ensures full { IsErrOf result SetErr.Full
+        → IsTightFor (action_count task.now + 24) enc.old.sets }
+    ensures still_made { MadeOf task.now enc.new }
+    ensures slots { Owns enc.old.sets enc.new.sets [] }
+{
+    // These do nothing: that no solution is shorter, and that the limit is tight where there was no
+    // room, rests on what they promise.
+    tasks_have_systems(task);
+    printed_plan_is_shortest();
+    no_room_is_tight();
+    plan_strong(alloc, task, enc)
+}
+
+/// The strong cyclic plan for a task. Nothing is said of its length.
+fn strong_cyclic_plan(alloc: Global, task: &Task, enc: &mut Enc) -> Result<Found, SetErr>
+    requires made { MadeOf task.now enc.old }
+    requires goal { IsSome task.now.goal }
+    ensures found { IsSearched Class.Cyclic task.now result }
+    ensures full { IsErrOf result SetErr.Full
+        → IsTightFor (3 * action_count task.now + 32) enc.old.sets }
+    ensures still_made { MadeOf task.now enc.new }
+    ensures slots { Owns enc.old.sets enc.new.sets [] }
+{
+    // This does nothing: that the limit is tight where there was no room rests on what it promises.
+    no_room_is_tight();
+    plan_cyclic(alloc, task, enc)
+}

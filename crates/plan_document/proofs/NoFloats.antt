@@ -1,0 +1,60 @@
+-- No document has a float.
+use Rattle.std.proofs.Common.{◌≡◌, ◌∙◌, ℕ, List, [], ◌∷◌, map, false, true, Bool, ◌||◌, refl, ap, subst, sym, Ordering, Less, Equal, Greater}
+use Rattle.std.specs.List.{fold}
+use Rattle.std.specs.Cmp.Lexicographic.{slice_cmp}
+use Rattle.std.specs.Ordering.{nat_cmp, match_ordering}
+use Rattle.serde_json.specs.Data.{Data, Members, member, no_members, boolean, put}
+use Rattle.serde_json.specs.View.{items_of}
+use Rattle.serde_json.specs.Written.{has_float, items_have_float, members_have_float}
+use Rattle.task_core.specs.Cubes.{Cube}
+use Rattle.task_core.specs.Names.{Name}
+use Rattle.plan_rules.specs.Rules.{ContextRule, PlainPlan, PlanNext, PlanRule, always, automaton, by_cases, table}
+use Rattle.plan_document.specs.Documents.{context_rule_data, cube_data, document, name_data, next_data, table_rule_data, with_literal}
+
+-- no item of a mapped list has one where no value has
+items_free : {X : Type 0} (f : X → Data) → ((x : X) → has_float (f x) ≡ false) → (xs : List X) → items_have_float (items_of (map f xs)) ≡ false
+items_free f free [] = refl
+items_free f free (x ∷ xs) = rw (free x, items_free f free xs) refl
+
+by_order : (o : Ordering) (a b c : Members) → members_have_float a ≡ false → members_have_float b ≡ false → members_have_float c ≡ false → members_have_float (match_ordering o a b c) ≡ false
+by_order Less a b c ea eb ec = ea
+by_order Equal a b c ea eb ec = eb
+by_order Greater a b c ea eb ec = ec
+
+or_left : (a b : Bool) → (a || b) ≡ false → a ≡ false
+or_left false b is = refl
+or_left true b is = is
+
+or_right : (a b : Bool) → (a || b) ≡ false → b ≡ false
+or_right false b is = is
+or_right true b is = absurd (cc is)
+
+put_free : (key : List ℕ) (value : Bool) (members : Members) → members_have_float members ≡ false → members_have_float (put key (boolean value) members) ≡ false
+put_free key value no_members free = refl
+put_free key value (member k d members) free =
+    let first = or_left (has_float d) (members_have_float members) free in
+    let rest = or_right (has_float d) (members_have_float members) free in
+    by_order (slice_cmp nat_cmp key k) _ _ _ free rest (rw first (put_free key value members rest))
+
+literals_free : (fluents : List Name) (cube : Cube) (so_far : Members) → members_have_float so_far ≡ false → members_have_float (fold (with_literal fluents) so_far cube) ≡ false
+literals_free fluents [] so_far free = free
+literals_free fluents (lit ∷ cube) so_far free = literals_free fluents cube (with_literal fluents so_far lit) (put_free _ lit.positive so_far free)
+
+table_rule_free : (fluents actions : List Name) (rule : PlanRule) → has_float (table_rule_data fluents actions rule) ≡ false
+table_rule_free fluents actions rule = rw (literals_free fluents rule.cube no_members refl) refl
+
+next_free : (next : PlanNext) → has_float (next_data next) ≡ false
+next_free (always context) = refl
+next_free (by_cases cases) = refl
+
+context_rule_free : (fluents actions : List Name) (rule : ContextRule) → has_float (context_rule_data fluents actions rule) ≡ false
+context_rule_free fluents actions rule = rw (literals_free fluents rule.cube no_members refl, next_free rule.next) refl
+
+names_free : (names : List Name) → items_have_float (items_of (map name_data names)) ≡ false
+names_free = items_free name_data (λ name. refl)
+
+pub document_free : (fluents actions : List Name) (plan : PlainPlan) → has_float (document fluents actions plan) ≡ false
+document_free fluents actions (table class rules) =
+    rw (names_free actions, names_free fluents, items_free (table_rule_data fluents actions) (table_rule_free fluents actions) rules) refl
+document_free fluents actions (automaton contexts rules) =
+    rw (names_free actions, names_free fluents, items_free (context_rule_data fluents actions) (context_rule_free fluents actions) rules) refl

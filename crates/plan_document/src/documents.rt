@@ -1,0 +1,106 @@
+//! The document of a plan.
+
+ghost use Rattle.plan_document.specs.Documents.{document, document_text, plan_object as plan_data};
+ghost use Rattle.plan_rules.specs.Plans.{IsPlanOf};
+ghost use Rattle.plan_rules.specs.Rules.{plain_of};
+ghost use Rattle.plan_rules.specs.Texts.{class_word as word_of_class, line_feed};
+ghost use Rattle.serde_json.specs.Data.{Data, array};
+ghost use Rattle.serde_json.specs.View.{items_of, view};
+ghost use Rattle.serde_json.specs.Written.{compact_text, has_float};
+ghost use Rattle.std.specs.Prelude.{◌≡◌, ◌++◌, IfOk, List, false};
+ghost use Rattle.task_core.specs.Tasks.{action_count, action_names, fluent_count, fluent_names};
+
+use crate::names::{action_array, fluent_array};
+use crate::rules::{context_rules, count_value, table_rules};
+use plan_rules::{Class, Plan};
+use serde_json::{Map, Value, put};
+use std::alloc::{AllocError, Global};
+use task_core::Task;
+
+/// The document of a plan for a task, as JSON in one line with a line feed at its end: an object with
+/// the members `actions`, `class`, `contexts`, `fluents` and `rules`, and of each rule `action`,
+/// `context`, `literals` and `next`. A table has one context, whose number is 1. Where a rule's next
+/// context depends on the state, its `next` is `null`: such a plan is not told in full.
+pub fn plan_document(alloc: Global, plan: &Plan, task: &Task) -> Result<Vec<u8>, AllocError>
+    requires in_task { IsPlanOf (fluent_count task.now) (action_count task.now) plan.now }
+    ensures { IfOk result (λ text. text.items
+        ≡ document_text (fluent_names task.now) (action_names task.now) (plain_of plan.now)) }
+{
+    let value = plan_value(alloc, plan, task)?;
+    value_text(alloc, &value)
+}
+
+/// The text of a value, with a line feed at its end.
+fn value_text(alloc: Global, value: &Value) -> Result<Vec<u8>, AllocError>
+    ensures { has_float (view value.now) ≡ false
+        → IfOk result (λ text. text.items ≡ compact_text (view value.now) ++ line_feed) }
+{
+    let mut text = value.to_string(alloc)?;
+    text.push('\n')?;
+    Ok(text.into_bytes())
+}
+
+/// The same as a value.
+fn plan_value(alloc: Global, plan: &Plan, task: &Task) -> Result<Value, AllocError>
+    requires in_task { IsPlanOf (fluent_count task.now) (action_count task.now) plan.now }
+    ensures { IfOk result (λ value. view value
+        ≡ document (fluent_names task.now) (action_names task.now) (plain_of plan.now)) }
+{
+    match plan {
+        Plan::Table(table) => {
+            let rules = table_rules(alloc, &task.fluents, &task.actions, &table.rules)?;
+            plan_object(alloc, task, class_word(table.class), 1, rules)
+        }
+        Plan::Auto(automaton) => {
+            let rules = context_rules(alloc, &task.fluents, &task.actions, &automaton.rules)?;
+            plan_object(alloc, task, "ctl", automaton.contexts, rules)
+        }
+    }
+}
+
+/// The word for a class.
+fn class_word(class: Class) -> &'static str
+    ensures { result.now ≡ word_of_class class }
+{
+    match class {
+        Class::Weak => "weak",
+        Class::Strong => "strong",
+        Class::Cyclic => "cyclic",
+    }
+}
+
+/// The object with these members, and the names of the task.
+fn plan_object(
+    alloc: Global,
+    task: &Task,
+    class: &str,
+    contexts: u32,
+    rules: Value,
+) -> Result<Value, AllocError>
+    ensures { IfOk result (λ value. (listed : List Data) → view rules ≡ array (items_of listed)
+        → view value
+        ≡ plan_data (fluent_names task.now) (action_names task.now) class.now contexts listed) }
+{
+    let mut members = Map::new(alloc);
+    put(&mut members, alloc, "rules", rules)?;
+    put(
+        &mut members,
+        alloc,
+        "fluents",
+        fluent_array(alloc, &task.fluents)?,
+    )?;
+    put(&mut members, alloc, "contexts", count_value(contexts))?;
+    put(
+        &mut members,
+        alloc,
+        "class",
+        Value::try_from_str(alloc, class)?,
+    )?;
+    put(
+        &mut members,
+        alloc,
+        "actions",
+        action_array(alloc, &task.actions)?,
+    )?;
+    Ok(Value::from(members))
+}

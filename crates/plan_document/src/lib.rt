@@ -1,0 +1,9 @@
+//! Plans as JSON documents: the names of a task's fluents and actions, and a plan's rules with their
+//! literals, actions and contexts.
+#![tactic(auto)]
+
+mod documents;
+mod names;
+mod rules;
+
+pub use documents::plan_document;

@@ -1,0 +1,3 @@
+pub mod RunRules
+pub mod GuideRules
+pub mod Guides

@@ -1,0 +1,71 @@
+-- The goal states of a task, and graphs that are too large to be shown.
+use Rattle.std.proofs.Common.{◌≡◌, ◌↔◌, ℕ, ◌<◌, Bool, true, false, IsTrue, Option, [], length, map, get_or, Some, None, sym, ap, ◌∙◌, subst, arith}
+use Rattle.std.specs.List.{Contains, range_with_len}
+use Rattle.std.specs.Option.{option_map, unwrap_or}
+use Rattle.std.proofs.lemmas.Bool.{false≢true}
+use Rattle.std.proofs.lemmas.List.FromFn.{length-map-range_with_len, get_or-map-range_with_len}
+use Rattle.exec_graph.specs.Executions.{IsReachedBy, ReachesMoreThan}
+use Rattle.exec_graph.specs.Graphs.{IsGraphOf, PlainGraph}
+use Rattle.exec_graph.proofs.Lists.{Contains-nil}
+use Rattle.plan_rules.specs.Rules.{PlainPlan}
+use Rattle.task_core.proofs.Agreement.{ids_below_widen, holds_agree}
+use Rattle.task_core.proofs.TaskSystem.{length-vector, states_where_has, states_where_holds, value_of-vector}
+use Rattle.task_core.specs.Actions.{goal_within}
+use Rattle.task_core.specs.Conditions.{holds, holds_in, ids_below}
+use Rattle.task_core.specs.ContextPlans.{Configuration}
+use Rattle.task_core.specs.States.{truth, vector}
+use Rattle.task_core.specs.Systems.{System, goal_states}
+use Rattle.task_core.specs.Tasks.{fluent_count, states_where, system_of}
+use Rattle.task_core.specs.Vectors.{Vector, value_of}
+use Rattle.task_core.specs.declared.conditions.Cond.{Cond}
+use Rattle.task_core.specs.declared.states.State.{State}
+use Rattle.task_core.specs.declared.tasks.Task.{Task}
+
+goal_inside : (task : Task) (goal : Cond) → task.goal ≡ Some goal → ids_below (fluent_count task) goal ≡ true
+goal_inside task goal e = ap (goal_within (fluent_count task)) (sym e) ∙ task.goal_within
+
+pub goal_below : (task : Task) (goal : Cond) → task.goal ≡ Some goal → IsTrue (ids_below 256 goal)
+goal_below task goal e = ids_below_widen goal (fluent_count task) 256 task.few_fluents (goal_inside task goal e)
+
+goal_states_of : (task : Task) (goal : Cond) → task.goal ≡ Some goal → goal_states (system_of task) ≡ states_where (fluent_count task) goal
+goal_states_of task goal e = ap (λ (o : Option Cond). unwrap_or (option_map (states_where (fluent_count task)) o) []) e
+
+goal_value : (task : Task) (goal : Cond) (s : State) → task.goal ≡ Some goal → holds_in goal s ≡ holds goal (value_of (vector (fluent_count task) s))
+goal_value task goal s e =
+    let n = fluent_count task in
+    sym (holds_agree goal n (value_of (vector n s)) (truth s) (goal_inside task goal e) (λ f l. value_of-vector n s f l))
+
+-- where there is a goal, the goal states are those in which it holds
+pub goal_is : (task : Task) (goal : Cond) (s : State) (b : Bool) → task.goal ≡ Some goal → b ≡ holds_in goal s
+    → IsTrue b ↔ Contains (goal_states (system_of task)) (vector (fluent_count task) s)
+goal_is task goal s b e is =
+    let n = fluent_count task in
+    let v = vector n s in
+    subst (λ ss. IsTrue b ↔ Contains ss v) (sym (goal_states_of task goal e)) (
+      λ (h : b ≡ true). states_where_has n goal v (length-vector n s) (sym (goal_value task goal s e) ∙ sym is ∙ h),
+      λ c. is ∙ goal_value task goal s e ∙ (states_where_holds n goal v c).1,
+    )
+
+-- and where there is none, no state is one
+pub goal_none : (task : Task) (v : Vector) → task.goal ≡ None → IsTrue false ↔ Contains (goal_states (system_of task)) v
+goal_none task v e = (
+  λ (h : false ≡ true). absurd (false≢true h),
+  λ c. absurd (Contains-nil v (subst (λ ss. Contains ss v) (ap (λ (o : Option Cond). unwrap_or (option_map (states_where (fluent_count task)) o) []) e) c)),
+)
+
+-- a graph of many configurations
+pub reaches_more : (sys : System) (plan : PlainPlan) (graph : PlainGraph) (limit : ℕ) → IsGraphOf sys plan graph → limit < graph.size → ReachesMoreThan sys plan limit
+reaches_more sys plan graph limit is more =
+    let places = map graph.configuration (range_with_len 0 graph.size) in
+    let long : length places ≡ graph.size = length-map-range_with_len graph.configuration 0 graph.size in
+    let at : (i : ℕ) (d : Configuration) → i < length places → get_or places i d ≡ graph.configuration i =
+    λ i d l. get_or-map-range_with_len graph.configuration 0 graph.size i i d (omega (arith, l, long)) (omega arith) in
+    record {
+      places = places;
+      different = λ i j d l h same.
+          let lj : j < graph.size = omega (arith, h, long) in
+          let e : i ≡ j = is.once i j (omega (arith, l, lj)) lj (sym (at i d (omega (arith, l, h))) ∙ same ∙ at j d h) in
+          omega (arith, l, e);
+      reached = λ i d l. subst (IsReachedBy sys plan) (sym (at i d l)) (is.reached i (omega (arith, l, long)));
+      more = omega (arith, more, long);
+    }

@@ -1,0 +1,4 @@
+pub mod Found
+pub mod Goals
+pub mod Stepped
+pub mod Shown

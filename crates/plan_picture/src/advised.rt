@@ -1,0 +1,242 @@
+//! The steps of a plan from one configuration.
+
+ghost use Rattle.plan_picture.specs.Places.{
+  AreWithin,
+  configuration_of,
+  configurations_of,
+  outcome_steps,
+  place_after,
+  plan_steps,
+  steps_by,
+  steps_if,
+  table_steps_below,
+};
+ghost use Rattle.plan_picture.specs.Values.{step_value};
+ghost use Rattle.plan_rules.specs.Advices.{AreCasesOf, IsAdviceOf, advice_value, advised_by, onward_value};
+ghost use Rattle.plan_rules.specs.Denoted.{advises, rule_at};
+ghost use Rattle.plan_rules.specs.Named.{NamesRule};
+ghost use Rattle.plan_rules.specs.Plans.{IsPlanOf, IsRuleOf};
+ghost use Rattle.plan_rules.specs.Rules.{context_rule_of, plain_of, rule_of};
+ghost use Rattle.std.specs.Option.{option_map};
+ghost use Rattle.std.specs.Prelude.{
+  ◌≡◌,
+  ◌<◌,
+  ◌++◌,
+  All,
+  IfOk,
+  IfSome,
+  OnOk,
+  Some,
+  length,
+  map,
+};
+ghost use Rattle.task_core.specs.States.{IsWithin, vector};
+ghost use Rattle.task_core.specs.Systems.{Exec};
+ghost use Rattle.task_core.specs.Tasks.{action_count, fluent_count, outcomes_at, system_of};
+
+use crate::pictures::Step;
+use crate::places::{Place, number_of};
+use plan_rules::{
+    Advice, AutoRule, FIRST_CONTEXT, Onward, Plan, Rule, context_in, has_all, onward_of,
+};
+use std::alloc::{AllocError, Global};
+use task_core::{ActionId, State, Task, is_exec, step};
+
+/// The steps of a plan from a configuration to others, in the order of actions and outcomes.
+pub(crate) fn steps_from(
+    alloc: Global,
+    task: &Task,
+    plan: &Plan,
+    places: &[Place],
+    place: &Place,
+) -> Result<Vec<Step>, AllocError>
+    requires plan_of_task { IsPlanOf (fluent_count task.now) (action_count task.now) plan.now }
+    requires few { length places.now < 4294967296 }
+    requires within { AreWithin (fluent_count task.now) places.now }
+    requires from_within { IsWithin (fluent_count task.now) place.now.state }
+    ensures steps { let n = fluent_count task.now in IfOk result (λ steps.
+        map step_value steps.items ≡ plan_steps (system_of task.now) (plain_of plan.now)
+        (configurations_of n places.now) (configuration_of n place.now)) }
+{
+    match plan {
+        Plan::Table(table) => table_steps(alloc, task, &table.rules, places, &place.state),
+        Plan::Auto(automaton) => {
+            let advice = advice_at(task, &automaton.rules, place);
+            advised_steps(alloc, task, places, &place.state, &advice)
+        }
+    }
+}
+
+/// The steps of a table: by each action that some rule has which matches the state.
+fn table_steps(
+    alloc: Global,
+    task: &Task,
+    rules: &[Rule],
+    places: &[Place],
+    state: &State,
+) -> Result<Vec<Step>, AllocError>
+    requires in_task { let n = fluent_count task.now in let m = action_count task.now in
+        All (λ rule. IsRuleOf n m (rule_of rule)) rules.now }
+    requires few { length places.now < 4294967296 }
+    requires within { AreWithin (fluent_count task.now) places.now }
+    requires from_within { IsWithin (fluent_count task.now) state.now }
+    ensures steps { let n = fluent_count task.now in IfOk result (λ steps.
+        map step_value steps.items ≡ table_steps_below (system_of task.now)
+        (configurations_of n places.now) (map rule_of rules.now) (vector n state.now)
+        (action_count task.now)) }
+{
+    let mut steps = Vec::new(alloc);
+    for number in 0..task.actions.len() as u32 {
+        if has_rule(task, rules, state, number) {
+            let advice = Advice {
+                action: ActionId(number),
+                onward: Onward::Always(FIRST_CONTEXT),
+            };
+            add_steps(task, places, state, &advice, &mut steps)?;
+        }
+    }
+    Ok(steps)
+}
+
+/// Whether some rule that matches the state has the action.
+fn has_rule(task: &Task, rules: &[Rule], state: &State, action: u32) -> bool
+    requires in_task { let n = fluent_count task.now in let m = action_count task.now in
+        All (λ rule. IsRuleOf n m (rule_of rule)) rules.now }
+    ensures { result
+        ≡ advises (map rule_of rules.now) (vector (fluent_count task.now) state.now) action }
+{
+    for rule in rules {
+        if rule.action.0 == action && has_all(task, &rule.cube, state) {
+            return true;
+        }
+    }
+    false
+}
+
+/// What the rule of an automaton says that counts in a configuration: the first of the context that
+/// matches the state.
+fn advice_at<'a>(task: &Task, rules: &'a [AutoRule], place: &Place) -> Option<Advice<'a>>
+    requires in_task { let n = fluent_count task.now in let m = action_count task.now in
+        All (λ rule. NamesRule n m (context_rule_of rule)) rules.now }
+    ensures counts { option_map advice_value result ≡ option_map advised_by
+        (rule_at (map context_rule_of rules.now) (vector (fluent_count task.now) place.now.state)
+        place.now.context) }
+    ensures in_task { IfSome result (IsAdviceOf (fluent_count task.now) (action_count task.now)) }
+{
+    for rule in rules {
+        if rule.context == place.context && has_all(task, &rule.cube, &place.state) {
+            return Some(Advice {
+                action: rule.action,
+                onward: onward_of(&rule.next),
+            });
+        }
+    }
+    None
+}
+
+/// The steps by what is advised, if anything is.
+fn advised_steps(
+    alloc: Global,
+    task: &Task,
+    places: &[Place],
+    state: &State,
+    advice: &Option<Advice<'_>>,
+) -> Result<Vec<Step>, AllocError>
+    requires in_task { IfSome advice.now
+        (IsAdviceOf (fluent_count task.now) (action_count task.now)) }
+    requires few { length places.now < 4294967296 }
+    requires within { AreWithin (fluent_count task.now) places.now }
+    requires from_within { IsWithin (fluent_count task.now) state.now }
+    ensures steps { let n = fluent_count task.now in IfOk result (λ steps.
+        map step_value steps.items ≡ steps_if (system_of task.now)
+        (configurations_of n places.now) (vector n state.now)
+        (option_map advice_value advice.now)) }
+{
+    let mut steps = Vec::new(alloc);
+    if let Some(advice) = advice {
+        add_steps(task, places, state, advice, &mut steps)?;
+    }
+    Ok(steps)
+}
+
+/// Adds the steps by what is advised, one for each outcome that leads to one of the places.
+fn add_steps(
+    task: &Task,
+    places: &[Place],
+    state: &State,
+    advice: &Advice<'_>,
+    steps: &mut Vec<Step>,
+) -> Result<(), AllocError>
+    requires in_task { IsAdviceOf (fluent_count task.now) (action_count task.now) advice.now }
+    requires few { length places.now < 4294967296 }
+    requires within { AreWithin (fluent_count task.now) places.now }
+    requires from_within { IsWithin (fluent_count task.now) state.now }
+    ensures steps { let n = fluent_count task.now in OnOk result (map step_value steps.new.items
+        ≡ map step_value steps.old.items ++ steps_by (system_of task.now)
+        (configurations_of n places.now) (vector n state.now) (advice_value advice.now)) }
+{
+    if !is_exec(task, state, advice.action) {
+        return Ok(());
+    }
+    for outcome in 0..outcome_count(task, advice.action) {
+        let after = step(task, state, advice.action, outcome);
+        add_step(task, places, &after, advice, outcome, steps)?;
+    }
+    Ok(())
+}
+
+/// Adds the step by one outcome of what is advised, which leads to this state, if it stands among
+/// the places with the next context.
+fn add_step(
+    task: &Task,
+    places: &[Place],
+    after: &State,
+    advice: &Advice<'_>,
+    outcome: u32,
+    steps: &mut Vec<Step>,
+) -> Result<(), AllocError>
+    requires in_task { IsAdviceOf (fluent_count task.now) (action_count task.now) advice.now }
+    requires few { length places.now < 4294967296 }
+    requires within { AreWithin (fluent_count task.now) places.now }
+    requires after_within { IsWithin (fluent_count task.now) after.now }
+    ensures steps { let n = fluent_count task.now in OnOk result (map step_value steps.new.items
+        ≡ map step_value steps.old.items ++ outcome_steps (configurations_of n places.now)
+        (advice_value advice.now) outcome (vector n after.now)) }
+{
+    if let Some(target) = target_of(task, places, after, &advice.onward) {
+        steps.push(Step {
+            action: advice.action,
+            outcome,
+            target,
+        })?;
+    }
+    Ok(())
+}
+
+/// Where a state stands among the places with the context in which to go on there.
+fn target_of(task: &Task, places: &[Place], after: &State, onward: &Onward<'_>) -> Option<u32>
+    requires cases { AreCasesOf (fluent_count task.now) (onward_value onward.now) }
+    requires few { length places.now < 4294967296 }
+    requires within { AreWithin (fluent_count task.now) places.now }
+    requires after_within { IsWithin (fluent_count task.now) after.now }
+    ensures { let n = fluent_count task.now in result
+        ≡ place_after (configurations_of n places.now) (onward_value onward.now)
+        (vector n after.now) }
+{
+    let context = context_in(task, onward, after)?;
+    number_of(
+        places,
+        &Place {
+            state: *after,
+            context,
+        },
+    )
+}
+
+/// How many outcomes an action has.
+fn outcome_count(task: &Task, action: ActionId) -> u32
+    requires { action.0 < action_count task.now }
+    ensures { result ≡ length (outcomes_at task.now action.0) }
+{
+    task.actions[action.0 as usize].outcomes.len() as u32
+}

@@ -1,0 +1,83 @@
+//! The plan of a class.
+
+ghost use Rattle.std.specs.Prelude.{IsTrue};
+ghost use Rattle.task_core.specs.Conditions.{ids_below};
+
+use crate::graph::{Graph, Stop, explore};
+use crate::layers::Layers;
+use indexmap::IndexSet;
+use std::alloc::{AllocError, Global};
+use task_core::{ActionId, Class, Cond, State, Task};
+
+/// A plan: what is taken in states that can be reached.
+#[derive(Drop)]
+pub struct ReachedPlan {
+    numbers: IndexSet<State>,
+    taken: Vec<Option<ActionId>>,
+}
+
+impl ReachedPlan {
+    /// The action that is taken in a state, if one is.
+    pub fn action_in(&self, state: &State) -> Option<ActionId> {
+        let number = self.numbers.get_index_of(state)?;
+        self.taken.get(number).copied()?
+    }
+}
+
+/// A plan of a class for a task, found among the states that can be reached; `None` where none is
+/// found, or the states are too many: more than 65,536, or so many that an action is tried in a
+/// state more than 4,194,304 times. It takes in each state what the plan takes that `reach_plan` or
+/// `cyclic_plan` finds. That a task without a plan has none is not told so.
+pub fn plan_reached(
+    alloc: Global,
+    task: &Task,
+    class: Class,
+) -> Result<Option<ReachedPlan>, AllocError> {
+    let found = match &task.goal {
+        Some(goal) => find(alloc, task, goal, class),
+        None => return Ok(None),
+    };
+    match found {
+        Ok(plan) => Ok(plan),
+        Err(Stop::TooMany) => Ok(None),
+        Err(Stop::Memory) => Err(AllocError),
+    }
+}
+
+/// The same for a goal.
+fn find(alloc: Global, task: &Task, goal: &Cond, class: Class) -> Result<Option<ReachedPlan>, Stop>
+    requires { IsTrue (ids_below 256 goal.now) }
+{
+    let graph = explore(alloc, task, goal)?;
+    match plan_in(alloc, &graph, class)? {
+        Some(layers) => {
+            let Graph { numbers, .. } = graph;
+            Ok(Some(ReachedPlan {
+                numbers,
+                taken: layers.taken,
+            }))
+        }
+        None => Ok(None),
+    }
+}
+
+/// The layers of a plan among the states that can be reached, if there is one. For a strong cyclic
+/// plan, states from which the goal can't be had, once all actions are left out by which it may be
+/// lost, are left out in turn, until all that are left have it.
+fn plan_in(alloc: Global, graph: &Graph, class: Class) -> Result<Option<Layers>, Stop> {
+    let mut stays = vec![in alloc; true; graph.states.len()]?;
+    let mut looks = 0;
+    for _ in 0..graph.states.len() {
+        let mut layers = Layers::of_goal(alloc, graph, &stays, looks)?;
+        layers.grow(alloc, graph, class, &stays)?;
+        if !layers.are_enough(graph) {
+            return Ok(None);
+        }
+        if class != Class::Cyclic || layers.inside == stays {
+            return Ok(Some(layers));
+        }
+        looks = layers.looks();
+        stays = layers.inside;
+    }
+    Ok(None)
+}

@@ -1,0 +1,9 @@
+use Rattle.task_core.specs.Conditions.{ids_below}
+use Rattle.task_core.specs.Initial.{lit_within}
+use Rattle.task_core.proofs.Changes.{all_without}
+use Rattle.task_core.proofs.steps.with_change.Goals as goal
+
+pub with_signed-requires : goal.with_signed-requires
+with_signed-requires c =
+    let x = c.args.change.now in
+    rw c.deref.ensures.value (all_without (lit_within 256) (ids_below 256 x.cond) x.lits.items c.requires.within)
