@@ -85,7 +85,7 @@ fn task(alloc: Global, count: u32) -> Result<Option<Task>, AllocError> {
         entries: Vec::new(alloc),
     };
     let goal = Some(Cond::Is(FluentId(0)));
-    Ok(Task::try_new(fluents, actions, init, goal))
+    Ok(Task::try_new(fluents, actions, init, goal, Cond::Yes))
 }
 
 fn name(alloc: Global, word: &str, number: u32) -> Result<Vec<String>, AllocError> {

@@ -52,7 +52,7 @@ pub covered_is : (start : Start) (x : Scene) (chain : Chained) → Won start x c
 covered_is start x chain h =
     list_all-agree (states_at x (win_place 0)) (win_at (sys_of start) chain 1) (sys_of start).initial
     (λ v c.
-    h.wins 0 (omega arith) (omega arith) v ((is_system start.task).initial v c)
+    h.wins 0 (omega arith) (omega arith) v ((is_system start.task).initial v c).vector
     ∙ ap (λ k. win (sys_of start) chain.keep (drop k chain.stages) v) (let e : 0 ≡ 1 - 1 = omega arith in e))
 
 -- no place holds a state at the beginning

@@ -15,7 +15,7 @@ use Rattle.plan_theory.specs.Layers.{must_lead}
 use Rattle.plan_theory.proofs.Cubes.{all_vectors-agree, all_vectors-length}
 use Rattle.plan_theory.proofs.Ranges.{range-more}
 use Rattle.task_core.specs.Cubes.{SetOfVectors}
-use Rattle.task_core.specs.Systems.{IsState, System}
+use Rattle.task_core.specs.Systems.{IsVector, System}
 use Rattle.task_core.specs.Tasks.{action_count, fluent_count}
 use Rattle.task_core.specs.Vectors.{Vector, all_vectors, value_of}
 use Rattle.task_core.proofs.TaskSystem.{is_system}
@@ -188,10 +188,10 @@ up true b more out = absurd (false≢true (sym (ap not (more refl)) ∙ out))
 up false b more out = refl
 
 module _ (start : Start) (y z : Scene) (n : ℕ) (is_n : n ≡ fluent_count start.task) (ready : IsReady start y) (differ : set_at y.0.sets y.1 1 ≡ set_at y.0.sets y.1 0 → ⊥) (next : SameStates start (states_at z 0) (states_at y 1)) where
-  state : (v : Vector) → Contains (all_vectors n) v → IsState (sys_of start) v
+  state : (v : Vector) → Contains (all_vectors n) v → IsVector (sys_of start) v
   state v c = all_vectors-length n v c ∙ is_n
 
-  not_alike : ((v : Vector) → IsState (sys_of start) v → states_at z 0 v ≡ states_at y 0 v) → ⊥
+  not_alike : ((v : Vector) → IsVector (sys_of start) v → states_at z 0 v ≡ states_at y 0 v) → ⊥
   not_alike same =
       differ (same_functions (fluent_count start.task) (set_at y.0.sets y.1 1) (set_at y.0.sets y.1 0) (depends_at start y ready 1) (depends_at start y ready 0)
       (λ v is. sym (next v is) ∙ same v is))

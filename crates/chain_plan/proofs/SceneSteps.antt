@@ -11,7 +11,7 @@ use Rattle.plan_theory.specs.Safe.{some_must_lead}
 use Rattle.plan_theory.specs.Layers.{action_numbers, must_lead}
 use Rattle.plan_theory.proofs.WeakLists.{list_all-agree, list_any-agree}
 use Rattle.task_core.specs.Cubes.{SetOfVectors}
-use Rattle.task_core.specs.Systems.{IsState}
+use Rattle.task_core.specs.Systems.{IsVector}
 use Rattle.task_core.specs.Tasks.{action_count, fluent_count, next_states}
 use Rattle.task_core.specs.Vectors.{Vector, value_of}
 use Rattle.task_core.proofs.TaskSystem.{is_system}
@@ -115,9 +115,9 @@ led_states start x y place a into ready m v is =
     ap (λ (f : SetOfVectors). f v) (moved_here start x y place _ m)
     ∙ strong_agrees (board_of start) a (set_at x.0.sets x.1 into) (states_at x into) (depends_at start x ready into) (λ u at. refl) v is
 
-pub leads_same : (start : Start) (f g : SetOfVectors) → SameStates start f g → (v : Vector) (a : ℕ) → IsState (sys_of start) v → must_lead (sys_of start) f v a ≡ must_lead (sys_of start) g v a
+pub leads_same : (start : Start) (f g : SetOfVectors) → SameStates start f g → (v : Vector) (a : ℕ) → IsVector (sys_of start) v → must_lead (sys_of start) f v a ≡ must_lead (sys_of start) g v a
 leads_same start f g same v a is =
-    let each : (t : Vector) → Contains (next_states start.task v a) t → f t ≡ g t = λ t o. same t ((is_system start.task).next v a t o) in
+    let each : (t : Vector) → Contains (next_states start.task v a) t → f t ≡ g t = λ t o. same t ((is_system start.task).next v a t o).vector in
     ap (λ b. b && list_all f (next_states start.task v a)) (list_any-agree f g (next_states start.task v a) each)
     ∙ ap (λ b. list_any g (next_states start.task v a) && b) (list_all-agree f g (next_states start.task v a) each)
 

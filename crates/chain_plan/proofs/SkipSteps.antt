@@ -15,7 +15,7 @@ use Rattle.slot_board.specs.Board.{set_at}
 use Rattle.cyclic_plan.proofs.Growth.{first_is}
 use Rattle.cyclic_plan.proofs.StageSteps.{strong_agrees}
 use Rattle.plan_theory.specs.Layers.{must_lead}
-use Rattle.task_core.specs.Systems.{IsState}
+use Rattle.task_core.specs.Systems.{IsVector}
 use Rattle.task_core.specs.Tasks.{action_count}
 use Rattle.task_core.specs.Vectors.{Vector, value_of}
 use Rattle.chain_plan.specs.Scenes.{IsReady, Moved, Scene, SameStates, Start, Worked, board_of, states_at, sys_of}
@@ -143,9 +143,9 @@ module _ (start : Start) (x w y : Scene) (takers a : ℕ) (high : 8 ≤ takers) 
   pub climbs_same : a < action_count start.task → LeadsAmong start w a → Climbs start x y takers (a + 1)
   climbs_same below among =
       let p = λ (v : Vector). must_lead (sys_of start) (states_at x 0) v in
-      let up : (v : Vector) → IsState (sys_of start) v → p v a ≡ true → (states_at x 0 v || list_any (p v) (range_with_len 0 a)) ≡ true =
+      let up : (v : Vector) → IsVector (sys_of start) v → p v a ≡ true → (states_at x 0 v || list_any (p v) (range_with_len 0 a)) ≡ true =
       λ v is leads. sym (climbs.next v is) ∙ among v is (ap (λ (f : _). must_lead (sys_of start) f v a) climbs.near ∙ leads) in
-      let none : (v : Vector) → IsState (sys_of start) v → false ≡ first_lead (sys_of start) (states_at x 0) (λ u. not (states_at x 0 u)) a v =
+      let none : (v : Vector) → IsVector (sys_of start) v → false ≡ first_lead (sys_of start) (states_at x 0) (λ u. not (states_at x 0 u)) a v =
       λ v is.
       never (states_at x 0 v) (list_any (p v) (range_with_len 0 a)) (p v a) (up v is)
       ∙ ap (λ b. not (states_at x 0 v) && b) (first_is (p v) (action_count start.task) a below) in
@@ -168,7 +168,7 @@ module _ (start : Start) (x w y : Scene) (takers a : ℕ) (high : 8 ≤ takers) 
 
 -- where no state is without an action, none takes one more
 module _ (start : Start) (x w : Scene) (takers a : ℕ) (below : a < action_count start.task) (h : Shared start x w takers a) (none : set_at w.0.sets w.1 3 ≡ nothing) where
-  rest_none : (v : Vector) → IsState (sys_of start) v → (states_at x 3 v && not (list_any (must_lead (sys_of start) (states_at x 0) v) (range_with_len 0 a))) ≡ false
+  rest_none : (v : Vector) → IsVector (sys_of start) v → (states_at x 3 v && not (list_any (must_lead (sys_of start) (states_at x 0) v) (range_with_len 0 a))) ≡ false
   rest_none v is = sym (h.rest v is) ∙ ap (λ (f : Function). f (value_of v)) none
 
   gone : (r s t : Bool) → (r && not s) ≡ false → (r && not s) ≡ (r && not (s || t))

@@ -12,7 +12,7 @@ use Rattle.plan_theory.proofs.WeakLists.{find-None}
 use Rattle.plan_theory.specs.Layers.{action_numbers, must_lead}
 use Rattle.plan_theory.specs.LayerPlans.{is_action}
 use Rattle.task_core.specs.Cubes.{SetOfVectors}
-use Rattle.task_core.specs.Systems.{IsState, IsSystem, System}
+use Rattle.task_core.specs.Systems.{IsVector, IsSystem, System}
 use Rattle.task_core.specs.Vectors.{Vector}
 use Rattle.chain_plan.specs.Scenes.{SameStates, Start, sys_of}
 use Rattle.chain_plan.proofs.SceneSteps.{leads_same, some_leads_same}
@@ -28,15 +28,15 @@ pub stage_set_same : (start : Start) (f g : SetOfVectors) → SameStates start f
 stage_set_same start f g same = near_same start f g same (2 ^ (sys_of start).fluents)
 
 -- the least-numbered action that leads into a set
-pub first_same : (start : Start) (f g : SetOfVectors) → SameStates start f g → (v : Vector) → IsState (sys_of start) v
+pub first_same : (start : Start) (f g : SetOfVectors) → SameStates start f g → (v : Vector) → IsVector (sys_of start) v
     → find (must_lead (sys_of start) f v) (action_numbers (sys_of start)) ≡ find (must_lead (sys_of start) g v) (action_numbers (sys_of start))
 first_same start f g same v is = ap (λ (p : ℕ → Bool). find p (action_numbers (sys_of start))) (fun_ext (λ a. leads_same start f g same v a is))
 
-at_rank_same : (start : Start) (f g : SetOfVectors) → SameStates start f g → (v : Vector) → IsState (sys_of start) v → (k : ℕ) → action_at_rank (sys_of start) f v k ≡ action_at_rank (sys_of start) g v k
+at_rank_same : (start : Start) (f g : SetOfVectors) → SameStates start f g → (v : Vector) → IsVector (sys_of start) v → (k : ℕ) → action_at_rank (sys_of start) f v k ≡ action_at_rank (sys_of start) g v k
 at_rank_same start f g same v is zero = refl
 at_rank_same start f g same v is (suc k) = first_same start (near (sys_of start) f k) (near (sys_of start) g k) (near_same start f g same k) v is
 
-pub stage_action_same : (start : Start) (f g : SetOfVectors) → SameStates start f g → (v : Vector) → IsState (sys_of start) v → stage_action (sys_of start) f v ≡ stage_action (sys_of start) g v
+pub stage_action_same : (start : Start) (f g : SetOfVectors) → SameStates start f g → (v : Vector) → IsVector (sys_of start) v → stage_action (sys_of start) f v ≡ stage_action (sys_of start) g v
 stage_action_same start f g same v is =
     ap (λ (h : ℕ → Option ℕ). option_and_then h (stage_rank (sys_of start) f v)) (fun_ext (at_rank_same start f g same v is))
     ∙ ap (λ (p : ℕ → Bool). option_and_then (action_at_rank (sys_of start) g v) (find p (range_with_len 0 (2 ^ (sys_of start).fluents + 1)))) (fun_ext (λ k. near_same start f g same k v is))
@@ -61,7 +61,7 @@ none_taken sys met v a b = sym (ap (λ c. b || c) (go (met v) refl) ∙ or_none 
 no_first : (sys : System) (set : SetOfVectors) (v : Vector) (a : ℕ) → some_must_lead sys set v ≡ false → is_action a (find (must_lead sys set v) (action_numbers sys)) ≡ false
 no_first sys set v a none = ap (is_action a) (find-None (must_lead sys set v) (action_numbers sys) none)
 
-pub more_taken : (sys : System) (met : SetOfVectors) (v : Vector) (a k : ℕ) (b : Bool) → IsSystem sys → IsState sys v
+pub more_taken : (sys : System) (met : SetOfVectors) (v : Vector) (a k : ℕ) (b : Bool) → IsSystem sys → IsVector sys v
     → ((b || (near sys met k v && is_action a (stage_action sys met v))) || (not (near sys met k v) && is_action a (find (must_lead sys (near sys met k) v) (action_numbers sys))))
     ≡ (b || (near sys met (suc k) v && is_action a (stage_action sys met v)))
 more_taken sys met v a k b ok is = go (near sys met k v) (near sys met (suc k) v) refl refl

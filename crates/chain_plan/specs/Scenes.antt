@@ -11,7 +11,7 @@ use Rattle.encode_task.specs.Made.{MadeOf}
 use Rattle.encode_task.specs.Slots.{Encoded}
 use Rattle.slot_board.specs.Board as board
 use Rattle.task_core.specs.Cubes.{SetOfVectors}
-use Rattle.task_core.specs.Systems.{IsState, System}
+use Rattle.task_core.specs.Systems.{IsVector, System}
 use Rattle.task_core.specs.Tasks.{action_count, system_of}
 use Rattle.task_core.specs.Vectors.{Vector, value_of}
 use Rattle.task_core.specs.declared.tasks.Task.{Task}
@@ -64,7 +64,7 @@ states_at x place v = board.set_at x.0.sets x.1 place (value_of v)
 
 -- two sets have the same states of the task
 abbrev pub SameStates : Start → SetOfVectors → SetOfVectors → Type 0
-SameStates start f g = (v : Vector) → IsState (sys_of start) v → f v ≡ g v
+SameStates start f g = (v : Vector) → IsVector (sys_of start) v → f v ≡ g v
 
 abbrev pub IsAt : Start → Scene → Type 0
 IsAt start x = board.At (board_of start) x.0 x.1

@@ -13,7 +13,7 @@ use Rattle.plan_theory.specs.Wins.{met_count, met_set, win}
 use Rattle.plan_theory.specs.Layers.{action_numbers, must_lead}
 use Rattle.plan_theory.specs.LayerPlans.{is_action}
 use Rattle.task_core.specs.Cubes.{SetOfVectors}
-use Rattle.task_core.specs.Systems.{IsState, System}
+use Rattle.task_core.specs.Systems.{IsVector, System}
 use Rattle.task_core.specs.Tasks.{action_count}
 use Rattle.task_core.specs.Vectors.{Vector}
 use Rattle.task_core.specs.declared.conditions.Cond.{Cond}
@@ -55,12 +55,12 @@ pub record OnlyHits (start : Start) (x y : Scene) : Type 0 where
 
 -- an action leads into the states at 0 from states at 1 alone
 abbrev pub LeadsAmong : Start → Scene → ℕ → Type 0
-LeadsAmong start x a = (v : Vector) → IsState (sys_of start) v
+LeadsAmong start x a = (v : Vector) → IsVector (sys_of start) v
     → must_lead (sys_of start) (states_at x 0) v a ≡ true → states_at x 1 v ≡ true
 
 -- a round on the states at 0 adds by an action states at 1 alone
 abbrev pub HitsAmong : Way → Start → Scene → ℕ → Type 0
-HitsAmong way start x a = (v : Vector) → IsState (sys_of start) v
+HitsAmong way start x a = (v : Vector) → IsVector (sys_of start) v
     → hits_by way (states_at x 0) (λ u. must_lead (sys_of start) (states_at x 0) u a) v ≡ true
     → states_at x 1 v ≡ true
 

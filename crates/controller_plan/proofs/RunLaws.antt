@@ -2,15 +2,18 @@
 use Rattle.std.proofs.Common.{◌≡◌, ◌≢◌, ◌⊎◌, ◌≤◌, ◌<◌, ℕ, true, List, length, inl, inr, refl, sym, subst, ap, ◌∙◌, arith, Some, None}
 use Rattle.std.specs.Io.KnownBytes.{append_known}
 use Rattle.pddl_ast.specs.Trees.{DomainTree, ProblemTree}
+use Rattle.pddl_system.specs.Systems.{system}
 use Rattle.plan_io.specs.Fetches.{FailedLast}
 use Rattle.plan_io.specs.Held.{Held}
 use Rattle.mbp_top.specs.Answers.{Answer, affirmed, denied, full, is_shown, no_command, no_memory, over_limit, refused, status_of, text_of}
 use Rattle.mbp_top.specs.ChainGoals.{ChainThen}
 use Rattle.mbp_top.specs.Delivery.{IsDelivered, Seen}
 use Rattle.mbp_top.specs.Grounding.{GroundThen}
+use Rattle.mbp_top.specs.InitialStates.{empty_init}
 use Rattle.mbp_top.specs.PddlTexts.{HoldBoth}
 use Rattle.mbp_top.specs.PlanCommand.{HasNoPlan, IsPlanResult, IsResultOf, no_plan_text}
 use Rattle.mbp_top.specs.Words.{Bytes, PlanKind, of_class, with_contexts}
+use Rattle.mbp_top.proofs.Initials.{shown_initial}
 use Rattle.mbp_top.proofs.PddlDecides.{ReadFor, not_refused, shown_both, shown_goal, shown_grounded}
 use Rattle.mbp_top.proofs.Statuses.{shown_at, whole_delivery, written_shown}
 use Rattle.controller_plan.specs.Controllers.{AffirmsNothing, ControlThen, IsControlAnswer, IsControlled, IsController, IsControllerShown}
@@ -81,10 +84,12 @@ plan_missing kind d p a none (inr missing) = (missing.shown, missing.none)
 
 result_missing : (kind : PlanKind) (name : Bytes) (d : DomainTree) (p : ProblemTree) (a : Answer) → is_shown a ≡ true → ((text : Bytes) → a ≡ affirmed text → ⊥)
     → IsResultOf kind name d p a → (a ≡ denied no_plan_text) × HasNoPlan kind d p
-result_missing (of_class class) name d p a shown none result = plan_missing (of_class class) d p a none result
+result_missing (of_class class) name d p a shown none result =
+    plan_missing (of_class class) d p a none (shown_initial (empty_init name p) (system d p).initial (IsPlanResult (of_class class) d p) a shown result)
 result_missing with_contexts name d p a shown none (inl (no_chain, is)) = absurd (not_refused _ a is shown)
 result_missing with_contexts name d p a shown none (inr (chain, is_chain, inl (many, is))) = absurd (not_refused _ a is shown)
-result_missing with_contexts name d p a shown none (inr (chain, is_chain, inr (few, result))) = plan_missing with_contexts d p a none result
+result_missing with_contexts name d p a shown none (inr (chain, is_chain, inr (few, result))) =
+    plan_missing with_contexts d p a none (shown_initial (empty_init name p) (system d p).initial (IsPlanResult with_contexts d p) a shown result)
 
 missing_for : (asked : ControlWords) (d : DomainTree) (p : ProblemTree) (a : Answer) → is_shown a ≡ true → ((text : Bytes) → a ≡ affirmed text → ⊥)
     → ControlThen asked d p a → (a ≡ denied no_plan_text) × HasNoPlan asked.plan.kind d p

@@ -1,5 +1,5 @@
 -- What the checker says yes to is a controller.
-use Rattle.std.proofs.Common.{◌≡◌, ◌↔◌, List, refl, subst, Option, None, Some, true}
+use Rattle.std.proofs.Common.{◌≡◌, ◌≢◌, ◌↔◌, ◌∙◌, ap, List, [], inl, inr, refl, subst, Option, None, Some, true}
 use Rattle.std.specs.Option.{option_map}
 use Rattle.std.specs.Prelude.{IfSome}
 use Rattle.ctl_syntax.specs.declared.goals.Ctl.{Ctl}
@@ -15,12 +15,14 @@ use Rattle.plan_rules.specs.Readings.{SpellsPlanAt}
 use Rattle.plan_rules.specs.Rules.{PlainPlan, plain_of}
 use Rattle.plan_rules.specs.declared.rules.PlanRead.{PlanRead}
 use Rattle.task_core.specs.Names.{Name}
-use Rattle.task_core.specs.Tasks.{action_names as names_of_actions, fluent_names as names_of_fluents, system_of}
+use Rattle.task_core.specs.Systems.{System}
+use Rattle.task_core.specs.Tasks.{action_names as names_of_actions, fluent_names as names_of_fluents, initial_states, system_of}
 use Rattle.task_core.specs.declared.tasks.Task.{Task}
 use Rattle.mbp_top.specs.Answers.{Answer, affirmed, is_shown}
 use Rattle.mbp_top.specs.CheckCommand.{ShowsVerdict, most_followed, verdict_answer}
 use Rattle.mbp_top.specs.Grounded.{IsGroundedOf}
 use Rattle.mbp_top.specs.Grounding.{has_goal_for}
+use Rattle.mbp_top.specs.InitialStates.{InitialThen}
 use Rattle.mbp_top.specs.Judged.{HasGoalIn, IsTaskVerdict}
 use Rattle.mbp_top.specs.Meets.{PlanMeets}
 use Rattle.mbp_top.specs.Words.{Bytes, PlanKind}
@@ -42,10 +44,27 @@ verdict_meets true_goals law kind d p g plan said (Yes bound) of verdict is =
     yes_is_met law kind d p plan bound (verdict_for true_goals kind d p g.task g.ctl plan (Yes bound) of.of_task.system_is of.goal_is verdict)
 verdict_meets true_goals law kind d p g plan said (No reason) of verdict is = absurd (cc is)
 
+-- a plan that the checker says yes to begins somewhere, and meets the problem
+affirmed_verdict : (kind : PlanKind) (g : Grounded) (plan : PlainPlan) (affirmation : IsAffirmed kind g.task g.ctl plan)
+    → (initial_states g.task ≢ []) × ShowsVerdict (IsTaskVerdict kind g.task g.ctl plan) (affirmed affirmation.said)
+affirmed_verdict kind g plan affirmation =
+    go (shown_judged (HasTooManyInitial g.task most_followed) (system_of g.task) plan
+    (InitialThen affirmation.empty (initial_states g.task) (ShowsVerdict (IsTaskVerdict kind g.task g.ctl plan))) (affirmed affirmation.said) refl affirmation.verdict)
+  where
+    go : InitialThen affirmation.empty (initial_states g.task) (ShowsVerdict (IsTaskVerdict kind g.task g.ctl plan)) (affirmed affirmation.said)
+        → (initial_states g.task ≢ []) × ShowsVerdict (IsTaskVerdict kind g.task g.ctl plan) (affirmed affirmation.said)
+    go (inl (none, is)) = absurd (cc is)
+    go (inr then) = then
+
+affirmed_begins : (kind : PlanKind) (d : DomainTree) (p : ProblemTree) (g : Grounded) (plan : PlainPlan)
+    → IsGroundedOf d p g → IsAffirmed kind g.task g.ctl plan → (system d p).initial ≢ []
+affirmed_begins kind d p g plan of affirmation none =
+    (affirmed_verdict kind g plan affirmation).0 (ap (λ (s : System). s.initial) of.of_task.system_is ∙ none)
+
 affirmed_meets : GroundedGoalsAreTrue → YesSolves → (kind : PlanKind) (d : DomainTree) (p : ProblemTree) (g : Grounded) (plan : PlainPlan)
     → IsGroundedOf d p g → IsAffirmed kind g.task g.ctl plan → PlanMeets kind d p plan
 affirmed_meets true_goals law kind d p g plan of affirmation =
-    let shows = shown_judged (HasTooManyInitial g.task most_followed) (system_of g.task) plan (ShowsVerdict (IsTaskVerdict kind g.task g.ctl plan)) (affirmed affirmation.said) refl affirmation.verdict in
+    let shows = (affirmed_verdict kind g plan affirmation).1 in
     verdict_meets true_goals law kind d p g plan affirmation.said shows.0 of shows.1 shows.2
 
 -- a text that was judged is a controller
@@ -58,6 +77,7 @@ judged_controller true_goals law kind d p g text read of judged = record {
   spelled = subst (λ (ns : List Name). SpellsPlanAt (fluent_names d p) ns text (plain_of read.plan) read.place) (same_actions d p g.task of.of_task.task_is)
       (subst (λ (ns : List Name). SpellsPlanAt ns (names_of_actions g.task) text (plain_of read.plan) read.place) (same_fluents d p g.task of.of_task.task_is) judged.spelled);
   written = judged.written;
+  begins = affirmed_begins kind d p g (plain_of read.plan) of judged.yes;
   meets = affirmed_meets true_goals law kind d p g (plain_of read.plan) of judged.yes;
 }
 

@@ -1,5 +1,5 @@
 -- Which answer is a controller, and the answer to the words.
-use Rattle.std.specs.Prelude.{◌≡◌, ◌≤◌, ◌⊎◌, Bool, true, false, List, codes, length}
+use Rattle.std.specs.Prelude.{◌≡◌, ◌≢◌, ◌≤◌, ◌⊎◌, Bool, true, false, List, [], codes, length}
 use Rattle.pddl_ast.specs.Trees.{DomainTree, ProblemTree}
 use Rattle.exec_graph.specs.Executions.{ReachesMoreThan}
 use Rattle.pddl_system.specs.Systems.{action_names, fluent_names, system}
@@ -20,8 +20,8 @@ use Rattle.mbp_top.specs.Reading.{file_limit}
 use Rattle.mbp_top.specs.Words.{Bytes, PlanKind}
 use Rattle.controller_plan.specs.Words.{ControlWords}
 
--- the bytes are a controller: they spell a plan of the kind that meets the problem, and are no more
--- than a plan's file may have
+-- the bytes are a controller: they spell a plan of the kind that meets the problem, which has an
+-- initial state, and are no more than a plan's file may have
 pub record IsController (kind : PlanKind) (domain : DomainTree) (problem : ProblemTree)
     (text : Bytes) : Type 0 where
   pub plan : PlainPlan
@@ -30,6 +30,7 @@ pub record IsController (kind : PlanKind) (domain : DomainTree) (problem : Probl
   pub spelled : SpellsPlanAt (fluent_names domain problem) (action_names domain problem) text plan
       place
   pub written : IsWrittenFor kind plan
+  pub begins : (system domain problem).initial ≢ []
   pub meets : PlanMeets kind domain problem plan
 
 -- what is shown of a controller: its text or, as JSON, the document of the plan that the text spells

@@ -6,22 +6,27 @@ use Rattle.plan_rules.specs.Plans.{IsPlanOf}
 use Rattle.plan_rules.specs.Readings.{SpellsPlanAt}
 use Rattle.plan_rules.specs.Rules.{PlainPlan, plain_of}
 use Rattle.plan_rules.specs.declared.rules.PlanRead.{PlanRead}
-use Rattle.task_core.specs.Tasks.{action_count, action_names, fluent_count, fluent_names, system_of}
+use Rattle.task_core.specs.Tasks.{action_count, action_names, fluent_count, fluent_names}
+use Rattle.task_core.specs.Tasks.{initial_states, system_of}
 use Rattle.task_core.specs.declared.tasks.Task.{Task}
 use Rattle.mbp_top.specs.Answers.{Refusal, affirmed, no_memory, over_limit}
 use Rattle.mbp_top.specs.CheckCommand.{ExploreThen, ShowsVerdict, most_followed}
+use Rattle.mbp_top.specs.InitialStates.{InitialThen}
 use Rattle.mbp_top.specs.Judged.{IsTaskVerdict}
 use Rattle.mbp_top.specs.PlanCommand.{IsWrittenFor}
 use Rattle.mbp_top.specs.Reading.{file_limit}
 use Rattle.mbp_top.specs.Words.{Bytes, PlanKind}
 use Rattle.controller_plan.specs.Controllers.{MayReachTooMany}
 
--- the checker says yes to a plan of a task
+-- the checker says yes to a plan of a task, and would have refused it so (`empty`) if there were no
+-- initial state
 pub record IsAffirmed (kind : PlanKind) (task : Task) (goal : Option Ctl) (plan : PlainPlan)
     : Type 0 where
   pub said : Bytes
+  pub empty : Refusal
   pub verdict : ExploreThen (HasTooManyInitial task most_followed) (system_of task) plan
-      (ShowsVerdict (IsTaskVerdict kind task goal plan)) (affirmed said)
+      (InitialThen empty (initial_states task)
+      (ShowsVerdict (IsTaskVerdict kind task goal plan))) (affirmed said)
 
 -- a text spells this plan, it is of the kind, and the checker says yes to it
 pub record IsJudged (kind : PlanKind) (task : Task) (goal : Option Ctl) (text : Bytes)

@@ -324,7 +324,8 @@ fn shown_text(
     // promise.
     grounded_goals_are_true();
     yes_is_solution();
-    match judged(alloc, asked.plan.kind, grounded, &text)? {
+    let name = asked.plan.problem;
+    match judged(alloc, asked.plan.kind, name, problem, grounded, &text)? {
         Some(read) => {
             let shown = shown_as(alloc, asked.json, text, &read.plan, &grounded.task)?;
             Ok(Some(shown))

@@ -12,7 +12,7 @@ use exec_graph::MAX_CONFIGURATIONS;
 use indexmap::IndexSet;
 use reached_plan::ReachedPlan;
 use std::alloc::Global;
-use task_core::{ActionId, State, Task, step};
+use task_core::{ActionId, State, Task, in_space, step};
 
 /// A configuration: a state, and the context that the plan is in, counted from 0.
 #[derive(Clone, Copy, PartialEq, Eq, Hash)]
@@ -215,13 +215,16 @@ impl Followed {
     {
         for outcome in 0..outcome_count(task, action) {
             let after = step(task, state, action, outcome);
-            self.add(
-                Place {
-                    state: after,
-                    context: next,
-                },
-                steps,
-            )?;
+            // An outcome that leads to no state doesn't take place.
+            if in_space(task, &after) {
+                self.add(
+                    Place {
+                        state: after,
+                        context: next,
+                    },
+                    steps,
+                )?;
+            }
         }
         Ok(())
     }

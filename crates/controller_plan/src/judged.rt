@@ -2,26 +2,31 @@
 
 ghost use Rattle.controller_plan.specs.Judged.{IsAffirmed, IsControlRefusal, IsJudged};
 ghost use Rattle.ctl_syntax.specs.Values.{NamesBelow, ctl_value};
-ghost use Rattle.mbp_top.specs.Answers.{affirmed};
+ghost use Rattle.mbp_top.specs.Answers.{affirmed, text_fault};
 ghost use Rattle.mbp_top.specs.Judged.{HasGoalIn};
 ghost use Rattle.mbp_top.specs.PlanCommand.{IsWrittenFor};
 ghost use Rattle.mbp_top.specs.PlanFiles.{is_of_kind};
 ghost use Rattle.mbp_top.specs.Values.{kind_of, refusal_of, shown_of};
 ghost use Rattle.plan_rules.specs.Plans.{IsPlanOf};
 ghost use Rattle.plan_rules.specs.Rules.{plain_of};
-ghost use Rattle.std.specs.Prelude.{◌≡◌, ◌↔◌, IfErr, IfOk, IfSome, IsTrue, List, true, ℕ};
+ghost use Rattle.sexpr_text.specs.declared.faults.InputFault.{InputFault};
+ghost use Rattle.std.specs.Prelude.{◌≡◌, ◌≢◌, ◌↔◌, IfErr, IfOk, IfSome, IsTrue, List, false, true, ℕ};
 ghost use Rattle.task_core.specs.Tasks.{action_count, fluent_count};
 
 use ground_task::Grounded;
 use mbp_top::{Limit, PlanKind, Refusal, Shown, judge};
+use pddl_ast::Problem;
 use plan_rules::{Class, Plan, PlanRead, read_plan};
 use sexpr_text::{MAX_BYTES, ReadErr};
 use std::alloc::Global;
 
-/// The plan that a text spells, if it is one of the kind that the checker says yes to.
+/// The plan that a text spells, if it is one of the kind that the checker says yes to, as one for the
+/// problem in the file of this name.
 pub(crate) fn judged(
     alloc: Global,
     kind: PlanKind,
+    name: &str,
+    problem: &Problem,
     grounded: &Grounded,
     text: &[u8],
 ) -> Result<Option<PlanRead>, Refusal>
@@ -37,7 +42,7 @@ pub(crate) fn judged(
         return Err(Refusal::OverLimit(Limit::File));
     }
     match read_plan(alloc, text, &grounded.task) {
-        Ok(read) => judged_plan(alloc, kind, grounded, read),
+        Ok(read) => judged_plan(alloc, kind, name, problem, grounded, read),
         Err(ReadErr::Fault(_)) => Ok(None),
         Err(ReadErr::Memory) => Err(Refusal::NoMemory),
     }
@@ -47,6 +52,8 @@ pub(crate) fn judged(
 fn judged_plan(
     alloc: Global,
     kind: PlanKind,
+    name: &str,
+    problem: &Problem,
     grounded: &Grounded,
     read: PlanRead,
 ) -> Result<Option<PlanRead>, Refusal>
@@ -64,16 +71,20 @@ fn judged_plan(
     ensures refused { IfErr result
         (λ refusal. IsControlRefusal grounded.now.task (refusal_of refusal)) }
 {
-    if is_written_for(kind, &read.plan) && is_affirmed(alloc, kind, grounded, &read.plan)? {
+    if is_written_for(kind, &read.plan)
+        && is_affirmed(alloc, kind, name, problem, grounded, &read.plan)?
+    {
         return Ok(Some(read));
     }
     Ok(None)
 }
 
-/// Whether the checker says yes to a plan of the kind.
+/// Whether the checker says yes to a plan of the kind. It doesn't where there is no initial state.
 fn is_affirmed(
     alloc: Global,
     kind: PlanKind,
+    name: &str,
+    problem: &Problem,
     grounded: &Grounded,
     plan: &Plan,
 ) -> Result<bool, Refusal>
@@ -88,9 +99,22 @@ fn is_affirmed(
     ensures refused { IfErr result
         (λ refusal. IsControlRefusal grounded.now.task (refusal_of refusal)) }
 {
-    match judge(alloc, kind, grounded, plan) {
+    match judge(alloc, kind, name, problem, grounded, plan) {
         Ok(shown) => Ok(affirms(&shown)),
-        Err(refusal) => Err(refusal),
+        Err(refusal) => unless_fault(refusal),
+    }
+}
+
+/// A refusal of the checker, but for a fault of a text: that there is no initial state is no yes.
+fn unless_fault(refusal: Refusal) -> Result<bool, Refusal>
+    ensures no { IfOk result (λ is. is ≡ false) }
+    ensures same { IfErr result (λ other. other ≡ refusal) }
+    ensures other { IfErr result (λ other. (file : List ℕ) (fault : InputFault)
+        → refusal_of other ≢ text_fault file fault) }
+{
+    match refusal {
+        Refusal::TextFault(..) => Ok(false),
+        other => Err(other),
     }
 }
 

@@ -23,7 +23,7 @@ use Rattle.plan_theory.proofs.PrintedWithin.{printed_within}
 use Rattle.plan_theory.proofs.WeakDenoted.{denoted-table}
 use Rattle.plan_theory.proofs.WeakLists.{list_all-agree, list_all-at, list_all-from}
 use Rattle.plan_theory.proofs.RoundSteps.{later_rounds, rounds_end, rounds_shrink_to}
-use Rattle.task_core.specs.Systems.{IsState}
+use Rattle.task_core.specs.Systems.{IsVector}
 use Rattle.task_core.specs.Vectors.{Vector, value_of}
 use Rattle.task_core.specs.Cubes.{SetOfVectors}
 use Rattle.cyclic_plan.specs.Answers.{Ends, IsAnswer, IsPlanOf}
@@ -49,7 +49,7 @@ module _ (task : Task) (r : ℕ) (last : IsLastRound (system_of task) r) where
   all_covered all =
       let sys = system_of task in
       list_all-from (goal_or_pair sys (kept sys (round sys r))) sys.initial
-      (λ s c. left_state sys (is_system task) r last s ((is_system task).initial s c) (list_all-at (round sys r) sys.initial s all c))
+      (λ s c. left_state sys (is_system task) r last s ((is_system task).initial s c).vector (list_all-at (round sys r) sys.initial s all c))
 
   not_covered : list_all (round (system_of task) r) (system_of task).initial ≡ false → covers (system_of task) (kept (system_of task) (round (system_of task) r)) ≡ false
   not_covered short =
@@ -57,7 +57,7 @@ module _ (task : Task) (r : ℕ) (last : IsLastRound (system_of task) r) where
       let pairs = kept sys (round sys r) in
       false_from_ne_true (covers sys pairs) (λ h.
       true≢false (sym (list_all-from (round sys r) sys.initial (λ s c.
-      let is = (is_system task).initial s c in
+      let is = ((is_system task).initial s c).vector in
       sym (last s is) ∙ near sys pairs (is_system task) (last_is_largest sys (is_system task) r last).proper s is (list_all-at (goal_or_pair sys pairs) sys.initial s h c)))
       ∙ short))
 
@@ -71,14 +71,14 @@ pub lost_is : (task : Task) (r : ℕ) → list_all (round (system_of task) r) (s
 lost_is task r short =
     let sys = system_of task in
     let last = rounds_end sys in
-    let down : (s : Vector) → IsState sys s → round sys last.0 s ≡ true → round sys r s ≡ true =
+    let down : (s : Vector) → IsVector sys s → round sys last.0 s ≡ true → round sys r s ≡ true =
     λ s is h.
     ⊎_elim (λ (l : last.0 < r). later_rounds sys last.0 (is_system task) last.2 r (omega arith) s is ∙ h)
     (λ (l : r ≤ last.0). rounds_shrink_to sys s r last.0 l h)
     (cases_lt last.0 r) in
     no_plan_is task last.0 last.2
     (false_from_ne_true (list_all (round sys last.0) sys.initial)
-    (λ all. true≢false (sym (list_all-from (round sys r) sys.initial (λ s c. down s ((is_system task).initial s c) (list_all-at (round sys last.0) sys.initial s all c))) ∙ short)))
+    (λ all. true≢false (sym (list_all-from (round sys r) sys.initial (λ s c. down s ((is_system task).initial s c).vector (list_all-at (round sys last.0) sys.initial s all c))) ∙ short)))
 
 -- what the rounds end with: a refusal, an early end, and the last round
 pub rounds_refused : {T : Type 0} (start : Start) (now : Encoded) (slots : List SetId) (P : Type 0) (inner : Result T SetErr) (outer : Result Bool SetErr) (e : SetErr) → inner ≡ Err e → (x : SetErr) × (outer ≡ Err x) × (x ≡ e) → Left start now slots P inner → RoundsEnd start now slots outer
@@ -88,7 +88,7 @@ rounds_refused start now slots P inner outer e was p left =
 pub near_covered_is : (start : Start) (enc : Encoded) (slots : List SetId) (left : SetOfVectors) (taken : Takings) (near : SetOfVectors) → HasNear start enc slots left taken near
     → list_all (λ state. set_at enc.sets slots 3 (value_of state)) (initial_states start.task) ≡ list_all near (system_of start.task).initial
 near_covered_is start enc slots left taken near h =
-    list_all-agree (λ state. set_at enc.sets slots 3 (value_of state)) near (initial_states start.task) (λ s c. h.holds_near s ((is_system start.task).initial s c))
+    list_all-agree (λ state. set_at enc.sets slots 3 (value_of state)) near (initial_states start.task) (λ s c. h.holds_near s ((is_system start.task).initial s c).vector)
 
 pub rounds_ended : (start : Start) (enc now : Encoded) (slots : List SetId) (r : ℕ) (result : Result Bool SetErr) → IsLastRound (system_of start.task) r → HasRounds start enc slots r → Left start now slots (Stayed start enc.sets now slots) result
     → IfOk result (λ covered. covered ≡ list_all (λ state. set_at enc.sets slots 1 (value_of state)) (initial_states start.task)) → RoundsEnd start now slots result
@@ -140,7 +140,7 @@ plan_of_table start now slots h plan class is =
       printed = (h.pairs, h.largest, is);
       in_task = subst (λ (rules : List PlanRule). All (IsRuleOf (fluent_count task) (action_count task)) rules) (sym is)
           (printed_within Weak (restricted sys h.pairs) (2 ^ sys.fluents) (IsRuleOf (fluent_count task) (action_count task)) (λ cube a below lt. record { cube = below; action = lt }));
-      table = denoted-table sys (rules_of plan);
+      table = denoted-table sys (is_system task) (rules_of plan);
       solves = subst (λ (rules : List PlanRule). IsStrongCyclicSolution sys (denoted sys rules)) (sym is) (cyclic_solves sys h.pairs (is_system task) h.largest.proper h.covered);
       executable = subst (IsExecutable sys) (sym is) (cyclic_executable sys h.pairs);
     }

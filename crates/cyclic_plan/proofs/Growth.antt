@@ -12,7 +12,7 @@ use Rattle.dd_nodes.specs.Subfunctions.{DependsOnly, Function}
 use Rattle.dd_sets.specs.declared.slots.SetId.{SetId}
 use Rattle.encode_task.specs.Slots.{Encoded}
 use Rattle.task_core.specs.Cubes.{SetOfVectors}
-use Rattle.task_core.specs.Systems.{IsState, IsSystem, System}
+use Rattle.task_core.specs.Systems.{IsVector, IsSystem, System}
 use Rattle.task_core.specs.Tasks.{action_count, fluent_count, system_of}
 use Rattle.task_core.specs.Vectors.{Vector, all_vectors, value_of}
 use Rattle.task_core.specs.declared.classes.Class.TheVariants.{Weak}
@@ -36,7 +36,7 @@ use Rattle.cyclic_plan.specs.Stages.{HasNear, HasNext, HasRound, Takings, kept_s
 
 -- the same states by another name
 pub round_as : (start : Start) (now : Encoded) (slots : List SetId) (left : SetOfVectors) (taken other : Takings) → HasRound start now slots left taken
-    → ((a : ℕ) (v : Vector) → a < action_count start.task → IsState (system_of start.task) v → taken a v ≡ other a v) → HasRound start now slots left other
+    → ((a : ℕ) (v : Vector) → a < action_count start.task → IsVector (system_of start.task) v → taken a v ≡ other a v) → HasRound start now slots left other
 round_as start now slots left taken other h same = record {
   at = h.at;
   places = h.places;
@@ -47,7 +47,7 @@ round_as start now slots left taken other h same = record {
 }
 
 pub near_as : (start : Start) (now : Encoded) (slots : List SetId) (left : SetOfVectors) (taken other : Takings) (near close : SetOfVectors) → HasNear start now slots left taken near
-    → ((a : ℕ) (v : Vector) → a < action_count start.task → IsState (system_of start.task) v → taken a v ≡ other a v) → ((v : Vector) → IsState (system_of start.task) v → near v ≡ close v) → HasNear start now slots left other close
+    → ((a : ℕ) (v : Vector) → a < action_count start.task → IsVector (system_of start.task) v → taken a v ≡ other a v) → ((v : Vector) → IsVector (system_of start.task) v → near v ≡ close v) → HasNear start now slots left other close
 near_as start now slots left taken other near close h same alike = record {
   round = round_as start now slots left taken other h.round same;
   holds_pairs = h.holds_pairs;
@@ -55,7 +55,7 @@ near_as start now slots left taken other near close h same alike = record {
 }
 
 pub next_as : (start : Start) (now : Encoded) (slots : List SetId) (left : SetOfVectors) (taken other : Takings) (near next more : SetOfVectors) → HasNext start now slots left taken near next
-    → ((a : ℕ) (v : Vector) → a < action_count start.task → IsState (system_of start.task) v → taken a v ≡ other a v) → ((v : Vector) → IsState (system_of start.task) v → next v ≡ more v) → HasNext start now slots left other near more
+    → ((a : ℕ) (v : Vector) → a < action_count start.task → IsVector (system_of start.task) v → taken a v ≡ other a v) → ((v : Vector) → IsVector (system_of start.task) v → next v ≡ more v) → HasNext start now slots left other near more
 next_as start now slots left taken other near next more h same alike = record {
   by_near = near_as start now slots left taken other near near h.by_near same (λ v is. refl);
   holds_next = λ v is. h.holds_next v is ∙ alike v is;
@@ -186,7 +186,7 @@ takers_step true sys k a v below =
 
 -- where a layer is as the next one, it is as the last one, and the actions are chosen alike
 module _ (sys : System) (ok : IsSystem sys) (k : ℕ) (stable : IsStable Weak sys k) where
-  pub layer_last : (v : Vector) → IsState sys v → layer Weak sys k v ≡ layer Weak sys (2 ^ sys.fluents) v
+  pub layer_last : (v : Vector) → IsVector sys v → layer Weak sys k v ≡ layer Weak sys (2 ^ sys.fluents) v
   layer_last v is =
       let still = stands_still Weak sys in
       ⊎_elim

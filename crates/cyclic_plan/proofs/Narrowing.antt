@@ -8,7 +8,7 @@ use Rattle.dd_sets.specs.LiveSets.{nothing}
 use Rattle.dd_sets.specs.declared.slots.SetId.{SetId}
 use Rattle.encode_task.specs.Slots.{Encoded}
 use Rattle.task_core.specs.Cubes.{SetOfVectors}
-use Rattle.task_core.specs.Systems.{IsState, IsSystem, System}
+use Rattle.task_core.specs.Systems.{IsVector, IsSystem, System}
 use Rattle.task_core.specs.Tasks.{action_count, system_of}
 use Rattle.task_core.specs.Vectors.{Vector, value_of}
 use Rattle.task_core.proofs.TaskSystem.{is_system}
@@ -52,7 +52,7 @@ and_none false b e = sym e
 
 -- where it loses no pair of a state that is left, it leaves the same states
 module _ (sys : System) (ok : IsSystem sys) (r : ℕ) (none : (a : ℕ) → a < sys.actions → LosesNone sys r a) where
-  stays : (k : ℕ) (v : Vector) → IsState sys v → progress sys (kept sys (round sys r)) k v ≡ true → progress sys (kept sys (round sys (suc r))) k v ≡ true
+  stays : (k : ℕ) (v : Vector) → IsVector sys v → progress sys (kept sys (round sys r)) k v ≡ true → progress sys (kept sys (round sys (suc r))) k v ≡ true
   stays zero v is h = h
   stays (suc k) v is h =
       let before : Pairs = kept sys (round sys r) in
@@ -63,7 +63,7 @@ module _ (sys : System) (ok : IsSystem sys) (r : ℕ) (none : (a : ℕ) → a < 
       let t = list_any-witness (progress sys before k) ((restricted sys before).next v a.0) a.2 in
       let o = outcome_of_pair sys before v a.0 t.0 t.1 in
       let pair : after v a.0 ≡ true = none a.0 (Contains-range_with_len-below sys.actions a.0 a.1) v is ∙ and_from (before v a.0) (round sys (suc r) v) o.0 (progress_connected sys before ok (suc k) v is h) in
-      progress_step sys after ok k v a.0 t.0 pair o.1 (stays k t.0 (ok.next v a.0 t.0 o.1) t.2))
+      progress_step sys after ok k v a.0 t.0 pair o.1 (stays k t.0 (ok.next v a.0 t.0 o.1).vector t.2))
       (or_cases (progress sys before k v) _ h)
 
   pub none_lost : IsLastRound sys (suc r)
@@ -100,7 +100,7 @@ pairs_met start enc now old new r a l h m =
 
 -- there are none
 module _ (start : Start) (now : Encoded) (slots : List SetId) (r a : ℕ) (l : a < action_count start.task) (h : HasMet start now slots r a) (none : set_at now.sets slots (7 + a) ≡ nothing) where
-  none_met : (v : Vector) → IsState (system_of start.task) v → (kept (system_of start.task) (round (system_of start.task) r) v a && round (system_of start.task) (suc r) v) ≡ false
+  none_met : (v : Vector) → IsVector (system_of start.task) v → (kept (system_of start.task) (round (system_of start.task) r) v a && round (system_of start.task) (suc r) v) ≡ false
   none_met v is = sym (h.holds_met v is) ∙ ap (λ (f : Function). f (value_of v)) none
 
   pub none_loses : LosesNone (system_of start.task) r a
@@ -217,7 +217,7 @@ module _ (start : Start) (enc now : Encoded) (old new : List SetId) (a : ℕ) (l
 
 -- where there are none, the action adds no state, and takes none
 module _ (start : Start) (now : Encoded) (slots : List SetId) (a : ℕ) (left : SetOfVectors) (taken : Takings) (near next : SetOfVectors) (taking : Bool) (among : ArePairsAmong (system_of start.task) left next a) where
-  hit_among : (v : Vector) → IsState (system_of start.task) v → may_lead (kept_system start left) near v a ≡ true → next v ≡ true
+  hit_among : (v : Vector) → IsVector (system_of start.task) v → may_lead (kept_system start left) near v a ≡ true → next v ≡ true
   hit_among v is hit =
       let sys = system_of start.task in
       among v is (and_parts (may_lead sys near v a) (kept sys left v a) (sym (may_restricted sys (kept sys left) near v a) ∙ hit)).1

@@ -4,6 +4,7 @@ use Rattle.std.specs.Option.{option_map, unwrap_or}
 use Rattle.std.specs.List.{Contains, flat_map, list_all, list_any, range_with_len}
 use Rattle.std.proofs.lemmas.Grind.{flat_map-append}
 use Rattle.std.proofs.lemmas.List.{append-nil}
+use Rattle.std.proofs.lemmas.Bool.{and_from, and_parts}
 use Rattle.plan_rules.specs.Rules.{PlanRule}
 use Rattle.plan_theory.proofs.Ranges.{range-more}
 use Rattle.plan_theory.specs.LayerPlans.{rules_of_action, takers}
@@ -13,11 +14,13 @@ use Rattle.dd_sets.specs.LiveSets.{IsLive, everything, set_of}
 use Rattle.dd_sets.specs.declared.slots.SetId.{SetId}
 use Rattle.encode_task.specs.Made.{Holds, HoldsGoal}
 use Rattle.encode_task.specs.Slots.{Encoded}
+use Rattle.encode_task.specs.TaskSets.{goal_set}
 use Rattle.task_core.specs.Conditions.{holds}
 use Rattle.task_core.specs.Cubes.{Cube, SetOfVectors, cubes_from, cubes_of, half, ignores_first, is_empty_set, is_whole_set, literal}
-use Rattle.task_core.specs.Tasks.{action_count, fluent_count, initial_states, states_where, system_of}
+use Rattle.task_core.specs.Tasks.{action_count, fluent_count, in_space, initial_states, states_where, system_of}
 use Rattle.task_core.specs.Vectors.{Vector, all_vectors, same_value, same_vector, value_of}
 use Rattle.task_core.specs.declared.conditions.Cond.{Cond}
+use Rattle.task_core.specs.declared.tasks.Task.{Task}
 use Rattle.task_core.proofs.TaskSystem.{is_system, states_where_has, states_where_holds}
 use Rattle.plan_theory.proofs.Cubes.{all_vectors-length}
 use Rattle.plan_theory.proofs.Weak.{same_vector-itself, same_vector-true}
@@ -39,28 +42,31 @@ same_truth false true there back = back refl
 same_truth false false there back = refl
 
 -- the goal's slot holds the goal states
-goal_is : (n : ℕ) (cond : Cond) (v : Vector) → length v ≡ n → holds cond (value_of v) ≡ list_any (same_vector v) (states_where n cond)
-goal_is n cond v is =
-    same_truth (holds cond (value_of v)) (list_any (same_vector v) (states_where n cond))
-    (λ h. list_any-from (same_vector v) (states_where n cond) v (states_where_has n cond v is h) (same_vector-itself v))
+goal_is : (task : Task) (cond : Cond) (v : Vector) → length v ≡ fluent_count task → goal_set task cond (value_of v) ≡ list_any (same_vector v) (states_where task cond)
+goal_is task cond v is =
+    same_truth (goal_set task cond (value_of v)) (list_any (same_vector v) (states_where task cond))
     (λ h.
-    let w = list_any-witness (same_vector v) (states_where n cond) h in
+    let both = and_parts (in_space task v) (holds cond (value_of v)) h in
+    list_any-from (same_vector v) (states_where task cond) v (states_where_has task cond v is both.0 both.1) (same_vector-itself v))
+    (λ h.
+    let w = list_any-witness (same_vector v) (states_where task cond) h in
     let e : v ≡ w.0 = same_vector-true v w.0 w.2 in
-    subst (λ u. holds cond (value_of u) ≡ true) (sym e) (states_where_holds n cond w.0 w.1).1)
+    let found = states_where_holds task cond w.0 w.1 in
+    subst (λ u. goal_set task cond (value_of u) ≡ true) (sym e) (and_from (in_space task w.0) (holds cond (value_of w.0)) found.0.inside found.1))
 
 pub goal_held : (start : Start) (slot : SetId) → start.enc.goal ≡ Some slot → IsLive start.enc.sets slot.0 × Agrees start (set_of start.enc.sets slot.0) (is_goal (system_of start.task))
 goal_held start slot is = go start.enc.goal start.task.goal is refl start.made.goal
   where
-    go : (o : Option SetId) (g : Option Cond) → o ≡ Some slot → start.task.goal ≡ g → HoldsGoal start.enc.sets o g → IsLive start.enc.sets slot.0 × Agrees start (set_of start.enc.sets slot.0) (is_goal (system_of start.task))
+    go : (o : Option SetId) (g : Option Cond) → o ≡ Some slot → start.task.goal ≡ g → HoldsGoal start.task start.enc.sets o g → IsLive start.enc.sets slot.0 × Agrees start (set_of start.enc.sets slot.0) (is_goal (system_of start.task))
     go None g e same h = absurd (let f : None ≡ Some slot = e in cc)
     go (Some own) None e same h = absurd h
     go (Some own) (Some cond) e same h =
         let f : own ≡ slot = cc in
-        let at = subst (λ s. Holds start.enc.sets s (holds cond)) f h in (
+        let at = subst (λ s. Holds start.enc.sets s (goal_set start.task cond)) f h in (
           at.live,
           λ v is.
-              ap (λ (set : Function). set (value_of v)) at.holds ∙ goal_is (fluent_count start.task) cond v is
-              ∙ ap (λ (o : Option Cond). list_any (same_vector v) (unwrap_or (option_map (states_where (fluent_count start.task)) o) [])) (sym same),
+              ap (λ (set : Function). set (value_of v)) at.holds ∙ goal_is start.task cond v is
+              ∙ ap (λ (o : Option Cond). list_any (same_vector v) (unwrap_or (option_map (states_where start.task) o) [])) (sym same),
         )
 
 pub goal_live : (start : Start) (enc : Encoded) (slots : List SetId) (slot : SetId) → At start enc slots → enc.goal ≡ Some slot → IsLive enc.sets slot.0
@@ -99,7 +105,7 @@ near_stays start enc now slots left taken near h stayed =
 pub covered_is : (start : Start) (enc : Encoded) (slots : List SetId) (left : SetOfVectors) (taken : Takings) (near : SetOfVectors) → HasNear start enc slots left taken near
     → list_all (λ state. set_at enc.sets slots 1 (value_of state)) (initial_states start.task) ≡ list_all left (system_of start.task).initial
 covered_is start enc slots left taken near h =
-    list_all-agree (λ state. set_at enc.sets slots 1 (value_of state)) left (initial_states start.task) (λ s c. h.round.holds_left s ((is_system start.task).initial s c))
+    list_all-agree (λ state. set_at enc.sets slots 1 (value_of state)) left (initial_states start.task) (λ s c. h.round.holds_left s ((is_system start.task).initial s c).vector)
 
 -- the cubes of sets that hold the same states
 pub cubes_agree : (n first : ℕ) (f g : SetOfVectors) → ((v : Vector) → length v ≡ n → f v ≡ g v) → cubes_from first n f ≡ cubes_from first n g

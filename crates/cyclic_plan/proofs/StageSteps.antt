@@ -10,11 +10,12 @@ use Rattle.preimage.specs.Preimages.{strong_preimage, weak_preimage}
 use Rattle.preimage.proofs.OutcomeLemmas.{strong_leads, weak_leads}
 use Rattle.task_core.specs.Cubes.{SetOfVectors}
 use Rattle.task_core.specs.Systems.{System}
-use Rattle.task_core.specs.Tasks.{action_count, fluent_count, is_executable, next_states, states_after, system_of}
+use Rattle.task_core.specs.Tasks.{action_count, fluent_count, is_executable, next_states, system_of}
 use Rattle.task_core.specs.Vectors.{Vector, value_of}
-use Rattle.task_core.proofs.TaskSystem.{executable_exec, is_system}
+use Rattle.task_core.proofs.TaskSystem.{exec_executable, executable_exec, is_system}
 use Rattle.plan_theory.specs.Layers.{may_lead, must_lead}
-use Rattle.plan_theory.proofs.WeakLists.{Contains-head, list_all-agree, list_any-agree, list_any-from, list_all-at}
+use Rattle.plan_theory.proofs.Weak.{HasOutcome-Exec}
+use Rattle.plan_theory.proofs.WeakLists.{Contains-head, list_all-agree, list_any-agree, list_any-from, list_any-witness, list_all-at}
 use Rattle.slot_board.proofs.BoardSlots.{depends}
 use Rattle.slot_board.specs.Board.{led, set_at}
 use Rattle.slot_board.specs.Board.{Moved, Start}
@@ -60,7 +61,7 @@ module _ (start : Start) (enc now : Encoded) (old new : List SetId) (place : ℕ
 pub weak_agrees : (start : Start) (a : ℕ) (f : Function) (set : SetOfVectors) → DependsOnly 0 (fluent_count start.task) f → Agrees start f set → Agrees start (weak_preimage start.task a f) (λ v. may_lead (system_of start.task) set v a)
 weak_agrees start a f set only same v is =
     weak_leads start.task a f v only
-    ∙ list_any-agree (λ t. f (value_of t)) set (next_states start.task v a) (λ t o. same t ((is_system start.task).next v a t o))
+    ∙ list_any-agree (λ t. f (value_of t)) set (next_states start.task v a) (λ t o. same t ((is_system start.task).next v a t o).vector)
 
 both_lead : (e any all : Bool) → (all ≡ true → e ≡ true → any ≡ true) → (any ≡ true → e ≡ true) → (e && all) ≡ (any && all)
 both_lead true true all there back = refl
@@ -72,7 +73,7 @@ both_lead false false all there back = refl
 pub strong_agrees : (start : Start) (a : ℕ) (f : Function) (set : SetOfVectors) → DependsOnly 0 (fluent_count start.task) f → Agrees start f set → Agrees start (strong_preimage start.task a f) (λ v. must_lead (system_of start.task) set v a)
 strong_agrees start a f set only same v is =
     strong_leads start.task a f v only
-    ∙ ap (λ b. is_executable start.task v a && b) (list_all-agree (λ t. f (value_of t)) set (next_states start.task v a) (λ t o. same t ((is_system start.task).next v a t o)))
+    ∙ ap (λ b. is_executable start.task v a && b) (list_all-agree (λ t. f (value_of t)) set (next_states start.task v a) (λ t o. same t ((is_system start.task).next v a t o).vector))
     ∙ both_lead (is_executable start.task v a) (list_any set (next_states start.task v a)) (list_all set (next_states start.task v a)) some none
   where
     -- an action that can be executed has an outcome
@@ -84,11 +85,9 @@ strong_agrees start a f set only same v is =
     some h e = pick (next_states start.task v a) (executable_exec start.task v a e) h
 
     none : list_any set (next_states start.task v a) ≡ true → is_executable start.task v a ≡ true
-    none h = go (is_executable start.task v a) refl h
-      where
-        go : (b : Bool) → is_executable start.task v a ≡ b → list_any set (cond b (states_after start.task v a) []) ≡ true → is_executable start.task v a ≡ true
-        go true e k = e
-        go false e k = absurd (false≢true k)
+    none h =
+        let w = list_any-witness set (next_states start.task v a) h in
+        exec_executable start.task v a (HasOutcome-Exec (system_of start.task) v a w.0 w.1)
 
 -- an outcome of a kept pair
 pub may_restricted : (sys : System) (pairs : Pairs) (set : SetOfVectors) (v : Vector) (a : ℕ) → may_lead (restricted sys pairs) set v a ≡ (may_lead sys set v a && pairs v a)

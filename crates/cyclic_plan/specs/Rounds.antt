@@ -7,7 +7,7 @@ use Rattle.dd_sets.specs.declared.slots.SetId.{SetId}
 use Rattle.encode_task.specs.Slots.{Encoded}
 use Rattle.task_core.specs.Cubes.{SetOfVectors}
 use Rattle.task_core.specs.Solutions.{HasNoSolution}
-use Rattle.task_core.specs.Systems.{IsState, System}
+use Rattle.task_core.specs.Systems.{IsVector, System}
 use Rattle.task_core.specs.Tasks.{action_count, system_of}
 use Rattle.task_core.specs.Vectors.{Vector}
 use Rattle.task_core.specs.declared.classes.Class.TheVariants.{Cyclic}
@@ -19,11 +19,11 @@ use Rattle.cyclic_plan.specs.Stages.{Agrees, HasRound, HasRounds, none_taken}
 -- the states of an action's kept pairs are among some states
 abbrev pub ArePairsAmong : System → SetOfVectors → SetOfVectors → ℕ → Type 0
 ArePairsAmong sys left set a =
-    (v : Vector) → IsState sys v → kept sys left v a ≡ true → set v ≡ true
+    (v : Vector) → IsVector sys v → kept sys left v a ≡ true → set v ≡ true
 
 -- round r + 1 keeps all pairs of the action that round r kept in states that are left
 abbrev pub LosesNone : System → ℕ → ℕ → Type 0
-LosesNone sys r a = (v : Vector) → IsState sys v
+LosesNone sys r a = (v : Vector) → IsVector sys v
     → kept sys (round_of sys (suc r)) v a ≡ (kept sys (round_of sys r) v a && round_of sys (suc r) v)
 
 -- the states that round r left stand at 1 and at 3; the first n actions have the pairs that are

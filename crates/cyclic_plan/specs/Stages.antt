@@ -11,7 +11,7 @@ use Rattle.dd_sets.specs.LiveSets.{IsSets}
 use Rattle.dd_sets.specs.declared.slots.SetId.{SetId}
 use Rattle.encode_task.specs.Slots.{Encoded}
 use Rattle.task_core.specs.Cubes.{SetOfVectors}
-use Rattle.task_core.specs.Systems.{IsState, System}
+use Rattle.task_core.specs.Systems.{IsVector, System}
 use Rattle.task_core.specs.Tasks.{action_count, system_of}
 use Rattle.task_core.specs.Vectors.{Vector, value_of}
 use Rattle.task_core.specs.declared.classes.Class.TheVariants.{Weak}
@@ -23,7 +23,7 @@ use Rattle.plan_theory.specs.PairRounds.{kept, round}
 
 -- a set on diagrams has the states of a set
 abbrev pub Agrees : Start → Function → SetOfVectors → Type 0
-Agrees start f set = (v : Vector) → IsState (system_of start.task) v → f (value_of v) ≡ set v
+Agrees start f set = (v : Vector) → IsVector (system_of start.task) v → f (value_of v) ≡ set v
 
 -- for each action, the states that take it
 abbrev pub Takings : Type 0

@@ -1,7 +1,7 @@
 //! What the reader answers to texts with known answers, which are written by hand from the rules.
 
 use crate::read_domain;
-use pddl_ast::Effect;
+use pddl_ast::{Effect, Formula};
 use sexpr_text::{MAX_BYTES, ReadErr};
 use std::alloc::{AllocError, Global};
 use std::fmt::Write;
@@ -15,7 +15,17 @@ fn alternatives(effect: &Effect) -> usize {
     }
 }
 
-// The alternatives of each action's effect, or the fault as `CODE NAME LINE:COLUMN`.
+// What stands for the invariant: nothing where it is true of everything.
+fn shown(invariant: &Formula) -> &'static str {
+    match invariant {
+        Formula::All(_) => "",
+        Formula::Not(_) => "not",
+        _ => "other",
+    }
+}
+
+// The alternatives of each action's effect, and the invariant, or the fault as `CODE NAME
+// LINE:COLUMN`.
 fn answer(alloc: Global, bytes: &[u8]) -> Result<String, AllocError> {
     let mut out = String::new(alloc);
     if bytes.len() > MAX_BYTES {
@@ -26,6 +36,7 @@ fn answer(alloc: Global, bytes: &[u8]) -> Result<String, AllocError> {
             for action in &domain.actions {
                 write!(out, "{} ", alternatives(&action.effect))?;
             }
+            out.push_str(shown(&domain.invariant))?;
         }
         Err(ReadErr::Fault(fault)) => {
             let place = fault.place;
@@ -90,7 +101,7 @@ fn effects_and_their_answers(rt: HostRuntime) -> Result<(), Fail> {
 }
 
 // Whole texts.
-static TEXTS: [(&str, &str); 5] = [
+static TEXTS: [(&str, &str); 8] = [
     ("", "5 NoDefine 1:1"),
     ("(define (domain d)", "3 OpenAtEnd 1:1"),
     ("(define (domain d))", ""),
@@ -101,6 +112,19 @@ static TEXTS: [(&str, &str); 5] = [
     (
         "(define (domain d) (:types a - b b - a) (:action a :effect (probabilistic 1 ())))",
         "10 TypeLoop 1:28",
+    ),
+    // an invariant; in it nothing is recognised
+    (
+        "(define (domain d) (:predicates (p)) (:action a :effect (probabilistic 0.5 (p))) (:invariant (not (p))))",
+        "2 not",
+    ),
+    (
+        "(define (domain d) (:invariant (probabilistic x ())))",
+        "13 LeftOut 1:33",
+    ),
+    (
+        "(define (domain d) (:invariant (q)) (:action a :effect (probabilistic x ())))",
+        "24 BadWeight 1:71",
     ),
 ];
 

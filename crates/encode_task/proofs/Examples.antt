@@ -1,7 +1,7 @@
 -- Worked examples of the definitions that compute.
 use Rattle.std.proofs.Common.{◌≡◌, ◌==◌, true, false, [], ◌∷◌, Some, None, refl}
 use Rattle.encode_task.specs.Images.{assigned, entry_image, image}
-use Rattle.encode_task.specs.Slots.{Encoded, next_slot}
+use Rattle.encode_task.specs.Slots.{Encoded, lands_slot, next_slot}
 use Rattle.encode_task.specs.TaskSets.{first_values, set_of_states}
 
 state_of_values : first_values 2 (λ f. f == 1) ≡ false ∷ true ∷ []
@@ -33,15 +33,20 @@ small : Encoded
 small = record {
   sets = record { vars = 2; limit = 9; order = []; nodes = []; live = [] };
   fluents = 2;
+  space = record { 0 = 4 };
   initial = record { 0 = 5 };
   goal = None;
   shared = None ∷ Some (record { 0 = 7 }) ∷ [];
-  actions = record { exec = record { 0 = 6 }; outcomes = ((record { 0 = 0 }, record { 0 = 8 }) ∷ []) ∷ [] } ∷ [];
+  actions = record { exec = record { 0 = 6 }; outcomes = ((record { 0 = 0 }, record { 0 = 8 }) ∷ []) ∷ []; lands = record { 0 = 3 } ∷ [] } ∷ [];
 }
 
 changed_fluent : next_slot small 0 0 0 ≡ Some (record { 0 = 8 })
 unfolding small
 changed_fluent = refl
+
+outcome_lands : lands_slot small 0 0 ≡ Some (record { 0 = 3 })
+unfolding small
+outcome_lands = refl
 
 fluent_left_alone : next_slot small 0 0 1 ≡ Some (record { 0 = 7 })
 unfolding small

@@ -4,6 +4,7 @@ pub mod EntryLemmas
 mod Examples
 pub mod ImageLemmas
 pub mod InitialLemmas
+pub mod LandsLemmas
 pub mod LedLemmas
 pub mod MadeLemmas
 pub mod OnlyLemmas
@@ -11,6 +12,7 @@ pub mod PartLemmas
 pub mod ShallowLemmas
 pub mod ShareLemmas
 pub mod ShownLemmas
+pub mod SpaceLemmas
 pub mod StateLemmas
 pub mod StepLemmas
 pub mod TableLemmas

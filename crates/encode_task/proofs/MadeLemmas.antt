@@ -11,18 +11,22 @@ use Rattle.dd_sets.specs.Calls.{KeepsSets}
 use Rattle.dd_sets.specs.LiveSets.{LiveSets, AllLive, listed_set}
 use Rattle.task_core.specs.Tasks.{action_count, outcomes_at}
 use Rattle.dd_sets.specs.declared.slots.SetId.{SetId}
-use Rattle.encode_task.specs.Made.{Holds, HoldsGoal, HoldsOutcome, IsReady, MadeOf}
+use Rattle.encode_task.specs.Made.{Holds, HoldsGoal, HoldsLands, HoldsOutcome, IsReady, MadeOf}
 use Rattle.encode_task.specs.Slots.{Encoded, changed_slots, next_slot, shared_slot}
 use Rattle.encode_task.specs.TaskSets.{next_set}
 
 pub holds_kept : (before after : LiveSets) → KeepsSets before after → (slot : SetId) (set : Function) → Holds before slot set → Holds after slot set
 holds_kept before after kept slot set holds = record { live = kept.live slot.0 holds.live; holds = kept.sets slot.0 holds.live ∙ holds.holds }
 
-pub goal_kept : (before after : LiveSets) → KeepsSets before after → (slot : Option SetId) (goal : Option Cond) → HoldsGoal before slot goal → HoldsGoal after slot goal
-goal_kept before after kept None None holds = tt
-goal_kept before after kept (Some slot) (Some goal) holds = holds_kept before after kept slot _ holds
-goal_kept before after kept (Some slot) None holds = holds
-goal_kept before after kept None (Some goal) holds = holds
+pub goal_kept : (task : Task) (before after : LiveSets) → KeepsSets before after → (slot : Option SetId) (goal : Option Cond) → HoldsGoal task before slot goal → HoldsGoal task after slot goal
+goal_kept task before after kept None None holds = tt
+goal_kept task before after kept (Some slot) (Some goal) holds = holds_kept before after kept slot _ holds
+goal_kept task before after kept (Some slot) None holds = holds
+goal_kept task before after kept None (Some goal) holds = holds
+
+pub lands_kept : (before after : LiveSets) → KeepsSets before after → (slot : Option SetId) (lands : Function) → HoldsLands before slot lands → HoldsLands after slot lands
+lands_kept before after kept None lands holds = holds
+lands_kept before after kept (Some slot) lands holds = holds_kept before after kept slot lands holds
 
 pub all_live_kept : (before after : LiveSets) → KeepsSets before after → (changed : List (FluentId × SetId)) → AllLive before changed → AllLive after changed
 all_live_kept before after kept changed live k d within = kept.live (get_or changed k d).1.0 (live k d within)
@@ -47,9 +51,11 @@ made_kept task enc after kept made = record {
   fluents = made.fluents;
   actions = made.actions;
   outcomes = made.outcomes;
+  space = holds_kept enc.sets after kept enc.space _ made.space;
   initial = holds_kept enc.sets after kept enc.initial _ made.initial;
-  goal = goal_kept enc.sets after kept enc.goal task.goal made.goal;
+  goal = goal_kept task enc.sets after kept enc.goal task.goal made.goal;
   exec = λ a within. holds_kept enc.sets after kept _ _ (made.exec a within);
+  lands = λ a o action outcome. lands_kept enc.sets after kept _ _ (made.lands a o action outcome);
   next = λ a o action outcome. outcome_kept enc.sets after kept _ _ (made.next a o action outcome);
   shared = λ f slot shared. holds_kept enc.sets after kept slot _ (made.shared f slot shared);
 }

@@ -8,7 +8,7 @@ use Rattle.dd_sets.specs.Frames.{Owns}
 use Rattle.dd_sets.specs.LiveSets.{LiveSets, is_live}
 use Rattle.dd_sets.specs.declared.slots.SetId.{SetId}
 use Rattle.dd_ops.specs.Operations.{variable}
-use Rattle.encode_task.specs.Slots.{ActionSlots, is_slot, is_of_action}
+use Rattle.encode_task.specs.Slots.{ActionSlots, is_listed, is_of_action, is_one_of, is_slot}
 use Rattle.encode_task.specs.Tables.{AddsOnly, IsSharedSlot}
 
 either : (a b : Bool) → (a || b) ≡ true → (a ≡ true) ⊎ (b ≡ true)
@@ -58,22 +58,43 @@ pub only_shared : (before after : LiveSets) (left : Bool) (f : ℕ) (slot : Opti
 only_shared before after left f (Some slot) is = only_owned before after slot.0 (variable f) is.1
 only_shared before after left f None is = subst (λ (s : LiveSets). AddsOnly before s (λ other. false)) (sym is.1) (only_same before (λ other. false))
 
--- the initial states, then the goal, then the actions, then the fluents that outcomes share
-abbrev all_slots : SetId → Option SetId → List (Option SetId) → List ActionSlots → ℕ → Bool
-all_slots initial goal shared actions slot = initial.0 == slot || is_slot slot goal || list_any (is_slot slot) shared || list_any (is_of_action slot) actions
-
-pub only_whole : (s0 s1 s2 s3 s4 : LiveSets) (initial : SetId) (goal : Option SetId) (shared : List (Option SetId)) (actions : List ActionSlots) → AddsOnly s0 s1 (λ slot. initial.0 == slot)
-    → AddsOnly s1 s2 (λ slot. is_slot slot goal) → AddsOnly s2 s3 (λ slot. list_any (is_of_action slot) actions) → AddsOnly s3 s4 (λ slot. list_any (is_slot slot) shared)
-    → AddsOnly s0 s4 (all_slots initial goal shared actions)
-only_whole s0 s1 s2 s3 s4 initial goal shared actions one two three four =
-    only_chain s0 s3 s4 (all_slots initial goal shared actions) (λ slot. list_any (is_slot slot) shared) (all_slots initial goal shared actions)
-    (only_chain s0 s2 s3 (all_slots initial goal shared actions) (λ slot. list_any (is_of_action slot) actions) (all_slots initial goal shared actions)
-    (only_chain s0 s1 s2 (λ slot. initial.0 == slot) (λ slot. is_slot slot goal) (all_slots initial goal shared actions) one two
-    (λ slot is. or_left _ (list_any (is_of_action slot) actions) (or_left _ (list_any (is_slot slot) shared) (or_left (initial.0 == slot) (is_slot slot goal) is)))
-    (λ slot is. or_left _ (list_any (is_of_action slot) actions) (or_left _ (list_any (is_slot slot) shared) (or_right (initial.0 == slot) (is_slot slot goal) is))))
+-- the fluents that an action's outcomes change, then what they lead to states, then where it can be
+-- executed
+pub only_action : (s0 s1 s2 s3 : LiveSets) (action : ActionSlots) → AddsOnly s0 s1 (λ slot. list_any (is_listed slot) action.outcomes) → AddsOnly s1 s2 (λ slot. is_one_of slot action.lands)
+    → AddsOnly s2 s3 (λ slot. action.exec.0 == slot) → AddsOnly s0 s3 (λ slot. is_of_action slot action)
+only_action s0 s1 s2 s3 action one two three =
+    only_chain s0 s2 s3 (λ slot. is_of_action slot action) (λ slot. action.exec.0 == slot) (λ slot. is_of_action slot action)
+    (only_chain s0 s1 s2 (λ slot. list_any (is_listed slot) action.outcomes) (λ slot. is_one_of slot action.lands) (λ slot. is_of_action slot action) one two
+    (λ slot is. or_left _ (is_one_of slot action.lands) (or_right (action.exec.0 == slot) (list_any (is_listed slot) action.outcomes) is))
+    (λ slot is. or_right (action.exec.0 == slot || list_any (is_listed slot) action.outcomes) (is_one_of slot action.lands) is))
     three
     (λ slot is. is)
-    (λ slot is. or_right ((initial.0 == slot || is_slot slot goal) || list_any (is_slot slot) shared) (list_any (is_of_action slot) actions) is))
+    (λ slot is. or_left _ (is_one_of slot action.lands) (or_left (action.exec.0 == slot) (list_any (is_listed slot) action.outcomes) is))
+
+-- the states, then the initial states, then the goal, then the actions, then the fluents that outcomes
+-- share
+abbrev all_slots : SetId → SetId → Option SetId → List (Option SetId) → List ActionSlots → ℕ → Bool
+all_slots space initial goal shared actions slot = space.0 == slot || initial.0 == slot || is_slot slot goal || list_any (is_slot slot) shared || list_any (is_of_action slot) actions
+
+pub only_whole : (s0 s1 s2 s3 s4 s5 : LiveSets) (space initial : SetId) (goal : Option SetId) (shared : List (Option SetId)) (actions : List ActionSlots) → AddsOnly s0 s1 (λ slot. space.0 == slot)
+    → AddsOnly s1 s2 (λ slot. initial.0 == slot) → AddsOnly s2 s3 (λ slot. is_slot slot goal) → AddsOnly s3 s4 (λ slot. list_any (is_of_action slot) actions) → AddsOnly s4 s5 (λ slot. list_any (is_slot slot) shared)
+    → AddsOnly s0 s5 (all_slots space initial goal shared actions)
+only_whole s0 s1 s2 s3 s4 s5 space initial goal shared actions one two three four five =
+    only_chain s0 s4 s5 all (λ slot. list_any (is_slot slot) shared) all
+    (only_chain s0 s3 s4 all (λ slot. list_any (is_of_action slot) actions) all
+    (only_chain s0 s2 s3 all (λ slot. is_slot slot goal) all
+    (only_chain s0 s1 s2 (λ slot. space.0 == slot) (λ slot. initial.0 == slot) all one two
+    (λ slot is. or_left _ (list_any (is_of_action slot) actions) (or_left _ (list_any (is_slot slot) shared) (or_left _ (is_slot slot goal) (or_left (space.0 == slot) (initial.0 == slot) is))))
+    (λ slot is. or_left _ (list_any (is_of_action slot) actions) (or_left _ (list_any (is_slot slot) shared) (or_left _ (is_slot slot goal) (or_right (space.0 == slot) (initial.0 == slot) is)))))
+    three
+    (λ slot is. is)
+    (λ slot is. or_left _ (list_any (is_of_action slot) actions) (or_left _ (list_any (is_slot slot) shared) (or_right (space.0 == slot || initial.0 == slot) (is_slot slot goal) is))))
     four
     (λ slot is. is)
-    (λ slot is. or_left _ (list_any (is_of_action slot) actions) (or_right (initial.0 == slot || is_slot slot goal) (list_any (is_slot slot) shared) is))
+    (λ slot is. or_right (((space.0 == slot || initial.0 == slot) || is_slot slot goal) || list_any (is_slot slot) shared) (list_any (is_of_action slot) actions) is))
+    five
+    (λ slot is. is)
+    (λ slot is. or_left _ (list_any (is_of_action slot) actions) (or_right ((space.0 == slot || initial.0 == slot) || is_slot slot goal) (list_any (is_slot slot) shared) is))
+  where
+    all : ℕ → Bool
+    all = all_slots space initial goal shared actions

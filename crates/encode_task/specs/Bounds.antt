@@ -5,7 +5,7 @@ use Rattle.task_core.specs.Tasks.{action_count, fluent_count, system_of}
 use Rattle.task_core.specs.declared.tasks.Task.{Task}
 
 -- a bound on the slots of all actions: for each action one, and for each outcome one a fluent and
--- one more
+-- one for what it leads to states
 abbrev pub action_slots : Task → ℕ
 action_slots task =
     action_count task * (most_outcomes (system_of task) * (fluent_count task + 1) + 1)

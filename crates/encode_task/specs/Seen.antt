@@ -7,4 +7,5 @@ abbrev pub slots_of : ActionSets → ActionSlots
 slots_of action = record {
   exec = action.exec;
   outcomes = map (λ changed. changed.items) action.outcomes.items;
+  lands = action.lands.items;
 }

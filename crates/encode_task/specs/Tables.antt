@@ -1,10 +1,13 @@
 -- Private: the tables of slots while they are made.
-use Rattle.std.specs.Prelude.{◌≡◌, ℕ, ◌<◌, ◌||◌, Bool, true, false, ⊤, List, [], ◌∷◌}
+use Rattle.std.specs.Prelude.{◌≡◌, ℕ, ◌<◌, ◌||◌, ◌&&◌, Bool, true, false, ⊤, ◌⊎◌, List, [], ◌∷◌}
 use Rattle.std.specs.Prelude.{Option, Some, None, IsSome, slice_index_or}
+use Rattle.std.specs.List.{list_any}
+use Rattle.dd_nodes.specs.Subfunctions.{Function}
 use Rattle.dd_ops.specs.Operations.{variable}
 use Rattle.task_core.specs.Actions.{after_value}
-use Rattle.task_core.specs.Conditions.{holds}
+use Rattle.task_core.specs.Conditions.{AlwaysHolds, holds}
 use Rattle.task_core.specs.Cubes.{Cube}
+use Rattle.task_core.specs.declared.conditions.Cond.{Cond}
 use Rattle.task_core.specs.declared.actions.GroundAction.{GroundAction}
 use Rattle.task_core.specs.declared.actions.Outcome.{Outcome}
 use Rattle.task_core.specs.declared.literals.FluentId.{FluentId}
@@ -52,11 +55,29 @@ AllPaired R [] (y ∷ ys) = ⊥
 abbrev pub OutcomeMade : LiveSets → List (FluentId × SetId) → Outcome → Type 0
 OutcomeMade sets changed outcome = HoldsOutcome sets changed (after_value outcome)
 
+-- what an outcome leads to states, those where the invariant holds, and where an action can be
+-- executed
+abbrev pub lands_of : Cond → Outcome → Function
+lands_of invariant outcome values = holds invariant (after_value outcome values)
+
+abbrev pub exec_of : Cond → GroundAction → Function
+exec_of invariant action values =
+    holds invariant values && holds action.exec values
+    && list_any (λ o. lands_of invariant o values) action.outcomes.items
+
+-- the slots of what the outcomes of an action lead to states are made: none where the invariant
+-- always holds, else one an outcome
+abbrev pub LandsMade : LiveSets → Cond → List SetId → List Outcome → Type 0
+LandsMade sets invariant lands outcomes =
+    (AlwaysHolds invariant × (lands ≡ []))
+    ⊎ AllPaired (λ slot o. Holds sets slot (lands_of invariant o)) lands outcomes
+
 -- the slots of an action are made
-pub record ActionMade (sets : LiveSets) (slots : ActionSlots) (action : GroundAction)
-    : Type 0 where
-  pub exec : Holds sets slots.exec (holds action.exec)
+pub record ActionMade (invariant : Cond) (sets : LiveSets) (slots : ActionSlots)
+    (action : GroundAction) : Type 0 where
+  pub exec : Holds sets slots.exec (exec_of invariant action)
   pub outcomes : AllPaired (OutcomeMade sets) slots.outcomes action.outcomes.items
+  pub lands : LandsMade sets invariant slots.lands action.outcomes.items
 
 -- each slot that is live after is one of a caller's, or was live before
 abbrev pub AddsOnly : LiveSets → LiveSets → (ℕ → Bool) → Type 0

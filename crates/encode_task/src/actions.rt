@@ -23,50 +23,56 @@ ghost use Rattle.dd_sets.specs.LiveSets.{LiveSets, live_count};
 ghost use Rattle.dd_sets.specs.Rooms.{AnySet, NoRoom};
 ghost use Rattle.task_core.specs.Actions.{action_is_shallow, action_within, change_within};
 ghost use Rattle.task_core.specs.Actions.{outcome_is_shallow, outcome_within};
+ghost use Rattle.task_core.specs.Conditions.{holds};
 ghost use Rattle.task_core.specs.Cubes.{Cube};
 ghost use Rattle.task_core.specs.declared.literals.Lit.{Lit as Literal};
 ghost use Rattle.encode_task.specs.Counts.{left_by, left_in_actions, left_in_outcomes};
+ghost use Rattle.encode_task.specs.Made.{Holds};
 ghost use Rattle.encode_task.specs.Names.{has_outcomes_within};
 ghost use Rattle.encode_task.specs.Seen.{slots_of};
 ghost use Rattle.encode_task.specs.Slots.{is_listed, is_of_action};
 ghost use Rattle.encode_task.specs.Tables.{ActionMade, AddsOnly, AllPaired, IsDone, OutcomeMade};
 
 use crate::action_sets::ActionSets;
-use crate::conditions::set_where;
+use crate::landing::{encode_lands, exec_states};
 use crate::outcomes::next_value;
 use crate::slots::{put, slot_for};
 use dd_sets::{SetErr, SetId, Sets};
 use std::alloc::Global;
-use task_core::{Change, FluentId, GroundAction, Outcome};
+use task_core::{Change, Cond, FluentId, GroundAction, Outcome};
 
 /// The fluents that an outcome changes, each with the slot of its next value.
 pub type Changed = Vec<(FluentId, SetId)>;
 
-/// The slots of actions. An outcome takes one slot for each fluent that it changes.
+/// The slots of actions. An outcome takes one slot for each fluent that it changes, and one more for
+/// what it leads to states, where the invariant may not hold.
 pub fn encode_actions(
     alloc: Global,
     sets: &mut Sets,
+    invariant: &Cond,
+    space: SetId,
     actions: &[GroundAction],
 ) -> Result<Vec<ActionSets>, SetErr>
+    requires space { Holds sets.old space (holds invariant.now) }
     requires within { list_all (action_within sets.old.vars) actions.now ≡ true }
     requires shallow { list_all action_is_shallow actions.now ≡ true }
     ensures made { IfOk result (λ made.
-        AllPaired (ActionMade sets.new) (map slots_of made.items) actions.now) }
+        AllPaired (ActionMade invariant.now sets.new) (map slots_of made.items) actions.now) }
     ensures kept { KeepsSets sets.old sets.new }
     ensures only { IfOk result (λ made. AddsOnly sets.old sets.new
         (λ slot. list_any (is_of_action slot) (map slots_of made.items))) }
     ensures few { IfOk result (λ made.
         (most : ℕ) → list_all (has_outcomes_within most) actions.now ≡ true
         → live_count sets.new + left_in_actions sets.old.vars (map slots_of made.items)
-        ≤ live_count sets.old + length actions.now * (most * sets.old.vars + 1)) }
+        ≤ live_count sets.old + length actions.now * (most * (sets.old.vars + 1) + 1)) }
     ensures full { IsErrOf result SetErr.Full
         → (most : ℕ) → list_all (has_outcomes_within most) actions.now ≡ true
-        → NoRoom AnySet (length actions.now * (most * sets.old.vars + 1) + 210)
+        → NoRoom AnySet (length actions.now * (most * (sets.old.vars + 1) + 1) + 210)
         sets.old sets.new }
 {
     let mut made = Vec::new(alloc);
     for action in actions {
-        let slots = encode_action(alloc, sets, action)?;
+        let slots = encode_action(alloc, sets, invariant, space, action)?;
         put(&mut made, slots)?;
     }
     Ok(made)
@@ -76,24 +82,33 @@ pub fn encode_actions(
 fn encode_action(
     alloc: Global,
     sets: &mut Sets,
+    invariant: &Cond,
+    space: SetId,
     action: &GroundAction,
 ) -> Result<ActionSets, SetErr>
+    requires space { Holds sets.old space (holds invariant.now) }
     requires within { action_within sets.old.vars action.now ≡ true }
     requires shallow { action_is_shallow action.now ≡ true }
-    ensures made { IfOk result (λ made. ActionMade sets.new (slots_of made) action.now) }
+    ensures made { IfOk result (λ made.
+        ActionMade invariant.now sets.new (slots_of made) action.now) }
     ensures kept { KeepsSets sets.old sets.new }
     ensures only { IfOk result (λ made.
         AddsOnly sets.old sets.new (λ slot. is_of_action slot (slots_of made))) }
     ensures few { IfOk result (λ made.
         live_count sets.new + left_in_outcomes sets.old.vars (slots_of made).outcomes
-        ≤ live_count sets.old + (length action.now.outcomes.items * sets.old.vars + 1)) }
+        ≤ live_count sets.old + (length action.now.outcomes.items * (sets.old.vars + 1) + 1)) }
     ensures full { IsErrOf result SetErr.Full
-        → NoRoom AnySet (length action.now.outcomes.items * sets.old.vars + 210)
+        → NoRoom AnySet (length action.now.outcomes.items * (sets.old.vars + 1) + 210)
         sets.old sets.new }
 {
-    let exec = set_where(sets, &action.exec)?;
     let outcomes = encode_outcomes(alloc, sets, &action.outcomes)?;
-    Ok(ActionSets { exec, outcomes })
+    let lands = encode_lands(alloc, sets, invariant, space, action, &outcomes)?;
+    let exec = exec_states(sets, invariant, space, action, &lands)?;
+    Ok(ActionSets {
+        exec,
+        outcomes,
+        lands,
+    })
 }
 
 /// The slots of the outcomes of an action.

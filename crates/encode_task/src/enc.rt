@@ -20,15 +20,15 @@ ghost use Rattle.dd_sets.specs.Calls.{KeepsSets, Adds, AddsNone};
 ghost use Rattle.dd_sets.specs.LiveSets.{IsLive, IsSets, set_of, live_count};
 ghost use Rattle.dd_sets.specs.Rooms.{AnySet, NoRoom, Tight, nodes_of_slots};
 ghost use Rattle.dd_sets.specs.contracts.sets.Sets as SetsRow;
-ghost use Rattle.task_core.specs.Actions.{goal_is_shallow, goal_within};
 ghost use Rattle.task_core.specs.Conditions.{holds, ids_below, is_shallow};
 ghost use Rattle.task_core.specs.Tasks.{fluent_count};
 ghost use Rattle.encode_task.specs.Bounds.{action_slots, kept_slots, working_slots};
 ghost use Rattle.encode_task.specs.Made.{Holds, HoldsGoal, IsReady, MadeOf};
 ghost use Rattle.encode_task.specs.Seen.{slots_of};
-ghost use Rattle.encode_task.specs.Slots.{exec_slot, is_kept, is_slot, next_slot, outcome_slots};
+ghost use Rattle.encode_task.specs.Slots.{exec_slot, is_kept, is_slot, lands_slot, next_slot};
+ghost use Rattle.encode_task.specs.Slots.{outcome_slots};
 ghost use Rattle.encode_task.specs.Tables.{AddsOnly};
-ghost use Rattle.encode_task.specs.TaskSets.{led_into, next_set};
+ghost use Rattle.encode_task.specs.TaskSets.{led_into, next_set, space_set};
 ghost use Rattle.encode_task.specs.contracts.enc.Enc.{the_row};
 
 use crate::action_sets::ActionSets;
@@ -36,7 +36,8 @@ use crate::actions::encode_actions;
 use crate::conditions::set_where;
 use crate::initial::initial_states;
 use crate::left_alone::{Shared, share};
-use crate::slots::{changed_by, slot_for};
+use crate::slots::{changed_by, lands_by, slot_for};
+use crate::space::states_where;
 use dd_sets::{Order, SetErr, SetId, Sets};
 use std::alloc::Global;
 use std::marker::Model;
@@ -45,15 +46,16 @@ use task_core::{ActionId, Cond, FluentId, Task};
 /// The sets of a task, and the table that they stand in.
 ///
 /// A contract sees it as the live sets, the number of fluents, and the slots that are kept: for the
-/// initial states, for the goal, for each action where it can be executed, and for each outcome the
-/// fluents that it changes with the sets of their next values. Fluents that an outcome leaves alone
-/// share one slot each. That these are the sets of a task is the relation `MadeOf`: `encode` gives
+/// states, for the initial states, for the goal states, for each action where it can be executed, and
+/// for each outcome the fluents that it changes with the sets of their next values, and what it leads
+/// to states. Fluents that an outcome leaves alone share one slot each. That these are the sets of a task is the relation `MadeOf`: `encode` gives
 /// it, each call here keeps it, and so does each call on the sets that releases none of these
 /// slots.
 #[derive(Drop)]
 pub struct Enc {
     sets: Sets,
     fluents: u32,
+    space: SetId,
     initial: SetId,
     goal: Option<SetId>,
     shared: Vec<Option<SetId>>,
@@ -70,6 +72,7 @@ impl Model for Enc {
     ghost view = { λ enc. record {
       sets = enc.sets;
       fluents = enc.fluents;
+      space = enc.space;
       initial = enc.initial;
       goal = enc.goal;
       shared = enc.shared.items;
@@ -80,9 +83,10 @@ impl Model for Enc {
 /// The sets of a task, in a table for at most `limit` nodes.
 ///
 /// No list of states is made: the initial states are found as sets, entry by entry. An outcome
-/// takes a slot for each fluent that it changes; a fluent that some outcome leaves alone has one
-/// more slot, which all such outcomes share. No other slot is live afterwards. The time grows with
-/// the fluents that are changed, for each with the changes of its outcome.
+/// takes a slot for each fluent that it changes, and where the invariant may not hold one for what it
+/// leads to states; a fluent that some outcome leaves alone has one more slot, which all such outcomes
+/// share. No other slot is live afterwards. The time grows with the fluents that are changed, for each
+/// with the changes of its outcome.
 pub fn encode(alloc: Global, task: &Task, limit: u32) -> Result<Enc, SetErr>
     requires some_room { 0 < limit }
     requires small_limit { limit ≤ 16777216 }
@@ -103,6 +107,7 @@ pub fn encode(alloc: Global, task: &Task, limit: u32) -> Result<Enc, SetErr>
     Ok(Enc {
         sets,
         fluents,
+        space: kept.space,
         initial: kept.initial,
         goal: kept.goal,
         shared: kept.shared,
@@ -131,6 +136,7 @@ pub fn encode_in_order(alloc: Global, task: &Task, order: Order, limit: u32) -> 
     Ok(Enc {
         sets,
         fluents,
+        space: kept.space,
         initial: kept.initial,
         goal: kept.goal,
         shared: kept.shared,
@@ -141,6 +147,7 @@ pub fn encode_in_order(alloc: Global, task: &Task, order: Order, limit: u32) -> 
 /// The slots that are kept for a task.
 #[derive(Drop)]
 struct KeptSlots {
+    space: SetId,
     initial: SetId,
     goal: Option<SetId>,
     shared: Shared,
@@ -153,6 +160,7 @@ fn encode_sets(alloc: Global, sets: &mut Sets, task: &Task) -> Result<KeptSlots,
     ensures made { IfOk result (λ kept. MadeOf task.now (record {
       sets = sets.new;
       fluents = fluent_count task.now;
+      space = kept.space;
       initial = kept.initial;
       goal = kept.goal;
       shared = kept.shared.items;
@@ -162,21 +170,24 @@ fn encode_sets(alloc: Global, sets: &mut Sets, task: &Task) -> Result<KeptSlots,
     ensures only { IfOk result (λ kept. AddsOnly sets.old sets.new (is_kept (record {
       sets = sets.new;
       fluents = fluent_count task.now;
+      space = kept.space;
       initial = kept.initial;
       goal = kept.goal;
       shared = kept.shared.items;
       actions = map slots_of kept.actions.items;
     }))) }
     ensures few { OnOk result (live_count sets.new
-        ≤ live_count sets.old + action_slots task.now + 2) }
+        ≤ live_count sets.old + action_slots task.now + 3) }
     ensures full { IsErrOf result SetErr.Full
-        → NoRoom AnySet (action_slots task.now + 212) sets.old sets.new }
+        → NoRoom AnySet (action_slots task.now + 213) sets.old sets.new }
 {
-    let initial = initial_states(sets, task)?;
-    let goal = goal_states(sets, &task.goal)?;
-    let actions = encode_actions(alloc, sets, &task.actions)?;
+    let space = set_where(sets, &task.invariant)?;
+    let initial = initial_states(sets, task, space)?;
+    let goal = goal_states(sets, task, space)?;
+    let actions = encode_actions(alloc, sets, &task.invariant, space, &task.actions)?;
     let shared = share(alloc, sets, &actions, task.fluents.len() as u32)?;
     Ok(KeptSlots {
+        space,
         initial,
         goal,
         shared,
@@ -184,20 +195,20 @@ fn encode_sets(alloc: Global, sets: &mut Sets, task: &Task) -> Result<KeptSlots,
     })
 }
 
-/// The states of a goal in a new slot, where there is a goal.
-fn goal_states(sets: &mut Sets, goal: &Option<Cond>) -> Result<Option<SetId>, SetErr>
-    requires within { goal_within sets.old.vars goal.now ≡ true }
-    requires shallow { goal_is_shallow goal.now ≡ true }
-    ensures made { IfOk result (λ slot. HoldsGoal sets.new slot goal.now) }
+/// The goal states of a task in a new slot, where it has a goal.
+fn goal_states(sets: &mut Sets, task: &Task, space: SetId) -> Result<Option<SetId>, SetErr>
+    requires space { Holds sets.old space (space_set task.now) }
+    requires vars { sets.old.vars ≡ fluent_count task.now }
+    ensures made { IfOk result (λ slot. HoldsGoal task.now sets.new slot task.now.goal) }
     ensures kept { KeepsSets sets.old sets.new }
     ensures only { IfOk result (λ slot.
         AddsOnly sets.old sets.new (λ other. is_slot other slot)) }
     ensures few { OnOk result (live_count sets.new ≤ live_count sets.old + 1) }
     ensures full { IsErrOf result SetErr.Full → NoRoom AnySet 204 sets.old sets.new }
 {
-    match goal {
+    match &task.goal {
         Some(goal) => {
-            let slot = set_where(sets, goal)?;
+            let slot = states_where(sets, &task.invariant, space, goal)?;
             Ok(Some(slot))
         }
         None => Ok(None),
@@ -226,6 +237,22 @@ impl Enc {
         ensures { result ≡ exec_slot self.now a.0 }
     {
         self.actions[a.0 as usize].exec
+    }
+
+    /// The slot of what an outcome of an action leads to states; `None` where there is nothing to ask,
+    /// since the outcome leads to a state from everywhere.
+    pub fn lands(&self, a: ActionId, outcome: u32) -> Option<SetId>
+        requires { a.0 < length self.now.actions }
+        ensures { result ≡ lands_slot self.now a.0 outcome }
+    {
+        lands_by(&self.actions, a, outcome)
+    }
+
+    /// The slot of the states.
+    pub fn space(&self) -> SetId
+        ensures { result ≡ self.now.space }
+    {
+        self.space
     }
 
     /// The slot of the initial states.

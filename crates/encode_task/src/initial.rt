@@ -7,7 +7,8 @@ ghost use Rattle.dd_sets.specs.LiveSets.{IsLive, set_of};
 ghost use Rattle.dd_sets.specs.Rooms.{AnySet, NoRoom};
 ghost use Rattle.task_core.specs.Initial.{entry_of, lit_within};
 ghost use Rattle.task_core.specs.States.{vector};
-ghost use Rattle.task_core.specs.Tasks.{fluent_count};
+ghost use Rattle.task_core.specs.Tasks.{fluent_count, initial_vectors};
+ghost use Rattle.encode_task.specs.Made.{Holds};
 ghost use Rattle.encode_task.specs.Images.{
   has_value,
   assigned,
@@ -16,15 +17,28 @@ ghost use Rattle.encode_task.specs.Images.{
   image,
   entry_image,
 };
-ghost use Rattle.encode_task.specs.TaskSets.{initial_set, set_of_states};
+ghost use Rattle.encode_task.specs.TaskSets.{initial_set, set_of_states, space_set};
 
+use crate::space::states_of;
 use dd_sets::{SetErr, SetId, Sets};
 use task_core::{Alternative, FluentId, Lit, State, Task};
 
-/// The initial states of a task, in a new slot.
-pub fn initial_states(sets: &mut Sets, task: &Task) -> Result<SetId, SetErr>
-    requires { sets.old.vars ≡ fluent_count task.now }
+/// The initial states of a task, in a new slot: the vectors after all entries that are states.
+pub fn initial_states(sets: &mut Sets, task: &Task, space: SetId) -> Result<SetId, SetErr>
+    requires space { Holds sets.old space (space_set task.now) }
+    requires vars { sets.old.vars ≡ fluent_count task.now }
     ensures answer { OwnsAnswer sets.old sets.new (initial_set task.now) result }
+    ensures full { IsErrOf result SetErr.Full → NoRoom AnySet 8 sets.old sets.new }
+{
+    let vectors = initial_vectors(sets, task)?;
+    states_of(sets, &task.invariant, space, vectors)
+}
+
+/// The vectors after all uncertain entries of a task, in a new slot.
+fn initial_vectors(sets: &mut Sets, task: &Task) -> Result<SetId, SetErr>
+    requires { sets.old.vars ≡ fluent_count task.now }
+    ensures answer { OwnsAnswer sets.old sets.new
+        (set_of_states (fluent_count task.now) (initial_vectors task.now)) result }
     ensures full { IsErrOf result SetErr.Full → NoRoom AnySet 8 sets.old sets.new }
 {
     let mut states = one_state(sets, &task.init.facts, task.fluents.len() as u32)?;

@@ -1,5 +1,6 @@
-//! A planning task in sets: where each action can be executed, the values after each outcome, the
-//! initial states and the goal, each in a slot of one table of diagrams.
+//! A planning task in sets: its states, where each action can be executed, the values after each
+//! outcome and what it leads to states, the initial states and the goal states, each in a slot of one
+//! table of diagrams.
 //!
 //! This is the symbolic representation of Cimatti, Pistore, Roveri and Traverso, "Weak, strong, and
 //! strong cyclic planning via symbolic model checking" (Artificial Intelligence 147, 2003), with
@@ -11,10 +12,12 @@ mod actions;
 mod conditions;
 mod enc;
 mod initial;
+mod landing;
 mod laws;
 mod left_alone;
 mod outcomes;
 mod slots;
+mod space;
 
 pub use enc::{Enc, encode, encode_in_order};
 pub use laws::made_is_kept;

@@ -1,7 +1,7 @@
 //! The slots that are kept for outcomes.
 ghost use Rattle.std.specs.Prelude.{◌≡◌, ◌<◌, [], ◌∷◌, ◌++◌, length, map, OnOk};
 ghost use Rattle.dd_sets.specs.LiveSets.{listed_set};
-ghost use Rattle.encode_task.specs.Slots.{outcomes_in, changed_in};
+ghost use Rattle.encode_task.specs.Slots.{changed_in, lands_in, outcomes_in};
 ghost use Rattle.encode_task.specs.Seen.{slots_of};
 
 use crate::action_sets::ActionSets;
@@ -16,6 +16,14 @@ pub fn changed_by(actions: &[ActionSets], a: ActionId, outcome: u32) -> &[(Fluen
     ensures { result.now ≡ changed_in (map slots_of actions.now) a.0 outcome }
 {
     &actions[a.0 as usize].outcomes[outcome as usize]
+}
+
+/// The slot of what an outcome of an action leads to states, where one is kept.
+pub fn lands_by(actions: &[ActionSets], a: ActionId, outcome: u32) -> Option<SetId>
+    requires { a.0 < length actions.now }
+    ensures { result ≡ lands_in (map slots_of actions.now) a.0 outcome }
+{
+    actions[a.0 as usize].lands.get(outcome as usize).copied()
 }
 
 /// The slot that a list gives a fluent, if it lists the fluent.

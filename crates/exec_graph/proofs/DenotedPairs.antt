@@ -4,7 +4,7 @@ use Rattle.std.specs.Prelude.{◌&&◌}
 use Rattle.std.specs.List.{Contains, list_any, filter, range_with_len}
 use Rattle.std.proofs.lemmas.Bool.{false≢true, and_parts, and_from}
 use Rattle.task_core.specs.Vectors.{Vector, all_vectors}
-use Rattle.task_core.specs.Systems.{System, IsState, Exec, HasOutcome}
+use Rattle.task_core.specs.Systems.{System, IsVector, Exec, HasOutcome}
 use Rattle.task_core.proofs.Vectors.{all_vectors_length, all_vectors_has}
 use Rattle.plan_rules.specs.Rules.{PlanRule}
 use Rattle.plan_rules.specs.Denoted.{can_execute, advises, denoted_at, denoted}
@@ -35,13 +35,13 @@ cannot-refused sys s a never = go (can_execute sys s a) refl
 
 -- what makes (s, a) a pair of the table
 pub record IsDenoted (sys : System) (rules : List PlanRule) (s : Vector) (a : ℕ) : Type 0 where
-  pub state : IsState sys s
+  pub vector : IsVector sys s
   pub below : a < sys.actions
   pub advised : advises rules s a ≡ true
   pub executable : can_execute sys s a ≡ true
 
 pub denoted-from : (sys : System) (rules : List PlanRule) (s : Vector) (a : ℕ) → IsDenoted sys rules s a → Contains (denoted sys rules) (s, a)
-denoted-from sys rules s a d = Contains-flat_map (denoted_at sys rules) (all_vectors sys.fluents) s (s, a) (all_vectors_has sys.fluents s d.state)
+denoted-from sys rules s a d = Contains-flat_map (denoted_at sys rules) (all_vectors sys.fluents) s (s, a) (all_vectors_has sys.fluents s d.vector)
     (Contains-map (λ b. (s, b)) (filter (λ b. advises rules s b && can_execute sys s b) (range_with_len 0 sys.actions)) a
     (Contains-filter (λ b. advises rules s b && can_execute sys s b) (range_with_len 0 sys.actions) a (Contains-range_with_len sys.actions a d.below) (and_from (advises rules s a) (can_execute sys s a) d.advised d.executable)))
 
@@ -54,5 +54,5 @@ denoted-pair sys rules s a c =
     let b = pair.0 in
     let passes = Contains-filter-witness test (range_with_len 0 sys.actions) b pair.1 in
     let both = and_parts (advises rules v b) (can_execute sys v b) passes.1 in
-    let here : IsDenoted sys rules v b = record { state = all_vectors_length sys.fluents v at.1; below = Contains-range_with_len-below sys.actions b passes.0; advised = both.0; executable = both.1 } in
+    let here : IsDenoted sys rules v b = record { vector = all_vectors_length sys.fluents v at.1; below = Contains-range_with_len-below sys.actions b passes.0; advised = both.0; executable = both.1 } in
     subst (λ (p : Vector × ℕ). IsDenoted sys rules p.0 p.1) pair.2 here

@@ -1,11 +1,11 @@
 -- How long lists of numbers are: a list of different ones, and lists behind one another together.
-use Rattle.std.proofs.Common.{◌≡◌, ◌≢◌, ℕ, zero, suc, ◌+◌, ◌-◌, ◌<◌, ◌≤◌, List, length, get_or, slice_index_or, sym, ap, ◌∙◌, subst, arith, ⊎_elim}
+use Rattle.std.proofs.Common.{◌≡◌, ◌≢◌, ℕ, zero, suc, ◌+◌, ◌-◌, ◌<◌, ◌≤◌, List, length, get_or, slice_index_or, sym, ap, ◌∙◌, arith, ⊎_elim}
 use Rattle.std.specs.List.{AllPairs, Contains}
 use Rattle.std.proofs.lemmas.Bool.{cases_lt}
 use Rattle.std.proofs.lemmas.List.Elements.{Contains-get_or}
 use Rattle.indexmap.proofs.IndexTableLemmas.Probe.{pigeonhole}
 use Rattle.exec_graph.specs.Rows.{IsRowed, row_at}
-use Rattle.exec_graph.specs.Values.{lengths_below, sum_below}
+use Rattle.exec_graph.specs.Values.{lengths_below}
 use Rattle.exec_graph.proofs.RowFacts.{row_length}
 
 -- there are no more different numbers below n than n

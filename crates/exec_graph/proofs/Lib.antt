@@ -14,3 +14,4 @@ pub mod Reaching
 pub mod Searching
 pub mod Visits
 pub mod Taken
+pub mod Skipped

@@ -86,3 +86,8 @@ module _ (sys : System) (P : Configuration → Type 0) where
 pub goes_to_state : (sys : System) (plan : PlainPlan) (x y : Configuration) → IsSystem sys → GoesTo sys plan x y → IsState sys y.state
 goes_to_state sys (table class rules) x y ok g = ok.next x.state g.0.action y.state g.0.outcome
 goes_to_state sys (automaton contexts rules) x y ok g = ok.next x.state g.action y.state g.outcome
+
+-- and so is every configuration that the plan may reach
+pub reached_state : (sys : System) (plan : PlainPlan) (x : Configuration) → IsSystem sys → IsReachedBy sys plan x → IsState sys x.state
+reached_state sys plan x ok =
+    reached_keeps sys (λ (y : Configuration). IsState sys y.state) plan (λ y first. ok.initial y.state first.state) (λ y z is goes. goes_to_state sys plan y z ok goes) x

@@ -212,7 +212,7 @@ table_goes sys rules x y ok state h =
     (and_from (a == a) (matches h.rule.cube x.state) (eq-eqb a a refl) h.matched) in
     let can = can_execute-outcome sys x.state a y.state h.led.outcome in
     let pair : Contains (denoted sys rules) (x.state, a) =
-    denoted-from sys rules x.state a (record { state = state; below = ok.actions x.state a (can_execute-Exec sys x.state a can); advised = advised; executable = can }) in
+    denoted-from sys rules x.state a (record { vector = state.vector; below = ok.actions x.state a (can_execute-Exec sys x.state a can); advised = advised; executable = can }) in
     (record { action = a; pair = pair; outcome = h.led.outcome }, sym (same_Some first_context y.context h.led.context))
 
 goes_table : (sys : System) (rules : List PlanRule) (x y : Configuration) → Leads sys (denoted sys rules) x.state y.state → y.context ≡ first_context → HasTableRule sys rules x.state y

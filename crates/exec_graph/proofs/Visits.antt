@@ -1,8 +1,10 @@
 -- Visits and graphs as the code holds them.
-use Rattle.std.proofs.Common.{◌≡◌, ◌≢◌, ℕ, zero, suc, ◌<◌, ◌≤◌, ◌||◌, false, List, [], ◌∷◌, ◌++◌, length, map, slice_get, nat_lt, Some, refl, sym, ap, ◌∙◌, subst, arith, take_all, ⊎_elim}
+use Rattle.std.proofs.Common.{◌≡◌, ◌≢◌, ℕ, zero, suc, ◌<◌, ◌≤◌, ◌||◌, false, not, List, [], ◌∷◌, ◌++◌, length, map, slice_get, nat_lt, Some, refl, sym, ap, ◌∙◌, subst, arith, take_all, ⊎_elim}
 use Rattle.std.specs.List.{AllPairs, Contains, fold}
 use Rattle.std.specs.Option.{option_map, option_map_or}
 use Rattle.std.proofs.lemmas.List.{length-map, get_or-map}
+use Rattle.std.proofs.lemmas.List.Filters.{length-filter_both}
+use Rattle.std.proofs.lemmas.List.Kept.{AllPairs-filter}
 use Rattle.std.proofs.lemmas.Option.{slice_get-map}
 use Rattle.task_core.specs.Vectors.{Vector}
 use Rattle.task_core.specs.States.{vector}
@@ -11,7 +13,7 @@ use Rattle.task_core.specs.Systems.{System, IsSystem}
 use Rattle.task_core.specs.ContextPlans.{Configuration}
 use Rattle.plan_rules.specs.Rules.{PlainPlan}
 use Rattle.task_core.specs.Initial.{after_entries, entries_of, facts_of}
-use Rattle.task_core.specs.Tasks.{fluent_count, states_after_entries, system_of}
+use Rattle.task_core.specs.Tasks.{fluent_count, in_space, initial_vectors, states_after_entries, system_of}
 use Rattle.task_core.specs.declared.tasks.Task.{Task}
 use Rattle.task_core.proofs.EntryStates.{after_entries_differ}
 use Rattle.exec_graph.specs.Initials.{HasTooManyInitial}
@@ -179,14 +181,16 @@ pub few_initial : (task : Task) (limit : ℕ) → (HasTooManyInitial task limit 
 few_initial task limit none =
     let entries = entries_of task.init in
     let n = fluent_count task in
-    let all : states_after_entries task (length entries) ≡ (system_of task).initial =
+    let all : states_after_entries task (length entries) ≡ initial_vectors task =
     ap (after_entries n (facts_of n task.init)) (take_all (length entries) entries (omega arith)) in
+    let kept = length-filter_both (in_space task) (λ v. not (in_space task v)) (λ v. refl) (initial_vectors task) in
     ⊎_elim
-    (λ (more : limit < length (system_of task).initial).
+    (λ (more : limit < length (initial_vectors task)).
     absurd (none (record { entries = length entries; first = omega arith; more = subst (λ ys. limit < length ys) (sym all) more })))
-    (λ (few : length (system_of task).initial ≤ limit). few)
-    (cases_lt limit (length (system_of task).initial))
+    (λ (few : length (initial_vectors task) ≤ limit). omega (arith, kept))
+    (cases_lt limit (length (initial_vectors task)))
 
 -- they are all different
 pub initial_differ : (task : Task) → AllPairs (λ v w. v ≡ w → ⊥) (system_of task).initial
-initial_differ task = let n = fluent_count task in after_entries_differ n (facts_of n task.init) (entries_of task.init)
+initial_differ task = let n = fluent_count task in
+    AllPairs-filter (λ v w. v ≡ w → ⊥) (in_space task) (initial_vectors task) (after_entries_differ n (facts_of n task.init) (entries_of task.init))

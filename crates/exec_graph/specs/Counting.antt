@@ -48,6 +48,10 @@ with_outcome next m t = record {
   lost = m.lost || not (is_some (next_context next t));
 }
 
+-- Private: with one outcome more, where it leads to a state
+abbrev pub with_if_state : (Vector → Bool) → PlanNext → Moved → Vector → Moved
+with_if_state inside next m t = if inside t then with_outcome next m t else m
+
 -- Private: with one rule more that counts in the state s
 abbrev pub with_rule : System → Vector → Moved → Advised → Moved
 with_rule sys s m a = let all = fold (with_outcome a.next) m (sys.next s a.action) in record {

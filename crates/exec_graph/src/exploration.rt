@@ -25,7 +25,7 @@ ghost use Rattle.task_core.specs.States.{IsWithin, vector};
 ghost use Rattle.task_core.specs.Tasks.{action_count, fluent_count, system_of};
 ghost use Rattle.plan_rules.specs.Plans.{IsPlanOf};
 ghost use Rattle.plan_rules.specs.Rules.{plain_of};
-ghost use Rattle.exec_graph.specs.ByContext.{IsIndexOf};
+ghost use Rattle.exec_graph.specs.ByContext.{IsRuleIndexOf};
 ghost use Rattle.exec_graph.specs.Counting.{add_configuration};
 ghost use Rattle.exec_graph.specs.Drafts.{
   HasTooMany,
@@ -46,7 +46,8 @@ ghost use Rattle.exec_graph.specs.Values.{IsWithinFluents, plain_graph};
 use crate::graphs::{Graph, Place};
 use crate::moves::{moves_of, number_of};
 use crate::rows::{Rows, turned};
-use crate::rules::{ByContext, by_context};
+use crate::rules::{ByContext, RuleIndex, by_context, table_index};
+use cube_index::CubeIndex;
 use indexmap::IndexSet;
 use plan_rules::{FIRST_CONTEXT, Plan};
 use std::alloc::{AllocError, Global};
@@ -59,7 +60,8 @@ pub const MAX_CONFIGURATIONS: usize = 262_144;
 /// Why there is no graph.
 #[derive(Clone, Copy, Debug, PartialEq, Eq, Error)]
 pub enum GraphErr {
-    /// There were more than 262,144 states after some of the uncertain initial entries.
+    /// There were more than 262,144 vectors after some of the uncertain initial entries, states or
+    /// not.
     #[error("too many initial states")]
     Initial,
     /// The plan may reach more than 262,144 configurations.
@@ -92,13 +94,14 @@ pub(crate) struct Draft {
 
 /// The graph of the plan in the task.
 ///
-/// `Initial` comes exactly where `init_states` with the limit 262,144 has too many states. Where it
+/// `Initial` comes exactly where `init_states` with the limit 262,144 has too many vectors. Where it
 /// doesn't, `TooLarge` comes exactly where the plan may reach more than 262,144 configurations.
 /// Both yield to want of memory.
 ///
 /// Each configuration is visited once. The time grows with the number of configurations times that
-/// of the rules that are tried in one: all rules of a table, or those of one context of an
-/// automaton. An automaton takes memory for each of its contexts.
+/// of the rules that are tried in one: those of a table that match it, which are found 64 at a time,
+/// or those of one context of an automaton. An automaton takes memory for each of its contexts, a
+/// table for each literal of its rules.
 pub fn explore(alloc: Global, task: &Task, plan: &Plan) -> Result<Graph, GraphErr>
     requires { IsPlanOf (fluent_count task.now) (action_count task.now) plan.now }
     ensures graph { let n = fluent_count task.now in IfOk result (λ graph.
@@ -113,7 +116,7 @@ pub fn explore(alloc: Global, task: &Task, plan: &Plan) -> Result<Graph, GraphEr
         (ReachesMoreThan (system_of task.now) (plain_of plan.now) 262144 → ⊥) }
 {
     let states = initial_states(alloc, task)?;
-    let index = index_of(alloc, plan)?;
+    let index = index_of(alloc, task, plan)?;
     let mut draft = Draft {
         places: first_places(alloc, &states)?,
         next: Rows::new(alloc)?,
@@ -132,10 +135,10 @@ impl Draft {
         alloc: Global,
         task: &Task,
         plan: &Plan,
-        index: &ByContext<'_>,
+        index: &RuleIndex<'_>,
     ) -> Result<(), GraphErr>
         requires plan_of_task { IsPlanOf (fluent_count task.now) (action_count task.now) plan.now }
-        requires index { IsIndexOf plan.now index.now }
+        requires index { IsRuleIndexOf plan.now index.now }
         requires rows { AreRows self.old.next }
         requires within { IsDraftWithin (fluent_count task.now) self.old }
         requires few { length self.old.places.keys ≤ 262144 }
@@ -163,10 +166,10 @@ impl Draft {
         alloc: Global,
         task: &Task,
         plan: &Plan,
-        index: &ByContext<'_>,
+        index: &RuleIndex<'_>,
     ) -> Result<(), GraphErr>
         requires plan_of_task { IsPlanOf (fluent_count task.now) (action_count task.now) plan.now }
-        requires index { IsIndexOf plan.now index.now }
+        requires index { IsRuleIndexOf plan.now index.now }
         requires rows { AreRows self.old.next }
         requires within { IsDraftWithin (fluent_count task.now) self.old }
         requires few { length self.old.places.keys ≤ 262144 }
@@ -258,15 +261,23 @@ fn initial_states(alloc: Global, task: &Task) -> Result<Vec<State>, GraphErr>
     }
 }
 
-/// The rules of an automaton by their contexts.
-fn index_of(alloc: Global, plan: &Plan) -> Result<ByContext<'_>, AllocError>
-    requires { (n : ℕ) × (m : ℕ) × IsPlanOf n m plan.now }
-    ensures { IfOk result (IsIndexOf plan.now) }
+/// The rules of a plan as they are looked up: those of an automaton by their contexts, those of a
+/// table by what their cubes match.
+fn index_of<'a>(alloc: Global, task: &Task, plan: &'a Plan) -> Result<RuleIndex<'a>, AllocError>
+    requires { IsPlanOf (fluent_count task.now) (action_count task.now) plan.now }
+    ensures { IfOk result (IsRuleIndexOf plan.now) }
 {
     match plan {
-        Plan::Table(_) => ByContext::new(alloc, 0),
+        Plan::Table(table) => {
+            let cubes = table_index(alloc, task, &table.rules)?;
+            let contexts = ByContext::new(alloc, 0)?;
+            Ok(RuleIndex { contexts, cubes })
+        }
         Plan::Auto(automaton) => {
-            by_context(alloc, &automaton.rules, automaton.contexts as usize + 1)
+            let count = automaton.contexts as usize + 1;
+            let contexts = by_context(alloc, &automaton.rules, count)?;
+            let cubes = CubeIndex::new(alloc, &[])?;
+            Ok(RuleIndex { contexts, cubes })
         }
     }
 }

@@ -26,24 +26,26 @@ ghost use Rattle.task_core.specs.Systems.{Exec};
 ghost use Rattle.task_core.specs.Tasks.{
   action_count,
   fluent_count,
+  in_space,
   outcomes_at,
-  states_after,
   system_of,
 };
 ghost use Rattle.plan_rules.specs.Denoted.{can_execute};
 ghost use Rattle.plan_rules.specs.Plans.{IsPlanOf, IsRuleOf};
 ghost use Rattle.plan_rules.specs.Rules.{plain_of, rule_of};
-ghost use Rattle.exec_graph.specs.ByContext.{IsIndexOf};
-ghost use Rattle.exec_graph.specs.Counting.{HaveTaken, add_configuration, moves_by, moves_from, moves_in_table, no_moves, with_outcome, with_rule, with_table_rule};
+ghost use Rattle.cube_index.specs.Index.{IsIndexOf};
+ghost use Rattle.exec_graph.specs.ByContext.{IsRuleIndexOf, cubes_of};
+ghost use Rattle.exec_graph.specs.Counting.{HaveTaken, add_configuration, moves_by, moves_from, moves_in_table, no_moves, with_if_state, with_outcome, with_rule, with_table_rule};
 ghost use Rattle.plan_rules.specs.Advices.{AreCasesOf, IsAdviceOf, advice_value, onward_value};
 ghost use Rattle.exec_graph.specs.Moves.{AreWithin, IsPlaceWithin, configuration_of, moves_value};
 
 use crate::graphs::Place;
-use crate::rules::ByContext;
+use crate::rules::{RuleIndex, next_rule};
+use cube_index::CubeIndex;
 use indexmap::IndexSet;
 use plan_rules::{Advice, FIRST_CONTEXT, Onward, Plan, Rule, context_in, has_all};
 use std::alloc::{AllocError, Global};
-use task_core::{ActionId, State, Task, is_exec, step};
+use task_core::{ActionId, State, Task, in_space, is_exec, step};
 
 /// The moves from a configuration: those that follow it, each once, whether a rule that counts has
 /// an action that can't be executed, and whether the plan doesn't go on.
@@ -152,9 +154,31 @@ impl Moves {
     {
         for outcome in 0..outcome_count(task, rule.action) {
             let after = step(task, state, rule.action, outcome);
-            self.add_outcome(task, after, &rule.onward)?;
+            self.add_if_state(task, after, &rule.onward)?;
         }
         Ok(())
+    }
+
+    // Adds the move to the vector after an outcome, if it is a state: an outcome that leads to no
+    // state doesn't take place.
+    fn add_if_state(
+        &mut self,
+        task: &Task,
+        after: State,
+        onward: &Onward<'_>,
+    ) -> Result<(), AllocError>
+        requires cases { AreCasesOf (fluent_count task.now) (onward_value onward.now) }
+        requires within { IsWithin (fluent_count task.now) after }
+        requires next_within { AreWithin (fluent_count task.now) self.old }
+        ensures value { let n = fluent_count task.now in OnOk result (moves_value n self.new
+            ≡ with_if_state (in_space task.now) (onward_value onward.now) (moves_value n self.old)
+            (vector n after)) }
+        ensures next_within { OnOk result (AreWithin (fluent_count task.now) self.new) }
+    {
+        if !in_space(task, &after) {
+            return Ok(());
+        }
+        self.add_outcome(task, after, onward)
     }
 
     // Adds the move to the state after an outcome.
@@ -187,25 +211,25 @@ impl Moves {
     }
 }
 
-/// The moves from a configuration by a plan. The rules of an automaton stand in the index.
+/// The moves from a configuration by a plan, whose rules stand in the index.
 pub(crate) fn moves_of(
     alloc: Global,
     task: &Task,
     plan: &Plan,
-    index: &ByContext<'_>,
+    index: &RuleIndex<'_>,
     place: &Place,
 ) -> Result<Moves, AllocError>
     requires plan_of_task { IsPlanOf (fluent_count task.now) (action_count task.now) plan.now }
-    requires index { IsIndexOf plan.now index.now }
+    requires index { IsRuleIndexOf plan.now index.now }
     requires within { IsPlaceWithin (fluent_count task.now) place.now }
     ensures value { let n = fluent_count task.now in IfOk result (λ moves. moves_value n moves
         ≡ moves_from (system_of task.now) (plain_of plan.now) (configuration_of n place.now)) }
     ensures within { IfOk result (AreWithin (fluent_count task.now)) }
 {
     match plan {
-        Plan::Table(table) => table_moves(alloc, task, &table.rules, &place.state),
+        Plan::Table(table) => { table_moves(alloc, task, &table.rules, &index.cubes, &place.state) }
         Plan::Auto(_) => {
-            let rule = index.rule_at(task, &place.state, place.context);
+            let rule = index.contexts.rule_at(task, &place.state, place.context);
             rule_moves(alloc, task, &rule, &place.state)
         }
     }
@@ -240,10 +264,12 @@ fn table_moves(
     alloc: Global,
     task: &Task,
     rules: &[Rule],
+    index: &CubeIndex,
     state: &State,
 ) -> Result<Moves, AllocError>
     requires in_task { let n = fluent_count task.now in let m = action_count task.now in
         All (λ rule. IsRuleOf n m (rule_of rule)) rules.now }
+    requires index { IsIndexOf index.now (cubes_of rules.now) }
     requires within { IsWithin (fluent_count task.now) state.now }
     ensures value { let n = fluent_count task.now in IfOk result (λ moves. moves_value n moves
         ≡ moves_in_table (system_of task.now) (vector n state.now) (map rule_of rules.now)) }
@@ -251,8 +277,10 @@ fn table_moves(
 {
     let mut moves = Moves::none(alloc, false);
     let mut taken = no_actions(alloc, task)?;
-    for rule in rules {
-        moves.add_matching(task, state, rule, &mut taken)?;
+    let mut place = next_rule(task, rules, index, state, 0);
+    while place < rules.len() {
+        moves.add_matching(task, state, &rules[place], &mut taken)?;
+        place = next_rule(task, rules, index, state, place + 1);
     }
     Ok(moves)
 }
@@ -285,7 +313,8 @@ pub(crate) fn number_of(places: &mut IndexSet<Place>, place: Place) -> Result<us
 
 /// Whether an action can be executed in a state.
 fn is_executable(task: &Task, state: &State, action: ActionId) -> bool
-    requires { action.0 < action_count task.now }
+    requires in_range { action.0 < action_count task.now }
+    requires within { IsWithin (fluent_count task.now) state.now }
     ensures value { result
         ≡ can_execute (system_of task.now) (vector (fluent_count task.now) state.now) action.0 }
     ensures executable { IsTrue result

@@ -1,20 +1,30 @@
 //! The rules of a plan, as they are looked up.
 
-ghost use Rattle.std.specs.Prelude.{◌≡◌, ◌<◌, ◌==◌, ℕ, [], All, IfOk, IfSome, length, map};
+ghost use Rattle.std.specs.Prelude.{◌≡◌, ◌<◌, ◌≤◌, ◌==◌, ℕ, [], All, IfOk, IfSome, length, map};
 ghost use Rattle.std.specs.List.{filter};
 ghost use Rattle.std.specs.Option.{option_map};
 ghost use Rattle.plan_rules.specs.Denoted.{rule_at};
-ghost use Rattle.plan_rules.specs.Plans.{IsContextRuleOf};
-ghost use Rattle.plan_rules.specs.Rules.{context_rule_of};
-ghost use Rattle.exec_graph.specs.ByContext.{rules_in};
+ghost use Rattle.plan_rules.specs.Plans.{IsContextRuleOf, IsRuleOf};
+ghost use Rattle.plan_rules.specs.Rules.{context_rule_of, rule_of};
+ghost use Rattle.cube_index.specs.Index.{IsIndexOf};
+ghost use Rattle.exec_graph.specs.ByContext.{MatchNone, cubes_of, rules_in};
 ghost use Rattle.exec_graph.specs.Counting.{IsRuleWithin, first_matching};
 ghost use Rattle.plan_rules.specs.Advices.{IsAdviceOf, advice_value, advised_by};
 ghost use Rattle.task_core.specs.States.{vector};
 ghost use Rattle.task_core.specs.Tasks.{action_count, fluent_count};
 
-use plan_rules::{Advice, AutoRule, has_all, onward_of};
+use cube_index::CubeIndex;
+use plan_rules::{Advice, AutoRule, Rule, has_all, onward_of};
 use std::alloc::{AllocError, Global};
-use task_core::{State, Task};
+use task_core::{Lit, State, Task};
+
+/// The rules of a plan, as they are looked up: those of an automaton by their contexts, those of a
+/// table by what their cubes match.
+#[derive(Drop)]
+pub(crate) struct RuleIndex<'a> {
+    pub(crate) contexts: ByContext<'a>,
+    pub(crate) cubes: CubeIndex,
+}
 
 /// The rules of an automaton, those of each context in a list of their own, in their order. The
 /// list of context `c` has the place `c`.
@@ -68,6 +78,59 @@ pub(crate) fn by_context(
         index.lists[rule.context as usize].push(rule)?;
     }
     Ok(index)
+}
+
+/// The index of the cubes of a table's rules, in their order.
+pub(crate) fn table_index(
+    alloc: Global,
+    task: &Task,
+    rules: &[Rule],
+) -> Result<CubeIndex, AllocError>
+    requires in_task { let n = fluent_count task.now in let m = action_count task.now in
+        All (λ rule. IsRuleOf n m (rule_of rule)) rules.now }
+    ensures { IfOk result (λ index. IsIndexOf index (cubes_of rules.now)) }
+{
+    // The task is read for its bound on fluents alone.
+    let _bound = task.fluents.len();
+    let cubes = cubes_of(alloc, rules)?;
+    CubeIndex::new(alloc, &cubes)
+}
+
+/// The cubes of the rules of a table, in their order.
+fn cubes_of(alloc: Global, rules: &[Rule]) -> Result<Vec<&[Lit]>, AllocError>
+    ensures { IfOk result (λ cubes. map (λ cube. cube.now) cubes.items ≡ cubes_of rules.now) }
+{
+    let mut cubes = Vec::new(alloc);
+    for rule in rules {
+        cubes.push(rule.cube.as_slice())?;
+    }
+    Ok(cubes)
+}
+
+/// The place of the first rule of a table from `from` on that matches a state; how many rules there
+/// are, where none does.
+pub(crate) fn next_rule(
+    task: &Task,
+    rules: &[Rule],
+    index: &CubeIndex,
+    state: &State,
+    from: usize,
+) -> usize
+    requires in_task { let n = fluent_count task.now in let m = action_count task.now in
+        All (λ rule. IsRuleOf n m (rule_of rule)) rules.now }
+    requires index { IsIndexOf index.now (cubes_of rules.now) }
+    requires from { from ≤ length rules.now }
+    ensures from { from ≤ result }
+    ensures within { result ≤ length rules.now }
+    ensures none_before { MatchNone (vector (fluent_count task.now) state.now)
+        (map rule_of rules.now) from result }
+{
+    // The task is read for its bound on fluents alone.
+    let _bound = task.fluents.len();
+    match index.next_match(state, from, rules.len()) {
+        Some(place) => place,
+        None => rules.len(),
+    }
 }
 
 /// The first of the rules that matches a state.

@@ -74,7 +74,7 @@ fn either(alloc: Global, fluent: u32) -> Result<Vec<Alternative>, AllocError> {
 
 // Fluents `p` and `q`, of which the first so many are unknown at first, `flip` for `p` and `set`
 // for `q`.
-fn coin(alloc: Global, unknown: u32) -> Result<Option<Task>, AllocError> {
+fn coin(alloc: Global, unknown: u32, invariant: Cond) -> Result<Option<Task>, AllocError> {
     let mut entries = Vec::new(alloc);
     for fluent in 0..unknown {
         entries.push(either(alloc, fluent)?)?;
@@ -85,7 +85,13 @@ fn coin(alloc: Global, unknown: u32) -> Result<Option<Task>, AllocError> {
     };
     let fluents = vec![in alloc; name(alloc, "p")?, name(alloc, "q")?]?;
     let actions = vec![in alloc; flip(alloc)?, set(alloc, 1, "set")?]?;
-    Ok(Task::try_new(fluents, actions, init, None))
+    Ok(Task::try_new(fluents, actions, init, None, invariant))
+}
+
+// Not both `p` and `q`.
+fn not_both(alloc: Global) -> Result<Cond, AllocError> {
+    let both = Cond::All(vec![in alloc; Cond::Is(FluentId(0)), Cond::Is(FluentId(1))]?);
+    Ok(Cond::Not(Box::new(alloc, both)?))
 }
 
 // The graph as a text: each configuration with its values and context, `*` where it is initial, and
@@ -161,7 +167,7 @@ static TABLES: [(&str, &str); 4] = [
 #[test]
 fn graphs_of_tables(rt: HostRuntime) -> Result<(), Fail> {
     let alloc = rt.alloc();
-    let task = coin(alloc, 0)?.ok_or("no task")?;
+    let task = coin(alloc, 0, Cond::Yes)?.ok_or("no task")?;
     for (text, want) in TABLES {
         assert_eq!(rt; answer(alloc, text.as_bytes(), &task)?.as_str(), want);
     }
@@ -189,7 +195,7 @@ static AUTOMATA: [(&str, &str); 4] = [
 #[test]
 fn graphs_of_automata(rt: HostRuntime) -> Result<(), Fail> {
     let alloc = rt.alloc();
-    let task = coin(alloc, 0)?.ok_or("no task")?;
+    let task = coin(alloc, 0, Cond::Yes)?.ok_or("no task")?;
     for (text, want) in AUTOMATA {
         assert_eq!(rt; answer(alloc, text.as_bytes(), &task)?.as_str(), want);
     }
@@ -199,9 +205,35 @@ fn graphs_of_automata(rt: HostRuntime) -> Result<(), Fail> {
 #[test]
 fn several_initial_states(rt: HostRuntime) -> Result<(), Fail> {
     let alloc = rt.alloc();
-    let task = coin(alloc, 1)?.ok_or("no task")?;
+    let task = coin(alloc, 1, Cond::Yes)?.ok_or("no task")?;
     let shown = answer(alloc, b"(plan table weak (rule ((p)) (set)))", &task)?;
     assert_eq!(rt; shown.as_str(), "10.1*>2, 00.1*> 11.1>2, ");
+    Ok(())
+}
+
+static INSIDE: [(u32, &str, &str); 3] = [
+    // Where `q` is true, `flip` changes nothing: its other outcome leads to no state.
+    (
+        0,
+        "(plan table weak (rule ((not (p))) (flip)) (rule ((not (p))) (set)))",
+        "00.1*>1,0,2, 10.1> 01.1>2, ",
+    ),
+    // Where `p` is true, `set` can't be executed.
+    (
+        0,
+        "(plan table weak (rule () (flip)) (rule ((p)) (set)))",
+        "00.1*>1,0, 10.1> unexecutable ",
+    ),
+    (2, "(plan table weak)", "10.1*> 01.1*> 00.1*> "),
+];
+
+#[test]
+fn graphs_inside_a_set_of_states(rt: HostRuntime) -> Result<(), Fail> {
+    let alloc = rt.alloc();
+    for (unknown, text, want) in INSIDE {
+        let task = coin(alloc, unknown, not_both(alloc)?)?.ok_or("no task")?;
+        assert_eq!(rt; answer(alloc, text.as_bytes(), &task)?.as_str(), want);
+    }
     Ok(())
 }
 
@@ -223,7 +255,7 @@ fn switches(alloc: Global, count: u32, unknown: u32) -> Result<Option<Task>, All
         facts: State::none(),
         entries,
     };
-    Ok(Task::try_new(fluents, actions, init, None))
+    Ok(Task::try_new(fluents, actions, init, None, Cond::Yes))
 }
 
 // The table that makes each fluent true that is false.

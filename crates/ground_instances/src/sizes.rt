@@ -18,7 +18,7 @@ use pddl_ast::{Domain, Effect, Formula, Problem, Schema, Temporal};
 /// The most constants and objects.
 const MOST_OBJECTS: usize = 1_024;
 
-/// The greatest expanded size of an action or a goal.
+/// The greatest expanded size of an action, a goal or the invariant.
 const MOST_SIZE: usize = 100_000;
 
 /// The most instances of all actions, kept or not.
@@ -132,13 +132,21 @@ impl Setting {
         ) <= MOST_SIZE
     }
 
+    /// Whether the expanded size of a formula is at most 100,000.
+    fn is_small_formula(&self, formula: &Formula) -> bool
+        ensures { result ≡ nat_le (formula_size (setting_in self.now).objects
+            (formula_value formula.now)) most_size }
+    {
+        self.formula_size(formula) <= MOST_SIZE
+    }
+
     /// Whether the expanded size of a goal is at most 100,000.
     fn is_small_goal(&self, goal: &Option<Formula>) -> bool
         ensures { result ≡ nat_le (goal_size (setting_in self.now).objects
             (option_map formula_value goal.now)) most_size }
     {
         match goal {
-            Some(formula) => self.formula_size(formula) <= MOST_SIZE,
+            Some(formula) => self.is_small_formula(formula),
             None => true,
         }
     }
@@ -154,8 +162,8 @@ impl Setting {
         }
     }
 
-    /// Whether the expanded sizes of each action and of each goal are at most 100,000. `self` is
-    /// the setting of the domain and the problem.
+    /// Whether the expanded sizes of each action, of the invariant and of each goal are at most
+    /// 100,000. `self` is the setting of the domain and the problem.
     pub fn has_small_trees(&self, domain: &Domain, problem: &Problem) -> bool
         requires { setting_in self.now
             ≡ setting (domain_value domain.now) (problem_value problem.now) }
@@ -166,7 +174,9 @@ impl Setting {
                 return false;
             }
         }
-        self.is_small_goal(&problem.goal) && self.is_small_ctl(&problem.ctl)
+        self.is_small_formula(&domain.invariant)
+            && self.is_small_goal(&problem.goal)
+            && self.is_small_ctl(&problem.ctl)
     }
 
     /// Whether the actions have at most 1,000,000 instances, kept or not. `self` is the setting of

@@ -64,7 +64,7 @@ pub enum GroundErr {
     /// There are more than 1,024 constants and objects.
     #[error("too many objects")]
     Objects,
-    /// The expanded size of an action or of a goal is more than 100,000.
+    /// The expanded size of an action, of a goal or of the invariant is more than 100,000.
     #[error("an action or the goal is too large")]
     Size,
     /// There are more than 1,000,000 instances of the actions, kept or not.
@@ -187,6 +187,21 @@ fn all_fluents<'a>(
     }
 }
 
+/// The condition of a formula without free variables.
+fn closed_condition(
+    alloc: Global,
+    setting: &Setting,
+    fluents: &Fluents,
+    formula: &Formula,
+) -> Result<Cond, AllocError>
+    ensures { IfOk result (λ cond. condition_value cond
+        ≡ condition_of (setting_in setting.now) fluents.now (formula_value formula.now) []) }
+{
+    let mut scope = Vec::new(alloc);
+    let cond = condition(alloc, setting, fluents, formula, &mut scope)?;
+    Ok(cond)
+}
+
 /// The condition of the goal, where there is one.
 fn goal_condition(
     alloc: Global,
@@ -201,11 +216,24 @@ fn goal_condition(
     match goal {
         None => Ok(None),
         Some(goal) => {
-            let mut scope = Vec::new(alloc);
-            let cond = condition(alloc, setting, fluents, goal, &mut scope)?;
+            let cond = closed_condition(alloc, setting, fluents, goal)?;
             Ok(Some(cond))
         }
     }
+}
+
+/// The condition of the domain's invariant.
+fn invariant_condition(
+    alloc: Global,
+    setting: &Setting,
+    fluents: &Fluents,
+    domain: &Domain,
+) -> Result<Cond, AllocError>
+    ensures { IfOk result (λ cond. condition_value cond
+        ≡ condition_of (setting_in setting.now) fluents.now (domain_value domain.now).invariant []) }
+{
+    let cond = closed_condition(alloc, setting, fluents, &domain.invariant)?;
+    Ok(cond)
 }
 
 /// The task of a domain and a problem that pass no limit, from their setting, the outcomes of the
@@ -237,8 +265,9 @@ fn build(
     let actions = actions(alloc, setting, fluents, domain, problem, drafts)?;
     let entries = entries(alloc, fluents, &problem.entries)?;
     let goal = goal_condition(alloc, setting, fluents, &problem.goal)?;
+    let invariant = invariant_condition(alloc, setting, fluents, domain)?;
     let facts = facts(setting, fluents);
-    Ok(Task::new(names, actions, InitSpec { facts, entries }, goal))
+    Ok(Task::new(names, actions, InitSpec { facts, entries }, goal, invariant))
 }
 
 /// The task and the goal in computation tree logic of a domain and a problem, of which these are

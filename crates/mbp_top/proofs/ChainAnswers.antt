@@ -1,5 +1,5 @@
 -- The plan with contexts of a task is one for the domain and the problem that the task comes from.
-use Rattle.std.proofs.Common.{◌≡◌, ◌≤◌, ◌<◌, ℕ, List, length, inl, inr, refl, sym, subst, ap, ◌∙◌, None, Some, Option, true, false, codes, All, suc}
+use Rattle.std.proofs.Common.{◌≡◌, ◌≢◌, ◌≤◌, ◌<◌, ℕ, List, [], length, inl, inr, refl, sym, subst, ap, ◌∙◌, None, Some, Option, true, false, codes, All, suc}
 use Rattle.std.specs.Option.{option_and_then, option_map, option_map_or}
 use Rattle.std.specs.Prelude.{nat_le}
 use Rattle.std.proofs.lemmas.Bool.{le-leb}
@@ -34,7 +34,7 @@ use Rattle.task_core.specs.Conditions.{depth, is_shallow}
 use Rattle.task_core.specs.ContextPlans.{ContextPlan}
 use Rattle.task_core.specs.Names.{Name}
 use Rattle.task_core.specs.Systems.{System}
-use Rattle.task_core.specs.Tasks.{action_names as names_of_actions, fluent_names as names_of_fluents, system_of}
+use Rattle.task_core.specs.Tasks.{action_names as names_of_actions, fluent_names as names_of_fluents, initial_states, system_of}
 use Rattle.task_core.specs.declared.conditions.Cond.{Cond}
 use Rattle.task_core.specs.declared.tasks.Task.{Task}
 use Rattle.mbp_top.specs.Answers.{Answer, affirmed, over_limit, refused, text_fault}
@@ -42,6 +42,7 @@ use Rattle.mbp_top.specs.ChainGoals.{goal_chain, is_short_chain, most_stages, st
 use Rattle.mbp_top.specs.Enough.{IsTightLimit}
 use Rattle.mbp_top.specs.FoundChains.{IsChainMissing, IsChainResult, IsChainShown, IsFoundChain, StandsForChain}
 use Rattle.mbp_top.specs.Grounded.{IsTaskOf}
+use Rattle.mbp_top.specs.InitialStates.{empty_init}
 use Rattle.mbp_top.specs.Meets.{Meets, contextual}
 use Rattle.mbp_top.specs.PlanCommand.{IsPlanFound, IsPlanMissing, IsPlanResult, IsResultOf, MayBeTooFew, PlanThen, is_sought, stages_for}
 use Rattle.mbp_top.specs.TemporalGoals.{HasGoal}
@@ -184,9 +185,16 @@ module _ (d : DomainTree) (p : ProblemTree) (chain : Chain) (s : StandsForChain 
   few_parts few = subst (λ n. n ≤ most_stages) (same_length d p chain s) few
 
   -- the answer for the chain
-  pub chain_answer : (name : Bytes) (t : Task) (a : Answer) → IsTaskOf d p t → length chain.stages.items ≤ most_stages → IsChainResult t chain a
+  pub chain_answer : (name : Bytes) (t : Task) (a : Answer) → IsTaskOf d p t → length chain.stages.items ≤ most_stages → initial_states t ≢ [] → IsChainResult t chain a
       → IsResultOf with_contexts name d p a
-  chain_answer name t a of few r = inr (s.parts, s.is, inr (few_parts few, result t a of r))
+  chain_answer name t a of few some r =
+      inr (s.parts, s.is, inr (few_parts few, inr (λ none. some (ap (λ (y : System). y.initial) of.system_is ∙ none), result t a of r)))
+
+  -- there is no initial state
+  pub chain_without_initial : (name : Bytes) (t : Task) (a : Answer) → IsTaskOf d p t → length chain.stages.items ≤ most_stages → initial_states t ≡ []
+      → a ≡ refused (empty_init name p) → IsResultOf with_contexts name d p a
+  chain_without_initial name t a of few none is =
+      inr (s.parts, s.is, inr (few_parts few, inl (sym (ap (λ (y : System). y.initial) of.system_is) ∙ none, is)))
 
   pub too_many_stages : (name : Bytes) (a : Answer) → most_stages < length chain.stages.items → a ≡ refused (over_limit (codes "stages")) → IsResultOf with_contexts name d p a
   too_many_stages name a many is = inr (s.parts, s.is, inl (subst (λ n. most_stages < n) (same_length d p chain s) many, is))
@@ -229,9 +237,14 @@ over_task n chain few names deep = record {
 
 -- by the kind that is asked for
 pub chain_then : (d : DomainTree) (p : ProblemTree) (chain : Chain) (s : StandsForChain d p chain) (asked : PlanWords) (t : Task) (a : Answer) → asked.kind ≡ with_contexts
-    → IsTaskOf d p t → length chain.stages.items ≤ most_stages → IsChainResult t chain a → PlanThen asked d p a
-chain_then d p chain s asked t a kind of few r =
-    subst (λ (k : PlanKind). IsResultOf k asked.problem d p a) (sym kind) (chain_answer d p chain s asked.problem t a of few r)
+    → IsTaskOf d p t → length chain.stages.items ≤ most_stages → initial_states t ≢ [] → IsChainResult t chain a → PlanThen asked d p a
+chain_then d p chain s asked t a kind of few some r =
+    subst (λ (k : PlanKind). IsResultOf k asked.problem d p a) (sym kind) (chain_answer d p chain s asked.problem t a of few some r)
+
+pub empty_then : (d : DomainTree) (p : ProblemTree) (chain : Chain) (s : StandsForChain d p chain) (asked : PlanWords) (t : Task) (a : Answer) → asked.kind ≡ with_contexts
+    → IsTaskOf d p t → length chain.stages.items ≤ most_stages → initial_states t ≡ [] → a ≡ refused (empty_init asked.problem p) → PlanThen asked d p a
+empty_then d p chain s asked t a kind of few none is =
+    subst (λ (k : PlanKind). IsResultOf k asked.problem d p a) (sym kind) (chain_without_initial d p chain s asked.problem t a of few none is)
 
 pub refused_then : (d : DomainTree) (p : ProblemTree) (asked : PlanWords) (a : Answer) → asked.kind ≡ with_contexts → goal_chain p ≡ None
     → a ≡ refused (text_fault asked.problem (record { kind = NotChain; place = p.ctl_place })) → PlanThen asked d p a

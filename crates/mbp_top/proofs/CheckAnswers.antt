@@ -32,17 +32,19 @@ use Rattle.task_core.specs.ContextPlans.{Configuration, ContextPlan}
 use Rattle.task_core.specs.Initial.{Entry, after_entries}
 use Rattle.task_core.specs.Names.{Name}
 use Rattle.task_core.specs.Systems.{System}
-use Rattle.task_core.specs.Tasks.{action_names as names_of_actions, fluent_names as names_of_fluents, states_after_entries, system_of}
+use Rattle.task_core.specs.Tasks.{action_names as names_of_actions, fluent_names as names_of_fluents, initial_states, states_after_entries, system_of}
 use Rattle.task_core.specs.Vectors.{Vector}
 use Rattle.task_core.specs.declared.tasks.Task.{Task}
 use Rattle.mbp_top.specs.Answers.{Answer, Refusal, refused, no_memory, over_limit, text_fault}
-use Rattle.mbp_top.specs.CheckCommand.{CheckThen, ExploreThen, HasTooManyStates, IsChecked, IsVerdictOf, ShowsVerdict, most_followed}
+use Rattle.mbp_top.specs.CheckCommand.{CheckThen, ExploreThen, HasTooManyStates, IsChecked, IsVerdictOf, ShowsVerdict, VerdictThen, most_followed}
 use Rattle.mbp_top.specs.Grounding.{GoalThen, GroundThen, has_goal_for, limit_name}
+use Rattle.mbp_top.specs.InitialStates.{InitialThen, empty_init}
 use Rattle.mbp_top.specs.Judged.{HasGoalIn, IsTaskVerdict}
 use Rattle.mbp_top.specs.PlanFiles.{IsFaultyPlan, KindThen, PlacedPlan, SpellsPlaced}
 use Rattle.mbp_top.specs.Reading.{Holds, IsRefusedFile}
 use Rattle.mbp_top.specs.TemporalGoals.{HasGoal}
 use Rattle.mbp_top.specs.Words.{Bytes, CheckWords, PlanKind, of_class, with_contexts}
+use Rattle.mbp_top.proofs.Initials.{initial_over}
 use Rattle.mbp_top.proofs.Later.{read_over}
 use Rattle.mbp_top.proofs.Listings.{same_actions, same_count, same_entries, same_fluents}
 
@@ -68,7 +70,7 @@ checked_over held held' failed failed' asked d p a same over =
     (ground_map d p (CheckThen held' failed' asked d p) (CheckThen held failed asked d p) a
     (read_over held held' failed failed' asked.plan (SpellsPlaced (fluent_names d p) (action_names d p)) (IsFaultyPlan (fluent_names d p) (action_names d p))
     (λ placed. KindThen asked.kind asked.plan placed.place placed.plan
-    (ExploreThen (HasTooManyStates d p) (system d p) placed.plan (ShowsVerdict (IsVerdictOf asked.kind d p placed.plan)))) a same over))
+    (ExploreThen (HasTooManyStates d p) (system d p) placed.plan (VerdictThen asked d p placed.plan))) a same over))
 
 pub checked_later : (held held' : Bytes → Held) (failed failed' : Bytes → Type 0) (asked : CheckWords) (d : DomainTree) (p : ProblemTree) (a : Answer)
     → ((file : Bytes) → held' file ≡ held file) → (failed' asked.plan → failed asked.plan)
@@ -187,7 +189,8 @@ pub checked_answer : GroundedGoalsAreTrue → (held : Bytes → Held) (failed : 
     → first_passed d p ≡ None → has_goal_for asked.kind p ≡ true
     → Holds held (SpellsPlaced (names_of_fluents t) (names_of_actions t)) asked.plan placed
     → (a ≡ refused no_memory) ⊎ KindThen asked.kind asked.plan placed.place placed.plan
-    (ExploreThen (HasTooManyInitial t most_followed) (system_of t) placed.plan (ShowsVerdict (IsTaskVerdict asked.kind t goal placed.plan))) a
+    (ExploreThen (HasTooManyInitial t most_followed) (system_of t) placed.plan
+    (InitialThen (empty_init asked.problem p) (initial_states t) (ShowsVerdict (IsTaskVerdict asked.kind t goal placed.plan)))) a
     → (a ≡ refused no_memory) ⊎ IsChecked held failed asked d p a
 checked_answer law held failed asked d p t goal placed a is system_is stands within some holds (inl memory) = inl memory
 checked_answer law held failed asked d p t goal placed a is system_is stands within some holds (inr then) =
@@ -195,6 +198,8 @@ checked_answer law held failed asked d p t goal placed a is system_is stands wit
     let named = subst (λ (ns : List Name). Holds held (SpellsPlaced (fluent_names d p) ns) asked.plan placed) (same_actions d p t is) fluents_named in
     let Of : Verdict → Type 0 = IsTaskVerdict asked.kind t goal placed.plan in
     let Of' : Verdict → Type 0 = IsVerdictOf asked.kind d p placed.plan in
+    let empty = empty_init asked.problem p in
+    let Then : Answer → Type 0 = InitialThen empty (initial_states t) (ShowsVerdict Of) in
     inr (inr (
       some,
       inr (
@@ -203,11 +208,12 @@ checked_answer law held failed asked d p t goal placed a is system_is stands wit
           placed,
           named,
           kind_map asked.kind asked.plan placed.place placed.plan
-              (ExploreThen (HasTooManyInitial t most_followed) (system_of t) placed.plan (ShowsVerdict Of))
-              (ExploreThen (HasTooManyStates d p) (system d p) placed.plan (ShowsVerdict Of')) a
-              (explored (HasTooManyInitial t most_followed) (HasTooManyStates d p) (system_of t) (system d p) placed.plan (ShowsVerdict Of) (ShowsVerdict Of') a
+              (ExploreThen (HasTooManyInitial t most_followed) (system_of t) placed.plan Then)
+              (ExploreThen (HasTooManyStates d p) (system d p) placed.plan (VerdictThen asked d p placed.plan)) a
+              (explored (HasTooManyInitial t most_followed) (HasTooManyStates d p) (system_of t) (system d p) placed.plan Then (VerdictThen asked d p placed.plan) a
               (too_many d p t is) (too_many_back d p t is) system_is
-              (shown_for Of Of' a (λ v. verdict_for law asked.kind d p t goal placed.plan v system_is stands))) then,
+              (initial_over empty (initial_states t) (system d p).initial (ShowsVerdict Of) (ShowsVerdict Of') a (ap (λ (s : System). s.initial) system_is)
+              (shown_for Of Of' a (λ v. verdict_for law asked.kind d p t goal placed.plan v system_is stands)))) then,
         ),
       ),
     ))

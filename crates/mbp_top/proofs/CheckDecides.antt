@@ -14,12 +14,14 @@ use Rattle.sexpr_text.specs.declared.forms.Place.{Place}
 use Rattle.task_core.specs.Names.{Name}
 use Rattle.task_core.specs.Systems.{System}
 use Rattle.mbp_top.specs.Answers.{Answer, text_fault}
-use Rattle.mbp_top.specs.CheckCommand.{CheckThen, ExploreThen, HasTooManyStates, IsCheckAnswer, IsChecked, IsVerdictOf, ShowsVerdict, verdict_answer}
+use Rattle.mbp_top.specs.CheckCommand.{CheckThen, ExploreThen, HasTooManyStates, IsCheckAnswer, IsChecked, IsVerdictOf, ShowsVerdict, VerdictThen, verdict_answer}
 use Rattle.mbp_top.specs.Grounding.{GroundThen}
+use Rattle.mbp_top.specs.InitialStates.{empty_init}
 use Rattle.mbp_top.specs.PlanFiles.{IsFaultyPlan, KindThen, PlacedPlan, SpellsPlaced}
 use Rattle.mbp_top.specs.TemporalGoals.{HasGoal}
 use Rattle.mbp_top.specs.Words.{Bytes, CheckWords, PlanKind, of_class, with_contexts}
 use Rattle.mbp_top.proofs.Deciding.{Decides, IsGrammar, read_decides}
+use Rattle.mbp_top.proofs.Initials.{initial_decides}
 use Rattle.mbp_top.specs.OneReading.{OneReading}
 use Rattle.mbp_top.proofs.PddlDecides.{both_decides, goal_decides, ground_decides}
 
@@ -78,20 +80,21 @@ kind_decides kind name place plan Then next a b (inr (right, then)) (inl (other,
 kind_decides kind name place plan Then next a b (inr (right, then)) (inr (right', then')) = next a b then then'
 
 placed_decides : OneReading → (asked : CheckWords) (d : DomainTree) (p : ProblemTree) (placed : PlacedPlan)
-    → Decides (KindThen asked.kind asked.plan placed.place placed.plan (ExploreThen (HasTooManyStates d p) (system d p) placed.plan (ShowsVerdict (IsVerdictOf asked.kind d p placed.plan))))
-    (KindThen asked.kind asked.plan placed.place placed.plan (ExploreThen (HasTooManyStates d p) (system d p) placed.plan (ShowsVerdict (IsVerdictOf asked.kind d p placed.plan))))
+    → Decides (KindThen asked.kind asked.plan placed.place placed.plan (ExploreThen (HasTooManyStates d p) (system d p) placed.plan (VerdictThen asked d p placed.plan)))
+    (KindThen asked.kind asked.plan placed.place placed.plan (ExploreThen (HasTooManyStates d p) (system d p) placed.plan (VerdictThen asked d p placed.plan)))
 placed_decides one asked d p placed =
     kind_decides asked.kind asked.plan placed.place placed.plan
-    (ExploreThen (HasTooManyStates d p) (system d p) placed.plan (ShowsVerdict (IsVerdictOf asked.kind d p placed.plan)))
-    (explore_decides (HasTooManyStates d p) (system d p) placed.plan (ShowsVerdict (IsVerdictOf asked.kind d p placed.plan))
-    (judged_decides one asked.kind d p placed.plan))
+    (ExploreThen (HasTooManyStates d p) (system d p) placed.plan (VerdictThen asked d p placed.plan))
+    (explore_decides (HasTooManyStates d p) (system d p) placed.plan (VerdictThen asked d p placed.plan)
+    (initial_decides (empty_init asked.problem p) (system d p).initial (ShowsVerdict (IsVerdictOf asked.kind d p placed.plan))
+    (judged_decides one asked.kind d p placed.plan)))
 
 check_then_decides : OneReading → (held : Bytes → Held) (failed failed' : Bytes → Type 0) (asked : CheckWords) (d : DomainTree) (p : ProblemTree)
     → held asked.plan ≢ Untold → ((file : Bytes) → failed file → ⊥) → ((file : Bytes) → failed' file → ⊥)
     → Decides (CheckThen held failed asked d p) (CheckThen held failed' asked d p)
 check_then_decides one held failed failed' asked d p told quiet quiet' =
     let Then : PlacedPlan → Answer → Type 0 = λ placed. KindThen asked.kind asked.plan placed.place placed.plan
-    (ExploreThen (HasTooManyStates d p) (system d p) placed.plan (ShowsVerdict (IsVerdictOf asked.kind d p placed.plan))) in
+    (ExploreThen (HasTooManyStates d p) (system d p) placed.plan (VerdictThen asked d p placed.plan)) in
     read_decides held failed failed' asked.plan (SpellsPlaced (fluent_names d p) (action_names d p)) (IsFaultyPlan (fluent_names d p) (action_names d p))
     Then Then told (quiet asked.plan) (quiet' asked.plan) (plan_grammar one (fluent_names d p) (action_names d p)) (λ placed holds. placed_decides one asked d p placed)
 

@@ -1,5 +1,5 @@
 -- `check`: what was written at status 0 and 1, and which statuses come.
-use Rattle.std.proofs.Common.{◌≡◌, ℕ, List, ◌⊎◌, ◌↔◌, inl, inr, refl, sym, subst, arith, ◌∙◌, ap, true, None, Some, Option}
+use Rattle.std.proofs.Common.{◌≡◌, ◌≢◌, ℕ, List, [], ◌⊎◌, ◌↔◌, inl, inr, refl, sym, subst, arith, ◌∙◌, ap, true, None, Some, Option}
 use Rattle.std.proofs.lemmas.Bool.{false≢true}
 use Rattle.std.specs.Io.KnownBytes.{append_known}
 use Rattle.exec_graph.specs.Executions.{ReachesMoreThan}
@@ -19,9 +19,10 @@ use Rattle.task_core.specs.Solutions.{IsSolution}
 use Rattle.task_core.specs.Systems.{System}
 use Rattle.task_core.specs.declared.classes.Class.{Class}
 use Rattle.mbp_top.specs.Answers.{Answer, refused, no_memory, status_of, text_of, is_shown}
-use Rattle.mbp_top.specs.CheckCommand.{CheckThen, ExploreThen, HasBound, HasTooManyStates, IsCheckAnswer, IsChecked, IsFirstAgainst, IsVerdictOf, ShowsVerdict, most_followed, verdict_answer}
+use Rattle.mbp_top.specs.CheckCommand.{CheckThen, ExploreThen, HasBound, HasTooManyStates, IsCheckAnswer, IsChecked, IsFirstAgainst, IsVerdictOf, ShowsVerdict, VerdictThen, most_followed, verdict_answer}
 use Rattle.mbp_top.specs.Delivery.{Seen}
 use Rattle.mbp_top.specs.Grounding.{GroundThen, has_goal_for}
+use Rattle.mbp_top.specs.InitialStates.{empty_init}
 use Rattle.mbp_top.specs.Meets.{PlanMeets}
 use Rattle.mbp_top.specs.PddlTexts.{HoldBoth}
 use Rattle.mbp_top.specs.PlanFiles.{HoldsPlan, IsFaultyPlan, KindThen, PlacedPlan, SpellsPlaced, is_of_kind}
@@ -32,6 +33,7 @@ use Rattle.mbp_top.specs.Words.{Bytes, CheckWords, PlanKind, of_class, with_cont
 use Rattle.mbp_top.proofs.ByCommand.{of_command}
 use Rattle.mbp_top.proofs.CheckDecides.{plan_grammar}
 use Rattle.mbp_top.proofs.Deciding.{read_as}
+use Rattle.mbp_top.proofs.Initials.{shown_initial, with_initial}
 use Rattle.mbp_top.proofs.Meetings.{contexts_meet, meaning_meets, table_meets, table_solves}
 use Rattle.mbp_top.specs.OneReading.{OneReading}
 use Rattle.mbp_top.proofs.PddlDecides.{ReadFor, both_as, not_refused, shown_both, shown_goal, shown_grounded, with_goal, within_limits}
@@ -68,9 +70,10 @@ shown_then : (held : Bytes → Held) (failed : Bytes → Type 0) (asked : CheckW
     → HoldBoth held asked.domain asked.problem d p → CheckThen held failed asked d p a → CheckFor held asked a
 shown_then held failed asked d p a shown both (inl (r, is, why)) = absurd (not_refused r a is shown)
 shown_then held failed asked d p a shown both (inr (placed, holds, then)) =
-    let Then : Answer → Type 0 = ShowsVerdict (IsVerdictOf asked.kind d p placed.plan) in
-    let judged = shown_judged (HasTooManyStates d p) (system d p) placed.plan Then a shown
-    (shown_kind asked.kind asked.plan placed (ExploreThen (HasTooManyStates d p) (system d p) placed.plan Then) a shown then) in
+    let Then : Answer → Type 0 = VerdictThen asked d p placed.plan in
+    let judged = shown_initial (empty_init asked.problem p) (system d p).initial (ShowsVerdict (IsVerdictOf asked.kind d p placed.plan)) a shown
+    (shown_judged (HasTooManyStates d p) (system d p) placed.plan Then a shown
+    (shown_kind asked.kind asked.plan placed (ExploreThen (HasTooManyStates d p) (system d p) placed.plan Then) a shown then)) in
     record {
       domain = d;
       problem = p;
@@ -233,12 +236,12 @@ of_the_kind kind name placed Then a right (inr (right', then)) = then
 pub check_status : OneReading → YesSolves → (held : Bytes → Held) (failed : Bytes → Type 0) (tallies : Tallies) (words : List Bytes) (before after : ℕ) (out out' err err' : Seen) (status : ℕ) (a : Answer)
     (asked : CheckWords) (domain : DomainTree) (problem : ProblemTree) (plan : PlainPlan) → Done held failed tallies words before after out out' err err' status a
     → SaysCheck words asked → HoldBoth held asked.domain asked.problem domain problem → has_goal_for asked.kind problem ≡ true → first_passed domain problem ≡ None
-    → HoldsPlan held (fluent_names domain problem) (action_names domain problem) asked.plan plan → is_of_kind asked.kind plan ≡ true
+    → (system domain problem).initial ≢ [] → HoldsPlan held (fluent_names domain problem) (action_names domain problem) asked.plan plan → is_of_kind asked.kind plan ≡ true
     → (HasTooManyStates domain problem → ⊥) → (ReachesMoreThan (system domain problem) plan most_followed → ⊥)
     → AreFilesTold held words → ((file : Bytes) → failed file → ⊥)
     → NoFault out.faults out'.faults → NoFault err.faults err'.faults
     → ((status ≡ 0) × PlanMeets asked.kind domain problem plan) ⊎ ((status ≡ 1) × (PlanMeets asked.kind domain problem plan → ⊥)) ⊎ (status ≡ 8)
-check_status one law held failed tallies words before after out out' err err' status a asked domain problem plan d says both goal kept file right few small told quiet no_out no_err =
+check_status one law held failed tallies words before after out out' err err' status a asked domain problem plan d says both goal kept some file right few small told quiet no_out no_err =
     go (of_command held failed tallies words (check asked) a says d.cause) where
       code : status ≡ status_of a
       code = undisturbed a out out' err err' status no_out no_err d.delivered
@@ -253,10 +256,11 @@ check_status one law held failed tallies words before after out out' err err' st
           (told (check asked) asked.domain says (0, omega arith, refl)) (told (check asked) asked.problem says (1, omega arith, refl)) quiet both is)) in
           let placed : PlacedPlan = record { plan = plan; place = file.place } in
           let Then : PlacedPlan → Answer → Type 0 = λ x. KindThen asked.kind asked.plan x.place x.plan
-          (ExploreThen (HasTooManyStates domain problem) (system domain problem) x.plan (ShowsVerdict (IsVerdictOf asked.kind domain problem x.plan))) in
-          let judged = small_judged (HasTooManyStates domain problem) (system domain problem) plan (ShowsVerdict (IsVerdictOf asked.kind domain problem plan)) a few small
+          (ExploreThen (HasTooManyStates domain problem) (system domain problem) x.plan (VerdictThen asked domain problem x.plan)) in
+          let judged = with_initial (empty_init asked.problem problem) (system domain problem).initial (ShowsVerdict (IsVerdictOf asked.kind domain problem plan)) a some
+          (small_judged (HasTooManyStates domain problem) (system domain problem) plan (VerdictThen asked domain problem plan) a few small
           (of_the_kind asked.kind asked.plan placed
-          (ExploreThen (HasTooManyStates domain problem) (system domain problem) plan (ShowsVerdict (IsVerdictOf asked.kind domain problem plan))) a right
+          (ExploreThen (HasTooManyStates domain problem) (system domain problem) plan (VerdictThen asked domain problem plan)) a right
           (read_as held failed asked.plan (SpellsPlaced (fluent_names domain problem) (action_names domain problem)) (IsFaultyPlan (fluent_names domain problem) (action_names domain problem))
-          Then placed a (told (check asked) asked.plan says (2, omega arith, refl)) (quiet asked.plan) (plan_grammar one (fluent_names domain problem) (action_names domain problem)) file.holds then)) in
+          Then placed a (told (check asked) asked.plan says (2, omega arith, refl)) (quiet asked.plan) (plan_grammar one (fluent_names domain problem) (action_names domain problem)) file.holds then))) in
           verdict_status law asked.kind domain problem plan judged.0 status judged.1 (code ∙ ap status_of judged.2)

@@ -1,5 +1,6 @@
 pub mod Deciding
 pub mod PddlDecides
+pub mod Initials
 pub mod PlanDecides
 pub mod Meetings
 pub mod OneCyclicPlan

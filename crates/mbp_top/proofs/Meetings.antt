@@ -3,6 +3,7 @@ use Rattle.std.proofs.Common.{ℕ, List, [], ◌∷◌, inl, inr, refl, subst}
 use Rattle.exec_graph.proofs.DenotedPairs.{can_execute-Exec, denoted-pair}
 use Rattle.pddl_ast.specs.Trees.{DomainTree, ProblemTree}
 use Rattle.pddl_system.specs.Systems.{action_names, fluent_names, system}
+use Rattle.pddl_system.proofs.States.{they_have_a_system}
 use Rattle.plan_check.specs.Verdicts.{CanFollowRules}
 use Rattle.plan_rules.specs.Denoted.{IsExecutable, denoted, denoted_contexts}
 use Rattle.plan_rules.specs.Rules.{ContextRule, PlanRule, table, automaton}
@@ -20,8 +21,11 @@ use Rattle.mbp_top.specs.PlanCommand.{HasNoPlan, IsPlanResult}
 use Rattle.mbp_top.specs.Words.{of_class, with_contexts}
 
 -- whatever the rules, what they denote is a table
-denoted_table : (sys : System) (rules : List PlanRule) → IsTable sys (denoted sys rules)
-denoted_table sys rules s a pair = let d = denoted-pair sys rules s a pair in (d.state, can_execute-Exec sys s a d.executable)
+denoted_table : (sys : System) (rules : List PlanRule) → IsSystem sys → IsTable sys (denoted sys rules)
+denoted_table sys rules ok s a pair =
+    let d = denoted-pair sys rules s a pair in
+    let executable = can_execute-Exec sys s a d.executable in
+    (record { vector = d.vector; inside = ok.inside s a executable }, executable)
 
 -- what a table reaches are states
 end_is_state : (sys : System) (rows : Table) (s : Vector) (rest : List Vector) → IsSystem sys → IsState sys s → IsPath (Leads sys rows) s rest → IsState sys (last_of s rest)
@@ -32,14 +36,14 @@ end_is_state sys rows s (t ∷ rest) ok is path = end_is_state sys rows t rest o
 pub followed : (sys : System) (rules : List PlanRule) → IsSystem sys → IsExecutable sys rules → CanFollowRules sys rules
 followed sys rules ok can s rule reached has matching =
     can rule s has
-    (subst (IsState sys) reached.path.ends (end_is_state sys (denoted sys rules) reached.start reached.path.rest ok (ok.initial reached.start reached.initial) reached.path.path))
+    (subst (IsState sys) reached.path.ends (end_is_state sys (denoted sys rules) reached.start reached.path.rest ok (ok.initial reached.start reached.initial) reached.path.path)).vector
     matching
 
 -- a table that is a solution, as read
 pub table_meets : (class written : Class) (d : DomainTree) (p : ProblemTree) (rules : List PlanRule) → CanFollowRules (system d p) rules
     → IsSolution class (system d p) (denoted (system d p) rules) → PlanMeets (of_class class) d p (table written rules)
 table_meets class written d p rules follow solves =
-    (pairs (denoted (system d p) rules), (follow, refl), (denoted_table (system d p) rules, solves))
+    (pairs (denoted (system d p) rules), (follow, refl), (denoted_table (system d p) rules (they_have_a_system d p), solves))
 
 pub table_solves : (class written : Class) (d : DomainTree) (p : ProblemTree) (rules : List PlanRule) → PlanMeets (of_class class) d p (table written rules)
     → CanFollowRules (system d p) rules × IsSolution class (system d p) (denoted (system d p) rules)

@@ -4,7 +4,7 @@ use Rattle.std.proofs.Common.{◌≡◌, ℕ, zero, suc, ◌+◌, ◌^◌, true,
 use Rattle.std.proofs.Math.Path.{fun_ext}
 use Rattle.std.specs.List.{find, flat_map, range_with_len}
 use Rattle.std.specs.Option.{option_and_then}
-use Rattle.task_core.specs.Systems.{IsState, IsSystem, System}
+use Rattle.task_core.specs.Systems.{IsSystem, IsVector, System}
 use Rattle.task_core.specs.Vectors.{Vector}
 use Rattle.task_core.specs.declared.classes.Class.TheVariants.{Weak}
 use Rattle.plan_rules.specs.Rules.{PlanRule}
@@ -20,33 +20,33 @@ use Rattle.plan_theory.proofs.Restricted.{more_pairs, outcome_of_pair, pair_outc
 
 -- each pair of a state in the one set is in the other
 abbrev AreWithin : System → Pairs → Pairs → Type 0
-AreWithin sys f g = (v : Vector) (a : ℕ) → IsState sys v → f v a ≡ true → g v a ≡ true
+AreWithin sys f g = (v : Vector) (a : ℕ) → IsVector sys v → f v a ≡ true → g v a ≡ true
 
 module _ (sys : System) (ok : IsSystem sys) (f g : Pairs) (within : AreWithin sys f g) where
-  nearer : (k : ℕ) (v : Vector) → IsState sys v → progress sys f k v ≡ true → progress sys g k v ≡ true
-  nearer = more_pairs sys (IsState sys) f g within (λ v a t s o. ok.next v a t o)
+  nearer : (k : ℕ) (v : Vector) → IsVector sys v → progress sys f k v ≡ true → progress sys g k v ≡ true
+  nearer = more_pairs sys (IsVector sys) f g within (λ v a t s o. (ok.next v a t o).vector)
 
-  leads_nearer : (k : ℕ) (v : Vector) (a : ℕ) → IsState sys v → may_lead (restricted sys f) (progress sys f k) v a ≡ true → may_lead (restricted sys g) (progress sys g k) v a ≡ true
+  leads_nearer : (k : ℕ) (v : Vector) (a : ℕ) → IsVector sys v → may_lead (restricted sys f) (progress sys f k) v a ≡ true → may_lead (restricted sys g) (progress sys g k) v a ≡ true
   leads_nearer k v a s h =
       let t = list_any-witness (progress sys f k) ((restricted sys f).next v a) h in
       let o = outcome_of_pair sys f v a t.0 t.1 in
       list_any-from (progress sys g k) ((restricted sys g).next v a) t.0 (pair_outcome sys g v a t.0 (within v a s o.0) o.1)
-      (nearer k t.0 (ok.next v a t.0 o.1) t.2)
+      (nearer k t.0 (ok.next v a t.0 o.1).vector t.2)
 
 module _ (sys : System) (ok : IsSystem sys) (f g : Pairs) (there : AreWithin sys f g) (back : AreWithin sys g f) where
-  same_progress : (k : ℕ) (v : Vector) → IsState sys v → progress sys f k v ≡ progress sys g k v
+  same_progress : (k : ℕ) (v : Vector) → IsVector sys v → progress sys f k v ≡ progress sys g k v
   same_progress k v s = same_truth (progress sys f k v) (progress sys g k v) (nearer sys ok f g there k v s) (nearer sys ok g f back k v s)
 
-  same_leads : (k : ℕ) (v : Vector) (a : ℕ) → IsState sys v → may_lead (restricted sys f) (progress sys f k) v a ≡ may_lead (restricted sys g) (progress sys g k) v a
+  same_leads : (k : ℕ) (v : Vector) (a : ℕ) → IsVector sys v → may_lead (restricted sys f) (progress sys f k) v a ≡ may_lead (restricted sys g) (progress sys g k) v a
   same_leads k v a s =
       same_truth (may_lead (restricted sys f) (progress sys f k) v a) (may_lead (restricted sys g) (progress sys g k) v a)
       (leads_nearer sys ok f g there k v a s) (leads_nearer sys ok g f back k v a s)
 
-  by_rank : (v : Vector) → IsState sys v → (k : ℕ) → action_of_rank Weak (restricted sys f) v k ≡ action_of_rank Weak (restricted sys g) v k
+  by_rank : (v : Vector) → IsVector sys v → (k : ℕ) → action_of_rank Weak (restricted sys f) v k ≡ action_of_rank Weak (restricted sys g) v k
   by_rank v s zero = refl
   by_rank v s (suc k) = ap (λ p. find p (action_numbers sys)) (fun_ext (λ a. same_leads k v a s))
 
-  same_chosen : (K : ℕ) (v : Vector) → IsState sys v → chosen_action Weak (restricted sys f) K v ≡ chosen_action Weak (restricted sys g) K v
+  same_chosen : (K : ℕ) (v : Vector) → IsVector sys v → chosen_action Weak (restricted sys f) K v ≡ chosen_action Weak (restricted sys g) K v
   same_chosen K v s =
       ap (λ p. option_and_then (action_of_rank Weak (restricted sys f) v) (find p (range_with_len 0 (K + 1)))) (fun_ext (λ k. same_progress k v s))
       ∙ ap (λ (h : ℕ → Option ℕ). option_and_then h (rank_within Weak (restricted sys g) K v)) (fun_ext (by_rank v s))

@@ -1,6 +1,6 @@
 -- The answer for a plan that was found, for a system and names that are equal, and for what was
 -- read.
-use Rattle.std.proofs.Common.{◌≡◌, ◌⊎◌, ℕ, List, Contains, subst, sym, ap, ◌∙◌, inl, inr, refl, None, IsSome, All, true}
+use Rattle.std.proofs.Common.{◌≡◌, ◌≢◌, ◌⊎◌, ℕ, List, [], Contains, subst, sym, ap, ◌∙◌, inl, inr, refl, None, IsSome, All, true}
 use Rattle.std.specs.Prelude.{IfOk, Result, Ok, Err}
 use Rattle.dd_sets.specs.declared.errors.SetErr.{SetErr}
 use Rattle.plan_theory.specs.Found.{IfNoPlan, IfPlan}
@@ -10,7 +10,7 @@ use Rattle.plan_rules.specs.Plans.{IsRuleOf}
 use Rattle.pddl_ast.specs.Trees.{DomainTree, ProblemTree}
 use Rattle.pddl_system.specs.Systems.{action_names, fluent_names, system}
 use Rattle.pddl_system.specs.Sizes.{first_passed}
-use Rattle.task_core.specs.Tasks.{action_count, fluent_count, action_names as names_of_actions, fluent_names as names_of_fluents, system_of}
+use Rattle.task_core.specs.Tasks.{action_count, fluent_count, action_names as names_of_actions, fluent_names as names_of_fluents, initial_states, system_of}
 use Rattle.task_core.specs.declared.tasks.Task.{Task}
 use Rattle.task_core.specs.Systems.{IsSystem, System}
 use Rattle.task_core.specs.Tables.{IsTable, Table}
@@ -33,6 +33,7 @@ use Rattle.mbp_top.specs.Enough.{IsTightLimit}
 use Rattle.mbp_top.specs.FoundPlans.{IsFoundPlan, IsSearched, IsTableResult}
 use Rattle.mbp_top.specs.Grounded.{IsTaskOf}
 use Rattle.mbp_top.specs.Grounding.{has_goal_for}
+use Rattle.mbp_top.specs.InitialStates.{empty_init}
 use Rattle.mbp_top.specs.PddlTexts.{HoldBoth, ReadBoth}
 use Rattle.mbp_top.specs.PlanCommand.{ArePrintedRules, IsPlanAnswer, IsPlanned, IsResultOf, IsShortest, MayBeTooFew, PlanThen, is_sought, stages_for}
 use Rattle.mbp_top.specs.Words.{Bytes, PlanKind, PlanWords, of_class}
@@ -70,12 +71,21 @@ same_result class sys sys' fluents fluents' actions actions' answer s f a h =
 
 -- the answer for a task is that for the domain and the problem that it comes from
 pub planned_answer : (asked : PlanWords) (class : Class) (d : DomainTree) (p : ProblemTree) (t : Task) (a : Answer) → asked.kind ≡ of_class class → IsTaskOf d p t
-    → IsTableResult class (system_of t) (names_of_fluents t) (names_of_actions t) a → PlanThen asked d p a
-planned_answer asked class d p t a kind of result =
+    → initial_states t ≢ [] → IsTableResult class (system_of t) (names_of_fluents t) (names_of_actions t) a → PlanThen asked d p a
+planned_answer asked class d p t a kind of some result =
     subst (λ (k : PlanKind). IsResultOf k asked.problem d p a) (sym kind)
-    (of_system class d p a
-    (same_result class (system_of t) (system d p) (names_of_fluents t) (fluent_names d p) (names_of_actions t) (action_names d p) a
-    of.system_is (same_fluents d p t of.task_is) (same_actions d p t of.task_is) result))
+    (inr (
+      λ none. some (ap (λ (y : System). y.initial) of.system_is ∙ none),
+      of_system class d p a
+          (same_result class (system_of t) (system d p) (names_of_fluents t) (fluent_names d p) (names_of_actions t) (action_names d p) a
+          of.system_is (same_fluents d p t of.task_is) (same_actions d p t of.task_is) result),
+    ))
+
+-- there is no initial state
+pub without_initial : (asked : PlanWords) (class : Class) (d : DomainTree) (p : ProblemTree) (t : Task) (a : Answer) → asked.kind ≡ of_class class → IsTaskOf d p t
+    → initial_states t ≡ [] → a ≡ refused (empty_init asked.problem p) → PlanThen asked d p a
+without_initial asked class d p t a kind of none is =
+    subst (λ (k : PlanKind). IsResultOf k asked.problem d p a) (sym kind) (inl (sym (ap (λ (y : System). y.initial) of.system_is) ∙ none, is))
 
 -- the nodes may be too few for the problem where they may be for its task
 pub too_few : (asked : PlanWords) (class : Class) (d : DomainTree) (p : ProblemTree) (t : Task) → asked.kind ≡ of_class class → IsTaskOf d p t → IsSome p.goal

@@ -19,9 +19,11 @@ use Rattle.mbp_top.specs.Answers.{Answer, affirmed}
 use Rattle.mbp_top.specs.ChainGoals.{ChainThen, chained_of, most_stages}
 use Rattle.mbp_top.specs.Grounding.{GroundThen}
 use Rattle.mbp_top.specs.PddlTexts.{ReadBoth}
-use Rattle.mbp_top.specs.PlanCommand.{ArePrintedRules, AreRulesOfLayers, IsPrintedChain, IsPrintedText, IsPlanResult, IsPlanned, IsResultOf, PlanThen}
+use Rattle.mbp_top.specs.InitialStates.{empty_init}
+use Rattle.mbp_top.specs.PlanCommand.{ArePrintedRules, AreRulesOfLayers, IsPrintedChain, IsPrintedText, IsPlanResult, IsPlanned, IsResultFrom, IsResultOf, PlanThen}
 use Rattle.mbp_top.specs.Words.{Bytes, PlanKind, PlanWords, of_class, with_contexts}
 use Rattle.mbp_top.proofs.Deciding.{Decides}
+use Rattle.mbp_top.proofs.Initials.{initial_decides}
 use Rattle.mbp_top.proofs.OneCyclicPlan.{one_cyclic}
 use Rattle.mbp_top.specs.OneReading.{OneReading}
 use Rattle.mbp_top.proofs.PddlDecides.{both_decides, goal_decides, ground_decides}
@@ -85,8 +87,11 @@ chain_decides name p Then next a b (inr (c, some, inr (few, then))) (inr (e, som
 chain_decides name p Then next a b (inr (c, some, inr (few, then))) (inr (e, some', inr (few', then'))) = next a b then then'
 
 kind_decides : (kind : PlanKind) (name : Bytes) (d : DomainTree) (p : ProblemTree) → Decides (IsResultOf kind name d p) (IsResultOf kind name d p)
-kind_decides (of_class class) name d p = result_decides class d p
-kind_decides with_contexts name d p = chain_decides name p (IsPlanResult with_contexts d p) (context_decides d p)
+kind_decides (of_class class) name d p =
+    initial_decides (empty_init name p) (system d p).initial (IsPlanResult (of_class class) d p) (result_decides class d p)
+kind_decides with_contexts name d p =
+    chain_decides name p (IsResultFrom with_contexts name d p)
+    (initial_decides (empty_init name p) (system d p).initial (IsPlanResult with_contexts d p) (context_decides d p))
 
 pub plan_decides : OneReading → (held : Bytes → Held) (failed failed' : Bytes → Type 0) (asked : PlanWords)
     → held asked.domain ≢ Untold → held asked.problem ≢ Untold → ((file : Bytes) → failed file → ⊥) → ((file : Bytes) → failed' file → ⊥)

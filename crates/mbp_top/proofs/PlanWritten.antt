@@ -1,5 +1,5 @@
 -- `plan`: what was written at status 0, 1 and 5, and which statuses come.
-use Rattle.std.proofs.Common.{◌≡◌, ◌≢◌, ℕ, List, ◌⊎◌, inl, inr, refl, sym, arith, ◌∙◌, ap, true, false, Some, None, Option, length, ◌≤◌}
+use Rattle.std.proofs.Common.{◌≡◌, ◌≢◌, ℕ, List, [], ◌⊎◌, inl, inr, refl, sym, arith, ◌∙◌, ap, true, false, Some, None, Option, length, ◌≤◌}
 use Rattle.std.specs.Io.KnownBytes.{append_known}
 use Rattle.std.specs.Option.{option_and_then, option_map_or}
 use Rattle.std.specs.Prelude.{is_some, nat_le}
@@ -14,8 +14,9 @@ use Rattle.mbp_top.specs.Answers.{Answer, Refusal, refused, no_memory, full, sta
 use Rattle.mbp_top.specs.Delivery.{IsWhole, Seen}
 use Rattle.mbp_top.specs.Grounding.{GroundThen, has_goal_for}
 use Rattle.mbp_top.specs.Enough.{IsTightLimit}
+use Rattle.mbp_top.specs.InitialStates.{empty_init}
 use Rattle.mbp_top.specs.PddlTexts.{HoldBoth, IsFaultyDomain, IsFaultyProblem, ReadBoth}
-use Rattle.mbp_top.specs.PlanCommand.{HasNoPlan, IsGoodText, IsPlanAnswer, IsPlanFound, IsPlanMissing, IsPlanResult, IsPlanned, IsResultOf, IsShortText, IsTextPrinted, MayRunOut, PlanThen, is_sought, no_plan_text, stages_for}
+use Rattle.mbp_top.specs.PlanCommand.{HasNoPlan, IsGoodText, IsPlanAnswer, IsPlanFound, IsPlanMissing, IsPlanResult, IsPlanned, IsResultFrom, IsResultOf, IsShortText, IsTextPrinted, MayRunOut, PlanThen, is_sought, no_plan_text, stages_for}
 use Rattle.mbp_top.specs.ChainGoals.{ChainThen, goal_chain, is_short_chain, most_stages}
 use Rattle.mbp_top.specs.Reading.{IsRefusedFile}
 use Rattle.mbp_top.specs.Told.{AreFilesTold, NoFault}
@@ -23,6 +24,7 @@ use Rattle.mbp_top.specs.ReplayCommand.{Tallies}
 use Rattle.mbp_top.specs.Words.{Bytes, PlanKind, PlanWords, plan, SaysPlan, of_class, with_contexts}
 use Rattle.mbp_top.proofs.ByCommand.{of_command}
 use Rattle.mbp_top.specs.OneReading.{OneReading}
+use Rattle.mbp_top.proofs.Initials.{shown_initial, with_initial}
 use Rattle.mbp_top.proofs.PddlDecides.{ReadFor, both_as, not_refused, shown_both, shown_goal, shown_grounded, with_goal, within_limits}
 use Rattle.mbp_top.proofs.Statuses.{Done, shown_at, undisturbed, whole_delivery, written_shown}
 
@@ -54,8 +56,11 @@ shown_chain name p Then a shown (inr (c, some, inl (many, is))) = absurd (not_re
 shown_chain name p Then a shown (inr (c, some, inr (few, then))) = then
 
 of_result : (kind : PlanKind) (name : Bytes) (d : DomainTree) (p : ProblemTree) (a : Answer) → is_shown a ≡ true → IsResultOf kind name d p a → IsPlanResult kind d p a
-of_result (of_class class) name d p a shown r = r
-of_result with_contexts name d p a shown r = shown_chain name p (IsPlanResult with_contexts d p) a shown r
+of_result (of_class class) name d p a shown r =
+    shown_initial (empty_init name p) (system d p).initial (IsPlanResult (of_class class) d p) a shown r
+of_result with_contexts name d p a shown r =
+    shown_initial (empty_init name p) (system d p).initial (IsPlanResult with_contexts d p) a shown
+    (shown_chain name p (IsResultFrom with_contexts name d p) a shown r)
 
 plan_found : (kind : PlanKind) (d : DomainTree) (p : ProblemTree) (a : Answer) → IsPlanResult kind d p a → status_of a ≡ 0 → IsPlanFound kind d p a
 plan_found kind d p a (inl found) zero = found
@@ -139,10 +144,14 @@ chain_sought name p Then a short (inl (none, is)) = absurd (never_short (goal_ch
 chain_sought name p Then a short (inr (c, some, inl (many, is))) = absurd (let few = few_of (goal_chain p) c some short in omega (arith, many, few))
 chain_sought name p Then a short (inr (c, some, inr (few, then))) = then
 
-result_code : (kind : PlanKind) (name : Bytes) (d : DomainTree) (p : ProblemTree) (a : Answer) (status : ℕ) → is_sought kind p ≡ true → IsResultOf kind name d p a → status ≡ status_of a
-    → (status ≡ 0) ⊎ (status ≡ 1) ⊎ (status ≡ 8)
-result_code (of_class class) name d p a status sought r code = plan_code (of_class class) d p a status r code
-result_code with_contexts name d p a status sought r code = plan_code with_contexts d p a status (chain_sought name p (IsPlanResult with_contexts d p) a sought r) code
+result_code : (kind : PlanKind) (name : Bytes) (d : DomainTree) (p : ProblemTree) (a : Answer) (status : ℕ) → is_sought kind p ≡ true → (system d p).initial ≢ []
+    → IsResultOf kind name d p a → status ≡ status_of a → (status ≡ 0) ⊎ (status ≡ 1) ⊎ (status ≡ 8)
+result_code (of_class class) name d p a status sought some r code =
+    plan_code (of_class class) d p a status (with_initial (empty_init name p) (system d p).initial (IsPlanResult (of_class class) d p) a some r) code
+result_code with_contexts name d p a status sought some r code =
+    plan_code with_contexts d p a status
+    (with_initial (empty_init name p) (system d p).initial (IsPlanResult with_contexts d p) a some
+    (chain_sought name p (IsResultFrom with_contexts name d p) a sought r)) code
 
 -- a plan that is looked for has a goal
 some_chain : (o : Option TemporalTree) → option_map_or (λ (c : PlainChain FormulaTree). nat_le (length c.stages) most_stages) (option_and_then (λ goal. chain_of (ctl_tree goal)) o) false ≡ true → is_some o ≡ true
@@ -166,10 +175,12 @@ plan_not_full kind d p a (inl found) five = omega (arith, ap status_of found.sho
 plan_not_full kind d p a (inr missing) five = omega (arith, ap status_of missing.shown, five)
 
 result_not_full : (kind : PlanKind) (name : Bytes) (d : DomainTree) (p : ProblemTree) (a : Answer) → IsResultOf kind name d p a → status_of a ≢ 5
-result_not_full (of_class class) name d p a r five = plan_not_full (of_class class) d p a r five
+result_not_full (of_class class) name d p a (inl (none, is)) five = omega (arith, ap status_of is, five)
+result_not_full (of_class class) name d p a (inr (some, r)) five = plan_not_full (of_class class) d p a r five
 result_not_full with_contexts name d p a (inl (none, is)) five = omega (arith, ap status_of is, five)
 result_not_full with_contexts name d p a (inr (c, some, inl (many, is))) five = omega (arith, ap status_of is, five)
-result_not_full with_contexts name d p a (inr (c, some, inr (few, r))) five = plan_not_full with_contexts d p a r five
+result_not_full with_contexts name d p a (inr (c, some, inr (few, inl (none, is)))) five = omega (arith, ap status_of is, five)
+result_not_full with_contexts name d p a (inr (c, some, inr (few, inr (first, r)))) five = plan_not_full with_contexts d p a r five
 
 -- and so has whatever follows the reading of both files
 read_not_full : (held : Bytes → Held) (failed : Bytes → Type 0) (asked : PlanWords) (a : Answer)
@@ -219,10 +230,10 @@ tight_of one held failed asked domain problem a told told' quiet both may =
 pub plan_status : OneReading → (held : Bytes → Held) (failed : Bytes → Type 0) (tallies : Tallies) (words : List Bytes) (before after : ℕ) (out out' err err' : Seen) (status : ℕ) (a : Answer)
     (asked : PlanWords) (domain : DomainTree) (problem : ProblemTree) → Done held failed tallies words before after out out' err err' status a
     → SaysPlan words asked → HoldBoth held asked.domain asked.problem domain problem
-    → is_sought asked.kind problem ≡ true → first_passed domain problem ≡ None → (IsTightLimit (stages_for asked.kind problem) asked.options.nodes (system domain problem) → ⊥)
+    → is_sought asked.kind problem ≡ true → first_passed domain problem ≡ None → (system domain problem).initial ≢ [] → (IsTightLimit (stages_for asked.kind problem) asked.options.nodes (system domain problem) → ⊥)
     → AreFilesTold held words → ((file : Bytes) → failed file → ⊥)
     → NoFault out.faults out'.faults → NoFault err.faults err'.faults → (status ≡ 0) ⊎ (status ≡ 1) ⊎ (status ≡ 8)
-plan_status one held failed tallies words before after out out' err err' status a asked domain problem d says both goal kept room told quiet no_out no_err =
+plan_status one held failed tallies words before after out out' err err' status a asked domain problem d says both goal kept some room told quiet no_out no_err =
     go (of_command held failed tallies words (plan asked) a says d.cause) where
       code : status ≡ status_of a
       code = undisturbed a out out' err err' status no_out no_err d.delivered
@@ -233,7 +244,7 @@ plan_status one held failed tallies words before after out out' err err' status 
           absurd (room (tight_of one held failed asked domain problem a
           (told (plan asked) asked.domain says (0, omega arith, refl)) (told (plan asked) asked.problem says (1, omega arith, refl)) quiet both may))
       go (inr (inr is)) =
-          result_code asked.kind asked.problem domain problem a status goal
+          result_code asked.kind asked.problem domain problem a status goal some
           (within_limits domain problem (PlanThen asked domain problem) a kept
           (with_goal asked.kind asked.problem problem (GroundThen domain problem (PlanThen asked domain problem)) a (sought_has_goal asked.kind problem goal)
           (both_as one held failed asked.domain asked.problem (IsPlanned asked) domain problem a

@@ -20,13 +20,15 @@ use Rattle.task_core.specs.States.{IsWithin, vector}
 use Rattle.task_core.specs.Systems.{System}
 use Rattle.task_core.specs.Vectors.{Vector, same_vector}
 use Rattle.task_core.specs.declared.states.State.{State}
-use Rattle.mbp_top.specs.Answers.{Answer, text_fault}
+use Rattle.mbp_top.specs.Answers.{Answer, Refusal, text_fault}
 use Rattle.mbp_top.specs.CheckCommand.{HasTooManyStates}
+use Rattle.mbp_top.specs.InitialStates.{empty_init}
 use Rattle.mbp_top.specs.PlanFiles.{IsFaultyPlan, PlacedPlan, SpellsPlaced}
-use Rattle.mbp_top.specs.ReplayCommand.{AreToldAs, FirstThen, IsFaultyRecord, IsReplay, IsReplayAnswer, IsReplayed, RecordThen, ReplayThen, Tallies, ended_answer, replay_text, trace_under}
+use Rattle.mbp_top.specs.ReplayCommand.{AreToldAs, FirstThen, IsFaultyRecord, IsReplay, IsReplayAnswer, IsReplayed, NumberThen, RecordThen, ReplayThen, Tallies, ended_answer, replay_text, trace_under}
 use Rattle.mbp_top.specs.Words.{Bytes, ReplayWords}
 use Rattle.mbp_top.proofs.CheckDecides.{plan_grammar}
 use Rattle.mbp_top.proofs.Deciding.{Decides, IsGrammar, read_decides}
+use Rattle.mbp_top.proofs.Initials.{initial_decides}
 use Rattle.mbp_top.specs.OneReading.{OneReading}
 use Rattle.mbp_top.proofs.PddlDecides.{both_decides, ground_decides}
 
@@ -85,43 +87,46 @@ record_grammar one = record {
   not_both = λ name bytes r t wrong spelled. not_both record_passes bytes spelled.0 wrong.0 (record { spelled = spelled.1; sound = spelled.2 }) wrong.1;
 }
 
-first_decides : (TooMany : Type 0) (states : List Vector) (name : Bytes) (recorded : RecordTree) (Then : Vector → Answer → Type 0) → ((first : Vector) → Decides (Then first) (Then first))
-    → Decides (FirstThen TooMany states name recorded Then) (FirstThen TooMany states name recorded Then)
-first_decides TooMany states name recorded Then next a b (inl (many, is)) (inl (many', is')) = is ∙ sym is'
-first_decides TooMany states name recorded Then next a b (inl (many, is)) (inr (inl (few, none, is'))) = absurd (few many)
-first_decides TooMany states name recorded Then next a b (inl (many, is)) (inr (inr (few, first, there, then))) = absurd (few many)
-first_decides TooMany states name recorded Then next a b (inr (inl (few, none, is))) (inl (many, is')) = absurd (few many)
-first_decides TooMany states name recorded Then next a b (inr (inl (few, none, is))) (inr (inl (few', none', is'))) = is ∙ sym is'
-first_decides TooMany states name recorded Then next a b (inr (inl (few, none, is))) (inr (inr (few', first, there, then))) =
+number_decides : (states : List Vector) (name : Bytes) (recorded : RecordTree) (Then : Vector → Answer → Type 0) → ((first : Vector) → Decides (Then first) (Then first))
+    → Decides (NumberThen states name recorded Then) (NumberThen states name recorded Then)
+number_decides states name recorded Then next a b (inl (none, is)) (inl (none', is')) = is ∙ sym is'
+number_decides states name recorded Then next a b (inl (none, is)) (inr (first', there, then)) =
     absurd (let lt = there.there in omega (arith, none, lt))
-first_decides TooMany states name recorded Then next a b (inr (inr (few, first, there, then))) (inl (many, is')) = absurd (few many)
-first_decides TooMany states name recorded Then next a b (inr (inr (few, first, there, then))) (inr (inl (few', none, is'))) =
-    absurd (let lt = there.there in omega (arith, none, lt))
-first_decides TooMany states name recorded Then next a b (inr (inr (few, first, there, then))) (inr (inr (few', first', there', then'))) =
+number_decides states name recorded Then next a b (inr (first, there, then)) (inl (none', is')) =
+    absurd (let lt = there.there in omega (arith, none', lt))
+number_decides states name recorded Then next a b (inr (first, there, then)) (inr (first', there', then')) =
     let same : first' ≡ first = sym there'.is ∙ there.is in
     next first a b then (subst (λ (v : Vector). Then v b) same then')
 
-record_decides : OneReading → (held : Bytes → Held) (failed failed' : Bytes → Type 0) (tallies : Tallies) (name : Bytes) (actions : List Name) (d : DomainTree) (p : ProblemTree) (placed : PlacedPlan)
+first_decides : (TooMany : Type 0) (empty : Refusal) (states : List Vector) (name : Bytes) (recorded : RecordTree) (Then : Vector → Answer → Type 0) → ((first : Vector) → Decides (Then first) (Then first))
+    → Decides (FirstThen TooMany empty states name recorded Then) (FirstThen TooMany empty states name recorded Then)
+first_decides TooMany empty states name recorded Then next a b (inl (many, is)) (inl (many', is')) = is ∙ sym is'
+first_decides TooMany empty states name recorded Then next a b (inl (many, is)) (inr (few, then)) = absurd (few many)
+first_decides TooMany empty states name recorded Then next a b (inr (few, then)) (inl (many, is')) = absurd (few many)
+first_decides TooMany empty states name recorded Then next a b (inr (few, then)) (inr (few', then')) =
+    initial_decides empty states (NumberThen states name recorded Then) (number_decides states name recorded Then next) a b then then'
+
+record_decides : OneReading → (held : Bytes → Held) (failed failed' : Bytes → Type 0) (tallies : Tallies) (name : Bytes) (actions : List Name) (d : DomainTree) (p : ProblemTree) (empty : Refusal) (placed : PlacedPlan)
     → held name ≢ Untold → ((file : Bytes) → failed file → ⊥) → ((file : Bytes) → failed' file → ⊥)
-    → Decides (RecordThen held failed tallies name actions (HasTooManyStates d p) (system d p) placed.plan) (RecordThen held failed' tallies name actions (HasTooManyStates d p) (system d p) placed.plan)
-record_decides one held failed failed' tallies name actions d p placed told quiet quiet' =
+    → Decides (RecordThen held failed tallies name actions (HasTooManyStates d p) empty (system d p) placed.plan) (RecordThen held failed' tallies name actions (HasTooManyStates d p) empty (system d p) placed.plan)
+record_decides one held failed failed' tallies name actions d p empty placed told quiet quiet' =
     let sys = system d p in
-    let Then : RecordTree → Answer → Type 0 = λ recorded. FirstThen (HasTooManyStates d p) sys.initial name recorded (λ first.
+    let Then : RecordTree → Answer → Type 0 = λ recorded. FirstThen (HasTooManyStates d p) empty sys.initial name recorded (λ first.
     IsReplayed tallies sys actions (trace_under sys placed.plan first recorded.words)) in
     read_decides held failed failed' name SpellsRecord IsFaultyRecord Then Then told (quiet name) (quiet' name) (record_grammar one) (λ recorded holds.
-    first_decides (HasTooManyStates d p) sys.initial name recorded (λ first. IsReplayed tallies sys actions (trace_under sys placed.plan first recorded.words))
+    first_decides (HasTooManyStates d p) empty sys.initial name recorded (λ first. IsReplayed tallies sys actions (trace_under sys placed.plan first recorded.words))
     (λ first. replayed_decides tallies sys actions (trace_under sys placed.plan first recorded.words)))
 
 replay_then_decides : OneReading → (held : Bytes → Held) (failed failed' : Bytes → Type 0) (tallies : Tallies) (asked : ReplayWords) (d : DomainTree) (p : ProblemTree)
     → held asked.plan ≢ Untold → held asked.recorded ≢ Untold → ((file : Bytes) → failed file → ⊥) → ((file : Bytes) → failed' file → ⊥)
-    → Decides (ReplayThen held failed tallies asked (fluent_names d p) (action_names d p) (HasTooManyStates d p) (system d p))
-    (ReplayThen held failed' tallies asked (fluent_names d p) (action_names d p) (HasTooManyStates d p) (system d p))
+    → Decides (ReplayThen held failed tallies asked (fluent_names d p) (action_names d p) (HasTooManyStates d p) (empty_init asked.problem p) (system d p))
+    (ReplayThen held failed' tallies asked (fluent_names d p) (action_names d p) (HasTooManyStates d p) (empty_init asked.problem p) (system d p))
 replay_then_decides one held failed failed' tallies asked d p told told' quiet quiet' =
     read_decides held failed failed' asked.plan (SpellsPlaced (fluent_names d p) (action_names d p)) (IsFaultyPlan (fluent_names d p) (action_names d p))
-    (λ placed. RecordThen held failed tallies asked.recorded (action_names d p) (HasTooManyStates d p) (system d p) placed.plan)
-    (λ placed. RecordThen held failed' tallies asked.recorded (action_names d p) (HasTooManyStates d p) (system d p) placed.plan)
+    (λ placed. RecordThen held failed tallies asked.recorded (action_names d p) (HasTooManyStates d p) (empty_init asked.problem p) (system d p) placed.plan)
+    (λ placed. RecordThen held failed' tallies asked.recorded (action_names d p) (HasTooManyStates d p) (empty_init asked.problem p) (system d p) placed.plan)
     told (quiet asked.plan) (quiet' asked.plan) (plan_grammar one (fluent_names d p) (action_names d p)) (λ placed holds.
-    record_decides one held failed failed' tallies asked.recorded (action_names d p) d p placed told' quiet quiet')
+    record_decides one held failed failed' tallies asked.recorded (action_names d p) d p (empty_init asked.problem p) placed told' quiet quiet')
 
 pub replay_decides : OneReading → (held : Bytes → Held) (failed failed' : Bytes → Type 0) (tallies : Tallies) (asked : ReplayWords)
     → held asked.domain ≢ Untold → held asked.problem ≢ Untold → held asked.plan ≢ Untold → held asked.recorded ≢ Untold
@@ -130,6 +135,6 @@ pub replay_decides : OneReading → (held : Bytes → Held) (failed failed' : By
 replay_decides one held failed failed' tallies asked told told' told'' told''' quiet quiet' =
     both_decides one held failed failed' asked.domain asked.problem (IsReplay held failed tallies asked) (IsReplay held failed' tallies asked) told told' quiet quiet' (λ d p.
     ground_decides d p
-    (ReplayThen held failed tallies asked (fluent_names d p) (action_names d p) (HasTooManyStates d p) (system d p))
-    (ReplayThen held failed' tallies asked (fluent_names d p) (action_names d p) (HasTooManyStates d p) (system d p))
+    (ReplayThen held failed tallies asked (fluent_names d p) (action_names d p) (HasTooManyStates d p) (empty_init asked.problem p) (system d p))
+    (ReplayThen held failed' tallies asked (fluent_names d p) (action_names d p) (HasTooManyStates d p) (empty_init asked.problem p) (system d p))
     (replay_then_decides one held failed failed' tallies asked d p told'' told''' quiet quiet'))

@@ -1,5 +1,5 @@
 -- `replay`: what was written at status 0, and which statuses come.
-use Rattle.std.proofs.Common.{◌≡◌, ℕ, List, ◌⊎◌, inl, inr, refl, sym, subst, arith, ◌∙◌, ap, true, None}
+use Rattle.std.proofs.Common.{◌≡◌, ℕ, List, length, ◌⊎◌, inl, inr, refl, sym, subst, arith, ◌∙◌, ap, true, None}
 use Rattle.std.specs.Io.KnownBytes.{append_known}
 use Rattle.pddl_ast.specs.Trees.{DomainTree, ProblemTree}
 use Rattle.pddl_system.specs.Sizes.{first_passed}
@@ -11,9 +11,10 @@ use Rattle.run_replay.specs.Traces.{Ending, Terminal, Ended, Capped, Stray, Unex
 use Rattle.run_replay.specs.declared.worlds.Step.{Step}
 use Rattle.task_core.specs.Systems.{System}
 use Rattle.task_core.specs.Vectors.{Vector}
-use Rattle.mbp_top.specs.Answers.{Answer, refused, no_memory, status_of, text_of, is_shown}
+use Rattle.mbp_top.specs.Answers.{Answer, Refusal, refused, no_memory, status_of, text_of, is_shown}
 use Rattle.mbp_top.specs.CheckCommand.{HasTooManyStates}
 use Rattle.mbp_top.specs.Delivery.{Seen}
+use Rattle.mbp_top.specs.InitialStates.{empty_init}
 use Rattle.mbp_top.specs.PddlTexts.{HoldBoth}
 use Rattle.mbp_top.specs.PlanFiles.{IsFaultyPlan, PlacedPlan, SpellsPlaced}
 use Rattle.mbp_top.specs.Reading.{Holds}
@@ -38,12 +39,13 @@ record RunFor (held : Bytes → Held) (tallies : Tallies) (asked : ReplayWords) 
 
 shown_first : (held : Bytes → Held) (tallies : Tallies) (asked : ReplayWords) (d : DomainTree) (p : ProblemTree) (placed : PlacedPlan) (recorded : RecordTree) (a : Answer) → is_shown a ≡ true
     → Holds held (SpellsPlaced (fluent_names d p) (action_names d p)) asked.plan placed → Holds held SpellsRecord asked.recorded recorded
-    → FirstThen (HasTooManyStates d p) (system d p).initial asked.recorded recorded (λ first.
+    → FirstThen (HasTooManyStates d p) (empty_init asked.problem p) (system d p).initial asked.recorded recorded (λ first.
     IsReplayed tallies (system d p) (action_names d p) (trace_under (system d p) placed.plan first recorded.words)) a
     → RunFor held tallies asked d p a
 shown_first held tallies asked d p placed recorded a shown holds holds' (inl (many, is)) = absurd (not_refused _ a is shown)
-shown_first held tallies asked d p placed recorded a shown holds holds' (inr (inl (few, none, is))) = absurd (not_refused _ a is shown)
-shown_first held tallies asked d p placed recorded a shown holds holds' (inr (inr (few, first, there, then))) = record {
+shown_first held tallies asked d p placed recorded a shown holds holds' (inr (few, inl (none, is))) = absurd (not_refused _ a is shown)
+shown_first held tallies asked d p placed recorded a shown holds holds' (inr (few, inr (some, inl (far, is)))) = absurd (not_refused _ a is shown)
+shown_first held tallies asked d p placed recorded a shown holds holds' (inr (few, inr (some, inr (first, there, then)))) = record {
   plan = placed.plan;
   recorded = recorded;
   first = first;
@@ -53,13 +55,13 @@ shown_first held tallies asked d p placed recorded a shown holds holds' (inr (in
 
 shown_record : (held : Bytes → Held) (failed : Bytes → Type 0) (tallies : Tallies) (asked : ReplayWords) (d : DomainTree) (p : ProblemTree) (placed : PlacedPlan) (a : Answer) → is_shown a ≡ true
     → Holds held (SpellsPlaced (fluent_names d p) (action_names d p)) asked.plan placed
-    → RecordThen held failed tallies asked.recorded (action_names d p) (HasTooManyStates d p) (system d p) placed.plan a
+    → RecordThen held failed tallies asked.recorded (action_names d p) (HasTooManyStates d p) (empty_init asked.problem p) (system d p) placed.plan a
     → RunFor held tallies asked d p a
 shown_record held failed tallies asked d p placed a shown holds (inl (r, is, why)) = absurd (not_refused r a is shown)
 shown_record held failed tallies asked d p placed a shown holds (inr (recorded, holds', then)) = shown_first held tallies asked d p placed recorded a shown holds holds' then
 
 shown_files : (held : Bytes → Held) (failed : Bytes → Type 0) (tallies : Tallies) (asked : ReplayWords) (d : DomainTree) (p : ProblemTree) (a : Answer) → is_shown a ≡ true
-    → ReplayThen held failed tallies asked (fluent_names d p) (action_names d p) (HasTooManyStates d p) (system d p) a
+    → ReplayThen held failed tallies asked (fluent_names d p) (action_names d p) (HasTooManyStates d p) (empty_init asked.problem p) (system d p) a
     → RunFor held tallies asked d p a
 shown_files held failed tallies asked d p a shown (inl (r, is, why)) = absurd (not_refused r a is shown)
 shown_files held failed tallies asked d p a shown (inr (placed, holds, then)) = shown_record held failed tallies asked d p placed a shown holds then
@@ -102,7 +104,7 @@ shown_replay held failed tallies asked a out out' shown written (inr is) =
     let trees = shown_both held failed asked.domain asked.problem (IsReplay held failed tallies asked) a shown is in
     let d = trees.domain in
     let p = trees.problem in
-    let grounded = shown_grounded d p (ReplayThen held failed tallies asked (fluent_names d p) (action_names d p) (HasTooManyStates d p) (system d p)) a shown trees.result in
+    let grounded = shown_grounded d p (ReplayThen held failed tallies asked (fluent_names d p) (action_names d p) (HasTooManyStates d p) (empty_init asked.problem p) (system d p)) a shown trees.result in
     let run = shown_files held failed tallies asked d p a shown grounded.1 in
     let trace = trace_under (system d p) run.plan run.first run.recorded.words in
     let text = replay_text tallies (action_names d p) trace run.result.told in
@@ -130,11 +132,13 @@ run_written held failed tallies words before after out out' err err' status a as
     (of_command held failed tallies words (replay asked) a says d.cause)
 
 -- the initial state that a record begins with is one
-first_as : (TooMany : Type 0) (states : List Vector) (name : Bytes) (recorded : RecordTree) (first : Vector) (Then : Vector → Answer → Type 0) (a : Answer)
-    → (TooMany → ⊥) → IsFirstState states recorded first → FirstThen TooMany states name recorded Then a → Then first a
-first_as TooMany states name recorded first Then a few there (inl (many, is)) = absurd (few many)
-first_as TooMany states name recorded first Then a few there (inr (inl (few', none, is))) = absurd (let lt = there.there in omega (arith, none, lt))
-first_as TooMany states name recorded first Then a few there (inr (inr (few', other, there', then))) =
+first_as : (TooMany : Type 0) (empty : Refusal) (states : List Vector) (name : Bytes) (recorded : RecordTree) (first : Vector) (Then : Vector → Answer → Type 0) (a : Answer)
+    → (TooMany → ⊥) → IsFirstState states recorded first → FirstThen TooMany empty states name recorded Then a → Then first a
+first_as TooMany empty states name recorded first Then a few there (inl (many, is)) = absurd (few many)
+first_as TooMany empty states name recorded first Then a few there (inr (few', inl (none, is))) =
+    absurd (let lt = there.there in omega (arith, lt, ap (length {A = Vector}) none))
+first_as TooMany empty states name recorded first Then a few there (inr (few', inr (some, inl (far, is)))) = absurd (let lt = there.there in omega (arith, far, lt))
+first_as TooMany empty states name recorded first Then a few there (inr (few', inr (some, inr (other, there', then)))) =
     subst (λ (v : Vector). Then v a) (sym there'.is ∙ there.is) then
 
 -- the status where the files spell what is run, within the limits: that of the end of its trace
@@ -159,17 +163,17 @@ run_status one held failed tallies words before after out out' err err' status a
       go (inr is) =
           let names = fluent_names domain problem in
           let actions = action_names domain problem in
-          let then = within_limits domain problem (ReplayThen held failed tallies asked names actions (HasTooManyStates domain problem) sys) a kept
+          let then = within_limits domain problem (ReplayThen held failed tallies asked names actions (HasTooManyStates domain problem) (empty_init asked.problem problem) sys) a kept
           (both_as one held failed asked.domain asked.problem (IsReplay held failed tallies asked) domain problem a
           (told (replay asked) asked.domain says (0, omega arith, refl)) (told (replay asked) asked.problem says (1, omega arith, refl)) quiet both is) in
           let placed : PlacedPlan = record { plan = plan; place = files.plan_file.place } in
           let of_record = read_as held failed asked.plan (SpellsPlaced names actions) (IsFaultyPlan names actions)
-          (λ x. RecordThen held failed tallies asked.recorded actions (HasTooManyStates domain problem) sys x.plan) placed a
+          (λ x. RecordThen held failed tallies asked.recorded actions (HasTooManyStates domain problem) (empty_init asked.problem problem) sys x.plan) placed a
           (told (replay asked) asked.plan says (2, omega arith, refl)) (quiet asked.plan) (plan_grammar one names actions) files.plan_file.holds then in
           let of_first = read_as held failed asked.recorded SpellsRecord IsFaultyRecord
-          (λ r. FirstThen (HasTooManyStates domain problem) sys.initial asked.recorded r (λ s. IsReplayed tallies sys actions (trace_under sys plan s r.words))) recorded a
+          (λ r. FirstThen (HasTooManyStates domain problem) (empty_init asked.problem problem) sys.initial asked.recorded r (λ s. IsReplayed tallies sys actions (trace_under sys plan s r.words))) recorded a
           (told (replay asked) asked.recorded says (3, omega arith, refl)) (quiet asked.recorded) (record_grammar one) files.record_file of_record in
-          let run = first_as (HasTooManyStates domain problem) sys.initial asked.recorded recorded first (λ s. IsReplayed tallies sys actions (trace_under sys plan s recorded.words)) a
+          let run = first_as (HasTooManyStates domain problem) (empty_init asked.problem problem) sys.initial asked.recorded recorded first (λ s. IsReplayed tallies sys actions (trace_under sys plan s recorded.words)) a
           few files.first_state of_first in
           let trace = trace_under sys plan first recorded.words in
           inl (code ∙ (ap status_of run.shown ∙ ended_code (replay_text tallies actions trace run.told) trace.ending))

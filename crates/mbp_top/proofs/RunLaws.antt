@@ -1,5 +1,5 @@
 -- What follows for a run that has its cause.
-use Rattle.std.proofs.Common.{◌≡◌, ◌≢◌, ◌≤◌, ◌⊎◌, ℕ, None, true, inl, inr, subst, sym}
+use Rattle.std.proofs.Common.{◌≡◌, ◌≢◌, ◌≤◌, ◌⊎◌, ℕ, [], None, true, inl, inr, subst, sym}
 use Rattle.exec_graph.specs.Executions.{ReachesMoreThan}
 use Rattle.pddl_ast.specs.Trees.{DomainTree, ProblemTree}
 use Rattle.pddl_system.specs.Sizes.{first_passed}
@@ -135,20 +135,20 @@ module _ {S : Type 0} (held : S → Bytes → Held) (faults : S → ℕ) (fetche
     module _ (one : OneReading) where
       pub comes_to_plan : (asked : PlanWords) (domain : DomainTree) (problem : ProblemTree) → SaysPlan run.words asked
           → HoldBoth (held run.shelf) asked.domain asked.problem domain problem → is_sought asked.kind problem ≡ true → first_passed domain problem ≡ None
-          → (IsTightLimit (stages_for asked.kind problem) asked.options.nodes (system domain problem) → ⊥) → AreFilesTold (held run.shelf) run.words
+          → (system domain problem).initial ≢ [] → (IsTightLimit (stages_for asked.kind problem) asked.options.nodes (system domain problem) → ⊥) → AreFilesTold (held run.shelf) run.words
           → NoFault (faults run.shelf) (faults run.shelf_after) → NoFault run.out.faults run.out_after.faults → NoFault run.err.faults run.err_after.faults
           → (run.status ≡ 0) ⊎ (run.status ≡ 1) ⊎ (run.status ≡ 8)
-      comes_to_plan asked domain problem says both goal kept room told no_rise no_out no_err =
-          plan_status one _ _ _ _ _ _ _ _ _ _ _ _ asked domain problem it_is says both goal kept room told (not_failed no_rise) no_out no_err
+      comes_to_plan asked domain problem says both goal kept some room told no_rise no_out no_err =
+          plan_status one _ _ _ _ _ _ _ _ _ _ _ _ asked domain problem it_is says both goal kept some room told (not_failed no_rise) no_out no_err
 
       pub comes_to_verdict : YesSolves → (asked : CheckWords) (domain : DomainTree) (problem : ProblemTree) (plan : PlainPlan) → SaysCheck run.words asked
           → HoldBoth (held run.shelf) asked.domain asked.problem domain problem → has_goal_for asked.kind problem ≡ true → first_passed domain problem ≡ None
-          → HoldsPlan (held run.shelf) (fluent_names domain problem) (action_names domain problem) asked.plan plan → is_of_kind asked.kind plan ≡ true
+          → (system domain problem).initial ≢ [] → HoldsPlan (held run.shelf) (fluent_names domain problem) (action_names domain problem) asked.plan plan → is_of_kind asked.kind plan ≡ true
           → (HasTooManyStates domain problem → ⊥) → (ReachesMoreThan (system domain problem) plan most_followed → ⊥) → AreFilesTold (held run.shelf) run.words
           → NoFault (faults run.shelf) (faults run.shelf_after) → NoFault run.out.faults run.out_after.faults → NoFault run.err.faults run.err_after.faults
           → ((run.status ≡ 0) × PlanMeets asked.kind domain problem plan) ⊎ ((run.status ≡ 1) × (PlanMeets asked.kind domain problem plan → ⊥)) ⊎ (run.status ≡ 8)
-      comes_to_verdict law asked domain problem plan says both goal kept file right few small told no_rise no_out no_err =
-          check_status one law _ _ _ _ _ _ _ _ _ _ _ _ asked domain problem plan it_is says both goal kept file right few small told (not_failed no_rise) no_out no_err
+      comes_to_verdict law asked domain problem plan says both goal kept some file right few small told no_rise no_out no_err =
+          check_status one law _ _ _ _ _ _ _ _ _ _ _ _ asked domain problem plan it_is says both goal kept some file right few small told (not_failed no_rise) no_out no_err
 
       pub comes_to_listing : ComesToListing held faults run
       comes_to_listing asked domain problem says both kept u =

@@ -99,10 +99,12 @@ plan_has_other kind d p a (inl found) six = omega (arith, ap status_of found.sho
 plan_has_other kind d p a (inr missing) six = omega (arith, ap status_of missing.shown, six)
 
 result_has_other : (kind : PlanKind) (name : Bytes) (d : DomainTree) (p : ProblemTree) (a : Answer) → IsResultOf kind name d p a → status_of a ≢ 6
-result_has_other (of_class class) name d p a r six = plan_has_other (of_class class) d p a r six
+result_has_other (of_class class) name d p a (inl (none, is)) six = omega (arith, ap status_of is, six)
+result_has_other (of_class class) name d p a (inr (some, r)) six = plan_has_other (of_class class) d p a r six
 result_has_other with_contexts name d p a (inl (none, is)) six = omega (arith, ap status_of is, six)
 result_has_other with_contexts name d p a (inr (c, some, inl (many, is))) six = omega (arith, ap status_of is, six)
-result_has_other with_contexts name d p a (inr (c, some, inr (few, r))) six = plan_has_other with_contexts d p a r six
+result_has_other with_contexts name d p a (inr (c, some, inr (few, inl (none, is)))) six = omega (arith, ap status_of is, six)
+result_has_other with_contexts name d p a (inr (c, some, inr (few, inr (first, r)))) six = plan_has_other with_contexts d p a r six
 
 planned_has_other : (asked : PlanWords) (d : DomainTree) (p : ProblemTree) (a : Answer) → IsPlanned asked d p a → status_of a ≢ 6
 planned_has_other asked d p a (inl (none, is)) six = omega (arith, ap status_of is, six)
@@ -157,7 +159,8 @@ module _ (held : Bytes → Held) (failed : Bytes → Type 0) (a : Answer) (six :
     go (inr (some, inr (within, inr (placed, holds, inl (other, is))))) = absurd (omega (arith, ap status_of is, six))
     go (inr (some, inr (within, inr (placed, holds, inr (right, inl (many, is)))))) = absurd (omega (arith, ap status_of is, six))
     go (inr (some, inr (within, inr (placed, holds, inr (right, inr (inl (few, more, is))))))) = absurd (omega (arith, ap status_of is, six))
-    go (inr (some, inr (within, inr (placed, holds, inr (right, inr (inr (few, small, (v, of, is)))))))) = absurd (verdict_has_other v (sym (ap status_of is) ∙ six))
+    go (inr (some, inr (within, inr (placed, holds, inr (right, inr (inr (few, small, inl (none, is)))))))) = absurd (omega (arith, ap status_of is, six))
+    go (inr (some, inr (within, inr (placed, holds, inr (right, inr (inr (few, small, inr (first, (v, of, is))))))))) = absurd (verdict_has_other v (sym (ap status_of is) ∙ six))
 
   in_replay : (tallies : Tallies) (asked : ReplayWords) → BothRead held asked.domain asked.problem (IsReplay held failed tallies asked) a → UnreadAt held failed (files_of (replay asked)) a
   in_replay tallies asked both = go both.then where
@@ -172,8 +175,9 @@ module _ (held : Bytes → Held) (failed : Bytes → Type 0) (a : Answer) (six :
         (three_before held asked.domain asked.problem asked.plan (asked.recorded ∷ []) both.domain_bytes both.problem_bytes holds.bytes both.domain_file both.problem_file holds.file) is
         (unread_file held failed IsFaultyRecord asked.recorded r (λ bytes wrong. ap status_of_refusal wrong.2) why (sym (ap status_of is) ∙ six))
     go (inr (within, inr (placed, holds, inr (recorded, holds', inl (many, is))))) = absurd (omega (arith, ap status_of is, six))
-    go (inr (within, inr (placed, holds, inr (recorded, holds', inr (inl (few, far, is)))))) = absurd (omega (arith, ap status_of is, six))
-    go (inr (within, inr (placed, holds, inr (recorded, holds', inr (inr (few, first, is, replayed)))))) =
+    go (inr (within, inr (placed, holds, inr (recorded, holds', inr (few, inl (none, is)))))) = absurd (omega (arith, ap status_of is, six))
+    go (inr (within, inr (placed, holds, inr (recorded, holds', inr (few, inr (some, inl (far, is))))))) = absurd (omega (arith, ap status_of is, six))
+    go (inr (within, inr (placed, holds, inr (recorded, holds', inr (few, inr (some, inr (first, is, replayed))))))) =
         absurd (ending_has_other _ (trace_under (system both.domain both.problem) placed.plan first recorded.words).ending (sym (ap status_of replayed.shown) ∙ six))
 
   of_answer : (tallies : Tallies) (command : Command) → IsAnswerOf held failed tallies command a → UnreadAt held failed (files_of command) a

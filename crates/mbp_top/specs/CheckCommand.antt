@@ -21,6 +21,7 @@ use Rattle.task_core.specs.Initial.{after_entries}
 use Rattle.task_core.specs.Systems.{System}
 use Rattle.mbp_top.specs.Answers.{Answer, affirmed, denied, refused, over_limit}
 use Rattle.mbp_top.specs.Grounding.{GoalThen, GroundThen}
+use Rattle.mbp_top.specs.InitialStates.{InitialThen, empty_init}
 use Rattle.mbp_top.specs.PddlTexts.{ReadBoth}
 use Rattle.mbp_top.specs.PlanFiles.{SpellsPlaced, IsFaultyPlan, KindThen}
 use Rattle.mbp_top.specs.Reading.{ReadThen}
@@ -81,6 +82,13 @@ IsVerdictOf with_contexts domain problem (automaton contexts rules) verdict =
     × IsContextVerdict (system domain problem) (denoted_contexts rules)
     (HasGoal domain problem (denoted_contexts rules) goal) verdict
 
+-- what follows once a plan of the kind was followed: there is no initial state, so that it reached
+-- nothing; or there is one, and the plan is judged
+abbrev pub VerdictThen : CheckWords → DomainTree → ProblemTree → PlainPlan → Answer → Type 0
+VerdictThen asked domain problem plan =
+    InitialThen (empty_init asked.problem problem) (system domain problem).initial
+    (ShowsVerdict (IsVerdictOf asked.kind domain problem plan))
+
 -- what follows once both are read and within the limits: the plan is read, it is of the kind, it is
 -- followed, and judged
 abbrev pub CheckThen : (Bytes → Held) → (Bytes → Type 0) → CheckWords → DomainTree → ProblemTree
@@ -91,7 +99,7 @@ CheckThen held failed asked domain problem =
     (IsFaultyPlan (fluent_names domain problem) (action_names domain problem)) (λ placed.
     KindThen asked.kind asked.plan placed.place placed.plan
     (ExploreThen (HasTooManyStates domain problem) (system domain problem) placed.plan
-    (ShowsVerdict (IsVerdictOf asked.kind domain problem placed.plan))))
+    (VerdictThen asked domain problem placed.plan)))
 
 -- what follows once both are read
 abbrev pub IsChecked : (Bytes → Held) → (Bytes → Type 0) → CheckWords → DomainTree

@@ -1,5 +1,6 @@
 -- Private: what is known of what a search for a plan with contexts of a task found.
-use Rattle.std.specs.Prelude.{◌≡◌, ◌↔◌, ◌⊎◌, ⊤, ℕ, suc, length, List, Result, Ok, Err, Some}
+use Rattle.std.specs.Prelude.{◌≡◌, ◌≢◌, ◌↔◌, ◌⊎◌, ⊤, ℕ, suc, length, List, [], Option, Some, None}
+use Rattle.std.specs.Prelude.{Result, Ok, Err}
 use Rattle.plan_theory.specs.Chains.{HasChain}
 use Rattle.plan_theory.specs.ChainPlans.{HasNoContextPlan, IsChainPlan}
 use Rattle.plan_theory.specs.ChainPrinted.{chain_rules}
@@ -18,7 +19,8 @@ use Rattle.plan_rules.specs.Rules.{ContextRule, automaton, context_rules_of}
 use Rattle.plan_rules.specs.Texts.{automaton_text}
 use Rattle.plan_rules.specs.declared.rules.AutoPlan.{AutoPlan}
 use Rattle.task_core.specs.ContextPlans.{Configuration, ContextPlan}
-use Rattle.task_core.specs.Tasks.{action_count, action_names, fluent_count, fluent_names, system_of}
+use Rattle.task_core.specs.Tasks.{action_count, action_names, fluent_count, fluent_names}
+use Rattle.task_core.specs.Tasks.{initial_states, system_of}
 use Rattle.task_core.specs.declared.tasks.Task.{Task}
 use Rattle.mbp_top.specs.Answers.{Answer, affirmed, denied}
 use Rattle.mbp_top.specs.ChainGoals.{chained_of, goal_chain}
@@ -40,6 +42,13 @@ abbrev pub IsChainSearched : Task → Chain → Result FoundAuto SetErr → Type
 IsChainSearched task chain (Ok (Plan plan)) = IsFoundChain task chain plan
 IsChainSearched task chain (Ok NoPlan) = HasNoContextPlan (system_of task) (chain_sets chain)
 IsChainSearched task chain (Err e) = ⊤
+
+-- Private: what a search from the initial states found: that there is none, or what was looked for
+abbrev pub IsChainSearchedFrom : Task → Chain → Result (Option FoundAuto) SetErr → Type 0
+IsChainSearchedFrom task chain (Ok None) = initial_states task ≡ []
+IsChainSearchedFrom task chain (Ok (Some found)) =
+    (initial_states task ≢ []) × IsChainSearched task chain (Ok found)
+IsChainSearchedFrom task chain (Err e) = ⊤
 
 -- Private: the answer is such a plan's text
 pub record IsChainShown (task : Task) (chain : Chain) (answer : Answer) : Type 0 where

@@ -1,5 +1,5 @@
 -- Private: what is known of what a search for a plan of a task found.
-use Rattle.std.specs.Prelude.{◌≡◌, ◌⊎◌, ⊤, All, List, Result, Ok, Err}
+use Rattle.std.specs.Prelude.{◌≡◌, ◌≢◌, ◌⊎◌, ⊤, All, List, [], Option, Some, None, Result, Ok, Err}
 use Rattle.dd_sets.specs.declared.errors.SetErr.{SetErr}
 use Rattle.plan_check.specs.Verdicts.{CanFollowRules}
 use Rattle.plan_rules.specs.Denoted.{denoted, IsExecutable}
@@ -14,7 +14,7 @@ use Rattle.task_core.specs.Names.{Name}
 use Rattle.task_core.specs.Solutions.{HasNoSolution, IsSolution}
 use Rattle.task_core.specs.Systems.{System}
 use Rattle.task_core.specs.Tables.{IsTable}
-use Rattle.task_core.specs.Tasks.{action_count, fluent_count, system_of}
+use Rattle.task_core.specs.Tasks.{action_count, fluent_count, initial_states, system_of}
 use Rattle.task_core.specs.declared.classes.Class.{Class}
 use Rattle.task_core.specs.declared.tasks.Task.{Task}
 use Rattle.mbp_top.specs.Answers.{Answer, affirmed, denied}
@@ -36,6 +36,13 @@ abbrev pub IsSearched : Class → Task → Result Found SetErr → Type 0
 IsSearched class task (Ok (Plan plan)) = IsFoundPlan class task plan
 IsSearched class task (Ok NoPlan) = HasNoSolution class (system_of task)
 IsSearched class task (Err e) = ⊤
+
+-- what a search from the initial states found: that there is none, or what was looked for
+abbrev pub IsSearchedFrom : Class → Task → Result (Option Found) SetErr → Type 0
+IsSearchedFrom class task (Ok None) = initial_states task ≡ []
+IsSearchedFrom class task (Ok (Some found)) =
+    (initial_states task ≢ []) × IsSearched class task (Ok found)
+IsSearchedFrom class task (Err e) = ⊤
 
 -- Private: the answer is such a plan's text
 pub record IsTableShown (class : Class) (sys : System) (fluents actions : List Name)

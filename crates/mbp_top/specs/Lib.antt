@@ -3,6 +3,7 @@ pub mod Answers
 pub mod Reading
 pub mod PddlTexts
 pub mod Grounding
+pub mod InitialStates
 pub mod GroundCommand
 pub mod Enough
 pub mod TemporalGoals

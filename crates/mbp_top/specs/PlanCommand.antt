@@ -30,6 +30,7 @@ use Rattle.task_core.specs.Vectors.{Vector}
 use Rattle.mbp_top.specs.Answers.{Answer, affirmed, denied, refused, full}
 use Rattle.mbp_top.specs.Grounding.{GoalThen, GroundThen}
 use Rattle.mbp_top.specs.Enough.{IsTightLimit}
+use Rattle.mbp_top.specs.InitialStates.{InitialThen, empty_init}
 use Rattle.mbp_top.specs.Meets.{Meaning, Meets, PlanMeets}
 use Rattle.mbp_top.specs.PddlTexts.{HoldBoth, ReadBoth}
 use Rattle.mbp_top.specs.ChainGoals.{ChainThen, chained_of, goal_chain, is_short_chain}
@@ -155,11 +156,17 @@ abbrev pub IsPlanResult : PlanKind → DomainTree → ProblemTree → Answer →
 IsPlanResult kind domain problem answer =
     IsPlanFound kind domain problem answer ⊎ IsPlanMissing kind domain problem answer
 
+-- the answer where a plan is looked for from the initial states, of which there may be none
+abbrev pub IsResultFrom : PlanKind → Bytes → DomainTree → ProblemTree → Answer → Type 0
+IsResultFrom kind name domain problem =
+    InitialThen (empty_init name problem) (system domain problem).initial
+    (IsPlanResult kind domain problem)
+
 -- the answer for a domain and a problem: with contexts the goal is first to be a short chain
 abbrev pub IsResultOf : PlanKind → Bytes → DomainTree → ProblemTree → Answer → Type 0
-IsResultOf (of_class class) name domain problem = IsPlanResult (of_class class) domain problem
+IsResultOf (of_class class) name domain problem = IsResultFrom (of_class class) name domain problem
 IsResultOf with_contexts name domain problem =
-    ChainThen name problem (λ chain. IsPlanResult with_contexts domain problem)
+    ChainThen name problem (λ chain. IsResultFrom with_contexts name domain problem)
 
 abbrev pub PlanThen : PlanWords → DomainTree → ProblemTree → Answer → Type 0
 PlanThen asked domain problem = IsResultOf asked.kind asked.problem domain problem
@@ -175,8 +182,8 @@ abbrev pub stages_for : PlanKind → ProblemTree → ℕ
 stages_for (of_class class) problem = 0
 stages_for with_contexts problem = stage_count problem
 
--- what follows once both are read: the goal is of the kind that is wanted, the limits are kept, and
--- a plan is looked for
+-- what follows once both are read: the goal is of the kind that is wanted, the limits are kept, there
+-- is an initial state, and a plan is looked for
 abbrev pub IsPlanned : PlanWords → DomainTree → ProblemTree → Answer → Type 0
 IsPlanned asked domain problem =
     GoalThen asked.kind asked.problem problem

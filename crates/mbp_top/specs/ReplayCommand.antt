@@ -21,6 +21,7 @@ use Rattle.mbp_top.specs.Answers.{Answer, affirmed, refused, Refusal, over_limit
 use Rattle.mbp_top.specs.Answers.{stray_outcome, unexecutable}
 use Rattle.mbp_top.specs.CheckCommand.{HasTooManyStates}
 use Rattle.mbp_top.specs.Grounding.{GroundThen}
+use Rattle.mbp_top.specs.InitialStates.{InitialThen, empty_init}
 use Rattle.mbp_top.specs.PddlTexts.{ReadBoth}
 use Rattle.mbp_top.specs.PlanFiles.{HoldsPlan, IsFaultyPlan, SpellsPlaced}
 use Rattle.mbp_top.specs.Reading.{Holds, ReadThen}
@@ -80,42 +81,49 @@ pub record IsFirstState (states : List Vector) (recorded : RecordTree)
   pub there : recorded.first < length states
   pub is : slice_index_or states recorded.first [] ≡ first
 
--- there are too many initial states (`TooMany`); or not, and the record in the file of this name
--- begins with the number of none, which is a fault at that number; or with that of one, and then
--- comes what Then says of it
-abbrev pub FirstThen : Type 0 → List Vector → Bytes → RecordTree → (Vector → Answer → Type 0)
-    → Answer
+-- the record in the file of this name begins with the number of no initial state, which is a fault
+-- at that number; or with that of one, and then comes what Then says of it
+abbrev pub NumberThen : List Vector → Bytes → RecordTree → (Vector → Answer → Type 0) → Answer
     → Type 0
-FirstThen TooMany states name recorded Then answer =
-    (TooMany × (answer ≡ refused (over_limit (codes "initial"))))
-    ⊎ ((TooMany → ⊥) × (length states ≤ recorded.first)
+NumberThen states name recorded Then answer =
+    ((length states ≤ recorded.first)
     × (answer ≡ refused (text_fault name
     (record { kind = BadNumber; place = recorded.first_place }))))
-    ⊎ ((TooMany → ⊥) × (first : Vector) × IsFirstState states recorded first × Then first answer)
+    ⊎ ((first : Vector) × IsFirstState states recorded first × Then first answer)
+
+-- there are too many initial states (`TooMany`); or not, and there is none, which is refused
+-- (`empty`); or there is one, and the record's first number is to be that of one
+abbrev pub FirstThen : Type 0 → Refusal → List Vector → Bytes → RecordTree
+    → (Vector → Answer → Type 0) → Answer → Type 0
+FirstThen TooMany empty states name recorded Then answer =
+    (TooMany × (answer ≡ refused (over_limit (codes "initial"))))
+    ⊎ ((TooMany → ⊥)
+    × InitialThen empty states (NumberThen states name recorded Then) answer)
 
 -- what follows once the plan is read: the record is read, its first number names an initial state,
 -- and the plan is run from it
 abbrev pub RecordThen : (Bytes → Held) → (Bytes → Type 0) → Tallies → Bytes → List Name → Type 0
-    → System → PlainPlan → Answer → Type 0
-RecordThen held failed tallies name actions TooMany sys plan =
+    → Refusal → System → PlainPlan → Answer → Type 0
+RecordThen held failed tallies name actions TooMany empty sys plan =
     ReadThen held failed name SpellsRecord IsFaultyRecord (λ recorded.
-    FirstThen TooMany sys.initial name recorded (λ first.
+    FirstThen TooMany empty sys.initial name recorded (λ first.
     IsReplayed tallies sys actions (trace_under sys plan first recorded.words)))
 
 -- what follows once the domain and the problem are within the limits: the plan is read over the
 -- names of their fluents and actions, and then the record
 abbrev pub ReplayThen : (Bytes → Held) → (Bytes → Type 0) → Tallies → ReplayWords → List Name
-    → List Name → Type 0 → System → Answer → Type 0
-ReplayThen held failed tallies asked fluents actions TooMany sys =
+    → List Name → Type 0 → Refusal → System → Answer → Type 0
+ReplayThen held failed tallies asked fluents actions TooMany empty sys =
     ReadThen held failed asked.plan (SpellsPlaced fluents actions) (IsFaultyPlan fluents actions)
-    (λ placed. RecordThen held failed tallies asked.recorded actions TooMany sys placed.plan)
+    (λ placed. RecordThen held failed tallies asked.recorded actions TooMany empty sys placed.plan)
 
 -- what follows once both are read
 abbrev pub IsReplay : (Bytes → Held) → (Bytes → Type 0) → Tallies → ReplayWords → DomainTree
     → ProblemTree → Answer → Type 0
 IsReplay held failed tallies asked domain problem =
     GroundThen domain problem (ReplayThen held failed tallies asked (fluent_names domain problem)
-    (action_names domain problem) (HasTooManyStates domain problem) (system domain problem))
+    (action_names domain problem) (HasTooManyStates domain problem)
+    (empty_init asked.problem problem) (system domain problem))
 
 -- the answer of the command
 abbrev pub IsReplayAnswer : (Bytes → Held) → (Bytes → Type 0) → Tallies → ReplayWords → Answer

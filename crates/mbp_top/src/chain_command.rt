@@ -12,12 +12,14 @@ ghost use Rattle.mbp_top.specs.Values.{answer_of, kind_of, plan_words_of, shown_
 ghost use Rattle.mbp_top.specs.Words.{IsNodeLimit, with_contexts};
 ghost use Rattle.pddl_ast.specs.Values.{domain_value, problem_value};
 ghost use Rattle.pddl_system.specs.CtlGoals.{ctl_goal_of, goal_value};
-ghost use Rattle.std.specs.Prelude.{◌≡◌, ◌⊎◌, IfOk, IsErrOf, IsSome, Some, length, ℕ};
-ghost use Rattle.task_core.specs.Tasks.{fluent_count, system_of};
+ghost use Rattle.std.specs.Prelude.{◌≡◌, ◌≢◌, ◌⊎◌, [], IfOk, IfSome, IsErrOf, IsSome, None, Some};
+ghost use Rattle.std.specs.Prelude.{length, ℕ};
+ghost use Rattle.task_core.specs.Tasks.{fluent_count, initial_states, system_of};
 
 use crate::answers::{Limit, Refusal, Shown, Text};
 use crate::chain_search::search_chain;
 use crate::grounding::goal_in;
+use crate::initial_states::no_initial;
 use crate::plan_command::text_of_plan;
 use crate::words::PlanWords;
 use chain_plan::FoundAuto;
@@ -130,25 +132,36 @@ fn plan_stages(
         return Err(Refusal::OverLimit(Limit::Stages));
     }
     match chain_task(alloc, asked.options.nodes, task, chain) {
-        Ok(shown) => Ok(shown),
+        Ok(Some(shown)) => Ok(shown),
+        Ok(None) => Err(no_initial(alloc, asked.problem, problem)?),
         Err(SetErr::Full) => Err(Refusal::Full(asked.options.nodes)),
         Err(SetErr::Memory) => Err(Refusal::NoMemory),
     }
 }
 
-/// The plan with contexts of a task for a chain, found in a table for so many nodes.
-fn chain_task(alloc: Global, nodes: u32, task: &Task, chain: &Chain) -> Result<Shown, SetErr>
+/// The plan with contexts of a task for a chain, found in a table for so many nodes, or `None` where
+/// there is no initial state.
+fn chain_task(
+    alloc: Global,
+    nodes: u32,
+    task: &Task,
+    chain: &Chain,
+) -> Result<Option<Shown>, SetErr>
     requires room { IsNodeLimit nodes }
     requires chain { IsChainOver (fluent_count task.now) chain.now }
-    ensures plan { IfOk result (λ shown. IsChainResult task.now chain.now (shown_of shown)) }
+    ensures none { IfOk result (λ found. found ≡ None → initial_states task.now ≡ []) }
+    ensures some { IfOk result (λ found. IfSome found (λ _. initial_states task.now ≢ [])) }
+    ensures plan { IfOk result (λ found. IfSome found
+        (λ shown. IsChainResult task.now chain.now (shown_of shown))) }
     ensures full { IsErrOf result SetErr.Full
         → IsTightLimit (length chain.now.stages.items) nodes (system_of task.now) }
 {
     match search_chain(alloc, nodes, task, chain)? {
-        FoundAuto::Plan(plan) => {
+        Some(FoundAuto::Plan(plan)) => {
             let text = text_of_plan(alloc, &Plan::Auto(plan), task)?;
-            Ok(Shown::Affirmed(text))
+            Ok(Some(Shown::Affirmed(text)))
         }
-        FoundAuto::NoPlan => Ok(Shown::Denied(Text::Fixed("no plan\n"))),
+        Some(FoundAuto::NoPlan) => Ok(Some(Shown::Denied(Text::Fixed("no plan\n")))),
+        None => Ok(None),
     }
 }

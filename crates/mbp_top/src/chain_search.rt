@@ -1,32 +1,36 @@
 //! The search for the plan with contexts of a chain, in two tries.
 
 ghost use Rattle.chain_plan.specs.Chains.{IsChainOver};
+ghost use Rattle.dd_sets.specs.Rooms.{IsTightFor};
+ghost use Rattle.encode_task.specs.Made.{MadeOf};
 ghost use Rattle.mbp_top.specs.Enough.{IsTightLimit};
-ghost use Rattle.mbp_top.specs.FoundChains.{IsChainSearched};
+ghost use Rattle.mbp_top.specs.FoundChains.{IsChainSearchedFrom};
 ghost use Rattle.mbp_top.specs.Words.{IsNodeLimit};
-ghost use Rattle.std.specs.Prelude.{IsErrOf, length};
-ghost use Rattle.task_core.specs.Tasks.{fluent_count, system_of};
+ghost use Rattle.std.specs.Prelude.{◌+◌, ◌*◌, IsErrOf, length};
+ghost use Rattle.task_core.specs.Tasks.{action_count, fluent_count, system_of};
 
+use crate::initial_states::has_no_initial;
 use crate::ordered_sets::encode_ordered;
 use chain_plan::{FoundAuto, plan_chain};
 use ctl_syntax::Chain;
 use dd_sets::{SetErr, no_room_is_tight, tight_is_monotone};
-use encode_task::encode;
+use encode_task::{Enc, encode};
 use std::alloc::Global;
 use task_core::Task;
 
 /// What is found for a task and a chain, in a table for so many nodes: over variables in an order
 /// that is chosen for the task, and where that fails, once more from nothing, over the fluents in
 /// their own order. What is found is the same in either order, and a refusal is that of the second.
+/// `None` where there is no initial state.
 pub(crate) fn search_chain(
     alloc: Global,
     nodes: u32,
     task: &Task,
     chain: &Chain,
-) -> Result<FoundAuto, SetErr>
+) -> Result<Option<FoundAuto>, SetErr>
     requires room { IsNodeLimit nodes }
     requires chain { IsChainOver (fluent_count task.now) chain.now }
-    ensures found { IsChainSearched task.now chain.now result }
+    ensures found { IsChainSearchedFrom task.now chain.now result }
     ensures full { IsErrOf result SetErr.Full
         → IsTightLimit (length chain.now.stages.items) nodes (system_of task.now) }
 {
@@ -43,13 +47,13 @@ fn search_in_order(
     nodes: u32,
     task: &Task,
     chain: &Chain,
-) -> Result<FoundAuto, SetErr>
+) -> Result<Option<FoundAuto>, SetErr>
     requires room { IsNodeLimit nodes }
     requires chain { IsChainOver (fluent_count task.now) chain.now }
-    ensures found { IsChainSearched task.now chain.now result }
+    ensures found { IsChainSearchedFrom task.now chain.now result }
 {
     let mut enc = encode_ordered(alloc, task, nodes)?;
-    plan_chain(alloc, task, &mut enc, chain)
+    chain_from_initial(alloc, task, &mut enc, chain)
 }
 
 /// The second try: over the fluents in their own order.
@@ -58,17 +62,39 @@ fn search_plainly(
     nodes: u32,
     task: &Task,
     chain: &Chain,
-) -> Result<FoundAuto, SetErr>
+) -> Result<Option<FoundAuto>, SetErr>
     requires room { IsNodeLimit nodes }
     requires chain { IsChainOver (fluent_count task.now) chain.now }
-    ensures found { IsChainSearched task.now chain.now result }
+    ensures found { IsChainSearchedFrom task.now chain.now result }
     ensures full { IsErrOf result SetErr.Full
         → IsTightLimit (length chain.now.stages.items) nodes (system_of task.now) }
 {
-    // These do nothing: that few nodes are too few for more sets, and that the limit is tight where
-    // there was no room, rests on what they promise.
+    // This does nothing: that few nodes are too few for more sets rests on what it promises.
     tight_is_monotone();
-    no_room_is_tight();
     let mut enc = encode(alloc, task, nodes)?;
-    plan_chain(alloc, task, &mut enc, chain)
+    chain_from_initial(alloc, task, &mut enc, chain)
+}
+
+/// The plan with contexts of a task for a chain, over the task's sets, or `None` where there is no
+/// initial state.
+fn chain_from_initial(
+    alloc: Global,
+    task: &Task,
+    enc: &mut Enc,
+    chain: &Chain,
+) -> Result<Option<FoundAuto>, SetErr>
+    requires made { MadeOf task.now enc.old }
+    requires chain { IsChainOver (fluent_count task.now) chain.now }
+    ensures found { IsChainSearchedFrom task.now chain.now result }
+    ensures full { let stages = length chain.now.stages.items in
+        IsErrOf result SetErr.Full
+        → IsTightFor (action_count task.now * (stages + 3) + 8 * stages + 236) enc.old.sets }
+{
+    // This does nothing: that the limit is tight where there was no room rests on what it promises.
+    no_room_is_tight();
+    if has_no_initial(task, enc) {
+        return Ok(None);
+    }
+    let found = plan_chain(alloc, task, enc, chain)?;
+    Ok(Some(found))
 }

@@ -16,6 +16,7 @@ ghost use Rattle.mbp_top.specs.CheckCommand.{
 };
 ghost use Rattle.mbp_top.specs.Fetching.{FetchesFiles, Stops};
 ghost use Rattle.mbp_top.specs.Grounding.{GoalThen, GroundThen, has_goal_for};
+ghost use Rattle.mbp_top.specs.InitialStates.{InitialThen, empty_init};
 ghost use Rattle.mbp_top.specs.Judged.{HasGoalIn, IsTaskVerdict};
 ghost use Rattle.mbp_top.specs.PlanFiles.{KindThen, is_of_kind};
 ghost use Rattle.mbp_top.specs.Values.{answer_of, check_words_of, kind_of, placed_of, shown_of};
@@ -41,10 +42,11 @@ ghost use Rattle.std.specs.Prelude.{
   true,
   ℕ,
 };
-ghost use Rattle.task_core.specs.Tasks.{action_count, fluent_count, system_of};
+ghost use Rattle.task_core.specs.Tasks.{action_count, fluent_count, initial_states, system_of};
 
 use crate::answers::{Limit, Refusal, Shown, Text};
 use crate::grounding::{check_goal, goal_in, ground_both};
+use crate::initial_states::no_initial;
 use crate::pddl_texts::read_both;
 use crate::plan_files::read_plan_file;
 use crate::words::{CheckWords, PlanKind};
@@ -110,13 +112,14 @@ fn check_problem<S: Shelf>(
     check_goal(alloc, asked.kind, asked.problem, problem)?;
     let grounded = ground_both(alloc, domain, problem)?;
     let read = read_plan_file(alloc, shelf, asked.plan, &grounded.task)?;
-    judge_plan(alloc, asked, &grounded, &read)
+    judge_plan(alloc, asked, problem, &grounded, &read)
 }
 
 /// The verdict on a plan that was read.
 fn judge_plan(
     alloc: Global,
     asked: &CheckWords,
+    problem: &Problem,
     grounded: &Grounded,
     read: &PlanRead,
 ) -> Result<Shown, Refusal>
@@ -131,7 +134,9 @@ fn judge_plan(
         ⊎ KindThen kind asked.now.plan.now placed.place placed.plan
         (ExploreThen (HasTooManyInitial grounded.now.task most_followed)
         (system_of grounded.now.task) placed.plan
-        (ShowsVerdict (IsTaskVerdict kind grounded.now.task grounded.now.ctl placed.plan)))
+        (InitialThen (empty_init asked.now.problem.now (problem_value problem.now))
+        (initial_states grounded.now.task)
+        (ShowsVerdict (IsTaskVerdict kind grounded.now.task grounded.now.ctl placed.plan))))
         (answer_of result) }
 {
     if !is_plan_of_kind(asked.kind, &read.plan) {
@@ -143,7 +148,14 @@ fn judge_plan(
             },
         ));
     }
-    judge(alloc, asked.kind, grounded, &read.plan)
+    judge(
+        alloc,
+        asked.kind,
+        asked.problem,
+        problem,
+        grounded,
+        &read.plan,
+    )
 }
 
 /// Whether the plan is of the kind.
@@ -157,10 +169,12 @@ fn is_plan_of_kind(kind: PlanKind, plan: &Plan) -> bool
     }
 }
 
-/// The verdict on a plan of the kind.
+/// The verdict on a plan of the kind, for the problem in the file of this name.
 pub fn judge(
     alloc: Global,
     kind: PlanKind,
+    name: &str,
+    problem: &Problem,
     grounded: &Grounded,
     plan: &Plan,
 ) -> Result<Shown, Refusal>
@@ -173,11 +187,16 @@ pub fn judge(
     ensures { (answer_of result ≡ refused no_memory)
         ⊎ ExploreThen (HasTooManyInitial grounded.now.task most_followed)
         (system_of grounded.now.task) (plain_of plan.now)
+        (InitialThen (empty_init name.now (problem_value problem.now))
+        (initial_states grounded.now.task)
         (ShowsVerdict (IsTaskVerdict (kind_of kind) grounded.now.task grounded.now.ctl
-        (plain_of plan.now))) (answer_of result) }
+        (plain_of plan.now)))) (answer_of result) }
 {
     match explore(alloc, &grounded.task, plan) {
         Ok(graph) => {
+            if graph.len() == 0 {
+                return Err(no_initial(alloc, name, problem)?);
+            }
             let verdict = verdict_on(alloc, kind, grounded, &graph)?;
             Ok(show_verdict(alloc, &verdict)?)
         }

@@ -4,11 +4,12 @@ ghost use Rattle.dd_sets.specs.Frames.{Owns};
 ghost use Rattle.dd_sets.specs.Rooms.{IsTightFor};
 ghost use Rattle.encode_task.specs.Made.{MadeOf};
 ghost use Rattle.mbp_top.specs.Enough.{IsTightLimit};
-ghost use Rattle.mbp_top.specs.FoundPlans.{IsSearched};
+ghost use Rattle.mbp_top.specs.FoundPlans.{IsSearched, IsSearchedFrom};
 ghost use Rattle.mbp_top.specs.Words.{IsNodeLimit};
 ghost use Rattle.std.specs.Prelude.{◌+◌, ◌*◌, [], IsErrOf, IsSome};
 ghost use Rattle.task_core.specs.Tasks.{action_count, system_of};
 
+use crate::initial_states::has_no_initial;
 use crate::ordered_sets::encode_ordered;
 use cyclic_plan::plan_cyclic;
 use dd_sets::{SetErr, no_room_is_tight, tight_is_monotone};
@@ -21,16 +22,17 @@ use task_core::{Task, tasks_have_systems};
 
 /// What is found for a task, in a table for so many nodes: over variables in an order that is chosen
 /// for the task, and where that fails, once more from nothing, over the fluents in their own order.
-/// What is found is the same in either order, and a refusal is that of the second.
+/// What is found is the same in either order, and a refusal is that of the second. `None` where there
+/// is no initial state.
 pub(crate) fn search_task(
     alloc: Global,
     class: Class,
     nodes: u32,
     task: &Task,
-) -> Result<Found, SetErr>
+) -> Result<Option<Found>, SetErr>
     requires room { IsNodeLimit nodes }
     requires goal { IsSome task.now.goal }
-    ensures found { IsSearched class task.now result }
+    ensures found { IsSearchedFrom class task.now result }
     ensures full { IsErrOf result SetErr.Full → IsTightLimit 0 nodes (system_of task.now) }
 {
     match search_in_order(alloc, class, nodes, task) {
@@ -41,26 +43,56 @@ pub(crate) fn search_task(
 
 /// The first try: over variables in an order that is chosen for the task. Nothing is said of why it
 /// fails.
-fn search_in_order(alloc: Global, class: Class, nodes: u32, task: &Task) -> Result<Found, SetErr>
+fn search_in_order(
+    alloc: Global,
+    class: Class,
+    nodes: u32,
+    task: &Task,
+) -> Result<Option<Found>, SetErr>
     requires room { IsNodeLimit nodes }
     requires goal { IsSome task.now.goal }
-    ensures found { IsSearched class task.now result }
+    ensures found { IsSearchedFrom class task.now result }
 {
     let mut enc = encode_ordered(alloc, task, nodes)?;
-    find_plan(alloc, class, task, &mut enc)
+    find_from_initial(alloc, class, task, &mut enc)
 }
 
 /// The second try: over the fluents in their own order.
-fn search_plainly(alloc: Global, class: Class, nodes: u32, task: &Task) -> Result<Found, SetErr>
+fn search_plainly(
+    alloc: Global,
+    class: Class,
+    nodes: u32,
+    task: &Task,
+) -> Result<Option<Found>, SetErr>
     requires room { IsNodeLimit nodes }
     requires goal { IsSome task.now.goal }
-    ensures found { IsSearched class task.now result }
+    ensures found { IsSearchedFrom class task.now result }
     ensures full { IsErrOf result SetErr.Full → IsTightLimit 0 nodes (system_of task.now) }
 {
     // This does nothing: that few nodes are too few for more sets rests on what it promises.
     tight_is_monotone();
     let mut enc = encode(alloc, task, nodes)?;
-    find_plan(alloc, class, task, &mut enc)
+    find_from_initial(alloc, class, task, &mut enc)
+}
+
+/// The plan for a task, over its sets, or `None` where there is no initial state.
+fn find_from_initial(
+    alloc: Global,
+    class: Class,
+    task: &Task,
+    enc: &mut Enc,
+) -> Result<Option<Found>, SetErr>
+    requires made { MadeOf task.now enc.old }
+    requires goal { IsSome task.now.goal }
+    ensures found { IsSearchedFrom class task.now result }
+    ensures full { IsErrOf result SetErr.Full
+        → IsTightFor (3 * action_count task.now + 32) enc.old.sets }
+{
+    if has_no_initial(task, enc) {
+        return Ok(None);
+    }
+    let found = find_plan(alloc, class, task, enc)?;
+    Ok(Some(found))
 }
 
 /// The plan for a task, over its sets, which stay the sets of the task.

@@ -2,7 +2,7 @@
 //!
 //! `specs/` says what the call answers: `Words` the commands, `Answers` each answer with its status
 //! and its text, `Reading` how a command reads its files, `PddlTexts` which domain and problem they
-//! spell, `Grounding` the limits, `PlanCommand`, `GroundCommand`, `CheckCommand`, `ReplayCommand` and
+//! spell, `Grounding` the limits, `InitialStates` that there is an initial state, `PlanCommand`, `GroundCommand`, `CheckCommand`, `ReplayCommand` and
 //! `DrillCommand` the answers of `plan`, `ground`, `check`, `replay` and `drill`, `Enough` how many
 //! nodes are enough for a plan, `PlanFiles` how a plan is read, `Causes` the cause of each answer,
 //! `Told` what the words and the files alone decide, `Delivery` what is written, `Meets` when a plan
@@ -20,6 +20,7 @@ mod drill_command;
 mod files;
 mod ground_command;
 mod grounding;
+mod initial_states;
 mod laws;
 mod ordered_sets;
 mod pddl_texts;
@@ -42,7 +43,9 @@ pub use laws::{
     reasons_come_at_no, shelves_stay_quiet, sinks_stay_quiet, statuses_are_ten, traces_are_written,
     unread_files_are_named,
 };
+pub use ordered_sets::encode_ordered;
 pub use pddl_texts::read_both;
 pub use plan_command::plan_grounded;
+pub use plan_files::read_plan_file;
 pub use top::run;
 pub use words::{PlanKind, PlanOptions, PlanWords, plan_words};

@@ -12,7 +12,7 @@ use task_core::Task;
 
 /// The sets of a task, in a table for so many nodes, over variables in the order that is chosen for
 /// the task. Nothing is said of why it fails.
-pub(crate) fn encode_ordered(alloc: Global, task: &Task, nodes: u32) -> Result<Enc, SetErr>
+pub fn encode_ordered(alloc: Global, task: &Task, nodes: u32) -> Result<Enc, SetErr>
     requires room { IsNodeLimit nodes }
     ensures made { IfOk result (λ enc. MadeOf task.now enc) }
 {

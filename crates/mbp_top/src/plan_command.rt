@@ -19,22 +19,27 @@ ghost use Rattle.plan_rules.specs.Plans.{IsPlanOf, plan_text};
 ghost use Rattle.plan_rules.specs.Readings.{SpellsPlan};
 ghost use Rattle.std.specs.Prelude.{
   ◌≡◌,
+  ◌≢◌,
   ◌≤◌,
   ◌⊎◌,
+  [],
   IfOk,
+  IfSome,
   IsErrOf,
   IsSome,
   List,
+  None,
   length,
   true,
   ℕ,
 };
-ghost use Rattle.task_core.specs.Tasks.{action_names, fluent_names, system_of};
+ghost use Rattle.task_core.specs.Tasks.{action_names, fluent_names, initial_states, system_of};
 
 use crate::answers::{Refusal, Shown, Text};
 use crate::chain_command::plan_contexts;
 use crate::class_search::search_task;
 use crate::grounding::{check_goal, ground_both};
+use crate::initial_states::no_initial;
 use crate::pddl_texts::read_both;
 use crate::words::{PlanKind, PlanWords};
 use dd_sets::SetErr;
@@ -136,26 +141,34 @@ fn plan_class(
         (answer_of result) }
 {
     match plan_task(alloc, class, asked.options.nodes, task) {
-        Ok(shown) => Ok(shown),
+        Ok(Some(shown)) => Ok(shown),
+        Ok(None) => Err(no_initial(alloc, asked.problem, problem)?),
         Err(SetErr::Full) => Err(Refusal::Full(asked.options.nodes)),
         Err(SetErr::Memory) => Err(Refusal::NoMemory),
     }
 }
 
-/// The plan for a task, found in a table for so many nodes.
-fn plan_task(alloc: Global, class: Class, nodes: u32, task: &Task) -> Result<Shown, SetErr>
+/// The plan for a task, found in a table for so many nodes, or `None` where there is no initial
+/// state.
+fn plan_task(alloc: Global, class: Class, nodes: u32, task: &Task) -> Result<Option<Shown>, SetErr>
     requires room { IsNodeLimit nodes }
     requires goal { IsSome task.now.goal }
-    ensures plan { IfOk result
+    ensures none { IfOk result (λ found. found ≡ None → initial_states task.now ≡ []) }
+    ensures some { IfOk result (λ found. IfSome found (λ _. initial_states task.now ≢ [])) }
+    ensures plan { IfOk result (λ found. IfSome found
         (λ shown. IsTableResult class (system_of task.now) (fluent_names task.now)
-        (action_names task.now) (shown_of shown)) }
+        (action_names task.now) (shown_of shown))) }
     ensures full { IsErrOf result SetErr.Full → IsTightLimit 0 nodes (system_of task.now) }
 {
     // This does nothing: that the rules can be followed rests on what it promises.
     tasks_have_systems(task);
     match search_task(alloc, class, nodes, task)? {
-        Found::Plan(table) => Ok(Shown::Affirmed(text_of_plan(alloc, &Plan::Table(table), task)?)),
-        Found::NoPlan => Ok(Shown::Denied(Text::Fixed("no plan\n"))),
+        Some(Found::Plan(table)) => {
+            let text = text_of_plan(alloc, &Plan::Table(table), task)?;
+            Ok(Some(Shown::Affirmed(text)))
+        }
+        Some(Found::NoPlan) => Ok(Some(Shown::Denied(Text::Fixed("no plan\n")))),
+        None => Ok(None),
     }
 }
 

@@ -19,7 +19,7 @@ use std::alloc::Global;
 use task_core::Task;
 
 /// The plan for a task in a file.
-pub(crate) fn read_plan_file<S: Shelf>(
+pub fn read_plan_file<S: Shelf>(
     alloc: Global,
     shelf: &mut S,
     name: &str,

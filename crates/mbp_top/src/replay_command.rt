@@ -12,6 +12,7 @@ ghost use Rattle.mbp_top.specs.Fetching.{
   Stops,
 };
 ghost use Rattle.mbp_top.specs.Grounding.{GroundThen};
+ghost use Rattle.mbp_top.specs.InitialStates.{empty_init};
 ghost use Rattle.mbp_top.specs.ReplayCommand.{
   FirstThen,
   IsFirstState,
@@ -64,6 +65,7 @@ ghost use Rattle.task_core.specs.Tasks.{
 
 use crate::answers::{Limit, Refusal, Shown, Text};
 use crate::grounding::grounded;
+use crate::initial_states::no_initial;
 use crate::pddl_texts::read_both;
 use crate::plan_files::read_plan_file;
 use crate::record_files::read_record_file;
@@ -142,7 +144,7 @@ fn replay_problem<S: Shelf>(
     ensures later { S.faults shelf.old ≤ S.faults shelf.new }
 {
     let task = grounded(alloc, domain, problem)?;
-    replay_task(alloc, shelf, asked, &task, world, monitors)
+    replay_task(alloc, shelf, asked, problem, &task, world, monitors)
 }
 
 /// The run for a task.
@@ -150,6 +152,7 @@ fn replay_task<S: Shelf>(
     alloc: Global,
     shelf: &mut S,
     asked: &ReplayWords,
+    problem: &Problem,
     task: &Task,
     world: &mut Box<dyn World>,
     monitors: &mut Vec<Box<dyn Monitor>>,
@@ -160,7 +163,9 @@ fn replay_task<S: Shelf>(
         ⊎ ReplayThen (S.held shelf.old) failed
         (tallies_of (map (λ monitor. shown monitor) monitors.old.items))
         (replay_words_of asked.now) (fluent_names task.now) (action_names task.now)
-        (HasTooManyInitial task.now most_followed) (system_of task.now) (answer_of result) }
+        (HasTooManyInitial task.now most_followed)
+        (empty_init asked.now.problem.now (problem_value problem.now)) (system_of task.now)
+        (answer_of result) }
     ensures fetches { let failed = FailedLast S.fetched S.faults shelf.old shelf.new in
         FetchRecord S.fetched (replay_words_of asked.now)
         (RefusesPlan (S.held shelf.old) failed (fluent_names task.now) (action_names task.now)
@@ -173,21 +178,16 @@ fn replay_task<S: Shelf>(
 {
     let read = read_plan_file(alloc, shelf, asked.plan, task)?;
     replay_plan(
-        alloc,
-        shelf,
-        asked.recorded,
-        task,
-        &read.plan,
-        world,
-        monitors,
+        alloc, shelf, asked, problem, task, &read.plan, world, monitors,
     )
 }
 
-/// The run of a plan of the task, under the record in the file of this name.
+/// The run of a plan of the task, under the record in its file.
 fn replay_plan<S: Shelf>(
     alloc: Global,
     shelf: &mut S,
-    name: &str,
+    asked: &ReplayWords,
+    problem: &Problem,
     task: &Task,
     plan: &Plan,
     world: &mut Box<dyn World>,
@@ -199,21 +199,23 @@ fn replay_plan<S: Shelf>(
         (answer_of result ≡ refused no_memory)
         ⊎ RecordThen (S.held shelf.old) failed
         (tallies_of (map (λ monitor. shown monitor) monitors.old.items))
-        name.now (action_names task.now) (HasTooManyInitial task.now most_followed)
+        asked.now.recorded.now (action_names task.now) (HasTooManyInitial task.now most_followed)
+        (empty_init asked.now.problem.now (problem_value problem.now))
         (system_of task.now) (plain_of plan.now) (answer_of result) }
-    ensures fetches { Fetches S.fetched (name.now ∷ []) shelf.old shelf.new }
+    ensures fetches { Fetches S.fetched (asked.now.recorded.now ∷ []) shelf.old shelf.new }
     ensures quiet_at { IsQuietAt (answer_of result) (S.faults shelf.old) (S.faults shelf.new) }
     ensures kept { (file : List ℕ) → S.held shelf.new file ≡ S.held shelf.old file }
     ensures later { S.faults shelf.old ≤ S.faults shelf.new }
 {
-    let recorded = read_record_file(alloc, shelf, name)?;
-    replay_record(alloc, name, task, plan, recorded, world, monitors)
+    let recorded = read_record_file(alloc, shelf, asked.recorded)?;
+    replay_record(alloc, asked, problem, task, plan, recorded, world, monitors)
 }
 
-/// The run of a plan of the task, under a record that was read out of the file of this name.
+/// The run of a plan of the task, under a record that was read out of its file.
 fn replay_record(
     alloc: Global,
-    name: &str,
+    asked: &ReplayWords,
+    problem: &Problem,
     task: &Task,
     plan: &Plan,
     recorded: Recorded,
@@ -224,22 +226,24 @@ fn replay_record(
     requires untold { All (λ monitor. (shown monitor).counted ≡ 0) monitors.old.items }
     ensures { let sys = system_of task.now in
         (answer_of result ≡ refused no_memory)
-        ⊎ FirstThen (HasTooManyInitial task.now most_followed) sys.initial name.now
-        (record_value recorded)
+        ⊎ FirstThen (HasTooManyInitial task.now most_followed)
+        (empty_init asked.now.problem.now (problem_value problem.now)) sys.initial
+        asked.now.recorded.now (record_value recorded)
         (λ first. IsReplayed
         (tallies_of (map (λ monitor. shown monitor) monitors.old.items))
         sys (action_names task.now)
         (trace_under sys (plain_of plan.now) first recorded.words.items)) (answer_of result) }
 {
-    let first = first_state(alloc, name, task, &recorded)?;
+    let first = first_state(alloc, asked, problem, task, &recorded)?;
     load_world(alloc, world, recorded.words)?;
     show_run(alloc, task, plan, first, world, monitors)
 }
 
-/// The initial state whose number begins a record that was read out of the file of this name.
+/// The initial state whose number begins a record that was read out of its file.
 fn first_state(
     alloc: Global,
-    name: &str,
+    asked: &ReplayWords,
+    problem: &Problem,
     task: &Task,
     recorded: &Recorded,
 ) -> Result<State, Refusal>
@@ -248,20 +252,27 @@ fn first_state(
     ensures within { IfOk result (IsWithin (fluent_count task.now)) }
     ensures few { OnOk result (HasTooManyInitial task.now most_followed → ⊥) }
     ensures refused { IfErr result (λ refusal. (refused (refusal_of refusal) ≡ refused no_memory)
-        ⊎ FirstThen (HasTooManyInitial task.now most_followed) (initial_states task.now) name.now
-        (record_value recorded.now) (λ first answer. ⊥) (refused (refusal_of refusal))) }
+        ⊎ FirstThen (HasTooManyInitial task.now most_followed)
+        (empty_init asked.now.problem.now (problem_value problem.now)) (initial_states task.now)
+        asked.now.recorded.now (record_value recorded.now) (λ first answer. ⊥)
+        (refused (refusal_of refusal))) }
 {
     match init_states(alloc, task, MOST_INITIAL) {
-        Ok(states) => match states.get(recorded.first as usize) {
-            Some(state) => Ok(*state),
-            None => Err(Refusal::TextFault(
-                String::from_str(alloc, name)?,
-                InputFault {
-                    kind: FaultKind::BadNumber,
-                    place: recorded.first_place,
-                },
-            )),
-        },
+        Ok(states) => {
+            if states.is_empty() {
+                return Err(no_initial(alloc, asked.problem, problem)?);
+            }
+            match states.get(recorded.first as usize) {
+                Some(state) => Ok(*state),
+                None => Err(Refusal::TextFault(
+                    String::from_str(alloc, asked.recorded)?,
+                    InputFault {
+                        kind: FaultKind::BadNumber,
+                        place: recorded.first_place,
+                    },
+                )),
+            }
+        }
         Err(InitErr::TooMany) => Err(Refusal::OverLimit(Limit::Initial)),
         Err(InitErr::Memory) => Err(Refusal::NoMemory),
     }

@@ -26,7 +26,7 @@ ghost use Rattle.pddl_system.specs.Sizes.{first_passed};
 ghost use Rattle.pddl_system.specs.Systems.{action_names, fluent_names, system};
 ghost use Rattle.plan_rules.specs.Rules.{PlainPlan};
 ghost use Rattle.std.specs.Io.KnownBytes.{append_known};
-ghost use Rattle.std.specs.Prelude.{◌≡◌, ◌⊎◌, All, None, map, string_bytes, true};
+ghost use Rattle.std.specs.Prelude.{◌≡◌, ◌≢◌, ◌⊎◌, [], All, None, map, string_bytes, true};
 
 use crate::laws::texts_are_read_one_way;
 use crate::runs::carry_out;
@@ -61,8 +61,8 @@ use std::alloc::Global;
 /// - 1: there is no plan of the kind, or the plan is none of it;
 /// - 2: the words are no command;
 /// - 3: a file spells no domain, no problem of it, no plan or no record, the problem's goal or the
-///   plan isn't of the kind, the goal to plan for is no chain, or the record's first number is that
-///   of no initial state, with the place of the fault;
+///   plan isn't of the kind, the goal to plan for is no chain, the problem has no initial state, or
+///   the record's first number is that of none, with the place of the fault;
 /// - 4: a limit is passed: a file is longer than 1,048,576 bytes, there is too much to ground or to
 ///   follow, or a chain has more than 32 stages;
 /// - 5: the table of diagram nodes is full before a plan is found, or that there is none (`plan` and
@@ -137,13 +137,14 @@ pub fn run<S: Shelf, O: Sink, E: Sink>(
         × HasNoPlan asked.kind domain problem
         × (O.written out.new ≡ append_known (O.written out.old) no_plan_text) }
 
-    // `plan` of two files that spell a problem within the limits, with a goal of the kind (a goal
-    // in computation tree logic being a chain of few stages) and enough nodes: there is a plan or
-    // there is none, if no fault comes.
+    // `plan` of two files that spell a problem within the limits, with an initial state, a goal of
+    // the kind (a goal in computation tree logic being a chain of few stages) and enough nodes: there
+    // is a plan or there is none, if no fault comes.
     ensures plan_complete { (asked : PlanWords) (domain : DomainTree) (problem : ProblemTree)
         → SaysPlan (map string_bytes words.now) asked
         → HoldBoth (S.held shelf.old) asked.domain asked.problem domain problem
         → is_sought asked.kind problem ≡ true → first_passed domain problem ≡ None
+        → (system domain problem).initial ≢ []
         → (IsTightLimit (stages_for asked.kind problem) asked.options.nodes
         (system domain problem) → ⊥)
         → AreFilesTold (S.held shelf.old) (map string_bytes words.now)
@@ -152,13 +153,14 @@ pub fn run<S: Shelf, O: Sink, E: Sink>(
         → NoFault (E.faults err.old) (E.faults err.new)
         → (result ≡ 0) ⊎ (result ≡ 1) ⊎ (result ≡ 8) }
 
-    // `check` of files that spell a problem within the limits, with a goal for plans of the kind,
-    // and a plan of the kind that reaches few configurations: yes exactly where the plan meets the
-    // goal, if no fault comes.
+    // `check` of files that spell a problem within the limits, with an initial state and a goal for
+    // plans of the kind, and a plan of the kind that reaches few configurations: yes exactly where
+    // the plan meets the goal, if no fault comes.
     ensures check_exact { (asked : CheckWords) (domain : DomainTree) (problem : ProblemTree)
         (plan : PlainPlan) → SaysCheck (map string_bytes words.now) asked
         → HoldBoth (S.held shelf.old) asked.domain asked.problem domain problem
         → has_goal_for asked.kind problem ≡ true → first_passed domain problem ≡ None
+        → (system domain problem).initial ≢ []
         → HoldsPlan (S.held shelf.old) (fluent_names domain problem)
         (action_names domain problem) asked.plan plan
         → is_of_kind asked.kind plan ≡ true

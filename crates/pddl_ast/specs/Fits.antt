@@ -146,7 +146,8 @@ pub record FitsSchema (known : Known) (s : SchemaTree) : Type 0 where
   pub effect_depth : effect_depth s.effect ≤ deepest
 
 -- a domain as its reader gives it. The chain of parents of every type comes to `object`, which is
--- type 0 and its own parent. A type's name may be any word but `-`
+-- type 0 and its own parent. A type's name may be any word but `-`. The invariant has no free
+-- variables
 pub record FitsDomain (d : DomainTree) : Type 0 where
   pub name : is_name d.name ≡ true
   pub type_words : All (λ w. is_dash w ≡ false) d.type_names
@@ -162,6 +163,8 @@ pub record FitsDomain (d : DomainTree) : Type 0 where
   pub predicates_differ : AreDistinct (known_in d).predicates
   pub actions : All (FitsSchema (known_in d)) d.actions
   pub actions_differ : AreDistinct (map (λ (s : SchemaTree). s.name) d.actions)
+  pub invariant : FitsFormula (known_in d) d.invariant 0
+  pub invariant_depth : formula_depth d.invariant ≤ deepest
 
 -- an atom over constants and objects
 abbrev pub FitsGroundAtom : Known → AtomTree → Type 0

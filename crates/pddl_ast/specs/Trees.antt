@@ -79,6 +79,7 @@ pub record DomainTree : Type 0 where
   pub constants : List Named
   pub predicates : List Predicate
   pub actions : List SchemaTree
+  pub invariant : FormulaTree
 
 pub record AtomTree : Type 0 where
   pub predicate : ℕ

@@ -84,6 +84,7 @@ domain_value d =
       predicates = d.predicates.items;
       actions = map schema_value
           d.actions.items;
+      invariant = formula_value d.invariant;
     }
 
 abbrev pub atom_value : GroundAtom → AtomTree

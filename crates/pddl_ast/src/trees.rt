@@ -136,7 +136,8 @@ pub struct Schema {
 }
 
 /// A planning domain. `type_names` and `parents` go together: type `k` has the name `type_names[k]`
-/// and the parent `parents[k]`. Type 0 is `object`, its own parent.
+/// and the parent `parents[k]`. Type 0 is `object`, its own parent. The states are where the
+/// invariant holds, which has no free variables.
 #[derive(Debug, Drop)]
 pub struct Domain {
     pub name: Text,
@@ -145,6 +146,8 @@ pub struct Domain {
     pub constants: Vec<Named>,
     pub predicates: Vec<Predicate>,
     pub actions: Vec<Schema>,
+    /// The formula that is true of everything, where the domain gives none.
+    pub invariant: Formula,
 }
 
 /// A predicate with an object for each of its terms.

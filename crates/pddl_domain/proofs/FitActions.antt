@@ -10,7 +10,7 @@ use Rattle.sexpr_text.specs.declared.faults.FaultKind.TheVariants.{BadForm, Doub
 use Rattle.sexpr_text.specs.Forest.{Forest, nothing, word, group}
 use Rattle.sexpr_text.specs.Formed.{nesting_of}
 use Rattle.sexpr_text.specs.Flaws.{flaw_at}
-use Rattle.sexpr_text.specs.Parts.{is_name, first_group_with, after_first}
+use Rattle.sexpr_text.specs.Parts.{is_name, first_group_with, after_first, begins_with}
 use Rattle.pddl_ast.specs.Known.{Known}
 use Rattle.pddl_ast.specs.Trees.{SchemaTree}
 use Rattle.pddl_ast.specs.Depth.{formula_depth, effect_depth}
@@ -22,7 +22,7 @@ use Rattle.pddl_ast.proofs.Fitting.{no_first, no_second, where_false, types-with
 use Rattle.pddl_domain.specs.declared.actions.Key.{Key}
 use Rattle.pddl_domain.specs.declared.actions.Key.TheVariants.{Parameters, Precondition, Effect, Other}
 use Rattle.pddl_ast.specs.Definitions.{title_of}
-use Rattle.pddl_domain.specs.Sections.{name_and_sections, section_kind}
+use Rattle.pddl_domain.specs.Sections.{name_and_sections, section_kind, section_named}
 use Rattle.pddl_domain.specs.Constants.{with_first_word}
 use Rattle.pddl_domain.specs.ActionParts.{in_turn}
 use Rattle.pddl_domain.specs.Actions as act
@@ -217,6 +217,13 @@ nest-first_group test (group span parts rest) n h =
     let inner : nesting_of parts ≤ n = omega arith in
     let others : nesting_of rest ≤ n = omega arith in
     pick n (test parts) span parts (first_group_with test rest) inner (nest-first_group test rest n others)
+
+nest-first_items : (n : ℕ) (o : Option (Span × Forest)) → GroupNests n o → nesting_of (option_map_or (λ (g : Span × Forest). after_first g.1) o nothing) ≤ n
+nest-first_items n None h = omega arith
+nest-first_items n (Some g) h = let less = nest-after_first g.1 in omega (arith, less, h)
+
+pub nest-section : (w : List ℕ) (sections : Forest) (n : ℕ) → nesting_of sections ≤ n → nesting_of (section_named w sections) ≤ n
+nest-section w sections n h = nest-first_items n (first_group_with (begins_with w) sections) (nest-first_group (begins_with w) sections n h)
 
 abbrev pub DefinitionNests : ℕ → Option (List ℕ × Forest) → Type 0
 DefinitionNests n None = Unit {0}

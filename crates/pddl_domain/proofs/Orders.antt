@@ -1,5 +1,5 @@
 -- Each pass over a domain's text lists its flaws in the order of the text.
-use Rattle.std.proofs.Common.{ℕ, suc, ◌+◌, ◌-◌, ◌<◌, ◌≤◌, Bool, true, false, not, ◌&&◌, List, [], ◌∷◌, ◌++◌, Option, Some, None, arith}
+use Rattle.std.proofs.Common.{ℕ, suc, ◌+◌, ◌-◌, ◌<◌, ◌≤◌, Bool, true, false, not, ◌&&◌, ◌||◌, List, [], ◌∷◌, ◌++◌, Option, Some, None, arith}
 use Rattle.std.specs.Prelude.{if◌then◌else◌, codes}
 use Rattle.std.specs.List.{list_any}
 use Rattle.std.specs.Str.{bytes_eq}
@@ -17,19 +17,21 @@ use Rattle.pddl_ast.specs.declared.typed_lists.Declares.TheVariants.{Types, Obje
 use Rattle.pddl_ast.specs.Words.{is_dash, is_reserved}
 use Rattle.pddl_ast.specs.Known.{Known}
 use Rattle.pddl_ast.specs.TypedLists.{typed_list_flaws, typed_groups}
-use Rattle.pddl_ast.specs.Formulas.{formulas_flaws}
+use Rattle.pddl_ast.specs.Formulas.{formula_flaws, formulas_flaws}
+use Rattle.pddl_ast.proofs.TreeOrders.{formula-in_order}
 use Rattle.pddl_ast.specs.Effects.{effects_flaws}
 use Rattle.pddl_domain.specs.declared.sections.Section.{Section}
-use Rattle.pddl_domain.specs.declared.sections.Section.TheVariants.{Requirements, Types as TypesSection, Constants, Predicates, Action, Other}
+use Rattle.pddl_domain.specs.declared.sections.Section.TheVariants.{Requirements, Types as TypesSection, Constants, Predicates, Invariant, Action, Other}
 use Rattle.pddl_domain.specs.declared.sections.Seen.{Seen}
 use Rattle.pddl_domain.specs.declared.actions.Key.{Key}
 use Rattle.pddl_domain.specs.declared.actions.Key.TheVariants.{Parameters, Precondition, Effect, Other as OtherKey}
 use Rattle.pddl_ast.specs.Definitions.{no_define}
-use Rattle.pddl_domain.specs.Sections.{definition, section_kind, seen_after, kind_flaws, sections_flaws, none_came, sections_of}
+use Rattle.pddl_domain.specs.Sections.{definition, section_kind, seen_after, is_one, kind_flaws, sections_flaws, none_came, sections_of}
 use Rattle.pddl_domain.specs.Types.{type_names, type_parents, is_looping, word_loop_flaws, loop_flaws_from}
 use Rattle.pddl_domain.specs.Constants.{predicate_name_flaws, variables_flaws, predicate_flaws, with_first_word, predicates_flaws}
+use Rattle.pddl_domain.specs.Invariant.{invariant_flaws}
 use Rattle.pddl_domain.specs.Actions as act
-use Rattle.pddl_domain.specs.Domains.{domain_passes, types_section, constants_section, predicates_section, types_in, known_of}
+use Rattle.pddl_domain.specs.Domains.{domain_passes, types_section, constants_section, predicates_section, invariant_section, types_in, known_of}
 use Rattle.pddl_domain.proofs.PassLemmas.{IsOrdered, AreOrdered, ordered-append}
 use Rattle.pddl_domain.proofs.Risen.{Risen, risen-section, risen-sections_of, risen-parts_of, ActionRisen, risen-action_in}
 
@@ -47,13 +49,15 @@ definition-ordered : (o : Option (List ℕ × Forest)) → IsOrdered (option_map
 definition-ordered None = record { lo = 0; hi = 1; order = (omega arith, omega arith) }
 definition-ordered (Some d) = record { lo = 0; hi = 0; order = omega arith }
 
-kind-ordered : (seen : Seen) (span : Span) (w : List ℕ) (kind : Section) (lo hi : ℕ) → lo ≤ span.start → span.start < hi → IsInOrder lo hi (kind_flaws seen span w kind)
-kind-ordered seen span w Requirements lo hi h g = omega arith
-kind-ordered seen span w TypesSection lo hi h g = maybe seen.types span BadForm lo hi h g
-kind-ordered seen span w Constants lo hi h g = maybe seen.constants span BadForm lo hi h g
-kind-ordered seen span w Predicates lo hi h g = maybe seen.predicates span BadForm lo hi h g
-kind-ordered seen span w Action lo hi h g = omega arith
-kind-ordered seen span w Other lo hi h g = (h, omega arith)
+kind-ordered : (seen : Seen) (span : Span) (w : List ℕ) (rest : Forest) (kind : Section) (lo hi : ℕ) → lo ≤ span.start → span.start < hi
+    → IsInOrder lo hi (kind_flaws seen span w rest kind)
+kind-ordered seen span w rest Requirements lo hi h g = omega arith
+kind-ordered seen span w rest TypesSection lo hi h g = maybe (seen.types || false) span BadForm lo hi h g
+kind-ordered seen span w rest Constants lo hi h g = maybe (seen.constants || false) span BadForm lo hi h g
+kind-ordered seen span w rest Predicates lo hi h g = maybe (seen.predicates || false) span BadForm lo hi h g
+kind-ordered seen span w rest Invariant lo hi h g = maybe (seen.invariant || not (is_one rest)) span BadForm lo hi h g
+kind-ordered seen span w rest Action lo hi h g = omega arith
+kind-ordered seen span w rest Other lo hi h g = (h, omega arith)
 
 sections-ordered : (forms : Forest) (seen : Seen) (lo hi : ℕ) → IsRising lo hi forms → IsInOrder lo hi (sections_flaws seen forms)
 sections-ordered nothing seen lo hi h = h
@@ -68,8 +72,8 @@ sections-ordered (group span (group s p r) rest) seen lo hi h =
     (h.0, in_order-from (suc span.start) span.end hi (sections_flaws seen rest) (omega arith) (sections-ordered rest seen span.end hi h.3))
 sections-ordered (group span (word s w r) rest) seen lo hi h =
     let ends : span.start + 2 ≤ span.end = h.1 in
-    in_order-append lo span.end hi (kind_flaws seen span w (section_kind w)) (sections_flaws (seen_after seen (section_kind w)) rest)
-    (kind-ordered seen span w (section_kind w) lo span.end h.0 (omega arith)) (sections-ordered rest (seen_after seen (section_kind w)) span.end hi h.3)
+    in_order-append lo span.end hi (kind_flaws seen span w r (section_kind w)) (sections_flaws (seen_after seen (section_kind w)) rest)
+    (kind-ordered seen span w r (section_kind w) lo span.end h.0 (omega arith)) (sections-ordered rest (seen_after seen (section_kind w)) span.end hi h.3)
 
 loops-ordered : (forms : Forest) (names : List (List ℕ)) (parents : List ℕ) (after_dash : Bool) (lo hi : ℕ) → IsRising lo hi forms → IsInOrder lo hi (loop_flaws_from names parents after_dash forms)
 loops-ordered nothing names parents after_dash lo hi h = h
@@ -115,6 +119,11 @@ predicates-ordered laws (group span parts rest) types before lo hi h =
     in_order-append lo span.end hi (predicate_flaws types before span parts) (predicates_flaws types (with_first_word before parts) rest)
     (predicate-ordered laws types before span parts lo h.0 h.1 h.2)
     (predicates-ordered laws rest types (with_first_word before parts) span.end hi h.3)
+
+invariant-ordered : (known : Known) (row : Forest) → Risen row → IsOrdered (invariant_flaws known row)
+invariant-ordered known nothing h = record { lo = 0; hi = 0; order = omega arith }
+invariant-ordered known (word span w rest) h = record { lo = span.start; hi = suc span.start; order = (omega arith, omega arith) }
+invariant-ordered known (group span parts rest) h = record { lo = span.start; hi = span.end; order = formula-in_order known parts span [] h.rising.1 h.rising.2 }
 
 key-ordered : (parts : act.Parts) (span : Span) (w : List ℕ) (key : Key) (lo hi : ℕ) → lo ≤ span.start → span.start < hi → IsInOrder lo hi (act.key_flaws parts span w key)
 key-ordered parts span w Parameters lo hi h g = maybe (act.is_given parts Parameters) span BadForm lo hi h g
@@ -213,7 +222,8 @@ domain-ordered laws forms h =
     let s = risen-sections_of forms h in
     let t = risen-section (codes ":types") sections s in
     let c = risen-section (codes ":constants") sections s in
-    let p = risen-section (codes ":predicates") sections s in (
+    let p = risen-section (codes ":predicates") sections s in
+    let i = risen-section (codes ":invariant") sections s in (
       definition-ordered (definition forms),
       (
         record { lo = s.lo; hi = s.hi; order = sections-ordered sections none_came s.lo s.hi s.rising },
@@ -229,7 +239,7 @@ domain-ordered laws forms h =
               record { lo = c.lo; hi = c.hi; order = laws.lists Objects (types_in sections) [] (constants_section sections) c.lo c.hi c.rising },
               (
                 record { lo = p.lo; hi = p.hi; order = predicates-ordered laws (predicates_section sections) (types_in sections) [] p.lo p.hi p.rising },
-                actions-ordered laws sections (known_of sections) [] s.lo s.hi s.rising,
+                (invariant-ordered (known_of sections) (invariant_section sections) i, actions-ordered laws sections (known_of sections) [] s.lo s.hi s.rising),
               ),
             ),
           ),

@@ -9,11 +9,12 @@ use Rattle.sexpr_text.proofs.FlawLaws.{in_order-first_of, listed-earlier}
 use Rattle.pddl_ast.specs.Known.{Known}
 use Rattle.pddl_domain.specs.Actions.{action_in, actions_passes, schemas_of, section_passes, names_after, section_schemas}
 use Rattle.pddl_domain.specs.ActionParts.{in_turn, section_flaws, section_names, section_actions, actions_flaws, all_actions}
-use Rattle.pddl_domain.specs.Domains.{domain_passes, domain_tree, types_section, constants_section, predicates_section, types_in, known_of}
-use Rattle.pddl_domain.specs.Reading.{typed_flaws, declared_flaws, vocabulary_flaws, contents_flaws, all_section_flaws, domain_flaws, tree_of}
+use Rattle.pddl_domain.specs.Domains.{domain_passes, domain_tree, types_section, constants_section, predicates_section, invariant_section, types_in, known_of}
+use Rattle.pddl_domain.specs.Reading.{typed_flaws, declared_flaws, vocabulary_flaws, stated_flaws, contents_flaws, all_section_flaws, domain_flaws, tree_of}
 use Rattle.pddl_domain.specs.Sections.{definition_flaws, defined_name, sections_of, sections_flaws, none_came}
 use Rattle.pddl_domain.specs.Types.{types_flaws, loop_flaws}
 use Rattle.pddl_domain.specs.Constants.{constants_flaws, predicates_flaws}
+use Rattle.pddl_domain.specs.Invariant.{invariant_flaws}
 
 -- a pass whose flaws are listed in the order of the text
 pub record IsOrdered (flaws : List Flaw) : Type 0 where
@@ -55,20 +56,21 @@ actions_read known nothing = refl
 actions_read known (word span w rest) = actions_read known rest
 actions_read known (group span parts rest) = ap (λ ss. section_schemas known (action_in parts) ++ ss) (actions_read known rest)
 
-regroup : (d s t l c p a : List Flaw) → d ++ (s ++ (((t ++ l) ++ (c ++ p)) ++ a)) ≡ d ++ (s ++ (t ++ (l ++ (c ++ (p ++ a)))))
-regroup d s t l c p a = simp append_assoc
+regroup : (d s t l c p i a : List Flaw) → d ++ (s ++ (((t ++ l) ++ (c ++ p)) ++ (i ++ a))) ≡ d ++ (s ++ (t ++ (l ++ (c ++ (p ++ (i ++ a))))))
+regroup d s t l c p i a = simp append_assoc
 
 -- the flaws of a text, as the reader meets them
 pub domain_in_turn : (forms : Forest) → domain_flaws forms ≡ in_turn (domain_passes forms)
-unfolding domain_flaws all_section_flaws contents_flaws vocabulary_flaws declared_flaws typed_flaws
+unfolding domain_flaws all_section_flaws contents_flaws stated_flaws vocabulary_flaws declared_flaws typed_flaws
 domain_in_turn forms =
     let sections = sections_of forms in
     regroup (definition_flaws forms) (sections_flaws none_came sections) (types_flaws (types_section sections)) (loop_flaws (types_section sections))
     (constants_flaws (types_in sections) (constants_section sections)) (predicates_flaws (types_in sections) [] (predicates_section sections))
-    (actions_flaws (known_of sections) [] sections)
+    (invariant_flaws (known_of sections) (invariant_section sections)) (actions_flaws (known_of sections) [] sections)
     ∙ ap
     (λ fs. definition_flaws forms ++ (sections_flaws none_came sections ++ (types_flaws (types_section sections) ++ (loop_flaws (types_section sections)
-    ++ (constants_flaws (types_in sections) (constants_section sections) ++ (predicates_flaws (types_in sections) [] (predicates_section sections) ++ fs))))))
+    ++ (constants_flaws (types_in sections) (constants_section sections) ++ (predicates_flaws (types_in sections) [] (predicates_section sections)
+    ++ (invariant_flaws (known_of sections) (invariant_section sections) ++ fs)))))))
     (actions_in_turn (known_of sections) sections [])
 
 pub tree_is : (forms : Forest) → tree_of (defined_name forms) (sections_of forms) ≡ domain_tree forms

@@ -1,4 +1,4 @@
--- The eighth pass over a domain's text: its actions, one after another. Each action has four parts,
+-- The ninth pass over a domain's text: its actions, one after another. Each action has four parts,
 -- and each part of each action is a pass of its own.
 use Rattle.std.specs.Prelude.{ℕ, ◌==◌, Bool, true, false, not, if◌then◌else◌, List, [], ◌∷◌, ◌++◌}
 use Rattle.std.specs.Prelude.{Option, Some, None, codes, slice_index}

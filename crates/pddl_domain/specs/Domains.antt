@@ -17,6 +17,7 @@ use Rattle.pddl_domain.specs.Sections.{none_came, section_named}
 use Rattle.pddl_domain.specs.Types.{types_flaws, loop_flaws, type_names, type_parents}
 use Rattle.pddl_domain.specs.Constants.{constants_flaws, constants_of, predicates_flaws}
 use Rattle.pddl_domain.specs.Constants.{predicates_of}
+use Rattle.pddl_domain.specs.Invariant.{invariant_flaws, invariant_of}
 use Rattle.pddl_domain.specs.Actions.{actions_passes, schemas_of}
 
 -- what follows the first words of the sections
@@ -29,11 +30,14 @@ constants_section sections = section_named (codes ":constants") sections
 abbrev pub predicates_section : Forest → Forest
 predicates_section sections = section_named (codes ":predicates") sections
 
+abbrev pub invariant_section : Forest → Forest
+invariant_section sections = section_named (codes ":invariant") sections
+
 -- the names of the types that the sections declare
 abbrev pub types_in : Forest → List (List ℕ)
 types_in sections = type_names (typed_groups (types_section sections))
 
--- what is known where the actions are read
+-- what is known where the invariant and the actions are read
 abbrev pub known_of : Forest → Known
 known_of sections = record {
   types = types_in sections;
@@ -50,6 +54,7 @@ section_passes sections =
     ∷ loop_flaws (types_section sections)
     ∷ constants_flaws (types_in sections) (constants_section sections)
     ∷ predicates_flaws (types_in sections) [] (predicates_section sections)
+    ∷ invariant_flaws (known_of sections) (invariant_section sections)
     ∷ actions_passes (known_of sections) [] sections
 
 -- all passes over the forms of a text
@@ -67,6 +72,7 @@ domain_tree forms =
       constants = constants_of (types_in sections) (constants_section sections);
       predicates = predicates_of (predicates_section sections);
       actions = schemas_of (known_of sections) sections;
+      invariant = invariant_of (known_of sections) (invariant_section sections);
     }
 
 -- the bytes spell forms that read as this domain

@@ -2,6 +2,7 @@ pub mod Ancestors
 pub mod Sections
 pub mod Types
 pub mod Constants
+pub mod Invariant
 pub mod Actions
 pub mod ActionParts
 pub mod Domains

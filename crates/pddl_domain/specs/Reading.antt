@@ -3,6 +3,7 @@
 use Rattle.std.specs.Prelude.{ℕ, List, [], ◌++◌}
 use Rattle.sexpr_text.specs.Forest.{Forest}
 use Rattle.sexpr_text.specs.Flaws.{Flaw}
+use Rattle.pddl_ast.specs.Known.{Known}
 use Rattle.pddl_ast.specs.Trees.{DomainTree}
 use Rattle.pddl_ast.specs.TypedLists.{typed_groups}
 use Rattle.pddl_domain.specs.Sections.{definition_flaws, sections_of, sections_flaws}
@@ -10,9 +11,10 @@ use Rattle.pddl_domain.specs.Sections.{none_came}
 use Rattle.pddl_domain.specs.Types.{types_flaws, loop_flaws, type_parents}
 use Rattle.pddl_domain.specs.Constants.{constants_flaws, constants_of, predicates_flaws}
 use Rattle.pddl_domain.specs.Constants.{predicates_of}
+use Rattle.pddl_domain.specs.Invariant.{invariant_flaws, invariant_of}
 use Rattle.pddl_domain.specs.ActionParts.{actions_flaws, all_actions}
 use Rattle.pddl_domain.specs.Domains.{types_section, constants_section, predicates_section}
-use Rattle.pddl_domain.specs.Domains.{types_in, known_of}
+use Rattle.pddl_domain.specs.Domains.{invariant_section, types_in, known_of}
 
 -- types, and loops of types
 unfoldable pub typed_flaws : Forest → List Flaw
@@ -24,14 +26,19 @@ declared_flaws types sections =
     constants_flaws types (constants_section sections)
     ++ predicates_flaws types [] (predicates_section sections)
 
--- all but the actions
+-- all that is declared besides the actions
 unfoldable pub vocabulary_flaws : Forest → List Flaw
 vocabulary_flaws sections =
     typed_flaws (types_section sections) ++ declared_flaws (types_in sections) sections
 
+-- the invariant, and the actions
+unfoldable pub stated_flaws : Known → Forest → List Flaw
+stated_flaws known sections =
+    invariant_flaws known (invariant_section sections) ++ actions_flaws known [] sections
+
 -- what stands in the sections
 unfoldable pub contents_flaws : Forest → List Flaw
-contents_flaws sections = vocabulary_flaws sections ++ actions_flaws (known_of sections) [] sections
+contents_flaws sections = vocabulary_flaws sections ++ stated_flaws (known_of sections) sections
 
 -- the sections as such, and what stands in them
 unfoldable pub all_section_flaws : Forest → List Flaw
@@ -50,4 +57,5 @@ tree_of name sections = record {
   constants = constants_of (types_in sections) (constants_section sections);
   predicates = predicates_of (predicates_section sections);
   actions = all_actions (known_of sections) sections;
+  invariant = invariant_of (known_of sections) (invariant_section sections);
 }

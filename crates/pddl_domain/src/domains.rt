@@ -7,28 +7,31 @@ ghost use Rattle.sexpr_text.specs.Passes.{IfFault};
 ghost use Rattle.pddl_ast.specs.Environment.{known_value};
 ghost use Rattle.pddl_ast.specs.Fits.{FitsDomain};
 ghost use Rattle.pddl_ast.specs.TypedLists.{names_of, typed_groups};
-ghost use Rattle.pddl_ast.specs.Values.{domain_value};
+ghost use Rattle.pddl_ast.specs.Values.{domain_value, formula_value, schema_value};
+ghost use Rattle.pddl_domain.specs.ActionParts.{all_actions};
 ghost use Rattle.pddl_domain.specs.Constants as constant;
 ghost use Rattle.pddl_domain.specs.Domains as domain;
 ghost use Rattle.pddl_domain.specs.Domains.{SpellsDomain, HasDomainFault};
+ghost use Rattle.pddl_domain.specs.Invariant as invariant_of;
 ghost use Rattle.pddl_domain.specs.Reading as reading;
 ghost use Rattle.pddl_domain.specs.Sections as section;
 ghost use Rattle.pddl_domain.specs.Types as types_of;
 ghost use Rattle.pddl_domain.specs.WordNames.{HasWordNames};
 
 use crate::constants::read_constants;
+use crate::invariant::read_invariant;
 use crate::predicates::{Predicates, read_predicates};
 use crate::schemas::read_actions;
 use crate::sections::{check_sections, read_definition, section_named};
 use crate::types::{Types, check_loops, read_types};
 use pddl_ast::{
-    Domain, Known, NameTable, Named, Predicate, TypeId, effects_fit, effects_in_order,
-    formulas_fit, formulas_in_order, typed_lists_fit, typed_lists_in_order,
+    Domain, Formula, Known, NameTable, Named, Predicate, Schema, TypeId, effects_fit,
+    effects_in_order, formulas_fit, formulas_in_order, typed_lists_fit, typed_lists_in_order,
 };
 use sexpr_text::{Form, MAX_BYTES, ReadErr, Text, read_forms};
 use std::alloc::Global;
 
-/// What the sections of a domain declare besides its actions.
+/// What the sections of a domain declare besides its actions; its invariant is no part of it.
 #[derive(Drop)]
 pub struct Vocabulary {
     known: Known,
@@ -124,6 +127,31 @@ fn read_vocabulary(alloc: Global, sections: &[Form]) -> Result<Vocabulary, ReadE
     })
 }
 
+/// The invariant, and all actions.
+#[tactic(auto, unfolding(crate::specs::Reading::stated_flaws))]
+fn read_stated(
+    alloc: Global,
+    known: &Known,
+    sections: &[Form],
+) -> Result<(Formula, Vec<Schema>), ReadErr>
+    ensures sound { OnOk result
+        (reading.stated_flaws (known_value known.now) (forest_of sections.now) ≡ []) }
+    ensures invariant { IfOk result
+        (λ p. formula_value p.0
+        ≡ invariant_of.invariant_of (known_value known.now)
+        (domain.invariant_section (forest_of sections.now))) }
+    ensures actions { IfOk result
+        (λ p. map schema_value p.1.items
+        ≡ all_actions (known_value known.now) (forest_of sections.now)) }
+    ensures fault { IfErr result
+        (λ e. IfFault e (λ f. first_listed
+        (reading.stated_flaws (known_value known.now) (forest_of sections.now)) ≡ Some f)) }
+{
+    let invariant = read_invariant(alloc, known, section_named(sections, b":invariant"))?;
+    let actions = read_actions(alloc, known, sections)?;
+    Ok((invariant, actions))
+}
+
 /// The domain of this name with what its sections declare.
 #[tactic(auto, unfolding(crate::specs::Reading::contents_flaws, crate::specs::Reading::tree_of))]
 fn read_contents(alloc: Global, name: &Text, sections: &[Form]) -> Result<Domain, ReadErr>
@@ -134,15 +162,17 @@ fn read_contents(alloc: Global, name: &Text, sections: &[Form]) -> Result<Domain
         (λ e. IfFault e (λ f. first_listed (reading.contents_flaws (forest_of sections.now))
         ≡ Some f)) }
 {
+    let name = Text::new(alloc, name.as_bytes())?;
     let vocabulary = read_vocabulary(alloc, sections)?;
-    let actions = read_actions(alloc, &vocabulary.known, sections)?;
+    let (invariant, actions) = read_stated(alloc, &vocabulary.known, sections)?;
     Ok(Domain {
-        name: Text::new(alloc, name.as_bytes())?,
+        name,
         type_names: vocabulary.type_names,
         parents: vocabulary.parents,
         constants: vocabulary.constants,
         predicates: vocabulary.predicates,
         actions,
+        invariant,
     })
 }
 
@@ -180,10 +210,10 @@ fn read_defined(alloc: Global, forms: &[Form]) -> Result<Domain, ReadErr>
 /// The bytes either spell exactly one domain or have exactly one fault (`domain_or_fault`): the
 /// first flaw of the first pass that has one. The passes are, in this order: the lexis; the list
 /// that defines the domain; its sections; the types; loops of types; the constants; the predicates;
-/// and of each action its shape, its parameters, its precondition and its effect. Names are looked
-/// up by hash, and types' ancestors are found once, so that for `n` bytes this takes about `n log
-/// n` steps. A domain that is read fits: names of each kind differ and are words, numbers are in
-/// range, types form a tree, and no tree is more than 200 deep.
+/// the invariant; and of each action its shape, its parameters, its precondition and its effect.
+/// Names are looked up by hash, and types' ancestors are found once, so that for `n` bytes this
+/// takes about `n log n` steps. A domain that is read fits: names of each kind differ and are words,
+/// numbers are in range, types form a tree, and no tree is more than 200 deep.
 pub fn read_domain(alloc: Global, bytes: &[u8]) -> Result<Domain, ReadErr>
     requires { length bytes.now ≤ MAX_BYTES }
     ensures domain { IfOk result (λ d. SpellsDomain bytes.now (domain_value d)) }

@@ -10,7 +10,7 @@ ghost use Rattle.pddl_domain.specs.Sections as specs;
 use pddl_ast::{no_define, title_of};
 use sexpr_text::{
     FaultKind, Form, Head, ReadErr, Span, Text, View, fault_at, first_definition, first_group,
-    head_of,
+    head_of, is_nothing,
 };
 use std::alloc::Global;
 
@@ -25,6 +25,8 @@ pub enum Section {
     Constants,
     /// `:predicates`
     Predicates,
+    /// `:invariant`
+    Invariant,
     /// `:action`, which may come any number of times
     Action,
     /// Every other word.
@@ -44,6 +46,8 @@ pub fn section_kind(word: &Text) -> Section
         Section::Constants
     } else if word.is(b":predicates") {
         Section::Predicates
+    } else if word.is(b":invariant") {
+        Section::Invariant
     } else if word.is(b":action") {
         Section::Action
     } else {
@@ -57,6 +61,7 @@ pub struct Seen {
     pub types: bool,
     pub constants: bool,
     pub predicates: bool,
+    pub invariant: bool,
 }
 
 impl Seen {
@@ -68,6 +73,7 @@ impl Seen {
             Section::Types => self.types,
             Section::Constants => self.constants,
             Section::Predicates => self.predicates,
+            Section::Invariant => self.invariant,
             _ => false,
         }
     }
@@ -81,6 +87,7 @@ impl Seen {
             Section::Types => seen.types = true,
             Section::Constants => seen.constants = true,
             Section::Predicates => seen.predicates = true,
+            Section::Invariant => seen.invariant = true,
             _ => {}
         }
         seen
@@ -140,31 +147,54 @@ pub fn section_named<'a>(sections: &'a [Form], word: &[u8]) -> &'a [Form]
     }
 }
 
+/// Whether there is exactly one form.
+fn is_one(row: &[Form]) -> bool
+    ensures { result ≡ specs.is_one (forest_of row.now) }
+{
+    match head_of(row) {
+        Head::Nothing => false,
+        Head::Word(_, _, rest) => is_nothing(rest),
+        Head::Group(_, _, rest) => is_nothing(rest),
+    }
+}
+
+/// Whether a section of this kind may not have these forms after its word.
+fn has_wrong_size(section: Section, rest: &[Form]) -> bool
+    ensures { result ≡ specs.has_wrong_size (forest_of rest.now) section }
+{
+    match section {
+        Section::Invariant => !is_one(rest),
+        _ => false,
+    }
+}
+
 /// The flaw of a section of this kind, where it has one.
 fn check_kind(
     alloc: Global,
     seen: Seen,
     span: Span,
     word: &Text,
+    rest: &[Form],
     section: Section,
 ) -> Result<(), ReadErr>
-    ensures sound { IfOk result (λ _. specs.kind_flaws seen span word.now section ≡ []) }
+    ensures sound { IfOk result
+        (λ _. specs.kind_flaws seen span word.now (forest_of rest.now) section ≡ []) }
     ensures fault { IfErr result
-        (λ e. IfFault e (λ f. first_listed (specs.kind_flaws seen span word.now section)
-        ≡ Some f)) }
+        (λ e. IfFault e (λ f. first_listed
+        (specs.kind_flaws seen span word.now (forest_of rest.now) section) ≡ Some f)) }
 {
     if let Section::Other = section {
         let left_out = FaultKind::LeftOut(Text::new(alloc, word.as_bytes())?);
         return Err(fault_at(span, left_out));
     }
-    if seen.came(section) {
+    if seen.came(section) || has_wrong_size(section, rest) {
         return Err(fault_at(span, FaultKind::BadForm));
     }
     Ok(())
 }
 
 /// Finds the first flaw of the sections as such: a form that is no section, one that is left out,
-/// or one that comes twice.
+/// one that comes twice, or an invariant that isn't one form.
 pub fn check_sections(alloc: Global, sections: &[Form]) -> Result<(), ReadErr>
     ensures sound { IfOk result
         (λ _. specs.sections_flaws specs.none_came (forest_of sections.now) ≡ []) }
@@ -176,14 +206,15 @@ pub fn check_sections(alloc: Global, sections: &[Form]) -> Result<(), ReadErr>
         types: false,
         constants: false,
         predicates: false,
+        invariant: false,
     };
     for form in sections {
         match form.view() {
             View::Word(span, _) => return Err(fault_at(span, FaultKind::BadForm)),
             View::Group(span, parts) => match head_of(parts) {
-                Head::Word(_, word, _) => {
+                Head::Word(_, word, rest) => {
                     let section = section_kind(word);
-                    check_kind(alloc, seen, span, word, section)?;
+                    check_kind(alloc, seen, span, word, rest, section)?;
                     seen = seen.and(section);
                 }
                 _ => return Err(fault_at(span, FaultKind::BadForm)),

@@ -230,6 +230,65 @@ static FAULTS: [(&str, &str); 84] = [
     ),
 ];
 
+// Domains with an invariant, each with its fault.
+static INVARIANT_FAULTS: [(&str, &str); 22] = [
+    // the section
+    ("^(:invariant))", "6 BadForm"),
+    ("^(:invariant () ()))", "6 BadForm"),
+    ("^(:invariant p (q)))", "6 BadForm"),
+    ("(:invariant ()) ^(:invariant ()))", "6 BadForm"),
+    (
+        "(:invariant ()) (:action a) ^(:INVARIANT (q) (q)))",
+        "6 BadForm",
+    ),
+    ("(:types a a) (:constants c c) ^(:invariant))", "6 BadForm"),
+    ("^(:invariants ()))", "13 LeftOut :invariants"),
+    // the formula
+    ("(:invariant ^p))", "6 BadForm"),
+    ("(:predicates (p)) (:invariant ^((p))))", "6 BadForm"),
+    ("(:predicates (p)) (:invariant (not ^p)))", "6 BadForm"),
+    ("(:invariant ^(oneof ())))", "6 BadForm"),
+    ("(:invariant (^increase)))", "13 LeftOut increase"),
+    (
+        "(:predicates (p)) (:invariant (or (p) (^q))))",
+        "7 UnknownName",
+    ),
+    (
+        "(:invariant (p ^?x)) (:predicates (p ?x)))",
+        "7 UnknownName",
+    ),
+    (
+        "(:invariant (p ^k)) (:predicates (p ?x)) (:constants c))",
+        "7 UnknownName",
+    ),
+    (
+        "(:invariant ^(p k)) (:predicates (p)) (:constants k))",
+        "9 WrongArity",
+    ),
+    (
+        "(:types t) (:invariant (forall (?x - t ^?x - u) ())))",
+        "8 DoubleName",
+    ),
+    (
+        "(:invariant (exists (?x - ^u) (q))) (:types t))",
+        "7 UnknownName",
+    ),
+    // after the predicates, and before all actions
+    (
+        "(:invariant (q)) (:predicates (p ?x - ^u)))",
+        "7 UnknownName",
+    ),
+    ("(:action) (:invariant ^q))", "6 BadForm"),
+    (
+        "(:action a :precondition (q) :effect) (:predicates (p)) (:invariant ^(p p)))",
+        "9 WrongArity",
+    ),
+    (
+        "(:invariant (p)) (:action a :effect (^q)) (:predicates (p)))",
+        "7 UnknownName",
+    ),
+];
+
 // What stands before a precondition, and before an effect, in the two tables below.
 const BEFORE_PRECONDITION: &str =
     "(define (domain d) (:constants k) (:predicates (p ?x) (z)) (:action a :parameters (?x) :precondition ";
@@ -377,6 +436,7 @@ fn check_faults(
 fn faults_stand_where_the_rules_say(rt: HostRuntime) -> Result<(), Fail> {
     let alloc = rt.alloc();
     check_faults(&rt, alloc, "(define (domain d) ", &FAULTS, "")?;
+    check_faults(&rt, alloc, "(define (domain d) ", &INVARIANT_FAULTS, "")?;
     check_faults(&rt, alloc, BEFORE_PRECONDITION, &FORMULA_FAULTS, "))")?;
     check_faults(&rt, alloc, BEFORE_EFFECT, &EFFECT_FAULTS, "))")
 }

@@ -6,7 +6,8 @@ use Rattle.sexpr_text.specs.Parts.{is_name}
 use Rattle.pddl_ast.specs.declared.trees.Named.{Named}
 use Rattle.pddl_ast.specs.declared.trees.Predicate.{Predicate}
 use Rattle.pddl_ast.specs.Fits.{FitsDomain, FitsSchema, ancestor, known_in}
-use Rattle.pddl_ast.specs.Trees.{DomainTree, SchemaTree}
+use Rattle.pddl_ast.specs.Formulas.{always}
+use Rattle.pddl_ast.specs.Trees.{DomainTree, SchemaTree, FormulaTree}
 use Rattle.pddl_ast.specs.Words.{is_dash, is_reserved, keyword_of}
 
 abbrev pub town_types : List (List ℕ)
@@ -21,12 +22,12 @@ town_constants = record { name = codes "hub"; type_id = 1 } ∷ []
 abbrev pub town_predicates : List Predicate
 town_predicates = record { name = codes "p"; arity = 0 } ∷ record { name = codes "at"; arity = 1 } ∷ record { name = codes "road"; arity = 2 } ∷ record { name = codes "af"; arity = 1 } ∷ []
 
-abbrev pub town_of : List ℕ → List (List ℕ) → List ℕ → List Named → List Predicate → List SchemaTree → DomainTree
-town_of name types parents constants predicates actions =
-    record { name = name; type_names = types; parents = parents; constants = constants; predicates = predicates; actions = actions }
+abbrev pub town_of : List ℕ → List (List ℕ) → List ℕ → List Named → List Predicate → List SchemaTree → FormulaTree → DomainTree
+town_of name types parents constants predicates actions invariant =
+    record { name = name; type_names = types; parents = parents; constants = constants; predicates = predicates; actions = actions; invariant = invariant }
 
 abbrev pub town_tree : DomainTree
-town_tree = town_of (codes "d") town_types town_parents town_constants town_predicates []
+town_tree = town_of (codes "d") town_types town_parents town_constants town_predicates [] always
 
 town-rooted : (t : ℕ) → t < length town_types → ancestor town_parents 2 t ≡ 0
 town-rooted zero h = refl
@@ -49,16 +50,19 @@ town-fits = record {
   predicates_differ = (refl, (refl, (refl, (refl, tt))));
   actions = All-nil (FitsSchema (known_in town_tree));
   actions_differ = tt;
+  invariant = tt;
+  invariant_depth = omega arith;
 }
 
 -- a domain of these parts
-pub town-made : (name : List ℕ) (types : List (List ℕ)) (parents : List ℕ) (constants : List Named) (predicates : List Predicate) (actions : List SchemaTree)
+pub town-made : (name : List ℕ) (types : List (List ℕ)) (parents : List ℕ) (constants : List Named) (predicates : List Predicate) (actions : List SchemaTree) (invariant : FormulaTree)
     → name ≡ codes "d" → types ≡ town_types → parents ≡ town_parents → constants ≡ town_constants → predicates ≡ town_predicates → actions ≡ []
-    → FitsDomain (town_of name types parents constants predicates actions)
-town-made name types parents constants predicates actions a b c d e f =
-    subst (λ x. FitsDomain (town_of x types parents constants predicates actions)) (sym a)
-    (subst (λ x. FitsDomain (town_of (codes "d") x parents constants predicates actions)) (sym b)
-    (subst (λ x. FitsDomain (town_of (codes "d") town_types x constants predicates actions)) (sym c)
-    (subst (λ x. FitsDomain (town_of (codes "d") town_types town_parents x predicates actions)) (sym d)
-    (subst (λ x. FitsDomain (town_of (codes "d") town_types town_parents town_constants x actions)) (sym e)
-    (subst (λ x. FitsDomain (town_of (codes "d") town_types town_parents town_constants town_predicates x)) (sym f) town-fits)))))
+    → invariant ≡ always → FitsDomain (town_of name types parents constants predicates actions invariant)
+town-made name types parents constants predicates actions invariant a b c d e f g =
+    subst (λ x. FitsDomain (town_of x types parents constants predicates actions invariant)) (sym a)
+    (subst (λ x. FitsDomain (town_of (codes "d") x parents constants predicates actions invariant)) (sym b)
+    (subst (λ x. FitsDomain (town_of (codes "d") town_types x constants predicates actions invariant)) (sym c)
+    (subst (λ x. FitsDomain (town_of (codes "d") town_types town_parents x predicates actions invariant)) (sym d)
+    (subst (λ x. FitsDomain (town_of (codes "d") town_types town_parents town_constants x actions invariant)) (sym e)
+    (subst (λ x. FitsDomain (town_of (codes "d") town_types town_parents town_constants town_predicates x invariant)) (sym f)
+    (subst (λ x. FitsDomain (town_of (codes "d") town_types town_parents town_constants town_predicates [] x)) (sym g) town-fits))))))

@@ -7,7 +7,9 @@ ghost use Rattle.pddl_ast.specs.Values.{domain_value};
 
 use crate::goal_tests::show_temporal;
 use crate::{one_answer, read_problem};
-use pddl_ast::{Domain, Formula, GroundAtom, InitialLiteral, Named, Predicate, Problem, Term};
+use pddl_ast::{
+    Domain, Formula, GroundAtom, InitialLiteral, Named, Predicate, Problem, Term, always,
+};
 use sexpr_text::{MAX_BYTES, ReadErr, Text};
 use std::alloc::{AllocError, Global};
 use std::fmt::Write;
@@ -70,7 +72,7 @@ fn predicates(alloc: Global) -> Result<Vec<Predicate>, AllocError>
     Ok(predicates)
 }
 
-// The domain `d` of these parts, without actions.
+// The domain `d` of these parts, without actions and without an invariant.
 pub(crate) fn town(alloc: Global) -> Result<Domain, AllocError>
     ensures { IfOk result (λ d. FitsDomain (domain_value d)) }
 {
@@ -86,6 +88,7 @@ pub(crate) fn town(alloc: Global) -> Result<Domain, AllocError>
         constants,
         predicates,
         actions: Vec::new(alloc),
+        invariant: always(alloc),
     })
 }
 

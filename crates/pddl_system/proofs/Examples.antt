@@ -133,6 +133,7 @@ module _ (place : Place) where
     constants = [];
     predicates = record { name = codes "p"; arity = 0 } ∷ [];
     actions = [];
+    invariant = all (formula_row []);
   }
 
   abbrev entries_of_still : List AtomTree → List (List (List LiteralTree)) → ProblemTree
@@ -168,6 +169,7 @@ module _ (place : Place) where
     constants = [];
     predicates = record { name = codes "at"; arity = 1 } ∷ record { name = codes "next"; arity = 2 } ∷ [];
     actions = go ∷ [];
+    invariant = all (formula_row []);
   }
 
   -- from a to b, which is next to it
@@ -224,6 +226,48 @@ module _ (place : Place) where
 
   slip_within : first_passed slip a_to_b ≡ None
   slip_within = refl
+
+  -- no invariant is the condition that always holds
+  slip_invariant : (task_of slip a_to_b).invariant ≡ all_of (condition_row [])
+  slip_invariant = refl
+
+  -- the same domain with an invariant
+  abbrev guarded : FormulaTree → DomainTree
+  guarded invariant = record slip { invariant = invariant }
+
+  -- `(not (and (at a) (at b)))`: one is at one place at most, so one of the goal's vectors is no state
+  abbrev one_place : DomainTree
+  one_place = guarded (negation (all (formula_row (atom 0 (Object 0 ∷ []) ∷ atom 0 (Object 1 ∷ []) ∷ []))))
+
+  one_place_goal : (system one_place a_to_b).goal ≡ Some ((false ∷ true ∷ []) ∷ [])
+  one_place_goal = refl
+
+  -- `(at a)`: going can only fail, since its first outcome leads to no state
+  abbrev staying : DomainTree
+  staying = guarded (atom 0 (Object 0 ∷ []))
+
+  staying_next : (system staying a_to_b).next (true ∷ false ∷ []) 0 ≡ (true ∷ false ∷ []) ∷ []
+  staying_next = refl
+
+  staying_after : map ((system staying a_to_b).after (true ∷ false ∷ []) 0) (0 ∷ 1 ∷ 2 ∷ []) ≡ None ∷ Some (true ∷ false ∷ []) ∷ None ∷ []
+  staying_after = refl
+
+  staying_condition : (task_of staying a_to_b).invariant ≡ is_fluent_true 0
+  staying_condition = refl
+
+  -- `(at b)`: the one initial vector is no state, and nothing can be done in it
+  abbrev begun_elsewhere : DomainTree
+  begun_elsewhere = guarded (atom 0 (Object 1 ∷ []))
+
+  no_initial_state : (system begun_elsewhere a_to_b).initial ≡ []
+  no_initial_state = refl
+
+  nothing_outside : (system begun_elsewhere a_to_b).next (true ∷ false ∷ []) 0 ≡ []
+  nothing_outside = refl
+
+  -- the invariant's size counts by itself: `(forall (?x) (at ?x))`
+  guarded_size : formula_size two_objects (guarded (forall (0 ∷ []) (of_variable 0 0))).invariant ≡ 3
+  guarded_size = refl
 
   -- the goal in computation tree logic: `(au (ex (next a b)) (at b))`, whose first formula never
   -- changes

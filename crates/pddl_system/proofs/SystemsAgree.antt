@@ -1,21 +1,20 @@
 -- The system of the task of a domain and a problem is theirs.
-use Rattle.std.proofs.Common.{◌≡◌, ℕ, Bool, true, false, ◌&&◌, ◌||◌, cond, List, [], ◌∷◌, map, length, Option, Some, None, refl, sym, ◌∙◌, ap, ◌==◌, if◌then◌else◌}
+use Rattle.std.proofs.Common.{◌≡◌, ℕ, Bool, true, false, ◌&&◌, ◌||◌, cond, List, [], ◌∷◌, map, length, Option, Some, None, refl, sym, ◌∙◌, ap, ◌==◌}
 use Rattle.std.specs.Prelude.{slice_get}
-use Rattle.std.specs.List.{list_all, list_any, position_or_len}
-use Rattle.std.specs.Option.{option_map, option_map_or}
+use Rattle.std.specs.List.{filter, list_all, list_any}
+use Rattle.std.specs.Option.{option_and_then, option_map, option_map_or}
 use Rattle.std.proofs.lemmas.Bool.{and_right}
-use Rattle.std.proofs.lemmas.List.Elements.{filter_agree}
 use Rattle.std.proofs.Math.Nat.{zero-add}
+use Rattle.std.proofs.Math.Path.{fun_ext}
 use Rattle.task_core.specs.Actions.{after, after_value, change_makes, deletes}
 use Rattle.task_core.specs.Conditions.{holds}
 use Rattle.task_core.specs.Initial.{after_entries, entries_of, names_it}
 use Rattle.task_core.specs.Names.{name_bytes}
-use Rattle.task_core.specs.Tasks.{action_count, fluent_count, initial_states, next_states, outcomes_at, system_of}
+use Rattle.task_core.specs.Tasks.{action_count, fluent_count, in_space, initial_states, initial_vectors, next_states, outcomes_at, states_after, system_of}
 use Rattle.task_core.specs.Tasks as tasks
 use Rattle.task_core.specs.Vectors.{Vector, all_vectors, same_value, value_of}
 use Rattle.task_core.specs.declared.literals.Lit.{Lit}
 use Rattle.task_core.specs.declared.conditions.Cond.{Cond}
-use Rattle.task_core.specs.declared.actions.Change.{Change}
 use Rattle.task_core.specs.declared.actions.Outcome.{Outcome}
 use Rattle.task_core.specs.declared.actions.GroundAction.{GroundAction}
 use Rattle.task_core.specs.declared.tasks.Task.{Task}
@@ -26,8 +25,8 @@ use Rattle.pddl_system.specs.Instances.{Instance, kept_instances}
 use Rattle.pddl_system.specs.Laws.{TaskHasTheSystem}
 use Rattle.pddl_system.specs.Outcomes.{ChangeTree, Condition, OutcomeTree, may_change, outcomes_of, possible_changes}
 use Rattle.pddl_system.specs.Settings.{Setting, setting}
-use Rattle.pddl_system.specs.States.{atom_holds, comes_about, formula_holds, makes, state_after, value_after, value_at}
-use Rattle.pddl_system.specs.Systems.{facts_of, initial_of, next_of, states_where, system}
+use Rattle.pddl_system.specs.States.{atom_holds, comes_about, formula_holds, is_state, makes, state_after, value_after, value_at}
+use Rattle.pddl_system.specs.Systems.{after_of, facts_of, initial_of, next_of, states_where, system, vectors_after}
 use Rattle.pddl_system.specs.Systems as systems
 use Rattle.ctl_syntax.specs.Conditions.{CondTree, condition_value}
 use Rattle.pddl_system.specs.Tasks.{ActionTree, TaskTree, action_of, change_of, changed_if, condition_of, outcome_of, task_of}
@@ -107,21 +106,6 @@ module _ (at : Setting) (fl : List AtomTree) (apart : Apart fl) (rigid : RigidIs
       map-range (after_value o (value_of v)) (value_after at fl v t) fl 0
       (λ k a is_at. ap (after_value o (value_of v)) (zero-add k) ∙ value_same o t e k a is_at)
 
-  -- the states after an action, where there is one
-  states_of : Option GroundAction → List Vector
-  states_of o =
-      if option_map_or (λ (x : GroundAction). holds x.exec (value_of v)) o false
-      then map (λ q. after (length fl) q v) (option_map_or (λ (x : GroundAction). x.outcomes.items) o []) else []
-
-  next_same : (d : DomainTree) (p : ProblemTree) → setting d p ≡ at → fluents d p ≡ fl → (x : GroundAction) (i : Instance)
-      → condition_value x.exec ≡ condition_of at fl i.schema.precondition i.objects
-      → map outcome_value x.outcomes.items ≡ map (outcome_of at fl) (outcomes_of at i)
-      → states_of (Some x) ≡ next_of at fl v i
-  unfolding states_of
-  next_same d p s f x i exec outcomes =
-      ap (λ b. cond b (map (λ q. after (length fl) q v) x.outcomes.items) []) (stands_for at fl v x.exec i.schema.precondition i.objects exec)
-      ∙ ap (λ vs. cond (formula_holds at fl v i.schema.precondition i.objects) vs []) (zip_map outcome_value (outcome_of at fl) (λ q. after (length fl) q v) (state_after at fl v) after_same x.outcomes.items (outcomes_of at i) outcomes)
-
 module _ (d : DomainTree) (p : ProblemTree) (task : Task) (is : task_value task ≡ task_of d p) where
   pub count_same : fluent_count task ≡ length (fluents d p)
   count_same = zip_length name_bytes (systems.atom_name d p) task.fluents.items (fluents d p) (ap (λ (t : TaskTree). t.fluents) is)
@@ -137,44 +121,98 @@ module _ (d : DomainTree) (p : ProblemTree) (task : Task) (is : task_value task 
       (λ x i e. zip_length outcome_value (outcome_of (setting d p) (fluents d p)) x.outcomes.items (outcomes_of (setting d p) i) (ap (λ (t : ActionTree). t.outcomes) e))
       task.actions.items (kept_instances d p) actions_are a
 
-  next_states_same : (v : Vector) (a : ℕ) → next_states task v a ≡ option_map_or (next_of (setting d p) (fluents d p) v) (slice_get (kept_instances d p) a) []
-  unfolding states_of
-  next_states_same v a =
-      ap (λ n. if option_map_or (λ (x : GroundAction). holds x.exec (value_of v)) (slice_get task.actions.items a) false
-      then map (λ q. after n q v) (option_map_or (λ (x : GroundAction). x.outcomes.items) (slice_get task.actions.items a) []) else []) count_same
-      ∙ zip_get action_value (action_of d p)
-      (λ o q. states_of (setting d p) (fluents d p) (fluents_apart d p) (rigid_is_no_fluent d p) v o ≡ option_map_or (next_of (setting d p) (fluents d p) v) q [])
+  abbrev space : Vector → Bool
+  space = is_state (setting d p) (fluents d p) d.invariant
+
+  space_same : in_space task ≡ space
+  space_same = fun_ext (λ v. stands_for (setting d p) (fluents d p) v task.invariant d.invariant [] (ap (λ (t : TaskTree). t.invariant) is))
+
+  -- whether the precondition of an action holds, and the vectors after its outcomes, where there is
+  -- such an action
+  abbrev precondition_of : Vector → Option GroundAction → Bool
+  precondition_of v o = option_map_or (λ (x : GroundAction). holds x.exec (value_of v)) o false
+
+  abbrev precondition_at : Vector → Option Instance → Bool
+  precondition_at v o = option_map_or (λ (i : Instance). formula_holds (setting d p) (fluents d p) v i.schema.precondition i.objects) o false
+
+  precondition_same : (v : Vector) (a : ℕ) → precondition_of v (slice_get task.actions.items a) ≡ precondition_at v (slice_get (kept_instances d p) a)
+  precondition_same v a =
+      zip_get action_value (action_of d p) (λ o q. precondition_of v o ≡ precondition_at v q)
       refl
-      (λ x i e. next_same (setting d p) (fluents d p) (fluents_apart d p) (rigid_is_no_fluent d p) v d p refl refl x i (ap (λ (t : ActionTree). t.exec) e) (ap (λ (t : ActionTree). t.outcomes) e))
+      (λ x i e. stands_for (setting d p) (fluents d p) v x.exec i.schema.precondition i.objects (ap (λ (t : ActionTree). t.exec) e))
       task.actions.items (kept_instances d p) actions_are a
 
-  initial_same : initial_states task ≡ initial_of (setting d p) (fluents d p) p.entries
-  initial_same =
+  abbrev vectors_of : Vector → Option GroundAction → List Vector
+  vectors_of v o = map (λ q. after (length (fluents d p)) q v) (option_map_or (λ (x : GroundAction). x.outcomes.items) o [])
+
+  abbrev vectors_at : Vector → Option Instance → List Vector
+  vectors_at v o = option_map_or (vectors_after (setting d p) (fluents d p) v) o []
+
+  vectors_same : (v : Vector) (a : ℕ) → states_after task v a ≡ vectors_at v (slice_get (kept_instances d p) a)
+  vectors_same v a =
+      ap (λ n. map (λ q. after n q v) (option_map_or (λ (x : GroundAction). x.outcomes.items) (slice_get task.actions.items a) [])) count_same
+      ∙ zip_get action_value (action_of d p) (λ o q. vectors_of v o ≡ vectors_at v q)
+      refl
+      (λ x i e. zip_map outcome_value (outcome_of (setting d p) (fluents d p)) (λ q. after (length (fluents d p)) q v) (state_after (setting d p) (fluents d p) v)
+      (after_same (setting d p) (fluents d p) (fluents_apart d p) (rigid_is_no_fluent d p) v) x.outcomes.items (outcomes_of (setting d p) i) (ap (λ (t : ActionTree). t.outcomes) e))
+      task.actions.items (kept_instances d p) actions_are a
+
+  either : {X : Type 0} (b : Bool) (x : X) → cond (b && false) x x ≡ x
+  either true x = refl
+  either false x = refl
+
+  next_at : (v : Vector) (o : Option Instance) → cond (space v && precondition_at v o) (filter space (vectors_at v o)) [] ≡ option_map_or (next_of (setting d p) (fluents d p) d.invariant v) o []
+  next_at v None = either (space v) []
+  next_at v (Some i) = refl
+
+  next_states_same : (v : Vector) (a : ℕ) → next_states task v a ≡ option_map_or (next_of (setting d p) (fluents d p) d.invariant v) (slice_get (kept_instances d p) a) []
+  next_states_same v a =
+      (λ j. cond (space_same j v && precondition_same v a j) (filter (space_same j) (vectors_same v a j)) [])
+      ∙ next_at v (slice_get (kept_instances d p) a)
+
+  after_at : (v : Vector) (k : ℕ) (o : Option Instance)
+      → cond (space v && precondition_at v o) (option_and_then (λ w. cond (space w) (Some w) None) (slice_get (vectors_at v o) k)) None
+      ≡ option_and_then (after_of (setting d p) (fluents d p) d.invariant v k) o
+  after_at v k None = either (space v) None
+  after_at v k (Some i) = refl
+
+  states_after_same : (v : Vector) (a k : ℕ) → tasks.state_after task v a k ≡ option_and_then (after_of (setting d p) (fluents d p) d.invariant v k) (slice_get (kept_instances d p) a)
+  states_after_same v a k =
+      (λ j. cond (space_same j v && precondition_same v a j) (option_and_then (λ w. cond (space_same j w) (Some w) None) (slice_get (vectors_same v a j) k)) None)
+      ∙ after_at v k (slice_get (kept_instances d p) a)
+
+  initial_vectors_same : initial_vectors task ≡ initial_of (setting d p) (fluents d p) p.entries
+  initial_vectors_same =
       ap (λ vs. after_entries (fluent_count task) vs (entries_of task.init)) (ap (λ (t : TaskTree). t.facts) is)
       ∙ ap (λ es. after_entries (fluent_count task) (facts_of (setting d p) (fluents d p)) es) (ap (λ (t : TaskTree). t.entries) is)
       ∙ ap (λ n. after_entries n (facts_of (setting d p) (fluents d p)) (map (systems.entry_over (fluents d p)) p.entries)) count_same
 
+  initial_same : initial_states task ≡ filter space (initial_of (setting d p) (fluents d p) p.entries)
+  initial_same = λ j. filter (space_same j) (initial_vectors_same j)
+
   goal_of : (goal : Option Cond) (wanted : Option FormulaTree) → option_map condition_value goal ≡ option_map (λ f. condition_of (setting d p) (fluents d p) f []) wanted
-      → option_map (tasks.states_where (length (fluents d p))) goal ≡ option_map (states_where (setting d p) (fluents d p)) wanted
+      → option_map (tasks.states_where task) goal ≡ option_map (states_where (setting d p) (fluents d p) d.invariant) wanted
   goal_of None None e = refl
   goal_of None (Some f) e = absurd (cc)
   goal_of (Some c) None e = absurd (cc)
   goal_of (Some c) (Some f) e =
       let one : condition_value c ≡ condition_of (setting d p) (fluents d p) f [] = cc in
-      ap Some (filter_agree (λ v. holds c (value_of v)) (λ v. formula_holds (setting d p) (fluents d p) v f []) (λ v. stands_for (setting d p) (fluents d p) v c f [] one) (all_vectors (length (fluents d p))))
+      let same : (v : Vector) → holds c (value_of v) ≡ formula_holds (setting d p) (fluents d p) v f [] = λ v. stands_for (setting d p) (fluents d p) v c f [] one in
+      λ j. Some (filter (λ v. space_same j v && same v j) (all_vectors (count_same j)))
 
-  goal_same : option_map (tasks.states_where (fluent_count task)) task.goal ≡ option_map (states_where (setting d p) (fluents d p)) p.goal
-  goal_same =
-      ap (λ n. option_map (tasks.states_where n) task.goal) count_same ∙ goal_of task.goal p.goal (ap (λ (t : TaskTree). t.goal) is)
+  goal_same : option_map (tasks.states_where task) task.goal ≡ option_map (states_where (setting d p) (fluents d p) d.invariant) p.goal
+  goal_same = goal_of task.goal p.goal (ap (λ (t : TaskTree). t.goal) is)
 
   system_same : system_of task ≡ system d p
   system_same = λ i. record {
     fluents = count_same i;
+    in_space = space_same i;
     actions = zip_length action_value (action_of d p) task.actions.items (kept_instances d p) actions_are i;
     outcomes = λ a. outcome_counts_same a i;
     initial = initial_same i;
     goal = goal_same i;
     next = λ v a. next_states_same v a i;
+    after = λ v a k. states_after_same v a k i;
   }
 
 pub task_has_the_system : TaskHasTheSystem

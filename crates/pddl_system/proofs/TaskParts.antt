@@ -300,9 +300,21 @@ module _ (d : DomainTree) (p : ProblemTree) (fits_d : FitsDomain d) (fits_p : Fi
       let within : formula_depth f ≤ 200 = most in
       cond_shallow c (condition_of (setting d p) (fluents d p) f []) (cc) (omega arith)
 
+  -- the invariant
+
+  invariant_within_it : (c : Cond) → condition_value c ≡ condition_of (setting d p) (fluents d p) d.invariant [] → ids_below many c ≡ true
+  invariant_within_it c e =
+      cond_below c (condition_of (setting d p) (fluents d p) d.invariant []) e (formula_below (setting d p) (fluents d p) d.invariant [])
+
+  invariant_shallow_it : (c : Cond) → condition_value c ≡ condition_of (setting d p) (fluents d p) d.invariant [] → is_shallow c ≡ true
+  invariant_shallow_it c e =
+      let deep = formula_no_deeper (setting d p) (fluents d p) d.invariant [] in
+      let within : formula_depth d.invariant ≤ 200 = fits_d.invariant_depth in
+      cond_shallow c (condition_of (setting d p) (fluents d p) d.invariant []) e (omega arith)
+
   -- all parts
 
-  module _ (words : NamesAreWords d p) (all_kept : first_passed d p ≡ None) (fluent_list : List (Vec (String Global) Global)) (actions : List GroundAction) (init : InitSpec) (goal : Option Cond) (parts : ArePartsOf d p fluent_list actions init goal) (facts : IsWithin (length fluent_list) init.facts) where
+  module _ (words : NamesAreWords d p) (all_kept : first_passed d p ≡ None) (fluent_list : List (Vec (String Global) Global)) (actions : List GroundAction) (init : InitSpec) (goal : Option Cond) (invariant : Cond) (parts : ArePartsOf d p fluent_list actions init goal invariant) (facts : IsWithin (length fluent_list) init.facts) where
     kept_limit : (limit : Limit) → Among limit limits → keeps d p limit ≡ true
     kept_limit limit h = none_found (keeps d p) limits all_kept limit h
 
@@ -323,7 +335,7 @@ module _ (d : DomainTree) (p : ProblemTree) (fits_d : FitsDomain d) (fits_p : Fi
     actions_same : length actions ≡ length (kept_instances d p)
     actions_same = zip_length action_value (action_of d p) actions (kept_instances d p) parts.actions_are
 
-    makes_task : MakesTask fluent_list actions init goal
+    makes_task : MakesTask fluent_list actions init goal invariant
     makes_task = record {
       few_fluents = subst (λ n. n ≤ 256) (sym count_same) few_fluents;
       few_actions = (let same = actions_same in let few = few_actions in omega arith);
@@ -335,10 +347,12 @@ module _ (d : DomainTree) (p : ProblemTree) (fits_d : FitsDomain d) (fits_p : Fi
             (ap (list_all (entry_within many)) parts.entries_are
             ∙ list_all-from_Among (entry_within many) (map (systems.entry_over (fluents d p)) p.entries) each_entry);
         goal_within = subst (λ n. goal_within n goal ≡ true) (sym count_same) (goal_within_it goal p.goal parts.goal_is);
+        invariant_within = subst (λ n. ids_below n invariant ≡ true) (sym count_same) (invariant_within_it invariant parts.invariant_is);
       };
       shallow = record {
         shallow_actions = zip_all action_value (action_of d p) action_is_shallow actions (kept_instances d p) (λ x i h e. action_shallow i h (few_outcomes i h) x e) parts.actions_are;
         shallow_goal = goal_shallow_it goal p.goal fits_p.goal_depth parts.goal_is;
+        shallow_invariant = invariant_shallow_it invariant parts.invariant_is;
       };
       fluent_names = subst AreFluentNames (sym parts.fluents_are) (fluent_names_are_names d p fits_d fits_p words);
       action_names = subst AreActionNames (sym (zip_map action_value (action_of d p) name_of (instance_name d p) (λ x i e. ap (λ (t : ActionTree). t.name) e) actions (kept_instances d p) parts.actions_are)) (action_names_are_names d p fits_d fits_p words);
@@ -350,5 +364,5 @@ module _ (d : DomainTree) (p : ProblemTree) (fits_d : FitsDomain d) (fits_p : Fi
             subst (λ e. entry_within many e ≡ true) from.2 (entry_is_within from.0 from.1)
 
 pub parts_make_task : PartsMakeTask
-parts_make_task d p fluent_list actions init goal fits_d fits_p words all_kept parts facts =
-    makes_task d p fits_d fits_p words all_kept fluent_list actions init goal parts facts
+parts_make_task d p fluent_list actions init goal invariant fits_d fits_p words all_kept parts facts =
+    makes_task d p fits_d fits_p words all_kept fluent_list actions init goal invariant parts facts

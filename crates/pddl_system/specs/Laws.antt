@@ -1,10 +1,11 @@
 -- What is true of every domain and problem: the statements of the laws.
 use Rattle.std.specs.Prelude.{◌≡◌, ◌≢◌, ℕ, ◌<◌, ◌≤◌, ◌↔◌, List, length, Bool, true, false, Option}
-use Rattle.std.specs.Prelude.{None, Some, String, Vec, slice_get}
+use Rattle.std.specs.Prelude.{[], None, Some, String, Vec, slice_get, if◌then◌else◌}
 use Rattle.std.specs.declared.alloc.Global.{Global}
 use Rattle.pddl_ast.specs.Fits.{FitsDomain, FitsEffect, FitsProblem}
 use Rattle.pddl_ast.specs.Known.{Known}
-use Rattle.pddl_ast.specs.Trees.{AtomTree, FormulaTree, LiteralTree, EffectTree, SchemaTree}
+use Rattle.pddl_ast.specs.Trees.{AtomTree, FormulaTree, all, no_formula, LiteralTree, EffectTree}
+use Rattle.pddl_ast.specs.Trees.{SchemaTree}
 use Rattle.pddl_ast.specs.Trees.{DomainTree, ProblemTree, TemporalTree}
 use Rattle.pddl_ast.specs.declared.trees.Named.{Named}
 use Rattle.pddl_ast.specs.declared.trees.Predicate.{Predicate}
@@ -26,7 +27,8 @@ use Rattle.pddl_system.specs.Outcomes.{ChangeTree, OutcomeTree, may_change, outc
 use Rattle.pddl_system.specs.Settings.{Setting, is_rigid_in, setting}
 use Rattle.pddl_system.specs.Sizes.{binding_count, first_passed, outcome_count}
 use Rattle.pddl_system.specs.States.{comes_about, formula_holds, fluent_number}
-use Rattle.pddl_system.specs.Systems.{action_names, fluent_names, system}
+use Rattle.pddl_system.specs.Systems.{IsExecutable, action_names, fluent_names, initial_of, system}
+use Rattle.pddl_system.specs.Systems.{vectors_after}
 use Rattle.pddl_system.specs.Tasks.{task_of}
 use Rattle.pddl_system.specs.ThreeValues.{value}
 use Rattle.ctl_syntax.specs.Conditions.{condition_value}
@@ -35,7 +37,7 @@ use Rattle.task_core.specs.ContextPlans.{Configuration, ContextPlan, Follows}
 use Rattle.task_core.specs.Names.{AreActionNames, AreFluentNames}
 use Rattle.task_core.specs.Parts.{MakesTask}
 use Rattle.task_core.specs.States.{IsWithin}
-use Rattle.task_core.specs.Systems.{Exec, IsSystem, System}
+use Rattle.task_core.specs.Systems.{AreNumbered, Exec, IsSystem, System}
 use Rattle.task_core.specs.Vectors.{Vector}
 use Rattle.task_core.specs.Tasks.{system_of}
 use Rattle.task_core.specs.declared.actions.GroundAction.{GroundAction}
@@ -103,33 +105,33 @@ ActionNamesAreNames =
 abbrev pub PartsMakeTask : Type 0
 PartsMakeTask =
     (d : DomainTree) (p : ProblemTree) (fluents : List (Vec (String Global) Global))
-    (actions : List GroundAction) (init : InitSpec) (goal : Option Cond)
+    (actions : List GroundAction) (init : InitSpec) (goal : Option Cond) (invariant : Cond)
     → FitsDomain d → FitsProblem d p → NamesAreWords d p → first_passed d p ≡ None
-    → ArePartsOf d p fluents actions init goal → IsWithin (length fluents) init.facts
-    → MakesTask fluents actions init goal
+    → ArePartsOf d p fluents actions init goal invariant → IsWithin (length fluents) init.facts
+    → MakesTask fluents actions init goal invariant
 
--- what is known of a formula is so in every state: the three values are sound
+-- what is known of a formula is so in every vector: the three values are sound
 abbrev pub KnownValuesAreSo : Type 0
 KnownValuesAreSo =
     (d : DomainTree) (p : ProblemTree) (v : Vector) (f : FormulaTree) (scope : List ℕ) (b : Bool)
     → value (setting d p) f scope ≡ Some b
     → formula_holds (setting d p) (fluents d p) v f scope ≡ b
 
--- so the precondition of an instance that isn't kept holds in no state
+-- so the precondition of an instance that isn't kept holds in no vector
 abbrev pub DroppedInstancesNeverRun : Type 0
 DroppedInstancesNeverRun =
     (d : DomainTree) (p : ProblemTree) (v : Vector) (i : Instance)
     → is_kept (setting d p) i ≡ false
     → formula_holds (setting d p) (fluents d p) v i.schema.precondition i.objects ≡ false
 
--- and a change that is known not to come about does so in no state
+-- and a change that is known not to come about does so in no vector
 abbrev pub ImpossibleChangesNeverCome : Type 0
 ImpossibleChangesNeverCome =
     (d : DomainTree) (p : ProblemTree) (v : Vector) (change : ChangeTree)
     → may_change (setting d p) change ≡ false
     → comes_about (setting d p) (fluents d p) v change ≡ false
 
--- every atom that a change of a kept instance makes true or false, in whatever state, is a fluent,
+-- every atom that a change of a kept instance makes true or false, in whatever vector, is a fluent,
 -- and every atom that an uncertain entry names: so all others keep their initial values for ever
 abbrev pub ChangedAtomsAreFluents : Type 0
 ChangedAtomsAreFluents =
@@ -161,14 +163,47 @@ RigidAtomsAreNoFluents =
 abbrev pub TheyHaveASystem : Type 0
 TheyHaveASystem = (d : DomainTree) (p : ProblemTree) → IsSystem (system d p)
 
--- and an action can be executed exactly where the precondition of its instance holds: it leads
--- somewhere, since its effect has an outcome
+-- and the states to which an action leads are those of its outcomes by their numbers
+abbrev pub OutcomesAreNumbered : Type 0
+OutcomesAreNumbered = (d : DomainTree) (p : ProblemTree) → AreNumbered (system d p)
+
+-- an action can be executed exactly in the states where the precondition of its instance holds, and
+-- some outcome of it leads to a state
 abbrev pub ExecutableWherePreconditionHolds : Type 0
 ExecutableWherePreconditionHolds =
     (d : DomainTree) (p : ProblemTree) (v : Vector) (a : ℕ) (i : Instance)
-    → FitsDomain d → slice_get (kept_instances d p) a ≡ Some i
+    → slice_get (kept_instances d p) a ≡ Some i
+    → Exec (system d p) v a ↔ IsExecutable d p v i
+
+-- in a domain without an invariant each vector is a state, the initial states are the vectors after
+-- all uncertain entries, and an action can be executed exactly where the precondition of its
+-- instance holds: it leads somewhere, since its effect has an outcome
+abbrev pub WithoutInvariantEachVectorIsAState : Type 0
+WithoutInvariantEachVectorIsAState =
+    (d : DomainTree) (p : ProblemTree)
+    → d.invariant ≡ all no_formula → (v : Vector) → (system d p).in_space v ≡ true
+
+abbrev pub WithoutInvariantInitialVectorsAreStates : Type 0
+WithoutInvariantInitialVectorsAreStates =
+    (d : DomainTree) (p : ProblemTree)
+    → d.invariant ≡ all no_formula
+    → (system d p).initial ≡ initial_of (setting d p) (fluents d p) p.entries
+
+abbrev pub WithoutInvariantExecutableWherePreconditionHolds : Type 0
+WithoutInvariantExecutableWherePreconditionHolds =
+    (d : DomainTree) (p : ProblemTree) (v : Vector) (a : ℕ) (i : Instance)
+    → FitsDomain d → d.invariant ≡ all no_formula → slice_get (kept_instances d p) a ≡ Some i
     → Exec (system d p) v a
     ↔ (formula_holds (setting d p) (fluents d p) v i.schema.precondition i.objects ≡ true)
+
+-- and it leads to the vectors after all its outcomes
+abbrev pub WithoutInvariantEachOutcomeTakesPlace : Type 0
+WithoutInvariantEachOutcomeTakesPlace =
+    (d : DomainTree) (p : ProblemTree) (v : Vector) (a : ℕ) (i : Instance)
+    → d.invariant ≡ all no_formula → slice_get (kept_instances d p) a ≡ Some i
+    → (system d p).next v a
+    ≡ (if formula_holds (setting d p) (fluents d p) v i.schema.precondition i.objects
+    then vectors_after (setting d p) (fluents d p) v i else [])
 
 -- the atoms that are named are those that are fluents
 abbrev pub NamedAtomsMakeFluents : Type 0

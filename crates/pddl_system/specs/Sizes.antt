@@ -112,8 +112,8 @@ abbrev pub instance_count : (ℕ → List ℕ) → List SchemaTree → ℕ
 instance_count objects schemas =
     sum (map (λ (s : SchemaTree). binding_count objects s.parameters) schemas)
 
--- the most objects, the most expanded size of an action and of each goal, the most instances, kept
--- instances, outcomes of one kept instance, and fluents
+-- the most objects, the most expanded size of an action, of the invariant and of each goal, the most
+-- instances, kept instances, outcomes of one kept instance, and fluents
 abbrev pub most_objects : ℕ
 most_objects = 1024
 
@@ -141,6 +141,7 @@ abbrev pub keeps : DomainTree → ProblemTree → Limit → Bool
 keeps d p object_limit = nat_le (length (all_objects d p)) most_objects
 keeps d p size_limit = let objects = (setting d p).objects in
     list_all (λ s. nat_le (schema_size objects s) most_size) d.actions
+    && nat_le (formula_size objects d.invariant) most_size
     && nat_le (goal_size objects p.goal) most_size
     && nat_le (ctl_size objects p.ctl) most_size
 keeps d p instance_limit =

@@ -36,6 +36,7 @@ pub record TaskTree : Type 0 where
   pub facts : Vector
   pub entries : List Entry
   pub goal : Option CondTree
+  pub invariant : CondTree
 
 -- the condition of an atom: that its fluent is true, or its initial value, where it is no fluent
 abbrev pub constant : Bool → CondTree
@@ -103,4 +104,5 @@ task_of d p = record {
   facts = facts_of (setting d p) (fluents d p);
   entries = map (entry_over (fluents d p)) p.entries;
   goal = option_map (λ goal. condition_of (setting d p) (fluents d p) goal []) p.goal;
+  invariant = condition_of (setting d p) (fluents d p) d.invariant [];
 }

@@ -39,15 +39,17 @@ task_value task = record {
   facts = facts_of (length task.fluents.items) task.init;
   entries = entries_of task.init;
   goal = option_map condition_value task.goal;
+  invariant = condition_value task.invariant;
 }
 
 -- the parts of a task, as they are handed to `Task::new`, stand for those of the task of a domain
 -- and a problem
 pub record ArePartsOf (d : DomainTree) (p : ProblemTree)
     (fluents : List (Vec (String Global) Global)) (actions : List GroundAction) (init : InitSpec)
-    (goal : Option Cond) : Type 0 where
+    (goal : Option Cond) (invariant : Cond) : Type 0 where
   pub fluents_are : map name_bytes fluents ≡ (task_of d p).fluents
   pub actions_are : map action_value actions ≡ (task_of d p).actions
   pub facts_are : facts_of (length fluents) init ≡ (task_of d p).facts
   pub entries_are : entries_of init ≡ (task_of d p).entries
   pub goal_is : option_map condition_value goal ≡ (task_of d p).goal
+  pub invariant_is : condition_value invariant ≡ (task_of d p).invariant

@@ -22,11 +22,16 @@ ghost use Rattle.pddl_system.specs.Laws.{
   NamedAtomsInOrderAreFluents,
   NamedAtomsMakeFluents,
   OutcomesAreCounted,
+  OutcomesAreNumbered,
   PartsMakeTask,
   ReadNamesAreWords,
   RigidAtomsAreNoFluents,
   TaskHasTheSystem,
   TheyHaveASystem,
+  WithoutInvariantEachOutcomeTakesPlace,
+  WithoutInvariantEachVectorIsAState,
+  WithoutInvariantExecutableWherePreconditionHolds,
+  WithoutInvariantInitialVectorsAreStates,
 };
 
 /// There are as many bindings of variables, and as many outcomes of an effect, as their counts say,
@@ -67,7 +72,7 @@ pub fn parts_make_a_task()
     ensures { PartsMakeTask }
 {}
 
-/// What is known of a formula, as far as what never changes decides it, is so in every state. So an
+/// What is known of a formula, as far as what never changes decides it, is so in every vector. So an
 /// instance that isn't kept can be executed in no state, and a change that is known not to come
 /// about never does.
 pub fn known_values_are_so()
@@ -86,11 +91,21 @@ pub fn fluents_are_what_changes()
 {}
 
 /// The parts of the system of a domain and a problem fit together: initial and goal states and
-/// outcomes are states over the fluents, and only kept instances can be executed, each exactly
-/// where its precondition holds.
+/// outcomes are states over the fluents, and only kept instances can be executed, each exactly in
+/// the states where its precondition holds and some outcome leads to a state.
 pub fn domains_have_systems()
     ensures system { TheyHaveASystem }
+    ensures numbered { OutcomesAreNumbered }
     ensures executable { ExecutableWherePreconditionHolds }
+{}
+
+/// In a domain without an invariant each vector is a state, an action can be executed exactly where
+/// its precondition holds, and every outcome of it takes place.
+pub fn without_invariant_each_vector_is_a_state()
+    ensures inside { WithoutInvariantEachVectorIsAState }
+    ensures initial { WithoutInvariantInitialVectorsAreStates }
+    ensures executable { WithoutInvariantExecutableWherePreconditionHolds }
+    ensures outcomes { WithoutInvariantEachOutcomeTakesPlace }
 {}
 
 /// The fluents are the atoms that kept instances' effects and uncertain entries name, each once, by

@@ -19,9 +19,10 @@ use Rattle.task_core.specs.declared.classes.Class.{Class}
 use Rattle.task_core.specs.declared.classes.Class.TheVariants.{Weak, Strong, Cyclic}
 use Rattle.task_core.specs.declared.conditions.Cond.{Cond}
 use Rattle.task_core.specs.declared.tasks.Task.{Task}
-use Rattle.task_core.proofs.TaskSystem.{length-vector, states_where_has, states_where_holds, value_of-vector}
+use Rattle.task_core.proofs.TaskSystem.{is_system, states_where_has, states_where_holds, value_of-vector}
 use Rattle.plan_rules.specs.Rules.{PlanRule, table}
 use Rattle.plan_rules.specs.Denoted.{denoted}
+use Rattle.exec_graph.proofs.Reaching.{reached_state}
 use Rattle.exec_graph.specs.Graphs.{IsGraphOf}
 use Rattle.exec_graph.specs.Values.{followers_at, graph_size, plain_graph, state_at}
 use Rattle.exec_graph.specs.declared.graphs.Place.{Place}
@@ -93,14 +94,8 @@ module _ (sys : System) (rules : List PlanRule) where
       before Unreachable l = absurd (omega arith)
       before Formula l = absurd (omega arith)
 
--- the states of a graph are over n fluents
-length_at : (n : ℕ) (places : List Place) (i : ℕ) → i < length places → length (option_map_or (λ (p : Place). vector n p.state) (slice_get places i) []) ≡ n
-length_at n [] i l = absurd (omega arith)
-length_at n (p ∷ ps) zero l = length-vector n p.state
-length_at n (p ∷ ps) (suc i) l = length_at n ps i (omega arith)
-
-goal_states_of : (task : Task) (goal : Cond) → task.goal ≡ Some goal → goal_states (system_of task) ≡ states_where (fluent_count task) goal
-goal_states_of task goal e = ap (λ (o : Option Cond). unwrap_or (option_map (states_where (fluent_count task)) o) []) e
+goal_states_of : (task : Task) (goal : Cond) → task.goal ≡ Some goal → goal_states (system_of task) ≡ states_where task goal
+goal_states_of task goal e = ap (λ (o : Option Cond). unwrap_or (option_map (states_where task) o) []) e
 
 -- the goal in a state, over the values of n fluents
 pub goal_value : (n : ℕ) (goal : Cond) (s : State) (v : Vector) → IsTrue (ids_below n goal) → v ≡ vector n s → holds_in goal s ≡ holds goal (value_of v)
@@ -138,10 +133,12 @@ module _ (task : Task) (goal : Cond) (is : task.goal ≡ Some goal) (graph : Gra
   sys = system_of task
 
   goal_inside : (i : ℕ) → i < graph_size graph → is_goal_at n goal graph i ≡ true → Contains (goal_states sys) (state_at n graph i)
-  goal_inside i l e = subst (λ ss. Contains ss (state_at n graph i)) (sym (goal_states_of task goal is)) (states_where_has n goal (state_at n graph i) (length_at n graph.places.keys i l) e)
+  goal_inside i l e =
+      let here = reached_state sys (table word rules) ((plain_graph n graph).configuration i) (is_system task) (h.reached i l) in
+      subst (λ ss. Contains ss (state_at n graph i)) (sym (goal_states_of task goal is)) (states_where_has task goal (state_at n graph i) here.vector here.inside e)
 
   inside_goal : (i : ℕ) → Contains (goal_states sys) (state_at n graph i) → is_goal_at n goal graph i ≡ true
-  inside_goal i c = (states_where_holds n goal (state_at n graph i) (subst (λ ss. Contains ss (state_at n graph i)) (goal_states_of task goal is) c)).1
+  inside_goal i c = (states_where_holds task goal (state_at n graph i) (subst (λ ss. Contains ss (state_at n graph i)) (goal_states_of task goal is) c)).1
 
   -- ends
   pub ends_outside : HasEndOutside n goal graph → MayEndOutside sys (denoted sys rules)

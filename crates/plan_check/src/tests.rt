@@ -97,7 +97,7 @@ pub(crate) fn task(alloc: Global) -> Result<Task, Fail>
         facts: State::none(),
         entries: either(alloc)?,
     };
-    let task = Task::try_new(fluents, actions, init, Some(is(P)));
+    let task = Task::try_new(fluents, actions, init, Some(is(P)), Cond::Yes);
     Ok(task.ok_or("these are the parts of a task")?)
 }
 

@@ -1,21 +1,24 @@
 -- The goal states of a task, and graphs that are too large to be shown.
-use Rattle.std.proofs.Common.{◌≡◌, ◌↔◌, ℕ, ◌<◌, Bool, true, false, IsTrue, Option, [], length, map, get_or, Some, None, sym, ap, ◌∙◌, subst, arith}
+use Rattle.std.proofs.Common.{◌≡◌, ◌↔◌, ℕ, ◌<◌, Bool, true, false, cond, ◌&&◌, IsTrue, List, Option, [], length, map, get_or, Some, None, slice_get, refl, sym, ap, ◌∙◌, subst, arith}
 use Rattle.std.specs.List.{Contains, range_with_len}
-use Rattle.std.specs.Option.{option_map, unwrap_or}
-use Rattle.std.proofs.lemmas.Bool.{false≢true}
+use Rattle.std.specs.Option.{option_and_then, option_map, unwrap_or}
+use Rattle.std.proofs.lemmas.Bool.{and_from, and_parts, false≢true}
+use Rattle.std.proofs.lemmas.List.{length-map}
+use Rattle.std.proofs.lemmas.Option.{none-some, slice_get_within}
 use Rattle.std.proofs.lemmas.List.FromFn.{length-map-range_with_len, get_or-map-range_with_len}
 use Rattle.exec_graph.specs.Executions.{IsReachedBy, ReachesMoreThan}
 use Rattle.exec_graph.specs.Graphs.{IsGraphOf, PlainGraph}
 use Rattle.exec_graph.proofs.Lists.{Contains-nil}
+use Rattle.plan_picture.proofs.Shown.{IsNumberedSystem}
 use Rattle.plan_rules.specs.Rules.{PlainPlan}
 use Rattle.task_core.proofs.Agreement.{ids_below_widen, holds_agree}
-use Rattle.task_core.proofs.TaskSystem.{length-vector, states_where_has, states_where_holds, value_of-vector}
-use Rattle.task_core.specs.Actions.{goal_within}
+use Rattle.task_core.proofs.TaskSystem.{are_numbered, is_system, length-vector, states_where_has, states_where_holds, value_of-vector}
+use Rattle.task_core.specs.Actions.{after, goal_within}
 use Rattle.task_core.specs.Conditions.{holds, holds_in, ids_below}
 use Rattle.task_core.specs.ContextPlans.{Configuration}
 use Rattle.task_core.specs.States.{truth, vector}
 use Rattle.task_core.specs.Systems.{System, goal_states}
-use Rattle.task_core.specs.Tasks.{fluent_count, states_where, system_of}
+use Rattle.task_core.specs.Tasks.{fluent_count, if_state, in_space, is_allowed, outcomes_at, states_after, states_where, system_of}
 use Rattle.task_core.specs.Vectors.{Vector, value_of}
 use Rattle.task_core.specs.declared.conditions.Cond.{Cond}
 use Rattle.task_core.specs.declared.states.State.{State}
@@ -27,8 +30,8 @@ goal_inside task goal e = ap (goal_within (fluent_count task)) (sym e) ∙ task.
 pub goal_below : (task : Task) (goal : Cond) → task.goal ≡ Some goal → IsTrue (ids_below 256 goal)
 goal_below task goal e = ids_below_widen goal (fluent_count task) 256 task.few_fluents (goal_inside task goal e)
 
-goal_states_of : (task : Task) (goal : Cond) → task.goal ≡ Some goal → goal_states (system_of task) ≡ states_where (fluent_count task) goal
-goal_states_of task goal e = ap (λ (o : Option Cond). unwrap_or (option_map (states_where (fluent_count task)) o) []) e
+goal_states_of : (task : Task) (goal : Cond) → task.goal ≡ Some goal → goal_states (system_of task) ≡ states_where task goal
+goal_states_of task goal e = ap (λ (o : Option Cond). unwrap_or (option_map (states_where task) o) []) e
 
 goal_value : (task : Task) (goal : Cond) (s : State) → task.goal ≡ Some goal → holds_in goal s ≡ holds goal (value_of (vector (fluent_count task) s))
 goal_value task goal s e =
@@ -36,21 +39,25 @@ goal_value task goal s e =
     sym (holds_agree goal n (value_of (vector n s)) (truth s) (goal_inside task goal e) (λ f l. value_of-vector n s f l))
 
 -- where there is a goal, the goal states are those in which it holds
-pub goal_is : (task : Task) (goal : Cond) (s : State) (b : Bool) → task.goal ≡ Some goal → b ≡ holds_in goal s
+pub goal_is : (task : Task) (goal : Cond) (s : State) (b : Bool) → task.goal ≡ Some goal → b ≡ (in_space task (vector (fluent_count task) s) && holds_in goal s)
     → IsTrue b ↔ Contains (goal_states (system_of task)) (vector (fluent_count task) s)
 goal_is task goal s b e is =
     let n = fluent_count task in
     let v = vector n s in
     subst (λ ss. IsTrue b ↔ Contains ss v) (sym (goal_states_of task goal e)) (
-      λ (h : b ≡ true). states_where_has n goal v (length-vector n s) (sym (goal_value task goal s e) ∙ sym is ∙ h),
-      λ c. is ∙ goal_value task goal s e ∙ (states_where_holds n goal v c).1,
+      λ (h : b ≡ true).
+          let both = and_parts (in_space task v) (holds_in goal s) (sym is ∙ h) in
+          states_where_has task goal v (length-vector n s) both.0 (sym (goal_value task goal s e) ∙ both.1),
+      λ c.
+          let held = states_where_holds task goal v c in
+          is ∙ and_from (in_space task v) (holds_in goal s) held.0.inside (goal_value task goal s e ∙ held.1),
     )
 
 -- and where there is none, no state is one
 pub goal_none : (task : Task) (v : Vector) → task.goal ≡ None → IsTrue false ↔ Contains (goal_states (system_of task)) v
 goal_none task v e = (
   λ (h : false ≡ true). absurd (false≢true h),
-  λ c. absurd (Contains-nil v (subst (λ ss. Contains ss v) (ap (λ (o : Option Cond). unwrap_or (option_map (states_where (fluent_count task)) o) []) e) c)),
+  λ c. absurd (Contains-nil v (subst (λ ss. Contains ss v) (ap (λ (o : Option Cond). unwrap_or (option_map (states_where task) o) []) e) c)),
 )
 
 -- a graph of many configurations
@@ -69,3 +76,22 @@ reaches_more sys plan graph limit is more =
       reached = λ i d l. subst (IsReachedBy sys plan) (sym (at i d l)) (is.reached i (omega (arith, l, long)));
       more = omega (arith, more, long);
     }
+
+-- only an outcome that an action has leads anywhere
+some_led : {X : Type 0} (b : Bool) (f : Vector → Option X) (ts : List Vector) (k : ℕ) (x : X) → cond b (option_and_then f (slice_get ts k)) None ≡ Some x → k < length ts
+some_led false f ts k x e = absurd (none-some x e)
+some_led true f ts k x e = go (slice_get ts k) refl e
+  where
+    go : (o : Option Vector) → slice_get ts k ≡ o → option_and_then f o ≡ Some x → k < length ts
+    go None at d = absurd (none-some x d)
+    go (Some t) at d = slice_get_within ts k t at
+
+-- the system of a task
+pub numbered_system : (task : Task) → IsNumberedSystem (system_of task)
+numbered_system task = record {
+  system = is_system task;
+  numbered = are_numbered task;
+  bounded = λ s a k t e.
+      subst (λ m. k < m) (length-map (outcomes_at task a) (λ o. after (fluent_count task) o s))
+      (some_led (is_allowed task s a) (if_state task) (states_after task s a) k t e);
+}

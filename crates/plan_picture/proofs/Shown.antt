@@ -9,15 +9,15 @@ use Rattle.exec_graph.specs.Graphs.{IsGraphOf, PlainGraph}
 use Rattle.exec_graph.proofs.Listed.{Contains-number, number-Contains}
 use Rattle.exec_graph.proofs.Lists.{Contains-nil}
 use Rattle.task_core.specs.Vectors.{Vector}
-use Rattle.task_core.specs.Systems.{IsSystem, System, goal_states}
+use Rattle.task_core.specs.Systems.{AreNumbered, IsSystem, System, goal_states}
 use Rattle.task_core.specs.ContextPlans.{Configuration, IsInitial}
 use Rattle.plan_rules.specs.Advices.{Advised, advised_by}
 use Rattle.plan_rules.specs.Denoted.{next_context, rule_at}
 use Rattle.plan_rules.specs.Rules.{ContextRule, PlainPlan, PlanNext, table, automaton}
 use Rattle.plan_picture.specs.Pictures.{HasAction, IsBefore, IsNode, IsPictureOf, IsStepFrom, PlainNode, PlainStep, configurations, context_after}
-use Rattle.plan_picture.specs.Places.{ShowEach, Shows, advised_in_table, place_after, place_from, plan_steps, steps_if}
+use Rattle.plan_picture.specs.Places.{ShowEach, Shows, advised_in_table, outcomes_from, place_after, place_from, plan_steps, steps_if}
 use Rattle.plan_picture.proofs.Found.{AreDistinct, found, finds, pushed_cases}
-use Rattle.plan_picture.proofs.Stepped.{IsOutcome, none_ordered, outcomes_has, outcomes_only, outcomes_ordered, table_has, table_only, table_ordered}
+use Rattle.plan_picture.proofs.Stepped.{IsOutcome, leads_somewhere, none_ordered, outcome_after, outcome_at, outcomes_has, outcomes_only, outcomes_ordered, table_has, table_only, table_ordered}
 
 -- where an outcome leads
 record IsAfter (places : List Configuration) (next : PlanNext) (t : Vector) (i : ℕ) : Type 0 where
@@ -42,13 +42,28 @@ after_has places next y i differ h there =
     ∙ finds 0 places y i differ there
     ∙ ap Some (omega arith)
 
+-- only an outcome that an action has leads anywhere
+abbrev AreBounded : System → Type 0
+AreBounded sys = (s : Vector) (a k : ℕ) (t : Vector) → sys.after s a k ≡ Some t → k < sys.outcomes a
+
+pub record IsNumberedSystem (sys : System) : Type 0 where
+  pub system : IsSystem sys
+  pub numbered : AreNumbered sys
+  pub bounded : (s : Vector) (a k : ℕ) (t : Vector) → sys.after s a k ≡ Some t → k < sys.outcomes a
+
+there_is : (sys : System) (x : Configuration) (a : Advised) (step : PlainStep) (t : Vector) → AreBounded sys → step.action ≡ a.action → sys.after x.state step.action step.outcome ≡ Some t
+    → slice_get (outcomes_from sys x.state a.action) step.outcome ≡ Some (Some t)
+there_is sys x a step t bounded e leads =
+    let here : sys.after x.state a.action step.outcome ≡ Some t = ap (λ k. sys.after x.state k step.outcome) (sym e) ∙ leads in
+    outcome_at sys x.state a.action step.outcome (bounded x.state a.action step.outcome t here) ∙ ap Some here
+
 -- what the plan says at x
 record IsAdvisedAt (plan : PlainPlan) (x : Configuration) (a : Advised) : Type 0 where
   pub has : HasAction plan x a.action
   pub onward : (t : Vector) → context_after plan x t ≡ next_context a.next t
 
 module _ (sys : System) (places : List Configuration) where
-  step_from : (plan : PlainPlan) (x : Configuration) (a : Advised) (step : PlainStep) → IsAdvisedAt plan x a → IsOutcome places a 0 (sys.next x.state a.action) step
+  step_from : (plan : PlainPlan) (x : Configuration) (a : Advised) (step : PlainStep) → IsAdvisedAt plan x a → IsOutcome places a 0 (outcomes_from sys x.state a.action) step
       → IsStepFrom sys plan places x step
   step_from plan x a step advised o =
       let e = after_only places a.next o.after step.target o.target in
@@ -58,19 +73,19 @@ module _ (sys : System) (places : List Configuration) where
         place = e.there;
         steps = record {
           has = subst (HasAction plan x) (sym o.action) advised.has;
-          leads = ap (λ k. slice_get (sys.next x.state k) step.outcome) o.action ∙ ap (slice_get (sys.next x.state a.action)) number ∙ o.there;
+          leads = ap (λ k. sys.after x.state k step.outcome) o.action ∙ ap (sys.after x.state a.action) number ∙ outcome_after sys x.state a.action o.number o.after o.there;
           context = advised.onward o.after ∙ e.onward;
         };
       }
 
-  step_to : (plan : PlainPlan) (x : Configuration) (a : Advised) (step : PlainStep) → AreDistinct places → IsAdvisedAt plan x a → step.action ≡ a.action → IsStepFrom sys plan places x step
-      → IsOutcome places a 0 (sys.next x.state a.action) step
-  step_to plan x a step differ advised e f = record {
+  step_to : (plan : PlainPlan) (x : Configuration) (a : Advised) (step : PlainStep) → AreBounded sys → AreDistinct places → IsAdvisedAt plan x a → step.action ≡ a.action → IsStepFrom sys plan places x step
+      → IsOutcome places a 0 (outcomes_from sys x.state a.action) step
+  step_to plan x a step bounded differ advised e f = record {
     number = step.outcome;
     after = f.target.state;
     action = e;
     outcome = omega arith;
-    there = ap (λ k. slice_get (sys.next x.state k) step.outcome) (sym e) ∙ f.steps.leads;
+    there = there_is sys x a step f.target.state bounded e f.steps.leads;
     target = after_has places a.next f.target step.target differ (sym (advised.onward f.target.state) ∙ f.steps.context) f.place;
   }
 
@@ -90,15 +105,15 @@ module _ (sys : System) (places : List Configuration) where
       go : (o : Option ContextRule) → rule_at rules x.state x.context ≡ o → Contains (steps_if sys places x.state (option_map advised_by o)) step
           → IsStepFrom sys (automaton contexts rules) places x step
       go None h d = absurd (Contains-nil step d)
-      go (Some rule) h d = step_from (automaton contexts rules) x (advised_by rule) step (by_rule contexts rules x rule h) (outcomes_only places (advised_by rule) 0 (sys.next x.state rule.action) step d)
+      go (Some rule) h d = step_from (automaton contexts rules) x (advised_by rule) step (by_rule contexts rules x rule h) (outcomes_only places (advised_by rule) 0 (outcomes_from sys x.state rule.action) step d)
 
-  plan_has : (plan : PlainPlan) (x : Configuration) (step : PlainStep) → IsSystem sys → AreDistinct places → IsStepFrom sys plan places x step → Contains (plan_steps sys plan places x) step
+  plan_has : (plan : PlainPlan) (x : Configuration) (step : PlainStep) → IsNumberedSystem sys → AreDistinct places → IsStepFrom sys plan places x step → Contains (plan_steps sys plan places x) step
   plan_has (table class rules) x step ok differ f =
-      let some : sys.next x.state step.action ≢ [] = λ e. none-some f.target.state (ap (λ ts. slice_get ts step.outcome) (sym e) ∙ f.steps.leads) in
+      let led = step_to (table class rules) x (advised_in_table step.action) step ok.bounded differ (record { has = f.steps.has; onward = λ t. refl }) refl f in
       table_has sys places rules x.state sys.actions step (record {
-        below = ok.actions x.state step.action some;
+        below = ok.system.actions x.state step.action (leads_somewhere sys x.state step.action ok.numbered led.number led.after led.there);
         has = f.steps.has;
-        led = step_to (table class rules) x (advised_in_table step.action) step differ (record { has = f.steps.has; onward = λ t. refl }) refl f;
+        led = led;
       })
   plan_has (automaton contexts rules) x step ok differ f = go (rule_at rules x.state x.context) refl
     where
@@ -106,8 +121,8 @@ module _ (sys : System) (places : List Configuration) where
       go None h = absurd (none-some step.action (sym (ap (option_map (λ (r : ContextRule). r.action)) h) ∙ f.steps.has))
       go (Some rule) h =
           let e : rule.action ≡ step.action = same_Some rule.action step.action (sym (ap (option_map (λ (r : ContextRule). r.action)) h) ∙ f.steps.has) in
-          let o = step_to (automaton contexts rules) x (advised_by rule) step differ (by_rule contexts rules x rule h) (sym e) f in
-          outcomes_has places (advised_by rule) 0 (sys.next x.state rule.action) step o.number o.after o.action o.outcome o.there o.target
+          let o = step_to (automaton contexts rules) x (advised_by rule) step ok.bounded differ (by_rule contexts rules x rule h) (sym e) f in
+          outcomes_has places (advised_by rule) 0 (outcomes_from sys x.state rule.action) step o.number o.after o.action o.outcome o.there o.target
 
   plan_ordered : (plan : PlainPlan) (x : Configuration) → AllPairs IsBefore (plan_steps sys plan places x)
   plan_ordered (table class rules) x = table_ordered sys places rules x.state sys.actions
@@ -115,10 +130,10 @@ module _ (sys : System) (places : List Configuration) where
     where
       go : (o : Option ContextRule) → AllPairs IsBefore (steps_if sys places x.state (option_map advised_by o))
       go None = none_ordered
-      go (Some rule) = outcomes_ordered places (advised_by rule) 0 (sys.next x.state rule.action)
+      go (Some rule) = outcomes_ordered places (advised_by rule) 0 (outcomes_from sys x.state rule.action)
 
   -- what shows a configuration is a node
-  shown_node : (plan : PlainPlan) (x : Configuration) (mark : Bool) (node : PlainNode) → IsSystem sys → AreDistinct places → (IsTrue mark ↔ IsInitial sys x) → Shows sys plan places x mark node
+  shown_node : (plan : PlainPlan) (x : Configuration) (mark : Bool) (node : PlainNode) → IsNumberedSystem sys → AreDistinct places → (IsTrue mark ↔ IsInitial sys x) → Shows sys plan places x mark node
       → IsNode sys plan places node
   shown_node plan x mark node ok differ first h = record {
     initial = subst (λ b. IsTrue b ↔ IsInitial sys node.configuration) (sym h.initial) (subst (λ y. IsTrue mark ↔ IsInitial sys y) (sym h.configuration) first);
@@ -140,7 +155,7 @@ same_list (x ∷ xs) (y ∷ ys) l h =
 
 -- the nodes that show the configurations of a graph
 module _ (sys : System) (plan : PlainPlan) (graph : PlainGraph) (places : List Configuration) (nodes : List PlainNode)
-    (ok : IsSystem sys) (is : IsGraphOf sys plan graph) (count : length places ≡ graph.size) (each : length nodes ≡ graph.size)
+    (ok : IsNumberedSystem sys) (is : IsGraphOf sys plan graph) (count : length places ≡ graph.size) (each : length nodes ≡ graph.size)
     (at : (i : ℕ) → i < graph.size → slice_get places i ≡ Some (graph.configuration i)) (shown : ShowEach sys plan places graph.initial nodes) where
   below : (i : ℕ) (x : Configuration) → slice_get places i ≡ Some x → i < graph.size
   below i x e = let l = slice_get_within places i x e in omega (arith, l, count)

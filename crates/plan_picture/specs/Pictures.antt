@@ -41,11 +41,12 @@ abbrev pub context_after : PlainPlan → Configuration → Vector → Option ℕ
 context_after (table class rules) x t = Some first_context
 context_after (automaton contexts rules) x t = (denoted_contexts rules).ctxt x.state x.context t
 
--- the plan may step from x to y: it has the action at x, and this outcome of it leads to y
+-- the plan may step from x to y: it has the action at x, and its outcome of this number, counted
+-- among all of them, leads to y
 pub record Steps (sys : System) (plan : PlainPlan) (x : Configuration) (action outcome : ℕ)
     (y : Configuration) : Type 0 where
   pub has : HasAction plan x action
-  pub leads : slice_get (sys.next x.state action) outcome ≡ Some y.state
+  pub leads : sys.after x.state action outcome ≡ Some y.state
   pub context : context_after plan x y.state ≡ Some y.context
 
 -- the step leads from x to the node at its place, among nodes with these configurations

@@ -2,7 +2,7 @@
 -- it makes.
 use Rattle.std.specs.Prelude.{◌≡◌, ◌↔◌, ℕ, zero, suc, Bool, ◌&&◌, ◌==◌, All, IsTrue, List, [], ◌∷◌, ◌++◌}
 use Rattle.std.specs.Prelude.{Option, Some, None, map, option_to_list, slice_get, if◌then◌else◌}
-use Rattle.std.specs.List.{Contains}
+use Rattle.std.specs.List.{Contains, range_with_len}
 use Rattle.std.specs.Option.{option_map, option_and_then}
 use Rattle.task_core.specs.States.{IsWithin, vector}
 use Rattle.task_core.specs.Vectors.{Vector, same_vector}
@@ -40,22 +40,28 @@ place_after places next t =
     option_and_then (λ context. place_from 0 places (record { state = t; context = context }))
     (next_context next t)
 
--- Private: the step by one outcome of what is advised, if it leads to one of the places
-abbrev pub outcome_steps : List Configuration → Advised → ℕ → Vector → List PlainStep
+-- Private: the step by one outcome of what is advised, if it leads to a state at one of the places
+abbrev pub outcome_steps : List Configuration → Advised → ℕ → Option Vector → List PlainStep
 outcome_steps places advised outcome t =
     option_to_list
     (option_map (λ i. record { action = advised.action; outcome = outcome; target = i })
-    (place_after places advised.next t))
+    (option_and_then (place_after places advised.next) t))
 
 -- Private: the steps by outcomes whose numbers begin with k
-abbrev pub outcomes_steps : List Configuration → Advised → ℕ → List Vector → List PlainStep
+abbrev pub outcomes_steps : List Configuration → Advised → ℕ → List (Option Vector)
+    → List PlainStep
 outcomes_steps places advised k [] = []
 outcomes_steps places advised k (t ∷ ts) =
     outcome_steps places advised k t ++ outcomes_steps places advised (suc k) ts
 
+-- Private: to what each outcome of action a leads from the state s
+abbrev pub outcomes_from : System → Vector → ℕ → List (Option Vector)
+outcomes_from sys s a = map (sys.after s a) (range_with_len 0 (sys.outcomes a))
+
 -- Private: the steps by what is advised in the state s
 abbrev pub steps_by : System → List Configuration → Vector → Advised → List PlainStep
-steps_by sys places s advised = outcomes_steps places advised 0 (sys.next s advised.action)
+steps_by sys places s advised =
+    outcomes_steps places advised 0 (outcomes_from sys s advised.action)
 
 abbrev pub steps_if : System → List Configuration → Vector → Option Advised → List PlainStep
 steps_if sys places s None = []

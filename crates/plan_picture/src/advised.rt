@@ -32,7 +32,7 @@ ghost use Rattle.std.specs.Prelude.{
 };
 ghost use Rattle.task_core.specs.States.{IsWithin, vector};
 ghost use Rattle.task_core.specs.Systems.{Exec};
-ghost use Rattle.task_core.specs.Tasks.{action_count, fluent_count, outcomes_at, system_of};
+ghost use Rattle.task_core.specs.Tasks.{action_count, fluent_count, if_state, outcomes_at, system_of};
 
 use crate::pictures::Step;
 use crate::places::{Place, number_of};
@@ -40,7 +40,7 @@ use plan_rules::{
     Advice, AutoRule, FIRST_CONTEXT, Onward, Plan, Rule, context_in, has_all, onward_of,
 };
 use std::alloc::{AllocError, Global};
-use task_core::{ActionId, State, Task, is_exec, step};
+use task_core::{ActionId, State, Task, in_space, is_exec, step};
 
 /// The steps of a plan from a configuration to others, in the order of actions and outcomes.
 pub(crate) fn steps_from(
@@ -185,8 +185,8 @@ fn add_steps(
     Ok(())
 }
 
-/// Adds the step by one outcome of what is advised, which leads to this state, if it stands among
-/// the places with the next context.
+/// Adds the step by one outcome of what is advised, which leads to this vector, if it is a state and
+/// stands among the places with the next context.
 fn add_step(
     task: &Task,
     places: &[Place],
@@ -201,8 +201,11 @@ fn add_step(
     requires after_within { IsWithin (fluent_count task.now) after.now }
     ensures steps { let n = fluent_count task.now in OnOk result (map step_value steps.new.items
         ≡ map step_value steps.old.items ++ outcome_steps (configurations_of n places.now)
-        (advice_value advice.now) outcome (vector n after.now)) }
+        (advice_value advice.now) outcome (if_state task.now (vector n after.now))) }
 {
+    if !in_space(task, after) {
+        return Ok(());
+    }
     if let Some(target) = target_of(task, places, after, &advice.onward) {
         steps.push(Step {
             action: advice.action,

@@ -15,25 +15,26 @@ ghost use Rattle.plan_picture.specs.Places.{
 ghost use Rattle.plan_picture.specs.Values.{node_value, nodes_of};
 ghost use Rattle.plan_rules.specs.Plans.{IsPlanOf};
 ghost use Rattle.plan_rules.specs.Rules.{plain_of};
-ghost use Rattle.std.specs.Prelude.{◌≡◌, ◌≤◌, ◌<◌, ◌↔◌, IfOk, IsErrOf, IsTrue, length, map};
+ghost use Rattle.std.specs.Prelude.{◌≡◌, ◌≤◌, ◌<◌, ◌↔◌, ◌&&◌, IfOk, IsErrOf, IsTrue, length, map};
 ghost use Rattle.std.specs.List.{Contains};
+ghost use Rattle.task_core.specs.Conditions.{holds_in, ids_below};
 ghost use Rattle.task_core.specs.States.{IsWithin, vector};
 ghost use Rattle.task_core.specs.Systems.{goal_states};
-ghost use Rattle.task_core.specs.Tasks.{action_count, fluent_count, system_of};
+ghost use Rattle.task_core.specs.Tasks.{action_count, fluent_count, in_space, system_of};
 
 use crate::advised::steps_from;
 use crate::places::{Place, place_at, places_of};
 use exec_graph::{Graph, GraphErr, explore};
 use plan_rules::Plan;
 use std::alloc::{AllocError, Global};
-use task_core::{ActionId, State, Task, cond_holds};
+use task_core::{ActionId, Cond, State, Task, cond_holds, in_space};
 use thiserror::Error;
 
 /// How many configurations a picture may show.
 pub const MAX_NODES: usize = 400;
 
-/// A step of a plan: an action, the number of its outcome, and the place of the node to which it
-/// leads.
+/// A step of a plan: an action, the number of its outcome among all of them, and the place of the
+/// node to which it leads.
 #[derive(Clone, Copy, Debug)]
 pub struct Step {
     pub action: ActionId,
@@ -61,7 +62,8 @@ pub struct Picture {
 /// Why there is no picture.
 #[derive(Clone, Copy, Debug, PartialEq, Eq, Error)]
 pub enum PictureErr {
-    /// There were more than 262,144 states after some of the uncertain initial entries.
+    /// There were more than 262,144 vectors after some of the uncertain initial entries, states or
+    /// not.
     #[error("too many initial states")]
     Initial,
     /// The plan may reach more than 400 configurations.
@@ -84,7 +86,7 @@ impl From<AllocError> for PictureErr {
 
 /// The picture of the plan in the task.
 ///
-/// `Initial` comes only where there are more than 262,144 states after some of the uncertain
+/// `Initial` comes only where there are more than 262,144 vectors after some of the uncertain
 /// initial entries. Where there aren't, `Configurations` comes only where the plan may reach
 /// more than 400 configurations. Both yield to want of memory.
 pub fn picture_of(alloc: Global, task: &Task, plan: &Plan) -> Result<Picture, PictureErr>
@@ -191,13 +193,22 @@ fn node_of(
     })
 }
 
-/// Whether a state is a goal state. Where there is no goal, none is.
+/// Whether a vector is a goal state: a state in which the goal holds. Where there is no goal, none is.
 fn is_in_goal(task: &Task, state: &State) -> bool
     ensures { IsTrue result ↔ Contains (goal_states (system_of task.now))
         (vector (fluent_count task.now) state.now) }
 {
     match &task.goal {
-        Some(goal) => cond_holds(goal, state),
+        Some(goal) => holds_in_state(task, goal, state),
         None => false,
     }
+}
+
+/// Whether a vector is a state in which a condition holds.
+fn holds_in_state(task: &Task, cond: &Cond, state: &State) -> bool
+    requires { IsTrue (ids_below 256 cond.now) }
+    ensures { result ≡ (in_space task.now (vector (fluent_count task.now) state.now)
+        && holds_in cond.now state.now) }
+{
+    in_space(task, state) && cond_holds(cond, state)
 }

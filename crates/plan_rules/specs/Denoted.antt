@@ -7,7 +7,7 @@ use Rattle.std.specs.Prelude.{ℕ, Bool, true, ◌&&◌, ◌≡◌, List, map, �
 use Rattle.std.specs.List.{Contains, filter, flat_map, list_any, range_with_len}
 use Rattle.std.specs.Option.{option_map, option_and_then}
 use Rattle.task_core.specs.Vectors.{Vector, all_vectors}
-use Rattle.task_core.specs.Systems.{System, Exec, IsState}
+use Rattle.task_core.specs.Systems.{System, Exec, IsVector}
 use Rattle.task_core.specs.Tables.{Table}
 use Rattle.task_core.specs.ContextPlans.{ContextPlan}
 use Rattle.task_core.specs.Cubes.{matches}
@@ -31,10 +31,10 @@ denoted_at sys rules v =
 abbrev pub denoted : System → List PlanRule → Table
 denoted sys rules = flat_map (denoted_at sys rules) (all_vectors sys.fluents)
 
--- no rule matches a state in which its action can't be executed
+-- no rule matches a vector, be it a state or not, in which its action can't be executed
 abbrev pub IsExecutable : System → List PlanRule → Type 0
 IsExecutable sys rules =
-    (rule : PlanRule) (v : Vector) → Contains rules rule → IsState sys v → matches rule.cube v
+    (rule : PlanRule) (v : Vector) → Contains rules rule → IsVector sys v → matches rule.cube v
     ≡ true
     → Exec sys v rule.action
 

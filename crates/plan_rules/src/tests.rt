@@ -41,7 +41,7 @@ fn task(alloc: Global) -> Result<Option<Task>, AllocError> {
         facts: State::none(),
         entries: Vec::new(alloc),
     };
-    Ok(Task::try_new(fluents, actions, init, None))
+    Ok(Task::try_new(fluents, actions, init, None, Cond::Yes))
 }
 
 // What the reader answers: the text of the plan that it read, or the fault.

@@ -59,6 +59,7 @@ fn lamp(alloc: Global) -> Result<Task, Fail>
         vec![in alloc; on, off]?,
         init,
         None,
+        Cond::Yes,
     );
     Ok(task.ok_or("these are the parts of a task")?)
 }

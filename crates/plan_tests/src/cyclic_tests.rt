@@ -63,7 +63,8 @@ fn task(alloc: Global, actions: Vec<GroundAction>) -> Result<Task, Fail>
         facts: State::none(),
         entries: Vec::new(alloc),
     };
-    let task = Task::try_new(fluents, actions, init, Some(Cond::Is(FluentId(DONE))));
+    let goal = Some(Cond::Is(FluentId(DONE)));
+    let task = Task::try_new(fluents, actions, init, goal, Cond::Yes);
     Ok(task.ok_or("these are the parts of a task")?)
 }
 

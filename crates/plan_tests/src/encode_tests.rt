@@ -84,11 +84,11 @@ fn slip(alloc: Global) -> Result<Option<Task>, AllocError> {
     };
     let mut actions = Vec::new(alloc);
     actions.push(go(alloc)?)?;
-    Ok(Task::try_new(fluents, actions, init, Some(Cond::Is(THERE))))
+    Ok(Task::try_new(fluents, actions, init, Some(Cond::Is(THERE)), Cond::Yes))
 }
 
 /// A slot's set: bit 0 for nowhere, 1 for here, 2 for there, 3 for both.
-fn table(sets: &Sets, a: SetId) -> u8
+pub fn table(sets: &Sets, a: SetId) -> u8
     requires { IsLive sets.now a.0 }
 {
     let mut table = 0;

@@ -17,4 +17,6 @@ mod random_tasks;
 #[cfg(test)]
 mod reach_tests;
 #[cfg(test)]
+mod space_tests;
+#[cfg(test)]
 mod stage_tests;

@@ -12,7 +12,9 @@ use encode_task::{Enc, encode};
 use preimage::{strong_pre, weak_pre};
 use std::alloc::Global;
 use std::test::Fail;
-use task_core::{ActionId, FluentId, State, Task, cond_holds, init_states, is_exec, step};
+use task_core::{
+    ActionId, FluentId, State, Task, cond_holds, in_space, init_states, is_exec, step,
+};
 
 /// Whether the sets of the actions say what the states do.
 fn actions_agree(task: &Task, enc: &Enc, state: &State) -> bool
@@ -47,13 +49,16 @@ fn ends_agree(task: &Task, enc: &Enc, initial: &[State], state: &State) -> bool
         return false;
     }
     match (enc.goal(), &task.goal) {
-        (Some(slot), Some(goal)) => enc.sets().holds(slot, state) == cond_holds(goal, state),
+        (Some(slot), Some(goal)) => {
+            let is_held = cond_holds(goal, state);
+            enc.sets().holds(slot, state) == (is_held && in_space(task, state))
+        }
         (None, None) => true,
         _ => false,
     }
 }
 
-/// Whether both preimages of a set say of a state what its outcomes do.
+/// Whether both preimages of a set say of a vector what those of its outcomes do that are states.
 fn state_agrees(
     task: &Task,
     enc: &Enc,
@@ -72,6 +77,9 @@ fn state_agrees(
     let mut are_all_in = true;
     for o in 0..enc.outcomes(a) {
         let after = step(task, state, a, o);
+        if !in_space(task, &after) {
+            continue;
+        }
         if enc.sets().holds(slots.0, &after) {
             is_some_in = true;
         } else {

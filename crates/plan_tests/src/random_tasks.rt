@@ -111,7 +111,7 @@ fn name(alloc: Global, word: &str) -> Result<Vec<String>, AllocError> {
 }
 
 /// The task of a seed: 1 to 5 fluents, two actions with 1 to 4 outcomes, up to two uncertain
-/// entries, and a goal in three of four.
+/// entries, a goal in three of four, and an invariant in one of two.
 pub fn task(alloc: Global, seed: u32) -> Result<Option<Task>, AllocError> {
     let mut source = Source {
         seed,
@@ -138,7 +138,12 @@ pub fn task(alloc: Global, seed: u32) -> Result<Option<Task>, AllocError> {
         Some(cond(alloc, &mut source, 3)?)
     };
     let init = InitSpec { facts, entries };
-    Ok(Task::try_new(fluents, actions, init, goal))
+    let invariant = if seed % 2 == 0 {
+        Cond::Yes
+    } else {
+        cond(alloc, &mut source, 2)?
+    };
+    Ok(Task::try_new(fluents, actions, init, goal, invariant))
 }
 
 /// The state whose first fluents have the values of the last bits of a number.

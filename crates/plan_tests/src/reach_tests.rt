@@ -26,7 +26,7 @@ fn fluent(letter: u8) -> FluentId {
 }
 
 /// A literal for each letter: true for a capital one.
-fn literals(alloc: Global, letters: &str) -> Result<Vec<Lit>, AllocError> {
+pub fn literals(alloc: Global, letters: &str) -> Result<Vec<Lit>, AllocError> {
     let mut lits = Vec::new(alloc);
     for letter in letters.bytes() {
         lits.push(Lit {
@@ -38,7 +38,7 @@ fn literals(alloc: Global, letters: &str) -> Result<Vec<Lit>, AllocError> {
 }
 
 /// That all literals hold.
-fn all_of(alloc: Global, lits: &[Lit]) -> Result<Cond, AllocError> {
+pub fn all_of(alloc: Global, lits: &[Lit]) -> Result<Cond, AllocError> {
     let mut parts = Vec::new(alloc);
     for lit in lits {
         let is = Cond::Is(lit.fluent);
@@ -62,12 +62,12 @@ fn outcome(alloc: Global, lits: &[Lit]) -> Result<Outcome, AllocError> {
 }
 
 /// A name of one word.
-fn name(alloc: Global, word: &str) -> Result<Vec<String>, AllocError> {
+pub fn name(alloc: Global, word: &str) -> Result<Vec<String>, AllocError> {
     Ok(vec![in alloc; String::from_str(alloc, word)?]?)
 }
 
 /// The action of a condition and its outcomes.
-fn action(alloc: Global, word: &str, parts: &[&str]) -> Result<GroundAction, AllocError> {
+pub fn action(alloc: Global, word: &str, parts: &[&str]) -> Result<GroundAction, AllocError> {
     let mut exec = Cond::Yes;
     let mut outcomes = Vec::new(alloc);
     for (at, letters) in parts.iter().enumerate() {
@@ -109,12 +109,12 @@ fn task(alloc: Global, free: bool, goal: &str, actions: &[&[&str]]) -> Result<Ta
     };
     let goal = all_of(alloc, &literals(alloc, goal)?)?;
     let fluents = vec![in alloc; name(alloc, "p")?, name(alloc, "q")?]?;
-    let task = Task::try_new(fluents, listed, init, Some(goal));
+    let task = Task::try_new(fluents, listed, init, Some(goal), Cond::Yes);
     Ok(task.ok_or("these are the parts of a task")?)
 }
 
 /// The text of a weak or a strong plan; none where there is no plan.
-fn text(alloc: Global, task: &Task, strong: bool) -> Result<String, SetErr>
+pub fn text(alloc: Global, task: &Task, strong: bool) -> Result<String, SetErr>
     requires { IsSome task.now.goal }
 {
     let mut text = String::new(alloc);
@@ -279,7 +279,8 @@ fn counter(alloc: Global) -> Result<Task, Fail>
         facts: State::none(),
         entries: Vec::new(alloc),
     };
-    let task = Task::try_new(fluents, vec![in alloc; step]?, init, Some(Cond::All(goal)));
+    let goal = Some(Cond::All(goal));
+    let task = Task::try_new(fluents, vec![in alloc; step]?, init, goal, Cond::Yes);
     Ok(task.ok_or("these are the parts of a task")?)
 }
 

@@ -1,6 +1,6 @@
 -- A light that is to be on and then to stay on, and the plan that is printed for it.
 use Rattle.std.proofs.Common.{◌≡◌, ℕ, zero, suc, true, false, List, [], ◌∷◌, None, Some, refl}
-use Rattle.std.specs.Prelude.{not}
+use Rattle.std.specs.Prelude.{not, slice_get}
 use Rattle.task_core.specs.Cubes.{SetOfVectors, literal}
 use Rattle.task_core.specs.Systems.{System}
 use Rattle.task_core.specs.Vectors.{Vector}
@@ -20,7 +20,7 @@ presses v (suc zero) = v ∷ []
 presses v a = []
 
 abbrev light : System
-light = record { fluents = 1; actions = 2; outcomes = λ a. 2; initial = (false ∷ []) ∷ []; goal = None; next = presses }
+light = record { fluents = 1; in_space = λ v. true; actions = 2; outcomes = λ a. 2; initial = (false ∷ []) ∷ []; goal = None; next = presses; after = λ v a. slice_get (presses v a) }
 
 abbrev is_on : SetOfVectors
 is_on (true ∷ rest) = true

@@ -7,7 +7,7 @@ use Rattle.std.proofs.lemmas.Bool.{true≢false, or_cases, or_left, or_right, or
 use Rattle.std.proofs.lemmas.List.Folds.{find-append}
 use Rattle.std.proofs.lemmas.Option.{none-some}
 use Rattle.task_core.specs.Vectors.{Vector, same_vector}
-use Rattle.task_core.specs.Systems.{System, IsSystem, IsState, Exec, HasOutcome, goal_states}
+use Rattle.task_core.specs.Systems.{System, IsSystem, IsVector, Exec, HasOutcome, goal_states}
 use Rattle.task_core.specs.Cubes.{Cube, SetOfVectors, matches, cubes_of}
 use Rattle.task_core.specs.Tables.{IsTerminal}
 use Rattle.task_core.specs.declared.classes.Class.{Class}
@@ -136,7 +136,7 @@ module _ (class : Class) where
       (cases_lt k (suc m))
 
   -- the printed rules match exactly the states that take their action
-  pub printed_rule : (sys : System) (K : ℕ) (rule : PlanRule) (v : Vector) → Contains (printed_rules class sys K) rule → IsState sys v → matches rule.cube v ≡ true → chosen_action class sys K v ≡ Some rule.action
+  pub printed_rule : (sys : System) (K : ℕ) (rule : PlanRule) (v : Vector) → Contains (printed_rules class sys K) rule → IsVector sys v → matches rule.cube v ≡ true → chosen_action class sys K v ≡ Some rule.action
   printed_rule sys K rule v c is m =
       let by_action = Contains-flat_map-witness (rules_of_action class sys K) (action_numbers sys) rule c in
       let b = by_action.0 in
@@ -146,13 +146,13 @@ module _ (class : Class) where
       let takes : takers class sys K b v ≡ true = sym (cubes_match sys.fluents 0 (takers class sys K b) [] v refl is) ∙ some in
       is_action-Some b (chosen_action class sys K v) takes ∙ ap (λ (r : PlanRule). Some r.action) cube.2
 
-  pub advised_chosen : (sys : System) (K : ℕ) (v : Vector) (a : ℕ) → IsState sys v → advises (printed_rules class sys K) v a ≡ true → chosen_action class sys K v ≡ Some a
+  pub advised_chosen : (sys : System) (K : ℕ) (v : Vector) (a : ℕ) → IsVector sys v → advises (printed_rules class sys K) v a ≡ true → chosen_action class sys K v ≡ Some a
   advised_chosen sys K v a is h =
       let w = list_any-witness (λ (rule : PlanRule). (rule.action == a) && matches rule.cube v) (printed_rules class sys K) h in
       let both = and_parts (w.0.action == a) (matches w.0.cube v) w.2 in
       printed_rule sys K w.0 v w.1 is both.1 ∙ ap Some (eqb-true w.0.action a both.0)
 
-  pub chosen_advised : (sys : System) (K : ℕ) (v : Vector) (a : ℕ) → IsState sys v → a < sys.actions → chosen_action class sys K v ≡ Some a → advises (printed_rules class sys K) v a ≡ true
+  pub chosen_advised : (sys : System) (K : ℕ) (v : Vector) (a : ℕ) → IsVector sys v → a < sys.actions → chosen_action class sys K v ≡ Some a → advises (printed_rules class sys K) v a ≡ true
   chosen_advised sys K v a is l h =
       let takes : takers class sys K a v ≡ true = is_action-from a (chosen_action class sys K v) h in
       let some : list_any (λ d. matches d v) (cubes_of sys.fluents (takers class sys K a)) ≡ true = cubes_match sys.fluents 0 (takers class sys K a) [] v refl is ∙ takes in
@@ -162,7 +162,7 @@ module _ (class : Class) where
       (Contains-flat_map (rules_of_action class sys K) (action_numbers sys) a rule (Contains-range_with_len sys.actions a l) (Contains-map (λ (cube : Cube). record { cube = cube; action = a }) (cubes_of sys.fluents (takers class sys K a)) cube.0 cube.1))
       (and_from (a == a) (matches cube.0 v) (eq-eqb a a refl) cube.2)
 
-  pub advises_takers : (sys : System) (K : ℕ) (v : Vector) (a : ℕ) → IsState sys v → a < sys.actions → advises (printed_rules class sys K) v a ≡ takers class sys K a v
+  pub advises_takers : (sys : System) (K : ℕ) (v : Vector) (a : ℕ) → IsVector sys v → a < sys.actions → advises (printed_rules class sys K) v a ≡ takers class sys K a v
   advises_takers sys K v a is l = go (advises (printed_rules class sys K) v a) (takers class sys K a v) (λ h. is_action-from a (chosen_action class sys K v) (advised_chosen sys K v a is h)) (λ h. chosen_advised sys K v a is l (is_action-Some a (chosen_action class sys K v) h))
     where
       go : (x y : Bool) → (x ≡ true → y ≡ true) → (y ≡ true → x ≡ true) → x ≡ y
@@ -189,7 +189,7 @@ module _ (class : Class) where
       none-some a (sym none ∙ advised_chosen sys K v a d.state d.advised)
 
   -- a state of layer k + 1 and not of layer k has a pair, whose action leads to layer k
-  pub pair_at : (sys : System) (K k : ℕ) → suc k ≤ K → (v : Vector) → IsState sys v → layer class sys (suc k) v ≡ true → layer class sys k v ≡ false
+  pub pair_at : (sys : System) (K k : ℕ) → suc k ≤ K → (v : Vector) → IsVector sys v → layer class sys (suc k) v ≡ true → layer class sys k v ≡ false
       → (a : ℕ) × Contains (denoted sys (printed_rules class sys K)) (v, a) × (leads_by class sys (layer class sys k) v a ≡ true)
   pair_at sys K k l v is h e =
       let test = leads_by class sys (layer class sys k) v in
@@ -239,15 +239,15 @@ module _ (class : Class) where
       go false e before = inr (k, omega arith, h, e)
 
   -- two layers that hold the same states lead to next ones that do
-  pub layer-suc_agree : (sys : System) → IsSystem sys → (j k : ℕ) → ((v : Vector) → IsState sys v → layer class sys j v ≡ layer class sys k v) → (v : Vector) → IsState sys v → layer class sys (suc j) v ≡ layer class sys (suc k) v
+  pub layer-suc_agree : (sys : System) → IsSystem sys → (j k : ℕ) → ((v : Vector) → IsVector sys v → layer class sys j v ≡ layer class sys k v) → (v : Vector) → IsVector sys v → layer class sys (suc j) v ≡ layer class sys (suc k) v
   layer-suc_agree sys ok j k same v is =
       ap (λ b. b || list_any (leads_by class sys (layer class sys j) v) (action_numbers sys)) (same v is)
       ∙ ap (λ b. layer class sys k v || b) (list_any-agree (leads_by class sys (layer class sys j) v) (leads_by class sys (layer class sys k) v) (action_numbers sys)
-      (λ a c. leads_agree class sys (layer class sys j) (layer class sys k) v a (λ t o. same t (ok.next v a t o))))
+      (λ a c. leads_agree class sys (layer class sys j) (layer class sys k) v a (λ t o. same t (ok.next v a t o).vector)))
 
-  module _ (sys : System) (ok : IsSystem sys) (k : ℕ) (stable : (v : Vector) → IsState sys v → layer class sys (suc k) v ≡ layer class sys k v) where
+  module _ (sys : System) (ok : IsSystem sys) (k : ℕ) (stable : (v : Vector) → IsVector sys v → layer class sys (suc k) v ≡ layer class sys k v) where
     -- each later layer holds the states of layer k alone
-    pub layer-stable : (j : ℕ) → k ≤ j → (v : Vector) → IsState sys v → layer class sys j v ≡ layer class sys k v
+    pub layer-stable : (j : ℕ) → k ≤ j → (v : Vector) → IsVector sys v → layer class sys j v ≡ layer class sys k v
     layer-stable zero l v is = let e : k ≡ 0 = omega arith in ap (λ n. layer class sys n v) (sym e)
     layer-stable (suc j) l v is = ⊎_elim (λ (s : k < suc j). layer-suc_agree sys ok j k (layer-stable j (omega arith)) v is ∙ stable v is) (λ (s : suc j ≤ k). let e : suc j ≡ k = omega arith in ap (λ n. layer class sys n v) e) (cases_lt k (suc j))
 
@@ -255,5 +255,5 @@ module _ (class : Class) where
     pub stable_no_cover : covers class sys k ≡ false → (j : ℕ) → covers class sys j ≡ false
     stable_no_cover short j = ⊎_elim
         (λ (l : j < k). covers-misses sys j k (omega arith) short)
-        (λ (l : k ≤ j). list_all-agree (layer class sys j) (layer class sys k) sys.initial (λ s c. layer-stable j l s (ok.initial s c)) ∙ short)
+        (λ (l : k ≤ j). list_all-agree (layer class sys j) (layer class sys k) sys.initial (λ s c. layer-stable j l s (ok.initial s c).vector) ∙ short)
         (cases_lt j k)

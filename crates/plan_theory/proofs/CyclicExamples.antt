@@ -1,7 +1,7 @@
 -- Small systems, their largest sets of pairs, and the strong cyclic plans that are printed for
 -- them.
 use Rattle.std.proofs.Common.{◌≡◌, ℕ, zero, suc, Bool, true, false, List, [], ◌∷◌, None, Some, refl}
-use Rattle.std.specs.Prelude.{if◌then◌else◌, ◌==◌}
+use Rattle.std.specs.Prelude.{if◌then◌else◌, ◌==◌, slice_get}
 use Rattle.task_core.specs.Vectors.{Vector}
 use Rattle.task_core.specs.Systems.{System}
 use Rattle.task_core.specs.Cubes.{literal}
@@ -17,7 +17,7 @@ flips v zero = (true ∷ []) ∷ v ∷ []
 flips v (suc a) = []
 
 abbrev coin : System
-coin = record { fluents = 1; actions = 1; outcomes = λ a. 2; initial = (false ∷ []) ∷ []; goal = Some ((true ∷ []) ∷ []); next = flips }
+coin = record { fluents = 1; in_space = λ v. true; actions = 1; outcomes = λ a. 2; initial = (false ∷ []) ∷ []; goal = Some ((true ∷ []) ∷ []); next = flips; after = λ v a. slice_get (flips v a) }
 
 coin-left : round coin 1 (false ∷ []) ≡ true
 coin-left = refl
@@ -61,7 +61,7 @@ risks (g ∷ dead ∷ []) a = tries g dead a
 risks _ a = []
 
 abbrev hazard : System
-hazard = record { fluents = 2; actions = 3; outcomes = λ a. if a == 0 then 1 else 2; initial = (false ∷ false ∷ []) ∷ []; goal = Some ((true ∷ false ∷ []) ∷ (true ∷ true ∷ []) ∷ []); next = risks }
+hazard = record { fluents = 2; in_space = λ v. true; actions = 3; outcomes = λ a. if a == 0 then 1 else 2; initial = (false ∷ false ∷ []) ∷ []; goal = Some ((true ∷ false ∷ []) ∷ (true ∷ true ∷ []) ∷ []); next = risks; after = λ v a. slice_get (risks v a) }
 
 -- the first round takes the dead state out, the second one the pair that may lead there
 hazard-dead : round hazard 1 (false ∷ true ∷ []) ≡ false

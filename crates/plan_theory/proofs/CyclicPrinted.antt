@@ -5,7 +5,7 @@ use Rattle.std.proofs.Common.{◌≡◌, ◌≢◌, ℕ, zero, ◌^◌, true, Li
 use Rattle.std.specs.List.{Contains}
 use Rattle.std.proofs.lemmas.Bool.{or_cases}
 use Rattle.task_core.specs.Vectors.{Vector}
-use Rattle.task_core.specs.Systems.{System, IsState, IsSystem, goal_states}
+use Rattle.task_core.specs.Systems.{System, IsVector, IsSystem, goal_states}
 use Rattle.task_core.specs.Tables.{IsTerminal, Table, Leads}
 use Rattle.task_core.specs.Paths.{IsPath, last_of}
 use Rattle.task_core.specs.Solutions.{IsReached, IsStrongCyclicSolution, MayReachGoal}
@@ -75,7 +75,7 @@ module _ (sys : System) (pairs : Pairs) where
       (pair_of_exec sys pairs v a (can_execute-Exec sub v a d.executable)).0
 
   module _ (ok : IsSystem sys) (is : IsStrongCyclicSet sys pairs) where
-    pub near : (v : Vector) → IsState sys v → goal_or_pair sys pairs v ≡ true → connected sys pairs v ≡ true
+    pub near : (v : Vector) → IsVector sys v → goal_or_pair sys pairs v ≡ true → connected sys pairs v ≡ true
     near v s h =
         ⊎_elim (λ g. layer-grows Weak sub v zero (2 ^ sys.fluents) (omega arith) g)
         (λ p. let w = list_any-witness (pairs v) (action_numbers sys) p in let k = is.connected v w.0 s w.2 in progress_connected sys pairs ok k.0 v s k.1)
@@ -83,14 +83,14 @@ module _ (sys : System) (pairs : Pairs) where
 
     -- a state of which each execution may still reach the goal
     record IsNear (v : Vector) : Type 0 where
-      state : IsState sys v
+      state : IsVector sys v
       connects : connected sys pairs v ≡ true
 
     near_along : (v : Vector) (rest : List Vector) → IsNear v → IsPath (Leads sys printed) v rest → IsNear (last_of v rest)
     near_along v [] n path = n
     near_along v (t ∷ rest) n path =
         let lead = path.0 in
-        let s = ok.next v lead.action t lead.outcome in
+        let s = (ok.next v lead.action t lead.outcome).vector in
         near_along t rest (record { state = s; connects = near t s (is.stays v lead.action t n.state (printed_pair v lead.action lead.pair) lead.outcome) }) path.1
 
     reaches_from : (v : Vector) → IsNear v → MayReachGoal sys printed v
@@ -100,7 +100,7 @@ module _ (sys : System) (pairs : Pairs) where
     module _ (covered : covers sys pairs ≡ true) where
       near_reached : (v : Vector) → IsReached sys printed v → IsNear v
       near_reached v reached =
-          let s = ok.initial reached.start reached.initial in
+          let s = (ok.initial reached.start reached.initial).vector in
           subst IsNear reached.path.ends
           (near_along reached.start reached.path.rest (record { state = s; connects = near reached.start s (list_all-at (goal_or_pair sys pairs) sys.initial reached.start covered reached.initial) }) reached.path.path)
 

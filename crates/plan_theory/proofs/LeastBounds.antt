@@ -80,8 +80,8 @@ pub weak_is_shortest : (sys : System) (K : ℕ) (table : Table) (s : Vector) (n 
     → ReachesGoalWithin sys table s n → ReachesGoalWithin sys (denoted sys (printed_rules Weak sys K)) s n
 weak_is_shortest sys K table s n ok last initial r =
     ⊎_elim (λ (l : length r.rest < K).
-    longer (length r.rest) (let short = r.short in omega arith) (reaches_within sys ok K (length r.rest) (omega arith) s (ok.initial s initial) (path_in_layer sys ok table s r.rest r.path r.goal)))
-    (λ (l : K ≤ length r.rest). longer K (let short = r.short in omega arith) (reaches_within sys ok K K (omega arith) s (ok.initial s initial) (list_all-at (layer Weak sys K) sys.initial s last.covered initial)))
+    longer (length r.rest) (let short = r.short in omega arith) (reaches_within sys ok K (length r.rest) (omega arith) s (ok.initial s initial).vector (path_in_layer sys ok table s r.rest r.path r.goal)))
+    (λ (l : K ≤ length r.rest). longer K (let short = r.short in omega arith) (reaches_within sys ok K K (omega arith) s (ok.initial s initial).vector (list_all-at (layer Weak sys K) sys.initial s last.covered initial)))
     (cases_lt (length r.rest) K)
   where
     longer : (m : ℕ) → m ≤ n → ReachesGoalWithin sys (denoted sys (printed_rules Weak sys K)) s m → ReachesGoalWithin sys (denoted sys (printed_rules Weak sys K)) s n

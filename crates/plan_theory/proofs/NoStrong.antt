@@ -6,7 +6,7 @@ use Rattle.std.specs.List.{Contains, list_all, list_any}
 use Rattle.std.proofs.lemmas.Bool.{false≢true, true≢false, and_from, and_parts, or_left, or_right}
 use Rattle.std.proofs.lemmas.List.{length-append}
 use Rattle.task_core.specs.Vectors.{Vector, all_vectors, same_vector}
-use Rattle.task_core.specs.Systems.{System, Exec, HasOutcome, IsSystem, IsState}
+use Rattle.task_core.specs.Systems.{System, Exec, HasOutcome, IsSystem, IsVector}
 use Rattle.task_core.specs.Tables.{Table, IsTable, IsTerminal, Leads, Reaches}
 use Rattle.task_core.specs.Paths.{IsPath}
 use Rattle.task_core.proofs.Paths.{last_onward, path_onward}
@@ -79,10 +79,10 @@ reach_more sys table x s t r lead = record {
 here : (sys : System) (table : Table) (s : Vector) → Reaches sys table s s
 here sys table s = record { rest = []; path = tt; ends = refl }
 
-module _ (sys : System) (ok : IsSystem sys) (k : ℕ) (stable : (v : Vector) → IsState sys v → layer Strong sys (suc k) v ≡ layer Strong sys k v) (table : Table) (is_table : IsTable sys table) (solves : IsStrongSolution sys table) where
+module _ (sys : System) (ok : IsSystem sys) (k : ℕ) (stable : (v : Vector) → IsVector sys v → layer Strong sys (suc k) v ≡ layer Strong sys k v) (table : Table) (is_table : IsTable sys table) (solves : IsStrongSolution sys table) where
   -- a reached state outside the layer
   record IsOutside (s : Vector) : Type 0 where
-    state : IsState sys s
+    state : IsVector sys s
     reached : IsReached sys table s
     outside : layer Strong sys k s ≡ false
 
@@ -125,7 +125,7 @@ module _ (sys : System) (ok : IsSystem sys) (k : ℕ) (stable : (v : Vector) →
         t.0,
         lead,
         record {
-          state = ok.next s pair.0 t.0 t.1;
+          state = (ok.next s pair.0 t.0 t.1).vector;
           reached = record { start = reached.start; initial = reached.initial; path = reach_more sys table reached.start s t.0 reached.path lead };
           outside = t.2;
         },
@@ -134,7 +134,7 @@ module _ (sys : System) (ok : IsSystem sys) (k : ℕ) (stable : (v : Vector) →
   -- different states, from each of which the path leads to s
   record IsWalk (seen : List Vector) (s : Vector) : Type 0 where
     apart : Apart seen
-    states : (x : Vector) → Contains seen x → IsState sys x
+    states : (x : Vector) → Contains seen x → IsVector sys x
     leads_here : (x : Vector) → Contains seen x → Reaches sys table x s
     now : IsOutside s
 
@@ -157,7 +157,7 @@ module _ (sys : System) (ok : IsSystem sys) (k : ℕ) (stable : (v : Vector) →
           cycle s t walk.now lead (subst (λ x. Reaches sys table x s) (sym (same_vector-true t w.0 w.2)) (walk.leads_here w.0 w.1))
       by_seen t lead out false e more = more (record {
         apart = ((λ h. false≢true (sym e ∙ list_any-from (same_vector t) seen t h (same_vector-itself t))), walk.apart);
-        states = λ x h. ⊎_elim (λ is. subst (IsState sys) is out.state) (λ k. walk.states x k) (Contains-cases t seen x h);
+        states = λ x h. ⊎_elim (λ is. subst (IsVector sys) is out.state) (λ k. walk.states x k) (Contains-cases t seen x h);
         leads_here = λ x h. ⊎_elim (λ is. subst (λ y. Reaches sys table y t) is (here sys table t)) (λ k. reach_more sys table x s t (walk.leads_here x k) lead) (Contains-cases t seen x h);
         now = out;
       })
@@ -165,15 +165,15 @@ module _ (sys : System) (ok : IsSystem sys) (k : ℕ) (stable : (v : Vector) →
   no_strong_from : (s : Vector) → Contains sys.initial s → layer Strong sys k s ≡ false → ⊥
   unfolding Apart
   no_strong_from s initial out =
-      let start : IsOutside s = record { state = ok.initial s initial; reached = record { start = s; initial = initial; path = here sys table s }; outside = out } in
+      let start : IsOutside s = record { state = (ok.initial s initial).vector; reached = record { start = s; initial = initial; path = here sys table s }; outside = out } in
       walks (2 ^ sys.fluents) (s ∷ []) s (omega arith) (record {
         apart = ((λ h. Contains-nil s h), tt);
-        states = λ x h. ⊎_elim (λ is. subst (IsState sys) is start.state) (λ c. absurd (Contains-nil x c)) (Contains-cases s [] x h);
+        states = λ x h. ⊎_elim (λ is. subst (IsVector sys) is start.state) (λ c. absurd (Contains-nil x c)) (Contains-cases s [] x h);
         leads_here = λ x h. ⊎_elim (λ is. subst (λ y. Reaches sys table y s) is (here sys table s)) (λ c. absurd (Contains-nil x c)) (Contains-cases s [] x h);
         now = start;
       })
 
-pub stable_no_strong : (sys : System) (k : ℕ) → IsSystem sys → ((v : Vector) → IsState sys v → layer Strong sys (suc k) v ≡ layer Strong sys k v) → covers Strong sys k ≡ false → HasNoSolution Strong sys
+pub stable_no_strong : (sys : System) (k : ℕ) → IsSystem sys → ((v : Vector) → IsVector sys v → layer Strong sys (suc k) v ≡ layer Strong sys k v) → covers Strong sys k ≡ false → HasNoSolution Strong sys
 stable_no_strong sys k ok stable short table is_table solves =
     let s = failing (layer Strong sys k) sys.initial short in
     no_strong_from sys ok k stable table is_table solves s.0 s.1 s.2
@@ -196,15 +196,15 @@ module _ (sys : System) (ok : IsSystem sys) (table : Table) (solves : IsStrongSo
     never_twice t rest (record { start = reached.start; initial = reached.initial; path = reach_more sys table reached.start s t reached.path path.0 }) path.1,
   )
 
-  all_states : (s : Vector) (rest : List Vector) → IsState sys s → IsPath (Leads sys table) s rest → (x : Vector) → Contains (s ∷ rest) x → IsState sys x
-  all_states s [] is path x h = ⊎_elim (λ e. subst (IsState sys) e is) (λ c. absurd (Contains-nil x c)) (Contains-cases s [] x h)
+  all_states : (s : Vector) (rest : List Vector) → IsVector sys s → IsPath (Leads sys table) s rest → (x : Vector) → Contains (s ∷ rest) x → IsVector sys x
+  all_states s [] is path x h = ⊎_elim (λ e. subst (IsVector sys) e is) (λ c. absurd (Contains-nil x c)) (Contains-cases s [] x h)
   all_states s (t ∷ rest) is path x h =
-      ⊎_elim (λ e. subst (IsState sys) e is)
-      (λ c. all_states t rest (ok.next s path.0.action t path.0.outcome) path.1 x c) (Contains-cases s (t ∷ rest) x h)
+      ⊎_elim (λ e. subst (IsVector sys) e is)
+      (λ c. all_states t rest (ok.next s path.0.action t path.0.outcome).vector path.1 x c) (Contains-cases s (t ∷ rest) x h)
 
   pub strong_is_bounded : (s : Vector) → Contains sys.initial s → PathsAreWithin sys table s (2 ^ sys.fluents)
   strong_is_bounded s initial rest path =
       let few = Apart-few (s ∷ rest) (all_vectors sys.fluents) (never_twice s rest (record { start = s; initial = initial; path = here sys table s }) path)
-      (λ x h. all_vectors-holds sys.fluents x (all_states s rest (ok.initial s initial) path x h)) in
+      (λ x h. all_vectors-holds sys.fluents x (all_states s rest (ok.initial s initial).vector path x h)) in
       let all = length-all_vectors sys.fluents in
       omega arith

@@ -4,7 +4,7 @@ use Rattle.std.specs.Prelude.{IsSome}
 use Rattle.std.proofs.lemmas.Bool.{false≢true}
 use Rattle.task_core.specs.ContextPlans.{Configuration, ContextPlan, Follows, GoesOn, IsInitial, IsReachable}
 use Rattle.task_core.proofs.Paths.{last_onward, path_keeps, path_onward}
-use Rattle.task_core.specs.Systems.{System, HasOutcome, IsState, IsSystem}
+use Rattle.task_core.specs.Systems.{System, HasOutcome, IsVector, IsSystem}
 use Rattle.task_core.specs.Vectors.{Vector}
 
 some_value : {T : Type 0} (o : Option T) → IsSome o → (x : T) × (o ≡ Some x)
@@ -32,8 +32,8 @@ module _ (sys : System) (plan : ContextPlan) where
     pub reached_keeps : ((x : Configuration) → IsInitial sys x → P x) → (x : Configuration) → IsReachable sys plan x → P x
     reached_keeps first x r = subst P r.ends (path_keeps (Follows sys plan) P next r.start r.rest (first r.start r.initial) r.path)
 
-  pub reached_state : IsSystem sys → (x : Configuration) → IsReachable sys plan x → IsState sys x.state
-  reached_state ok = reached_keeps (λ x. IsState sys x.state) (λ x y is follows. ok.next x.state follows.action y.state follows.outcome) (λ x initial. ok.initial x.state initial.state)
+  pub reached_state : IsSystem sys → (x : Configuration) → IsReachable sys plan x → IsVector sys x.state
+  reached_state ok = reached_keeps (λ x. IsVector sys x.state) (λ x y is follows. (ok.next x.state follows.action y.state follows.outcome).vector) (λ x initial. (ok.initial x.state initial.state).vector)
 
   -- where a plan goes on, each outcome of its action has a configuration that follows
   pub record Follower (x : Configuration) (t : Vector) : Type 0 where

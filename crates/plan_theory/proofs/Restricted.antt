@@ -4,7 +4,7 @@ use Rattle.std.proofs.Common.{◌≡◌, ℕ, zero, suc, ◌<◌, ◌≤◌, ◌
 use Rattle.std.specs.List.{Contains}
 use Rattle.std.proofs.lemmas.Bool.{cases_lt, or_cases, or_left, or_right}
 use Rattle.task_core.specs.Vectors.{Vector}
-use Rattle.task_core.specs.Systems.{System, Exec, HasOutcome, IsState, IsSystem}
+use Rattle.task_core.specs.Systems.{System, Exec, HasOutcome, IsState, IsVector, IsSystem}
 use Rattle.task_core.specs.declared.classes.Class.TheVariants.{Weak}
 use Rattle.plan_theory.specs.Layers.{action_numbers, layer, may_lead}
 use Rattle.plan_theory.proofs.ClassLayers.{layer-grows, layer-stable}
@@ -33,11 +33,16 @@ pair_of_exec sys pairs v a x = go (pairs v a) refl x
     go true e h = (e, h)
     go false e h = absurd (h refl)
 
+-- its states are those of the system
+same_state : (sys : System) (pairs : Pairs) (v : Vector) → IsState sys v → IsState (restricted sys pairs) v
+same_state sys pairs v is = record { vector = is.vector; inside = is.inside }
+
 pub restricted_system : (sys : System) (pairs : Pairs) → IsSystem sys → IsSystem (restricted sys pairs)
 restricted_system sys pairs ok = record {
-  initial = ok.initial;
-  goal = ok.goal;
-  next = λ s a t o. ok.next s a t (outcome_of_pair sys pairs s a t o).1;
+  initial = λ s among. same_state sys pairs s (ok.initial s among);
+  goal = λ s among. same_state sys pairs s (ok.goal s among);
+  next = λ s a t o. same_state sys pairs t (ok.next s a t (outcome_of_pair sys pairs s a t o).1);
+  inside = λ s a x. ok.inside s a (pair_of_exec sys pairs s a x).1;
   actions = λ s a x. ok.actions s a (pair_of_exec sys pairs s a x).1;
 }
 
@@ -50,7 +55,7 @@ progress_step sys pairs ok k v a t p o h =
     (list_any-from (progress sys pairs k) ((restricted sys pairs).next v a) t (pair_outcome sys pairs v a t p o) h))
 
 -- no way to the goal is longer than there are states
-pub progress_connected : (sys : System) (pairs : Pairs) → IsSystem sys → (k : ℕ) (v : Vector) → IsState sys v → progress sys pairs k v ≡ true → connected sys pairs v ≡ true
+pub progress_connected : (sys : System) (pairs : Pairs) → IsSystem sys → (k : ℕ) (v : Vector) → IsVector sys v → progress sys pairs k v ≡ true → connected sys pairs v ≡ true
 progress_connected sys pairs ok k v is h =
     let sub = restricted sys pairs in
     let still = stands_still Weak sub in

@@ -5,7 +5,7 @@ use Rattle.std.specs.List.{list_all}
 use Rattle.std.proofs.lemmas.Bool.{and_from, and_parts, cases_lt, false≢true}
 use Rattle.task_core.specs.Cubes.{SetOfVectors}
 use Rattle.task_core.specs.Vectors.{Vector, all_vectors, same_vector}
-use Rattle.task_core.specs.Systems.{System, Exec, HasOutcome, IsState, IsSystem}
+use Rattle.task_core.specs.Systems.{System, Exec, HasOutcome, IsVector, IsSystem}
 use Rattle.task_core.proofs.Vectors.{length-all_vectors}
 use Rattle.plan_theory.specs.Layers.{may_lead, must_lead}
 use Rattle.plan_theory.proofs.Cubes.{all_vectors-agree}
@@ -85,13 +85,13 @@ same_truth true y there back = sym (there refl)
 same_truth false true there back = back refl
 same_truth false false there back = refl
 
-pub connected_agree : (sys : System) → IsSystem sys → (f g : SetOfVectors) → ((v : Vector) → IsState sys v → f v ≡ g v) → (v : Vector) → IsState sys v → connected sys (kept sys f) v ≡ connected sys (kept sys g) v
+pub connected_agree : (sys : System) → IsSystem sys → (f g : SetOfVectors) → ((v : Vector) → IsVector sys v → f v ≡ g v) → (v : Vector) → IsVector sys v → connected sys (kept sys f) v ≡ connected sys (kept sys g) v
 connected_agree sys ok f g same v is =
     same_truth (connected sys (kept sys f) v) (connected sys (kept sys g) v)
-    (λ h. connected_more sys (IsState sys) (λ s a t d o. ok.next s a t o) f g (λ s d k. sym (same s d) ∙ k) v is h)
-    (λ h. connected_more sys (IsState sys) (λ s a t d o. ok.next s a t o) g f (λ s d k. same s d ∙ k) v is h)
+    (λ h. connected_more sys (IsVector sys) (λ s a t d o. (ok.next s a t o).vector) f g (λ s d k. sym (same s d) ∙ k) v is h)
+    (λ h. connected_more sys (IsVector sys) (λ s a t d o. (ok.next s a t o).vector) g f (λ s d k. same s d ∙ k) v is h)
 
-pub later_rounds : (sys : System) (r : ℕ) → IsSystem sys → IsLastRound sys r → (m : ℕ) → r ≤ m → (v : Vector) → IsState sys v → round sys m v ≡ round sys r v
+pub later_rounds : (sys : System) (r : ℕ) → IsSystem sys → IsLastRound sys r → (m : ℕ) → r ≤ m → (v : Vector) → IsVector sys v → round sys m v ≡ round sys r v
 later_rounds sys r ok still zero l v is = let e : r ≡ 0 = omega arith in ap (λ n. round sys n v) (sym e)
 later_rounds sys r ok still (suc m) l v is =
     ⊎_elim (λ (s : r < suc m). connected_agree sys ok (round sys m) (round sys r) (later_rounds sys r ok still m (omega arith)) v is ∙ still v is)

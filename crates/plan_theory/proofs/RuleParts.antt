@@ -7,7 +7,7 @@ use Rattle.std.specs.Option.{option_and_then, option_map}
 use Rattle.std.proofs.lemmas.Bool.{and_from, and_parts, cases_lt, eq-eqb, eqb-true}
 use Rattle.std.proofs.lemmas.List.Elements.{All-cons, All-map, All-nil, All-weaker}
 use Rattle.task_core.specs.Cubes.{Cube, cubes_of, matches}
-use Rattle.task_core.specs.Systems.{System, IsState, IsSystem}
+use Rattle.task_core.specs.Systems.{System, IsVector, IsSystem}
 use Rattle.task_core.specs.Vectors.{Vector}
 use Rattle.plan_rules.specs.Denoted.{denoted_contexts, next_context, rule_at}
 use Rattle.plan_rules.specs.Plans.{IsContextOf, IsContextRuleOf, IsCubeOf}
@@ -66,7 +66,7 @@ module _ (sys : System) (chain : Chained) where
         next = ap always (sym same);
       }
 
-  rule_leads : (rule : ContextRule) (v : Vector) → Contains (chain_rules sys chain) rule → IsState sys v → matches rule.cube v ≡ true → LeadsOn v rule
+  rule_leads : (rule : ContextRule) (v : Vector) → Contains (chain_rules sys chain) rule → IsVector sys v → matches rule.cube v ≡ true → LeadsOn v rule
   rule_leads rule v among is m =
       let by_context = Contains-flat_map-witness (rules_of_context sys chain) (range_with_len 1 (context_count chain)) rule among in
       let c = by_context.0 in
@@ -85,7 +85,7 @@ module _ (sys : System) (chain : Chained) where
   counts v c rule = (rule.context == c) && matches rule.cube v
 
   -- the rule of a context, a next context and an action that matches a state of theirs
-  rule_for : (c j a : ℕ) (v : Vector) → IsState sys v → 1 ≤ c → c ≤ j → j ≤ context_count chain → a < sys.actions → rule_states sys chain c j a v ≡ true
+  rule_for : (c j a : ℕ) (v : Vector) → IsVector sys v → 1 ≤ c → c ≤ j → j ≤ context_count chain → a < sys.actions → rule_states sys chain c j a v ≡ true
       → list_any (counts v c) (chain_rules sys chain) ≡ true
   rule_for c j a v is first onward last below holds =
       let cubes = cubes_of sys.fluents (rule_states sys chain c j a) in
@@ -110,7 +110,7 @@ module _ (sys : System) (chain : Chained) where
         ok.actions v a (HasOutcome-Exec sys v a t.0 t.1)
 
     -- in a state of a context the rule that counts is there, and leads on
-    pub rule_counts : (v : Vector) (c : ℕ) → IsState sys v → 1 ≤ c → c ≤ context_count chain → win_at sys chain c v ≡ true
+    pub rule_counts : (v : Vector) (c : ℕ) → IsVector sys v → 1 ≤ c → c ≤ context_count chain → win_at sys chain c v ≡ true
         → (rule : ContextRule) × (rule_at (chain_rules sys chain) v c ≡ Some rule) × (rule.context ≡ c) × LeadsOn v rule
     rule_counts v c is first last wins =
         let j = advance sys chain c v in

@@ -3,7 +3,7 @@ use Rattle.std.proofs.Common.{◌≡◌, ℕ, zero, suc, ◌<◌, ◌≤◌, ◌
 use Rattle.std.proofs.lemmas.Bool.{and_from, and_parts, cases_lt}
 use Rattle.task_core.specs.Cubes.{SetOfVectors}
 use Rattle.task_core.specs.Vectors.{Vector}
-use Rattle.task_core.specs.Systems.{System, IsState, IsSystem}
+use Rattle.task_core.specs.Systems.{System, IsVector, IsSystem}
 use Rattle.plan_theory.specs.Safe.{IsLargestSafeSet, IsLastSafeRound, IsSafeSet, safe_round, safe_set, some_must_lead}
 use Rattle.plan_theory.proofs.Leading.{some_leads_more}
 use Rattle.plan_theory.proofs.Shrinking.{same_truth, stands_still}
@@ -24,12 +24,12 @@ module _ (sys : System) (keep : SetOfVectors) where
 
   module _ (ok : IsSystem sys) where
     abbrev Stays : ℕ → Type 0
-    Stays k = (v : Vector) → IsState sys v → safe_round sys keep k v ≡ true → safe_round sys keep (suc k) v ≡ true
+    Stays k = (v : Vector) → IsVector sys v → safe_round sys keep k v ≡ true → safe_round sys keep (suc k) v ≡ true
 
     stays_on : (k : ℕ) → Stays k → Stays (suc k)
     stays_on k stays v is h =
         and_from (safe_round sys keep (suc k) v) (some_must_lead sys (safe_round sys keep (suc k)) v) h
-        (some_leads_more sys (safe_round sys keep k) (safe_round sys keep (suc k)) v (λ a t o inside. stays t (ok.next v a t o) inside) (round_parts k v h).1)
+        (some_leads_more sys (safe_round sys keep k) (safe_round sys keep (suc k)) v (λ a t o inside. stays t (ok.next v a t o).vector inside) (round_parts k v h).1)
 
     stays_from : (k m : ℕ) → k ≤ m → Stays k → Stays m
     stays_from k zero l stays = let e : k ≡ 0 = omega arith in subst Stays e stays
@@ -46,11 +46,11 @@ module _ (sys : System) (keep : SetOfVectors) where
     }
 
     -- what can be kept is in each round
-    pub within_rounds : (other : SetOfVectors) → IsSafeSet sys keep other → (k : ℕ) (v : Vector) → IsState sys v → other v ≡ true → safe_round sys keep k v ≡ true
+    pub within_rounds : (other : SetOfVectors) → IsSafeSet sys keep other → (k : ℕ) (v : Vector) → IsVector sys v → other v ≡ true → safe_round sys keep k v ≡ true
     within_rounds other safe zero v is h = safe.inside v is h
     within_rounds other safe (suc k) v is h =
         and_from (safe_round sys keep k v) (some_must_lead sys (safe_round sys keep k) v) (within_rounds other safe k v is h)
-        (some_leads_more sys other (safe_round sys keep k) v (λ a t o inside. within_rounds other safe k t (ok.next v a t o) inside) (safe.stays v is h))
+        (some_leads_more sys other (safe_round sys keep k) v (λ a t o inside. within_rounds other safe k t (ok.next v a t o).vector inside) (safe.stays v is h))
 
     pub safe_set-largest : IsLargestSafeSet sys keep (safe_set sys keep)
     safe_set-largest =
@@ -62,7 +62,7 @@ module _ (sys : System) (keep : SetOfVectors) where
         }
 
     -- so a round that is the next one is the safe set
-    pub last_round : (k : ℕ) → IsLastSafeRound sys keep k → (v : Vector) → IsState sys v → safe_set sys keep v ≡ safe_round sys keep k v
+    pub last_round : (k : ℕ) → IsLastSafeRound sys keep k → (v : Vector) → IsVector sys v → safe_set sys keep v ≡ safe_round sys keep k v
     last_round k last v is =
         same_truth (safe_set sys keep v) (safe_round sys keep k v)
         (λ h. within_rounds (safe_set sys keep) safe_set-largest.safe k v is h)

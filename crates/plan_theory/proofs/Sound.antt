@@ -11,7 +11,7 @@ use Rattle.ctl_syntax.proofs.Meeting.{keeps_more, keeps_nothing, meets_here, mee
 use Rattle.task_core.specs.ContextPlans.{Configuration, ContextPlan, Follows, GoesOn, IsInitial}
 use Rattle.task_core.specs.Paths.{IsPath}
 use Rattle.task_core.specs.Cubes.{SetOfVectors}
-use Rattle.task_core.specs.Systems.{System, HasOutcome, IsState, IsSystem}
+use Rattle.task_core.specs.Systems.{System, HasOutcome, IsVector, IsSystem}
 use Rattle.plan_theory.proofs.WeakLists.{list_all-at}
 use Rattle.plan_theory.specs.Chains.{Chained, StateIsIn, chain_tree, context_count, stages_from}
 use Rattle.plan_theory.specs.ChainPlans.{ActsAsPrinted, IsChainPlan}
@@ -28,7 +28,7 @@ use Rattle.plan_theory.proofs.Towards.{ActsTowards, advance-first, advance-last,
 module _ (sys : System) (ok : IsSystem sys) (chain : Chained) (plan : ContextPlan) (printed : ActsAsPrinted sys chain plan) where
   -- the state is one of the context
   record Inside (x : Configuration) : Type 0 where
-    state : IsState sys x.state
+    state : IsVector sys x.state
     first : 1 ≤ x.context
     last : x.context ≤ context_count chain
     wins : win_at sys chain x.context x.state ≡ true
@@ -69,7 +69,7 @@ module _ (sys : System) (ok : IsSystem sys) (chain : Chained) (plan : ContextPla
       let low = advance-first sys chain x.context x.state i.first in
       let high = advance-last sys chain x.context x.state i.first i.last in
       record {
-        state = ok.next x.state f.action y.state f.outcome;
+        state = (ok.next x.state f.action y.state f.outcome).vector;
         first = subst (λ c. 1 ≤ c) (sym same) low;
         last = subst (λ c. c ≤ context_count chain) (sym same) high;
         wins = ap (λ c. win_at sys chain c y.state) same ∙ leads_at sys (win_at sys chain (turn x)) x.state (acts x i).action (acts x i).leads y.state (outcome x y i f);
@@ -194,7 +194,7 @@ module _ (sys : System) (ok : IsSystem sys) (chain : Chained) (plan : ContextPla
     inside_first x initial =
         let same = initial.context in
         record {
-          state = ok.initial x.state initial.state;
+          state = (ok.initial x.state initial.state).vector;
           first = omega arith;
           last = omega arith;
           wins = ap (λ c. win_at sys chain c x.state) same ∙ list_all-at (win_at sys chain 1) sys.initial x.state covered initial.state;

@@ -7,7 +7,7 @@ use Rattle.std.specs.Option.{option_and_then}
 use Rattle.std.proofs.lemmas.Bool.{cases_lt, false_from_ne_true, false≢true, not-true, or_cases, or_left, or_parts, or_right, true≢false}
 use Rattle.task_core.specs.Cubes.{SetOfVectors}
 use Rattle.task_core.specs.Vectors.{Vector}
-use Rattle.task_core.specs.Systems.{System, IsState, IsSystem}
+use Rattle.task_core.specs.Systems.{System, IsVector, IsSystem}
 use Rattle.plan_theory.specs.Layers.{action_numbers, must_lead}
 use Rattle.plan_theory.proofs.WeakLists.{Contains-range_with_len, Contains-range_with_len-below, find-None, find-Some, find-found, list_any-from, list_any-none}
 use Rattle.plan_theory.specs.Safe.{some_must_lead}
@@ -39,12 +39,12 @@ module _ (sys : System) (met : SetOfVectors) where
 
   module _ (ok : IsSystem sys) where
     abbrev Stays : ℕ → Type 0
-    Stays k = (v : Vector) → IsState sys v → near sys met (suc k) v ≡ true → near sys met k v ≡ true
+    Stays k = (v : Vector) → IsVector sys v → near sys met (suc k) v ≡ true → near sys met k v ≡ true
 
     stays_on : (k : ℕ) → Stays k → Stays (suc k)
     stays_on k stays v is h =
         ⊎_elim (λ e. e)
-        (λ e. or_right (near sys met k v) _ (some_leads_more sys (near sys met (suc k)) (near sys met k) v (λ a t o inside. stays t (ok.next v a t o) inside) e))
+        (λ e. or_right (near sys met k v) _ (some_leads_more sys (near sys met (suc k)) (near sys met k) v (λ a t o inside. stays t (ok.next v a t o).vector inside) e))
         (or_cases (near sys met (suc k) v) _ h)
 
     stays_from : (k m : ℕ) → k ≤ m → Stays k → Stays m
@@ -62,11 +62,11 @@ module _ (sys : System) (met : SetOfVectors) where
     }
 
     -- what is closed has the states of all numbers of steps
-    pub near-within : (other : SetOfVectors) → IsStageSet sys met other → (k : ℕ) (v : Vector) → IsState sys v → near sys met k v ≡ true → other v ≡ true
+    pub near-within : (other : SetOfVectors) → IsStageSet sys met other → (k : ℕ) (v : Vector) → IsVector sys v → near sys met k v ≡ true → other v ≡ true
     near-within other stage zero v is h = stage.holds_met v is h
     near-within other stage (suc k) v is h =
         ⊎_elim (λ e. near-within other stage k v is e)
-        (λ e. stage.closed v is (some_leads_more sys (near sys met k) other v (λ a t o inside. near-within other stage k t (ok.next v a t o) inside) e))
+        (λ e. stage.closed v is (some_leads_more sys (near sys met k) other v (λ a t o inside. near-within other stage k t (ok.next v a t o).vector inside) e))
         (or_cases (near sys met k v) _ h)
 
     pub stage_set-least : IsLeastStageSet sys met (stage_set sys met)
@@ -78,10 +78,10 @@ module _ (sys : System) (met : SetOfVectors) where
           least = λ other stage v is h. near-within other stage (2 ^ sys.fluents) v is h;
         }
 
-    pub in_stage_set : (k : ℕ) (v : Vector) → IsState sys v → near sys met k v ≡ true → stage_set sys met v ≡ true
+    pub in_stage_set : (k : ℕ) (v : Vector) → IsVector sys v → near sys met k v ≡ true → stage_set sys met v ≡ true
     in_stage_set = near-within (stage_set sys met) stage_set-least.stage
 
-    pub last_near : (k : ℕ) → IsLastNear sys met k → (v : Vector) → IsState sys v → stage_set sys met v ≡ near sys met k v
+    pub last_near : (k : ℕ) → IsLastNear sys met k → (v : Vector) → IsVector sys v → stage_set sys met v ≡ near sys met k v
     last_near k last v is =
         same_truth (stage_set sys met v) (near sys met k v)
         (λ h. near-within (near sys met k) (near-closed k (λ w long inside. sym (last w long) ∙ inside)) (2 ^ sys.fluents) v is h)
@@ -129,7 +129,7 @@ module _ (sys : System) (met : SetOfVectors) where
       false_from_ne_true (test k) (λ e. true≢false (sym (near-grows v k K (omega arith) e) ∙ h)))))
 
   -- the action of a state that one step more has
-  pub action-next : IsSystem sys → (k : ℕ) (v : Vector) → IsState sys v → near sys met (suc k) v ≡ true → near sys met k v ≡ false → stage_action sys met v ≡ find (must_lead sys (near sys met k) v) (action_numbers sys)
+  pub action-next : IsSystem sys → (k : ℕ) (v : Vector) → IsVector sys v → near sys met (suc k) v ≡ true → near sys met k v ≡ false → stage_action sys met v ≡ find (must_lead sys (near sys met k) v) (action_numbers sys)
   action-next ok k v is inside outside =
       let r = ranked v (in_stage_set ok (suc k) v is inside) in
       let least = r.1.least (suc k) inside in

@@ -3,7 +3,7 @@ use Rattle.std.proofs.Common.{◌≡◌, ℕ, zero, suc, ◌<◌, ◌≤◌, Boo
 use Rattle.std.specs.List.{list_all}
 use Rattle.std.proofs.lemmas.Bool.{false≢true, true≢false, and_parts, cases_lt}
 use Rattle.task_core.specs.Vectors.{Vector}
-use Rattle.task_core.specs.Systems.{System, IsSystem, IsState}
+use Rattle.task_core.specs.Systems.{System, IsSystem, IsVector}
 use Rattle.task_core.specs.Tables.{Table, Leads}
 use Rattle.task_core.specs.Paths.{IsPath, last_of}
 use Rattle.task_core.specs.Solutions.{EndsInGoal, HasNoCycle, IsReached, IsStrongSolution}
@@ -66,9 +66,9 @@ module _ (sys : System) (ok : IsSystem sys) (K : ℕ) where
       false≢true (sym d.outside ∙ (ap (layer Strong sys d.rank) (sym ends) ∙ again))
 
   -- every state that is reached is a state
-  end_is_state : (s : Vector) (rest : List Vector) → IsState sys s → IsPath (Leads sys printed) s rest → IsState sys (last_of s rest)
+  end_is_state : (s : Vector) (rest : List Vector) → IsVector sys s → IsPath (Leads sys printed) s rest → IsVector sys (last_of s rest)
   end_is_state s [] is path = is
-  end_is_state s (t ∷ rest) is path = end_is_state t rest (ok.next s path.0.action t path.0.outcome) path.1
+  end_is_state s (t ∷ rest) is path = end_is_state t rest (ok.next s path.0.action t path.0.outcome).vector path.1
 
   module _ (last : IsLastLayer Strong sys K) where
     in_last : (s : Vector) → IsReached sys printed s → layer Strong sys K s ≡ true
@@ -76,8 +76,8 @@ module _ (sys : System) (ok : IsSystem sys) (K : ℕ) where
         subst (λ v. layer Strong sys K v ≡ true) r.path.ends
         (stays K r.start r.path.rest (list_all-at (layer Strong sys K) sys.initial r.start last.covered r.initial) r.path.path)
 
-    is_state : (s : Vector) → IsReached sys printed s → IsState sys s
-    is_state s r = subst (IsState sys) r.path.ends (end_is_state r.start r.path.rest (ok.initial r.start r.initial) r.path.path)
+    is_state : (s : Vector) → IsReached sys printed s → IsVector sys s
+    is_state s r = subst (IsVector sys) r.path.ends (end_is_state r.start r.path.rest (ok.initial r.start r.initial).vector r.path.path)
 
     ends_in_goal : EndsInGoal sys printed
     ends_in_goal s reached terminal =
@@ -96,17 +96,17 @@ module _ (sys : System) (ok : IsSystem sys) (K : ℕ) where
   goal_at_once : (k : ℕ) (v : Vector) → layer Weak sys zero v ≡ true → ReachesGoalWithin sys (denoted sys (printed_rules Weak sys K)) v k
   goal_at_once k v h = record { rest = []; path = tt; short = omega arith; terminal = goal_terminal Weak sys K v h; goal = layer-zero_goal Weak sys v h }
 
-  pub reaches_within : (k : ℕ) → k ≤ K → (v : Vector) → IsState sys v → layer Weak sys k v ≡ true → ReachesGoalWithin sys (denoted sys (printed_rules Weak sys K)) v k
+  pub reaches_within : (k : ℕ) → k ≤ K → (v : Vector) → IsVector sys v → layer Weak sys k v ≡ true → ReachesGoalWithin sys (denoted sys (printed_rules Weak sys K)) v k
   reaches_within zero l v is h = goal_at_once zero v h
   reaches_within (suc k) l v is h = go (layer Weak sys k v) refl (reaches_within k (omega arith))
     where
       longer : ReachesGoalWithin sys (denoted sys (printed_rules Weak sys K)) v k → ReachesGoalWithin sys (denoted sys (printed_rules Weak sys K)) v (suc k)
       longer r = record { rest = r.rest; path = r.path; short = (let s = r.short in omega arith); terminal = r.terminal; goal = r.goal }
 
-      go : (b : Bool) → layer Weak sys k v ≡ b → ((t : Vector) → IsState sys t → layer Weak sys k t ≡ true → ReachesGoalWithin sys (denoted sys (printed_rules Weak sys K)) t k) → ReachesGoalWithin sys (denoted sys (printed_rules Weak sys K)) v (suc k)
+      go : (b : Bool) → layer Weak sys k v ≡ b → ((t : Vector) → IsVector sys t → layer Weak sys k t ≡ true → ReachesGoalWithin sys (denoted sys (printed_rules Weak sys K)) t k) → ReachesGoalWithin sys (denoted sys (printed_rules Weak sys K)) v (suc k)
       go true e after = longer (after v is e)
       go false e after =
           let pair = pair_at Weak sys K k l v is h e in
           let t = leads_outcome Weak sys (layer Weak sys k) v pair.0 pair.2 in
-          let r = after t.0 (ok.next v pair.0 t.0 t.1) t.2 in
+          let r = after t.0 (ok.next v pair.0 t.0 t.1).vector t.2 in
           record { rest = t.0 ∷ r.rest; path = (record { action = pair.0; pair = pair.1; outcome = t.1 }, r.path); short = (let s = r.short in omega arith); terminal = r.terminal; goal = r.goal }

@@ -6,7 +6,7 @@ use Rattle.std.specs.List.{Contains}
 use Rattle.std.proofs.lemmas.Bool.{true≢false, or_cases, or_left, or_right}
 use Rattle.task_core.specs.Cubes.{SetOfVectors}
 use Rattle.task_core.specs.Vectors.{Vector}
-use Rattle.task_core.specs.Systems.{System, Exec, HasOutcome, IsState, IsSystem}
+use Rattle.task_core.specs.Systems.{System, Exec, HasOutcome, IsVector, IsSystem}
 use Rattle.task_core.specs.Tables.{IsTable, IsTerminal, Leads, Table}
 use Rattle.task_core.specs.Paths.{IsPath, last_of}
 use Rattle.task_core.specs.Solutions.{HasNoSolution, IsReached, IsStrongCyclicSolution}
@@ -37,7 +37,7 @@ way_more sys P (suc n) v w =
 
 -- states D and pairs P of them that lead to D alone, and from which the goal is reached
 record Survives (sys : System) (D : Vector → Type 0) (P : Vector → ℕ → Type 0) : Type 0 where
-  state : (v : Vector) → D v → IsState sys v
+  state : (v : Vector) → D v → IsVector sys v
   of_state : (v : Vector) (a : ℕ) → P v a → D v
   outside : (v : Vector) (a : ℕ) → P v a → is_goal sys v ≡ false
   executable : (v : Vector) (a : ℕ) → P v a → Exec sys v a
@@ -68,12 +68,12 @@ module _ (sys : System) (ok : IsSystem sys) (D : Vector → Type 0) (P : Vector 
 -- a strong cyclic set of pairs survives
 module _ (sys : System) (ok : IsSystem sys) (pairs : Pairs) (is : IsStrongCyclicSet sys pairs) where
   abbrev States : Vector → Type 0
-  States v = IsState sys v × (goal_or_pair sys pairs v ≡ true)
+  States v = IsVector sys v × (goal_or_pair sys pairs v ≡ true)
 
   abbrev Taken : Vector → ℕ → Type 0
-  Taken v a = IsState sys v × (pairs v a ≡ true)
+  Taken v a = IsVector sys v × (pairs v a ≡ true)
 
-  way_of : (k : ℕ) (v : Vector) → IsState sys v → progress sys pairs k v ≡ true → Way sys Taken k v
+  way_of : (k : ℕ) (v : Vector) → IsVector sys v → progress sys pairs k v ≡ true → Way sys Taken k v
   way_of zero v s h = h
   way_of (suc k) v s h =
       ⊎_elim (λ e. way_more sys Taken k v (way_of k v s e))
@@ -81,7 +81,7 @@ module _ (sys : System) (ok : IsSystem sys) (pairs : Pairs) (is : IsStrongCyclic
       let w = list_any-witness (may_lead (restricted sys pairs) (progress sys pairs k) v) (action_numbers sys) e in
       let t = list_any-witness (progress sys pairs k) ((restricted sys pairs).next v w.0) w.2 in
       let o = outcome_of_pair sys pairs v w.0 t.0 t.1 in
-      inr (w.0, t.0, (s, o.0), o.1, way_of k t.0 (ok.next v w.0 t.0 o.1) t.2))
+      inr (w.0, t.0, (s, o.0), o.1, way_of k t.0 (ok.next v w.0 t.0 o.1).vector t.2))
       (or_cases (progress sys pairs k v) _ h)
 
   set_survives : Survives sys States Taken
@@ -90,16 +90,16 @@ module _ (sys : System) (ok : IsSystem sys) (pairs : Pairs) (is : IsStrongCyclic
     of_state = λ v a p. (p.0, or_right (is_goal sys v) _ (list_any-from (pairs v) (action_numbers sys) a (Contains-range_with_len sys.actions a (ok.actions v a (is.executable v a p.0 p.1))) p.1));
     outside = λ v a p. is.outside v a p.0 p.1;
     executable = λ v a p. is.executable v a p.0 p.1;
-    stays = λ v a t p o. (ok.next v a t o, is.stays v a t p.0 p.1 o);
+    stays = λ v a t p o. ((ok.next v a t o).vector, is.stays v a t p.0 p.1 o);
     way = λ v d. ⊎_elim (λ g. (0, g)) (λ h. let w = list_any-witness (pairs v) (action_numbers sys) h in let k = is.connected v w.0 d.0 w.2 in (k.0, way_of k.0 v d.0 k.1)) (or_cases (is_goal sys v) (has_pair sys pairs v) d.1);
   }
 
-  pub set_outlasts : (r : ℕ) (v : Vector) (a : ℕ) → IsState sys v → pairs v a ≡ true → kept sys (round sys r) v a ≡ true
+  pub set_outlasts : (r : ℕ) (v : Vector) (a : ℕ) → IsVector sys v → pairs v a ≡ true → kept sys (round sys r) v a ≡ true
   set_outlasts r v a s p = outlasts sys ok States Taken set_survives r v a (s, p)
 
 -- the states that the last round leaves are the goal states and those of the pairs kept there
 module _ (sys : System) (ok : IsSystem sys) (r : ℕ) (last : IsLastRound sys r) where
-  pub left_state : (v : Vector) → IsState sys v → round sys r v ≡ true → goal_or_pair sys (kept sys (round sys r)) v ≡ true
+  pub left_state : (v : Vector) → IsVector sys v → round sys r v ≡ true → goal_or_pair sys (kept sys (round sys r)) v ≡ true
   left_state v s h =
       let sub = restricted sys (kept sys (round sys r)) in
       ⊎_elim (λ g. or_left (is_goal sys v) _ g)
@@ -115,7 +115,7 @@ module _ (sys : System) (ok : IsSystem sys) (r : ℕ) (last : IsLastRound sys r)
     proper = record {
       executable = λ v a s k. (kept_parts sys (round sys r) v a k).executable;
       outside = λ v a s k. (kept_parts sys (round sys r) v a k).outside;
-      stays = λ v a t s k o. left_state t (ok.next v a t o) ((kept_parts sys (round sys r) v a k).stays t o);
+      stays = λ v a t s k o. left_state t (ok.next v a t o).vector ((kept_parts sys (round sys r) v a k).stays t o);
       connected = λ v a s k. (2 ^ sys.fluents, last v s ∙ (kept_parts sys (round sys r) v a k).inside);
     };
     largest = λ others is v a s p. set_outlasts sys ok others is r v a s p;
@@ -136,12 +136,12 @@ module _ (sys : System) (ok : IsSystem sys) (table : Table) (is_table : IsTable 
   reached_along v [] reached path = reached
   reached_along v (t ∷ rest) reached path = reached_along t rest (onward v t reached path.0) path.1
 
-  state_along : (v : Vector) (rest : List Vector) → IsState sys v → IsPath (Leads sys table) v rest → IsState sys (last_of v rest)
+  state_along : (v : Vector) (rest : List Vector) → IsVector sys v → IsPath (Leads sys table) v rest → IsVector sys (last_of v rest)
   state_along v [] is path = is
-  state_along v (t ∷ rest) is path = state_along t rest (ok.next v path.0.action t path.0.outcome) path.1
+  state_along v (t ∷ rest) is path = state_along t rest (ok.next v path.0.action t path.0.outcome).vector path.1
 
-  pub is_state : (v : Vector) → IsReached sys table v → IsState sys v
-  is_state v reached = subst (IsState sys) reached.path.ends (state_along reached.start reached.path.rest (ok.initial reached.start reached.initial) reached.path.path)
+  pub is_state : (v : Vector) → IsReached sys table v → IsVector sys v
+  is_state v reached = subst (IsVector sys) reached.path.ends (state_along reached.start reached.path.rest (ok.initial reached.start reached.initial).vector reached.path.path)
 
   -- a path from a reached state to the goal
   way_along : (v : Vector) (rest : List Vector) → IsReached sys table v → IsPath (Leads sys table) v rest → is_goal sys (last_of v rest) ≡ true → Way sys Reachable (length rest) v

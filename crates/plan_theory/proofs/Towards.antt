@@ -5,7 +5,7 @@ use Rattle.std.proofs.lemmas.Bool.{and_parts, cases_lt, cond-false, cond-true, t
 use Rattle.std.proofs.lemmas.List.{drop-drop, drop_all, length-drop}
 use Rattle.task_core.specs.Cubes.{SetOfVectors}
 use Rattle.task_core.specs.Vectors.{Vector}
-use Rattle.task_core.specs.Systems.{System, IsState, IsSystem}
+use Rattle.task_core.specs.Systems.{System, IsVector, IsSystem}
 use Rattle.plan_theory.specs.Layers.{action_numbers, must_lead}
 use Rattle.plan_theory.proofs.WeakLists.{find-Some, find-found}
 use Rattle.plan_theory.specs.Chains.{Chained, context_count, stages_from}
@@ -99,7 +99,7 @@ pub record ActsTowards (sys : System) (keep : SetOfVectors) (s : List SetOfVecto
   pub chosen : action_towards sys keep s v ≡ Some action
   pub leads : must_lead sys (win sys keep s) v action ≡ true
 
-module _ (sys : System) (ok : IsSystem sys) (keep : SetOfVectors) (v : Vector) (is : IsState sys v) where
+module _ (sys : System) (ok : IsSystem sys) (keep : SetOfVectors) (v : Vector) (is : IsVector sys v) where
   pub acts_towards : (s : List SetOfVectors) → win sys keep s v ≡ true → ((p : SetOfVectors) (rest : List SetOfVectors) → s ≡ p ∷ rest → met_set sys keep p rest v ≡ false) → ActsTowards sys keep s v
   acts_towards [] h unmet =
       let a = find-Some (must_lead sys (safe_set sys keep) v) (action_numbers sys) ((safe_set-largest sys keep ok).safe.stays v is h) in
@@ -111,7 +111,7 @@ module _ (sys : System) (ok : IsSystem sys) (keep : SetOfVectors) (v : Vector) (
       record {
         action = a.0;
         chosen = a.1.chosen;
-        leads = leads_more sys (near sys met K) (stage_set sys met) v a.0 (λ t o. in_stage_set sys met ok K t (ok.next v a.0 t o)) (a.1.leads K (near-grows sys met v K (suc K) (omega arith) h));
+        leads = leads_more sys (near sys met K) (stage_set sys met) v a.0 (λ t o. in_stage_set sys met ok K t (ok.next v a.0 t o).vector) (a.1.leads K (near-grows sys met v K (suc K) (omega arith) h));
       }
 
   pub acts_onward : (s : List SetOfVectors) → win sys keep s v ≡ true → ActsTowards sys keep (drop (met_count sys keep s v) s) v
@@ -137,7 +137,7 @@ module _ (sys : System) (chain : Chained) (c : ℕ) (v : Vector) (first : 1 ≤ 
   win_at-advance h = ap (λ s. win sys chain.keep s v) stages_from-advance ∙ win-unmet sys chain.keep v (stages_from c chain.stages) h
 
   -- what the plan is to do: go towards that stage
-  pub chain_acts : IsSystem sys → IsState sys v → win_at sys chain c v ≡ true → ActsTowards sys chain.keep (stages_from (advance sys chain c v) chain.stages) v
+  pub chain_acts : IsSystem sys → IsVector sys v → win_at sys chain c v ≡ true → ActsTowards sys chain.keep (stages_from (advance sys chain c v) chain.stages) v
   chain_acts ok is h = subst (λ s. ActsTowards sys chain.keep s v) (sym stages_from-advance) (acts_onward sys ok chain.keep v is (stages_from c chain.stages) h)
 
 -- after the last stage there is none

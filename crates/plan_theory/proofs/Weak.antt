@@ -4,7 +4,7 @@ use Rattle.std.proofs.Common.{◌≡◌, ℕ, suc, ◌+◌, true, false, List, [
 use Rattle.std.specs.List.{Contains, list_all}
 use Rattle.std.proofs.lemmas.Bool.{true≢false, or_right, and_from}
 use Rattle.task_core.specs.Vectors.{Vector}
-use Rattle.task_core.specs.Systems.{System, IsSystem, IsState, HasOutcome, goal_states}
+use Rattle.task_core.specs.Systems.{System, IsSystem, IsVector, HasOutcome, goal_states}
 use Rattle.task_core.specs.Tables.{Table, IsTable, Leads}
 use Rattle.task_core.specs.Paths.{IsPath, last_of}
 use Rattle.task_core.specs.Solutions.{IsWeakSolution, MayReachGoal}
@@ -44,5 +44,5 @@ pub no_cover_no_solution : (sys : System) → IsSystem sys → ((k : ℕ) → co
 no_cover_no_solution sys ok none table is solves = let w = solution_covers sys ok table solves in true≢false (sym w.1 ∙ none w.0)
 
 -- and so where a layer that doesn't hold every initial state is as the next one
-pub stable_no_solution : (sys : System) → IsSystem sys → (k : ℕ) → ((v : Vector) → IsState sys v → layer Weak sys (suc k) v ≡ layer Weak sys k v) → covers Weak sys k ≡ false → (table : Table) → IsTable sys table → IsWeakSolution sys table → ⊥
+pub stable_no_solution : (sys : System) → IsSystem sys → (k : ℕ) → ((v : Vector) → IsVector sys v → layer Weak sys (suc k) v ≡ layer Weak sys k v) → covers Weak sys k ≡ false → (table : Table) → IsTable sys table → IsWeakSolution sys table → ⊥
 stable_no_solution sys ok k stable short = no_cover_no_solution sys ok (stable_no_cover Weak sys ok k stable short)

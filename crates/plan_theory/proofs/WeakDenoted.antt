@@ -4,7 +4,7 @@ use Rattle.std.specs.Prelude.{◌&&◌}
 use Rattle.std.specs.List.{Contains, list_any, filter, range_with_len}
 use Rattle.std.proofs.lemmas.Bool.{false≢true, and_parts, and_from}
 use Rattle.task_core.specs.Vectors.{Vector, all_vectors}
-use Rattle.task_core.specs.Systems.{System, IsState, Exec, HasOutcome}
+use Rattle.task_core.specs.Systems.{System, IsSystem, IsVector, Exec, HasOutcome}
 use Rattle.task_core.specs.Tables.{IsTable}
 use Rattle.plan_rules.specs.Rules.{PlanRule}
 use Rattle.plan_rules.specs.Denoted.{can_execute, advises, denoted_at, denoted}
@@ -19,7 +19,7 @@ can_execute-outcome sys s a t o = list_any-from (λ (t : Vector). true) (sys.nex
 
 -- what makes (s, a) a pair of the table
 pub record IsDenoted (sys : System) (rules : List PlanRule) (s : Vector) (a : ℕ) : Type 0 where
-  pub state : IsState sys s
+  pub state : IsVector sys s
   pub below : a < sys.actions
   pub advised : advises rules s a ≡ true
   pub executable : can_execute sys s a ≡ true
@@ -42,5 +42,8 @@ denoted-pair sys rules s a c =
     subst (λ (p : Vector × ℕ). IsDenoted sys rules p.0 p.1) pair.2 here
 
 -- whatever the rules, what they denote is a table
-pub denoted-table : (sys : System) (rules : List PlanRule) → IsTable sys (denoted sys rules)
-denoted-table sys rules s a c = let d = denoted-pair sys rules s a c in (d.state, can_execute-Exec sys s a d.executable)
+pub denoted-table : (sys : System) → IsSystem sys → (rules : List PlanRule) → IsTable sys (denoted sys rules)
+denoted-table sys ok rules s a c =
+    let d = denoted-pair sys rules s a c in
+    let executable = can_execute-Exec sys s a d.executable in
+    (record { vector = d.state; inside = ok.inside s a executable }, executable)

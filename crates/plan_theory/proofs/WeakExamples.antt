@@ -1,6 +1,6 @@
 -- Small systems, and the weak plans that are printed for them.
 use Rattle.std.proofs.Common.{◌≡◌, ℕ, zero, suc, Bool, true, false, List, [], ◌∷◌, None, Some, refl}
-use Rattle.std.specs.Prelude.{if◌then◌else◌, ◌==◌}
+use Rattle.std.specs.Prelude.{if◌then◌else◌, ◌==◌, slice_get}
 use Rattle.task_core.specs.Vectors.{Vector}
 use Rattle.task_core.specs.Systems.{System}
 use Rattle.task_core.specs.Cubes.{literal}
@@ -15,7 +15,7 @@ flips v zero = (true ∷ []) ∷ v ∷ []
 flips v (suc a) = []
 
 abbrev coin : System
-coin = record { fluents = 1; actions = 1; outcomes = λ a. 2; initial = (false ∷ []) ∷ []; goal = Some ((true ∷ []) ∷ []); next = flips }
+coin = record { fluents = 1; in_space = λ v. true; actions = 1; outcomes = λ a. 2; initial = (false ∷ []) ∷ []; goal = Some ((true ∷ []) ∷ []); next = flips; after = λ v a. slice_get (flips v a) }
 
 coin-uncovered : covers Weak coin 0 ≡ false
 coin-uncovered = refl
@@ -56,7 +56,7 @@ sets (f ∷ g ∷ []) a = switched f g a
 sets _ a = []
 
 abbrev switches : System
-switches = record { fluents = 2; actions = 4; outcomes = λ a. if a == 1 then 2 else 1; initial = (false ∷ false ∷ []) ∷ []; goal = Some ((true ∷ true ∷ []) ∷ []); next = sets }
+switches = record { fluents = 2; in_space = λ v. true; actions = 4; outcomes = λ a. if a == 1 then 2 else 1; initial = (false ∷ false ∷ []) ∷ []; goal = Some ((true ∷ true ∷ []) ∷ []); next = sets; after = λ v a. slice_get (sets v a) }
 
 switches-uncovered : covers Weak switches 1 ≡ false
 switches-uncovered = refl

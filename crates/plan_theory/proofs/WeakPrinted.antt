@@ -3,7 +3,7 @@ use Rattle.std.proofs.Common.{◌≡◌, ℕ, zero, suc, ◌<◌, ◌≤◌, Boo
 use Rattle.std.specs.List.{Contains, list_any, find}
 use Rattle.std.proofs.lemmas.Bool.{true≢false, or_cases, cond-false}
 use Rattle.task_core.specs.Vectors.{Vector}
-use Rattle.task_core.specs.Systems.{System, IsSystem, IsState}
+use Rattle.task_core.specs.Systems.{System, IsSystem, IsVector}
 use Rattle.task_core.specs.Tables.{Table, IsTable, Leads}
 use Rattle.task_core.specs.Solutions.{IsWeakSolution, MayReachGoal}
 use Rattle.plan_rules.specs.Denoted.{denoted, IsExecutable}
@@ -20,11 +20,11 @@ prepend : (sys : System) (table : Table) (s t : Vector) → Leads sys table s t 
 prepend sys table s t lead m = record { end = m.end; reached = record { rest = t ∷ m.reached.rest; path = (lead, m.reached.path); ends = m.reached.ends }; terminal = m.terminal; goal = m.goal }
 
 -- a state of layer k may reach the goal in k steps
-pub printed_reaches : (sys : System) → IsSystem sys → (K k : ℕ) → k ≤ K → (v : Vector) → IsState sys v → layer Weak sys k v ≡ true → MayReachGoal sys (denoted sys (printed_rules Weak sys K)) v
+pub printed_reaches : (sys : System) → IsSystem sys → (K k : ℕ) → k ≤ K → (v : Vector) → IsVector sys v → layer Weak sys k v ≡ true → MayReachGoal sys (denoted sys (printed_rules Weak sys K)) v
 printed_reaches sys ok K zero l v is h = record { end = v; reached = record { rest = []; path = tt; ends = refl }; terminal = goal_terminal Weak sys K v h; goal = layer-zero_goal Weak sys v h }
 printed_reaches sys ok K (suc k) l v is h = go (layer Weak sys k v) refl (printed_reaches sys ok K k (omega arith))
   where
-    step : layer Weak sys k v ≡ false → ((t : Vector) → IsState sys t → layer Weak sys k t ≡ true → MayReachGoal sys (denoted sys (printed_rules Weak sys K)) t) → MayReachGoal sys (denoted sys (printed_rules Weak sys K)) v
+    step : layer Weak sys k v ≡ false → ((t : Vector) → IsVector sys t → layer Weak sys k t ≡ true → MayReachGoal sys (denoted sys (printed_rules Weak sys K)) t) → MayReachGoal sys (denoted sys (printed_rules Weak sys K)) v
     step e after =
         let test = may_lead sys (layer Weak sys k) v in
         let some : list_any test (action_numbers sys) ≡ true = ⊎_elim (λ t. absurd (true≢false (sym t ∙ e))) (λ d. d) (or_cases (layer Weak sys k v) (list_any test (action_numbers sys)) h) in
@@ -35,12 +35,12 @@ printed_reaches sys ok K (suc k) l v is h = go (layer Weak sys k v) refl (printe
         let below : a < sys.actions = Contains-range_with_len-below sys.actions a found.0 in
         let t = list_any-witness (layer Weak sys k) (sys.next v a) found.1 in
         let pair : Contains (denoted sys (printed_rules Weak sys K)) (v, a) = denoted-from sys (printed_rules Weak sys K) v a (record { state = is; below = below; advised = chosen_advised Weak sys K v a is below chosen; executable = can_execute-outcome sys v a t.0 t.1 }) in
-        prepend sys (denoted sys (printed_rules Weak sys K)) v t.0 (record { action = a; pair = pair; outcome = t.1 }) (after t.0 (ok.next v a t.0 t.1) t.2)
+        prepend sys (denoted sys (printed_rules Weak sys K)) v t.0 (record { action = a; pair = pair; outcome = t.1 }) (after t.0 (ok.next v a t.0 t.1).vector t.2)
 
-    go : (b : Bool) → layer Weak sys k v ≡ b → ((t : Vector) → IsState sys t → layer Weak sys k t ≡ true → MayReachGoal sys (denoted sys (printed_rules Weak sys K)) t) → MayReachGoal sys (denoted sys (printed_rules Weak sys K)) v
+    go : (b : Bool) → layer Weak sys k v ≡ b → ((t : Vector) → IsVector sys t → layer Weak sys k t ≡ true → MayReachGoal sys (denoted sys (printed_rules Weak sys K)) t) → MayReachGoal sys (denoted sys (printed_rules Weak sys K)) v
     go true e after = after v is e
     go false e after = step e after
 
 -- where layer K holds every initial state, the printed plan is a weak solution
 pub printed_solves : (sys : System) (K : ℕ) → IsSystem sys → IsLastLayer Weak sys K → IsTable sys (denoted sys (printed_rules Weak sys K)) × IsWeakSolution sys (denoted sys (printed_rules Weak sys K)) × IsExecutable sys (printed_rules Weak sys K)
-printed_solves sys K ok last = (denoted-table sys (printed_rules Weak sys K), λ s c. printed_reaches sys ok K K (omega arith) s (ok.initial s c) (list_all-at (layer Weak sys K) sys.initial s last.covered c), printed_executable Weak sys K)
+printed_solves sys K ok last = (denoted-table sys ok (printed_rules Weak sys K), λ s c. printed_reaches sys ok K K (omega arith) s (ok.initial s c).vector (list_all-at (layer Weak sys K) sys.initial s last.covered c), printed_executable Weak sys K)

@@ -1,6 +1,6 @@
 -- The classes of plans that are found by layers.
 use Rattle.std.specs.Prelude.{◌≡◌, ℕ, suc}
-use Rattle.task_core.specs.Systems.{System, IsState}
+use Rattle.task_core.specs.Systems.{System, IsVector}
 use Rattle.task_core.specs.Vectors.{Vector}
 use Rattle.task_core.specs.declared.classes.Class.{Class}
 use Rattle.task_core.specs.declared.classes.Class.TheVariants.{Weak, Strong, Cyclic}
@@ -15,4 +15,4 @@ IsFoundByLayers Cyclic = ⊥
 -- layer k holds the same states as the next one
 abbrev pub IsStable : Class → System → ℕ → Type 0
 IsStable class sys k =
-    (v : Vector) → IsState sys v → layer class sys (suc k) v ≡ layer class sys k v
+    (v : Vector) → IsVector sys v → layer class sys (suc k) v ≡ layer class sys k v

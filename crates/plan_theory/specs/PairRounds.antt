@@ -3,7 +3,7 @@
 -- from which these pairs reach the goal.
 use Rattle.std.specs.Prelude.{◌≡◌, ℕ, zero, suc, ◌^◌, true, not, ◌&&◌}
 use Rattle.task_core.specs.Vectors.{Vector}
-use Rattle.task_core.specs.Systems.{System, IsState}
+use Rattle.task_core.specs.Systems.{System, IsVector}
 use Rattle.task_core.specs.Cubes.{SetOfVectors}
 use Rattle.task_core.specs.declared.classes.Class.TheVariants.{Weak}
 use Rattle.plan_theory.specs.Layers.{layer, must_lead}
@@ -21,11 +21,11 @@ progress sys pairs k = layer Weak (restricted sys pairs) k
 abbrev pub connected : System → Pairs → SetOfVectors
 connected sys pairs = progress sys pairs (2 ^ sys.fluents)
 
--- the states that are left after so many rounds
+-- what is left after so many rounds: at first all vectors, and then states
 abbrev pub round : System → ℕ → SetOfVectors
 round sys zero v = true
 round sys (suc r) v = connected sys (kept sys (round sys r)) v
 
--- round r leaves the same states as the next one
+-- round r leaves the same vectors as the next one
 abbrev pub IsLastRound : System → ℕ → Type 0
-IsLastRound sys r = (v : Vector) → IsState sys v → round sys (suc r) v ≡ round sys r v
+IsLastRound sys r = (v : Vector) → IsVector sys v → round sys (suc r) v ≡ round sys r v

@@ -1,5 +1,5 @@
 -- Sets of state-action pairs (Cimatti, Pistore, Roveri, Traverso 2003: state-action tables).
-use Rattle.std.specs.Prelude.{ℕ, Bool, [], if◌then◌else◌}
+use Rattle.std.specs.Prelude.{ℕ, Bool, [], if◌then◌else◌, None}
 use Rattle.std.specs.List.{list_any}
 use Rattle.task_core.specs.Vectors.{Vector, same_vector}
 use Rattle.task_core.specs.Systems.{System, goal_states}
@@ -20,4 +20,7 @@ is_goal sys v = list_any (same_vector v) (goal_states sys)
 
 -- the system in which the pairs of the set alone can be executed
 abbrev pub restricted : System → Pairs → System
-restricted sys pairs = record sys { next = λ v a. if pairs v a then sys.next v a else [] }
+restricted sys pairs = record sys {
+  next = λ v a. if pairs v a then sys.next v a else [];
+  after = λ v a o. if pairs v a then sys.after v a o else None;
+}

@@ -2,7 +2,7 @@
 use Rattle.std.specs.Prelude.{◌≡◌, ℕ, zero, suc, ◌^◌, Bool, true, ◌&&◌, Option}
 use Rattle.std.specs.List.{find, list_any}
 use Rattle.task_core.specs.Cubes.{SetOfVectors}
-use Rattle.task_core.specs.Systems.{System, IsState}
+use Rattle.task_core.specs.Systems.{System, IsVector}
 use Rattle.task_core.specs.Vectors.{Vector}
 use Rattle.plan_theory.specs.Layers.{action_numbers, must_lead}
 
@@ -21,9 +21,9 @@ safe_round sys keep (suc k) v =
 abbrev pub safe_set : System → SetOfVectors → SetOfVectors
 safe_set sys keep = safe_round sys keep (2 ^ sys.fluents)
 
--- so many rounds leave the same states as one more
+-- so many rounds leave the same vectors as one more
 abbrev pub IsLastSafeRound : System → SetOfVectors → ℕ → Type 0
-IsLastSafeRound sys keep k = (v : Vector) → IsState sys v
+IsLastSafeRound sys keep k = (v : Vector) → IsVector sys v
     → safe_round sys keep (suc k) v ≡ safe_round sys keep k v
 
 -- the action to stay there: the least-numbered one that has every outcome in the set
@@ -32,11 +32,11 @@ safe_action sys keep v = find (must_lead sys (safe_set sys keep) v) (action_numb
 
 -- a part of a set of which each state has an action with every outcome in that part
 pub record IsSafeSet (sys : System) (keep set : SetOfVectors) : Type 0 where
-  pub inside : (v : Vector) → IsState sys v → set v ≡ true → keep v ≡ true
-  pub stays : (v : Vector) → IsState sys v → set v ≡ true → some_must_lead sys set v ≡ true
+  pub inside : (v : Vector) → IsVector sys v → set v ≡ true → keep v ≡ true
+  pub stays : (v : Vector) → IsVector sys v → set v ≡ true → some_must_lead sys set v ≡ true
 
 -- the largest such part
 pub record IsLargestSafeSet (sys : System) (keep set : SetOfVectors) : Type 0 where
   pub safe : IsSafeSet sys keep set
-  pub largest : (other : SetOfVectors) → IsSafeSet sys keep other → (v : Vector) → IsState sys v
+  pub largest : (other : SetOfVectors) → IsSafeSet sys keep other → (v : Vector) → IsVector sys v
       → other v ≡ true → set v ≡ true

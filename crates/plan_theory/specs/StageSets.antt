@@ -3,7 +3,7 @@ use Rattle.std.specs.Prelude.{◌≡◌, ℕ, zero, suc, ◌+◌, ◌^◌, true,
 use Rattle.std.specs.List.{find, range_with_len}
 use Rattle.std.specs.Option.{option_and_then}
 use Rattle.task_core.specs.Cubes.{SetOfVectors}
-use Rattle.task_core.specs.Systems.{System, IsState}
+use Rattle.task_core.specs.Systems.{System, IsVector}
 use Rattle.task_core.specs.Vectors.{Vector}
 use Rattle.plan_theory.specs.Layers.{action_numbers, must_lead}
 use Rattle.plan_theory.specs.Safe.{some_must_lead}
@@ -17,9 +17,9 @@ near sys met (suc k) v = near sys met k v || some_must_lead sys (near sys met k)
 abbrev pub stage_set : System → SetOfVectors → SetOfVectors
 stage_set sys met = near sys met (2 ^ sys.fluents)
 
--- it is met from the same states within k steps as within one more
+-- it is met from the same vectors within k steps as within one more
 abbrev pub IsLastNear : System → SetOfVectors → ℕ → Type 0
-IsLastNear sys met k = (v : Vector) → IsState sys v → near sys met (suc k) v ≡ near sys met k v
+IsLastNear sys met k = (v : Vector) → IsVector sys v → near sys met (suc k) v ≡ near sys met k v
 
 -- the rank of a state: the least number of steps within which the set is met for certain
 abbrev pub stage_rank : System → SetOfVectors → Vector → Option ℕ
@@ -35,13 +35,13 @@ action_at_rank sys met v (suc k) = find (must_lead sys (near sys met k) v) (acti
 abbrev pub stage_action : System → SetOfVectors → Vector → Option ℕ
 stage_action sys met v = option_and_then (action_at_rank sys met v) (stage_rank sys met v)
 
--- a set with the states to be met and every state that has an action with all outcomes in it
+-- a set with the vectors to be met and every state that has an action with all outcomes in it
 pub record IsStageSet (sys : System) (met set : SetOfVectors) : Type 0 where
-  pub holds_met : (v : Vector) → IsState sys v → met v ≡ true → set v ≡ true
-  pub closed : (v : Vector) → IsState sys v → some_must_lead sys set v ≡ true → set v ≡ true
+  pub holds_met : (v : Vector) → IsVector sys v → met v ≡ true → set v ≡ true
+  pub closed : (v : Vector) → IsVector sys v → some_must_lead sys set v ≡ true → set v ≡ true
 
 -- the least such set
 pub record IsLeastStageSet (sys : System) (met set : SetOfVectors) : Type 0 where
   pub stage : IsStageSet sys met set
-  pub least : (other : SetOfVectors) → IsStageSet sys met other → (v : Vector) → IsState sys v
+  pub least : (other : SetOfVectors) → IsStageSet sys met other → (v : Vector) → IsVector sys v
       → set v ≡ true → other v ≡ true

@@ -5,7 +5,7 @@ ghost use Rattle.std.specs.List.{find};
 ghost use Rattle.std.specs.Prelude.{◌≡◌, ℕ, suc, ◌≤◌, ◌^◌, true, false, None, Some};
 ghost use Rattle.task_core.specs.ContextPlans.{ContextPlan};
 ghost use Rattle.task_core.specs.Cubes.{SetOfVectors};
-ghost use Rattle.task_core.specs.Systems.{System, IsState, IsSystem};
+ghost use Rattle.task_core.specs.Systems.{System, IsVector, IsSystem};
 ghost use Rattle.task_core.specs.Vectors.{Vector};
 ghost use Rattle.plan_theory.specs.Layers.{action_numbers, must_lead};
 ghost use Rattle.plan_theory.specs.Chains.{Chained, context_count};
@@ -25,7 +25,7 @@ pub fn safe_set_is_largest()
     ensures shrink { (sys : System) (keep : SetOfVectors) (v : Vector) (k m : ℕ) → k ≤ m
         → safe_round sys keep m v ≡ true → safe_round sys keep k v ≡ true }
     ensures last { (sys : System) (keep : SetOfVectors) (k : ℕ) → IsSystem sys
-        → IsLastSafeRound sys keep k → (v : Vector) → IsState sys v
+        → IsLastSafeRound sys keep k → (v : Vector) → IsVector sys v
         → safe_set sys keep v ≡ safe_round sys keep k v }
     ensures at_last { (sys : System) (keep : SetOfVectors)
         → (k : ℕ) × (k ≤ 2 ^ sys.fluents) × IsLastSafeRound sys keep k }
@@ -40,7 +40,7 @@ pub fn stage_set_is_least()
     ensures grow { (sys : System) (met : SetOfVectors) (v : Vector) (k m : ℕ) → k ≤ m
         → near sys met k v ≡ true → near sys met m v ≡ true }
     ensures last { (sys : System) (met : SetOfVectors) (k : ℕ) → IsSystem sys
-        → IsLastNear sys met k → (v : Vector) → IsState sys v
+        → IsLastNear sys met k → (v : Vector) → IsVector sys v
         → stage_set sys met v ≡ near sys met k v }
     ensures at_last { (sys : System) (met : SetOfVectors)
         → (k : ℕ) × (k ≤ 2 ^ sys.fluents) × IsLastNear sys met k }
@@ -50,7 +50,7 @@ pub fn stage_set_is_least()
 /// the states of so many. Where the set is met, and outside the stage set, there is no action.
 pub fn stage_actions_lead_nearer()
     ensures next { (sys : System) (met : SetOfVectors) (k : ℕ) (v : Vector) → IsSystem sys
-        → IsState sys v → near sys met (suc k) v ≡ true → near sys met k v ≡ false
+        → IsVector sys v → near sys met (suc k) v ≡ true → near sys met k v ≡ false
         → stage_action sys met v ≡ find (must_lead sys (near sys met k) v) (action_numbers sys) }
     ensures met { (sys : System) (met : SetOfVectors) (v : Vector) → met v ≡ true
         → stage_action sys met v ≡ None }
@@ -68,7 +68,7 @@ pub fn chain_actions_lead_on()
     ensures wins { (sys : System) (chain : Chained) (c : ℕ) (v : Vector) → 1 ≤ c
         → win_at sys chain c v ≡ true → win_at sys chain (advance sys chain c v) v ≡ true }
     ensures leads { (sys : System) (chain : Chained) (c : ℕ) (v : Vector) → IsSystem sys
-        → IsState sys v → 1 ≤ c → win_at sys chain c v ≡ true → (action : ℕ)
+        → IsVector sys v → 1 ≤ c → win_at sys chain c v ≡ true → (action : ℕ)
         × (chain_action sys chain (advance sys chain c v) v ≡ Some action)
         × (must_lead sys (win_at sys chain (advance sys chain c v)) v action ≡ true) }
 {}

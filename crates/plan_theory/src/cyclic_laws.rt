@@ -5,7 +5,7 @@
 ghost use Rattle.std.specs.Prelude.{◌≡◌, ℕ, ◌≤◌, ◌^◌, true, false};
 ghost use Rattle.std.specs.List.{Contains};
 ghost use Rattle.task_core.specs.Vectors.{Vector};
-ghost use Rattle.task_core.specs.Systems.{System, IsSystem, IsState};
+ghost use Rattle.task_core.specs.Systems.{System, IsSystem, IsVector};
 ghost use Rattle.task_core.specs.Tables.{IsTable, Table};
 ghost use Rattle.task_core.specs.Solutions.{HasNoSolution, IsReached, IsSolution};
 ghost use Rattle.plan_rules.specs.Denoted.{denoted, IsExecutable};
@@ -25,7 +25,7 @@ pub fn rounds_shrink()
 /// the number of states is such a one.
 pub fn rounds_stand_still()
     ensures later { (sys : System) (r m : ℕ) → IsSystem sys → IsLastRound sys r → r ≤ m
-        → (v : Vector) → IsState sys v → round sys m v ≡ round sys r v }
+        → (v : Vector) → IsVector sys v → round sys m v ≡ round sys r v }
     ensures at_last { (sys : System)
         → (r : ℕ) × (r ≤ 2 ^ sys.fluents) × IsLastRound sys r }
 {}
@@ -47,7 +47,7 @@ pub fn solutions_outlast_rounds()
 /// Where each initial state is a goal state or has a pair of the largest set, the printed rules
 /// denote a strong cyclic solution; and no rule matches a state where its action can't be executed.
 pub fn cyclic_plan_solves()
-    ensures table { (sys : System) (pairs : Pairs)
+    ensures table { (sys : System) (pairs : Pairs) → IsSystem sys
         → IsTable sys (denoted sys (cyclic_rules sys pairs)) }
     ensures solves { (sys : System) (pairs : Pairs) → IsSystem sys → IsLargestSet sys pairs
         → covers sys pairs ≡ true → IsSolution Cyclic sys (denoted sys (cyclic_rules sys pairs)) }

@@ -5,7 +5,7 @@
 ghost use Rattle.std.specs.Prelude.{◌≡◌, ℕ, ◌≤◌, ◌^◌, true, false};
 ghost use Rattle.std.specs.List.{Contains};
 ghost use Rattle.task_core.specs.Vectors.{Vector};
-ghost use Rattle.task_core.specs.Systems.{System, IsSystem, IsState};
+ghost use Rattle.task_core.specs.Systems.{System, IsSystem, IsVector};
 ghost use Rattle.task_core.specs.Tables.{IsTable, Table};
 ghost use Rattle.task_core.specs.Solutions.{HasNoSolution, IsSolution, IsStrongSolution};
 ghost use Rattle.plan_rules.specs.Denoted.{denoted, IsExecutable};
@@ -26,7 +26,7 @@ pub fn layers_grow()
 /// up to the number of states does.
 pub fn layers_stand_still()
     ensures later { (class : Class) (sys : System) (k j : ℕ) → IsSystem sys → IsStable class sys k
-        → k ≤ j → (v : Vector) → IsState sys v → layer class sys j v ≡ layer class sys k v }
+        → k ≤ j → (v : Vector) → IsVector sys v → layer class sys j v ≡ layer class sys k v }
     ensures at_last { (class : Class) (sys : System)
         → (k : ℕ) × (k ≤ 2 ^ sys.fluents) × IsStable class sys k }
 {}
@@ -49,7 +49,7 @@ pub fn no_plan_once_stable()
 /// Where layer K is the first that holds every initial state, the printed rules denote a solution
 /// of the class, weak or strong, and no rule matches a state where its action can't be executed.
 pub fn printed_plan_solves()
-    ensures table { (class : Class) (sys : System) (K : ℕ)
+    ensures table { (class : Class) (sys : System) (K : ℕ) → IsSystem sys
         → IsTable sys (denoted sys (printed_rules class sys K)) }
     ensures solves { (class : Class) → IsFoundByLayers class → (sys : System) (K : ℕ)
         → IsSystem sys → IsLastLayer class sys K

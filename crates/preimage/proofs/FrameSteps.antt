@@ -1,5 +1,5 @@
 -- The sets of a task while slots are taken and ended.
-use Rattle.std.proofs.Common.{◌≡◌, ℕ, ◌<◌, Result, length, sym, ap, subst, ◌∙◌, arith}
+use Rattle.std.proofs.Common.{◌≡◌, ℕ, ◌<◌, Option, Result, length, sym, ap, subst, ◌∙◌, arith}
 use Rattle.std.specs.Prelude.{IfOk, OnErr}
 use Rattle.dd_nodes.specs.Subfunctions.{Function}
 use Rattle.dd_sets.specs.Calls.{KeepsSets, Adds, AddsNone}
@@ -8,9 +8,10 @@ use Rattle.dd_sets.specs.LiveSets.{LiveSets, IsLive, set_of}
 use Rattle.dd_sets.specs.declared.errors.SetErr.{SetErr}
 use Rattle.dd_sets.specs.declared.slots.SetId.{SetId}
 use Rattle.task_core.specs.declared.tasks.Task.{Task}
-use Rattle.encode_task.specs.Made.{Holds, MadeOf}
-use Rattle.encode_task.specs.Slots.{Encoded, exec_slot}
-use Rattle.encode_task.specs.TaskSets.{exec_set, led_into}
+use Rattle.task_core.specs.Tasks.{outcomes_at}
+use Rattle.encode_task.specs.Made.{Holds, HoldsLands, MadeOf}
+use Rattle.encode_task.specs.Slots.{Encoded, exec_slot, lands_slot}
+use Rattle.encode_task.specs.TaskSets.{exec_set, lands_set, led_into}
 use Rattle.encode_task.proofs.MadeLemmas.{made_kept}
 use Rattle.dd_sets.proofs.OwnedLemmas.{answered}
 
@@ -30,3 +31,11 @@ pub led_answer : (task : Task) (first now : Encoded) (after : LiveSets) (x a o :
 led_answer task first now after x a o answer same kept live made adds stays none =
     subst (λ (set : Function). OwnsAnswer now.sets after (led_into task a o set) answer) (kept.sets x live)
     (answered now.sets after (led_into task a o (set_of now.sets x)) answer (adds task (made_now task first now same kept made)) stays none)
+
+-- the slot of what an outcome leads to states holds it
+pub lands_hold : (task : Task) (enc : Encoded) (a o : ℕ) (lands : Option SetId) → MadeOf task enc → a < length enc.actions → o < length (outcomes_at task a) → lands ≡ lands_slot enc a o → HoldsLands enc.sets lands (lands_set task a o)
+lands_hold task enc a o lands made action outcome is = subst (λ s. HoldsLands enc.sets s (lands_set task a o)) (sym is) (made.lands a o (omega (arith, made.actions)) outcome)
+
+-- an action of the sets stays one
+pub still_action : (first now : Encoded) (a : ℕ) → now ≡ record first { sets = now.sets } → a < length first.actions → a < length now.actions
+still_action first now a same action = subst (λ (e : Encoded). a < length e.actions) (sym same) action

@@ -14,7 +14,8 @@ use dd_sets::{SetErr, SetId};
 use encode_task::Enc;
 use task_core::ActionId;
 
-/// The states in which an action can be executed and some outcome lies in `x`, in a new slot.
+/// The states in which an action can be executed and some outcome leads to a state in `x`, in a new
+/// slot.
 ///
 /// With one outcome this is the strong preimage: what the outcome leads into `x`, met with where the
 /// action can be executed. Outcomes are passed over once none can change the answer.
@@ -48,7 +49,7 @@ fn has_one_outcome(enc: &Enc, a: ActionId) -> bool
 }
 
 /// The weak preimage, by whatever number of outcomes: the states in which the action can be executed
-/// and not every outcome lies outside `x`, in a new slot.
+/// and not every outcome that leads to a state leads outside `x`, in a new slot.
 fn not_all_outside(enc: &mut Enc, a: ActionId, x: SetId) -> Result<SetId, SetErr>
     requires made { OfSomeTask enc.old }
     requires action { a.0 < length enc.old.actions }
@@ -65,7 +66,8 @@ fn not_all_outside(enc: &mut Enc, a: ActionId, x: SetId) -> Result<SetId, SetErr
     rest_of(enc, exec, left)
 }
 
-/// The states in which an action can be executed and every outcome lies in `x`, in a new slot.
+/// The states in which an action can be executed and every outcome that leads to a state leads into
+/// `x`, in a new slot.
 ///
 /// Outcomes are passed over once no state is left.
 ///
@@ -85,8 +87,8 @@ pub fn strong_pre(enc: &mut Enc, a: ActionId, x: SetId) -> Result<SetId, SetErr>
     all_on_side(enc, a, x, Side::Inside)
 }
 
-/// The states in which an action can be executed and all outcomes lie on one side of `x`, in a new
-/// slot.
+/// The states in which an action can be executed and all outcomes that lead to states lead to one side
+/// of `x`, in a new slot.
 fn all_on_side(enc: &mut Enc, a: ActionId, x: SetId, side: Side) -> Result<SetId, SetErr>
     requires made { OfSomeTask enc.old }
     requires action { a.0 < length enc.old.actions }
@@ -104,10 +106,9 @@ fn all_on_side(enc: &mut Enc, a: ActionId, x: SetId, side: Side) -> Result<SetId
         if is_none(enc, rest) {
             return Ok(rest);
         }
-        // A set of states, of which the outcome must be one, would be met with `led` here; and
-        // inside, `rest` would lose what is left of that set.
         let led = enc.led_into(a, o, x);
-        rest = part_of(enc, side, rest, led)?;
+        let lands = enc.lands(a, o);
+        rest = part_of(enc, side, lands, rest, led)?;
     }
     Ok(rest)
 }

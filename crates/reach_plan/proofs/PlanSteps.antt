@@ -59,7 +59,7 @@ flat_map_agree f g (x ∷ xs) same = (λ j. same x (Contains-head x xs) j ++ fla
 pub not_none : (class : Class) → IsFoundByLayers class → (task : Task) (K : ℕ) → IsLastLayer class (system_of task) K → HasNoSolution class (system_of task) → ⊥
 not_none class by_layers task K last none =
     let sys = system_of task in
-    none (denoted sys (printed_rules class sys K)) (denoted-table sys (printed_rules class sys K)) (solves_by_class class by_layers sys K (is_system task) last)
+    none (denoted sys (printed_rules class sys K)) (denoted-table sys (is_system task) (printed_rules class sys K)) (solves_by_class class by_layers sys K (is_system task) last)
 
 -- what the printed rules do
 pub record Solved (class : Class) (sys : System) (rules : List PlanRule) : Type 0 where
@@ -72,7 +72,7 @@ pub solved : (class : Class) → IsFoundByLayers class → (task : Task) (K : �
 solved class by_layers task K rules last is =
     let sys = system_of task in
     subst (Solved class sys) (sym is) (record {
-      table = denoted-table sys (printed_rules class sys K);
+      table = denoted-table sys (is_system task) (printed_rules class sys K);
       solves = solves_by_class class by_layers sys K (is_system task) last;
       executable = printed_executable class sys K;
       within = printed_within class sys K (IsRuleOf sys.fluents sys.actions) (λ cube a below lt. record { cube = below; action = lt });
@@ -158,7 +158,7 @@ on_err (Err e) P is = is
 pub goal_there : (task : Task) (enc : Encoded) → MadeOf task enc → IsSome task.goal → IsSome enc.goal
 goal_there task enc made some = go enc.goal task.goal made.goal some
   where
-    go : (own : Option SetId) (goal : Option Cond) → HoldsGoal enc.sets own goal → IsSome goal → IsSome own
+    go : (own : Option SetId) (goal : Option Cond) → HoldsGoal task enc.sets own goal → IsSome goal → IsSome own
     go None None holds is = is
     go (Some slot) goal holds is = refl
     go None (Some cond) holds is = absurd holds

@@ -16,12 +16,11 @@ use Rattle.dd_sets.specs.declared.errors.SetErr.TheVariants.{Full, Memory}
 use Rattle.dd_sets.specs.declared.slots.SetId.{SetId}
 use Rattle.encode_task.specs.Made.{Holds, HoldsGoal, MadeOf}
 use Rattle.encode_task.specs.Slots.{Encoded}
-use Rattle.encode_task.specs.TaskSets.{exec_set}
+use Rattle.encode_task.specs.TaskSets.{exec_set, goal_set}
 use Rattle.preimage.specs.Laws.{StrongLeadsToAll, WeakLeadsToSome}
 use Rattle.preimage.specs.Preimages.{every_outcome_in, some_outcome_in}
 use Rattle.slot_board.specs.Board.{At, Ends, HasNothing, Left, Moved, Start, Stayed, set_at}
 use Rattle.slot_board.proofs.BoardSlots.{depends, made_at}
-use Rattle.task_core.specs.Conditions.{holds}
 use Rattle.task_core.specs.Tasks.{action_count, fluent_count, initial_states, system_of}
 use Rattle.task_core.specs.Vectors.{all_vectors, value_of}
 use Rattle.task_core.specs.declared.classes.Class.{Class}
@@ -34,12 +33,12 @@ use Rattle.plan_theory.specs.Classes.{IsFoundByLayers}
 use Rattle.plan_theory.specs.Layers.{covers, layer}
 use Rattle.reach_plan.specs.LayerSets.{AreTakers, IsRound, class_preimage, grown, taken_by}
 use Rattle.reach_plan.specs.Searches.{AreSpent, BeginsRound, FoundLast, FoundNone, HasGrown, HasHits, HasJoined, HasLayer, HasNext, HasRound, IsCovered, IsMore, IsStill}
-use Rattle.reach_plan.specs.Steps.{HaveLed, Progress, after_step, after_steps, at_goal, goal_set as goal_states, is_step_of, untaken, with_set}
+use Rattle.reach_plan.specs.Steps.{HaveLed, Progress, after_step, after_steps, at_goal, goal_layer, is_step_of, untaken, with_set}
 use Rattle.reach_plan.specs.declared.steps.Step.{Step}
 use Rattle.reach_plan.specs.declared.steps.Step.TheVariants.{Advance, Grow}
 use Rattle.plan_theory.proofs.LeastBounds.{none_once_stable}
 use Rattle.plan_theory.proofs.Ranges.{range-more}
-use Rattle.reach_plan.proofs.SetLayers.{fewer_next, goal_set, missed, next_layer_set, next_takers, none_take, stable_same}
+use Rattle.reach_plan.proofs.SetLayers.{fewer_next, goal_is_layer, missed, next_layer_set, next_takers, none_take, stable_same}
 use Rattle.plan_theory.proofs.WeakLists.{list_all-agree}
 
 -- what is left of an answer, and of a refusal that is passed on
@@ -379,7 +378,7 @@ pub covered_at : (class : Class) (start : Start) (x : Encoded) (slots : List Set
 covered_at class start x slots k steps spent covered has is =
     is
     ∙ list_all-agree (λ state. set_at x.sets slots 0 (value_of state)) (layer class (system_of start.task) k) (initial_states start.task)
-    (λ s c. ap (λ (f : Function). f (value_of s)) has.begins.by_layer.holds_layer ∙ has.round.is_layer.agrees s ((is_system start.task).initial s c))
+    (λ s c. ap (λ (f : Function). f (value_of s)) has.begins.by_layer.holds_layer ∙ has.round.is_layer.agrees s ((is_system start.task).initial s c).vector)
 
 -- one layer more
 next_round : WeakLeadsToSome → StrongLeadsToAll → (class : Class) (task : Task) (k : ℕ) (f : Function) (h : ℕ → Function) (actions : ℕ) → IsRound class task k f h → covers class (system_of task) k ≡ false → actions ≡ action_count task
@@ -421,10 +420,10 @@ module _ (weak : WeakLeadsToSome) (strong : StrongLeadsToAll) (class : Class) (s
   }
 
 -- the goal, where the search begins
-goal_slot : (task : Task) (enc : Encoded) (slot : SetId) → MadeOf task enc → enc.goal ≡ Some slot → (goal : Cond) × (task.goal ≡ Some goal) × Holds enc.sets slot (holds goal)
-goal_slot task enc slot made is = at task.goal refl (subst (λ (o : Option SetId). HoldsGoal enc.sets o task.goal) is made.goal)
+goal_slot : (task : Task) (enc : Encoded) (slot : SetId) → MadeOf task enc → enc.goal ≡ Some slot → (goal : Cond) × (task.goal ≡ Some goal) × Holds enc.sets slot (goal_set task goal)
+goal_slot task enc slot made is = at task.goal refl (subst (λ (o : Option SetId). HoldsGoal task enc.sets o task.goal) is made.goal)
   where
-    at : (goal : Option Cond) → task.goal ≡ goal → HoldsGoal enc.sets (Some slot) goal → (goal : Cond) × (task.goal ≡ Some goal) × Holds enc.sets slot (holds goal)
+    at : (goal : Option Cond) → task.goal ≡ goal → HoldsGoal task enc.sets (Some slot) goal → (goal : Cond) × (task.goal ≡ Some goal) × Holds enc.sets slot (goal_set task goal)
     at None e holds = absurd holds
     at (Some goal) e holds = (goal, e, holds)
 
@@ -442,10 +441,10 @@ pub first_round : (class : Class) (start : Start) (x now : Encoded) (old new : L
     → ((a : ℕ) → a < length x.actions → slice_index_or spent a false ≡ false) → Moved start x.sets old now new 0 (set_of x.sets slot.0) → HasRound class start now new 0 steps spent
 first_round class start x now old new slot steps spent long has is no_steps marks none m =
     let goal = goal_slot start.task x slot (made_at start x old has.at) is in
-    let held : set_at now.sets new 0 ≡ holds goal.0 = m.here ∙ goal.2.holds in
-    let states : goal_states start.task ≡ holds goal.0 = ap (λ (o : Option Cond). option_map_or holds o nothing) goal.1 in
+    let held : set_at now.sets new 0 ≡ goal_set start.task goal.0 = m.here ∙ goal.2.holds in
+    let states : goal_layer start.task ≡ goal_set start.task goal.0 = ap (λ (o : Option Cond). option_map_or (goal_set start.task) o nothing) goal.1 in
     record {
-      f = holds goal.0;
+      f = goal_set start.task goal.0;
       h = untaken;
       begins = record {
         by_layer = record { at = m.at; sound = m.sound; holds_layer = held; holds_taken = λ a l. absurd (omega arith) };
@@ -456,7 +455,7 @@ first_round class start x now old new slot steps spent long has is no_steps mark
         are_spent = record { long = marks ∙ (made_at start x old has.at).actions; inside = λ a mark values exec. absurd (no_mark spent (length x.actions) marks none a mark) };
       };
       round = record {
-        is_layer = goal_set class start.task goal.0 goal.1 (subst (DependsOnly 0 (fluent_count start.task)) held (depends start now new m.at m.sound 0));
+        is_layer = goal_is_layer class start.task goal.0 goal.1 (subst (DependsOnly 0 (fluent_count start.task)) held (depends start now new m.at m.sound 0));
         are_takers = none_take class start.task;
         before = λ j low. absurd (omega arith);
       };
@@ -491,10 +490,10 @@ pub found_none : (class : Class) → IsFoundByLayers class → (start : Start) (
 found_none class by_layers start now slots k still = record { at = still.at; none = none_once_stable class by_layers (system_of start.task) k (is_system start.task) still.stable still.short }
 
 -- the second pass: the goal's states at first
-pub at_first : (start : Start) (x now : Encoded) (old new : List SetId) (n : ℕ) (slot : SetId) → length old ≡ n + 4 → HasNothing start x old → x.goal ≡ Some slot → Moved start x.sets old now new n (set_of x.sets slot.0) → HasLayer start now new n (goal_states start.task) untaken
+pub at_first : (start : Start) (x now : Encoded) (old new : List SetId) (n : ℕ) (slot : SetId) → length old ≡ n + 4 → HasNothing start x old → x.goal ≡ Some slot → Moved start x.sets old now new n (set_of x.sets slot.0) → HasLayer start now new n (goal_layer start.task) untaken
 at_first start x now old new n slot long has is m =
     let goal = goal_slot start.task x slot (made_at start x old has.at) is in
-    let states : goal_states start.task ≡ holds goal.0 = ap (λ (o : Option Cond). option_map_or holds o nothing) goal.1 in
+    let states : goal_layer start.task ≡ goal_set start.task goal.0 = ap (λ (o : Option Cond). option_map_or (goal_set start.task) o nothing) goal.1 in
     record {
       at = m.at;
       sound = m.sound;

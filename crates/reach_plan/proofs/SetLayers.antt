@@ -3,7 +3,7 @@ use Rattle.std.proofs.Common.{◌≡◌, ℕ, zero, suc, ◌+◌, ◌-◌, ◌<�
 use Rattle.std.specs.List.{Contains, find, list_all, list_any, range_with_len}
 use Rattle.std.specs.Option.{option_and_then, option_map, option_or, unwrap_or}
 use Rattle.std.proofs.Math.Path.{fun_ext}
-use Rattle.std.proofs.lemmas.Bool.{cases_Bool, cond-true, both_ways, eq-eqb, false_from_ne_true, false≢true, lt-ltb, ne_eqb, or_left, true≢false}
+use Rattle.std.proofs.lemmas.Bool.{and_from, and_parts, cases_Bool, cond-true, both_ways, eq-eqb, false_from_ne_true, false≢true, lt-ltb, ne_eqb, or_left, true≢false}
 use Rattle.std.proofs.lemmas.List.Folds.{find-append}
 use Rattle.std.proofs.lemmas.List.FromFn.{get_or-map-range_with_len, length-map-range_with_len}
 use Rattle.dd_nodes.specs.NodeList.{Values}
@@ -11,15 +11,15 @@ use Rattle.dd_nodes.specs.Subfunctions.{DependsOnly, Function}
 use Rattle.dd_ops.specs.Operations.{minus_of, or_of}
 use Rattle.task_core.specs.Conditions.{holds}
 use Rattle.task_core.specs.Cubes.{SetOfVectors, cubes_from, half, ignores_first, is_empty_set, is_whole_set, literal}
-use Rattle.task_core.specs.Systems.{IsState, System, goal_states}
-use Rattle.task_core.specs.Tasks.{action_count, fluent_count, is_executable, next_states, states_after, states_where, system_of}
+use Rattle.task_core.specs.Systems.{IsVector, System, goal_states}
+use Rattle.task_core.specs.Tasks.{action_count, fluent_count, in_space, is_executable, next_states, states_where, system_of}
 use Rattle.task_core.specs.Vectors.{Vector, all_vectors, same_value, value_of}
 use Rattle.task_core.specs.declared.classes.Class.{Class}
 use Rattle.task_core.specs.declared.classes.Class.TheVariants.{Weak, Strong, Cyclic}
 use Rattle.task_core.specs.declared.conditions.Cond.{Cond}
 use Rattle.task_core.specs.declared.tasks.Task.{Task}
-use Rattle.task_core.proofs.TaskSystem.{executable_exec, is_system, states_where_has, states_where_holds}
-use Rattle.encode_task.specs.TaskSets.{first_values}
+use Rattle.task_core.proofs.TaskSystem.{exec_executable, executable_exec, is_system, states_where_has, states_where_holds}
+use Rattle.encode_task.specs.TaskSets.{first_values, goal_set}
 use Rattle.preimage.specs.Laws.{StrongLeadsToAll, WeakLeadsToSome}
 use Rattle.plan_theory.specs.Classes.{IsStable}
 use Rattle.plan_theory.specs.Layers.{action_numbers, layer, leads_by}
@@ -56,20 +56,23 @@ same_sets : (n : ℕ) (f g : Function) → DependsOnly 0 n f → DependsOnly 0 n
 same_sets n f g f_depends g_depends same = fun_ext (λ values.
     at_state n g g_depends values ∙ same (first_values n values) (state_of n values) ∙ sym (at_state n f f_depends values))
 
--- the goal is layer 0
-pub goal_set : (class : Class) (task : Task) (goal : Cond) → task.goal ≡ Some goal → DependsOnly 0 (fluent_count task) (holds goal) → IsLayerSet class task 0 (holds goal)
-goal_set class task goal is depends = record { depends = depends; agrees = agrees }
+-- the goal states are layer 0
+pub goal_is_layer : (class : Class) (task : Task) (goal : Cond) → task.goal ≡ Some goal → DependsOnly 0 (fluent_count task) (goal_set task goal) → IsLayerSet class task 0 (goal_set task goal)
+goal_is_layer class task goal is depends = record { depends = depends; agrees = agrees }
   where
-    states : goal_states (system_of task) ≡ states_where (fluent_count task) goal
-    states = ap (λ o. unwrap_or (option_map (states_where (fluent_count task)) o) []) is
+    states : goal_states (system_of task) ≡ states_where task goal
+    states = ap (λ o. unwrap_or (option_map (states_where task) o) []) is
 
-    agrees : (v : Vector) → IsState (system_of task) v → holds goal (value_of v) ≡ layer class (system_of task) 0 v
+    agrees : (v : Vector) → IsVector (system_of task) v → goal_set task goal (value_of v) ≡ layer class (system_of task) 0 v
     agrees v long = ⊎_elim
-        (λ (h : holds goal (value_of v) ≡ true). h ∙ sym (layer-zero class (system_of task) v (subst (λ xs. Contains xs v) (sym states) (states_where_has (fluent_count task) goal v long h))))
-        (λ (h : holds goal (value_of v) ≡ false).
-        h ∙ sym (false_from_ne_true (layer class (system_of task) 0 v) (λ e. both_ways (holds goal (value_of v)) h
-        ((states_where_holds (fluent_count task) goal v (subst (λ xs. Contains xs v) states (layer-zero_goal class (system_of task) v e))).1))))
-        (cases_Bool (holds goal (value_of v)))
+        (λ (h : goal_set task goal (value_of v) ≡ true).
+        let both = and_parts (in_space task v) (holds goal (value_of v)) h in
+        h ∙ sym (layer-zero class (system_of task) v (subst (λ xs. Contains xs v) (sym states) (states_where_has task goal v long both.0 both.1))))
+        (λ (h : goal_set task goal (value_of v) ≡ false).
+        h ∙ sym (false_from_ne_true (layer class (system_of task) 0 v) (λ e.
+        let found = states_where_holds task goal v (subst (λ xs. Contains xs v) states (layer-zero_goal class (system_of task) v e)) in
+        both_ways (goal_set task goal (value_of v)) h (and_from (in_space task v) (holds goal (value_of v)) found.0.inside found.1))))
+        (cases_Bool (goal_set task goal (value_of v)))
 
 -- at first no action is taken
 pub none_take : (class : Class) (task : Task) → AreTakers class task 0 (λ a values. false)
@@ -84,32 +87,33 @@ some_and_all : (p : Vector → Bool) (x : Vector) (xs : List Vector) → list_al
 some_and_all p x xs = elim (p x) as (λ b. (b && list_all p xs) ≡ ((b || list_any p xs) && (b && list_all p xs))) [ true ↦ refl | false ↦ all_false_and (list_any p xs) ]
 
 all_lead : (task : Task) (set : SetOfVectors) (v : Vector) (a : ℕ) → (is_executable task v a && list_all set (next_states task v a)) ≡ (list_any set (next_states task v a) && list_all set (next_states task v a))
-all_lead task set v a = go (is_executable task v a) refl
+all_lead task set v a = go (is_executable task v a) refl (next_states task v a) refl
   where
     some : (xs : List Vector) → (xs ≡ [] → ⊥) → list_all set xs ≡ (list_any set xs && list_all set xs)
     some [] none = absurd (none refl)
     some (x ∷ xs) none = some_and_all set x xs
 
-    go : (b : Bool) → is_executable task v a ≡ b → (b && list_all set (cond b (states_after task v a) [])) ≡ (list_any set (cond b (states_after task v a) []) && list_all set (cond b (states_after task v a) []))
-    go true e = some (states_after task v a) (λ none. executable_exec task v a e (ap (λ b. cond b (states_after task v a) []) e ∙ none))
-    go false e = refl
+    go : (b : Bool) → is_executable task v a ≡ b → (xs : List Vector) → next_states task v a ≡ xs → (b && list_all set xs) ≡ (list_any set xs && list_all set xs)
+    go true e xs same = some xs (λ none. executable_exec task v a e (same ∙ none))
+    go false e [] same = refl
+    go false e (x ∷ xs) same = absurd (false≢true (sym e ∙ exec_executable task v a (λ none. let h : x ∷ xs ≡ [] = sym same ∙ none in cc)))
 
 -- the preimages of a layer
 module _ (weak : WeakLeadsToSome) (strong : StrongLeadsToAll) (task : Task) (k : ℕ) (set : Function) where
   pub preimage_leads : (class : Class) → IsLayerSet class task k set → (v : Vector) (a : ℕ) → class_preimage class task a set (value_of v) ≡ leads_by class (system_of task) (layer class (system_of task) k) v a
   preimage_leads Weak is v a =
       weak task a set v is.depends
-      ∙ list_any-agree (λ t. set (value_of t)) (layer Weak (system_of task) k) (next_states task v a) (λ t among. is.agrees t ((is_system task).next v a t among))
+      ∙ list_any-agree (λ t. set (value_of t)) (layer Weak (system_of task) k) (next_states task v a) (λ t among. is.agrees t ((is_system task).next v a t among).vector)
   preimage_leads Strong is v a =
       strong task a set v is.depends
-      ∙ ap (λ b. is_executable task v a && b) (list_all-agree (λ t. set (value_of t)) (layer Strong (system_of task) k) (next_states task v a) (λ t among. is.agrees t ((is_system task).next v a t among)))
+      ∙ ap (λ b. is_executable task v a && b) (list_all-agree (λ t. set (value_of t)) (layer Strong (system_of task) k) (next_states task v a) (λ t among. is.agrees t ((is_system task).next v a t among).vector))
       ∙ all_lead task (layer Strong (system_of task) k) v a
   preimage_leads Cyclic is v a =
       weak task a set v is.depends
-      ∙ list_any-agree (λ t. set (value_of t)) (layer Cyclic (system_of task) k) (next_states task v a) (λ t among. is.agrees t ((is_system task).next v a t among))
+      ∙ list_any-agree (λ t. set (value_of t)) (layer Cyclic (system_of task) k) (next_states task v a) (λ t among. is.agrees t ((is_system task).next v a t among).vector)
 
   -- a layer with its preimages under the first actions, and under all
-  pub grown_is : (class : Class) → IsLayerSet class task k set → (v : Vector) → IsState (system_of task) v → (n : ℕ)
+  pub grown_is : (class : Class) → IsLayerSet class task k set → (v : Vector) → IsVector (system_of task) v → (n : ℕ)
       → grown class task set n (value_of v) ≡ (layer class (system_of task) k v || list_any (leads_by class (system_of task) (layer class (system_of task) k) v) (range_with_len 0 n))
   grown_is class is v long n =
       ap (λ b. b || list_any (λ a. class_preimage class task a set (value_of v)) (range_with_len 0 n)) (is.agrees v long)
@@ -164,7 +168,7 @@ module _ (weak : WeakLeadsToSome) (strong : StrongLeadsToAll) (task : Task) (k :
           let none : chosen_action class sys k v ≡ None = ap (option_and_then (action_of_rank class sys v)) (rank_within-None class sys k v outside) in
           ap (λ o. is_action a o || (leads v a && not (list_any (leads v) (range_with_len 0 a)))) none ∙ sym (first_number (leads v) (action_count task) a below)
 
-      takes : (a : ℕ) (v : Vector) → a < action_count task → IsState sys v → taken_by class task set before (action_count task) a (value_of v) ≡ takers class sys (suc k) a v
+      takes : (a : ℕ) (v : Vector) → a < action_count task → IsVector sys v → taken_by class task set before (action_count task) a (value_of v) ≡ takers class sys (suc k) a v
       takes a v below long =
           ap (λ (f : Function). f (value_of v)) (cond-true (nat_lt a (action_count task)) (or_of (before a) (minus_of (class_preimage class task a set) (grown class task set a))) (before a) (lt-ltb a (action_count task) below))
           ∙ ap (λ b. b || (class_preimage class task a set (value_of v) && not (grown class task set a (value_of v)))) (taken.takes a v below long)

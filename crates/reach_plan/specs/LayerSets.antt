@@ -4,7 +4,7 @@ use Rattle.std.specs.List.{list_any, range_with_len}
 use Rattle.dd_nodes.specs.Subfunctions.{DependsOnly, Function}
 use Rattle.dd_ops.specs.Operations.{minus_of, or_of}
 use Rattle.preimage.specs.Preimages.{strong_preimage, weak_preimage}
-use Rattle.task_core.specs.Systems.{IsState}
+use Rattle.task_core.specs.Systems.{IsVector}
 use Rattle.task_core.specs.Tasks.{action_count, fluent_count, system_of}
 use Rattle.task_core.specs.Vectors.{Vector, value_of}
 use Rattle.task_core.specs.declared.classes.Class.{Class}
@@ -35,12 +35,12 @@ taken_by class task set before n a =
 -- the set holds the states of layer k
 pub record IsLayerSet (class : Class) (task : Task) (k : ℕ) (set : Function) : Type 0 where
   pub depends : DependsOnly 0 (fluent_count task) set
-  pub agrees : (v : Vector) → IsState (system_of task) v
+  pub agrees : (v : Vector) → IsVector (system_of task) v
       → set (value_of v) ≡ layer class (system_of task) k v
 
 -- for each action, the states within layer k that take it
 pub record AreTakers (class : Class) (task : Task) (k : ℕ) (taken : ℕ → Function) : Type 0 where
-  pub takes : (a : ℕ) (v : Vector) → a < action_count task → IsState (system_of task) v
+  pub takes : (a : ℕ) (v : Vector) → a < action_count task → IsVector (system_of task) v
       → taken a (value_of v) ≡ takers class (system_of task) k a v
 
 -- the sets are those of layer k, and no layer before it holds every initial state

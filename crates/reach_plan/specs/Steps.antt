@@ -5,7 +5,7 @@ use Rattle.std.specs.Option.{option_map_or}
 use Rattle.dd_nodes.specs.Subfunctions.{Function}
 use Rattle.dd_ops.specs.Operations.{minus_of, or_of}
 use Rattle.dd_sets.specs.LiveSets.{nothing}
-use Rattle.task_core.specs.Conditions.{holds}
+use Rattle.encode_task.specs.TaskSets.{goal_set}
 use Rattle.task_core.specs.Tasks.{action_count, system_of}
 use Rattle.task_core.specs.declared.classes.Class.{Class}
 use Rattle.task_core.specs.declared.tasks.Task.{Task}
@@ -24,15 +24,15 @@ pub record Progress : Type 0 where
   pub taken : ℕ → Function
   pub next : Function
 
--- at first both layers are the goal, and no action takes anything
-abbrev pub goal_set : Task → Function
-goal_set task = option_map_or holds task.goal nothing
+-- at first both layers are the goal states, and no action takes anything
+abbrev pub goal_layer : Task → Function
+goal_layer task = option_map_or (goal_set task) task.goal nothing
 
 abbrev pub untaken : ℕ → Function
 untaken a = nothing
 
 abbrev pub at_goal : Task → Progress
-at_goal task = record { layer = goal_set task; taken = untaken; next = goal_set task }
+at_goal task = record { layer = goal_layer task; taken = untaken; next = goal_layer task }
 
 -- after a step: the next layer has what the action leads into this one, and the action takes what is
 -- new of that; or the next layer takes the place of this one

@@ -4,7 +4,7 @@ use Rattle.dd_sets.specs.LiveSets.{LiveSets}
 use Rattle.dd_sets.specs.declared.slots.SetId.{SetId}
 use Rattle.slot_board.specs.Board.{set_at}
 use Rattle.task_core.specs.Solutions.{HasNoSolution}
-use Rattle.task_core.specs.Systems.{IsState}
+use Rattle.task_core.specs.Systems.{IsVector}
 use Rattle.task_core.specs.Tasks.{action_count, system_of}
 use Rattle.task_core.specs.Vectors.{Vector, value_of}
 use Rattle.task_core.specs.declared.classes.Class.{Class}
@@ -23,7 +23,7 @@ pub record HoldTakers (class : Class) (task : Task) (sets : LiveSets) (slots : L
   pub layers : ℕ
   pub last : IsLastLayer class (system_of task) layers
   pub long : length slots ≡ action_count task
-  pub takes : (a : ℕ) (v : Vector) → a < action_count task → IsState (system_of task) v
+  pub takes : (a : ℕ) (v : Vector) → a < action_count task → IsVector (system_of task) v
       → set_at sets slots a (value_of v) ≡ takers class (system_of task) layers a v
 
 -- what a search for them found: these slots, or that there is no solution

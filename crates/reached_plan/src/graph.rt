@@ -8,7 +8,9 @@ ghost use Rattle.task_core.specs.Tasks.{action_count, fluent_count, outcomes_at}
 
 use indexmap::IndexSet;
 use std::alloc::{AllocError, AllocFailed, Global};
-use task_core::{ActionId, Cond, InitErr, State, Task, cond_holds, init_states, is_exec, step};
+use task_core::{
+    ActionId, Cond, InitErr, State, Task, cond_holds, in_space, init_states, is_exec, step,
+};
 
 /// The most states that are gone through.
 const MOST_STATES: usize = 65_536;
@@ -147,7 +149,8 @@ impl Graph {
         Ok(moves)
     }
 
-    /// The numbers of the states to which the outcomes of an action lead.
+    /// The numbers of the states to which the outcomes of an action lead; an outcome that leads to no
+    /// state doesn't take place.
     fn states_after(
         &mut self,
         alloc: Global,
@@ -163,7 +166,9 @@ impl Graph {
         let mut after = Vec::new(alloc);
         for outcome in 0..outcome_count(task, action) {
             let next = step(task, state, action, outcome);
-            after.push(self.number_of(task, next)?)?;
+            if in_space(task, &next) {
+                after.push(self.number_of(task, next)?)?;
+            }
         }
         Ok(after)
     }

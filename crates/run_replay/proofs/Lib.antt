@@ -1,5 +1,6 @@
 pub mod Counting
 pub mod Mapped
+pub mod Outcomes
 pub mod Paths
 pub mod Places
 pub mod Telling

@@ -1,5 +1,5 @@
 -- Every trace is a path of its plan.
-use Rattle.std.proofs.Common.{◌≡◌, ◌≢◌, ℕ, zero, suc, ◌+◌, ◌<◌, Bool, true, false, if◌then◌else◌, List, [], ◌∷◌, ◌++◌, Option, Some, None, map, nat_lt, slice_index_or, arith, refl, ap, subst, ◌∙◌}
+use Rattle.std.proofs.Common.{◌≡◌, ◌≢◌, ℕ, zero, suc, ◌+◌, ◌<◌, Bool, true, false, if◌then◌else◌, List, [], ◌∷◌, ◌++◌, Option, Some, None, map, nat_lt, arith, refl, ap, subst, ◌∙◌}
 use Rattle.std.specs.List.{list_any}
 use Rattle.std.proofs.lemmas.Bool.Decides.{nat_tests}
 use Rattle.task_core.specs.Vectors.{Vector}
@@ -7,7 +7,7 @@ use Rattle.task_core.specs.Systems.{System, Exec}
 use Rattle.task_core.specs.ContextPlans.{ContextPlan, first_context}
 use Rattle.plan_rules.specs.Denoted.{can_execute}
 use Rattle.run_replay.specs.TraceLaws.{EveryTraceIsAPath, IsPathFrom, IsStepFrom, context_after, stray_number}
-use Rattle.run_replay.specs.Traces.{Trace, TraceStep, Turn, Ends, Goes, Ending, Capped, Stray, Unexecutable, turn, acting, choosing, trace_from, after_step, most_steps}
+use Rattle.run_replay.specs.Traces.{Trace, TraceStep, Turn, Ends, Goes, Ending, Capped, Unexecutable, turn, acting, choosing, outcome_state, stepping, trace_from, after_step, most_steps}
 
 -- what a turn that makes a step does
 record IsMade (sys : System) (plan : ContextPlan) (full : Bool) (number : ℕ) (s : Vector) (c : Option ℕ) (words : List ℕ)
@@ -34,23 +34,31 @@ some_next : (ts : List Vector) → list_any (λ (t : Vector). true) ts ≡ true 
 some_next [] h = absurd cc
 some_next (t ∷ ts) h = λ e. absurd cc
 
+-- the state of an outcome number is that of one of the action's outcomes
+state_of_outcome : (b : Bool) (after : Option Vector) (t : Vector) → (if b then after else None) ≡ Some t → (b ≡ true) × (after ≡ Some t)
+state_of_outcome true after t e = (refl, e)
+state_of_outcome false after t e = absurd (let x : None ≡ Some t = e in cc)
+
+stepping_is : (sys : System) (plan : ContextPlan) (number : ℕ) (s : Vector) (c action word : ℕ) (words : List ℕ) (found : Option Vector)
+    → plan.act s c ≡ Some action → Exec sys s action → outcome_state sys s action word ≡ found
+    → TurnIs sys plan false number s (Some c) (word ∷ words) (stepping sys number s action (plan.ctxt s c) word words found)
+stepping_is sys plan number s c action word words None acts exec leads = refl
+stepping_is sys plan number s c action word words (Some t) acts exec leads =
+    let of = state_of_outcome (nat_lt word (sys.outcomes action)) (sys.after s action word) t leads in
+    record {
+      room = refl;
+      numbered = refl;
+      made = record { before = refl; acts = acts; executable = exec; listed = below word (sys.outcomes action) of.0; after = of.1 };
+      goes = refl;
+      taken = refl;
+    }
+
 choosing_is : (sys : System) (plan : ContextPlan) (number : ℕ) (s : Vector) (c action : ℕ) (words : List ℕ)
     → plan.act s c ≡ Some action → Exec sys s action
     → TurnIs sys plan false number s (Some c) words (choosing sys plan number s c action words)
 choosing_is sys plan number s c action [] acts exec = refl
 choosing_is sys plan number s c action (word ∷ words) acts exec =
-    let t = slice_index_or (sys.next s action) word [] in
-    by_test (TurnIs sys plan false number s (Some c) (word ∷ words)) (nat_lt word (sys.outcomes action))
-    (Goes (record { number = number; action = action; outcome = word; before = s; after = t }) (plan.ctxt s c t) words)
-    (Ends (Stray number word (sys.outcomes action)) words)
-    (λ lt. record {
-      room = refl;
-      numbered = refl;
-      made = record { before = refl; acts = acts; executable = exec; listed = below word (sys.outcomes action) lt; after = refl };
-      goes = refl;
-      taken = refl;
-    })
-    (λ _. refl)
+    stepping_is sys plan number s c action word words (outcome_state sys s action word) acts exec refl
 
 acting_is : (sys : System) (plan : ContextPlan) (full : Bool) (number : ℕ) (s : Vector) (c : ℕ) (words : List ℕ) (found : Option ℕ)
     → plan.act s c ≡ found → TurnIs sys plan full number s (Some c) words (acting sys plan full number s c found words)

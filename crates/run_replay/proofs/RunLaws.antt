@@ -1,5 +1,5 @@
 -- A run and one turn more of it.
-use Rattle.std.proofs.Common.{◌≡◌, ℕ, zero, suc, ◌+◌, ◌-◌, ◌≤◌, ◌^◌, ◌==◌, Bool, true, false, if◌then◌else◌, List, [], ◌∷◌, ◌++◌, Option, Some, None, length, map, nat_lt, slice_index_or, arith, refl, sym, ap, subst, ◌∙◌, append_assoc, length-append}
+use Rattle.std.proofs.Common.{◌≡◌, ℕ, zero, suc, ◌+◌, ◌-◌, ◌≤◌, ◌^◌, ◌==◌, Bool, true, false, if◌then◌else◌, List, [], ◌∷◌, ◌++◌, Option, Some, None, length, map, arith, refl, sym, ap, subst, ◌∙◌, append_assoc, length-append}
 use Rattle.std.proofs.lemmas.Bool.Decides.{nat_tests}
 use Rattle.std.specs.List.{All}
 use Rattle.std.proofs.lemmas.List.{append-nil, map-append}
@@ -15,7 +15,7 @@ use Rattle.run_replay.specs.declared.traces.RunErr.{RunErr}
 use Rattle.run_replay.specs.declared.traces.RunErr.TheVariants.{StrayOutcome, Unexecutable as UnexecutableErr, Memory}
 use Rattle.run_replay.specs.Runs.{IsStepOf, IsFrontOf, IsRefused, outcome_numbers, step_value, steps_value}
 use Rattle.run_replay.specs.Running.{HasRun, after_steps, next_turn_of, rest_of}
-use Rattle.run_replay.specs.Traces.{Trace, TraceStep, Turn, Ends, Goes, Ending, Terminal, Ended, Capped, Stray, Unexecutable, turn, acting, choosing, trace_from, trace_of, after_step, most_steps}
+use Rattle.run_replay.specs.Traces.{Trace, TraceStep, Turn, Ends, Goes, Ending, Terminal, Ended, Capped, Stray, Unexecutable, turn, acting, choosing, outcome_state, stepping, trace_from, trace_of, after_step, most_steps}
 use Rattle.run_replay.specs.TraceTexts.{tallies_of, tally_lines}
 use Rattle.run_replay.specs.Turns.{IsRefusal}
 use Rattle.run_replay.specs.Watching.{AreTold, MonitorData}
@@ -44,20 +44,26 @@ steps_on : (sys : System) (plan : ContextPlan) (most number : ℕ) (s : Vector) 
 unfolding trace_from
 steps_on sys plan most number s c next words left step h = rw (h, trace_from) refl
 
-goes_of : (b : Bool) (made step : TraceStep) (after next : Option ℕ) (rest others left : List ℕ) (ending : Ending)
-    → (if b then Goes made after rest else Ends ending others) ≡ Goes step next left → (made ≡ step) × (rest ≡ left)
-goes_of true made step after next rest others left ending h = (cc, cc)
-goes_of false made step after next rest others left ending h = absurd (let e : Ends ending others ≡ Goes step next left = h in cc)
+same_step : (made step : TraceStep) (after next : Option ℕ) (rest left : List ℕ)
+    → Goes made after rest ≡ Goes step next left → (made ≡ step) × (rest ≡ left)
+same_step made step after next rest left h = (cc, cc)
+
+stepping_takes : (sys : System) (number : ℕ) (s : Vector) (action : ℕ) (context : Vector → Option ℕ) (word : ℕ) (words left : List ℕ)
+    (found : Option Vector) (step : TraceStep) (next : Option ℕ)
+    → stepping sys number s action context word words found ≡ Goes step next left → word ∷ words ≡ step.outcome ∷ left
+stepping_takes sys number s action context word words left None step next h =
+    absurd (let e : Ends (Stray number word (sys.outcomes action)) words ≡ Goes step next left = h in cc)
+stepping_takes sys number s action context word words left (Some t) step next h =
+    let made : TraceStep = record { number = number; action = action; outcome = word; before = s; after = t } in
+    let e = same_step made step (context t) next words left h in
+    let same : word ≡ step.outcome = ap (λ (x : TraceStep). x.outcome) e.0 in
+    rw (same, e.1) refl
 
 choosing_takes : (sys : System) (plan : ContextPlan) (number : ℕ) (s : Vector) (c action : ℕ) (words left : List ℕ) (step : TraceStep) (next : Option ℕ)
     → choosing sys plan number s c action words ≡ Goes step next left → words ≡ step.outcome ∷ left
 choosing_takes sys plan number s c action [] left step next h = absurd (let e : Ends Ended [] ≡ Goes step next left = h in cc)
 choosing_takes sys plan number s c action (word ∷ words) left step next h =
-    let t = slice_index_or (sys.next s action) word [] in
-    let made : TraceStep = record { number = number; action = action; outcome = word; before = s; after = t } in
-    let e = goes_of (nat_lt word (sys.outcomes action)) made step (plan.ctxt s c t) next words words left (Stray number word (sys.outcomes action)) h in
-    let same : word ≡ step.outcome = ap (λ (x : TraceStep). x.outcome) e.0 in
-    rw (same, e.1) refl
+    stepping_takes sys number s action (plan.ctxt s c) word words left (outcome_state sys s action word) step next h
 
 -- a step is made only where there is room for it, and takes one outcome number
 room_for : (can full : Bool) (number : ℕ) (words left : List ℕ) (t : Turn) (step : TraceStep) (next : Option ℕ)

@@ -1,5 +1,5 @@
 -- Worked examples of traces: a coin of one fluent that is tossed until it shows heads.
-use Rattle.std.proofs.Common.{◌≡◌, ℕ, ◌==◌, true, false, if◌then◌else◌, [], ◌∷◌, ◌++◌, Some, None, codes, refl}
+use Rattle.std.proofs.Common.{◌≡◌, ℕ, ◌==◌, true, false, not, if◌then◌else◌, [], ◌∷◌, ◌++◌, Some, None, codes, refl, slice_get}
 use Rattle.std.specs.Fmt.{digits}
 use Rattle.task_core.specs.Vectors.{Vector, value_of}
 use Rattle.task_core.specs.Systems.{System}
@@ -11,11 +11,13 @@ use Rattle.run_replay.specs.Traces.{TraceStep, Terminal, Ended, Capped, Stray, U
 abbrev coin : System
 coin = record {
   fluents = 1;
+  in_space = λ v. true;
   actions = 2;
   outcomes = λ a. 2;
   initial = (false ∷ []) ∷ [];
   goal = None;
   next = λ s a. if a == 0 then (true ∷ []) ∷ (false ∷ []) ∷ [] else [];
+  after = λ s a o. if a == 0 then slice_get ((true ∷ []) ∷ (false ∷ []) ∷ []) o else None;
 }
 
 -- toss at tails, in one context
@@ -75,6 +77,26 @@ unexecutable_at_the_cap = refl
 no_context : trace_from coin tosses 9 1 (false ∷ []) None (0 ∷ []) ≡ record { steps = []; ending = Terminal; left = 0 ∷ [] }
 unfolding trace_from
 no_context = refl
+
+-- the coin that can't show heads: tails is the one state, and outcome 0 leads to no state
+abbrev tails : System
+tails = record {
+  fluents = 1;
+  in_space = λ v. not (value_of v 0);
+  actions = 1;
+  outcomes = λ a. 2;
+  initial = (false ∷ []) ∷ [];
+  goal = None;
+  next = λ s a. if value_of s 0 then [] else (false ∷ []) ∷ [];
+  after = λ s a o. if value_of s 0 then None else if o == 1 then Some (false ∷ []) else None;
+}
+
+-- its outcome 1 keeps its number, though it is the only one that takes place; outcome 0, which
+-- doesn't, is a stray number, and has been taken
+outside : trace_from tails tosses 9 1 (false ∷ []) (Some 1) (1 ∷ 0 ∷ 1 ∷ [])
+    ≡ record { steps = toss 1 1 (false ∷ []) ∷ []; ending = Stray 2 0 2; left = 1 ∷ [] }
+unfolding trace_from
+outside = refl
 
 -- the text
 tossed_text : trace_text ((codes "toss" ∷ codes "it" ∷ []) ∷ []) (toss 12 1 (false ∷ []) ∷ []) Ended ++ tally_line (codes "steps") 1

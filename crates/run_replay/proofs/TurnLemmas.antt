@@ -1,5 +1,5 @@
 -- A turn by the rule that counts in it.
-use Rattle.std.proofs.Common.{◌≡◌, ◌≢◌, ◌↔◌, ℕ, Bool, true, false, IsTrue, nat_lt, if◌then◌else◌, List, [], ◌∷◌, Option, Some, None, slice_index_or, refl, sym, ap, ◌∙◌}
+use Rattle.std.proofs.Common.{◌≡◌, ◌≢◌, ◌↔◌, ℕ, Bool, true, false, IsTrue, if◌then◌else◌, List, [], ◌∷◌, Option, Some, None, refl, sym, ap, ◌∙◌}
 use Rattle.std.specs.List.{list_any}
 use Rattle.std.proofs.lemmas.Bool.{false≢true}
 use Rattle.std.specs.Option.{option_map, option_and_then}
@@ -9,17 +9,15 @@ use Rattle.plan_rules.specs.Rules.{ContextRule}
 use Rattle.plan_rules.specs.Denoted.{can_execute, denoted_contexts, next_context, rule_at}
 use Rattle.plan_rules.specs.Advices.{Advised, advised_by}
 use Rattle.run_replay.specs.Turns.{taking, turn_by}
-use Rattle.run_replay.specs.Traces.{Turn, Ends, Goes, Capped, Stray, Unexecutable, acting, choosing, turn}
+use Rattle.run_replay.specs.Traces.{Turn, Ends, Goes, Capped, Stray, Unexecutable, acting, choosing, outcome_state, stepping, turn}
 
 choosing_is : (sys : System) (rules : List ContextRule) (number : ℕ) (s : Vector) (c : ℕ) (rule : ContextRule) (words : List ℕ)
     → rule_at rules s c ≡ Some rule → choosing sys (denoted_contexts rules) number s c rule.action words ≡ taking sys number s (advised_by rule) words
 choosing_is sys rules number s c rule [] e = refl
 choosing_is sys rules number s c rule (word ∷ words) e =
-    let t = slice_index_or (sys.next s rule.action) word [] in
-    ap (λ (found : Option ContextRule). if nat_lt word (sys.outcomes rule.action)
-    then Goes (record { number = number; action = rule.action; outcome = word; before = s; after = t })
-    (option_and_then (λ (r : ContextRule). next_context r.next t) found) words
-    else Ends (Stray number word (sys.outcomes rule.action)) words) e
+    ap (λ (found : Option ContextRule). stepping sys number s rule.action
+    (λ (t : Vector). option_and_then (λ (r : ContextRule). next_context r.next t) found) word words
+    (outcome_state sys s rule.action word)) e
 
 acting_is : (sys : System) (rules : List ContextRule) (full : Bool) (number : ℕ) (s : Vector) (c : ℕ) (words : List ℕ) (found : Option ContextRule)
     → rule_at rules s c ≡ found

@@ -1,11 +1,11 @@
 -- What holds of every trace: it is a path of the plan (Pistore, Traverso 2001) under the outcome
 -- numbers that it takes.
 use Rattle.std.specs.Prelude.{◌≡◌, ℕ, ◌<◌, ◌≤◌, List, [], ◌∷◌, ◌++◌, Option, Some, map, length}
-use Rattle.std.specs.Prelude.{slice_index_or, ⊤}
+use Rattle.std.specs.Prelude.{⊤}
 use Rattle.std.specs.List.{range_with_len}
 use Rattle.std.specs.Option.{option_and_then}
 use Rattle.task_core.specs.Vectors.{Vector}
-use Rattle.task_core.specs.Systems.{System, Exec}
+use Rattle.task_core.specs.Systems.{System, AreNumbered, Exec, HasOutcome}
 use Rattle.task_core.specs.ContextPlans.{ContextPlan, first_context}
 use Rattle.run_replay.specs.Runs.{outcome_numbers}
 use Rattle.run_replay.specs.Traces.{Trace, TraceStep, Ending, Terminal, Ended, Capped, Stray}
@@ -24,14 +24,14 @@ abbrev pub taken_by : Trace → List ℕ
 taken_by trace = outcome_numbers trace.steps ++ stray_number trace.ending
 
 -- the step is made in the state s and the context c: the plan has its action there, which can be
--- executed and has so many outcomes, and it leads to the outcome's state
+-- executed and has so many outcomes, and this outcome leads to its state
 pub record IsStepFrom (sys : System) (plan : ContextPlan) (s : Vector) (c : Option ℕ)
     (step : TraceStep) : Type 0 where
   pub before : step.before ≡ s
   pub acts : option_and_then (plan.act s) c ≡ Some step.action
   pub executable : Exec sys s step.action
   pub listed : step.outcome < sys.outcomes step.action
-  pub after : slice_index_or (sys.next s step.action) step.outcome [] ≡ step.after
+  pub after : sys.after s step.action step.outcome ≡ Some step.after
 
 -- the context after a step from the state s and the context c to the state t
 abbrev pub context_after : ContextPlan → Vector → Option ℕ → Vector → Option ℕ
@@ -60,3 +60,11 @@ EveryTraceIsAPath =
     (sys : System) (plan : ContextPlan) (first : Vector) (words : List ℕ)
     → IsPathFrom sys plan most_steps 1 first (Some first_context) words
     (trace_of sys plan first words)
+
+-- where the states to which an action leads are those of its outcomes by their numbers, as they are
+-- in the system of every task, each step leads to one of them
+abbrev pub EachStepHasItsOutcome : Type 0
+EachStepHasItsOutcome =
+    (sys : System) (plan : ContextPlan) (s : Vector) (c : Option ℕ) (step : TraceStep)
+    → AreNumbered sys → IsStepFrom sys plan s c step
+    → HasOutcome sys s step.action step.after

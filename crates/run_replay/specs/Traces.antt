@@ -2,7 +2,7 @@
 -- which outcome comes at each step, and how it ends. It is a definition by recursion on the turns,
 -- in the terms of a system and of a plan with contexts, and knows of no worlds and no monitors.
 use Rattle.std.specs.Prelude.{ℕ, zero, suc, ◌+◌, Bool, true, false, nat_lt, if◌then◌else◌, List, []}
-use Rattle.std.specs.Prelude.{◌∷◌, Option, Some, None, slice_index_or, map}
+use Rattle.std.specs.Prelude.{◌∷◌, Option, Some, None}
 use Rattle.task_core.specs.Vectors.{Vector}
 use Rattle.task_core.specs.Systems.{System}
 use Rattle.task_core.specs.ContextPlans.{ContextPlan, first_context}
@@ -20,7 +20,8 @@ pub record TraceStep : Type 0 where
   pub after : Vector
 
 -- how a trace ends: no rule matches; the outcome numbers are used up; the greatest number of steps
--- was made; an outcome number is none of the action's; or an action can't be executed
+-- was made; an outcome number is none of the action's, or its outcome leads to no state; or an action
+-- can't be executed
 pub data Ending : Type 0 where
   Terminal : Ending
   Ended : Ending
@@ -34,15 +35,27 @@ pub data Turn : Type 0 where
   Ends : Ending → List ℕ → Turn
   Goes : TraceStep → Option ℕ → List ℕ → Turn
 
+-- the state to which an action leads from a state by an outcome number: none where the number is
+-- none of the action's outcomes, and where this outcome leads to no state
+abbrev pub outcome_state : System → Vector → ℕ → ℕ → Option Vector
+outcome_state sys s action word =
+    if nat_lt word (sys.outcomes action) then sys.after s action word else None
+
+-- the turn that has taken an outcome number, which leads to this state or to none; `context` says in
+-- which context it goes on at a state
+abbrev pub stepping : System → ℕ → Vector → ℕ → (Vector → Option ℕ) → ℕ → List ℕ → Option Vector
+    → Turn
+stepping sys number s action context word words None =
+    Ends (Stray number word (sys.outcomes action)) words
+stepping sys number s action context word words (Some t) =
+    Goes (record { number = number; action = action; outcome = word; before = s; after = t })
+    (context t) words
+
 -- the turn in which the plan's action can be executed, and another step may be made
 abbrev pub choosing : System → ContextPlan → ℕ → Vector → ℕ → ℕ → List ℕ → Turn
 choosing sys plan number s c action [] = Ends Ended []
 choosing sys plan number s c action (word ∷ words) =
-    if nat_lt word (sys.outcomes action)
-    then (let t = slice_index_or (sys.next s action) word [] in
-    Goes (record { number = number; action = action; outcome = word; before = s; after = t })
-    (plan.ctxt s c t) words)
-    else Ends (Stray number word (sys.outcomes action)) words
+    stepping sys number s action (plan.ctxt s c) word words (outcome_state sys s action word)
 
 -- the turn in which the plan has this action, or none; `full` says that no further step may be made
 abbrev pub acting : System → ContextPlan → Bool → ℕ → Vector → ℕ → Option ℕ → List ℕ → Turn

@@ -1,6 +1,6 @@
 -- Private: one turn, as the code holds it.
-use Rattle.std.specs.Prelude.{◌≡◌, ℕ, Bool, nat_lt, if◌then◌else◌, List, [], ◌∷◌, Option, Some}
-use Rattle.std.specs.Prelude.{None, slice_index_or, ⊤}
+use Rattle.std.specs.Prelude.{◌≡◌, ℕ, Bool, if◌then◌else◌, List, [], ◌∷◌, Option, Some}
+use Rattle.std.specs.Prelude.{None, ⊤}
 use Rattle.run_replay.specs.declared.turns.Turn.{Turn as CodeTurn}
 use Rattle.run_replay.specs.declared.turns.Turn.TheVariants.{Ends as CodeEnds, Refuses}
 use Rattle.run_replay.specs.declared.turns.Turn.TheVariants.{Goes as CodeGoes}
@@ -10,7 +10,7 @@ use Rattle.run_replay.specs.declared.traces.RunErr.TheVariants.{Unexecutable as 
 use Rattle.run_replay.specs.declared.traces.RunErr.TheVariants.{Memory}
 use Rattle.run_replay.specs.Runs.{IsStepOf, step_value, ending_of}
 use Rattle.run_replay.specs.Traces.{Ending, Turn, Ends, Goes, Terminal, Ended, Capped, Stray}
-use Rattle.run_replay.specs.Traces.{Unexecutable}
+use Rattle.run_replay.specs.Traces.{Unexecutable, outcome_state, stepping}
 use Rattle.task_core.specs.Vectors.{Vector}
 use Rattle.task_core.specs.Systems.{System}
 use Rattle.plan_rules.specs.Denoted.{can_execute, next_context}
@@ -39,11 +39,8 @@ MakesStepOf n m (CodeGoes step context) = IsStepOf n m step
 abbrev pub taking : System → ℕ → Vector → Advised → List ℕ → Turn
 taking sys number s a [] = Ends Ended []
 taking sys number s a (word ∷ words) =
-    if nat_lt word (sys.outcomes a.action)
-    then (let t = slice_index_or (sys.next s a.action) word [] in
-    Goes (record { number = number; action = a.action; outcome = word; before = s; after = t })
-    (next_context a.next t) words)
-    else Ends (Stray number word (sys.outcomes a.action)) words
+    stepping sys number s a.action (next_context a.next) word words
+    (outcome_state sys s a.action word)
 
 -- Private: the turn in which this is what counts, or nothing
 abbrev pub turn_by : System → Bool → ℕ → Vector → List ℕ → Option Advised → Turn

@@ -21,7 +21,7 @@ mod turns;
 mod watch;
 mod worlds;
 
-pub use laws::traces_are_paths;
+pub use laws::{steps_have_their_outcomes, traces_are_paths};
 pub use monitors::{ChangeMonitor, Monitor, StepMonitor};
 pub use records::{Recorded, read_words};
 pub use runs::{MOST_STEPS, execute};

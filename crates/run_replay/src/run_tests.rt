@@ -168,15 +168,15 @@ fn fluents(alloc: Global) -> Result<Vec<Vec<String>>, AllocError> {
     Ok(fluents)
 }
 
-/// Two switches, p and q.
-fn switches(alloc: Global) -> Result<Option<Task>, AllocError> {
+/// Two switches, p and q, of which the vectors are states in which the invariant holds.
+fn switches(alloc: Global, invariant: Cond) -> Result<Option<Task>, AllocError> {
     let fluents = fluents(alloc)?;
     let actions = actions(alloc)?;
     let init = InitSpec {
         facts: State::none(),
         entries: Vec::new(alloc),
     };
-    Ok(Task::try_new(fluents, actions, init, None))
+    Ok(Task::try_new(fluents, actions, init, None, invariant))
 }
 
 /// The text of a run, as a string.
@@ -240,6 +240,7 @@ fn push_left(out: &mut String, world: &mut Box<dyn World>) -> Result<(), Fail> {
 /// What a run of the two switches gives, and then the outcome numbers that the world has left.
 fn told(
     alloc: Global,
+    invariant: Cond,
     plan: &str,
     world: &mut Box<dyn World>,
     monitors: &mut Vec<Box<dyn Monitor>>,
@@ -249,7 +250,7 @@ fn told(
     if plan.len() > MAX_BYTES {
         return Ok(String::new(alloc));
     }
-    let task = switches(alloc)?.ok_or("no task")?;
+    let task = switches(alloc, invariant)?.ok_or("no task")?;
     match read_plan(alloc, plan.as_bytes(), &task) {
         Ok(read) => {
             let mut out = told_of_plan(alloc, &task, &read.plan, world, monitors)?;
@@ -279,10 +280,15 @@ fn own_monitors(alloc: Global) -> Result<Vec<Box<dyn Monitor>>, AllocError>
 }
 
 /// The same with the program's own world and monitors.
-fn told_by_record(alloc: Global, plan: &str, words: &[u32]) -> Result<String, Fail> {
+fn told_by_record(
+    alloc: Global,
+    invariant: Cond,
+    plan: &str,
+    words: &[u32],
+) -> Result<String, Fail> {
     let mut world = record_world(alloc, Vec::from_slice(alloc, words)?)?;
     let mut monitors = own_monitors(alloc)?;
-    told(alloc, plan, &mut world, &mut monitors)
+    told(alloc, invariant, plan, &mut world, &mut monitors)
 }
 
 /// A plan, the outcome numbers that the world is given, and what the run gives.
@@ -355,7 +361,44 @@ static CASES: [Case; 9] = [
 #[test]
 fn runs_and_their_texts(rt: HostRuntime) -> Result<(), Fail> {
     for case in &CASES {
-        let told = told_by_record(rt.alloc(), case.plan, case.words)?;
+        let told = told_by_record(rt.alloc(), Cond::Yes, case.plan, case.words)?;
+        assert_eq!(rt; told.as_str(), case.told, "{}", case.plan);
+    }
+    Ok(())
+}
+
+/// The condition that p doesn't hold.
+fn without_p(alloc: Global) -> Result<Cond, AllocError> {
+    Ok(Cond::Not(Box::new(alloc, Cond::Is(FluentId(0)))?))
+}
+
+/// Runs where p holds in no state: `on`, and outcome 0 of `toss`, lead to none.
+static CASES_WITHOUT_P: [Case; 3] = [
+    // The outcomes that take place keep their numbers.
+    Case {
+        plan: "(plan table weak (rule ((q)) (use)) (rule () (toss)))",
+        words: &[1, 2, 0],
+        told: "step 1 (toss) outcome 1\nstep 2 (toss) outcome 2\nstep 3 (use) outcome 0\n\
+            end record\ntally steps 3\ntally changes 2\nleft",
+    },
+    // An outcome that leads to no state is a stray number.
+    Case {
+        plan: TOSS,
+        words: &[1, 0, 1],
+        told: "stray 2 0 3 left 1",
+    },
+    // An action can't be executed where none of its outcomes leads to a state.
+    Case {
+        plan: "(plan table weak (rule () (on)))",
+        words: &[0, 4],
+        told: "unexecutable 1 left 0 4",
+    },
+];
+
+#[test]
+fn runs_in_a_set_of_states(rt: HostRuntime) -> Result<(), Fail> {
+    for case in &CASES_WITHOUT_P {
+        let told = told_by_record(rt.alloc(), without_p(rt.alloc())?, case.plan, case.words)?;
         assert_eq!(rt; told.as_str(), case.told, "{}", case.plan);
     }
     Ok(())
@@ -375,7 +418,7 @@ fn a_caller_s_own_world_and_monitors(rt: HostRuntime) -> Result<(), Fail> {
     let mut monitors: Vec<Box<dyn Monitor>> = Vec::new(alloc);
     monitors.push(Box::new(alloc, ActionMonitor::new(2, drops.clone()?))?)?;
     monitors.push(Box::new(alloc, ActionMonitor::new(3, drops.clone()?))?)?;
-    let told = told(alloc, TOSS, &mut world, &mut monitors)?;
+    let told = told(alloc, Cond::Yes, TOSS, &mut world, &mut monitors)?;
     assert_eq!(rt;
         told.as_str(),
         "step 1 (toss) outcome 0\nstep 2 (toss) outcome 2\n\
@@ -428,7 +471,7 @@ fn told_at_the_end(
 ) -> Result<String, Fail>
     requires { All (λ monitor. (shown monitor).counted ≡ 0) monitors.old.items }
 {
-    let task = switches(alloc)?.ok_or("no task")?;
+    let task = switches(alloc, Cond::Yes)?.ok_or("no task")?;
     match read_plan(alloc, b"(plan table cyclic (rule () (on)))", &task) {
         Ok(read) => end_of_plan(alloc, &task, &read.plan, world, monitors),
         Err(_) => Ok(String::new(alloc)),

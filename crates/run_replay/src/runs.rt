@@ -54,9 +54,9 @@ struct Run {
 /// Each turn goes in this order. Where no rule matches, the run ends. Where the rule that counts,
 /// the first that matches, has an action that can't be executed, the run is refused. Where
 /// `MOST_STEPS` steps were made, and where the world has no number left, it ends. A number that is
-/// none of the action's outcomes has been taken then, and the run is refused. Otherwise the step is
-/// made, the monitors are told of it, and the next context is read on the new state. A table is run
-/// in context 1 throughout.
+/// none of the action's outcomes, or whose outcome leads to no state, has been taken then, and the run
+/// is refused. Otherwise the step is made, the monitors are told of it, and the next context is read
+/// on the new state. A table is run in context 1 throughout.
 ///
 /// Want of memory may stop the run after any step. Whatever the answer, the monitors were told of
 /// the steps that were made and of nothing else, and the list has the same monitors in the same

@@ -29,7 +29,8 @@ pub struct Trace {
 /// Why a run was refused, at the step of this number, counted from 1; or want of memory.
 #[derive(Clone, Copy, Debug, PartialEq, Eq)]
 pub enum RunErr {
-    /// The world gave a number that is none of the action's outcomes.
+    /// The world gave a number that is none of the action's outcomes, or one whose outcome leads to
+    /// no state.
     StrayOutcome { step: u64, word: u32, outcomes: u32 },
     /// The rule that counts has an action that can't be executed.
     Unexecutable { step: u64 },

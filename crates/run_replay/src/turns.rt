@@ -2,9 +2,10 @@
 
 ghost use Rattle.plan_guide.specs.GuideRules.{rule_value};
 ghost use Rattle.plan_guide.specs.Guides.{IsGuideOf, IsReady, rules_of};
-ghost use Rattle.run_replay.specs.Traces.{turn as turn_of};
+ghost use Rattle.run_replay.specs.Traces.{outcome_state, turn as turn_of};
 ghost use Rattle.run_replay.specs.Turns.{IsTurn, MakesStepOf, taking, turn_by};
-ghost use Rattle.std.specs.Prelude.{◌≡◌, ◌<◌, ◌↔◌, ◌∷◌, ℕ, IsTrue, length, List, Some};
+ghost use Rattle.std.specs.Prelude.{◌≡◌, ◌<◌, ◌↔◌, ◌∷◌, ℕ, IfSome, IsTrue, length, List, Some};
+ghost use Rattle.std.specs.Option.{option_map};
 ghost use Rattle.plan_rules.specs.Denoted.{can_execute, denoted_contexts};
 ghost use Rattle.task_core.specs.Systems.{Exec};
 ghost use Rattle.plan_rules.specs.Advices.{advised_by};
@@ -14,7 +15,7 @@ ghost use Rattle.task_core.specs.Tasks.{action_count, fluent_count, outcomes_at,
 use crate::traces::{End, RunErr};
 use crate::worlds::{Step, World};
 use plan_guide::{Guide, GuideRule};
-use task_core::{ActionId, State, Task, is_exec, step};
+use task_core::{ActionId, State, Task, in_space, is_exec, step};
 
 /// What a turn does.
 pub(crate) enum Turn {
@@ -92,15 +93,13 @@ fn make_step(task: &Task, number: u64, state: &State, rule: &GuideRule<'_>, word
         (advised_by (rule_value rule.now)) (word ∷ words)) }
     ensures in_task { MakesStepOf (fluent_count task.now) (action_count task.now) result }
 {
-    let outcomes = outcome_count(task, rule.action);
-    if word >= outcomes {
+    let Some(after) = outcome_state(task, state, rule.action, word) else {
         return Turn::Refuses(RunErr::StrayOutcome {
             step: number,
             word,
-            outcomes,
+            outcomes: outcome_count(task, rule.action),
         });
-    }
-    let after = step(task, state, rule.action, word);
+    };
     let made = Step {
         number,
         action: rule.action,
@@ -111,9 +110,32 @@ fn make_step(task: &Task, number: u64, state: &State, rule: &GuideRule<'_>, word
     Turn::Goes(made, rule.onward.context_in(task, &after))
 }
 
+/// The state to which an action that can be executed leads by this outcome number; `None` where the
+/// number is none of the action's outcomes, and where this outcome leads to no state.
+fn outcome_state(task: &Task, state: &State, action: ActionId, word: u32) -> Option<State>
+    requires in_range { action.0 < action_count task.now }
+    requires within { IsWithin (fluent_count task.now) state.now }
+    requires executable { Exec (system_of task.now) (vector (fluent_count task.now) state.now)
+        action.0 }
+    ensures value { let n = fluent_count task.now in option_map (vector n) result
+        ≡ outcome_state (system_of task.now) (vector n state.now) action.0 word }
+    ensures within { IfSome result (IsWithin (fluent_count task.now)) }
+{
+    if word >= outcome_count(task, action) {
+        return None;
+    }
+    let after = step(task, state, action, word);
+    if in_space(task, &after) {
+        Some(after)
+    } else {
+        None
+    }
+}
+
 /// Whether an action can be executed in a state.
 fn is_executable(task: &Task, state: &State, action: ActionId) -> bool
-    requires { action.0 < action_count task.now }
+    requires in_range { action.0 < action_count task.now }
+    requires within { IsWithin (fluent_count task.now) state.now }
     ensures value { result
         ≡ can_execute (system_of task.now) (vector (fluent_count task.now) state.now) action.0 }
     ensures executable { IsTrue result

@@ -11,7 +11,7 @@ use Rattle.sexpr_text.specs.declared.faults.FaultKind.TheVariants.{GoalMissing, 
 use Rattle.sexpr_text.specs.declared.faults.FaultKind.TheVariants.{WrongGoalKind, NotChain}
 use Rattle.sexpr_text.specs.declared.faults.FaultKind.TheVariants.{QuantifiedGoal, UnknownAction}
 use Rattle.sexpr_text.specs.declared.faults.FaultKind.TheVariants.{BadNumber, WrongPlanKind}
-use Rattle.sexpr_text.specs.declared.faults.FaultKind.TheVariants.{BadWeight, MassOver}
+use Rattle.sexpr_text.specs.declared.faults.FaultKind.TheVariants.{EmptyInit, BadWeight, MassOver}
 
 -- the number and the name of each kind
 abbrev pub code_and_name : FaultKind → ℕ × List ℕ
@@ -37,6 +37,7 @@ code_and_name QuantifiedGoal = (19, codes "QuantifiedGoal")
 code_and_name UnknownAction = (20, codes "UnknownAction")
 code_and_name BadNumber = (21, codes "BadNumber")
 code_and_name WrongPlanKind = (22, codes "WrongPlanKind")
+code_and_name EmptyInit = (23, codes "EmptyInit")
 code_and_name BadWeight = (24, codes "BadWeight")
 code_and_name MassOver = (25, codes "MassOver")
 

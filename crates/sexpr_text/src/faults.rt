@@ -56,6 +56,8 @@ pub enum FaultKind {
     BadNumber,
     /// 22: a plan of another kind than the command takes.
     WrongPlanKind,
+    /// 23: a problem whose initial states all lie outside the domain's set of states.
+    EmptyInit,
     /// 24: a weight of another form than a decimal number or a fraction.
     BadWeight,
     /// 25: weights with a sum above 1.
@@ -90,12 +92,13 @@ impl FaultKind {
             FaultKind::UnknownAction => (20, "UnknownAction"),
             FaultKind::BadNumber => (21, "BadNumber"),
             FaultKind::WrongPlanKind => (22, "WrongPlanKind"),
+            FaultKind::EmptyInit => (23, "EmptyInit"),
             FaultKind::BadWeight => (24, "BadWeight"),
             FaultKind::MassOver => (25, "MassOver"),
         }
     }
 
-    /// The number of the kind, from 1 to 25; none has 23.
+    /// The number of the kind, from 1 to 25.
     pub fn code(&self) -> u8
         ensures { result ≡ code_of self.now }
     {

@@ -190,6 +190,7 @@ fn kinds_have_numbers_and_names(rt: HostRuntime) -> Result<(), Fail> {
         (FaultKind::UnknownAction, 20, "UnknownAction"),
         (FaultKind::BadNumber, 21, "BadNumber"),
         (FaultKind::WrongPlanKind, 22, "WrongPlanKind"),
+        (FaultKind::EmptyInit, 23, "EmptyInit"),
         (FaultKind::BadWeight, 24, "BadWeight"),
         (FaultKind::MassOver, 25, "MassOver"),
     ];

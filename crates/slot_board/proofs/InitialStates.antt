@@ -29,7 +29,7 @@ module _ (task : Task) (f : Function) (only : DependsOnly 0 (fluent_count task) 
   inside_all : ((values : Values) → initial_set task values ≡ true → f values ≡ true) → list_all (λ state. f (value_of state)) (initial_states task) ≡ true
   inside_all inside = all_from (λ state. f (value_of state)) (initial_states task) (λ s c.
       inside (value_of s)
-      (ap (λ u. list_any (same_vector u) (initial_states task)) (first_are (fluent_count task) (value_of s) s ((is_system task).initial s c) (λ u l. refl))
+      (ap (λ u. list_any (same_vector u) (initial_states task)) (first_are (fluent_count task) (value_of s) s ((is_system task).initial s c).vector (λ u l. refl))
       ∙ any_of (same_vector s) (initial_states task) s c (same_vector_refl s)))
 
   all_inside : list_all (λ state. f (value_of state)) (initial_states task) ≡ true → (values : Values) → initial_set task values ≡ true → f values ≡ true

@@ -1,5 +1,5 @@
 -- Worked examples of the definitions.
-use Rattle.std.proofs.Common.{◌≡◌, ℕ, zero, suc, ◌≤◌, Bool, true, false, not, ◌||◌, List, [], ◌∷◌, length, Some, refl, sym, ◌∙◌, ap, subst, arith, if◌then◌else◌, ◌==◌}
+use Rattle.std.proofs.Common.{◌≡◌, ℕ, zero, suc, ◌≤◌, Bool, true, false, not, ◌||◌, List, [], ◌∷◌, length, Some, None, refl, sym, ◌∙◌, ap, subst, arith, if◌then◌else◌, ◌==◌, slice_get}
 use Rattle.std.specs.Prelude.{Vec}
 use Rattle.std.specs.declared.alloc.Global.{Global}
 use denote.RawPtr.{null_ptr}
@@ -93,14 +93,14 @@ module _ (alloc : Global) where
   abbrev flip : GroundAction
   flip = record { name = vec [] (omega arith); exec = Yes; outcomes = vec (one (change 0 true) ∷ nothing ∷ []) (omega arith) }
 
-  coin_next : (coin : Task) → fluent_count coin ≡ 1 → coin.actions.items ≡ flip ∷ [] → next_states coin (false ∷ []) 0 ≡ (true ∷ []) ∷ (false ∷ []) ∷ []
-  coin_next coin n a = simp (n, a, holds_Yes)
+  coin_next : (coin : Task) → fluent_count coin ≡ 1 → coin.actions.items ≡ flip ∷ [] → coin.invariant ≡ Yes → next_states coin (false ∷ []) 0 ≡ (true ∷ []) ∷ (false ∷ []) ∷ []
+  coin_next coin n a i = simp (n, a, i, holds_Yes)
 
-  coin_has_one_action : (coin : Task) → coin.actions.items ≡ flip ∷ [] → next_states coin (false ∷ []) 1 ≡ []
-  coin_has_one_action coin a = simp a
+  coin_has_one_action : (coin : Task) → coin.actions.items ≡ flip ∷ [] → coin.invariant ≡ Yes → next_states coin (false ∷ []) 1 ≡ []
+  coin_has_one_action coin a i = simp (a, i, holds_Yes)
 
-  coin_goal : (coin : Task) → fluent_count coin ≡ 1 → coin.goal ≡ Some (Is (record { 0 = 0 })) → goal_states (system_of coin) ≡ (true ∷ []) ∷ []
-  coin_goal coin n g = simp (n, g, holds_Is)
+  coin_goal : (coin : Task) → fluent_count coin ≡ 1 → coin.invariant ≡ Yes → coin.goal ≡ Some (Is (record { 0 = 0 })) → goal_states (system_of coin) ≡ (true ∷ []) ∷ []
+  coin_goal coin n i g = simp (n, i, g, holds_Is, holds_Yes)
 
   -- two fluents; an action of three outcomes, which can be executed where the first is true: it
   -- deletes the first, or adds and deletes the second, or deletes both
@@ -111,11 +111,19 @@ module _ (alloc : Global) where
     outcomes = vec (one (change 0 false) ∷ two (change 1 true) (change 1 false) ∷ two (change 0 false) (change 1 false) ∷ []) (omega arith);
   }
 
-  pair_next : (pair : Task) → fluent_count pair ≡ 2 → pair.actions.items ≡ drop ∷ [] → next_states pair (true ∷ true ∷ []) 0 ≡ (false ∷ true ∷ []) ∷ (true ∷ true ∷ []) ∷ (false ∷ false ∷ []) ∷ []
-  pair_next pair n a = simp (n, a, holds_Is, holds_Yes)
+  pair_next : (pair : Task) → fluent_count pair ≡ 2 → pair.actions.items ≡ drop ∷ [] → pair.invariant ≡ Yes → next_states pair (true ∷ true ∷ []) 0 ≡ (false ∷ true ∷ []) ∷ (true ∷ true ∷ []) ∷ (false ∷ false ∷ []) ∷ []
+  pair_next pair n a i = simp (n, a, i, holds_Is, holds_Yes)
 
-  pair_not_executable : (pair : Task) → fluent_count pair ≡ 2 → pair.actions.items ≡ drop ∷ [] → next_states pair (false ∷ true ∷ []) 0 ≡ []
-  pair_not_executable pair n a = simp (n, a, holds_Is)
+  pair_not_executable : (pair : Task) → fluent_count pair ≡ 2 → pair.actions.items ≡ drop ∷ [] → pair.invariant ≡ Yes → next_states pair (false ∷ true ∷ []) 0 ≡ []
+  pair_not_executable pair n a i = simp (n, a, i, holds_Is, holds_Yes)
+
+  -- the same two fluents, where only vectors in which the second is true are states: the third outcome
+  -- doesn't take place, and no action can be executed where the second is false
+  space_next : (pair : Task) → fluent_count pair ≡ 2 → pair.actions.items ≡ drop ∷ [] → pair.invariant ≡ Is (record { 0 = 1 }) → next_states pair (true ∷ true ∷ []) 0 ≡ (false ∷ true ∷ []) ∷ (true ∷ true ∷ []) ∷ []
+  space_next pair n a i = simp (n, a, i, holds_Is, holds_Yes)
+
+  outside_next : (pair : Task) → pair.actions.items ≡ drop ∷ [] → pair.invariant ≡ Is (record { 0 = 1 }) → next_states pair (true ∷ false ∷ []) 0 ≡ []
+  outside_next pair a i = simp (a, i, holds_Is)
 
 -- initial states over two fluents, false at first: an entry for each value of the first, and one of
 -- the second
@@ -140,11 +148,13 @@ fact_overridden = refl
 abbrev coin_system : System
 coin_system = record {
   fluents = 1;
+  in_space = λ v. true;
   actions = 1;
   outcomes = λ _. 2;
   initial = (false ∷ []) ∷ [];
   goal = Some ((true ∷ []) ∷ []);
   next = λ v a. if a == 0 then (true ∷ []) ∷ v ∷ [] else [];
+  after = λ v a o. if a == 0 then slice_get ((true ∷ []) ∷ v ∷ []) o else None;
 }
 
 -- the table that flips while the coin is down

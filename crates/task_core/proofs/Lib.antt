@@ -1,5 +1,6 @@
 pub mod EntryStates
 pub mod StateLists
+pub mod StateSpace
 pub mod Unchanged
 pub mod Vectors
 pub mod Cubes

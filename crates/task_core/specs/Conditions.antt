@@ -1,5 +1,5 @@
 -- Where a condition holds, which fluents it names, and how deep it is.
-use Rattle.std.specs.Prelude.{ℕ, ◌+◌, Bool, true, false, not, List, [], ◌∷◌, nat_lt, nat_le, max}
+use Rattle.std.specs.Prelude.{◌≡◌, ℕ, ◌+◌, Bool, true, false, not, List, [], ◌∷◌, nat_lt, nat_le, max}
 use Rattle.std.specs.List.{list_all, list_any}
 use Rattle.task_core.specs.States.{truth}
 use Rattle.task_core.specs.declared.states.State.{State}
@@ -19,6 +19,10 @@ holds_step (Any parts) value = list_any (λ part. part value) parts.items
 -- whether a condition holds where the fluents have these values
 abbrev pub holds : Cond → (ℕ → Bool) → Bool
 holds = fold-Cond ((ℕ → Bool) → Bool) holds_step
+
+-- it holds whatever the values are
+abbrev pub AlwaysHolds : Cond → Type 0
+AlwaysHolds cond = (value : ℕ → Bool) → holds cond value ≡ true
 
 -- whether it holds in a state
 abbrev pub holds_in : Cond → State → Bool

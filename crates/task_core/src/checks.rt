@@ -410,21 +410,28 @@ fn are_action_names(actions: &[GroundAction]) -> bool
 }
 
 /// Whether the numbers in the parts of a task are in range; so many fluents there are.
-fn are_within(actions: &[GroundAction], init: &InitSpec, goal: &Option<Cond>, count: usize) -> bool
+fn are_within(
+    actions: &[GroundAction],
+    init: &InitSpec,
+    goal: &Option<Cond>,
+    invariant: &Cond,
+    count: usize,
+) -> bool
     requires { count ≤ 256 }
-    ensures { IsTrue result ↔ PartsAreWithin count actions.now init.now goal.now }
+    ensures { IsTrue result ↔ PartsAreWithin count actions.now init.now goal.now invariant.now }
 {
     actions_fit(actions, count)
         && facts_fit(&init.facts, count)
         && entries_fit(init, count)
         && goal_fits(goal, count)
+        && ids_below(invariant, count)
 }
 
 /// Whether the conditions in the parts of a task are at most 200 deep.
-fn are_shallow(actions: &[GroundAction], goal: &Option<Cond>) -> bool
-    ensures { IsTrue result ↔ PartsAreShallow actions.now goal.now }
+fn are_shallow(actions: &[GroundAction], goal: &Option<Cond>, invariant: &Cond) -> bool
+    ensures { IsTrue result ↔ PartsAreShallow actions.now goal.now invariant.now }
 {
-    actions_are_shallow(actions) && goal_is_shallow(goal)
+    actions_are_shallow(actions) && goal_is_shallow(goal) && is_shallow(invariant)
 }
 
 /// Whether these parts make a task.
@@ -433,13 +440,15 @@ pub(crate) fn make_task(
     actions: &[GroundAction],
     init: &InitSpec,
     goal: &Option<Cond>,
+    invariant: &Cond,
 ) -> bool
-    ensures { IsTrue result ↔ MakesTask fluents.now actions.now init.now goal.now }
+    ensures { IsTrue result
+        ↔ MakesTask fluents.now actions.now init.now goal.now invariant.now }
 {
     fluents.len() <= 256
         && actions.len() < 1 << 32
-        && are_within(actions, init, goal, fluents.len())
-        && are_shallow(actions, goal)
+        && are_within(actions, init, goal, invariant, fluents.len())
+        && are_shallow(actions, goal, invariant)
         && are_fluent_names(fluents)
         && are_action_names(actions)
 }

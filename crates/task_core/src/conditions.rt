@@ -1,7 +1,7 @@
 //! Conditions on a state.
 
 ghost use Rattle.std.specs.Prelude.{◌≡◌, ◌≤◌, IsTrue};
-ghost use Rattle.task_core.specs.Conditions.{holds_in, ids_below};
+ghost use Rattle.task_core.specs.Conditions.{AlwaysHolds, holds_in, ids_below};
 
 use crate::{FluentId, State};
 
@@ -47,5 +47,17 @@ pub fn cond_holds(cond: &Cond, state: &State) -> bool
             }
             false
         }
+    }
+}
+
+/// Whether a condition is seen to hold always, without a look at its parts: it is `Yes`, or an `All`
+/// without parts.
+pub(crate) fn always_holds(cond: &Cond) -> bool
+    ensures { IsTrue result → AlwaysHolds cond.now }
+{
+    match cond {
+        Cond::Yes => true,
+        Cond::All(parts) => parts.is_empty(),
+        _ => false,
     }
 }

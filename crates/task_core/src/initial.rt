@@ -13,13 +13,14 @@ ghost use Rattle.std.specs.Prelude.{
   List,
   [],
   ◌∷◌,
+  ◌++◌,
   map,
   length,
   IfOk,
   OnOk,
   IsErrOf,
 };
-ghost use Rattle.std.specs.List.{All, AllPairs, flat_map, fold, list_all};
+ghost use Rattle.std.specs.List.{All, AllPairs, filter, flat_map, fold, list_all};
 ghost use Rattle.task_core.specs.Vectors.{Vector};
 ghost use Rattle.task_core.specs.States.{IsWithin, ShowsVectors, truth, vector};
 ghost use Rattle.task_core.specs.Initial.{
@@ -34,9 +35,16 @@ ghost use Rattle.task_core.specs.Initial.{
   lit_within,
   names_it,
 };
-ghost use Rattle.task_core.specs.Tasks.{fluent_count, initial_states, states_after_entries};
+ghost use Rattle.task_core.specs.Tasks.{
+  fluent_count,
+  in_space,
+  initial_states,
+  states_after_entries,
+};
 ghost use Rattle.task_core.specs.Unchanged.{AreOnce, changes_none, holds_in_each};
 
+use crate::conditions::always_holds;
+use crate::steps::in_space;
 use crate::{Alternative, Lit, State, Task};
 use indexmap::IndexSet;
 use std::alloc::{AllocError, Global};
@@ -63,12 +71,13 @@ impl From<AllocError> for InitErr {
     }
 }
 
-/// The initial states of a task, each once, in the order in which the entries give them.
+/// The initial states of a task, each once, in the order in which the entries give them: the vectors
+/// after all entries that are states. There may be none.
 ///
-/// `TooMany` comes exactly where there are more than `limit` different states after some of the
-/// first entries (none and all of them included), memory aside. A limit of 0 always refuses. The
-/// time grows with the number of states after each entry times the number of the next entry's
-/// alternatives.
+/// `TooMany` comes exactly where there are more than `limit` different vectors after some of the
+/// first entries (none and all of them included), states or not, memory aside. A limit of 0 always
+/// refuses. The time grows with the number of vectors after each entry times the number of the next
+/// entry's alternatives.
 pub fn init_states(alloc: Global, task: &Task, limit: usize) -> Result<Vec<State>, InitErr>
     ensures list { let n = fluent_count task.now in
         IfOk result (λ states. map (vector n) states.items ≡ initial_states task.now) }
@@ -86,7 +95,38 @@ pub fn init_states(alloc: Global, task: &Task, limit: usize) -> Result<Vec<State
     for entry in &task.init.entries {
         states = next_states(alloc, states, entry, limit)?;
     }
+    Ok(states_of(alloc, task, states)?)
+}
+
+// Those of the vectors that are states of the task. Where each vector is one there is no new list.
+fn states_of(alloc: Global, task: &Task, vectors: Vec<State>) -> Result<Vec<State>, AllocError>
+    ensures list { let n = fluent_count task.now in IfOk result (λ states.
+        map (vector n) states.items
+        ≡ filter (in_space task.now) (map (vector n) vectors.items)) }
+    ensures within { IfOk result (λ states. (n : ℕ) → All (IsWithin n) vectors.items
+        → All (IsWithin n) states.items) }
+{
+    if always_holds(&task.invariant) {
+        return Ok(vectors);
+    }
+    let mut states = Vec::new(alloc);
+    for found in &vectors {
+        add_if_state(task, &mut states, *found)?;
+    }
     Ok(states)
+}
+
+// Adds a vector that is a state to a list.
+fn add_if_state(task: &Task, states: &mut Vec<State>, found: State) -> Result<(), AllocError>
+    ensures list { let n = fluent_count task.now in OnOk result (map (vector n) states.new.items
+        ≡ map (vector n) states.old.items ++ filter (in_space task.now) (vector n found ∷ [])) }
+    ensures within { OnOk result ((n : ℕ) → IsWithin n found → All (IsWithin n) states.old.items
+        → All (IsWithin n) states.new.items) }
+{
+    if in_space(task, &found) {
+        states.push(found)?;
+    }
+    Ok(())
 }
 
 // The states after an entry. Where it changes none of them there is no new list.

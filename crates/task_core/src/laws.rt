@@ -4,9 +4,10 @@ ghost use Rattle.std.specs.Prelude.{◌≡◌, ◌≢◌, ℕ, Bool, List, ◌++
 ghost use Rattle.std.specs.List.{AllPairs, list_any};
 ghost use Rattle.task_core.specs.Initial.{Entry, after_entries};
 ghost use Rattle.task_core.specs.Vectors.{Vector};
-ghost use Rattle.task_core.specs.Systems.{IsSystem};
+ghost use Rattle.task_core.specs.Conditions.{AlwaysHolds};
+ghost use Rattle.task_core.specs.Systems.{AreNumbered, IsSystem};
 ghost use Rattle.task_core.specs.Cubes.{matches, cubes_from, cubes_of};
-ghost use Rattle.task_core.specs.Tasks.{system_of};
+ghost use Rattle.task_core.specs.Tasks.{EachVectorIsAState, system_of};
 
 use crate::Task;
 
@@ -21,9 +22,17 @@ pub fn cubes_match_their_set()
 {}
 
 /// The parts of a task's system fit together: its initial and goal states and its outcomes are
-/// states over its fluents, and only its actions can be executed.
+/// states, only its actions can be executed, and only in states; and the states to which an action
+/// leads are those of its outcomes by their numbers.
 pub fn tasks_have_systems(task: &Task)
-    ensures { IsSystem (system_of task.now) }
+    ensures system { IsSystem (system_of task.now) }
+    ensures numbered { AreNumbered (system_of task.now) }
+{}
+
+/// Where the invariant always holds, as it does where a domain has none, each vector is a state, an
+/// action can be executed where its precondition holds, and every outcome of it takes place.
+pub fn without_invariant_each_vector_is_a_state(task: &Task)
+    ensures { AlwaysHolds task.now.invariant → EachVectorIsAState task.now }
 {}
 
 /// No state is listed twice among those after some uncertain entries.

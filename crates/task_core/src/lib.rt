@@ -25,8 +25,11 @@ pub use actions::{Alternative, Change, GroundAction, InitSpec, Outcome};
 pub use classes::Class;
 pub use conditions::{Cond, cond_holds};
 pub use initial::{InitErr, init_states};
-pub use laws::{cubes_match_their_set, initial_states_differ, tasks_have_systems};
+pub use laws::{
+    cubes_match_their_set, initial_states_differ, tasks_have_systems,
+    without_invariant_each_vector_is_a_state,
+};
 pub use literals::{ActionId, FluentId, Lit};
 pub use states::State;
-pub use steps::{is_exec, step};
+pub use steps::{in_space, is_exec, step};
 pub use tasks::Task;

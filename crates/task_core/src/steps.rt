@@ -25,25 +25,68 @@ ghost use Rattle.task_core.specs.Tasks.{
   action_count,
   outcomes_at,
   states_after,
+  if_state,
+  in_space,
+  is_allowed,
   is_executable,
   system_of,
 };
 
+use crate::conditions::always_holds;
 use crate::initial::with_signed;
 use crate::{ActionId, Change, Lit, Outcome, State, Task, cond_holds};
 
-/// Whether the action can be executed in the state.
+/// Whether the vector is one of the task's states: whether the task's invariant holds in it. It takes
+/// no memory.
+pub fn in_space(task: &Task, state: &State) -> bool
+    ensures value { result ≡ in_space task.now (vector (fluent_count task.now) state.now) }
+{
+    cond_holds(&task.invariant, state)
+}
+
+/// Whether the action can be executed in the vector: whether this is a state of the task, the
+/// action's precondition holds in it, and some outcome leads to a state. It takes no memory.
+#[tactic(auto, using(crate::proofs::TaskSystem::decides_exec))]
 pub fn is_exec(task: &Task, state: &State, action: ActionId) -> bool
     requires in_range { action.0 < action_count task.now }
+    requires within { IsWithin (fluent_count task.now) state.now }
     ensures value { let v = vector (fluent_count task.now) state.now in
         result ≡ is_executable task.now v action.0 }
     ensures executable { let v = vector (fluent_count task.now) state.now in
         IsTrue result ↔ Exec (system_of task.now) v action.0 }
 {
-    cond_holds(&task.actions[action.0 as usize].exec, state)
+    is_allowed(task, state, action) && leads_to_a_state(task, state, action)
 }
 
-/// The state to which an outcome of the action leads from the state.
+/// Whether the vector is a state in which the action's precondition holds.
+fn is_allowed(task: &Task, state: &State, action: ActionId) -> bool
+    requires in_range { action.0 < action_count task.now }
+    ensures { result
+        ≡ is_allowed task.now (vector (fluent_count task.now) state.now) action.0 }
+{
+    in_space(task, state) && cond_holds(&task.actions[action.0 as usize].exec, state)
+}
+
+/// Whether some outcome of the action leads to a state. Where each vector is one, nothing is tried:
+/// an action has an outcome.
+fn leads_to_a_state(task: &Task, state: &State, action: ActionId) -> bool
+    requires in_range { action.0 < action_count task.now }
+    requires within { IsWithin (fluent_count task.now) state.now }
+    ensures { let v = vector (fluent_count task.now) state.now in
+        result ≡ list_any (in_space task.now) (states_after task.now v action.0) }
+{
+    if always_holds(&task.invariant) {
+        return true;
+    }
+    for outcome in &task.actions[action.0 as usize].outcomes {
+        if in_space(task, &state_after(outcome, state)) {
+            return true;
+        }
+    }
+    false
+}
+
+/// The vector to which an outcome of the action leads from the state, whether it is a state or not.
 pub fn step(task: &Task, state: &State, action: ActionId, outcome: u32) -> State
     requires action_in_range { action.0 < action_count task.now }
     requires outcome_in_range { outcome < length (outcomes_at task.now action.0) }
@@ -52,9 +95,9 @@ pub fn step(task: &Task, state: &State, action: ActionId, outcome: u32) -> State
     ensures after { let n = fluent_count task.now in
         slice_get (states_after task.now (vector n state.now) action.0) outcome
         ≡ Some (vector n result) }
-    ensures next { let n = fluent_count task.now in let v = vector n state.now in
+    ensures numbered { let n = fluent_count task.now in let v = vector n state.now in
         Exec (system_of task.now) v action.0
-        → slice_get ((system_of task.now).next v action.0) outcome ≡ Some (vector n result) }
+        → (system_of task.now).after v action.0 outcome ≡ if_state task.now (vector n result) }
 {
     let outcomes = &task.actions[action.0 as usize].outcomes;
     state_after(&outcomes[outcome as usize], state)

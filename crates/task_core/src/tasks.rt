@@ -10,6 +10,7 @@ ghost use Rattle.task_core.specs.Actions.{
   goal_is_shallow,
   goal_within,
 };
+ghost use Rattle.task_core.specs.Conditions.{ids_below, is_shallow};
 ghost use Rattle.task_core.specs.Initial.{entries_within};
 ghost use Rattle.task_core.specs.Parts.{MakesTask};
 ghost use Rattle.task_core.specs.Names.{AreActionNames, AreFluentNames, name_bytes, name_of};
@@ -18,7 +19,8 @@ use crate::checks::make_task;
 use crate::{Cond, GroundAction, InitSpec};
 
 /// A planning task: fluents and actions by their names, each a list of words and numbered from 0 by
-/// its place, what is known of the initial states, and the goal where there is one.
+/// its place, what is known of the initial states, the goal where there is one, and the invariant:
+/// only the vectors of truth values in which it holds are states.
 ///
 /// There are at most 256 fluents and fewer than 2^32 actions; each action has at least one and
 /// fewer than 2^32 outcomes, and each uncertain entry at least one alternative; each fluent that a
@@ -33,6 +35,7 @@ pub struct Task {
     pub actions: Vec<GroundAction>,
     pub init: InitSpec,
     pub goal: Option<Cond>,
+    pub invariant: Cond,
     pub ghost few_fluents: { length fluents.items ≤ 256 },
     pub ghost few_actions: { length actions.items < 2 ^ 32 },
     pub ghost actions_within: { let n = length fluents.items in
@@ -40,10 +43,12 @@ pub struct Task {
     pub ghost facts_within: { IsWithin (length fluents.items) init.facts } by { Prim.hlevel props },
     pub ghost entries_within: { entries_within (length fluents.items) init ≡ true },
     pub ghost goal_within: { goal_within (length fluents.items) goal ≡ true },
+    pub ghost invariant_within: { ids_below (length fluents.items) invariant ≡ true },
     pub ghost fluent_names: { AreFluentNames (map name_bytes fluents.items) } by { Prim.hlevel props },
     pub ghost action_names: { AreActionNames (map name_of actions.items) } by { Prim.hlevel props },
     pub ghost shallow_actions: { list_all action_is_shallow actions.items ≡ true },
     pub ghost shallow_goal: { goal_is_shallow goal ≡ true },
+    pub ghost shallow_invariant: { is_shallow invariant ≡ true },
 }
 
 impl Task {
@@ -53,6 +58,7 @@ impl Task {
         actions: Vec<GroundAction>,
         init: InitSpec,
         goal: Option<Cond>,
+        invariant: Cond,
     ) -> Task
         requires few_fluents { length fluents.items ≤ 256 }
         requires few_actions { length actions.items < 2 ^ 32 }
@@ -61,20 +67,24 @@ impl Task {
         requires facts_within { IsWithin (length fluents.items) init.facts }
         requires entries_within { entries_within (length fluents.items) init ≡ true }
         requires goal_within { goal_within (length fluents.items) goal ≡ true }
+        requires invariant_within { ids_below (length fluents.items) invariant ≡ true }
         requires fluent_names { AreFluentNames (map name_bytes fluents.items) }
         requires action_names { AreActionNames (map name_of actions.items) }
         requires shallow_actions { list_all action_is_shallow actions.items ≡ true }
         requires shallow_goal { goal_is_shallow goal ≡ true }
+        requires shallow_invariant { is_shallow invariant ≡ true }
         ensures fluents { result.fluents ≡ fluents }
         ensures actions { result.actions ≡ actions }
         ensures init { result.init ≡ init }
         ensures goal { result.goal ≡ goal }
+        ensures invariant { result.invariant ≡ invariant }
     {
         Task {
             fluents,
             actions,
             init,
             goal,
+            invariant,
         }
     }
     /// The task with these parts; `None` exactly where they don't make one, by one of the
@@ -85,15 +95,17 @@ impl Task {
         actions: Vec<GroundAction>,
         init: InitSpec,
         goal: Option<Cond>,
+        invariant: Cond,
     ) -> Option<Task>
-        ensures variant { IsSome result ↔ MakesTask fluents.items actions.items init goal }
+        ensures variant { IsSome result ↔ MakesTask fluents.items actions.items init goal invariant }
         ensures fluents { IfSome result (λ task. task.fluents ≡ fluents) }
         ensures actions { IfSome result (λ task. task.actions ≡ actions) }
         ensures init { IfSome result (λ task. task.init ≡ init) }
         ensures goal { IfSome result (λ task. task.goal ≡ goal) }
+        ensures invariant { IfSome result (λ task. task.invariant ≡ invariant) }
     {
-        if make_task(&fluents, &actions, &init, &goal) {
-            Some(Task::new(fluents, actions, init, goal))
+        if make_task(&fluents, &actions, &init, &goal, &invariant) {
+            Some(Task::new(fluents, actions, init, goal, invariant))
         } else {
             None
         }

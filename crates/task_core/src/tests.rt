@@ -5,7 +5,7 @@ ghost use Rattle.task_core.specs.Tasks.{fluent_count, action_count, outcomes_at}
 
 use crate::{
     ActionId, Alternative, Change, Cond, FluentId, GroundAction, InitErr, InitSpec, Lit, Outcome,
-    State, Task, cond_holds, init_states, is_exec, step,
+    State, Task, cond_holds, in_space, init_states, is_exec, step,
 };
 use std::alloc::{AllocError, Global};
 use std::test::Fail;
@@ -67,7 +67,7 @@ fn coin(alloc: Global) -> Result<Task, Fail>
     let fluents = names(alloc, &["up"])?;
     let actions = vec![in alloc; flip]?;
     let goal = Some(Cond::Is(FluentId(0)));
-    let task = Task::try_new(fluents, actions, all_false(alloc), goal);
+    let task = Task::try_new(fluents, actions, all_false(alloc), goal, Cond::Yes);
     Ok(task.ok_or("the coin is no task")?)
 }
 
@@ -113,19 +113,24 @@ fn either(alloc: Global, fluent: u32) -> Result<Vec<Alternative>, AllocError> {
     Ok(entry)
 }
 
-/// The task of the fluents with these names, and an entry for each value of each of the first
-/// `unknown`; none where the names are no task's.
-fn task_of(alloc: Global, words: &[&str], unknown: u32) -> Result<Option<Task>, AllocError> {
+/// An entry for each value of each of the first `count` fluents.
+fn unknown(alloc: Global, count: u32) -> Result<InitSpec, AllocError> {
     let mut entries = Vec::new(alloc);
-    for fluent in 0..unknown {
+    for fluent in 0..count {
         entries.push(either(alloc, fluent)?)?;
     }
-    let init = InitSpec {
+    Ok(InitSpec {
         facts: State::none(),
         entries,
-    };
+    })
+}
+
+/// The task of the fluents with these names, and an entry for each value of each of the first
+/// `count`; none where the names are no task's.
+fn task_of(alloc: Global, words: &[&str], count: u32) -> Result<Option<Task>, AllocError> {
+    let init = unknown(alloc, count)?;
     let fluents = names(alloc, words)?;
-    Ok(Task::try_new(fluents, Vec::new(alloc), init, None))
+    Ok(Task::try_new(fluents, Vec::new(alloc), init, None, Cond::Yes))
 }
 
 /// The four words of two values of fluents 0 and 1.
@@ -178,5 +183,81 @@ fn parts_that_make_no_task(rt: HostRuntime) -> Result<(), Fail> {
     }
     assert!(rt; task_of(alloc, &["p", "q"], 3)?.is_none());
     assert!(rt; task_of(alloc, &["p", "nota"], 2)?.is_some());
+    Ok(())
+}
+
+/// The outcome that makes these literals so.
+fn outcome(alloc: Global, lits: &[Lit]) -> Result<Outcome, AllocError> {
+    let change = Change {
+        cond: Cond::Yes,
+        lits: Vec::from_slice(alloc, lits)?,
+    };
+    Ok(Outcome {
+        changes: vec![in alloc; change]?,
+    })
+}
+
+/// That the fluents 0 and 1 aren't both true.
+fn not_both(alloc: Global) -> Result<Cond, AllocError> {
+    let both = vec![in alloc; Cond::Is(FluentId(0)), Cond::Is(FluentId(1))]?;
+    Ok(Cond::Not(Box::new(alloc, Cond::All(both))?))
+}
+
+/// Two fluents that are never both true. `take-p` makes the first true; `take-q` makes the second
+/// true and leaves the first as it is, or makes it false.
+fn apart(alloc: Global, init: InitSpec) -> Result<Task, Fail>
+    ensures fluents { IfOk result (λ task. fluent_count task ≡ 2) }
+    ensures actions { IfOk result (λ task. action_count task ≡ 2) }
+    ensures outcomes { IfOk result (λ task. length (outcomes_at task 0) ≡ 1) }
+    ensures outcomes_of_q { IfOk result (λ task. length (outcomes_at task 1) ≡ 2) }
+{
+    let p = GroundAction {
+        name: name(alloc, "take-p")?,
+        exec: Cond::Yes,
+        outcomes: vec![in alloc; outcome(alloc, &[lit(0, true)])?]?,
+    };
+    let alone = outcome(alloc, &[lit(1, true)])?;
+    let instead = outcome(alloc, &[lit(1, true), lit(0, false)])?;
+    let q = GroundAction {
+        name: name(alloc, "take-q")?,
+        exec: Cond::Yes,
+        outcomes: vec![in alloc; alone, instead]?,
+    };
+    let fluents = names(alloc, &["p", "q"])?;
+    let actions = vec![in alloc; p, q]?;
+    let task = Task::try_new(fluents, actions, init, None, not_both(alloc)?);
+    Ok(task.ok_or("no task")?)
+}
+
+#[test]
+fn only_states_of_the_set(rt: HostRuntime) -> Result<(), Fail> {
+    let task = apart(rt.alloc(), all_false(rt.alloc()))?;
+    let first = step(&task, &State::none(), ActionId(0), 0);
+    assert!(rt; is_exec(&task, &State::none(), ActionId(0)) && is_exec(&task, &first, ActionId(1)));
+    let both = step(&task, &first, ActionId(1), 0);
+    assert!(rt; !in_space(&task, &both) && !is_exec(&task, &both, ActionId(1)));
+    let second = step(&task, &first, ActionId(1), 1);
+    assert!(rt; in_space(&task, &second) && !is_exec(&task, &second, ActionId(0)));
+    Ok(())
+}
+
+#[test]
+fn only_initial_states_of_the_set(rt: HostRuntime) -> Result<(), Fail> {
+    let alloc = rt.alloc();
+    let task = apart(alloc, unknown(alloc, 2)?)?;
+    let states = [pair(true, false), pair(false, true), pair(false, false)];
+    assert_eq!(rt; init_states(alloc, &task, 4)?.as_slice(), states.as_slice());
+    assert!(rt; init_states(alloc, &task, 3) == Err(InitErr::TooMany));
+    Ok(())
+}
+
+#[test]
+fn no_initial_state_at_all(rt: HostRuntime) -> Result<(), Fail> {
+    let alloc = rt.alloc();
+    let init = InitSpec {
+        facts: pair(true, true),
+        entries: Vec::new(alloc),
+    };
+    assert!(rt; init_states(alloc, &apart(alloc, init)?, 1)?.is_empty());
     Ok(())
 }

@@ -92,6 +92,27 @@ const LIGHT_PLAN: &str = "(plan automaton 2
 ";
 
 const NINE_PLAN: &str = "(plan table strong\n  (rule ((not (a))) (all))\n)\n";
+
+/// Two fluents that are never both true: so one action loses an outcome where one of them is true,
+/// and the other can be executed nowhere.
+const TWO: &str = "(define (domain two)
+  (:predicates (p) (q))
+  (:invariant (not (and (p) (q))))
+  (:action a :effect (oneof (p) (q)))
+  (:action b :precondition (q) :effect (p)))
+";
+
+const NEITHER: &str = "(define (problem t) (:domain two) (:init) (:goal (p)))\n";
+
+/// No state at all.
+const TOGETHER: &str = "(define (problem t) (:domain two) (:init (p) (q)) (:goal (p))
+  (:ctl-goal (eg (p))))
+";
+
+const TWO_PLAN: &str = "(plan table weak\n  (rule ((not (p)) (not (q))) (a))\n)\n";
+
+const NO_STATE: &str = "together:1:1: 23 EmptyInit\n";
+
 /// The coin stays down once, and then comes up.
 const RUN: &str = "step 1 (flip) outcome 1\nstep 2 (flip) outcome 0\nend terminal
 tally steps 2\ntally changes 1\n";
@@ -140,6 +161,11 @@ fn shelf(alloc: Global) -> Result<MemShelf, Fail> {
     shelf.add("stray", b"(record 0 1 2)")?;
     shelf.add("far", b"(record 1)")?;
     shelf.add("all-lit", ALL_LIT.as_bytes())?;
+    shelf.add("two-d", TWO.as_bytes())?;
+    shelf.add("neither", NEITHER.as_bytes())?;
+    shelf.add("together", TOGETHER.as_bytes())?;
+    shelf.add("always-a", b"(plan table weak (rule () (a)))")?;
+    shelf.add("out", b"(record 0 1 0)")?;
     shelf.add("longest-d", &padded(alloc, COIN, MAX_BYTES)?)?;
     shelf.add("longest-up", &padded(alloc, UP, MAX_BYTES)?)?;
     shelf.add("too-long", &padded(alloc, UP, MAX_BYTES + 1)?)?;
@@ -270,6 +296,30 @@ fn each_answer_goes_where_it_belongs(rt: HostRuntime) -> Result<(), Fail> {
             9,
             "",
             "stray outcome step 2 word 2 outcomes 2\n",
+        ),
+        ("plan weak two-d neither", 0, TWO_PLAN, ""),
+        ("plan strong two-d neither", 1, "no plan\n", ""),
+        ("plan cyclic two-d neither", 1, "no plan\n", ""),
+        ("plan weak two-d together", 3, "", NO_STATE),
+        (
+            "plan ctl two-d together",
+            3,
+            "",
+            "together:2:14: 18 NotChain\n",
+        ),
+        ("check weak two-d together always-a", 3, "", NO_STATE),
+        (
+            "check weak two-d together one-context",
+            3,
+            "",
+            "one-context:1:1: 22 WrongPlanKind\n",
+        ),
+        ("replay two-d together always-a far", 3, "", NO_STATE),
+        (
+            "replay two-d neither always-a out",
+            9,
+            "",
+            "stray outcome step 2 word 0 outcomes 2\n",
         ),
         ("drill corridor 3", 0, CORRIDOR, ""),
         ("drill tyres 3", 0, TYRES, ""),

@@ -11,10 +11,14 @@ use Rattle.encode_task.specs.Names.{has_outcomes_within}
 use Rattle.encode_task.specs.Seen.{slots_of}
 use Rattle.encode_task.specs.Slots.{is_of_action}
 use Rattle.encode_task.proofs.CountLemmas.{left_more_actions}
+use Rattle.encode_task.proofs.MadeLemmas.{holds_kept}
 use Rattle.encode_task.proofs.OnlyLemmas.{only_more}
 use Rattle.encode_task.proofs.PartLemmas.{item_passes, same_refusal_of}
 use Rattle.encode_task.proofs.TableLemmas.{action_stays, made_more}
 use Rattle.encode_task.proofs.actions.encode_actions.Goals as goal
+
+pub encode_action-requires-clause-space : goal.encode_action-requires-clause-space
+encode_action-requires-clause-space c = holds_kept _ _ c.loop-action.invariant.kept _ _ c.requires.space
 
 pub returns-in_err-slots-clause-full : goal.returns-in_err-slots-clause-full
 returns-in_err-slots-clause-full c full most all =
@@ -22,10 +26,10 @@ returns-in_err-slots-clause-full c full most all =
     let vars : c.loop-action.sets.vars ≡ c.args.sets.now.vars = c.loop-action.invariant.kept.vars in
     let few : length c.action-item.result.outcomes.items ≤ most =
     leb-true (length c.action-item.result.outcomes.items) most (item_passes has_outcomes_within most most c.args.actions.now c.loop-action.action-index c.action-item.result all refl c.loop-action-test.true c.action-item.is) in
-    let outcomes : length c.action-item.result.outcomes.items * c.args.sets.now.vars ≤ most * c.args.sets.now.vars = mul-le-mul_right c.args.sets.now.vars few in
-    let same : length c.action-item.result.outcomes.items * c.loop-action.sets.vars ≡ length c.action-item.result.outcomes.items * c.args.sets.now.vars = ap (λ v. length c.action-item.result.outcomes.items * v) vars in
-    let room : (c.loop-action.action-index + 1) * (most * c.args.sets.now.vars + 1) ≤ length c.args.actions.now * (most * c.args.sets.now.vars + 1) = mul-le-mul_right (most * c.args.sets.now.vars + 1) (omega arith) in
-    room_before _ _ c.loop-action.invariant.kept (length c.action-item.result.outcomes.items * c.loop-action.sets.vars + 210) _ (omega (arith, c.loop-action.invariant.few most all))
+    let outcomes : length c.action-item.result.outcomes.items * (c.args.sets.now.vars + 1) ≤ most * (c.args.sets.now.vars + 1) = mul-le-mul_right (c.args.sets.now.vars + 1) few in
+    let same : length c.action-item.result.outcomes.items * (c.loop-action.sets.vars + 1) ≡ length c.action-item.result.outcomes.items * (c.args.sets.now.vars + 1) = ap (λ v. length c.action-item.result.outcomes.items * (v + 1)) vars in
+    let room : (c.loop-action.action-index + 1) * (most * (c.args.sets.now.vars + 1) + 1) ≤ length c.args.actions.now * (most * (c.args.sets.now.vars + 1) + 1) = mul-le-mul_right (most * (c.args.sets.now.vars + 1) + 1) (omega arith) in
+    room_before _ _ c.loop-action.invariant.kept (length c.action-item.result.outcomes.items * (c.loop-action.sets.vars + 1) + 210) _ (omega (arith, c.loop-action.invariant.few most all))
     (c.encode_action.ensures.full (same_refusal_of c.encode_action.result c.from_residual.result _ c.in_err-slots.was p full))
 
 pub loop-action-preserved : goal.loop-action-preserved
@@ -36,15 +40,15 @@ loop-action-preserved c =
     record {
       kept = kept_chain _ _ _ c.loop-action.invariant.kept c.encode_action.ensures.kept;
       made = made_more _ _ slots_of c.loop-action.made.items c.put.new.list.items c.in_ok-slots.slots c.args.actions.now c.loop-action.action-index c.action-item.result
-          (action_stays _ _ c.encode_action.ensures.kept) c.in_ok-put.ensures c.loop-action-test.true c.action-item.is c.loop-action.invariant.made c.in_ok-slots.ensures.made;
+          (action_stays c.args.invariant.now _ _ c.encode_action.ensures.kept) c.in_ok-put.ensures c.loop-action-test.true c.action-item.is c.loop-action.invariant.made c.in_ok-slots.ensures.made;
       only = only_more _ _ _ is_of_action _ _ (slots_of c.in_ok-slots.slots) items c.loop-action.invariant.only c.in_ok-slots.ensures.only;
       few = λ most all.
           let few : length c.action-item.result.outcomes.items ≤ most =
           leb-true (length c.action-item.result.outcomes.items) most
           (item_passes has_outcomes_within most most c.args.actions.now c.loop-action.action-index c.action-item.result all refl c.loop-action-test.true c.action-item.is) in
-          let outcomes : length c.action-item.result.outcomes.items * c.args.sets.now.vars ≤ most * c.args.sets.now.vars = mul-le-mul_right c.args.sets.now.vars few in
+          let outcomes : length c.action-item.result.outcomes.items * (c.args.sets.now.vars + 1) ≤ most * (c.args.sets.now.vars + 1) = mul-le-mul_right (c.args.sets.now.vars + 1) few in
           let step : live_count c.encode_action.new.sets + left_in_outcomes c.args.sets.now.vars (slots_of c.in_ok-slots.slots).outcomes
-          ≤ live_count c.loop-action.sets + (length c.action-item.result.outcomes.items * c.args.sets.now.vars + 1) =
-          subst (λ k. live_count c.encode_action.new.sets + left_in_outcomes k (slots_of c.in_ok-slots.slots).outcomes ≤ live_count c.loop-action.sets + (length c.action-item.result.outcomes.items * k + 1)) vars c.in_ok-slots.ensures.few in
+          ≤ live_count c.loop-action.sets + (length c.action-item.result.outcomes.items * (c.args.sets.now.vars + 1) + 1) =
+          subst (λ k. live_count c.encode_action.new.sets + left_in_outcomes k (slots_of c.in_ok-slots.slots).outcomes ≤ live_count c.loop-action.sets + (length c.action-item.result.outcomes.items * (k + 1) + 1)) vars c.in_ok-slots.ensures.few in
           omega (arith, c.loop-action.invariant.few most all, ap (left_in_actions c.args.sets.now.vars) items, left_more_actions c.args.sets.now.vars (map slots_of c.loop-action.made.items) (slots_of c.in_ok-slots.slots));
     }

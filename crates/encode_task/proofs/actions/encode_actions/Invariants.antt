@@ -13,8 +13,8 @@ use Rattle.encode_task.proofs.actions.encode_actions.Given as goal
 abbrev pub invariant-loop-action : goal.invariant-loop-action
 invariant-loop-action l = record {
   kept : KeepsSets l.fn.sets l.sets;
-  made : AllPaired (ActionMade l.sets) (map slots_of l.made.items) (take l.action-index l.actions);
+  made : AllPaired (ActionMade l.invariant' l.sets) (map slots_of l.made.items) (take l.action-index l.actions);
   only : AddsOnly l.fn.sets l.sets (λ slot. list_any (is_of_action slot) (map slots_of l.made.items));
   few : (most : ℕ) → list_all (has_outcomes_within most) l.actions ≡ true
-      → live_count l.sets + left_in_actions l.fn.sets.vars (map slots_of l.made.items) ≤ live_count l.fn.sets + l.action-index * (most * l.fn.sets.vars + 1);
+      → live_count l.sets + left_in_actions l.fn.sets.vars (map slots_of l.made.items) ≤ live_count l.fn.sets + l.action-index * (most * (l.fn.sets.vars + 1) + 1);
 }

@@ -16,5 +16,5 @@ pub returns-in_err-kept-clause-full : goal.returns-in_err-kept-clause-full
 returns-in_err-kept-clause-full c full =
     let p = err_from_is_err_and c.from_residual-in_err-kept.result c.from_residual-in_err-kept.ensures.1 in
     let vars : c.in_ok-sets.sets.vars ≡ fluent_count c.args.task.now = omega (arith, c.in_ok-sets.ensures.vars) in
-    tight_whole c.in_ok-sets.sets c.args.limit (fluent_count c.args.task.now) (action_slots c.args.task.now + 212) (working_slots c.args.task.now) c.in_ok-sets.ensures.limit vars c.in_ok-sets.ensures.order (omega (arith, c.in_ok-sets.ensures.count))
+    tight_whole c.in_ok-sets.sets c.args.limit (fluent_count c.args.task.now) (action_slots c.args.task.now + 213) (working_slots c.args.task.now) c.in_ok-sets.ensures.limit vars c.in_ok-sets.ensures.order (omega (arith, c.in_ok-sets.ensures.count))
     (no_room_tight AnySet _ _ _ (c.encode_sets.ensures.full (same_refusal_of c.encode_sets.result c.from_residual-in_err-kept.result _ c.in_err-kept.was p full)))

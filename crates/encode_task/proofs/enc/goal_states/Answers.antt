@@ -1,16 +1,17 @@
--- A refusal shows that there was no room.
-use Rattle.std.proofs.Common.{◌≡◌, ◌+◌, true, arith, ap, sym, ◌∙◌}
-use Rattle.std.proofs.lemmas.Bool.{leb-true}
-use Rattle.std.proofs.lemmas.Result.{err_from_is_err_and}
-use Rattle.task_core.specs.Actions.{goal_is_shallow}
-use Rattle.task_core.specs.Conditions.{depth, is_shallow}
-use Rattle.dd_sets.proofs.RoomSteps.{room_wider}
-use Rattle.encode_task.proofs.PartLemmas.{same_refusal_of}
+-- The goal names fluents of the task, and is shallow.
+use Rattle.std.proofs.Common.{◌≡◌, true, ap, sym, subst, ◌∙◌, Option, Some}
+use Rattle.task_core.specs.Actions.{goal_is_shallow, goal_within}
+use Rattle.task_core.specs.Conditions.{ids_below, is_shallow}
+use Rattle.task_core.specs.Tasks.{fluent_count}
+use Rattle.task_core.specs.declared.conditions.Cond.{Cond}
+use Rattle.encode_task.specs.Made.{HoldsGoal}
+use Rattle.dd_sets.proofs.OwnedLemmas.{one_live, own_set}
+use Rattle.encode_task.proofs.PartLemmas.{answer_slot}
 use Rattle.encode_task.proofs.enc.goal_states.Goals as goal
 
-pub returns-in_err-slot-in-Some-clause-full : goal.returns-in_err-slot-in-Some-clause-full
-returns-in_err-slot-in-Some-clause-full c full =
-    let p = err_from_is_err_and c.from_residual.result c.from_residual.ensures.1 in
-    let shallow : is_shallow c.in-Some.goal ≡ true = ap goal_is_shallow (sym c.in-Some.is) ∙ c.requires.shallow in
-    room_wider _ (depth c.in-Some.goal + 4) 204 (omega (arith, leb-true (depth c.in-Some.goal) 200 shallow))
-    (c.set_where.ensures.full (same_refusal_of c.set_where.result c.from_residual.result _ c.in_err-slot-in-Some.was p full))
+pub states_where-requires-clause-within : goal.states_where-requires-clause-within
+states_where-requires-clause-within c =
+    ap (λ n. ids_below n c.in-Some.goal) c.requires.vars ∙ ap (goal_within (fluent_count c.args.task.now)) (sym c.in-Some.is) ∙ c.args.task.now.goal_within
+
+pub states_where-requires-clause-shallow : goal.states_where-requires-clause-shallow
+states_where-requires-clause-shallow c = ap goal_is_shallow (sym c.in-Some.is) ∙ c.args.task.now.shallow_goal

@@ -10,7 +10,8 @@ use Rattle.std.specs.Option.{option_map}
 use Rattle.std.specs.Result.{IfOk}
 use Rattle.task_core.specs.States.{vector}
 use Rattle.exec_graph.specs.Moves.{configuration_of, moves_value}
-use Rattle.exec_graph.specs.ByContext.{IsIndexOf}
+use Rattle.cube_index.specs.Index.{IsIndexOf}
+use Rattle.exec_graph.specs.ByContext.{IsRuleIndexOf, cubes_of}
 use Rattle.exec_graph.specs.Counting.{IsRuleWithin, first_matching, moves_by, moves_from}
 use Rattle.plan_rules.specs.Advices.{advice_value, advised_by}
 use Rattle.exec_graph.proofs.PlanCubes.{unmapped}
@@ -24,6 +25,11 @@ table_moves-requires-clause-in_task c =
     subst (All (λ (rule : Rule). IsRuleOf n m (rule_of rule))) (sym c.deref.ensures.value)
     (unmapped (IsRuleOf n m) rule_of c.in-Table.table.rules.items (subst (IsPlanOf n m) c.in-Table.is c.requires.plan_of_task))
 
+pub table_moves-requires-clause-index : goal.table_moves-requires-clause-index
+table_moves-requires-clause-index c =
+    subst (λ rules. IsIndexOf c.args.index.now.cubes (cubes_of rules)) (sym c.deref.ensures.value)
+    (subst (λ p. IsRuleIndexOf p c.args.index.now) c.in-Table.is c.requires.index)
+
 pub rule_at-rule-requires : goal.rule_at-rule-requires
 rule_at-rule-requires c =
     let n = fluent_count c.args.task.now in
@@ -31,7 +37,7 @@ rule_at-rule-requires c =
     let k = c.args.place.now.context in
     let automaton = c.in-Auto.field-0 in
     let plan = subst (IsPlanOf n m) c.in-Auto.is c.requires.plan_of_task in
-    let index = subst (λ p. IsIndexOf p c.args.index.now) c.in-Auto.is c.requires.index in
+    let index = subst (λ p. IsRuleIndexOf p c.args.index.now) c.in-Auto.is c.requires.index in
     record {
       in_task = subst (All (λ (rule : AutoRule). IsRuleWithin n m (context_rule_of rule))) (sym (index k))
           (kept_within n m automaton.contexts (λ (rule : AutoRule). rule.context == k) automaton.rules.items plan.each);
@@ -44,7 +50,7 @@ returns-in-Auto-clause-value c =
     let v = vector n c.args.place.now.state in
     let k = c.args.place.now.context in
     let automaton = c.in-Auto.field-0 in
-    let index = subst (λ p. IsIndexOf p c.args.index.now) c.in-Auto.is c.requires.index in
+    let index = subst (λ p. IsRuleIndexOf p c.args.index.now) c.in-Auto.is c.requires.index in
     let counts : option_map advice_value c.rule_at-rule.result ≡ option_map advised_by (rule_at (map context_rule_of automaton.rules.items) v k) =
     c.rule_at-rule.ensures.counts
     ∙ ap (λ rs. option_map advised_by (first_matching v (map context_rule_of rs))) (index k)

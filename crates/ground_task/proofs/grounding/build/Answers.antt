@@ -14,7 +14,7 @@ new-requires-clause-few_fluents c =
     let at = setting_in c.args.setting.now in
     let fl = c.args.fluents.now in
     let init : InitSpec = record { facts = c.facts-facts.result; entries = c.in_ok-entries.entries } in
-    let built : AreBuilt d p at fl c.in_ok-names.names.items c.in_ok-actions.actions.items init c.in_ok-goal.goal = record {
+    let built : AreBuilt d p at fl c.in_ok-names.names.items c.in_ok-actions.actions.items init c.in_ok-goal.goal c.in_ok-invariant.invariant = record {
       setting_is = c.requires.setting;
       fluents_are = c.requires.fluents;
       named = c.in_ok-names.ensures;
@@ -22,8 +22,9 @@ new-requires-clause-few_fluents c =
       begins = c.facts-facts.ensures;
       entered = c.in_ok-entries.ensures ∙ ap (λ l. map (systems.entry_over fl) (entries_value l)) c.deref.ensures.value;
       wanted = c.in_ok-goal.ensures;
+      holding = c.in_ok-invariant.ensures;
     } in
-    (make_task d p at fl c.in_ok-names.names.items c.in_ok-actions.actions.items init c.in_ok-goal.goal built c.requires.fits_domain c.requires.fits_problem c.requires.names c.requires.within).few_fluents
+    (make_task d p at fl c.in_ok-names.names.items c.in_ok-actions.actions.items init c.in_ok-goal.goal c.in_ok-invariant.invariant built c.requires.fits_domain c.requires.fits_problem c.requires.names c.requires.within).few_fluents
 
 pub new-requires-clause-few_actions : goal.new-requires-clause-few_actions
 new-requires-clause-few_actions c =
@@ -32,7 +33,7 @@ new-requires-clause-few_actions c =
     let at = setting_in c.args.setting.now in
     let fl = c.args.fluents.now in
     let init : InitSpec = record { facts = c.facts-facts.result; entries = c.in_ok-entries.entries } in
-    let built : AreBuilt d p at fl c.in_ok-names.names.items c.in_ok-actions.actions.items init c.in_ok-goal.goal = record {
+    let built : AreBuilt d p at fl c.in_ok-names.names.items c.in_ok-actions.actions.items init c.in_ok-goal.goal c.in_ok-invariant.invariant = record {
       setting_is = c.requires.setting;
       fluents_are = c.requires.fluents;
       named = c.in_ok-names.ensures;
@@ -40,8 +41,9 @@ new-requires-clause-few_actions c =
       begins = c.facts-facts.ensures;
       entered = c.in_ok-entries.ensures ∙ ap (λ l. map (systems.entry_over fl) (entries_value l)) c.deref.ensures.value;
       wanted = c.in_ok-goal.ensures;
+      holding = c.in_ok-invariant.ensures;
     } in
-    (make_task d p at fl c.in_ok-names.names.items c.in_ok-actions.actions.items init c.in_ok-goal.goal built c.requires.fits_domain c.requires.fits_problem c.requires.names c.requires.within).few_actions
+    (make_task d p at fl c.in_ok-names.names.items c.in_ok-actions.actions.items init c.in_ok-goal.goal c.in_ok-invariant.invariant built c.requires.fits_domain c.requires.fits_problem c.requires.names c.requires.within).few_actions
 
 pub new-requires-clause-actions_within : goal.new-requires-clause-actions_within
 new-requires-clause-actions_within c =
@@ -50,7 +52,7 @@ new-requires-clause-actions_within c =
     let at = setting_in c.args.setting.now in
     let fl = c.args.fluents.now in
     let init : InitSpec = record { facts = c.facts-facts.result; entries = c.in_ok-entries.entries } in
-    let built : AreBuilt d p at fl c.in_ok-names.names.items c.in_ok-actions.actions.items init c.in_ok-goal.goal = record {
+    let built : AreBuilt d p at fl c.in_ok-names.names.items c.in_ok-actions.actions.items init c.in_ok-goal.goal c.in_ok-invariant.invariant = record {
       setting_is = c.requires.setting;
       fluents_are = c.requires.fluents;
       named = c.in_ok-names.ensures;
@@ -58,8 +60,9 @@ new-requires-clause-actions_within c =
       begins = c.facts-facts.ensures;
       entered = c.in_ok-entries.ensures ∙ ap (λ l. map (systems.entry_over fl) (entries_value l)) c.deref.ensures.value;
       wanted = c.in_ok-goal.ensures;
+      holding = c.in_ok-invariant.ensures;
     } in
-    (make_task d p at fl c.in_ok-names.names.items c.in_ok-actions.actions.items init c.in_ok-goal.goal built c.requires.fits_domain c.requires.fits_problem c.requires.names c.requires.within).within.actions_within
+    (make_task d p at fl c.in_ok-names.names.items c.in_ok-actions.actions.items init c.in_ok-goal.goal c.in_ok-invariant.invariant built c.requires.fits_domain c.requires.fits_problem c.requires.names c.requires.within).within.actions_within
 
 pub new-requires-clause-facts_within : goal.new-requires-clause-facts_within
 new-requires-clause-facts_within c =
@@ -68,7 +71,7 @@ new-requires-clause-facts_within c =
     let at = setting_in c.args.setting.now in
     let fl = c.args.fluents.now in
     let init : InitSpec = record { facts = c.facts-facts.result; entries = c.in_ok-entries.entries } in
-    let built : AreBuilt d p at fl c.in_ok-names.names.items c.in_ok-actions.actions.items init c.in_ok-goal.goal = record {
+    let built : AreBuilt d p at fl c.in_ok-names.names.items c.in_ok-actions.actions.items init c.in_ok-goal.goal c.in_ok-invariant.invariant = record {
       setting_is = c.requires.setting;
       fluents_are = c.requires.fluents;
       named = c.in_ok-names.ensures;
@@ -76,8 +79,9 @@ new-requires-clause-facts_within c =
       begins = c.facts-facts.ensures;
       entered = c.in_ok-entries.ensures ∙ ap (λ l. map (systems.entry_over fl) (entries_value l)) c.deref.ensures.value;
       wanted = c.in_ok-goal.ensures;
+      holding = c.in_ok-invariant.ensures;
     } in
-    (make_task d p at fl c.in_ok-names.names.items c.in_ok-actions.actions.items init c.in_ok-goal.goal built c.requires.fits_domain c.requires.fits_problem c.requires.names c.requires.within).within.facts_within
+    (make_task d p at fl c.in_ok-names.names.items c.in_ok-actions.actions.items init c.in_ok-goal.goal c.in_ok-invariant.invariant built c.requires.fits_domain c.requires.fits_problem c.requires.names c.requires.within).within.facts_within
 
 pub new-requires-clause-entries_within : goal.new-requires-clause-entries_within
 new-requires-clause-entries_within c =
@@ -86,7 +90,7 @@ new-requires-clause-entries_within c =
     let at = setting_in c.args.setting.now in
     let fl = c.args.fluents.now in
     let init : InitSpec = record { facts = c.facts-facts.result; entries = c.in_ok-entries.entries } in
-    let built : AreBuilt d p at fl c.in_ok-names.names.items c.in_ok-actions.actions.items init c.in_ok-goal.goal = record {
+    let built : AreBuilt d p at fl c.in_ok-names.names.items c.in_ok-actions.actions.items init c.in_ok-goal.goal c.in_ok-invariant.invariant = record {
       setting_is = c.requires.setting;
       fluents_are = c.requires.fluents;
       named = c.in_ok-names.ensures;
@@ -94,8 +98,9 @@ new-requires-clause-entries_within c =
       begins = c.facts-facts.ensures;
       entered = c.in_ok-entries.ensures ∙ ap (λ l. map (systems.entry_over fl) (entries_value l)) c.deref.ensures.value;
       wanted = c.in_ok-goal.ensures;
+      holding = c.in_ok-invariant.ensures;
     } in
-    (make_task d p at fl c.in_ok-names.names.items c.in_ok-actions.actions.items init c.in_ok-goal.goal built c.requires.fits_domain c.requires.fits_problem c.requires.names c.requires.within).within.entries_within
+    (make_task d p at fl c.in_ok-names.names.items c.in_ok-actions.actions.items init c.in_ok-goal.goal c.in_ok-invariant.invariant built c.requires.fits_domain c.requires.fits_problem c.requires.names c.requires.within).within.entries_within
 
 pub new-requires-clause-goal_within : goal.new-requires-clause-goal_within
 new-requires-clause-goal_within c =
@@ -104,7 +109,7 @@ new-requires-clause-goal_within c =
     let at = setting_in c.args.setting.now in
     let fl = c.args.fluents.now in
     let init : InitSpec = record { facts = c.facts-facts.result; entries = c.in_ok-entries.entries } in
-    let built : AreBuilt d p at fl c.in_ok-names.names.items c.in_ok-actions.actions.items init c.in_ok-goal.goal = record {
+    let built : AreBuilt d p at fl c.in_ok-names.names.items c.in_ok-actions.actions.items init c.in_ok-goal.goal c.in_ok-invariant.invariant = record {
       setting_is = c.requires.setting;
       fluents_are = c.requires.fluents;
       named = c.in_ok-names.ensures;
@@ -112,8 +117,28 @@ new-requires-clause-goal_within c =
       begins = c.facts-facts.ensures;
       entered = c.in_ok-entries.ensures ∙ ap (λ l. map (systems.entry_over fl) (entries_value l)) c.deref.ensures.value;
       wanted = c.in_ok-goal.ensures;
+      holding = c.in_ok-invariant.ensures;
     } in
-    (make_task d p at fl c.in_ok-names.names.items c.in_ok-actions.actions.items init c.in_ok-goal.goal built c.requires.fits_domain c.requires.fits_problem c.requires.names c.requires.within).within.goal_within
+    (make_task d p at fl c.in_ok-names.names.items c.in_ok-actions.actions.items init c.in_ok-goal.goal c.in_ok-invariant.invariant built c.requires.fits_domain c.requires.fits_problem c.requires.names c.requires.within).within.goal_within
+
+pub new-requires-clause-invariant_within : goal.new-requires-clause-invariant_within
+new-requires-clause-invariant_within c =
+    let d = domain_value c.args.domain.now in
+    let p = problem_value c.args.problem.now in
+    let at = setting_in c.args.setting.now in
+    let fl = c.args.fluents.now in
+    let init : InitSpec = record { facts = c.facts-facts.result; entries = c.in_ok-entries.entries } in
+    let built : AreBuilt d p at fl c.in_ok-names.names.items c.in_ok-actions.actions.items init c.in_ok-goal.goal c.in_ok-invariant.invariant = record {
+      setting_is = c.requires.setting;
+      fluents_are = c.requires.fluents;
+      named = c.in_ok-names.ensures;
+      acts = c.in_ok-actions.ensures;
+      begins = c.facts-facts.ensures;
+      entered = c.in_ok-entries.ensures ∙ ap (λ l. map (systems.entry_over fl) (entries_value l)) c.deref.ensures.value;
+      wanted = c.in_ok-goal.ensures;
+      holding = c.in_ok-invariant.ensures;
+    } in
+    (make_task d p at fl c.in_ok-names.names.items c.in_ok-actions.actions.items init c.in_ok-goal.goal c.in_ok-invariant.invariant built c.requires.fits_domain c.requires.fits_problem c.requires.names c.requires.within).within.invariant_within
 
 pub new-requires-clause-fluent_names : goal.new-requires-clause-fluent_names
 new-requires-clause-fluent_names c =
@@ -122,7 +147,7 @@ new-requires-clause-fluent_names c =
     let at = setting_in c.args.setting.now in
     let fl = c.args.fluents.now in
     let init : InitSpec = record { facts = c.facts-facts.result; entries = c.in_ok-entries.entries } in
-    let built : AreBuilt d p at fl c.in_ok-names.names.items c.in_ok-actions.actions.items init c.in_ok-goal.goal = record {
+    let built : AreBuilt d p at fl c.in_ok-names.names.items c.in_ok-actions.actions.items init c.in_ok-goal.goal c.in_ok-invariant.invariant = record {
       setting_is = c.requires.setting;
       fluents_are = c.requires.fluents;
       named = c.in_ok-names.ensures;
@@ -130,8 +155,9 @@ new-requires-clause-fluent_names c =
       begins = c.facts-facts.ensures;
       entered = c.in_ok-entries.ensures ∙ ap (λ l. map (systems.entry_over fl) (entries_value l)) c.deref.ensures.value;
       wanted = c.in_ok-goal.ensures;
+      holding = c.in_ok-invariant.ensures;
     } in
-    (make_task d p at fl c.in_ok-names.names.items c.in_ok-actions.actions.items init c.in_ok-goal.goal built c.requires.fits_domain c.requires.fits_problem c.requires.names c.requires.within).fluent_names
+    (make_task d p at fl c.in_ok-names.names.items c.in_ok-actions.actions.items init c.in_ok-goal.goal c.in_ok-invariant.invariant built c.requires.fits_domain c.requires.fits_problem c.requires.names c.requires.within).fluent_names
 
 pub new-requires-clause-action_names : goal.new-requires-clause-action_names
 new-requires-clause-action_names c =
@@ -140,7 +166,7 @@ new-requires-clause-action_names c =
     let at = setting_in c.args.setting.now in
     let fl = c.args.fluents.now in
     let init : InitSpec = record { facts = c.facts-facts.result; entries = c.in_ok-entries.entries } in
-    let built : AreBuilt d p at fl c.in_ok-names.names.items c.in_ok-actions.actions.items init c.in_ok-goal.goal = record {
+    let built : AreBuilt d p at fl c.in_ok-names.names.items c.in_ok-actions.actions.items init c.in_ok-goal.goal c.in_ok-invariant.invariant = record {
       setting_is = c.requires.setting;
       fluents_are = c.requires.fluents;
       named = c.in_ok-names.ensures;
@@ -148,8 +174,9 @@ new-requires-clause-action_names c =
       begins = c.facts-facts.ensures;
       entered = c.in_ok-entries.ensures ∙ ap (λ l. map (systems.entry_over fl) (entries_value l)) c.deref.ensures.value;
       wanted = c.in_ok-goal.ensures;
+      holding = c.in_ok-invariant.ensures;
     } in
-    (make_task d p at fl c.in_ok-names.names.items c.in_ok-actions.actions.items init c.in_ok-goal.goal built c.requires.fits_domain c.requires.fits_problem c.requires.names c.requires.within).action_names
+    (make_task d p at fl c.in_ok-names.names.items c.in_ok-actions.actions.items init c.in_ok-goal.goal c.in_ok-invariant.invariant built c.requires.fits_domain c.requires.fits_problem c.requires.names c.requires.within).action_names
 
 pub new-requires-clause-shallow_actions : goal.new-requires-clause-shallow_actions
 new-requires-clause-shallow_actions c =
@@ -158,7 +185,7 @@ new-requires-clause-shallow_actions c =
     let at = setting_in c.args.setting.now in
     let fl = c.args.fluents.now in
     let init : InitSpec = record { facts = c.facts-facts.result; entries = c.in_ok-entries.entries } in
-    let built : AreBuilt d p at fl c.in_ok-names.names.items c.in_ok-actions.actions.items init c.in_ok-goal.goal = record {
+    let built : AreBuilt d p at fl c.in_ok-names.names.items c.in_ok-actions.actions.items init c.in_ok-goal.goal c.in_ok-invariant.invariant = record {
       setting_is = c.requires.setting;
       fluents_are = c.requires.fluents;
       named = c.in_ok-names.ensures;
@@ -166,8 +193,9 @@ new-requires-clause-shallow_actions c =
       begins = c.facts-facts.ensures;
       entered = c.in_ok-entries.ensures ∙ ap (λ l. map (systems.entry_over fl) (entries_value l)) c.deref.ensures.value;
       wanted = c.in_ok-goal.ensures;
+      holding = c.in_ok-invariant.ensures;
     } in
-    (make_task d p at fl c.in_ok-names.names.items c.in_ok-actions.actions.items init c.in_ok-goal.goal built c.requires.fits_domain c.requires.fits_problem c.requires.names c.requires.within).shallow.shallow_actions
+    (make_task d p at fl c.in_ok-names.names.items c.in_ok-actions.actions.items init c.in_ok-goal.goal c.in_ok-invariant.invariant built c.requires.fits_domain c.requires.fits_problem c.requires.names c.requires.within).shallow.shallow_actions
 
 pub new-requires-clause-shallow_goal : goal.new-requires-clause-shallow_goal
 new-requires-clause-shallow_goal c =
@@ -176,7 +204,7 @@ new-requires-clause-shallow_goal c =
     let at = setting_in c.args.setting.now in
     let fl = c.args.fluents.now in
     let init : InitSpec = record { facts = c.facts-facts.result; entries = c.in_ok-entries.entries } in
-    let built : AreBuilt d p at fl c.in_ok-names.names.items c.in_ok-actions.actions.items init c.in_ok-goal.goal = record {
+    let built : AreBuilt d p at fl c.in_ok-names.names.items c.in_ok-actions.actions.items init c.in_ok-goal.goal c.in_ok-invariant.invariant = record {
       setting_is = c.requires.setting;
       fluents_are = c.requires.fluents;
       named = c.in_ok-names.ensures;
@@ -184,8 +212,28 @@ new-requires-clause-shallow_goal c =
       begins = c.facts-facts.ensures;
       entered = c.in_ok-entries.ensures ∙ ap (λ l. map (systems.entry_over fl) (entries_value l)) c.deref.ensures.value;
       wanted = c.in_ok-goal.ensures;
+      holding = c.in_ok-invariant.ensures;
     } in
-    (make_task d p at fl c.in_ok-names.names.items c.in_ok-actions.actions.items init c.in_ok-goal.goal built c.requires.fits_domain c.requires.fits_problem c.requires.names c.requires.within).shallow.shallow_goal
+    (make_task d p at fl c.in_ok-names.names.items c.in_ok-actions.actions.items init c.in_ok-goal.goal c.in_ok-invariant.invariant built c.requires.fits_domain c.requires.fits_problem c.requires.names c.requires.within).shallow.shallow_goal
+
+pub new-requires-clause-shallow_invariant : goal.new-requires-clause-shallow_invariant
+new-requires-clause-shallow_invariant c =
+    let d = domain_value c.args.domain.now in
+    let p = problem_value c.args.problem.now in
+    let at = setting_in c.args.setting.now in
+    let fl = c.args.fluents.now in
+    let init : InitSpec = record { facts = c.facts-facts.result; entries = c.in_ok-entries.entries } in
+    let built : AreBuilt d p at fl c.in_ok-names.names.items c.in_ok-actions.actions.items init c.in_ok-goal.goal c.in_ok-invariant.invariant = record {
+      setting_is = c.requires.setting;
+      fluents_are = c.requires.fluents;
+      named = c.in_ok-names.ensures;
+      acts = c.in_ok-actions.ensures;
+      begins = c.facts-facts.ensures;
+      entered = c.in_ok-entries.ensures ∙ ap (λ l. map (systems.entry_over fl) (entries_value l)) c.deref.ensures.value;
+      wanted = c.in_ok-goal.ensures;
+      holding = c.in_ok-invariant.ensures;
+    } in
+    (make_task d p at fl c.in_ok-names.names.items c.in_ok-actions.actions.items init c.in_ok-goal.goal c.in_ok-invariant.invariant built c.requires.fits_domain c.requires.fits_problem c.requires.names c.requires.within).shallow.shallow_invariant
 
 pub returns : goal.returns
 returns c =
@@ -194,7 +242,7 @@ returns c =
     let at = setting_in c.args.setting.now in
     let fl = c.args.fluents.now in
     let init : InitSpec = record { facts = c.facts-facts.result; entries = c.in_ok-entries.entries } in
-    let built : AreBuilt d p at fl c.in_ok-names.names.items c.in_ok-actions.actions.items init c.in_ok-goal.goal = record {
+    let built : AreBuilt d p at fl c.in_ok-names.names.items c.in_ok-actions.actions.items init c.in_ok-goal.goal c.in_ok-invariant.invariant = record {
       setting_is = c.requires.setting;
       fluents_are = c.requires.fluents;
       named = c.in_ok-names.ensures;
@@ -202,6 +250,7 @@ returns c =
       begins = c.facts-facts.ensures;
       entered = c.in_ok-entries.ensures ∙ ap (λ l. map (systems.entry_over fl) (entries_value l)) c.deref.ensures.value;
       wanted = c.in_ok-goal.ensures;
+      holding = c.in_ok-invariant.ensures;
     } in
-    task_is d p c.new.result c.in_ok-names.names c.in_ok-actions.actions init c.in_ok-goal.goal c.new.ensures.fluents c.new.ensures.actions c.new.ensures.init c.new.ensures.goal
-    (are_parts d p at fl c.in_ok-names.names.items c.in_ok-actions.actions.items init c.in_ok-goal.goal built)
+    task_is d p c.new.result c.in_ok-names.names c.in_ok-actions.actions init c.in_ok-goal.goal c.in_ok-invariant.invariant c.new.ensures.fluents c.new.ensures.actions c.new.ensures.init c.new.ensures.goal c.new.ensures.invariant
+    (are_parts d p at fl c.in_ok-names.names.items c.in_ok-actions.actions.items init c.in_ok-goal.goal c.in_ok-invariant.invariant built)

@@ -1,12 +1,21 @@
-use Rattle.std.proofs.Common.{inr, rules}
+use Rattle.std.proofs.Common.{inl, inr, rules}
 use Rattle.pddl_ast.specs.Values.{domain_value, problem_value}
 use Rattle.mbp_top.specs.Values.{plan_words_of, shown_of}
-use Rattle.mbp_top.proofs.ChainAnswers.{chain_then}
+use Rattle.mbp_top.proofs.ChainAnswers.{chain_then, few_nodes}
 use Rattle.mbp_top.proofs.chain_command.plan_stages.Goals as goal
 
-pub returns-in-Ok : goal.returns-in-Ok
-returns-in-Ok c =
+pub returns-in-Ok-Some : goal.returns-in-Ok-Some
+returns-in-Ok-Some c =
     let domain = domain_value c.args.domain.now in
     let problem = problem_value c.args.problem.now in
-    inr (inr (chain_then domain problem c.args.chain.now c.requires.chain (plan_words_of c.args.asked.now) c.args.task.now (shown_of c.in-Ok.shown)
-    c.requires.kind c.requires.task (search rules) c.in-Ok.ensures.plan))
+    inr (inr (chain_then domain problem c.args.chain.now c.requires.chain (plan_words_of c.args.asked.now) c.args.task.now (shown_of c.in-Ok-Some.shown)
+    c.requires.kind c.requires.task (search rules) (search rules) (search rules)))
+
+pub returns-in-Err-Full : goal.returns-in-Err-Full
+returns-in-Err-Full c =
+    let domain = domain_value c.args.domain.now in
+    let problem = problem_value c.args.problem.now in
+    inr (inl (
+      few_nodes domain problem c.args.chain.now c.requires.chain (plan_words_of c.args.asked.now) c.args.task.now c.requires.kind c.requires.task (search rules) (search rules),
+      search rules,
+    ))

@@ -11,4 +11,4 @@ returns-clause-full c is =
     let enc = c.in_ok-enc.enc in
     let made = c.in_ok-enc.ensures.made in
     tight_for_chain c.tight_is_monotone.ensures c.args.task.now (length c.args.chain.now.stages.items) enc.sets c.args.nodes (made.ready.vars ∙ made.fluents)
-    c.in_ok-enc.ensures.limit c.in_ok-enc.ensures.order c.in_ok-enc.ensures.few (c.no_room_is_tight.ensures enc.sets _ _ (c.plan_chain.ensures.full is))
+    c.in_ok-enc.ensures.limit c.in_ok-enc.ensures.order c.in_ok-enc.ensures.few (c.chain_from_initial.ensures.full is)

@@ -11,4 +11,4 @@ returns-clause-full c is =
     let enc = c.in_ok-enc.enc in
     let made = c.in_ok-enc.ensures.made in
     tight_for_planner c.tight_is_monotone.ensures c.args.task.now enc.sets c.args.nodes (made.ready.vars ∙ made.fluents) c.in_ok-enc.ensures.limit c.in_ok-enc.ensures.order
-    c.in_ok-enc.ensures.few (c.find_plan.ensures.full is)
+    c.in_ok-enc.ensures.few (c.find_from_initial.ensures.full is)

@@ -8,5 +8,5 @@ returns-clause-found c =
     let sys = system_of c.args.task.now in
     let e = c.plan_strong.ensures in
     found_plan Strong c.args.task.now c.plan_strong.result
-    (λ rules is. shortest_strong sys is.0 rules (c.printed_plan_is_shortest.ensures.strong sys) c.tasks_have_systems.ensures is.2)
+    (λ rules is. shortest_strong sys is.0 rules (c.printed_plan_is_shortest.ensures.strong sys) c.tasks_have_systems.ensures.system is.2)
     e.class e.printed e.in_task e.table e.solves e.executable e.no_plan

@@ -8,5 +8,5 @@ returns-clause-found c =
     let sys = system_of c.args.task.now in
     let e = c.plan_weak.ensures in
     found_plan Weak c.args.task.now c.plan_weak.result
-    (λ rules is. shortest_weak sys is.0 rules (c.printed_plan_is_shortest.ensures.weak sys) c.tasks_have_systems.ensures is.1 is.2)
+    (λ rules is. shortest_weak sys is.0 rules (c.printed_plan_is_shortest.ensures.weak sys) c.tasks_have_systems.ensures.system is.1 is.2)
     e.class e.printed e.in_task e.table e.solves e.executable e.no_plan

@@ -5,6 +5,7 @@ use Rattle.pddl_system.specs.Systems.{action_names, fluent_names, system}
 use Rattle.plan_io.specs.Fetches.{FailedLast}
 use Rattle.run_replay.specs.TraceTexts.{tallies_of}
 use Rattle.mbp_top.specs.CheckCommand.{HasTooManyStates}
+use Rattle.mbp_top.specs.InitialStates.{empty_init}
 use Rattle.mbp_top.specs.ReplayCommand.{ReplayThen, Tallies}
 use Rattle.mbp_top.specs.Values.{answer_of, refusal_of, replay_words_of}
 use Rattle.mbp_top.proofs.Fetched.{task_fetched}
@@ -20,7 +21,7 @@ returns-in_err-task-clause-answer g c =
     let domain = domain_value c.args.domain.now in
     let problem = problem_value c.args.problem.now in
     rw (p.1, p.2) (ground_refused domain problem
-    (ReplayThen held failed tallies (replay_words_of c.args.asked.now) (fluent_names domain problem) (action_names domain problem) (HasTooManyStates domain problem) (system domain problem)) (refusal_of c.in_err-task.field-0.0) c.in_err-task.ensures.refused)
+    (ReplayThen held failed tallies (replay_words_of c.args.asked.now) (fluent_names domain problem) (action_names domain problem) (HasTooManyStates domain problem) (empty_init c.args.asked.now.problem.now problem) (system domain problem)) (refusal_of c.in_err-task.field-0.0) c.in_err-task.ensures.refused)
 
 pub returns-clause-answer : goal.returns-clause-answer
 returns-clause-answer g c =

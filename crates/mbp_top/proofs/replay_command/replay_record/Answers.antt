@@ -1,5 +1,6 @@
 use Rattle.std.proofs.Common.{map}
 use Rattle.exec_graph.specs.Initials.{HasTooManyInitial}
+use Rattle.pddl_ast.specs.Values.{problem_value}
 use Rattle.plan_rules.specs.Rules.{plain_of}
 use Rattle.run_replay.specs.Records.{record_value}
 use Rattle.run_replay.specs.TraceTexts.{tallies_of}
@@ -8,6 +9,7 @@ use Rattle.task_core.specs.Tasks.{action_names, fluent_count, initial_states, sy
 use Rattle.task_core.specs.Vectors.{Vector}
 use Rattle.mbp_top.specs.Answers.{Answer}
 use Rattle.mbp_top.specs.CheckCommand.{most_followed}
+use Rattle.mbp_top.specs.InitialStates.{empty_init}
 use Rattle.mbp_top.specs.ReplayCommand.{IsReplayed, trace_under}
 use Rattle.mbp_top.specs.Values.{answer_of}
 use Rattle.mbp_top.proofs.ReplayAnswers.{first_answer}
@@ -19,5 +21,5 @@ returns g c =
     let Then : Vector → Answer → Type 0 = λ first. IsReplayed
     (tallies_of (map (λ monitor. (goal.Monitor-dyn g (monitor.vtable, monitor.value)).shown monitor.value) c.args.monitors.now.items))
     (system_of task) (action_names task) (trace_under (system_of task) (plain_of c.args.plan.now) first c.args.recorded.words.items) in
-    first_answer (HasTooManyInitial task most_followed) (initial_states task) c.args.name.now (record_value c.args.recorded) (vector (fluent_count task) c.in_ok-first.first) Then (answer_of c.show_run.result)
+    first_answer (HasTooManyInitial task most_followed) (empty_init c.args.asked.now.problem.now (problem_value c.args.problem.now)) (initial_states task) c.args.asked.now.recorded.now (record_value c.args.recorded) (vector (fluent_count task) c.in_ok-first.first) Then (answer_of c.show_run.result)
     c.in_ok-first.ensures.few c.in_ok-first.ensures.first (rw c.in_ok-load_world.ensures at c.show_run.ensures)

@@ -1,11 +1,13 @@
 use Rattle.std.proofs.Common.{inl, inr, map, refl}
 use Rattle.std.proofs.lemmas.Result.{err_from_is_err_and}
 use Rattle.exec_graph.specs.Initials.{HasTooManyInitial}
+use Rattle.pddl_ast.specs.Values.{problem_value}
 use Rattle.plan_io.specs.Fetches.{FailedLast}
 use Rattle.plan_rules.specs.Rules.{plain_of}
 use Rattle.run_replay.specs.TraceTexts.{tallies_of}
 use Rattle.task_core.specs.Tasks.{action_names, fluent_names, system_of}
 use Rattle.mbp_top.specs.CheckCommand.{most_followed}
+use Rattle.mbp_top.specs.InitialStates.{empty_init}
 use Rattle.mbp_top.specs.ReplayCommand.{Tallies}
 use Rattle.mbp_top.specs.Values.{answer_of, placed_of, refusal_of, replay_words_of}
 use Rattle.mbp_top.proofs.Fetched.{plan_stops}
@@ -20,12 +22,14 @@ returns-in_err-read-clause-answer g c =
     let failed = FailedLast g.S.Shelf.fetched g.S.Shelf.faults c.args.shelf.now c.read_plan_file.new.shelf in
     let tallies : Tallies = tallies_of (map (λ monitor. (goal.Monitor-dyn g (monitor.vtable, monitor.value)).shown monitor.value) c.args.monitors.now.items) in
     let task = c.args.task.now in
-    rw (p.1, p.2) (plan_refused held failed tallies (replay_words_of c.args.asked.now) (fluent_names task) (action_names task) (HasTooManyInitial task most_followed) (system_of task)
+    let empty = empty_init c.args.asked.now.problem.now (problem_value c.args.problem.now) in
+    rw (p.1, p.2) (plan_refused held failed tallies (replay_words_of c.args.asked.now) (fluent_names task) (action_names task) (HasTooManyInitial task most_followed) empty (system_of task)
     (refusal_of c.in_err-read.field-0.0) c.in_err-read.ensures.refused)
 
 pub returns-clause-answer : goal.returns-clause-answer
 returns-clause-answer g c =
     let task = c.args.task.now in
+    let empty = empty_init c.args.asked.now.problem.now (problem_value c.args.problem.now) in
     let held = g.S.Shelf.held c.args.shelf.now in
     let held' = g.S.Shelf.held c.read_plan_file.new.shelf in
     let failed = FailedLast g.S.Shelf.fetched g.S.Shelf.faults c.args.shelf.now c.replay_plan.new.shelf in
@@ -37,8 +41,8 @@ returns-clause-answer g c =
     let sys = system_of task in
     let actions = action_names task in
     let many = HasTooManyInitial task most_followed in
-    plan_answer held failed tallies (replay_words_of c.args.asked.now) (fluent_names task) actions many sys (placed_of c.in_ok-read.read) (answer_of c.replay_plan.result) c.in_ok-read.ensures.holds
-    (record_later held held' failed failed' tallies name actions many sys (plain_of c.in_ok-read.read.plan) (answer_of c.replay_plan.result) c.in_ok-read.ensures.kept over c.replay_plan.ensures.answer)
+    plan_answer held failed tallies (replay_words_of c.args.asked.now) (fluent_names task) actions many empty sys (placed_of c.in_ok-read.read) (answer_of c.replay_plan.result) c.in_ok-read.ensures.holds
+    (record_later held held' failed failed' tallies name actions many empty sys (plain_of c.in_ok-read.read.plan) (answer_of c.replay_plan.result) c.in_ok-read.ensures.kept over c.replay_plan.ensures.answer)
 
 pub returns-in_err-read-clause-fetches : goal.returns-in_err-read-clause-fetches
 returns-in_err-read-clause-fetches g c =

@@ -5,7 +5,7 @@ use Rattle.plan_theory.proofs.WeakDenoted.{denoted-table}
 use Rattle.plan_theory.proofs.layer_laws.printed_plan_solves.Goals as goal
 
 pub returns-clause-table : goal.returns-clause-table
-returns-clause-table c = λ class sys K. denoted-table sys (printed_rules class sys K)
+returns-clause-table c = λ class sys K ok. denoted-table sys ok (printed_rules class sys K)
 
 pub returns-clause-solves : goal.returns-clause-solves
 returns-clause-solves c = solves_by_class

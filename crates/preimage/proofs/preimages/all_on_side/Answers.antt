@@ -8,10 +8,11 @@ use Rattle.dd_sets.specs.declared.errors.SetErr.TheVariants.{Full, Memory}
 use Rattle.task_core.specs.Tasks.{outcomes_at}
 use Rattle.encode_task.specs.Slots.{Encoded, outcome_slots}
 use Rattle.dd_sets.proofs.OwnLemmas.{own_one}
-use Rattle.dd_sets.proofs.OwnedLemmas.{answer_kept, both, one_live}
-use Rattle.dd_sets.proofs.RoomSteps.{room_join}
-use Rattle.encode_task.proofs.PartLemmas.{answer_ready, answer_refusal, answer_slot, same_refusal}
-use Rattle.preimage.proofs.FrameSteps.{exec_holds, led_answer, made_now, same_chain}
+use Rattle.dd_sets.proofs.OwnedLemmas.{answer_kept, one_live}
+use Rattle.dd_sets.proofs.RoomSteps.{room_wider}
+use Rattle.encode_task.specs.TaskSets.{lands_set}
+use Rattle.encode_task.proofs.PartLemmas.{answer_refusal, answer_slot, same_refusal}
+use Rattle.preimage.proofs.FrameSteps.{exec_holds, lands_hold, led_answer, made_now, same_chain, still_action}
 use Rattle.preimage.proofs.OutcomeLemmas.{exec_side, side_after, side_emptied, side_more, side_whole}
 use Rattle.preimage.proofs.preimages.all_on_side.Goals as goal
 
@@ -93,28 +94,49 @@ led_into-led-requires-clause-outcome c =
 pub led_into-led-requires-clause-live : goal.led_into-led-requires-clause-live
 led_into-led-requires-clause-live c = let owns = c.loop-o.invariant.owns c.requires.made.0 c.requires.made.1 in owns.kept.live c.args.x.0 c.requires.live
 
-pub part_of-requires : goal.part_of-requires
-part_of-requires c =
-    let owns = c.loop-o.invariant.owns c.requires.made.0 c.requires.made.1 in
-    answer_ready _ _ _ c.loop-o.rest _ _ c.led_into-led.result owns
-    (led_answer c.requires.made.0 c.args.enc.now c.loop-o.enc _ c.args.x.0 c.args.a.0 c.loop-o.o c.led_into-led.result c.loop-o.invariant.same owns.kept c.requires.live c.requires.made.1 c.led_into-led.ensures.added
-    c.led_into-led.ensures.kept c.led_into-led.ensures.refused)
+pub lands-lands-requires : goal.lands-lands-requires
+lands-lands-requires c =
+    still_action c.args.enc.now c.led_into-led.new.self c.args.a.0 (same_chain c.args.enc.now c.loop-o.enc c.led_into-led.new.self c.loop-o.invariant.same c.led_into-led.ensures.same_slots) c.requires.action
+
+pub part_of-requires-clause-owned : goal.part_of-requires-clause-owned
+part_of-requires-clause-owned c =
+    let task = c.requires.made.0 in
+    let made = c.requires.made.1 in
+    let owns = c.loop-o.invariant.owns task made in
+    let led = led_answer task c.args.enc.now c.loop-o.enc _ c.args.x.0 c.args.a.0 c.loop-o.o c.led_into-led.result c.loop-o.invariant.same owns.kept c.requires.live made c.led_into-led.ensures.added c.led_into-led.ensures.kept c.led_into-led.ensures.refused in
+    (c.args.enc.now.sets, c.loop-o.enc.sets, _, _, owns, led)
+
+pub part_of-requires-clause-lands : goal.part_of-requires-clause-lands
+part_of-requires-clause-lands c =
+    let task = c.requires.made.0 in
+    let made = c.requires.made.1 in
+    let owns = c.loop-o.invariant.owns task made in
+    let there : length (outcome_slots c.copied.new.enc c.args.a.0) ≡ length (outcome_slots c.args.enc.now c.args.a.0) = ap (λ (e : Encoded). length (outcome_slots e c.args.a.0)) c.copied.ensures.same_slots in
+    let within : c.loop-o.o < length (outcomes_at task c.args.a.0) = omega (arith, c.outcomes-o-end.ensures, made.outcomes c.args.a.0) in
+    let lands = lands_hold task c.led_into-led.new.self c.args.a.0 c.loop-o.o c.lands-lands.result (c.led_into-led.ensures.made task (made_now task c.args.enc.now c.loop-o.enc c.loop-o.invariant.same owns.kept made))
+    (still_action c.args.enc.now c.led_into-led.new.self c.args.a.0 (same_chain c.args.enc.now c.loop-o.enc c.led_into-led.new.self c.loop-o.invariant.same c.led_into-led.ensures.same_slots) c.requires.action) within c.lands-lands.ensures in
+    (lands_set task c.args.a.0 c.loop-o.o, lands)
 
 pub returns-in_err-rest-2-clause-answer : goal.returns-in_err-rest-2-clause-answer
 returns-in_err-rest-2-clause-answer c task made =
     let p = err_from_is_err_and c.from_residual-in_err-rest-2.result c.from_residual-in_err-rest-2.ensures.1 in
     let owns = c.loop-o.invariant.owns task made in
     let led = led_answer task c.args.enc.now c.loop-o.enc _ c.args.x.0 c.args.a.0 c.loop-o.o c.led_into-led.result c.loop-o.invariant.same owns.kept c.requires.live made c.led_into-led.ensures.added c.led_into-led.ensures.kept c.led_into-led.ensures.refused in
-    answer_refusal _ _ _ _ c.part_of.result _ _ _ c.in_err-rest-2.was p.1 (c.part_of.ensures.answer _ _ _ (both _ _ _ c.loop-o.rest _ _ c.led_into-led.result owns led))
+    let there : length (outcome_slots c.copied.new.enc c.args.a.0) ≡ length (outcome_slots c.args.enc.now c.args.a.0) = ap (λ (e : Encoded). length (outcome_slots e c.args.a.0)) c.copied.ensures.same_slots in
+    let within : c.loop-o.o < length (outcomes_at task c.args.a.0) = omega (arith, c.outcomes-o-end.ensures, made.outcomes c.args.a.0) in
+    let lands = lands_hold task c.led_into-led.new.self c.args.a.0 c.loop-o.o c.lands-lands.result (c.led_into-led.ensures.made task (made_now task c.args.enc.now c.loop-o.enc c.loop-o.invariant.same owns.kept made))
+    (still_action c.args.enc.now c.led_into-led.new.self c.args.a.0 (same_chain c.args.enc.now c.loop-o.enc c.led_into-led.new.self c.loop-o.invariant.same c.led_into-led.ensures.same_slots) c.requires.action) within c.lands-lands.ensures in
+    answer_refusal _ _ _ _ c.part_of.result _ _ _ c.in_err-rest-2.was p.1 (c.part_of.ensures.answer _ _ _ _ _ lands owns led)
 
 pub returns-in_err-rest-2-clause-full : goal.returns-in_err-rest-2-clause-full
 returns-in_err-rest-2-clause-full c full =
     let p = err_from_is_err_and c.from_residual-in_err-rest-2.result c.from_residual-in_err-rest-2.ensures.1 in
-    let owns = c.loop-o.invariant.owns c.requires.made.0 c.requires.made.1 in
-    let led = led_answer c.requires.made.0 c.args.enc.now c.loop-o.enc _ c.args.x.0 c.args.a.0 c.loop-o.o c.led_into-led.result c.loop-o.invariant.same owns.kept c.requires.live c.requires.made.1 c.led_into-led.ensures.added
-    c.led_into-led.ensures.kept c.led_into-led.ensures.refused in
-    room_join _ _ _ c.loop-o.rest _ _ c.led_into-led.result 0 8 owns led c.led_into-led.ensures.full (omega arith) (omega arith)
-    (c.part_of.ensures.full (same_refusal c.part_of.result c.from_residual-in_err-rest-2.result _ c.in_err-rest-2.was p full))
+    let task = c.requires.made.0 in
+    let made = c.requires.made.1 in
+    let owns = c.loop-o.invariant.owns task made in
+    let led = led_answer task c.args.enc.now c.loop-o.enc _ c.args.x.0 c.args.a.0 c.loop-o.o c.led_into-led.result c.loop-o.invariant.same owns.kept c.requires.live made c.led_into-led.ensures.added c.led_into-led.ensures.kept c.led_into-led.ensures.refused in
+    room_wider _ 3 8 (omega arith)
+    (c.part_of.ensures.full (same_refusal c.part_of.result c.from_residual-in_err-rest-2.result _ c.in_err-rest-2.was p full) c.args.enc.now.sets c.loop-o.enc.sets _ _ owns led c.led_into-led.ensures.full)
 
 pub returns-in_err-rest-2-clause-same_slots : goal.returns-in_err-rest-2-clause-same_slots
 returns-in_err-rest-2-clause-same_slots c =
@@ -124,7 +146,11 @@ pub returns-in_err-rest-2-clause-made : goal.returns-in_err-rest-2-clause-made
 returns-in_err-rest-2-clause-made c task made =
     let owns = c.loop-o.invariant.owns task made in
     let led = led_answer task c.args.enc.now c.loop-o.enc _ c.args.x.0 c.args.a.0 c.loop-o.o c.led_into-led.result c.loop-o.invariant.same owns.kept c.requires.live made c.led_into-led.ensures.added c.led_into-led.ensures.kept c.led_into-led.ensures.refused in
-    let answer = c.part_of.ensures.answer _ _ _ (both _ _ _ c.loop-o.rest _ _ c.led_into-led.result owns led) in
+    let there : length (outcome_slots c.copied.new.enc c.args.a.0) ≡ length (outcome_slots c.args.enc.now c.args.a.0) = ap (λ (e : Encoded). length (outcome_slots e c.args.a.0)) c.copied.ensures.same_slots in
+    let within : c.loop-o.o < length (outcomes_at task c.args.a.0) = omega (arith, c.outcomes-o-end.ensures, made.outcomes c.args.a.0) in
+    let lands = lands_hold task c.led_into-led.new.self c.args.a.0 c.loop-o.o c.lands-lands.result (c.led_into-led.ensures.made task (made_now task c.args.enc.now c.loop-o.enc c.loop-o.invariant.same owns.kept made))
+    (still_action c.args.enc.now c.led_into-led.new.self c.args.a.0 (same_chain c.args.enc.now c.loop-o.enc c.led_into-led.new.self c.loop-o.invariant.same c.led_into-led.ensures.same_slots) c.requires.action) within c.lands-lands.ensures in
+    let answer = c.part_of.ensures.answer _ _ _ _ _ lands owns led in
     made_now task c.args.enc.now c.part_of.new.enc
     (same_chain c.args.enc.now c.led_into-led.new.self c.part_of.new.enc (same_chain c.args.enc.now c.loop-o.enc c.led_into-led.new.self c.loop-o.invariant.same c.led_into-led.ensures.same_slots) c.part_of.ensures.same_slots)
     (answer_kept _ _ _ c.part_of.result answer) made
@@ -138,8 +164,10 @@ loop-o-preserved c = record {
       let led = led_answer task c.args.enc.now c.loop-o.enc _ c.args.x.0 c.args.a.0 c.loop-o.o c.led_into-led.result c.loop-o.invariant.same owns.kept c.requires.live made c.led_into-led.ensures.added c.led_into-led.ensures.kept c.led_into-led.ensures.refused in
       let there : length (outcome_slots c.copied.new.enc c.args.a.0) ≡ length (outcome_slots c.args.enc.now c.args.a.0) = ap (λ (e : Encoded). length (outcome_slots e c.args.a.0)) c.copied.ensures.same_slots in
       let within : c.loop-o.o < length (outcomes_at task c.args.a.0) = omega (arith, c.outcomes-o-end.ensures, made.outcomes c.args.a.0) in
+      let lands = lands_hold task c.led_into-led.new.self c.args.a.0 c.loop-o.o c.lands-lands.result (c.led_into-led.ensures.made task (made_now task c.args.enc.now c.loop-o.enc c.loop-o.invariant.same owns.kept made))
+      (still_action c.args.enc.now c.led_into-led.new.self c.args.a.0 (same_chain c.args.enc.now c.loop-o.enc c.led_into-led.new.self c.loop-o.invariant.same c.led_into-led.ensures.same_slots) c.requires.action) within c.lands-lands.ensures in
       subst (λ (f : Function). Owns c.args.enc.now.sets c.part_of.new.enc.sets ((c.in_ok-rest-2.rest.0, f) ∷ [])) (side_more c.args.side task c.args.a.0 c.loop-o.o (set_of c.args.enc.now.sets c.args.x.0) within)
-      (answer_slot _ _ _ c.part_of.result _ c.in_ok-rest-2.was (c.part_of.ensures.answer _ _ _ (both _ _ _ c.loop-o.rest _ _ c.led_into-led.result owns led)));
+      (answer_slot _ _ _ c.part_of.result _ c.in_ok-rest-2.was (c.part_of.ensures.answer _ _ _ _ _ lands owns led));
 }
 
 pub returns-clause-answer : goal.returns-clause-answer

@@ -4,7 +4,7 @@ use Rattle.std.proofs.lemmas.List.{take_all, take_more}
 use Rattle.std.proofs.lemmas.Result.{err_from_is_err_and}
 use Rattle.slot_board.proofs.BoardSlots.{passed, same_actions, went}
 use Rattle.reach_plan.specs.Searches.{HasProgress}
-use Rattle.reach_plan.specs.Steps.{after_steps, at_goal, goal_set, untaken}
+use Rattle.reach_plan.specs.Steps.{after_steps, at_goal, goal_layer, untaken}
 use Rattle.reach_plan.specs.declared.steps.Step.{Step}
 use Rattle.reach_plan.specs.declared.steps.Step.TheVariants.{Grow}
 use Rattle.reach_plan.proofs.SearchSteps.{after_one_more, at_first, copied_next, goal_live, step_passes}
@@ -51,7 +51,7 @@ loop-step-init c start ready =
     let m = went start c.copy.new.enc c.copy.new.self.slots.items _ c.copy.result _ c.in_ok-copy.was (c.copy.ensures start ready.at) in
     let w = went start c.copy_of.new.enc c.copy_of.new.self.slots.items _ c.copy_of.result _ c.in_ok-copy_of.was (c.copy_of.ensures start m.at) in
     let long : length c.copy.new.self.slots.items ≡ c.args.takers + 4 = let now : length c.copy.new.self.slots.items ≡ start.places = m.at.long in let was : length c.args.board.now.slots.items ≡ start.places = ready.at.long in omega (arith, c.requires.places) in
-    copied_next start c.copy.new.enc c.copy_of.new.enc c.copy.new.self.slots.items c.copy_of.new.self.slots.items c.args.takers (goal_set start.task) untaken long
+    copied_next start c.copy.new.enc c.copy_of.new.enc c.copy.new.self.slots.items c.copy_of.new.self.slots.items c.args.takers (goal_layer start.task) untaken long
     (at_first start c.args.enc.now c.copy.new.enc c.args.board.now.slots.items c.copy.new.self.slots.items c.args.takers c.unwrap-goal.result c.requires.places ready (sym c.goal.ensures ∙ c.unwrap-goal.ensures) m) w
 
 pub retrace_step-requires-clause-ready : goal.retrace_step-requires-clause-ready

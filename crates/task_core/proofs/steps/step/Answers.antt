@@ -1,7 +1,6 @@
-use Rattle.std.proofs.Common.{◌≡◌, Some, slice_get}
 use Rattle.task_core.specs.States.{vector}
 use Rattle.task_core.specs.Tasks.{fluent_count}
-use Rattle.task_core.proofs.TaskSystem.{outcome_at, next_is_after, outcome_within_256, result_within, result_after}
+use Rattle.task_core.proofs.TaskSystem.{numbered_is, outcome_at, outcome_within_256, result_within, result_after}
 use Rattle.task_core.proofs.steps.step.Goals as goal
 
 pub state_after-requires : goal.state_after-requires
@@ -21,7 +20,7 @@ returns-clause-after c =
     result_after c.args.task.now c.args.action.0 c.index.result.now c.requires.action_in_range c.index.ensures
     c.args.outcome c.index-2.result.now (outcome_at c.args.task.now c.args.action.0 c.index.result.now c.requires.action_in_range c.index.ensures c.args.outcome c.requires.outcome_in_range) c.index-2.ensures c.args.state.now c.state_after.result c.requires.within c.state_after.ensures.value
 
-pub returns-clause-next : goal.returns-clause-next
-returns-clause-next c = λ exec.
-    next_is_after c.args.task.now (vector (fluent_count c.args.task.now) c.args.state.now) c.args.action.0 exec
-    (λ xs. slice_get xs c.args.outcome ≡ Some (vector (fluent_count c.args.task.now) c.state_after.result)) (returns-clause-after c)
+pub returns-clause-numbered : goal.returns-clause-numbered
+returns-clause-numbered c = λ exec.
+    let n = fluent_count c.args.task.now in
+    numbered_is c.args.task.now (vector n c.args.state.now) (vector n c.state_after.result) c.args.action.0 c.args.outcome exec (returns-clause-after c)

@@ -1,0 +1,143 @@
+-- What outcomes lead to states, one outcome more, and where some outcome does.
+use Rattle.std.proofs.Common.{◌≡◌, ℕ, zero, suc, ◌+◌, ◌<◌, ◌^◌, ◌==◌, Bool, true, false, ◌&&◌, ◌||◌, inl, inr, ⊎_elim, List, [], ◌∷◌, ◌++◌, Vec, map, length, get_or, take, ltb, refl, sym, ap, subst, ◌∙◌, arith}
+use Rattle.std.specs.declared.alloc.Global.{Global}
+use Rattle.std.specs.List.{list_all, list_any}
+use Rattle.std.proofs.lemmas.Bool.{and_parts, false≢true, ltb-true}
+use Rattle.std.proofs.lemmas.List.{take_more}
+use Rattle.std.proofs.lemmas.List.Folds.{list_any_more}
+use Rattle.dd_nodes.specs.NodeList.{Values}
+use Rattle.dd_nodes.specs.Subfunctions.{Function}
+use Rattle.dd_ops.specs.Operations.{and_of, or_of}
+use Rattle.task_core.specs.Actions.{action_within, after_value, outcome_within}
+use Rattle.task_core.specs.Conditions.{AlwaysHolds, holds, ids_below}
+use Rattle.task_core.specs.declared.actions.GroundAction.{GroundAction}
+use Rattle.task_core.specs.declared.actions.Outcome.{Outcome}
+use Rattle.task_core.specs.declared.conditions.Cond.{Cond}
+use Rattle.task_core.specs.declared.literals.FluentId.{FluentId}
+use Rattle.dd_sets.specs.Calls.{Adds, KeepsSets}
+use Rattle.dd_sets.specs.LiveSets.{LiveSets, AllLive, IsLive, set_of, subst_set}
+use Rattle.dd_sets.specs.declared.slots.SetId.{SetId}
+use Rattle.encode_task.specs.Made.{Holds, HoldsOutcome}
+use Rattle.encode_task.specs.Tables.{AllPaired, LandsMade, OutcomeMade, exec_of, lands_of}
+use Rattle.encode_task.proofs.LedLemmas.{led_by_sets}
+use Rattle.encode_task.proofs.MadeLemmas.{holds_kept, outcome_kept}
+use Rattle.encode_task.proofs.TableLemmas.{paired_more, paired_weaker}
+
+-- the outcome whose slots are at a place
+pub made_at : (sets : LiveSets) (changed : List (Vec (FluentId × SetId) Global)) (outcomes : List Outcome) (i : ℕ) (x : Vec (FluentId × SetId) Global)
+    → AllPaired (OutcomeMade sets) (map (λ (c : Vec (FluentId × SetId) Global). c.items) changed) outcomes → i < length changed → x ≡ get_or changed i x
+    → (o : Outcome) × (i < length outcomes) × (get_or outcomes i o ≡ o) × OutcomeMade sets x.items o
+made_at sets [] outcomes i x all within at = absurd (omega arith)
+made_at sets (c ∷ changed) [] i x all within at = absurd all
+made_at sets (c ∷ changed) (o ∷ outcomes) zero x all within at = (o, omega arith, refl, subst (λ (y : Vec (FluentId × SetId) Global). OutcomeMade sets y.items o) (sym at) all.0)
+made_at sets (c ∷ changed) (o ∷ outcomes) (suc i) x all within at =
+    let found = made_at sets changed outcomes i x all.1 (omega arith) at in
+    (found.0, omega (arith, found.1), found.2, found.3)
+
+-- one outcome more
+pub lands_more : (first before after : LiveSets) (space slot : SetId) (invariant : Cond) (lands all : List SetId) (changed : List (Vec (FluentId × SetId) Global)) (outcomes : List Outcome) (i : ℕ)
+    (x : Vec (FluentId × SetId) Global) (listed : List (FluentId × SetId)) → KeepsSets first before → KeepsSets before after → Holds first space (holds invariant)
+    → AllPaired (OutcomeMade first) (map (λ (c : Vec (FluentId × SetId) Global). c.items) changed) outcomes → i < length changed → x ≡ get_or changed i x → listed ≡ x.items
+    → Adds before after slot.0 (subst_set before listed (set_of before space.0)) → all ≡ lands ++ slot ∷ []
+    → AllPaired (λ slot o. Holds before slot (lands_of invariant o)) lands (take i outcomes) → AllPaired (λ slot o. Holds after slot (lands_of invariant o)) all (take (i + 1) outcomes)
+lands_more first before after space slot invariant lands all changed outcomes i x listed kept step held made within at is adds whole each =
+    let found = made_at first changed outcomes i x made within at in
+    let outcome : HoldsOutcome before listed (after_value found.0) = subst (λ l. HoldsOutcome before l (after_value found.0)) (sym is) (outcome_kept first before kept x.items (after_value found.0) found.3) in
+    let space_is : set_of before space.0 ≡ holds invariant = (holds_kept first before kept space (holds invariant) held).holds in
+    let one : Holds after slot (lands_of invariant found.0) = record {
+      live = adds.live;
+      holds = adds.holds ∙ led_by_sets before listed (after_value found.0) outcome (set_of before space.0) ∙ ap (λ (set : Function). (λ (values : Values). set (after_value found.0 values))) space_is;
+    } in
+    let more : take (i + 1) outcomes ≡ take i outcomes ++ found.0 ∷ [] = take_more outcomes i found.0 found.1 ∙ ap (λ o. take i outcomes ++ o ∷ []) found.2 in
+    subst (λ l. AllPaired (λ slot o. Holds after slot (lands_of invariant o)) l (take (i + 1) outcomes)) (sym whole)
+    (subst (AllPaired (λ slot o. Holds after slot (lands_of invariant o)) (lands ++ slot ∷ [])) (sym more)
+    (paired_more (λ slot o. Holds after slot (lands_of invariant o)) lands (take i outcomes) slot found.0
+    (paired_weaker (λ slot o. Holds before slot (lands_of invariant o)) (λ slot o. Holds after slot (lands_of invariant o)) (λ slot o. holds_kept before after step slot (lands_of invariant o)) lands (take i outcomes) each) one))
+
+-- the lists of the outcomes are live
+pub list_live : (first before : LiveSets) (changed : List (Vec (FluentId × SetId) Global)) (outcomes : List Outcome) (i : ℕ) (x : Vec (FluentId × SetId) Global) (listed : List (FluentId × SetId))
+    → KeepsSets first before → AllPaired (OutcomeMade first) (map (λ (c : Vec (FluentId × SetId) Global). c.items) changed) outcomes → i < length changed → x ≡ get_or changed i x → listed ≡ x.items → AllLive before listed
+list_live first before changed outcomes i x listed kept made within at is =
+    let found = made_at first changed outcomes i x made within at in
+    (subst (λ l. HoldsOutcome before l (after_value found.0)) (sym is) (outcome_kept first before kept x.items (after_value found.0) found.3)).live
+
+-- an action has an outcome
+has_outcome : (n : ℕ) (action : GroundAction) → action_within n action ≡ true → 0 < length action.outcomes.items
+has_outcome n action within =
+    ltb-true 0 (length action.outcomes.items)
+    (and_parts (ids_below n action.exec && list_all (outcome_within n) action.outcomes.items) (ltb 0 (length action.outcomes.items))
+    (and_parts ((ids_below n action.exec && list_all (outcome_within n) action.outcomes.items) && ltb 0 (length action.outcomes.items)) (ltb (length action.outcomes.items) (2 ^ 32)) within).0).1
+
+-- without slots every outcome leads to a state
+every_lands : (invariant : Cond) (outcomes : List Outcome) (values : Values) → AlwaysHolds invariant → 0 < length outcomes → list_any (λ o. lands_of invariant o values) outcomes ≡ true
+every_lands invariant [] values always some = absurd (omega arith)
+every_lands invariant (o ∷ outcomes) values always some = ap (λ b. b || list_any (λ o. lands_of invariant o values) outcomes) (always (after_value o values))
+
+pub exec_always : (sets : LiveSets) (n : ℕ) (invariant : Cond) (action : GroundAction) (lands : List SetId) → action_within n action ≡ true → LandsMade sets invariant lands action.outcomes.items → length lands ≡ 0
+    → and_of (holds invariant) (holds action.exec) ≡ exec_of invariant action
+exec_always sets n invariant action lands within made none = ⊎_elim
+    (λ (always : AlwaysHolds invariant × (lands ≡ [])). λ i values.
+    (and_true (holds invariant values && holds action.exec values) ∙ ap (λ b. (holds invariant values && holds action.exec values) && b) (sym (every_lands invariant action.outcomes.items values always.0 (has_outcome n action within)))) i)
+    (λ (each : AllPaired (λ slot o. Holds sets slot (lands_of invariant o)) lands action.outcomes.items). absurd (no_pairs lands action.outcomes.items each none (has_outcome n action within)))
+    made
+  where
+    and_true : (a : Bool) → a ≡ (a && true)
+    and_true true = refl
+    and_true false = refl
+
+    no_pairs : (lands : List SetId) (outcomes : List Outcome) → AllPaired (λ slot o. Holds sets slot (lands_of invariant o)) lands outcomes → length lands ≡ 0 → 0 < length outcomes → ⊥
+    no_pairs [] [] each none some = omega arith
+    no_pairs [] (o ∷ outcomes) each none some = each
+    no_pairs (x ∷ lands) outcomes each none some = omega arith
+
+-- some slots are not none
+pub some_slots : (lands : List SetId) → (length lands == 0) ≡ false → 0 < length lands
+some_slots [] some = absurd (false≢true (sym some))
+some_slots (x ∷ lands) some = omega arith
+
+-- one slot more
+pub landing_more : (first now : LiveSets) (allowed : ℕ) (lands : List SetId) (i : ℕ) (d : SetId) → KeepsSets first now → IsLive first allowed → IsLive first (get_or lands i d).0 → i < length lands
+    → or_of (λ (values : Values). list_any (λ slot. set_of first allowed values && set_of first slot.0 values) (take i lands)) (and_of (set_of now allowed) (set_of now (get_or lands i d).0))
+    ≡ (λ (values : Values). list_any (λ slot. set_of first allowed values && set_of first slot.0 values) (take (i + 1) lands))
+landing_more first now allowed lands i d kept live slot_live within =
+    (λ j values. list_any (λ slot. set_of first allowed values && set_of first slot.0 values) (take i lands) || (kept.sets allowed live j values && kept.sets (get_or lands i d).0 slot_live j values))
+    ∙ (λ j values. (sym (list_any_more (λ slot. set_of first allowed values && set_of first slot.0 values) lands i d within)) j)
+
+-- with slots the action can be executed where one of them has what is allowed
+pub lands_live : (before after : LiveSets) (invariant : Cond) (outcomes : List Outcome) (lands : List SetId) → KeepsSets before after → LandsMade before invariant lands outcomes → (i : ℕ) (d : SetId) → i < length lands → IsLive after (get_or lands i d).0
+lands_live before after invariant outcomes lands kept made i d within = ⊎_elim
+    (λ (always : AlwaysHolds invariant × (lands ≡ [])). absurd (let none : length lands ≡ 0 = ap length always.1 in omega arith))
+    (λ (each : AllPaired (λ slot o. Holds before slot (lands_of invariant o)) lands outcomes). kept.live _ (at lands outcomes each i within))
+    made
+  where
+    at : (lands : List SetId) (outcomes : List Outcome) → AllPaired (λ slot o. Holds before slot (lands_of invariant o)) lands outcomes → (i : ℕ) → i < length lands → IsLive before (get_or lands i d).0
+    at [] outcomes each i within = absurd (omega arith)
+    at (x ∷ lands) [] each i within = absurd each
+    at (x ∷ lands) (o ∷ outcomes) each zero within = each.0.live
+    at (x ∷ lands) (o ∷ outcomes) each (suc i) within = at lands outcomes each.1 i (omega arith)
+
+pub exec_lands : (before sets : LiveSets) (invariant : Cond) (action : GroundAction) (lands : List SetId) (allowed : Function) → KeepsSets before sets → LandsMade before invariant lands action.outcomes.items → 0 < length lands
+    → allowed ≡ and_of (holds invariant) (holds action.exec) → (λ (values : Values). list_any (λ slot. allowed values && set_of sets slot.0 values) lands) ≡ exec_of invariant action
+exec_lands before sets invariant action lands allowed kept made some is = ⊎_elim
+    (λ (always : AlwaysHolds invariant × (lands ≡ [])). absurd (let none : length lands ≡ 0 = ap length always.1 in omega arith))
+    (λ (each : AllPaired (λ slot o. Holds before slot (lands_of invariant o)) lands action.outcomes.items).
+    (λ i values. list_any (λ slot. is i values && set_of sets slot.0 values) lands)
+    ∙ (λ i values. (spread (holds invariant values && holds action.exec values) values lands action.outcomes.items each) i))
+    made
+  where
+    and_none : (a : Bool) → false ≡ (a && false)
+    and_none true = refl
+    and_none false = refl
+
+    out : (a s r : Bool) → ((a && s) || (a && r)) ≡ (a && (s || r))
+    out true s r = refl
+    out false s r = refl
+
+    spread : (a : Bool) (values : Values) (lands : List SetId) (outcomes : List Outcome) → AllPaired (λ slot o. Holds before slot (lands_of invariant o)) lands outcomes
+        → list_any (λ slot. a && set_of sets slot.0 values) lands ≡ (a && list_any (λ o. lands_of invariant o values) outcomes)
+    spread a values [] [] each = and_none a
+    spread a values [] (o ∷ outcomes) each = absurd each
+    spread a values (x ∷ lands) [] each = absurd each
+    spread a values (x ∷ lands) (o ∷ outcomes) each =
+        let same = (holds_kept before sets kept x (lands_of invariant o) each.0).holds in
+        (λ i. (a && same i values) || spread a values lands outcomes each.1 i) ∙ out a (lands_of invariant o values) (list_any (λ o. lands_of invariant o values) outcomes)

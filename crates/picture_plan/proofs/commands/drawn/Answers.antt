@@ -1,0 +1,27 @@
+use Rattle.std.proofs.Common.{◌≡◌, ap, inl, inr, length, rules}
+use Rattle.plan_picture.specs.Values.{node_value, nodes_of}
+use Rattle.plan_rules.specs.Rules.{plain_of}
+use Rattle.task_core.specs.Tasks.{fluent_count, system_of}
+use Rattle.mbp_top.specs.Answers.{refused}
+use Rattle.picture_plan.proofs.Answers.{no_nodes, shows_nothing, shows_some, some_nodes}
+use Rattle.picture_plan.proofs.commands.drawn.Goals as goal
+
+pub returns-then-is_blank : goal.returns-then-is_blank
+returns-then-is_blank c =
+    let n = fluent_count c.args.task.now in
+    let picture = c.in-Ok.picture in
+    let none : length picture.nodes.items ≡ 0 = search rules in
+    inr (inr (inr (inl (
+      shows_nothing (system_of c.args.task.now) (plain_of c.args.plan.now) (nodes_of n picture) c.in-Ok.ensures.picture (no_nodes (node_value n) picture.nodes.items none),
+      ap refused c.in_ok-no_initial-in-Ok.ensures,
+    ))))
+
+pub returns-in_ok-dot_text-in-Ok : goal.returns-in_ok-dot_text-in-Ok
+returns-in_ok-dot_text-in-Ok c =
+    let n = fluent_count c.args.task.now in
+    let picture = c.in-Ok.picture in
+    let some : length picture.nodes.items ≡ 0 → ⊥ = search rules in
+    inr (inr (inr (inr (
+      shows_some (system_of c.args.task.now) (plain_of c.args.plan.now) (nodes_of n picture) c.in-Ok.ensures.picture (some_nodes (node_value n) picture.nodes.items some),
+      record { nodes = nodes_of n picture; picture = c.in-Ok.ensures.picture; shown = search rules },
+    ))))

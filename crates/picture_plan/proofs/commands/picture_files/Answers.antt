@@ -1,0 +1,29 @@
+use Rattle.std.proofs.lemmas.Result.{err_from_is_err_and}
+use Rattle.plan_io.specs.Fetches.{FailedLast}
+use Rattle.mbp_top.specs.Values.{refusal_of}
+use Rattle.mbp_top.proofs.Later.{failed_after_two}
+use Rattle.mbp_top.proofs.PddlDecides.{after_both, refused_both}
+use Rattle.picture_plan.specs.Pictures.{IsPictured}
+use Rattle.picture_plan.specs.Values.{picture_words_of}
+use Rattle.picture_plan.proofs.Answers.{pictured_later}
+use Rattle.picture_plan.proofs.commands.picture_files.Goals as goal
+
+pub returns-in_err-domain-clause-answer : goal.returns-in_err-domain-clause-answer
+returns-in_err-domain-clause-answer g c =
+    let p = err_from_is_err_and c.from_residual.result c.from_residual.ensures.1 in
+    let held = g.S.Shelf.held c.args.shelf.now in
+    let failed = FailedLast g.S.Shelf.fetched g.S.Shelf.faults c.args.shelf.now c.read_both.new.shelf in
+    let asked = picture_words_of c.args.asked.now in
+    rw (p.1, p.2) (refused_both held failed asked.domain asked.problem (IsPictured held failed asked) (refusal_of c.in_err-domain.field-0.0) c.in_err-domain.ensures.refused)
+
+pub returns-clause-answer : goal.returns-clause-answer
+returns-clause-answer g c =
+    let held = g.S.Shelf.held c.args.shelf.now in
+    let held' = g.S.Shelf.held c.read_both.new.shelf in
+    let failed = FailedLast g.S.Shelf.fetched g.S.Shelf.faults c.args.shelf.now c.picture_problem.new.shelf in
+    let failed' = FailedLast g.S.Shelf.fetched g.S.Shelf.faults c.read_both.new.shelf c.picture_problem.new.shelf in
+    let asked = picture_words_of c.args.asked.now in
+    let over = failed_after_two g.S.Shelf.fetched g.S.Shelf.faults asked.domain asked.problem c.args.shelf.now c.read_both.new.shelf c.picture_problem.new.shelf asked.plan
+    c.in_ok-domain.ensures.fetched c.in_ok-domain.ensures.quiet in
+    after_both held failed asked.domain asked.problem (IsPictured held failed asked) _ _ _ c.in_ok-domain.ensures.holds
+    (pictured_later held held' failed failed' asked _ _ _ c.in_ok-domain.ensures.kept over c.picture_problem.ensures.answer)

@@ -1,0 +1,28 @@
+use Rattle.std.proofs.lemmas.Result.{err_from_is_err_and}
+use Rattle.pddl_ast.specs.Values.{domain_value, problem_value}
+use Rattle.plan_io.specs.Fetches.{FailedLast}
+use Rattle.mbp_top.specs.Values.{answer_of, placed_of, refusal_of}
+use Rattle.picture_plan.specs.Values.{picture_words_of}
+use Rattle.picture_plan.proofs.Answers.{pictured_answer, plan_refused}
+use Rattle.picture_plan.proofs.commands.picture_problem.Goals as goal
+
+pub returns-in_err-read-clause-answer : goal.returns-in_err-read-clause-answer
+returns-in_err-read-clause-answer g c =
+    let p = err_from_is_err_and c.from_residual-in_err-read.result c.from_residual-in_err-read.ensures.1 in
+    let held = g.S.Shelf.held c.args.shelf.now in
+    let failed = FailedLast g.S.Shelf.fetched g.S.Shelf.faults c.args.shelf.now c.read_plan_file.new.shelf in
+    let domain = domain_value c.args.domain.now in
+    let problem = problem_value c.args.problem.now in
+    rw (p.1, p.2) (plan_refused held failed (picture_words_of c.args.asked.now) domain problem c.in_ok-grounded.grounded.task (refusal_of c.in_err-read.field-0.0)
+    c.in_ok-grounded.ensures.task c.in_ok-grounded.ensures.within c.in_err-read.ensures.refused)
+
+pub returns-clause-answer : goal.returns-clause-answer
+returns-clause-answer g c =
+    let held = g.S.Shelf.held c.args.shelf.now in
+    let failed = FailedLast g.S.Shelf.fetched g.S.Shelf.faults c.args.shelf.now c.read_plan_file.new.shelf in
+    let domain = domain_value c.args.domain.now in
+    let problem = problem_value c.args.problem.now in
+    pictured_answer held failed (picture_words_of c.args.asked.now) domain problem c.in_ok-grounded.grounded.task
+    (placed_of c.in_ok-read.read) (answer_of c.drawn.result)
+    c.in_ok-grounded.ensures.task c.in_ok-grounded.ensures.system c.in_ok-grounded.ensures.within
+    c.in_ok-read.ensures.holds c.drawn.ensures

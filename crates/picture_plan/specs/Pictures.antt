@@ -1,0 +1,70 @@
+-- Which answer is a picture, and the answer to the words.
+use Rattle.std.specs.Prelude.{◌≡◌, ◌⊎◌, ℕ, List, codes}
+use Rattle.exec_graph.specs.Executions.{ReachesMoreThan}
+use Rattle.pddl_ast.specs.Trees.{DomainTree, ProblemTree}
+use Rattle.pddl_system.specs.Systems.{action_names, fluent_names, system}
+use Rattle.plan_io.specs.Held.{Held}
+use Rattle.plan_picture.specs.Pictures.{IsPictureOf, PlainNode}
+use Rattle.plan_rules.specs.Rules.{PlainPlan}
+use Rattle.task_core.specs.Names.{Name}
+use Rattle.task_core.specs.Systems.{System}
+use Rattle.mbp_top.specs.Answers.{Answer, affirmed, over_limit, refused}
+use Rattle.mbp_top.specs.CheckCommand.{HasTooManyStates}
+use Rattle.mbp_top.specs.Grounding.{GroundThen}
+use Rattle.mbp_top.specs.InitialStates.{InitialThen, empty_init}
+use Rattle.mbp_top.specs.PddlTexts.{ReadBoth}
+use Rattle.mbp_top.specs.PlanFiles.{IsFaultyPlan, PlacedPlan, SpellsPlaced}
+use Rattle.mbp_top.specs.Reading.{ReadThen}
+use Rattle.mbp_top.specs.Words.{Bytes}
+use Rattle.picture_text.specs.Texts.{picture_text}
+use Rattle.picture_plan.specs.Words.{PictureWords}
+
+-- how many configurations a picture may show
+abbrev pub most_shown : ℕ
+most_shown = 400
+
+-- the text of the picture of a plan is shown: a node for exactly each configuration that it may
+-- reach, and an edge for exactly each step that it may take there
+pub record ShowsPicture (fluents actions : List Name) (sys : System) (plan : PlainPlan)
+    (answer : Answer) : Type 0 where
+  pub nodes : List PlainNode
+  pub picture : IsPictureOf sys plan nodes
+  pub shown : answer ≡ affirmed (picture_text fluents actions plan nodes)
+
+-- there are too many initial states (`TooMany`); or not, but the plan may reach more configurations
+-- than are shown; or there comes what Then says
+abbrev pub DrawThen : Type 0 → System → PlainPlan → (Answer → Type 0) → Answer → Type 0
+DrawThen TooMany sys plan Then answer =
+    (TooMany × (answer ≡ refused (over_limit (codes "initial"))))
+    ⊎ ((TooMany → ⊥) × ReachesMoreThan sys plan most_shown
+    × (answer ≡ refused (over_limit (codes "configurations"))))
+    ⊎ Then answer
+
+-- what follows once the plan is read: it is followed; there is no initial state, or there is one, and
+-- the picture is shown
+abbrev pub DrawnThen : PictureWords → DomainTree → ProblemTree → PlacedPlan → Answer → Type 0
+DrawnThen asked domain problem placed =
+    DrawThen (HasTooManyStates domain problem) (system domain problem) placed.plan
+    (InitialThen (empty_init asked.problem problem) (system domain problem).initial
+    (ShowsPicture (fluent_names domain problem) (action_names domain problem)
+    (system domain problem) placed.plan))
+
+-- what follows once both are read and within the limits: the plan is read, and drawn
+abbrev pub PictureThen : (Bytes → Held) → (Bytes → Type 0) → PictureWords → DomainTree
+    → ProblemTree → Answer → Type 0
+PictureThen held failed asked domain problem =
+    ReadThen held failed asked.plan
+    (SpellsPlaced (fluent_names domain problem) (action_names domain problem))
+    (IsFaultyPlan (fluent_names domain problem) (action_names domain problem))
+    (DrawnThen asked domain problem)
+
+-- what follows once both are read
+abbrev pub IsPictured : (Bytes → Held) → (Bytes → Type 0) → PictureWords → DomainTree
+    → ProblemTree → Answer → Type 0
+IsPictured held failed asked domain problem =
+    GroundThen domain problem (PictureThen held failed asked domain problem)
+
+-- the answer
+abbrev pub IsPictureAnswer : (Bytes → Held) → (Bytes → Type 0) → PictureWords → Answer → Type 0
+IsPictureAnswer held failed asked =
+    ReadBoth held failed asked.domain asked.problem (IsPictured held failed asked)

@@ -1,0 +1,167 @@
+//! From the words to the answer.
+
+ghost use Rattle.exec_graph.specs.Initials.{HasTooManyInitial};
+ghost use Rattle.mbp_top.specs.Answers.{no_memory, refused};
+ghost use Rattle.mbp_top.specs.Causes.{IsQuietAt};
+ghost use Rattle.mbp_top.specs.CheckCommand.{most_followed};
+ghost use Rattle.mbp_top.specs.InitialStates.{InitialThen, empty_init};
+ghost use Rattle.mbp_top.specs.Values.{answer_of, refusal_of};
+ghost use Rattle.pddl_ast.specs.Fits.{FitsDomain, FitsProblem};
+ghost use Rattle.pddl_ast.specs.Values.{domain_value, problem_value};
+ghost use Rattle.pddl_system.specs.Names.{NamesAreWords};
+ghost use Rattle.picture_plan.specs.Pictures.{
+  DrawThen,
+  IsPictureAnswer,
+  IsPictured,
+  ShowsPicture,
+};
+ghost use Rattle.picture_plan.specs.Runs.{HasPictureCause};
+ghost use Rattle.picture_plan.specs.Values.{picture_words_of};
+ghost use Rattle.picture_plan.specs.Words.{AskNothing};
+ghost use Rattle.plan_io.specs.Fetches.{FailedLast};
+ghost use Rattle.plan_rules.specs.Plans.{IsPlanOf};
+ghost use Rattle.plan_rules.specs.Rules.{plain_of};
+ghost use Rattle.std.specs.Prelude.{
+  ◌≡◌,
+  ◌≤◌,
+  ◌⊎◌,
+  ◌↔◌,
+  IfOk,
+  IsTrue,
+  List,
+  length,
+  map,
+  string_bytes,
+  ℕ,
+};
+ghost use Rattle.task_core.specs.Tasks.{
+  action_count,
+  action_names,
+  fluent_count,
+  fluent_names,
+  initial_states,
+  system_of,
+};
+
+use crate::words::{PictureWords, read_words};
+use mbp_top::{Limit, Refusal, Shown, Text, ground_both, read_both, read_plan_file};
+use pddl_ast::{Domain, Problem};
+use picture_text::dot_text;
+use plan_io::Shelf;
+use plan_picture::{Picture, PictureErr, picture_of};
+use plan_rules::Plan;
+use sexpr_text::{FaultKind, InputFault};
+use std::alloc::{AllocError, Global};
+use task_core::Task;
+
+/// Does what the words say, and gives the answer.
+pub(crate) fn answer<S: Shelf>(
+    alloc: Global,
+    words: &[String],
+    shelf: &mut S,
+) -> Result<Shown, Refusal>
+    ensures cause { let failed = FailedLast S.fetched S.faults shelf.old shelf.new in
+        HasPictureCause (S.held shelf.old) failed (map string_bytes words.now)
+        (answer_of result) }
+    ensures no_fetch { AskNothing (map string_bytes words.now) → shelf.new ≡ shelf.old }
+    ensures quiet_at { IsQuietAt (answer_of result) (S.faults shelf.old) (S.faults shelf.new) }
+    ensures kept { (file : List ℕ) → S.held shelf.new file ≡ S.held shelf.old file }
+    ensures later { S.faults shelf.old ≤ S.faults shelf.new }
+{
+    match read_words(words) {
+        Some(asked) => picture_files(alloc, shelf, &asked),
+        None => Err(Refusal::NoCommand),
+    }
+}
+
+/// The picture of the plan in a file, for the domain and the problem in two files.
+fn picture_files<S: Shelf>(
+    alloc: Global,
+    shelf: &mut S,
+    asked: &PictureWords,
+) -> Result<Shown, Refusal>
+    ensures answer { let failed = FailedLast S.fetched S.faults shelf.old shelf.new in
+        (answer_of result ≡ refused no_memory)
+        ⊎ IsPictureAnswer (S.held shelf.old) failed (picture_words_of asked.now)
+        (answer_of result) }
+    ensures quiet_at { IsQuietAt (answer_of result) (S.faults shelf.old) (S.faults shelf.new) }
+    ensures kept { (file : List ℕ) → S.held shelf.new file ≡ S.held shelf.old file }
+    ensures later { S.faults shelf.old ≤ S.faults shelf.new }
+{
+    let (domain, problem) = read_both(alloc, shelf, asked.domain, asked.problem)?;
+    picture_problem(alloc, shelf, asked, &domain, &problem)
+}
+
+/// The picture of the plan in a file, for a domain and a problem.
+fn picture_problem<S: Shelf>(
+    alloc: Global,
+    shelf: &mut S,
+    asked: &PictureWords,
+    domain: &Domain,
+    problem: &Problem,
+) -> Result<Shown, Refusal>
+    requires fits_domain { FitsDomain (domain_value domain.now) }
+    requires fits_problem { FitsProblem (domain_value domain.now) (problem_value problem.now) }
+    requires names { NamesAreWords (domain_value domain.now) (problem_value problem.now) }
+    ensures answer { let failed = FailedLast S.fetched S.faults shelf.old shelf.new in
+        (answer_of result ≡ refused no_memory)
+        ⊎ IsPictured (S.held shelf.old) failed (picture_words_of asked.now)
+        (domain_value domain.now) (problem_value problem.now) (answer_of result) }
+    ensures quiet_at { IsQuietAt (answer_of result) (S.faults shelf.old) (S.faults shelf.new) }
+    ensures kept { (file : List ℕ) → S.held shelf.new file ≡ S.held shelf.old file }
+    ensures later { S.faults shelf.old ≤ S.faults shelf.new }
+{
+    let grounded = ground_both(alloc, domain, problem)?;
+    let read = read_plan_file(alloc, shelf, asked.plan, &grounded.task)?;
+    drawn(alloc, asked.problem, problem, &grounded.task, &read.plan)
+}
+
+/// The picture of a plan, for the problem in the file of this name.
+fn drawn(
+    alloc: Global,
+    name: &str,
+    problem: &Problem,
+    task: &Task,
+    plan: &Plan,
+) -> Result<Shown, Refusal>
+    requires in_task { IsPlanOf (fluent_count task.now) (action_count task.now) plan.now }
+    ensures { (answer_of result ≡ refused no_memory)
+        ⊎ DrawThen (HasTooManyInitial task.now most_followed) (system_of task.now)
+        (plain_of plan.now)
+        (InitialThen (empty_init name.now (problem_value problem.now)) (initial_states task.now)
+        (ShowsPicture (fluent_names task.now) (action_names task.now) (system_of task.now)
+        (plain_of plan.now))) (answer_of result) }
+{
+    match picture_of(alloc, task, plan) {
+        Ok(picture) => {
+            if is_blank(&picture) {
+                return Err(no_initial(alloc, name, problem)?);
+            }
+            Ok(Shown::Affirmed(Text::Made(dot_text(alloc, task, plan, &picture)?)))
+        }
+        Err(PictureErr::Initial) => Err(Refusal::OverLimit(Limit::Initial)),
+        Err(PictureErr::Configurations) => Err(Refusal::OverLimit(Limit::Configurations)),
+        Err(PictureErr::Memory) => Err(Refusal::NoMemory),
+    }
+}
+
+/// Whether a picture has no nodes.
+fn is_blank(picture: &Picture) -> bool
+    ensures { IsTrue result ↔ (length picture.now.nodes.items ≡ 0) }
+{
+    picture.nodes.is_empty()
+}
+
+/// The refusal of the problem in the file of this name, which has no initial state.
+fn no_initial(alloc: Global, name: &str, problem: &Problem) -> Result<Refusal, AllocError>
+    ensures { IfOk result
+        (λ refusal. refusal_of refusal ≡ empty_init name.now (problem_value problem.now)) }
+{
+    Ok(Refusal::TextFault(
+        String::from_str(alloc, name)?,
+        InputFault {
+            kind: FaultKind::EmptyInit,
+            place: problem.place,
+        },
+    ))
+}

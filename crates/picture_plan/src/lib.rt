@@ -1,0 +1,12 @@
+//! Pictures of plans as texts in the DOT language, which `dot` draws: a node for each configuration
+//! that the plan in a file may reach, and an edge for each step that it may take there.
+//!
+//! `specs/` says what the call answers: `Words` which words say what
+//! is wanted, `Pictures` the answer, and `Runs` a run with its cause.
+#![tactic(auto)]
+
+mod commands;
+mod top;
+mod words;
+
+pub use top::picture;

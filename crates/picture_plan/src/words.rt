@@ -1,0 +1,29 @@
+//! The words: which picture is wanted.
+
+ghost use Rattle.picture_plan.specs.Values.{picture_words_of};
+ghost use Rattle.picture_plan.specs.Words.{AskNothing, SaysPicture};
+ghost use Rattle.std.specs.Prelude.{MatchOption, map, string_bytes};
+
+/// What is asked: a picture of the plan, for the domain and the problem, in the files of these
+/// names.
+#[derive(Clone, Copy)]
+pub(crate) struct PictureWords<'a> {
+    pub(crate) domain: &'a str,
+    pub(crate) problem: &'a str,
+    pub(crate) plan: &'a str,
+}
+
+/// What the words ask: `DOMAIN PROBLEM PLAN`.
+pub(crate) fn read_words<'a>(words: &'a [String]) -> Option<PictureWords<'a>>
+    ensures { let said = map string_bytes words.now in
+        MatchOption result (AskNothing said) (λ asked. SaysPicture said (picture_words_of asked)) }
+{
+    match words {
+        [domain, problem, plan] => Some(PictureWords {
+            domain,
+            problem,
+            plan,
+        }),
+        _ => None,
+    }
+}

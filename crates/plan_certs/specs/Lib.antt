@@ -1,0 +1,5 @@
+pub mod Certificates
+pub mod Named
+pub mod Texts
+pub mod Readings
+pub mod NameTable

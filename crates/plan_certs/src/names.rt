@@ -1,0 +1,103 @@
+//! The numbers of fluents, found by their names.
+
+ghost use Rattle.std.specs.Prelude.{◌≡◌, ◌<◌, ◌+◌, ◌^◌, length, ◌++◌, ◌∷◌, [], map, IfOk};
+ghost use Rattle.std.specs.Prelude.{OnOk, true, false};
+ghost use Rattle.std.specs.List.{list_any};
+ghost use Rattle.std.specs.Str.{bytes_eq};
+ghost use Rattle.std.specs.Cmp.Lexicographic.{pointwise};
+ghost use Rattle.std.specs.Prelude.{string_bytes};
+ghost use Rattle.sexpr_text.specs.Forest.{forest_of};
+ghost use Rattle.sexpr_text.specs.Parts.{are_words, texts_of};
+ghost use Rattle.plan_rules.specs.NameKeys.{key_of};
+ghost use Rattle.plan_rules.specs.Readings.{number_of_name};
+
+use indexmap::IndexSet;
+use sexpr_text::{Form, View};
+use std::alloc::{AllocError, Global};
+
+/// Names that are all different, each found by its words in about the same time, however many there
+/// are.
+#[derive(Drop)]
+pub(crate) struct NameTable {
+    names: IndexSet<Vec<Vec<u8>>>,
+    ghost few: { length names.keys < 2 ^ 32 },
+}
+
+impl NameTable {
+    ghost use Rattle.plan_certs.specs.NameTable.{names_in};
+
+    /// A table without names.
+    pub(crate) fn new(alloc: Global) -> NameTable
+        ensures { names_in result ≡ [] }
+    {
+        NameTable {
+            names: IndexSet::new(alloc),
+        }
+    }
+
+    /// Adds a name that is not in the table.
+    pub(crate) fn add(&mut self, alloc: Global, name: &[String]) -> Result<(), AllocError>
+        requires room { length (names_in self.old) + 1 < 2 ^ 32 }
+        requires new { list_any (pointwise bytes_eq (map string_bytes name.now)) (names_in self.old)
+            ≡ false }
+        ensures { OnOk result
+            (names_in self.new ≡ names_in self.old ++ map string_bytes name.now ∷ []) }
+    {
+        self.names.insert_full(key_for(alloc, name)?)?;
+        Ok(())
+    }
+
+    /// The number of the name with the words of this row, counted from 0 in the order in which
+    /// names were added.
+    pub(crate) fn number(&self, alloc: Global, row: &[Form]) -> Result<Option<u32>, AllocError>
+        ensures { IfOk result
+            (λ number. number ≡ number_of_name (names_in self.now) (texts_of (forest_of row.now))) }
+    {
+        let words = words_of(alloc, row)?;
+        Ok(self.place(&words))
+    }
+
+    // The number of the name with these words.
+    fn place(&self, words: &Vec<Vec<u8>>) -> Option<u32>
+        ensures { result ≡ number_of_name (names_in self.now) (key_of words.now) }
+    {
+        let place = self.names.get_index_of(words)?;
+        Some(place as u32)
+    }
+}
+
+// The words of a name.
+fn key_for(alloc: Global, name: &[String]) -> Result<Vec<Vec<u8>>, AllocError>
+    ensures { IfOk result (λ words. key_of words ≡ map string_bytes name.now) }
+{
+    let mut words = Vec::new(alloc);
+    for word in name {
+        words.push(Vec::from_slice(alloc, word.as_bytes())?)?;
+    }
+    Ok(words)
+}
+
+// The texts of the words of a row.
+fn words_of(alloc: Global, row: &[Form]) -> Result<Vec<Vec<u8>>, AllocError>
+    ensures { IfOk result (λ words. key_of words ≡ texts_of (forest_of row.now)) }
+{
+    let mut words = Vec::new(alloc);
+    for form in row {
+        if let View::Word(_, text) = form.view() {
+            words.push(Vec::from_slice(alloc, text.as_bytes())?)?;
+        }
+    }
+    Ok(words)
+}
+
+/// Whether the row has words alone.
+pub(crate) fn are_words(row: &[Form]) -> bool
+    ensures { result ≡ are_words (forest_of row.now) }
+{
+    for form in row {
+        if let View::Group(_, _) = form.view() {
+            return false;
+        }
+    }
+    true
+}

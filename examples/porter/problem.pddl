@@ -1,0 +1,5 @@
+(define (problem fetch) (:domain porter)
+  (:objects yard hall store)
+  (:init (at yard) (stock store)
+    (beside yard hall) (beside hall yard) (beside hall store) (beside store hall))
+  (:goal (and (at yard) (laden))))
