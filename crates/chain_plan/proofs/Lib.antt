@@ -1,10 +1,16 @@
 pub mod SceneSteps
 pub mod RoundSteps
 pub mod StageLemmas
+pub mod SizeSteps
+pub mod KeptSteps
 pub mod TakerSteps
+pub mod TakerFits
 pub mod SkipSteps
 pub mod WinSteps
+pub mod WinFits
 pub mod TakenSteps
 pub mod StageOrder
 pub mod RuleSteps
+pub mod RuleFits
 pub mod PlanSteps
+pub mod FitSteps

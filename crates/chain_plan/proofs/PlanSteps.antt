@@ -3,7 +3,8 @@ use Rattle.std.proofs.Common.{◌≡◌, ℕ, suc, ◌+◌, ◌-◌, ◌*◌, �
 use Rattle.std.specs.List.{list_all}
 use Rattle.std.proofs.lemmas.List.{length-map}
 use Rattle.dd_nodes.specs.Subfunctions.{Function}
-use Rattle.dd_sets.specs.Rooms.{AnySet, NoRoom}
+use Rattle.dd_sets.specs.Rooms.{NoRoom}
+use Rattle.dd_sets.proofs.RoomSteps.{room_wider}
 use Rattle.dd_sets.specs.declared.errors.SetErr.{SetErr}
 use Rattle.dd_sets.specs.declared.errors.SetErr.TheVariants.{Full}
 use Rattle.dd_sets.specs.declared.slots.SetId.{SetId}
@@ -32,7 +33,7 @@ use Rattle.task_core.proofs.TaskSystem.{is_system}
 use Rattle.chain_plan.specs.Answers.{Ends, IsAnswer, IsPlanOf}
 use Rattle.chain_plan.specs.Chains.{chain_sets}
 use Rattle.chain_plan.specs.Found.{IfNoPlan, IfPlan}
-use Rattle.chain_plan.specs.Scenes.{HasNothing, IsAt, Left, SameStates, Scene, Start, Worked, board_of, place_count, states_at, sys_of, win_place}
+use Rattle.chain_plan.specs.Scenes.{HasNothing, IsAt, Left, SameStates, Scene, Start, Worked, board_of, place_count, rough_places, states_at, sys_of, win_place}
 use Rattle.chain_plan.specs.Steps.{HasTakers, Won}
 use Rattle.chain_plan.specs.Tables.{HasTable, start_of}
 use Rattle.chain_plan.specs.declared.plan.FoundAuto.{FoundAuto}
@@ -104,10 +105,12 @@ ends_none start x chain result is ends = subst (Ends start x chain) is ends
 pub ends_refusal : (start : Start) (x : Scene) (chain : Chained) (result : Result Bool SetErr) (e : SetErr) → result ≡ Err e → Ends start x chain result → IsAt start x × (e ≡ Full → HasNoRoom (board_of start) x.0)
 ends_refusal start x chain result e is ends = subst (Ends start x chain) is ends
 
-pub room_of : (start : Start) (now : Encoded) → HasNoRoom (board_of start) now → NoRoom AnySet (action_count start.task * (start.stages + 3) + 8 * start.stages + 236) start.enc.sets now.sets
-room_of start now full = subst (λ most. NoRoom AnySet most start.enc.sets now.sets) (room (action_count start.task) start.stages) full
+pub room_of : (start : Start) (now : Encoded) → HasNoRoom (board_of start) now → NoRoom start.width (action_count start.task * (start.stages + 3) + 8 * start.stages + 236) 16 start.enc.sets now.sets
+room_of start now full =
+    room_wider start.enc.sets (place_count (action_count start.task) start.stages + (action_count start.task + 6 * start.stages + 218) + 8) (action_count start.task * (start.stages + 3) + 8 * start.stages + 236) (length rough_places + 4) 16
+    (room (action_count start.task) start.stages) (omega arith) full
   where
-    room : (a n : ℕ) → place_count a n + (a + 6 * n + 218) + 8 ≡ a * (n + 3) + 8 * n + 236
+    room : (a n : ℕ) → place_count a n + (a + 6 * n + 218) + 8 ≤ a * (n + 3) + 8 * n + 236
     room a n = omega arith
 
 -- what a call leaves, whether or not it refuses
@@ -134,8 +137,8 @@ answer_no_plan task chain (Ok (Plan plan)) is = tt
 answer_no_plan task chain (Ok NoPlan) is = is
 answer_no_plan task chain (Err e) is = tt
 
-pub first_places : (task : Task) (enc now : Encoded) (made : MadeOf task enc) (n places spare : ℕ) (slots : List _) → places ≡ place_count (action_count task) n → spare ≡ action_count task + 6 * n + 218
-    → board.HasNothing (record { task = task; enc = enc; made = made; places = places; spare = spare }) now slots → HasNothing (start_of task enc made n) (now, slots)
-first_places task enc now made n places spare slots e f h =
-    subst (λ k. board.HasNothing (record { task = task; enc = enc; made = made; places = place_count (action_count task) n; spare = k }) now slots) f
-    (subst (λ k. board.HasNothing (record { task = task; enc = enc; made = made; places = k; spare = spare }) now slots) e h)
+pub first_places : (task : Task) (enc now : Encoded) (made : MadeOf task enc) (n w places spare : ℕ) (wide : fluent_count task + 2 ≤ w) (slots : List _) → places ≡ place_count (action_count task) n → spare ≡ action_count task + 6 * n + 218
+    → board.HasNothing (record { task = task; enc = enc; made = made; places = places; spare = spare; width = w; wide = wide; rough = rough_places }) now slots → HasNothing (start_of task enc made n w wide) (now, slots)
+first_places task enc now made n w places spare wide slots e f h =
+    subst (λ k. board.HasNothing (record { task = task; enc = enc; made = made; places = place_count (action_count task) n; spare = k; width = w; wide = wide; rough = rough_places }) now slots) f
+    (subst (λ k. board.HasNothing (record { task = task; enc = enc; made = made; places = k; spare = spare; width = w; wide = wide; rough = rough_places }) now slots) e h)

@@ -20,7 +20,8 @@ use Rattle.task_core.specs.Tasks.{action_count, fluent_count}
 use Rattle.task_core.specs.Vectors.{Vector, all_vectors, value_of}
 use Rattle.task_core.proofs.TaskSystem.{is_system}
 use Rattle.chain_plan.specs.Scenes.{IsReady, Moved, SameStates, Scene, Start, states_at, sys_of}
-use Rattle.chain_plan.specs.Steps.{AddsHits, HasLast, HasTurned, KeepsHits, Leads, TurnedFrom, hits_by, last_turn, turn, turn_by, turns}
+use Rattle.chain_plan.specs.Rounds.{hits_by, last_turn, turn, turn_by, turns}
+use Rattle.chain_plan.specs.Steps.{AddsHits, HasLast, HasTurned, KeepsHits, Leads, TurnedFrom}
 use Rattle.chain_plan.specs.declared.rounds.Way.{Way}
 use Rattle.chain_plan.specs.declared.rounds.Way.TheVariants.{Growing, Shrinking}
 use Rattle.chain_plan.proofs.SceneSteps.{copied_states, depends_at, joined_states, led_states, met_states, moved_low, moved_worked, rest_states, some_leads_same, worked_chain, worked_same}
@@ -53,18 +54,23 @@ hits_same : (way : Way) (start : Start) (set f g : SetOfVectors) → SameStates 
 hits_same Shrinking start set f g same v is = ap (λ b. set v && b) (same v is)
 hits_same Growing start set f g same v is = same v is
 
+-- what is joined to the next states
+pub hits_joined : (way : Way) (start : Start) (x m k : Scene) (a : ℕ) → IsReady start x → Moved start x m 2 (led Outcomes.Every start.task a (set_at x.0.sets x.1 0)) → KeepsHits way start m k
+    → SameStates start (λ v. states_at k 1 v || states_at k 2 v) (λ v. states_at x 1 v || hits_by way (states_at x 0) (λ u. must_lead (sys_of start) (states_at x 0) u a) v)
+hits_joined way start x m k a ready first kept v is =
+    let near_is : states_at m 0 ≡ states_at x 0 = moved_low start x m 2 _ first 0 (omega arith) (λ e. absurd (omega arith)) in
+    ap (λ (f : SetOfVectors). f v || states_at k 2 v) (kept.next ∙ moved_low start x m 2 _ first 1 (omega arith) (λ e. absurd (omega arith)))
+    ∙ ap (λ (f : SetOfVectors). states_at x 1 v || f v) kept.hits
+    ∙ ap (λ (f : SetOfVectors). states_at x 1 v || hits_by way f (states_at m 2) v) near_is
+    ∙ ap (λ b. states_at x 1 v || b) (hits_same way start (states_at x 0) (states_at m 2) (λ u. must_lead (sys_of start) (states_at x 0) u a) (led_states start x m 2 a 0 ready first) v is)
+
 pub adds_hits : (way : Way) (start : Start) (x m k y : Scene) (a : ℕ) → IsReady start x → Moved start x m 2 (led Outcomes.Every start.task a (set_at x.0.sets x.1 0)) → KeepsHits way start m k → Moved start k y 1 (or_of (set_at k.0.sets k.1 1) (set_at k.0.sets k.1 2)) → AddsHits way start x y a
 adds_hits way start x m k y a ready first kept second =
     let near_is : states_at m 0 ≡ states_at x 0 = moved_low start x m 2 _ first 0 (omega arith) (λ e. absurd (omega arith)) in
     record {
       worked = worked_chain start x k y (worked_chain start x m k (moved_worked start x m 2 _ first (omega arith)) kept.worked) (moved_worked start k y 1 _ second (omega arith));
       near = moved_low start k y 1 _ second 0 (omega arith) (λ e. absurd (omega arith)) ∙ kept.near ∙ near_is;
-      next = λ v is.
-          ap (λ (f : SetOfVectors). f v) (joined_states start k y 1 1 2 second)
-          ∙ ap (λ (f : SetOfVectors). f v || states_at k 2 v) (kept.next ∙ moved_low start x m 2 _ first 1 (omega arith) (λ e. absurd (omega arith)))
-          ∙ ap (λ (f : SetOfVectors). states_at x 1 v || f v) kept.hits
-          ∙ ap (λ (f : SetOfVectors). states_at x 1 v || hits_by way f (states_at m 2) v) near_is
-          ∙ ap (λ b. states_at x 1 v || b) (hits_same way start (states_at x 0) (states_at m 2) (λ u. must_lead (sys_of start) (states_at x 0) u a) (led_states start x m 2 a 0 ready first) v is);
+      next = λ v is. ap (λ (f : SetOfVectors). f v) (joined_states start k y 1 1 2 second) ∙ hits_joined way start x m k a ready first kept v is;
     }
 
 -- no action yet, and one more
@@ -133,7 +139,7 @@ turns_next : (way : Way) (sys : System) (set : SetOfVectors) (k : ℕ) (v : Vect
 turns_next Shrinking sys set k v = refl
 turns_next Growing sys set k v = refl
 
-turns_none : (way : Way) (sys : System) (set : SetOfVectors) (v : Vector) → set v ≡ turns way sys set 0 v
+pub turns_none : (way : Way) (sys : System) (set : SetOfVectors) (v : Vector) → set v ≡ turns way sys set 0 v
 turns_none Shrinking sys set v = refl
 turns_none Growing sys set v = refl
 

@@ -1,11 +1,12 @@
 -- The rules of a plan: of one action, one next context and one context more.
 use Rattle.std.proofs.Common.{◌≡◌, ◌≢◌, ℕ, suc, ◌+◌, ◌-◌, ◌*◌, ◌<◌, ◌≤◌, ◌==◌, Bool, true, false, not, ◌&&◌, List, [], ◌∷◌, ◌++◌, drop, length, map, IfErr, OnOk, Result, Ok, Err, refl, sym, ap, subst, ◌∙◌, inl, ⊎_elim, arith}
 use Rattle.std.specs.Prelude.{nat_le}
-use Rattle.std.specs.List.{Contains, flat_map, range_with_len}
+use Rattle.std.specs.List.{flat_map, range_with_len}
 use Rattle.std.proofs.lemmas.Bool.{cases_eq, cases_lt, eq-eqb, eqb-true, le-leb}
 use Rattle.std.proofs.lemmas.Grind.{flat_map-append}
 use Rattle.std.proofs.lemmas.List.{append-nil, append_assoc, map-id}
 use Rattle.std.proofs.lemmas.List.FromFn.{map-range_with_len_more}
+use Rattle.dd_nodes.specs.Subfunctions.{Function}
 use Rattle.dd_ops.specs.Operations.{and_of, minus_of}
 use Rattle.dd_sets.specs.declared.errors.SetErr.{SetErr}
 use Rattle.dd_sets.specs.declared.errors.SetErr.TheVariants.{Full, Memory}
@@ -13,19 +14,20 @@ use Rattle.slot_board.specs.Board.{set_at}
 use Rattle.cyclic_plan.proofs.PlanMade.{cubes_agree}
 use Rattle.plan_theory.specs.Chains.{Chained, stages_from}
 use Rattle.plan_theory.specs.ChainPrinted.{action_towards, chain_rules, rule_states, rules_of_action, rules_of_context, rules_of_next}
-use Rattle.plan_theory.specs.Wins.{advance, met_count, win, win_at}
+use Rattle.plan_theory.specs.Wins.{advance, covers_chain, met_count, win, win_at}
 use Rattle.plan_theory.proofs.Shrinking.{same_truth}
 use Rattle.plan_rules.specs.Rules.{ContextRule}
 use Rattle.plan_theory.specs.LayerPlans.{is_action}
-use Rattle.plan_theory.proofs.WeakLists.{Contains-cons, Contains-head, Contains-range_with_len-below}
 use Rattle.task_core.specs.Cubes.{SetOfVectors}
 use Rattle.task_core.specs.Systems.{System}
 use Rattle.task_core.specs.Tasks.{action_count, fluent_count}
 use Rattle.task_core.specs.Vectors.{Vector}
-use Rattle.chain_plan.specs.Listing.{Lists, ListsStages, rule_for, rules_for, rules_of_places}
+use Rattle.chain_plan.specs.Listing.{Lists, ListsStages, ListsTurning, rule_for, rules_for}
 use Rattle.chain_plan.specs.Scenes.{Changed, IsAt, IsReady, Left, Moved, SameStates, Scene, Start, Worked, met_place, rules_place, states_at, sys_of, takers_place, win_place}
-use Rattle.chain_plan.specs.Steps.{Chooses, HasRest, HasTakers, from_stage, met_first}
-use Rattle.chain_plan.specs.Tables.{HasRuleStates, HasTable}
+use Rattle.chain_plan.specs.Rounds.{from_stage, turning_at}
+use Rattle.chain_plan.specs.Steps.{Chooses, HasRest, HasTakers}
+use Rattle.chain_plan.specs.WorkingSets.{met_first}
+use Rattle.chain_plan.specs.Tables.{HasRuleStates, HasTable, HasTurning}
 use Rattle.chain_plan.proofs.SceneSteps.{changed_chain, copied_states, long_enough, met_states, moved_changed, moved_low, moved_other, moved_worked, rest_states, same_length, worked_changed}
 use Rattle.chain_plan.proofs.StageOrder.{at_this, from_next, won_this}
 use Rattle.chain_plan.proofs.TakenSteps.{takers_apart, takers_within}
@@ -41,31 +43,12 @@ flat_more f a n =
     ∙ sym (flat_map-append f (range_with_len a n) ((a + n) ∷ []))
     ∙ ap (flat_map f) (sym (range_last a n))
 
-flat_agree : {X Y : Type 0} (f g : X → List Y) (xs : List X) → ((x : X) → Contains xs x → f x ≡ g x) → flat_map f xs ≡ flat_map g xs
-flat_agree f g [] same = refl
-flat_agree f g (x ∷ xs) same =
-    ap (λ ys. ys ++ flat_map f xs) (same x (Contains-head x xs))
-    ∙ ap (λ ys. g x ++ ys) (flat_agree f g xs (λ y c. same y (Contains-cons x xs y c)))
-
--- the rules of one place more
-pub places_none : (start : Start) (x : Scene) (before : List ContextRule) (context next place : ℕ) → before ≡ before ++ rules_of_places start x context next place 0
-places_none start x before context next place = sym (append-nil before)
-
-pub places_more : (start : Start) (x : Scene) (before mid after : List ContextRule) (context next place n : ℕ) → mid ≡ before ++ rules_of_places start x context next place n
-    → after ≡ mid ++ rules_for (fluent_count start.task) context next n (states_at x (place + n)) → after ≡ before ++ rules_of_places start x context next place (n + 1)
-places_more start x before mid after context next place n h more =
-    let f : ℕ → List ContextRule = λ a. rules_for (fluent_count start.task) context next a (states_at x (place + a)) in
-    more
-    ∙ ap (λ rules. rules ++ f n) h
-    ∙ append_assoc before (flat_map f (range_with_len 0 n)) (f n)
-    ∙ ap (λ k. before ++ (flat_map f (range_with_len 0 n) ++ f k)) (let e : n ≡ 0 + n = omega arith in e)
-    ∙ ap (λ rules. before ++ rules) (flat_more f 0 n)
-
 -- what stands before the states of rules stays
 pub has_beside : (start : Start) (x y : Scene) (chain : Chained) (i : ℕ) → HasTakers start x chain i
     → Changed start x y (rules_place (action_count start.task) start.stages) (rules_place (action_count start.task) start.stages + action_count start.task) → HasTakers start y chain i
 has_beside start x y chain i h w = record {
   ready = w.ready;
+  fits = h.fits;
   won = record {
     wins = λ j from to v is. ap (λ (f : SetOfVectors). f v) (early (win_place j) (omega arith) (omega arith)) ∙ h.won.wins j from to v is;
     mets = λ j from less v is. ap (λ (f : SetOfVectors). f v) (early (met_place j) (omega arith) (omega arith)) ∙ h.won.mets j from less v is;
@@ -123,18 +106,58 @@ rest_none start x y chain c few h m =
     all_from true l e = sym e
     all_from false l e = refl
 
-pub rest_more : (start : Start) (x y : Scene) (chain : Chained) (c j : ℕ) → length chain.stages ≡ start.stages → c ≤ j → j ≤ start.stages → HasRest start x chain c j → Moved start x y 3 (and_of (set_at x.0.sets x.1 3) (set_at x.0.sets x.1 (met_place j))) → HasRest start y chain c (j + 1)
-rest_more start x y chain c j long from few h m =
+pub rest_met : (start : Start) (x : Scene) (chain : Chained) (c j : ℕ) → length chain.stages ≡ start.stages → c ≤ j → j ≤ start.stages → HasRest start x chain c j
+    → SameStates start (λ v. states_at x 3 v && states_at x (met_place j) v) (from_stage (sys_of start) chain c (j + 1))
+rest_met start x chain c j long from few h v is =
     let sys = sys_of start in
+    ap (λ b. b && states_at x (met_place j) v) (h.rest v is)
+    ∙ ap (λ b. from_stage sys chain c j v && b) (mets_all start x chain j long few h.has v is)
+    ∙ from_next sys chain c j from v
+    ∙ ap (λ k. from_stage sys chain c k v) (let e : suc j ≡ j + 1 = omega arith in e)
+
+pub rest_more : (start : Start) (x y : Scene) (chain : Chained) (c j : ℕ) → length chain.stages ≡ start.stages → c ≤ j → j ≤ start.stages → HasRest start x chain c j → Moved start x y 3 (and_of (set_at x.0.sets x.1 3) (set_at x.0.sets x.1 (met_place j))) → HasRest start y chain c (j + 1)
+rest_more start x y chain c j long from few h m = record {
+  has = has_still start x y chain (suc start.stages) h.has (moved_worked start x y 3 _ m (omega arith));
+  rest = λ v is. ap (λ (f : SetOfVectors). f v) (met_states start x y 3 3 (met_place j) m) ∙ rest_met start x chain c j long from few h v is;
+}
+
+-- the states of a context that turn to a next one
+pub turning_left : (start : Start) (x : Scene) (chain : Chained) (c j : ℕ) → length chain.stages ≡ start.stages → c ≤ j → j ≤ start.stages → HasRest start x chain c j
+    → SameStates start (λ v. states_at x 3 v && not (states_at x (met_place j) v)) (turning_at (sys_of start) chain c j)
+turning_left start x chain c j long from few h v is =
+    let sys = sys_of start in
+    ap (λ b. b && not (states_at x (met_place j) v)) (h.rest v is)
+    ∙ ap (λ b. from_stage sys chain c j v && not b) (mets_all start x chain j long few h.has v is)
+    ∙ at_this sys chain c j from v
+
+pub turning_made : (start : Start) (x y : Scene) (chain : Chained) (c j met : ℕ) → length chain.stages ≡ start.stages → covers_chain (sys_of start) chain ≡ true → c ≤ j → j ≤ start.stages → met ≡ met_place j → HasRest start x chain c j
+    → Moved start x y 4 (minus_of (set_at x.0.sets x.1 3) (set_at x.0.sets x.1 met)) → HasTurning start y chain c j
+turning_made start x y chain c j met long covered from few is_met h m =
+    let n : Moved start x y 4 (minus_of (set_at x.0.sets x.1 3) (set_at x.0.sets x.1 (met_place j))) =
+    subst (λ k. Moved start x y 4 (minus_of (set_at x.0.sets x.1 3) (set_at x.0.sets x.1 k))) is_met m in
     record {
-      has = has_still start x y chain (suc start.stages) h.has (moved_worked start x y 3 _ m (omega arith));
-      rest = λ v is.
-          ap (λ (f : SetOfVectors). f v) (met_states start x y 3 3 (met_place j) m)
-          ∙ ap (λ b. b && states_at x (met_place j) v) (h.rest v is)
-          ∙ ap (λ b. from_stage sys chain c j v && b) (mets_all start x chain j long few h.has v is)
-          ∙ from_next sys chain c j from v
-          ∙ ap (λ k. from_stage sys chain c k v) (let e : suc j ≡ j + 1 = omega arith in e);
+      table = record {
+        stages = long;
+        takers = has_still start x y chain (suc start.stages) h.has (moved_worked start x y 4 _ n (omega arith));
+        covered = covered;
+      };
+      from = from;
+      few = few;
+      turning = λ v is. ap (λ (f : SetOfVectors). f v) (rest_states start x y 4 3 (met_place j) n) ∙ turning_left start x chain c j long from few h v is;
     }
+
+-- they stay where only the hits change
+pub turning_still : (start : Start) (x y : Scene) (chain : Chained) (c j : ℕ) (g : Function) → HasTurning start x chain c j → Moved start x y 2 g → HasTurning start y chain c j
+turning_still start x y chain c j g h m = record {
+  table = record {
+    stages = h.table.stages;
+    takers = has_still start x y chain (suc start.stages) h.table.takers (moved_worked start x y 2 g m (omega arith));
+    covered = h.table.covered;
+  };
+  from = h.from;
+  few = h.few;
+  turning = λ v is. ap (λ (f : SetOfVectors). f v) (moved_low start x y 2 g m 4 (omega arith) (λ e. absurd (omega arith))) ∙ h.turning v is;
+}
 
 -- the states of one action's rules more
 pub chooses_none : (start : Start) (x : Scene) (takers place : ℕ) → IsReady start x → Chooses start x x takers place 0
@@ -168,21 +191,13 @@ chooses_more start x y z takers place n high apart fits below ready h m =
 pub chooses_all : (start : Start) (x y : Scene) (takers place n m : ℕ) → n ≡ m → Chooses start x y takers place n → Chooses start x y takers place m
 chooses_all start x y takers place n m e h = subst (Chooses start x y takers place) e h
 
--- the states of the rules of a context and a next one
-module _ (start : Start) (x m y : Scene) (chain : Chained) (c j : ℕ) (table : HasTable start x chain) (from : c ≤ j) (few : j ≤ start.stages) (h : HasRest start x chain c j)
-    (first : Moved start x m 4 (minus_of (set_at x.0.sets x.1 3) (set_at x.0.sets x.1 (met_place j))))
-    (more : Chooses start m y (takers_place (action_count start.task) start.stages j) (rules_place (action_count start.task) start.stages) (action_count start.task)) where
+-- those of them that take an action
+module _ (start : Start) (x : Scene) (chain : Chained) (c j : ℕ) (h : HasTurning start x chain c j) where
   abbrev sys : System
   sys = sys_of start
 
   abbrev t : ℕ
   t = takers_place (action_count start.task) start.stages j
-
-  mets : SameStates start (states_at x (met_place j)) (met_first sys chain.keep (drop j chain.stages))
-  mets = mets_all start x chain j table.stages few h.has
-
-  still_has : HasTakers start m chain (suc start.stages)
-  still_has = has_still start x m chain (suc start.stages) h.has (moved_worked start x m 4 _ first (omega arith))
 
   first_stages : stages_from (suc c) chain.stages ≡ drop c chain.stages
   first_stages = ap (λ k. drop k chain.stages) (let e : suc c - 1 ≡ c = omega arith in e)
@@ -196,83 +211,99 @@ module _ (start : Start) (x m y : Scene) (chain : Chained) (c j : ℕ) (table : 
       (λ h. let e : c + k ≡ j = eqb-true (c + k) j h in eq-eqb (suc c + k) (suc j) (omega arith))
       (λ h. let e : suc c + k ≡ suc j = eqb-true (suc c + k) (suc j) h in eq-eqb (c + k) j (omega arith))
 
-  -- of the states whose stage this is, those that take an action
   drop_won : (w e s i : Bool) → (w ≡ true → e ≡ true → s ≡ true) → ((w && e) && (s && i)) ≡ (w && (e && i))
   drop_won true true s i h = ap (λ b. b && i) (h refl refl)
   drop_won true false s i h = refl
   drop_won false e s i h = refl
 
-  rule_states_at : (a : ℕ) → a < action_count start.task → SameStates start (states_at y (rules_place (action_count start.task) start.stages + a)) (rule_states sys chain (suc c) (suc j) a)
-  rule_states_at a below v is =
+  pub rule_taken : (a : ℕ) → a < action_count start.task → SameStates start (λ v. states_at x 4 v && states_at x (t + a) v) (rule_states sys chain (suc c) (suc j) a)
+  rule_taken a below v is =
       let won = win sys chain.keep (drop c chain.stages) v in
       let count = met_count sys chain.keep (drop c chain.stages) v in
       let acts = λ (s : List SetOfVectors). is_action a (action_towards sys chain.keep s v) in
-      ap (λ (f : SetOfVectors). f v) (more.sets a below below)
-      ∙ ap (λ (f : SetOfVectors). f v && states_at m (t + a) v) (rest_states start x m 4 3 (met_place j) first)
-      ∙ ap (λ b. (b && not (states_at x (met_place j) v)) && states_at m (t + a) v) (h.rest v is)
-      ∙ ap (λ b. (from_stage sys chain c j v && not b) && states_at m (t + a) v) (mets v is)
-      ∙ ap (λ b. b && states_at m (t + a) v) (at_this sys chain c j from v)
-      ∙ ap (λ b. (won && (c + count == j)) && b) (still_has.taken j a (omega arith) few below v is)
-      ∙ drop_won won (c + count == j) (win sys chain.keep (drop j chain.stages) v) (acts (drop j chain.stages)) (won_this sys chain c j from v)
+      let few = h.few in
+      ap (λ b. b && states_at x (t + a) v) (h.turning v is)
+      ∙ ap (λ b. (won && (c + count == j)) && b) (h.table.takers.taken j a (omega arith) few below v is)
+      ∙ drop_won won (c + count == j) (win sys chain.keep (drop j chain.stages) v) (acts (drop j chain.stages)) (won_this sys chain c j h.from v)
       ∙ ap (λ b. won && (b && acts (drop j chain.stages))) (same_number count)
       ∙ ap (λ (s : List SetOfVectors). win sys chain.keep s v && ((suc c + met_count sys chain.keep s v == suc j) && acts (drop j chain.stages))) (sym first_stages)
       ∙ ap (λ (s : List SetOfVectors). win_at sys chain (suc c) v && ((advance sys chain (suc c) v == suc j) && acts s)) (sym these_stages)
 
-  pub has_rule_states : HasRuleStates start y chain c j
-  has_rule_states = record {
+  pub has_rule_states : (y : Scene) → Chooses start x y t (rules_place (action_count start.task) start.stages) (action_count start.task) → HasRuleStates start y chain c j
+  has_rule_states y more = record {
     table = record {
-      stages = table.stages;
-      takers = has_beside start m y chain (suc start.stages) still_has more.changed;
-      covered = table.covered;
+      stages = h.table.stages;
+      takers = has_beside start x y chain (suc start.stages) h.table.takers more.changed;
+      covered = h.table.covered;
     };
-    sets = rule_states_at;
+    sets = λ a below v is. ap (λ (f : SetOfVectors). f v) (more.sets a below below) ∙ rule_taken a below v is;
+  }
+
+  pub action_rules : (y : Scene) (before after : List ContextRule) (a : ℕ) → a < action_count start.task → Moved start x y 2 (and_of (set_at x.0.sets x.1 4) (set_at x.0.sets x.1 (t + a)))
+      → after ≡ before ++ rules_for (fluent_count start.task) (suc c) (suc j) a (states_at y 2) → ListsTurning start y chain before after c j (rules_of_action sys chain (suc c) (suc j) a)
+  action_rules y before after a below m more = record {
+    turning = turning_still start x y chain c j _ h m;
+    listed =
+        more
+        ∙ ap (λ cubes. before ++ map (rule_for (suc c) (suc j) a) cubes)
+        (cubes_agree (fluent_count start.task) 0 (states_at y 2) (rule_states sys chain (suc c) (suc j) a)
+        (λ v is. ap (λ (f : SetOfVectors). f v) (met_states start x y 2 4 (t + a) m) ∙ rule_taken a below v is));
   }
 
 -- as the code has it: by the places that it computed
-pub rule_states_made : (start : Start) (x w m y : Scene) (chain : Chained) (c j met takers place n : ℕ) → HasTable start w chain → c ≤ j → j ≤ start.stages → met ≡ met_place j → takers ≡ takers_place (action_count start.task) start.stages j → place ≡ rules_place (action_count start.task) start.stages → n ≡ action_count start.task
-    → HasRest start x chain c j → Moved start x m 4 (minus_of (set_at x.0.sets x.1 3) (set_at x.0.sets x.1 met)) → Chooses start m y takers place n → HasRuleStates start y chain c j
-rule_states_made start x w m y chain c j met takers place n table from few is_met is_takers is_place is_n h first more =
-    has_rule_states start x m y chain c j (record { stages = table.stages; takers = h.has; covered = table.covered }) from few h
-    (subst (λ k. Moved start x m 4 (minus_of (set_at x.0.sets x.1 3) (set_at x.0.sets x.1 k))) is_met first)
-    (subst (λ k. Chooses start m y (takers_place (action_count start.task) start.stages j) (rules_place (action_count start.task) start.stages) k) is_n
-    (subst (λ k. Chooses start m y (takers_place (action_count start.task) start.stages j) k n) is_place
-    (subst (λ k. Chooses start m y k place n) is_takers more)))
+pub rule_states_made : (start : Start) (x y : Scene) (chain : Chained) (c j takers place n : ℕ) → takers ≡ takers_place (action_count start.task) start.stages j → place ≡ rules_place (action_count start.task) start.stages → n ≡ action_count start.task
+    → HasTurning start x chain c j → Chooses start x y takers place n → HasRuleStates start y chain c j
+rule_states_made start x y chain c j takers place n is_takers is_place is_n h more =
+    has_rule_states start x chain c j h y
+    (subst (λ k. Chooses start x y (takers_place (action_count start.task) start.stages j) (rules_place (action_count start.task) start.stages) k) is_n
+    (subst (λ k. Chooses start x y (takers_place (action_count start.task) start.stages j) k n) is_place
+    (subst (λ k. Chooses start x y k place n) is_takers more)))
+
+pub action_listed : (start : Start) (x y : Scene) (chain : Chained) (before after : List ContextRule) (c j takers place a c' j' : ℕ) → a < action_count start.task → takers ≡ takers_place (action_count start.task) start.stages j → place ≡ takers + a → c' ≡ suc c → j' ≡ suc j → HasTurning start x chain c j
+    → Moved start x y 2 (and_of (set_at x.0.sets x.1 4) (set_at x.0.sets x.1 place)) → after ≡ before ++ rules_for (fluent_count start.task) c' j' a (states_at y 2) → ListsTurning start y chain before after c j (rules_of_action (sys_of start) chain (suc c) (suc j) a)
+action_listed start x y chain before after c j takers place a c' j' below is_takers is_place is_c is_j h m more =
+    action_rules start x chain c j h y before after a below
+    (subst (λ k. Moved start x y 2 (and_of (set_at x.0.sets x.1 4) (set_at x.0.sets x.1 k))) (is_place ∙ ap (λ k. k + a) is_takers) m)
+    (more ∙ ap (λ k. before ++ rules_for (fluent_count start.task) k j' a (states_at y 2)) is_c ∙ ap (λ k. before ++ rules_for (fluent_count start.task) (suc c) k a (states_at y 2)) is_j)
+
+-- the rules of no action, of one more, and of all
+pub actions_none : (start : Start) (x : Scene) (chain : Chained) (rules : List ContextRule) (c j : ℕ) → HasTurning start x chain c j → ListsTurning start x chain rules rules c j (flat_map (rules_of_action (sys_of start) chain (suc c) (suc j)) (range_with_len 0 0))
+actions_none start x chain rules c j h = record { turning = h; listed = sym (append-nil rules) }
+
+pub actions_more : (start : Start) (x y : Scene) (chain : Chained) (before mid after : List ContextRule) (c j n : ℕ) → ListsTurning start x chain before mid c j (flat_map (rules_of_action (sys_of start) chain (suc c) (suc j)) (range_with_len 0 n))
+    → ListsTurning start y chain mid after c j (rules_of_action (sys_of start) chain (suc c) (suc j) n) → ListsTurning start y chain before after c j (flat_map (rules_of_action (sys_of start) chain (suc c) (suc j)) (range_with_len 0 (n + 1)))
+actions_more start x y chain before mid after c j n h more =
+    let f = rules_of_action (sys_of start) chain (suc c) (suc j) in
+    record {
+      turning = more.turning;
+      listed =
+          more.listed
+          ∙ ap (λ rules. rules ++ f n) h.listed
+          ∙ append_assoc before (flat_map f (range_with_len 0 n)) (f n)
+          ∙ ap (λ k. before ++ (flat_map f (range_with_len 0 n) ++ f k)) (let e : n ≡ 0 + n = omega arith in e)
+          ∙ ap (λ rules. before ++ rules) (flat_more f 0 n);
+    }
+
+pub actions_all : (start : Start) (x : Scene) (chain : Chained) (before after : List ContextRule) (c j n : ℕ) → n ≡ action_count start.task → ListsTurning start x chain before after c j (flat_map (rules_of_action (sys_of start) chain (suc c) (suc j)) (range_with_len 0 n))
+    → ListsTurning start x chain before after c j (rules_of_next (sys_of start) chain (suc c) (suc j))
+actions_all start x chain before after c j n e h =
+    subst (λ k. ListsTurning start x chain before after c j (flat_map (rules_of_action (sys_of start) chain (suc c) (suc j)) (range_with_len 0 k))) e h
 
 -- the rules of one next context more
-pub stages_more : (start : Start) (y : Scene) (chain : Chained) (before mid after : List ContextRule) (c j : ℕ) → c ≤ j → mid ≡ before ++ flat_map (rules_of_next (sys_of start) chain (suc c)) (range_with_len (suc c) (j - c)) → HasRuleStates start y chain c j
-    → after ≡ mid ++ rules_of_places start y (suc c) (suc j) (rules_place (action_count start.task) start.stages) (action_count start.task) → ListsStages start y chain before after c (j + 1)
-stages_more start y chain before mid after c j from h states more =
+pub stages_more : (start : Start) (y : Scene) (chain : Chained) (before mid after : List ContextRule) (c j : ℕ) → c ≤ j → mid ≡ before ++ flat_map (rules_of_next (sys_of start) chain (suc c)) (range_with_len (suc c) (j - c))
+    → ListsTurning start y chain mid after c j (rules_of_next (sys_of start) chain (suc c) (suc j)) → ListsStages start y chain before after c (j + 1)
+stages_more start y chain before mid after c j from h more =
     let sys = sys_of start in
-    let p = rules_place (action_count start.task) start.stages in
-    let here : ℕ → List ContextRule = λ a. rules_for (fluent_count start.task) (suc c) (suc j) a (states_at y (p + a)) in
-    let listed_here : flat_map here (range_with_len 0 (action_count start.task)) ≡ rules_of_next sys chain (suc c) (suc j) =
-    flat_agree here (rules_of_action sys chain (suc c) (suc j)) (range_with_len 0 (action_count start.task))
-    (λ a at.
-    ap (map (rule_for (suc c) (suc j) a))
-    (cubes_agree (fluent_count start.task) 0 (states_at y (p + a)) (rule_states sys chain (suc c) (suc j) a)
-    (λ v is. states.sets a (Contains-range_with_len-below (action_count start.task) a at) v is))) in
     record {
-      table = states.table;
+      table = more.turning.table;
       listed =
-          more
-          ∙ ap (λ rules. mid ++ rules) listed_here
+          more.listed
           ∙ ap (λ rules. rules ++ rules_of_next sys chain (suc c) (suc j)) h
           ∙ append_assoc before (flat_map (rules_of_next sys chain (suc c)) (range_with_len (suc c) (j - c))) (rules_of_next sys chain (suc c) (suc j))
           ∙ ap (λ k. before ++ (flat_map (rules_of_next sys chain (suc c)) (range_with_len (suc c) (j - c)) ++ rules_of_next sys chain (suc c) k)) (let e : suc j ≡ suc c + (j - c) = omega arith in e)
           ∙ ap (λ rules. before ++ rules) (flat_more (rules_of_next sys chain (suc c)) (suc c) (j - c))
           ∙ ap (λ k. before ++ flat_map (rules_of_next sys chain (suc c)) (range_with_len (suc c) k)) (let e : (j - c) + 1 ≡ (j + 1) - c = omega arith in e);
     }
-
--- as the code has it
-pub stage_listed : (start : Start) (y : Scene) (chain : Chained) (before mid after : List ContextRule) (c j place actions c' j' : ℕ) → c ≤ j → place ≡ rules_place (action_count start.task) start.stages → actions ≡ action_count start.task → c' ≡ suc c → j' ≡ suc j
-    → mid ≡ before ++ flat_map (rules_of_next (sys_of start) chain (suc c)) (range_with_len (suc c) (j - c)) → HasRuleStates start y chain c j → after ≡ mid ++ rules_of_places start y c' j' place actions → ListsStages start y chain before after c (j + 1)
-stage_listed start y chain before mid after c j place actions c' j' from is_place is_actions is_c is_j h states more =
-    stages_more start y chain before mid after c j from h states
-    (more
-    ∙ ap (λ k. mid ++ rules_of_places start y k j' place actions) is_c
-    ∙ ap (λ k. mid ++ rules_of_places start y (suc c) k place actions) is_j
-    ∙ ap (λ k. mid ++ rules_of_places start y (suc c) (suc j) k actions) is_place
-    ∙ ap (λ k. mid ++ rules_of_places start y (suc c) (suc j) (rules_place (action_count start.task) start.stages) k) is_actions)
 
 -- no next context yet
 pub stages_none : (start : Start) (x : Scene) (chain : Chained) (rules : List ContextRule) (c : ℕ) → HasTable start x chain → ListsStages start x chain rules rules c c

@@ -19,7 +19,8 @@ use Rattle.task_core.specs.Systems.{IsVector}
 use Rattle.task_core.specs.Tasks.{action_count}
 use Rattle.task_core.specs.Vectors.{Vector, value_of}
 use Rattle.chain_plan.specs.Scenes.{IsReady, Moved, Scene, SameStates, Start, Worked, board_of, states_at, sys_of}
-use Rattle.chain_plan.specs.Steps.{AddsHits, Climbs, HitsAmong, LeadsAmong, OnlyHits, Shared, first_lead, hits_by}
+use Rattle.chain_plan.specs.Rounds.{first_lead, hits_by}
+use Rattle.chain_plan.specs.Steps.{AddsHits, Climbs, HitsAmong, LeadsAmong, OnlyHits, Shared}
 use Rattle.chain_plan.specs.declared.rounds.Way.{Way}
 use Rattle.chain_plan.specs.declared.rounds.Way.TheVariants.{Growing, Shrinking}
 use Rattle.chain_plan.proofs.RoundSteps.{any_more}

@@ -10,7 +10,8 @@ use Rattle.plan_theory.proofs.Towards.{earlier-met, met_count-few, met_count-mor
 use Rattle.task_core.specs.Cubes.{SetOfVectors}
 use Rattle.task_core.specs.Systems.{System}
 use Rattle.task_core.specs.Vectors.{Vector}
-use Rattle.chain_plan.specs.Steps.{from_stage, met_first}
+use Rattle.chain_plan.specs.Rounds.{from_stage}
+use Rattle.chain_plan.specs.WorkingSets.{met_first}
 
 module _ (sys : System) (keep : SetOfVectors) (v : Vector) where
   -- the first of the stages from k on is met where more than k stages are met, and the other way

@@ -11,7 +11,9 @@ use Rattle.plan_theory.specs.LayerPlans.{is_action}
 use Rattle.task_core.specs.Cubes.{SetOfVectors}
 use Rattle.task_core.specs.Tasks.{action_count}
 use Rattle.chain_plan.specs.Scenes.{Changed, IsAt, SameStates, Scene, Start, met_place, states_at, sys_of, takers_place, win_place}
-use Rattle.chain_plan.specs.Steps.{Climbed, EndTaken, HasTakers, HasWins, Won, met_first, takers_of}
+use Rattle.chain_plan.specs.Sizes.{ChainFits}
+use Rattle.chain_plan.specs.Steps.{Climbed, EndTaken, HasTakers, HasWins, Won, takers_of}
+use Rattle.chain_plan.specs.WorkingSets.{met_first}
 use Rattle.chain_plan.proofs.SceneSteps.{long_enough}
 use Rattle.chain_plan.proofs.StageLemmas.{first_same, stage_action_same, stage_set_same}
 use Rattle.chain_plan.proofs.WinSteps.{drop_none, drop_one}
@@ -66,6 +68,7 @@ module _ (start : Start) (x y : Scene) (chain : Chained) (i : ℕ) (few : i ≤ 
   pub takers_more : ((a : ℕ) → a < A → SameStates start (states_at y (takers_place A n i + a)) (λ v. states_at x (takers_place A n i + a) v || takers_of (sys_of start) chain.keep (drop i chain.stages) a v)) → HasTakers start y chain (suc i)
   takers_more here = record {
     ready = changed.ready;
+    fits = h.fits;
     won = won_still;
     last = last_still;
     taken = λ j a less low below.
@@ -116,9 +119,10 @@ last_taken start x y chain long h c =
     ∙ ap (λ (stages : List SetOfVectors). states_at x (t + a) v || takers_of sys chain.keep stages a v) (sym is_end))
 
 -- at the beginning none is taken
-pub takers_none : (start : Start) (x y : Scene) (chain : Chained) → ((k : ℕ) → 8 ≤ k → k < length x.1 → SameStates start (states_at x k) (λ v. false)) → length y.1 ≡ length x.1 → HasWins start x y chain 0 → HasTakers start y chain 0
-takers_none start x y chain blank same h = record {
+pub takers_none : (start : Start) (x y : Scene) (chain : Chained) → ChainFits start chain → ((k : ℕ) → 8 ≤ k → k < length x.1 → SameStates start (states_at x k) (λ v. false)) → length y.1 ≡ length x.1 → HasWins start x y chain 0 → HasTakers start y chain 0
+takers_none start x y chain fits blank same h = record {
   ready = h.changed.ready;
+  fits = fits;
   won = h.won;
   last = λ v is.
       let w = long_enough start y h.changed.ready.at (met_place start.stages) (omega arith) in
@@ -127,7 +131,7 @@ takers_none start x y chain blank same h = record {
   taken = λ j a less low below. absurd (omega arith);
   untaken = λ j a from low below v is.
       let t = takers_place (action_count start.task) start.stages j in
-      let fits = takers_within start y h.changed.ready.at j (omega arith) in
+      let long = takers_within start y h.changed.ready.at j (omega arith) in
       ap (λ (f : SetOfVectors). f v) (h.changed.kept (t + a) (omega arith) (omega arith) (inr (omega arith)))
       ∙ blank (t + a) (omega arith) (omega arith) v is;
 }

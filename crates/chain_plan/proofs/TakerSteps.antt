@@ -12,10 +12,11 @@ use Rattle.plan_theory.specs.Layers.{action_numbers, must_lead}
 use Rattle.plan_theory.specs.LayerPlans.{is_action}
 use Rattle.task_core.specs.Cubes.{SetOfVectors}
 use Rattle.task_core.specs.Tasks.{action_count, fluent_count}
-use Rattle.task_core.specs.Vectors.{Vector, value_of}
+use Rattle.task_core.specs.Vectors.{value_of}
 use Rattle.task_core.proofs.TaskSystem.{is_system}
 use Rattle.chain_plan.specs.Scenes.{IsReady, Moved, SameStates, Scene, Start, states_at, sys_of}
-use Rattle.chain_plan.specs.Steps.{Climbed, ClimbedFrom, Climbs, EndTaken, HasClimbed, Shared, first_lead, turn, turn_by}
+use Rattle.chain_plan.specs.Rounds.{first_lead, turn, turn_by}
+use Rattle.chain_plan.specs.Steps.{Climbed, ClimbedFrom, Climbs, EndTaken, HasClimbed, Shared}
 use Rattle.chain_plan.specs.declared.rounds.Way.TheVariants.{Growing}
 use Rattle.chain_plan.proofs.RoundSteps.{any_more, fewer_left, left_over, turn_same}
 use Rattle.chain_plan.proofs.SceneSteps.{changed_chain, copied_states, joined_states, led_states, met_states, moved_changed, moved_low, moved_other, moved_worked, rest_states, same_length, worked_chain, worked_changed}
@@ -43,13 +44,53 @@ turned true false true = refl
 turned true false false = refl
 turned false s t = refl
 
-left : (r s t : Bool) → ((r && not s) && not ((r && not s) && t)) ≡ (r && not (s || t))
+left : (r s t : Bool) → ((r && not s) && not (r && (t && not s))) ≡ (r && not (s || t))
 left true true t = refl
 left true false true = refl
 left true false false = refl
 left false s t = refl
 
--- one action more
+-- one action more: the states that take it, step by step
+module _ (start : Start) (x w one : Scene) (takers a : ℕ) (high : 8 ≤ takers) (fits : takers + action_count start.task ≤ length w.1) (below : a < action_count start.task) (h : Shared start x w takers a)
+    (first : Moved start w one 2 (led Outcomes.Every start.task a (set_at w.0.sets w.1 0))) where
+  pub share_met : SameStates start (λ v. states_at one 3 v && states_at one 2 v) (first_lead (sys_of start) (states_at x 0) (states_at x 3) a)
+  share_met v is =
+      ap (λ (f : SetOfVectors). f v && states_at one 2 v) (moved_low start w one 2 _ first 3 (omega arith) (λ e. absurd (omega arith)))
+      ∙ ap (λ b. b && states_at one 2 v) (h.rest v is)
+      ∙ ap (λ b. (states_at x 3 v && not (list_any (must_lead (sys_of start) (states_at x 0) v) (range_with_len 0 a))) && b)
+      (led_states start w one 2 a 0 h.changed.ready first v is ∙ ap (λ (f : SetOfVectors). must_lead (sys_of start) f v a) h.near)
+      ∙ turned (states_at x 3 v) (list_any (must_lead (sys_of start) (states_at x 0) v) (range_with_len 0 a)) (must_lead (sys_of start) (states_at x 0) v a)
+      ∙ ap (λ b. states_at x 3 v && b) (first_is (must_lead (sys_of start) (states_at x 0) v) (action_count start.task) a below)
+
+  module _ (two : Scene) (second : Moved start one two 2 (and_of (set_at one.0.sets one.1 3) (set_at one.0.sets one.1 2))) where
+    share_two : SameStates start (states_at two 2) (first_lead (sys_of start) (states_at x 0) (states_at x 3) a)
+    share_two v is = ap (λ (f : SetOfVectors). f v) (met_states start one two 2 3 2 second) ∙ share_met v is
+
+    pub share_joined : SameStates start (λ v. states_at two (takers + a) v || states_at two 2 v) (λ v. states_at x (takers + a) v || first_lead (sys_of start) (states_at x 0) (states_at x 3) a v)
+    share_joined v is =
+        let e1 : length one.1 ≡ length w.1 = same_length start w one h.changed.ready.at first.at in
+        let e2 : length two.1 ≡ length w.1 = same_length start w two h.changed.ready.at second.at in
+        ap (λ (f : SetOfVectors). f v || states_at two 2 v)
+        (moved_other start one two 2 _ second (takers + a) (omega arith) (λ e. absurd (omega arith))
+        ∙ moved_other start w one 2 _ first (takers + a) (omega arith) (λ e. absurd (omega arith))
+        ∙ h.later a below (omega arith))
+        ∙ ap (λ b. states_at x (takers + a) v || b) (share_two v is)
+
+    module _ (three : Scene) (third : Moved start two three (takers + a) (or_of (set_at two.0.sets two.1 (takers + a)) (set_at two.0.sets two.1 2))) where
+      pub share_left : SameStates start (λ v. states_at three 3 v && not (states_at three 2 v)) (λ v. states_at x 3 v && not (list_any (must_lead (sys_of start) (states_at x 0) v) (range_with_len 0 (a + 1))))
+      share_left v is =
+          ap (λ (f : SetOfVectors). f v && not (states_at three 2 v))
+          (moved_low start two three (takers + a) _ third 3 (omega arith) (λ e. absurd (omega arith))
+          ∙ moved_low start one two 2 _ second 3 (omega arith) (λ e. absurd (omega arith))
+          ∙ moved_low start w one 2 _ first 3 (omega arith) (λ e. absurd (omega arith)))
+          ∙ ap (λ b. b && not (states_at three 2 v)) (h.rest v is)
+          ∙ ap (λ (f : SetOfVectors). (states_at x 3 v && not (list_any (must_lead (sys_of start) (states_at x 0) v) (range_with_len 0 a))) && not (f v)) (moved_low start two three (takers + a) _ third 2 (omega arith) (λ e. absurd (omega arith)))
+          ∙ ap (λ b. (states_at x 3 v && not (list_any (must_lead (sys_of start) (states_at x 0) v) (range_with_len 0 a))) && not b) (share_two v is)
+          ∙ ap (λ b. (states_at x 3 v && not (list_any (must_lead (sys_of start) (states_at x 0) v) (range_with_len 0 a))) && not (states_at x 3 v && b)) (sym (first_is (must_lead (sys_of start) (states_at x 0) v) (action_count start.task) a below))
+          ∙ left (states_at x 3 v) (list_any (must_lead (sys_of start) (states_at x 0) v) (range_with_len 0 a)) (must_lead (sys_of start) (states_at x 0) v a)
+          ∙ ap (λ b. states_at x 3 v && not b) (any_more (must_lead (sys_of start) (states_at x 0) v) a)
+
+-- and then
 module _ (start : Start) (x w one two three last : Scene) (takers a : ℕ) (high : 8 ≤ takers) (fits : takers + action_count start.task ≤ length w.1) (below : a < action_count start.task) (h : Shared start x w takers a)
     (first : Moved start w one 2 (led Outcomes.Every start.task a (set_at w.0.sets w.1 0)))
     (second : Moved start one two 2 (and_of (set_at one.0.sets one.1 3) (set_at one.0.sets one.1 2)))
@@ -75,47 +116,17 @@ module _ (start : Start) (x w one two three last : Scene) (takers a : ℕ) (high
       ∙ moved_other start one two 2 _ second k (omega arith) b
       ∙ moved_other start w one 2 _ first k (omega arith) b
 
-  abbrev p : Vector → ℕ → Bool
-  p v = must_lead (sys_of start) (states_at x 0) v
-
-  -- the states that take it
-  abbrev hits : SetOfVectors
-  hits v = (states_at x 3 v && not (list_any (p v) (range_with_len 0 a))) && p v a
-
-  hits_two : SameStates start (states_at two 2) hits
-  hits_two v is =
-      ap (λ (f : SetOfVectors). f v) (met_states start one two 2 3 2 second)
-      ∙ ap (λ (f : SetOfVectors). f v && states_at one 2 v) (moved_low start w one 2 _ first 3 (omega arith) (λ e. absurd (omega arith)))
-      ∙ ap (λ b. b && states_at one 2 v) (h.rest v is)
-      ∙ ap (λ b. (states_at x 3 v && not (list_any (must_lead (sys_of start) (states_at x 0) v) (range_with_len 0 a))) && b)
-      (led_states start w one 2 a 0 h.changed.ready first v is ∙ ap (λ (f : SetOfVectors). must_lead (sys_of start) f v a) h.near)
-
   here : SameStates start (states_at last (takers + a)) (λ v. states_at x (takers + a) v || first_lead (sys_of start) (states_at x 0) (states_at x 3) a v)
   here v is =
       let e1 = long_one in let e2 = long_two in let e3 = long_three in let e4 = long_last in
       ap (λ (f : SetOfVectors). f v) (moved_other start three last 3 _ fourth (takers + a) (omega arith) (λ e. absurd (omega arith)))
       ∙ ap (λ (f : SetOfVectors). f v) (joined_states start two three (takers + a) (takers + a) 2 third)
-      ∙ ap (λ (f : SetOfVectors). f v || states_at two 2 v)
-      (moved_other start one two 2 _ second (takers + a) (omega arith) (λ e. absurd (omega arith))
-      ∙ moved_other start w one 2 _ first (takers + a) (omega arith) (λ e. absurd (omega arith))
-      ∙ h.later a below (omega arith))
-      ∙ ap (λ b. states_at x (takers + a) v || b)
-      (hits_two v is
-      ∙ turned (states_at x 3 v) (list_any (must_lead (sys_of start) (states_at x 0) v) (range_with_len 0 a)) (must_lead (sys_of start) (states_at x 0) v a)
-      ∙ ap (λ b. states_at x 3 v && b) (first_is (must_lead (sys_of start) (states_at x 0) v) (action_count start.task) a below))
+      ∙ share_joined start x w one takers a high fits below h first two second v is
 
   rest_now : SameStates start (states_at last 3) (λ v. states_at x 3 v && not (list_any (must_lead (sys_of start) (states_at x 0) v) (range_with_len 0 (a + 1))))
   rest_now v is =
       ap (λ (f : SetOfVectors). f v) (rest_states start three last 3 3 2 fourth)
-      ∙ ap (λ (f : SetOfVectors). f v && not (states_at three 2 v))
-      (moved_low start two three (takers + a) _ third 3 (omega arith) (λ e. absurd (omega arith))
-      ∙ moved_low start one two 2 _ second 3 (omega arith) (λ e. absurd (omega arith))
-      ∙ moved_low start w one 2 _ first 3 (omega arith) (λ e. absurd (omega arith)))
-      ∙ ap (λ b. b && not (states_at three 2 v)) (h.rest v is)
-      ∙ ap (λ (f : SetOfVectors). (states_at x 3 v && not (list_any (must_lead (sys_of start) (states_at x 0) v) (range_with_len 0 a))) && not (f v)) (moved_low start two three (takers + a) _ third 2 (omega arith) (λ e. absurd (omega arith)))
-      ∙ ap (λ b. (states_at x 3 v && not (list_any (must_lead (sys_of start) (states_at x 0) v) (range_with_len 0 a))) && not b) (hits_two v is)
-      ∙ left (states_at x 3 v) (list_any (must_lead (sys_of start) (states_at x 0) v) (range_with_len 0 a)) (must_lead (sys_of start) (states_at x 0) v a)
-      ∙ ap (λ b. states_at x 3 v && not b) (any_more (must_lead (sys_of start) (states_at x 0) v) a)
+      ∙ share_left start x w one takers a high fits below h first two second three third v is
 
   pub shared_more : Shared start x last takers (a + 1)
   shared_more = record {
@@ -171,7 +182,49 @@ joined : (r s t : Bool) → ((r || s) || t) ≡ (r || (s || t))
 joined true s t = refl
 joined false s t = refl
 
--- one action more
+-- one action more: the states that are found, step by step
+module _ (start : Start) (x w one : Scene) (takers a : ℕ) (high : 8 ≤ takers) (fits : takers + action_count start.task ≤ length w.1) (below : a < action_count start.task) (h : Climbs start x w takers a)
+    (first : Moved start w one 2 (led Outcomes.Every start.task a (set_at w.0.sets w.1 0))) where
+  pub climb_hit : SameStates start (states_at one 2) (λ v. must_lead (sys_of start) (states_at x 0) v a)
+  climb_hit v is = led_states start w one 2 a 0 h.changed.ready first v is ∙ ap (λ (f : SetOfVectors). must_lead (sys_of start) f v a) h.near
+
+  module _ (two : Scene) (second : Moved start one two 4 (minus_of (set_at one.0.sets one.1 2) (set_at one.0.sets one.1 1))) where
+    -- those of them that are new take the action
+    climb_new : SameStates start (states_at two 4) (first_lead (sys_of start) (states_at x 0) (λ u. not (states_at x 0 u)) a)
+    climb_new v is =
+        ap (λ (f : SetOfVectors). f v) (rest_states start one two 4 2 1 second)
+        ∙ ap (λ (f : SetOfVectors). states_at one 2 v && not (f v)) (moved_low start w one 2 _ first 1 (omega arith) (λ e. absurd (omega arith)))
+        ∙ ap (λ b. b && not (states_at w 1 v)) (climb_hit v is)
+        ∙ ap (λ b. must_lead (sys_of start) (states_at x 0) v a && not b) (h.next v is)
+        ∙ new_ones (states_at x 0 v) (list_any (must_lead (sys_of start) (states_at x 0) v) (range_with_len 0 a)) (must_lead (sys_of start) (states_at x 0) v a)
+        ∙ ap (λ b. not (states_at x 0 v) && b) (first_is (must_lead (sys_of start) (states_at x 0) v) (action_count start.task) a below)
+
+    pub climb_joined : SameStates start (λ v. states_at two (takers + a) v || states_at two 4 v) (λ v. states_at x (takers + a) v || first_lead (sys_of start) (states_at x 0) (λ u. not (states_at x 0 u)) a v)
+    climb_joined v is =
+        let e1 : length one.1 ≡ length w.1 = same_length start w one h.changed.ready.at first.at in
+        let e2 : length two.1 ≡ length w.1 = same_length start w two h.changed.ready.at second.at in
+        ap (λ (f : SetOfVectors). f v || states_at two 4 v)
+        (moved_other start one two 4 _ second (takers + a) (omega arith) (λ e. absurd (omega arith))
+        ∙ moved_other start w one 2 _ first (takers + a) (omega arith) (λ e. absurd (omega arith))
+        ∙ h.later a below (omega arith))
+        ∙ ap (λ b. states_at x (takers + a) v || b) (climb_new v is)
+
+    module _ (three : Scene) (third : Moved start two three (takers + a) (or_of (set_at two.0.sets two.1 (takers + a)) (set_at two.0.sets two.1 4))) where
+      pub climb_widened : SameStates start (λ v. states_at three 1 v || states_at three 2 v) (turn_by Growing (sys_of start) (states_at x 0) (a + 1))
+      climb_widened v is =
+          ap (λ (f : SetOfVectors). f v || states_at three 2 v)
+          (moved_low start two three (takers + a) _ third 1 (omega arith) (λ e. absurd (omega arith))
+          ∙ moved_low start one two 4 _ second 1 (omega arith) (λ e. absurd (omega arith))
+          ∙ moved_low start w one 2 _ first 1 (omega arith) (λ e. absurd (omega arith)))
+          ∙ ap (λ (f : SetOfVectors). states_at w 1 v || f v)
+          (moved_low start two three (takers + a) _ third 2 (omega arith) (λ e. absurd (omega arith))
+          ∙ moved_low start one two 4 _ second 2 (omega arith) (λ e. absurd (omega arith)))
+          ∙ ap (λ b. states_at w 1 v || b) (climb_hit v is)
+          ∙ ap (λ b. b || must_lead (sys_of start) (states_at x 0) v a) (h.next v is)
+          ∙ joined (states_at x 0 v) (list_any (must_lead (sys_of start) (states_at x 0) v) (range_with_len 0 a)) (must_lead (sys_of start) (states_at x 0) v a)
+          ∙ ap (λ b. states_at x 0 v || b) (any_more (must_lead (sys_of start) (states_at x 0) v) a)
+
+-- and then
 module _ (start : Start) (x w one two three last : Scene) (takers a : ℕ) (high : 8 ≤ takers) (fits : takers + action_count start.task ≤ length w.1) (below : a < action_count start.task) (h : Climbs start x w takers a)
     (first : Moved start w one 2 (led Outcomes.Every start.task a (set_at w.0.sets w.1 0)))
     (second : Moved start one two 4 (minus_of (set_at one.0.sets one.1 2) (set_at one.0.sets one.1 1)))
@@ -197,44 +250,17 @@ module _ (start : Start) (x w one two three last : Scene) (takers a : ℕ) (high
       ∙ moved_other start one two 4 _ second k (omega arith) d
       ∙ moved_other start w one 2 _ first k (omega arith) c
 
-  hits_one : SameStates start (states_at one 2) (λ v. must_lead (sys_of start) (states_at x 0) v a)
-  hits_one v is = led_states start w one 2 a 0 h.changed.ready first v is ∙ ap (λ (f : SetOfVectors). must_lead (sys_of start) f v a) h.near
-
-  -- those of them that are new take the action
-  new_two : SameStates start (states_at two 4) (first_lead (sys_of start) (states_at x 0) (λ u. not (states_at x 0 u)) a)
-  new_two v is =
-      ap (λ (f : SetOfVectors). f v) (rest_states start one two 4 2 1 second)
-      ∙ ap (λ (f : SetOfVectors). states_at one 2 v && not (f v)) (moved_low start w one 2 _ first 1 (omega arith) (λ e. absurd (omega arith)))
-      ∙ ap (λ b. b && not (states_at w 1 v)) (hits_one v is)
-      ∙ ap (λ b. must_lead (sys_of start) (states_at x 0) v a && not b) (h.next v is)
-      ∙ new_ones (states_at x 0 v) (list_any (must_lead (sys_of start) (states_at x 0) v) (range_with_len 0 a)) (must_lead (sys_of start) (states_at x 0) v a)
-      ∙ ap (λ b. not (states_at x 0 v) && b) (first_is (must_lead (sys_of start) (states_at x 0) v) (action_count start.task) a below)
-
   taken_here : SameStates start (states_at last (takers + a)) (λ v. states_at x (takers + a) v || first_lead (sys_of start) (states_at x 0) (λ u. not (states_at x 0 u)) a v)
   taken_here v is =
       let e1 = steps_one in let e2 = steps_two in let e3 = steps_three in let e4 = steps_last in
       ap (λ (f : SetOfVectors). f v) (moved_other start three last 1 _ fourth (takers + a) (omega arith) (λ e. absurd (omega arith)))
       ∙ ap (λ (f : SetOfVectors). f v) (joined_states start two three (takers + a) (takers + a) 4 third)
-      ∙ ap (λ (f : SetOfVectors). f v || states_at two 4 v)
-      (moved_other start one two 4 _ second (takers + a) (omega arith) (λ e. absurd (omega arith))
-      ∙ moved_other start w one 2 _ first (takers + a) (omega arith) (λ e. absurd (omega arith))
-      ∙ h.later a below (omega arith))
-      ∙ ap (λ b. states_at x (takers + a) v || b) (new_two v is)
+      ∙ climb_joined start x w one takers a high fits below h first two second v is
 
   next_now : SameStates start (states_at last 1) (turn_by Growing (sys_of start) (states_at x 0) (a + 1))
   next_now v is =
       ap (λ (f : SetOfVectors). f v) (joined_states start three last 1 1 2 fourth)
-      ∙ ap (λ (f : SetOfVectors). f v || states_at three 2 v)
-      (moved_low start two three (takers + a) _ third 1 (omega arith) (λ e. absurd (omega arith))
-      ∙ moved_low start one two 4 _ second 1 (omega arith) (λ e. absurd (omega arith))
-      ∙ moved_low start w one 2 _ first 1 (omega arith) (λ e. absurd (omega arith)))
-      ∙ ap (λ (f : SetOfVectors). states_at w 1 v || f v)
-      (moved_low start two three (takers + a) _ third 2 (omega arith) (λ e. absurd (omega arith))
-      ∙ moved_low start one two 4 _ second 2 (omega arith) (λ e. absurd (omega arith)))
-      ∙ ap (λ b. states_at w 1 v || b) (hits_one v is)
-      ∙ ap (λ b. b || must_lead (sys_of start) (states_at x 0) v a) (h.next v is)
-      ∙ joined (states_at x 0 v) (list_any (must_lead (sys_of start) (states_at x 0) v) (range_with_len 0 a)) (must_lead (sys_of start) (states_at x 0) v a)
-      ∙ ap (λ b. states_at x 0 v || b) (any_more (must_lead (sys_of start) (states_at x 0) v) a)
+      ∙ climb_widened start x w one takers a high fits below h first two second three third v is
 
   pub climbs_more : Climbs start x last takers (a + 1)
   climbs_more = record {

@@ -1,7 +1,14 @@
 -- The states of the contexts: of the last one, and from one to the one before.
 use Rattle.std.proofs.Common.{◌≡◌, ◌≢◌, ℕ, zero, suc, ◌+◌, ◌-◌, ◌*◌, ◌<◌, ◌≤◌, false, ◌&&◌, List, [], ◌∷◌, drop, length, map, slice_index_or, refl, sym, ap, subst, ◌∙◌, inr, ⊎_elim, arith}
 use Rattle.std.proofs.lemmas.Bool.{cases_eq}
+use Rattle.dd_nodes.specs.Subfunctions.{Function}
 use Rattle.dd_ops.specs.Operations.{and_of}
+use Rattle.dd_sets.specs.LiveSets.{set_of}
+use Rattle.dd_sets.specs.declared.slots.SetId.{SetId}
+use Rattle.encode_task.specs.Made.{Holds, MadeOf}
+use Rattle.encode_task.specs.Slots.{Encoded}
+use Rattle.encode_task.specs.TaskSets.{space_set}
+use Rattle.slot_board.proofs.BoardSlots.{made_at}
 use Rattle.slot_board.specs.Board.{set_at}
 use Rattle.plan_theory.specs.Chains.{Chained}
 use Rattle.plan_theory.specs.Safe.{safe_set}
@@ -9,25 +16,60 @@ use Rattle.plan_theory.specs.StageSets.{stage_set}
 use Rattle.plan_theory.specs.Wins.{met_set, win}
 use Rattle.task_core.specs.Conditions.{holds}
 use Rattle.task_core.specs.Cubes.{SetOfVectors}
-use Rattle.task_core.specs.Vectors.{Vector}
+use Rattle.task_core.specs.Tasks.{in_space}
+use Rattle.task_core.specs.Vectors.{Vector, value_of}
+use Rattle.task_core.specs.declared.tasks.Task.{Task}
+use Rattle.task_core.proofs.TaskSystem.{is_system}
 use Rattle.task_core.specs.declared.conditions.Cond.{Cond}
 use Rattle.ctl_syntax.specs.ChainValues.{states_of}
-use Rattle.chain_plan.specs.Scenes.{IsReady, Moved, SameStates, Scene, Start, met_place, states_at, sys_of, win_place}
-use Rattle.chain_plan.specs.Steps.{EndWon, HasLast, HasWins, StageMet, StageWon, met_by, met_first}
+use Rattle.chain_plan.specs.Scenes.{IsAt, IsReady, Moved, SameStates, Scene, Start, board_of, met_place, states_at, sys_of, win_place}
+use Rattle.chain_plan.specs.Steps.{EndWon, HasKept, HasLast, HasWins, StageMet, StageWon, met_by}
+use Rattle.chain_plan.specs.WorkingSets.{kept_states, met_first}
 use Rattle.chain_plan.specs.declared.rounds.Way.TheVariants.{Growing, Shrinking}
-use Rattle.chain_plan.proofs.SceneSteps.{changed_chain, changed_wider, copied_states, long_enough, moved_changed, moved_here, moved_other, same_length, worked_changed}
+use Rattle.chain_plan.proofs.SceneSteps.{changed_chain, changed_wider, copied_states, long_enough, met_states, moved_changed, moved_here, moved_other, moved_worked, same_length, worked_changed}
+use Rattle.chain_plan.proofs.KeptSteps.{safe_kept}
 use Rattle.chain_plan.proofs.StageLemmas.{stage_set_same}
 
-pub end_won : (start : Start) (x m k y : Scene) (place : ℕ) (cond : Cond) → Moved start x m place (holds cond) → HasLast Shrinking start m k (states_at m place) → Moved start k y place (set_at k.0.sets k.1 0) → EndWon start x y place cond
-end_won start x m k y place cond first h last = record {
+-- where a condition is to be kept: among the states
+pub space_holds : (task : Task) (enc : Encoded) (space : SetId) → MadeOf task enc → space ≡ enc.space → Holds enc.sets space (space_set task)
+space_holds task enc space made is = subst (λ s. Holds enc.sets s (space_set task)) (sym is) made.space
+
+pub kept_together : (start : Start) (x m k : Scene) (place : ℕ) (cond : Cond) (space : SetId) → 8 ≤ place → place < length x.1 → IsAt start x → space ≡ m.0.space → Moved start x m place (holds cond) → Moved start m k 0 (set_of m.0.sets space.0)
+    → (λ v. states_at k 0 v && states_at k place v) ≡ kept_states (sys_of start) (states_of cond)
+kept_together start x m k place cond space high within at is first second =
+    let long : length k.1 ≡ length x.1 = same_length start x k at second.at in
+    let holds_space = (space_holds start.task m.0 space (made_at (board_of start) m.0 m.1 first.at) is).holds in
+    ap {B = SetOfVectors} (λ (f : SetOfVectors) (v : Vector). f v && states_at k place v) (moved_here start m k 0 _ second ∙ ap {B = SetOfVectors} (λ (f : Function) (v : Vector). f (value_of v)) holds_space)
+    ∙ ap {B = SetOfVectors} (λ (f : SetOfVectors) (v : Vector). in_space start.task v && f v)
+    (moved_other start m k 0 _ second place (omega arith) (λ e. absurd (omega arith)) ∙ moved_here start x m place _ first)
+
+pub kept_here : (start : Start) (x m k y : Scene) (place : ℕ) (cond : Cond) (space : SetId) → 8 ≤ place → place < length x.1 → IsAt start x → space ≡ m.0.space → Moved start x m place (holds cond) → Moved start m k 0 (set_of m.0.sets space.0)
+    → Moved start k y place (and_of (set_at k.0.sets k.1 0) (set_at k.0.sets k.1 place)) → HasKept start x y place cond
+kept_here start x m k y place cond space high within at is first second third = record {
   changed =
       changed_chain start x m y place (place + 1) (moved_changed start x m place _ first place (place + 1) (omega arith) (omega arith))
+      (changed_chain start m k y place (place + 1) (worked_changed start m k place (place + 1) (moved_worked start m k 0 _ second (omega arith))) (moved_changed start k y place _ third place (place + 1) (omega arith) (omega arith)));
+  kept = met_states start k y place 0 place third ∙ kept_together start x m k place cond space high within at is first second;
+}
+
+pub end_won : (start : Start) (x m k y : Scene) (place : ℕ) (cond : Cond) → HasKept start x m place cond → HasLast Shrinking start m k (states_at m place) → Moved start k y place (set_at k.0.sets k.1 0) → EndWon start x y place cond
+end_won start x m k y place cond first h last = record {
+  changed =
+      changed_chain start x m y place (place + 1) first.changed
       (changed_chain start m k y place (place + 1) (worked_changed start m k place (place + 1) h.worked) (moved_changed start k y place _ last place (place + 1) (omega arith) (omega arith)));
   win = λ v is.
       ap (λ (f : SetOfVectors). f v) (copied_states start k y place 0 last)
       ∙ h.near v is
-      ∙ ap (λ (f : SetOfVectors). safe_set (sys_of start) f v) (moved_here start x m place _ first);
+      ∙ ap (λ (f : SetOfVectors). safe_set (sys_of start) f v) first.kept
+      ∙ safe_kept (sys_of start) (is_system start.task) (states_of cond) v;
 }
+
+-- where a stage is met
+pub stage_together : (start : Start) (x m : Scene) (place : ℕ) (cond : Cond) → place + 2 < length x.1 → IsReady start x → Moved start x m (place + 1) (holds cond) → (λ v. states_at m (place + 1) v && states_at m (place + 2) v) ≡ met_by x place cond
+stage_together start x m place cond within ready first =
+    let long : length m.1 ≡ length x.1 = same_length start x m ready.at first.at in
+    ap {B = SetOfVectors} (λ (f : SetOfVectors) (v : Vector). f v && states_at m (place + 2) v) (moved_here start x m (place + 1) _ first)
+    ∙ ap {B = SetOfVectors} (λ (f : SetOfVectors) (v : Vector). states_of cond v && f v) (moved_other start x m (place + 1) _ first (place + 2) (omega arith) (λ e. absurd (omega arith)))
 
 pub stage_met : (start : Start) (x m y : Scene) (place : ℕ) (cond : Cond) → place + 2 < length x.1 → IsReady start x → Moved start x m (place + 1) (holds cond) → Moved start m y (place + 1) (and_of (set_at m.0.sets m.1 (place + 1)) (set_at m.0.sets m.1 (place + 2)))
     → StageMet start x y place cond
@@ -37,10 +79,7 @@ stage_met start x m y place cond within ready first second =
       changed =
           changed_chain start x m y place (place + 2) (moved_changed start x m (place + 1) _ first place (place + 2) (omega arith) (omega arith))
           (moved_changed start m y (place + 1) _ second place (place + 2) (omega arith) (omega arith));
-      met =
-          moved_here start m y (place + 1) _ second
-          ∙ ap {B = SetOfVectors} (λ (f : SetOfVectors) (v : Vector). f v && states_at m (place + 2) v) (moved_here start x m (place + 1) _ first)
-          ∙ ap {B = SetOfVectors} (λ (f : SetOfVectors) (v : Vector). states_of cond v && f v) (moved_other start x m (place + 1) _ first (place + 2) (omega arith) (λ e. absurd (omega arith)));
+      met = moved_here start m y (place + 1) _ second ∙ stage_together start x m place cond within ready first;
     }
 
 pub stage_won : (start : Start) (x m k y : Scene) (place : ℕ) (cond : Cond) → 8 ≤ place → place + 2 < length x.1 → IsReady start x → StageMet start x m place cond → HasLast Growing start m k (states_at m (place + 1)) → Moved start k y place (set_at k.0.sets k.1 0)

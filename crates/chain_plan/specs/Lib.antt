@@ -1,6 +1,9 @@
 pub mod Chains
 pub mod Found
+pub mod WorkingSets
 pub mod Scenes
+pub mod Rounds
+pub mod Sizes
 pub mod Steps
 pub mod Tables
 pub mod Listing

@@ -1,13 +1,12 @@
 -- Private: which rules were listed.
-use Rattle.std.specs.Prelude.{◌≡◌, ℕ, suc, ◌+◌, ◌-◌, List, ◌++◌, map}
+use Rattle.std.specs.Prelude.{◌≡◌, ℕ, suc, ◌-◌, List, ◌++◌, map}
 use Rattle.std.specs.List.{flat_map, range_with_len}
 use Rattle.plan_theory.specs.Chains.{Chained}
 use Rattle.plan_theory.specs.ChainPrinted.{rules_of_next}
 use Rattle.plan_rules.specs.Rules.{ContextRule, always}
 use Rattle.task_core.specs.Cubes.{Cube, SetOfVectors, cubes_of}
-use Rattle.task_core.specs.Tasks.{fluent_count}
-use Rattle.chain_plan.specs.Scenes.{Scene, Start, states_at, sys_of}
-use Rattle.chain_plan.specs.Tables.{HasTable}
+use Rattle.chain_plan.specs.Scenes.{Scene, Start, sys_of}
+use Rattle.chain_plan.specs.Tables.{HasTable, HasTurning}
 
 -- the rule for a cube
 abbrev pub rule_for : ℕ → ℕ → ℕ → Cube → ContextRule
@@ -18,11 +17,12 @@ rule_for context next a cube =
 abbrev pub rules_for : ℕ → ℕ → ℕ → ℕ → SetOfVectors → List ContextRule
 rules_for fluents context next a set = map (rule_for context next a) (cubes_of fluents set)
 
--- the rules for the states at the places of the first n actions
-abbrev pub rules_of_places : Start → Scene → ℕ → ℕ → ℕ → ℕ → List ContextRule
-rules_of_places start x context next place n =
-    flat_map (λ a. rules_for (fluent_count start.task) context next a (states_at x (place + a)))
-    (range_with_len 0 n)
+-- rules of a context and a next one, which are counted from 0, were added, and the states that turn to
+-- it stand at their place
+pub record ListsTurning (start : Start) (x : Scene) (chain : Chained)
+    (before after : List ContextRule) (c j : ℕ) (more : List ContextRule) : Type 0 where
+  pub turning : HasTurning start x chain c j
+  pub listed : after ≡ before ++ more
 
 -- the rules of a context up to a next context, which are counted from 0, were added
 pub record ListsStages (start : Start) (x : Scene) (chain : Chained)

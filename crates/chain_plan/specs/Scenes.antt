@@ -2,7 +2,8 @@
 -- working places; then, for each stage and the end after the last one, the states of its context
 -- and those where it is met; then, for each of these, the states that take each action; and then,
 -- for each action, the states of the rules for one context and one next context.
-use Rattle.std.specs.Prelude.{◌≡◌, ℕ, suc, ◌+◌, ◌*◌, ◌<◌, ◌≤◌, ◌⊎◌, List, Result, length}
+use Rattle.std.specs.Prelude.{◌≡◌, ℕ, suc, ◌+◌, ◌*◌, ◌<◌, ◌≤◌, ◌⊎◌, List, [], ◌∷◌}
+use Rattle.std.specs.Prelude.{Result, length}
 use Rattle.dd_nodes.specs.Subfunctions.{Function}
 use Rattle.dd_sets.specs.LiveSets.{IsSets}
 use Rattle.dd_sets.specs.declared.errors.SetErr.{SetErr}
@@ -12,16 +13,18 @@ use Rattle.encode_task.specs.Slots.{Encoded}
 use Rattle.slot_board.specs.Board as board
 use Rattle.task_core.specs.Cubes.{SetOfVectors}
 use Rattle.task_core.specs.Systems.{IsVector, System}
-use Rattle.task_core.specs.Tasks.{action_count, system_of}
+use Rattle.task_core.specs.Tasks.{action_count, fluent_count, system_of}
 use Rattle.task_core.specs.Vectors.{Vector, value_of}
 use Rattle.task_core.specs.declared.tasks.Task.{Task}
 
--- where work began on a task, with so many stages
+-- where work began on a task, with so many stages, and a width by which sets are small
 pub record Start : Type 0 where
   pub task : Task
   pub enc : Encoded
   pub made : MadeOf task enc
   pub stages : ℕ
+  pub width : ℕ
+  pub wide : fluent_count task + 2 ≤ width
 
 abbrev pub sys_of : Start → System
 sys_of start = system_of start.task
@@ -44,6 +47,10 @@ rules_place actions stages = takers_place actions stages (suc stages)
 abbrev pub place_count : ℕ → ℕ → ℕ
 place_count actions stages = takers_place actions stages (suc (suc stages))
 
+-- the places that may hold rough sets
+abbrev pub rough_places : List ℕ
+rough_places = 2 ∷ 3 ∷ 4 ∷ []
+
 -- so its board begins
 abbrev pub board_of : Start → board.Start
 board_of start = record {
@@ -52,6 +59,9 @@ board_of start = record {
   made = start.made;
   places = place_count (action_count start.task) start.stages;
   spare = action_count start.task + 6 * start.stages + 218;
+  width = start.width;
+  wide = start.wide;
+  rough = rough_places;
 }
 
 -- the task's sets, and the slots of a board

@@ -3,14 +3,14 @@
 -- still without an action, or whose stage is still to be found, and at 4 those that are new, or of
 -- some rules.
 use Rattle.std.specs.Prelude.{◌≡◌, ◌≢◌, ℕ, suc, ◌+◌, ◌*◌, ◌<◌, ◌≤◌, true, false, not, ◌&&◌, ◌||◌}
-use Rattle.std.specs.Prelude.{List, [], ◌∷◌, drop, length, nat_le}
-use Rattle.std.specs.List.{find, list_any, range_with_len}
+use Rattle.std.specs.Prelude.{List, drop, length}
+use Rattle.std.specs.List.{list_any, range_with_len}
 use Rattle.plan_theory.specs.Chains.{Chained}
 use Rattle.plan_theory.specs.ChainPrinted.{action_towards}
-use Rattle.plan_theory.specs.Safe.{safe_round, safe_set, some_must_lead}
+use Rattle.plan_theory.specs.Safe.{safe_set}
 use Rattle.plan_theory.specs.StageSets.{near as near_within, stage_action, stage_set}
-use Rattle.plan_theory.specs.Wins.{met_count, met_set, win}
-use Rattle.plan_theory.specs.Layers.{action_numbers, must_lead}
+use Rattle.plan_theory.specs.Wins.{win}
+use Rattle.plan_theory.specs.Layers.{must_lead}
 use Rattle.plan_theory.specs.LayerPlans.{is_action}
 use Rattle.task_core.specs.Cubes.{SetOfVectors}
 use Rattle.task_core.specs.Systems.{IsVector, System}
@@ -18,35 +18,14 @@ use Rattle.task_core.specs.Tasks.{action_count}
 use Rattle.task_core.specs.Vectors.{Vector}
 use Rattle.task_core.specs.declared.conditions.Cond.{Cond}
 use Rattle.ctl_syntax.specs.ChainValues.{states_of}
+use Rattle.chain_plan.specs.Rounds.{first_lead, from_stage, hits_by, last_turn, turn, turn_by}
+use Rattle.chain_plan.specs.Rounds.{turns}
 use Rattle.chain_plan.specs.Scenes.{Changed, IsReady, SameStates, Scene, Start, Worked}
 use Rattle.chain_plan.specs.Scenes.{met_place, states_at, sys_of, takers_place, win_place}
+use Rattle.chain_plan.specs.Sizes.{ChainFits}
+use Rattle.chain_plan.specs.WorkingSets.{kept_states, met_first}
 use Rattle.chain_plan.specs.declared.rounds.Way.{Way}
-use Rattle.chain_plan.specs.declared.rounds.Way.TheVariants.{Growing, Shrinking}
-
--- one round: of a set that shrinks to what can be kept, or grows by what leads into it
-abbrev pub turn : Way → System → SetOfVectors → SetOfVectors
-turn Shrinking sys set v = set v && some_must_lead sys set v
-turn Growing sys set v = set v || some_must_lead sys set v
-
--- so many rounds, and all of them
-abbrev pub turns : Way → System → SetOfVectors → ℕ → SetOfVectors
-turns Shrinking = safe_round
-turns Growing = near_within
-
-abbrev pub last_turn : Way → System → SetOfVectors → SetOfVectors
-last_turn Shrinking = safe_set
-last_turn Growing = stage_set
-
--- one round as far as the first n actions have it
-abbrev pub turn_by : Way → System → SetOfVectors → ℕ → SetOfVectors
-turn_by Shrinking sys set n v = set v && list_any (must_lead sys set v) (range_with_len 0 n)
-turn_by Growing sys set n v = set v || list_any (must_lead sys set v) (range_with_len 0 n)
-
--- what one action adds to it: where it leads into the set; of a set that shrinks, its own states
--- alone
-abbrev pub hits_by : Way → SetOfVectors → SetOfVectors → SetOfVectors
-hits_by Shrinking set hits v = set v && hits v
-hits_by Growing set hits v = hits v
+use Rattle.chain_plan.specs.declared.rounds.Way.TheVariants.{Growing}
 
 -- the states at 2 alone changed
 pub record OnlyHits (start : Start) (x y : Scene) : Type 0 where
@@ -102,6 +81,11 @@ pub record HasLast (way : Way) (start : Start) (x y : Scene) (set : SetOfVectors
   pub worked : Worked start x y
   pub near : SameStates start (states_at y 0) (last_turn way (sys_of start) set)
 
+-- the states in which the condition to keep holds stand at a place
+pub record HasKept (start : Start) (x y : Scene) (place : ℕ) (cond : Cond) : Type 0 where
+  pub changed : Changed start x y place (place + 1)
+  pub kept : states_at y place ≡ kept_states (sys_of start) (states_of cond)
+
 -- the states of the last context stand at a place
 pub record EndWon (start : Start) (x y : Scene) (place : ℕ) (cond : Cond) : Type 0 where
   pub changed : Changed start x y place (place + 1)
@@ -122,11 +106,6 @@ pub record StageWon (start : Start) (x y : Scene) (place : ℕ) (cond : Cond) : 
   pub win : SameStates start (states_at y place) (stage_set (sys_of start) (met_by x place cond))
   pub met : SameStates start (states_at y (place + 1)) (met_by x place cond)
 
--- where the first of some stages is met; where there is none, nowhere
-abbrev pub met_first : System → SetOfVectors → List SetOfVectors → SetOfVectors
-met_first sys keep [] v = false
-met_first sys keep (p ∷ rest) v = met_set sys keep p rest v
-
 -- the states of the contexts from stage i on stand at their places, and those where their stages
 -- are met
 pub record Won (start : Start) (x : Scene) (chain : Chained) (i : ℕ) : Type 0 where
@@ -141,11 +120,6 @@ pub record Won (start : Start) (x : Scene) (chain : Chained) (i : ℕ) : Type 0 
 pub record HasWins (start : Start) (x y : Scene) (chain : Chained) (i : ℕ) : Type 0 where
   pub changed : Changed start x y 8 (9 + 2 * start.stages)
   pub won : Won start y chain i
-
--- the least-numbered action that leads into a set
-abbrev pub first_lead : System → SetOfVectors → SetOfVectors → ℕ → SetOfVectors
-first_lead sys set rest a v =
-    rest v && is_action a (find (must_lead sys set v) (action_numbers sys))
 
 -- of the states without an action, each took the least-numbered one that leads into the first
 -- states, as far as it is one of the first n
@@ -217,9 +191,10 @@ takers_of sys keep stages a v =
     win sys keep stages v && is_action a (action_towards sys keep stages v)
 
 -- the board has the states of all contexts, and where all stages are met; and of the first i
--- contexts the states that take each action
+-- contexts the states that take each action; and what the search makes is small
 pub record HasTakers (start : Start) (x : Scene) (chain : Chained) (i : ℕ) : Type 0 where
   pub ready : IsReady start x
+  pub fits : ChainFits start chain
   pub won : Won start x chain 0
   pub last : SameStates start (states_at x (met_place start.stages)) (λ v. false)
   pub taken : (j a : ℕ) → j < i → j ≤ start.stages → a < action_count start.task
@@ -229,11 +204,6 @@ pub record HasTakers (start : Start) (x : Scene) (chain : Chained) (i : ℕ) : T
   pub untaken : (j a : ℕ) → i ≤ j → j ≤ start.stages → a < action_count start.task
       → SameStates start
       (states_at x (takers_place (action_count start.task) start.stages j + a)) (λ v. false)
-
--- the states of a context in which the stages before stage j are met, both counted from 0
-abbrev pub from_stage : System → Chained → ℕ → ℕ → SetOfVectors
-from_stage sys chain c j v = win sys chain.keep (drop c chain.stages) v
-    && nat_le j (c + met_count sys chain.keep (drop c chain.stages) v)
 
 -- the states of a context in which the stages before a next one are met stand at 3
 pub record HasRest (start : Start) (x : Scene) (chain : Chained) (c j : ℕ) : Type 0 where

@@ -3,8 +3,10 @@
 //!
 //! `plan_chain` searches for them on sets of states. Which plan it gives is said in the `specs/` of
 //! `plan_theory`; `specs/Chains.antt` here says which sets of states a chain of conditions speaks
-//! of. `chain_takers` and `rule_sets` give the same plan as sets of states, in slots (`Tables`).
-//! `Scenes`, `Steps`, `Listing` and `Answers` have the words of the contracts inside.
+//! of, and `WorkingSets` which sets the search makes, by whose sizes it needs few nodes.
+//! `chain_takers` and `rule_sets` give the same plan as sets of states, in slots (`Tables`).
+//! `Scenes`, `Rounds`, `Sizes`, `Steps`, `Listing` and `Answers` have the words of the contracts
+//! inside.
 #![tactic(auto)]
 
 mod places;

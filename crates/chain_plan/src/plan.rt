@@ -1,13 +1,13 @@
 //! The planner for chains.
 
-ghost use Rattle.std.specs.Prelude.{◌≡◌, suc, ◌+◌, ◌*◌, ◌<◌, ◌≤◌, [], length, IfNone, IfOk, IfSome};
-ghost use Rattle.std.specs.Prelude.{IsErrOf, OnErr};
+ghost use Rattle.std.specs.Prelude.{◌≡◌, ℕ, suc, ◌+◌, ◌*◌, ◌<◌, ◌≤◌, [], length, IfNone, IfOk};
+ghost use Rattle.std.specs.Prelude.{IfSome, IsErrOf, OnErr};
 ghost use Rattle.std.specs.List.{list_all};
 ghost use Rattle.plan_theory.specs.Chains.{Chained, HasChain};
 ghost use Rattle.plan_theory.specs.ChainPlans.{HasNoContextPlan};
 ghost use Rattle.plan_theory.specs.ChainPrinted.{chain_rules};
 ghost use Rattle.dd_sets.specs.Frames.{Owns};
-ghost use Rattle.dd_sets.specs.Rooms.{AnySet, NoRoom};
+ghost use Rattle.dd_sets.specs.Rooms.{NoRoom};
 ghost use Rattle.encode_task.specs.Made.{MadeOf};
 ghost use Rattle.plan_rules.specs.Denoted.{denoted_contexts};
 ghost use Rattle.plan_rules.specs.Plans.{IsAutomatonOf};
@@ -21,7 +21,9 @@ ghost use Rattle.chain_plan.specs.Chains.{IsChainOver, most_stages, chain_sets};
 ghost use Rattle.chain_plan.specs.Found.{IfNoPlan, IfPlan};
 ghost use Rattle.chain_plan.specs.Scenes.{HasNothing, IsAt, Left, Start};
 ghost use Rattle.chain_plan.specs.Scenes.{board_of};
+ghost use Rattle.chain_plan.specs.Sizes.{SearchFits};
 ghost use Rattle.chain_plan.specs.Tables.{HasTable, start_of};
+ghost use Rattle.chain_plan.specs.WorkingSets.{IsWide};
 
 use crate::places::{places, win_at};
 use crate::rules::list_all;
@@ -47,11 +49,11 @@ pub enum FoundAuto {
 /// Searches with the slots of a board, which stay: whether there is a plan.
 fn search(enc: &mut Enc, board: &mut Board, actions: u32, chain: &Chain) -> Result<bool, SetErr>
     requires ready { (start : Start) × (start.stages ≡ length chain.now.stages.items)
-        × HasNothing start (enc.old, board.old.slots.items) }
+        × HasNothing start (enc.old, board.old.slots.items) × SearchFits start chain.now }
     requires actions { actions ≡ length enc.old.actions }
     requires chain { IsChainOver enc.old.sets.vars chain.now }
     ensures { (start : Start) → start.stages ≡ length chain.now.stages.items
-        → HasNothing start (enc.old, board.old.slots.items)
+        → HasNothing start (enc.old, board.old.slots.items) → SearchFits start chain.now
         → Ends start (enc.new, board.new.slots.items) (chain_sets chain.now) result }
 {
     win_all(enc, board, actions, chain)?;
@@ -82,8 +84,9 @@ fn search(enc: &mut Enc, board: &mut Board, actions: u32, chain: &Chain) -> Resu
 /// A chain has at most 32 stages, and each of its conditions names the task's fluents alone and is
 /// at most 200 deep. `Full` comes only where the table holds as many nodes as it may, and its limit
 /// is tight with at most so many sets of the search's own: three for each action, one for each
-/// action and stage, eight for each stage and 236 more. Where no board is answered, all slots of the
-/// search are ended.
+/// action and stage, eight for each stage and 236 more. By any width of the sets that it makes
+/// (`WorkingSets`) all of them are small, but for 16, which are the meet, join or difference of two
+/// small ones. Where no board is answered, all slots of the search are ended.
 pub fn chain_takers(
     alloc: Global,
     task: &Task,
@@ -92,14 +95,15 @@ pub fn chain_takers(
 ) -> Result<Option<Board>, SetErr>
     requires made { MadeOf task.now enc.old }
     requires chain { IsChainOver (fluent_count task.now) chain.now }
-    ensures table { (made : MadeOf task.now enc.old) → IfOk result (λ found. IfSome found
-        (λ board. HasTable (start_of task.now enc.old made (length chain.now.stages.items))
+    ensures table { (made : MadeOf task.now enc.old) (w : ℕ) (wide : IsWide w task.now chain.now)
+        → IfOk result (λ found. IfSome found (λ board. HasTable
+        (start_of task.now enc.old made (length chain.now.stages.items) w wide.fluents)
         (enc.new, board.slots.items) (chain_sets chain.now))) }
     ensures no_plan { IfOk result (λ found. IfNone found (HasNoContextPlan
         (system_of task.now) (chain_sets chain.now))) }
-    ensures full { IsErrOf result SetErr.Full → NoRoom AnySet (action_count task.now
-        * (length chain.now.stages.items + 3) + 8 * length chain.now.stages.items + 236)
-        enc.old.sets enc.new.sets }
+    ensures full { IsErrOf result SetErr.Full → (w : ℕ) → IsWide w task.now chain.now
+        → NoRoom w (action_count task.now * (length chain.now.stages.items + 3)
+        + 8 * length chain.now.stages.items + 236) 16 enc.old.sets enc.new.sets }
     ensures closed { IfOk result (λ found. IfNone found (Owns enc.old.sets enc.new.sets [])) }
     ensures refused { OnErr result (Owns enc.old.sets enc.new.sets []) }
     ensures same_slots { enc.new ≡ record enc.old { sets = enc.new.sets } }
@@ -183,9 +187,9 @@ fn find_plan(alloc: Global, task: &Task, enc: &mut Enc, chain: &Chain) -> Result
     requires made { MadeOf task.now enc.old }
     requires chain { IsChainOver (fluent_count task.now) chain.now }
     ensures answer { IfOk result (IsAnswer task.now (chain_sets chain.now)) }
-    ensures full { IsErrOf result SetErr.Full → NoRoom AnySet (action_count task.now
-        * (length chain.now.stages.items + 3) + 8 * length chain.now.stages.items + 236)
-        enc.old.sets enc.new.sets }
+    ensures full { IsErrOf result SetErr.Full → (w : ℕ) → IsWide w task.now chain.now
+        → NoRoom w (action_count task.now * (length chain.now.stages.items + 3)
+        + 8 * length chain.now.stages.items + 236) 16 enc.old.sets enc.new.sets }
     ensures slots { Owns enc.old.sets enc.new.sets [] }
     ensures same_slots { enc.new ≡ record enc.old { sets = enc.new.sets } }
 {
@@ -227,9 +231,9 @@ pub fn plan_chain(
         → HasChain sys (denoted_contexts (context_rules_of plan)) (chain_sets chain.now) x)) }
     ensures no_plan { IfOk result (λ found. IfNoPlan found (HasNoContextPlan
         (system_of task.now) (chain_sets chain.now))) }
-    ensures full { IsErrOf result SetErr.Full → NoRoom AnySet (action_count task.now
-        * (length chain.now.stages.items + 3) + 8 * length chain.now.stages.items + 236)
-        enc.old.sets enc.new.sets }
+    ensures full { IsErrOf result SetErr.Full → (w : ℕ) → IsWide w task.now chain.now
+        → NoRoom w (action_count task.now * (length chain.now.stages.items + 3)
+        + 8 * length chain.now.stages.items + 236) 16 enc.old.sets enc.new.sets }
     ensures slots { Owns enc.old.sets enc.new.sets [] }
     ensures same_slots { enc.new ≡ record enc.old { sets = enc.new.sets } }
     ensures made { (task : TaskOf) → MadeOf task enc.old → MadeOf task enc.new }

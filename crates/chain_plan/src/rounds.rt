@@ -2,7 +2,9 @@
 
 ghost use Rattle.std.specs.Prelude.{◌≡◌, ◌<◌, length, true, IfOk};
 ghost use Rattle.task_core.specs.Tasks.{action_count};
-ghost use Rattle.chain_plan.specs.Scenes.{IsReady, Left, Start, states_at};
+ghost use Rattle.chain_plan.specs.Rounds.{turn_by};
+ghost use Rattle.chain_plan.specs.Scenes.{IsReady, Left, Start, states_at, sys_of};
+ghost use Rattle.chain_plan.specs.Sizes.{ExecFits, HitFits, IsSmall, RoundFits, TurnsFit};
 ghost use Rattle.chain_plan.specs.Steps.{AddsHits, HasLast, HitsAmong, KeepsHits, Leads};
 ghost use Rattle.chain_plan.specs.Steps.{LeadsAmong, OnlyHits, TurnedFrom};
 
@@ -26,6 +28,7 @@ pub(crate) enum Way {
 fn keep_hits(enc: &mut Enc, board: &mut Board, way: Way) -> Result<(), SetErr>
     requires ready { (start : Start) × IsReady start (enc.old, board.old.slots.items) }
     ensures { (start : Start) → IsReady start (enc.old, board.old.slots.items)
+        → IsSmall start (states_at (enc.old, board.old.slots.items) 2)
         → Left start (enc.new, board.new.slots.items)
         (KeepsHits way start (enc.old, board.old.slots.items) (enc.new, board.new.slots.items))
         result }
@@ -38,13 +41,16 @@ fn keep_hits(enc: &mut Enc, board: &mut Board, way: Way) -> Result<(), SetErr>
 
 /// Whether the states in which an action can be executed are all among the next ones already.
 pub(crate) fn is_joined(enc: &mut Enc, board: &mut Board, a: ActionId) -> Result<bool, SetErr>
-    requires ready { (start : Start) × IsReady start (enc.old, board.old.slots.items) }
+    requires ready { (start : Start) × IsReady start (enc.old, board.old.slots.items)
+        × ExecFits start a.0 }
     requires action { a.0 < length enc.old.actions }
     ensures left { (start : Start) → IsReady start (enc.old, board.old.slots.items)
+        → ExecFits start a.0
         → Left start (enc.new, board.new.slots.items)
         (OnlyHits start (enc.old, board.old.slots.items) (enc.new, board.new.slots.items))
         result }
     ensures joined { (start : Start) → IsReady start (enc.old, board.old.slots.items)
+        → ExecFits start a.0
         → IfOk result (λ joined. joined ≡ true
         → LeadsAmong start (enc.old, board.old.slots.items) a.0) }
 {
@@ -57,13 +63,16 @@ pub(crate) fn is_joined(enc: &mut Enc, board: &mut Board, a: ActionId) -> Result
 /// Whether the states that a round adds by an action are all among the next ones already, as far as
 /// that can be seen without a preimage.
 fn adds_none(enc: &mut Enc, board: &mut Board, way: Way, a: ActionId) -> Result<bool, SetErr>
-    requires ready { (start : Start) × IsReady start (enc.old, board.old.slots.items) }
+    requires ready { (start : Start) × IsReady start (enc.old, board.old.slots.items)
+        × ExecFits start a.0 }
     requires action { a.0 < length enc.old.actions }
     ensures left { (start : Start) → IsReady start (enc.old, board.old.slots.items)
+        → ExecFits start a.0
         → Left start (enc.new, board.new.slots.items)
         (OnlyHits start (enc.old, board.old.slots.items) (enc.new, board.new.slots.items))
         result }
     ensures none { (start : Start) → IsReady start (enc.old, board.old.slots.items)
+        → ExecFits start a.0
         → IfOk result (λ none. none ≡ true
         → HitsAmong way start (enc.old, board.old.slots.items) a.0) }
 {
@@ -76,9 +85,13 @@ fn adds_none(enc: &mut Enc, board: &mut Board, way: Way, a: ActionId) -> Result<
 /// Adds the states from which an action leads into the first states to the next ones, where rounds
 /// shrink those of the first states alone.
 fn join_hits(enc: &mut Enc, board: &mut Board, way: Way, a: ActionId) -> Result<(), SetErr>
-    requires ready { (start : Start) × IsReady start (enc.old, board.old.slots.items) }
+    requires ready { (start : Start) × IsReady start (enc.old, board.old.slots.items)
+        × HitFits way start (states_at (enc.old, board.old.slots.items) 0)
+        (states_at (enc.old, board.old.slots.items) 1) a.0 }
     requires action { a.0 < length enc.old.actions }
     ensures { (start : Start) → IsReady start (enc.old, board.old.slots.items)
+        → HitFits way start (states_at (enc.old, board.old.slots.items) 0)
+        (states_at (enc.old, board.old.slots.items) 1) a.0
         → Left start (enc.new, board.new.slots.items)
         (AddsHits way start (enc.old, board.old.slots.items) (enc.new, board.new.slots.items)
         a.0) result }
@@ -90,9 +103,13 @@ fn join_hits(enc: &mut Enc, board: &mut Board, way: Way, a: ActionId) -> Result<
 
 /// The same, with no preimage where it would add nothing.
 fn add_hits(enc: &mut Enc, board: &mut Board, way: Way, a: ActionId) -> Result<(), SetErr>
-    requires ready { (start : Start) × IsReady start (enc.old, board.old.slots.items) }
+    requires ready { (start : Start) × IsReady start (enc.old, board.old.slots.items)
+        × HitFits way start (states_at (enc.old, board.old.slots.items) 0)
+        (states_at (enc.old, board.old.slots.items) 1) a.0 }
     requires action { a.0 < length enc.old.actions }
     ensures { (start : Start) → IsReady start (enc.old, board.old.slots.items)
+        → HitFits way start (states_at (enc.old, board.old.slots.items) 0)
+        (states_at (enc.old, board.old.slots.items) 1) a.0
         → Left start (enc.new, board.new.slots.items)
         (AddsHits way start (enc.old, board.old.slots.items) (enc.new, board.new.slots.items)
         a.0) result }
@@ -108,6 +125,8 @@ fn add_hits(enc: &mut Enc, board: &mut Board, way: Way, a: ActionId) -> Result<(
 fn begin_next(enc: &mut Enc, board: &mut Board, way: Way) -> Result<(), SetErr>
     requires ready { (start : Start) × IsReady start (enc.old, board.old.slots.items) }
     ensures { (start : Start) → IsReady start (enc.old, board.old.slots.items)
+        → IsSmall start (turn_by way (sys_of start)
+        (states_at (enc.old, board.old.slots.items) 0) 0)
         → Left start (enc.new, board.new.slots.items)
         (Leads way start (enc.old, board.old.slots.items) (enc.new, board.new.slots.items) 0)
         result }
@@ -121,9 +140,11 @@ fn begin_next(enc: &mut Enc, board: &mut Board, way: Way) -> Result<(), SetErr>
 /// Makes a round on the first states. Each set that it makes is the first states with some from
 /// which an action leads into them, or a part of that.
 fn lead_all(enc: &mut Enc, board: &mut Board, actions: u32, way: Way) -> Result<(), SetErr>
-    requires ready { (start : Start) × IsReady start (enc.old, board.old.slots.items) }
+    requires ready { (start : Start) × IsReady start (enc.old, board.old.slots.items)
+        × RoundFits start (states_at (enc.old, board.old.slots.items) 0) }
     requires actions { actions ≡ length enc.old.actions }
     ensures { (start : Start) → IsReady start (enc.old, board.old.slots.items)
+        → RoundFits start (states_at (enc.old, board.old.slots.items) 0)
         → Left start (enc.new, board.new.slots.items)
         (Leads way start (enc.old, board.old.slots.items) (enc.new, board.new.slots.items)
         (action_count start.task)) result }
@@ -143,10 +164,12 @@ fn turn_from(
     way: Way,
     place: usize,
 ) -> Result<(), SetErr>
-    requires ready { (start : Start) × IsReady start (enc.old, board.old.slots.items) }
+    requires ready { (start : Start) × IsReady start (enc.old, board.old.slots.items)
+        × RoundFits start (states_at (enc.old, board.old.slots.items) place) }
     requires actions { actions ≡ length enc.old.actions }
     requires place { place < length board.old.slots.items }
     ensures { (start : Start) → IsReady start (enc.old, board.old.slots.items)
+        → RoundFits start (states_at (enc.old, board.old.slots.items) place)
         → Left start (enc.new, board.new.slots.items)
         (TurnedFrom way start (enc.old, board.old.slots.items) (enc.new, board.new.slots.items)
         place) result }
@@ -163,10 +186,12 @@ pub(crate) fn turn_all(
     way: Way,
     place: usize,
 ) -> Result<(), SetErr>
-    requires ready { (start : Start) × IsReady start (enc.old, board.old.slots.items) }
+    requires ready { (start : Start) × IsReady start (enc.old, board.old.slots.items)
+        × TurnsFit way start (states_at (enc.old, board.old.slots.items) place) }
     requires actions { actions ≡ length enc.old.actions }
     requires place { place < length board.old.slots.items }
     ensures { (start : Start) → IsReady start (enc.old, board.old.slots.items)
+        → TurnsFit way start (states_at (enc.old, board.old.slots.items) place)
         → Left start (enc.new, board.new.slots.items)
         (HasLast way start (enc.old, board.old.slots.items) (enc.new, board.new.slots.items)
         (states_at (enc.old, board.old.slots.items) place)) result }

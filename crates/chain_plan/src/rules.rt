@@ -3,17 +3,18 @@
 ghost use Rattle.std.specs.Prelude.{◌≡◌, ℕ, suc, ◌≤◌, ◌+◌, ◌<◌, ◌++◌, List, map, length, IfErr};
 ghost use Rattle.std.specs.Prelude.{OnOk};
 ghost use Rattle.plan_theory.specs.Chains.{Chained};
-ghost use Rattle.plan_theory.specs.ChainPrinted.{chain_rules, rules_of_context};
+ghost use Rattle.plan_theory.specs.ChainPrinted.{chain_rules, rules_of_action, rules_of_context};
+ghost use Rattle.plan_theory.specs.ChainPrinted.{rules_of_next};
 ghost use Rattle.plan_rules.specs.Rules.{ContextRule, context_rule_of};
-ghost use Rattle.task_core.specs.Tasks.{fluent_count};
+ghost use Rattle.task_core.specs.Tasks.{action_count, fluent_count};
 ghost use Rattle.chain_plan.specs.Chains.{most_stages};
-ghost use Rattle.chain_plan.specs.Scenes.{IsReady, Left, Start, states_at, sys_of};
-ghost use Rattle.chain_plan.specs.Listing.{Lists, ListsStages, rule_for, rules_for};
-ghost use Rattle.chain_plan.specs.Listing.{rules_of_places};
+ghost use Rattle.chain_plan.specs.Scenes.{IsReady, Left, Start, states_at, sys_of, takers_place};
+ghost use Rattle.chain_plan.specs.Sizes.{EverySetIsSmall};
+ghost use Rattle.chain_plan.specs.Listing.{Lists, ListsStages, ListsTurning, rule_for, rules_for};
 ghost use Rattle.chain_plan.specs.Steps.{Chooses, HasRest, HasTakers};
-ghost use Rattle.chain_plan.specs.Tables.{HasRuleStates, HasTable};
+ghost use Rattle.chain_plan.specs.Tables.{HasRuleStates, HasTable, HasTurning};
 
-use crate::places::{NEW, REST, met_at, takers_at, win_at};
+use crate::places::{HITS, NEW, REST, met_at, takers_at, win_at};
 use dd_sets::SetErr;
 use encode_task::Enc;
 use plan_rules::{AutoRule, Next};
@@ -71,38 +72,6 @@ fn list_at(
     }
 }
 
-/// The rules of the states at the places of the actions, the actions in rising number.
-fn list_places(
-    enc: &Enc,
-    board: &Board,
-    rules: &mut Vec<AutoRule>,
-    actions: u32,
-    context: u32,
-    next: u32,
-    place: usize,
-) -> Result<(), SetErr>
-    requires ready { (start : Start) × IsReady start (enc.now, board.now.slots.items) }
-    requires places { place + actions ≤ length board.now.slots.items }
-    ensures never_full { IfErr result (λ e. e ≡ SetErr.Memory) }
-    ensures listed { (start : Start) → IsReady start (enc.now, board.now.slots.items)
-        → OnOk result (map context_rule_of rules.new.items
-        ≡ map context_rule_of rules.old.items
-        ++ rules_of_places start (enc.now, board.now.slots.items) context next place actions) }
-{
-    for a in 0..actions {
-        list_at(
-            enc,
-            board,
-            rules,
-            context,
-            next,
-            ActionId(a),
-            place + a as usize,
-        )?;
-    }
-    Ok(())
-}
-
 /// Finds the states of a context in which the stages before a next one are met.
 fn rest_at(
     enc: &mut Enc,
@@ -138,12 +107,14 @@ fn choose_all(
     takers: usize,
     place: usize,
 ) -> Result<(), SetErr>
-    requires ready { (start : Start) × IsReady start (enc.old, board.old.slots.items) }
+    requires ready { (start : Start) × IsReady start (enc.old, board.old.slots.items)
+        × EverySetIsSmall start }
     requires actions { actions ≡ length enc.old.actions }
     requires places { place + actions ≤ length board.old.slots.items }
     requires apart { takers + actions ≤ place }
     requires high { 8 ≤ takers }
     ensures { (start : Start) → IsReady start (enc.old, board.old.slots.items)
+        → EverySetIsSmall start
         → Left start (enc.new, board.new.slots.items)
         (Chooses start (enc.old, board.old.slots.items) (enc.new, board.new.slots.items) takers
         place actions) result }
@@ -155,10 +126,35 @@ fn choose_all(
     Ok(())
 }
 
+/// Finds the states of a context that turn to a next one: in which the stages before it are met, and
+/// its own isn't.
+fn turn_states(
+    enc: &mut Enc,
+    board: &mut Board,
+    stages: u32,
+    context: u32,
+    next: u32,
+) -> Result<(), SetErr>
+    requires ready { (start : Start) × (chain : Chained) × (start.stages ≡ stages)
+        × HasTable start (enc.old, board.old.slots.items) chain }
+    requires few { stages ≤ most_stages }
+    requires context { context ≤ next }
+    requires next { next ≤ stages }
+    ensures { (start : Start) (chain : Chained) → start.stages ≡ stages
+        → HasTable start (enc.old, board.old.slots.items) chain
+        → Left start (enc.new, board.new.slots.items)
+        (HasTurning start (enc.new, board.new.slots.items) chain context next) result }
+{
+    rest_at(enc, board, stages, context, next)?;
+    board.combine(enc, NEW, Operation::Minus, REST, met_at(next))
+}
+
 /// Puts at its place, for each action, the states in which the printed plan takes it in a context
 /// and goes on in a next one. Both are counted from 0, and the next one is not before the context.
 ///
-/// `rule_place` tells the place of an action. The board is that of `chain_takers`, and stays it.
+/// `rule_place` tells the place of an action. The board is that of `chain_takers`, and stays it. The
+/// sets are the meets of two, and as many as there are actions: the width of the search has to be one
+/// by which every set is small.
 pub fn rule_sets(
     enc: &mut Enc,
     board: &mut Board,
@@ -168,21 +164,79 @@ pub fn rule_sets(
     next: u32,
 ) -> Result<(), SetErr>
     requires ready { (start : Start) × (chain : Chained) × (start.stages ≡ stages)
-        × HasTable start (enc.old, board.old.slots.items) chain }
+        × HasTable start (enc.old, board.old.slots.items) chain × EverySetIsSmall start }
     requires actions { actions ≡ length enc.old.actions }
     requires few { stages ≤ most_stages }
     requires context { context ≤ next }
     requires next { next ≤ stages }
     ensures { (start : Start) (chain : Chained) → start.stages ≡ stages
-        → HasTable start (enc.old, board.old.slots.items) chain
+        → HasTable start (enc.old, board.old.slots.items) chain → EverySetIsSmall start
         → Left start (enc.new, board.new.slots.items)
         (HasRuleStates start (enc.new, board.new.slots.items) chain context next) result }
 {
     let takers = takers_at(actions, stages, next);
     let place = takers_at(actions, stages, stages + 1);
-    rest_at(enc, board, stages, context, next)?;
-    board.combine(enc, NEW, Operation::Minus, REST, met_at(next))?;
+    turn_states(enc, board, stages, context, next)?;
     choose_all(enc, board, actions, takers, place)
+}
+
+/// The rules of an action in a context, counted from 0, towards a next one.
+fn list_action(
+    enc: &mut Enc,
+    board: &mut Board,
+    rules: &mut Vec<AutoRule>,
+    takers: usize,
+    stage: u32,
+    next: u32,
+    action: ActionId,
+) -> Result<(), SetErr>
+    requires ready { (start : Start) × (chain : Chained)
+        × (takers ≡ takers_place (action_count start.task) start.stages next)
+        × HasTurning start (enc.old, board.old.slots.items) chain stage next }
+    requires action { action.0 < length enc.old.actions }
+    requires stage { stage ≤ next }
+    requires next { next ≤ most_stages }
+    ensures { (start : Start) (chain : Chained)
+        → takers ≡ takers_place (action_count start.task) start.stages next
+        → HasTurning start (enc.old, board.old.slots.items) chain stage next
+        → Left start (enc.new, board.new.slots.items)
+        (ListsTurning start (enc.new, board.new.slots.items) chain
+        (map context_rule_of rules.old.items) (map context_rule_of rules.new.items) stage next
+        (rules_of_action (sys_of start) chain (suc stage) (suc next) action.0)) result }
+{
+    let place = takers + action.0 as usize;
+    board.combine(enc, HITS, Operation::Meet, NEW, place)?;
+    list_at(enc, board, rules, stage + 1, next + 1, action, HITS)
+}
+
+/// The rules of a context, counted from 0, towards a next one, the actions in rising number.
+fn list_actions(
+    enc: &mut Enc,
+    board: &mut Board,
+    rules: &mut Vec<AutoRule>,
+    actions: u32,
+    takers: usize,
+    stage: u32,
+    next: u32,
+) -> Result<(), SetErr>
+    requires ready { (start : Start) × (chain : Chained)
+        × (takers ≡ takers_place (action_count start.task) start.stages next)
+        × HasTurning start (enc.old, board.old.slots.items) chain stage next }
+    requires actions { actions ≡ length enc.old.actions }
+    requires stage { stage ≤ next }
+    requires next { next ≤ most_stages }
+    ensures { (start : Start) (chain : Chained)
+        → takers ≡ takers_place (action_count start.task) start.stages next
+        → HasTurning start (enc.old, board.old.slots.items) chain stage next
+        → Left start (enc.new, board.new.slots.items)
+        (ListsTurning start (enc.new, board.new.slots.items) chain
+        (map context_rule_of rules.old.items) (map context_rule_of rules.new.items) stage next
+        (rules_of_next (sys_of start) chain (suc stage) (suc next))) result }
+{
+    for a in 0..actions {
+        list_action(enc, board, rules, takers, stage, next, ActionId(a))?;
+    }
+    Ok(())
 }
 
 /// The rules of a context, counted from 0, towards a next one.
@@ -210,9 +264,9 @@ fn list_stage(
         (ListsStages start (enc.new, board.new.slots.items) chain before
         (map context_rule_of rules.new.items) stage (next + 1)) result }
 {
-    let place = takers_at(actions, stages, stages + 1);
-    rule_sets(enc, board, actions, stages, stage, next)?;
-    list_places(enc, board, rules, actions, stage + 1, next + 1, place)
+    let takers = takers_at(actions, stages, next);
+    turn_states(enc, board, stages, stage, next)?;
+    list_actions(enc, board, rules, actions, takers, stage, next)
 }
 
 /// The rules of a context, the next contexts in rising number.

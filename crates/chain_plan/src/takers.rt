@@ -4,7 +4,8 @@ ghost use Rattle.std.specs.Prelude.{◌≡◌, suc, ◌≤◌, ◌+◌, ◌<◌,
 ghost use Rattle.plan_theory.specs.Chains.{Chained};
 ghost use Rattle.task_core.specs.Tasks.{action_count};
 ghost use Rattle.chain_plan.specs.Chains.{most_stages};
-ghost use Rattle.chain_plan.specs.Scenes.{IsReady, Left, Scene, Start};
+ghost use Rattle.chain_plan.specs.Scenes.{IsReady, Left, Scene, Start, states_at};
+ghost use Rattle.chain_plan.specs.Sizes.{ClimbFits, ClimbsFit, ShareFits};
 ghost use Rattle.chain_plan.specs.Steps.{Climbed, ClimbedFrom, Climbs, EndTaken, HasTakers};
 ghost use Rattle.chain_plan.specs.Steps.{Shared};
 
@@ -18,12 +19,16 @@ use task_core::ActionId;
 /// Has an action taken by the states without one from which it leads into the first states.
 fn share_one(enc: &mut Enc, board: &mut Board, takers: usize, a: ActionId) -> Result<(), SetErr>
     requires ready { (start : Start) × (x : Scene)
-        × Shared start x (enc.old, board.old.slots.items) takers a.0 }
+        × Shared start x (enc.old, board.old.slots.items) takers a.0
+        × ShareFits start (states_at x 0) (states_at x 3)
+        (λ k. states_at x (takers + k)) }
     requires action { a.0 < length enc.old.actions }
     requires places { takers + length enc.old.actions ≤ length board.old.slots.items }
     requires high { 8 ≤ takers }
     ensures { (start : Start) (x : Scene)
         → Shared start x (enc.old, board.old.slots.items) takers a.0
+        → ShareFits start (states_at x 0) (states_at x 3)
+        (λ k. states_at x (takers + k))
         → Left start (enc.new, board.new.slots.items)
         (Shared start x (enc.new, board.new.slots.items) takers (a.0 + 1)) result }
 {
@@ -37,12 +42,16 @@ fn share_one(enc: &mut Enc, board: &mut Board, takers: usize, a: ActionId) -> Re
 /// The same, with no preimage where no state is without an action.
 fn share_rest(enc: &mut Enc, board: &mut Board, takers: usize, a: ActionId) -> Result<(), SetErr>
     requires ready { (start : Start) × (x : Scene)
-        × Shared start x (enc.old, board.old.slots.items) takers a.0 }
+        × Shared start x (enc.old, board.old.slots.items) takers a.0
+        × ShareFits start (states_at x 0) (states_at x 3)
+        (λ k. states_at x (takers + k)) }
     requires action { a.0 < length enc.old.actions }
     requires places { takers + length enc.old.actions ≤ length board.old.slots.items }
     requires high { 8 ≤ takers }
     ensures { (start : Start) (x : Scene)
         → Shared start x (enc.old, board.old.slots.items) takers a.0
+        → ShareFits start (states_at x 0) (states_at x 3)
+        (λ k. states_at x (takers + k))
         → Left start (enc.new, board.new.slots.items)
         (Shared start x (enc.new, board.new.slots.items) takers (a.0 + 1)) result }
 {
@@ -55,11 +64,17 @@ fn share_rest(enc: &mut Enc, board: &mut Board, takers: usize, a: ActionId) -> R
 /// Gives each of the states without an action the least-numbered one that leads into the first
 /// states.
 fn share(enc: &mut Enc, board: &mut Board, actions: u32, takers: usize) -> Result<(), SetErr>
-    requires ready { (start : Start) × IsReady start (enc.old, board.old.slots.items) }
+    requires ready { (start : Start) × IsReady start (enc.old, board.old.slots.items)
+        × ShareFits start (states_at (enc.old, board.old.slots.items) 0)
+        (states_at (enc.old, board.old.slots.items) 3)
+        (λ k. states_at (enc.old, board.old.slots.items) (takers + k)) }
     requires actions { actions ≡ length enc.old.actions }
     requires places { takers + actions ≤ length board.old.slots.items }
     requires high { 8 ≤ takers }
     ensures { (start : Start) → IsReady start (enc.old, board.old.slots.items)
+        → ShareFits start (states_at (enc.old, board.old.slots.items) 0)
+        (states_at (enc.old, board.old.slots.items) 3)
+        (λ k. states_at (enc.old, board.old.slots.items) (takers + k))
         → Left start (enc.new, board.new.slots.items)
         (Shared start (enc.old, board.old.slots.items) (enc.new, board.new.slots.items) takers
         (action_count start.task)) result }
@@ -74,12 +89,14 @@ fn share(enc: &mut Enc, board: &mut Board, actions: u32, takers: usize) -> Resul
 /// taken by those that are new.
 fn climb_hits(enc: &mut Enc, board: &mut Board, takers: usize, a: ActionId) -> Result<(), SetErr>
     requires ready { (start : Start) × (x : Scene)
-        × Climbs start x (enc.old, board.old.slots.items) takers a.0 }
+        × Climbs start x (enc.old, board.old.slots.items) takers a.0
+        × ClimbFits start (states_at x 0) (λ k. states_at x (takers + k)) }
     requires action { a.0 < length enc.old.actions }
     requires places { takers + length enc.old.actions ≤ length board.old.slots.items }
     requires high { 8 ≤ takers }
     ensures { (start : Start) (x : Scene)
         → Climbs start x (enc.old, board.old.slots.items) takers a.0
+        → ClimbFits start (states_at x 0) (λ k. states_at x (takers + k))
         → Left start (enc.new, board.new.slots.items)
         (Climbs start x (enc.new, board.new.slots.items) takers (a.0 + 1)) result }
 {
@@ -93,12 +110,14 @@ fn climb_hits(enc: &mut Enc, board: &mut Board, takers: usize, a: ActionId) -> R
 /// The same, with no preimage where no state would be new.
 fn climb_by(enc: &mut Enc, board: &mut Board, takers: usize, a: ActionId) -> Result<(), SetErr>
     requires ready { (start : Start) × (x : Scene)
-        × Climbs start x (enc.old, board.old.slots.items) takers a.0 }
+        × Climbs start x (enc.old, board.old.slots.items) takers a.0
+        × ClimbFits start (states_at x 0) (λ k. states_at x (takers + k)) }
     requires action { a.0 < length enc.old.actions }
     requires places { takers + length enc.old.actions ≤ length board.old.slots.items }
     requires high { 8 ≤ takers }
     ensures { (start : Start) (x : Scene)
         → Climbs start x (enc.old, board.old.slots.items) takers a.0
+        → ClimbFits start (states_at x 0) (λ k. states_at x (takers + k))
         → Left start (enc.new, board.new.slots.items)
         (Climbs start x (enc.new, board.new.slots.items) takers (a.0 + 1)) result }
 {
@@ -110,11 +129,15 @@ fn climb_by(enc: &mut Enc, board: &mut Board, takers: usize, a: ActionId) -> Res
 
 /// Makes a round on the first states, and gives each new state its action.
 fn climb_near(enc: &mut Enc, board: &mut Board, actions: u32, takers: usize) -> Result<(), SetErr>
-    requires ready { (start : Start) × IsReady start (enc.old, board.old.slots.items) }
+    requires ready { (start : Start) × IsReady start (enc.old, board.old.slots.items)
+        × ClimbFits start (states_at (enc.old, board.old.slots.items) 0)
+        (λ k. states_at (enc.old, board.old.slots.items) (takers + k)) }
     requires actions { actions ≡ length enc.old.actions }
     requires places { takers + actions ≤ length board.old.slots.items }
     requires high { 8 ≤ takers }
     ensures { (start : Start) → IsReady start (enc.old, board.old.slots.items)
+        → ClimbFits start (states_at (enc.old, board.old.slots.items) 0)
+        (λ k. states_at (enc.old, board.old.slots.items) (takers + k))
         → Left start (enc.new, board.new.slots.items)
         (Climbs start (enc.old, board.old.slots.items) (enc.new, board.new.slots.items) takers
         (action_count start.task)) result }
@@ -134,12 +157,16 @@ fn climb_from(
     place: usize,
     takers: usize,
 ) -> Result<(), SetErr>
-    requires ready { (start : Start) × IsReady start (enc.old, board.old.slots.items) }
+    requires ready { (start : Start) × IsReady start (enc.old, board.old.slots.items)
+        × ClimbFits start (states_at (enc.old, board.old.slots.items) place)
+        (λ k. states_at (enc.old, board.old.slots.items) (takers + k)) }
     requires actions { actions ≡ length enc.old.actions }
     requires place { place < length board.old.slots.items }
     requires places { takers + actions ≤ length board.old.slots.items }
     requires high { 8 ≤ takers }
     ensures { (start : Start) → IsReady start (enc.old, board.old.slots.items)
+        → ClimbFits start (states_at (enc.old, board.old.slots.items) place)
+        (λ k. states_at (enc.old, board.old.slots.items) (takers + k))
         → Left start (enc.new, board.new.slots.items)
         (ClimbedFrom start (enc.old, board.old.slots.items) (enc.new, board.new.slots.items)
         place takers) result }
@@ -156,12 +183,16 @@ fn climb(
     met: usize,
     takers: usize,
 ) -> Result<(), SetErr>
-    requires ready { (start : Start) × IsReady start (enc.old, board.old.slots.items) }
+    requires ready { (start : Start) × IsReady start (enc.old, board.old.slots.items)
+        × ClimbsFit start (states_at (enc.old, board.old.slots.items) met)
+        (λ k. states_at (enc.old, board.old.slots.items) (takers + k)) }
     requires actions { actions ≡ length enc.old.actions }
     requires places { takers + actions ≤ length board.old.slots.items }
     requires met { 8 ≤ met }
     requires apart { met < takers }
     ensures { (start : Start) → IsReady start (enc.old, board.old.slots.items)
+        → ClimbsFit start (states_at (enc.old, board.old.slots.items) met)
+        (λ k. states_at (enc.old, board.old.slots.items) (takers + k))
         → Left start (enc.new, board.new.slots.items)
         (Climbed start (enc.old, board.old.slots.items) (enc.new, board.new.slots.items) met
         takers) result }
@@ -181,12 +212,18 @@ fn take_end(
     won: usize,
     takers: usize,
 ) -> Result<(), SetErr>
-    requires ready { (start : Start) × IsReady start (enc.old, board.old.slots.items) }
+    requires ready { (start : Start) × IsReady start (enc.old, board.old.slots.items)
+        × ShareFits start (states_at (enc.old, board.old.slots.items) won)
+        (states_at (enc.old, board.old.slots.items) won)
+        (λ k. states_at (enc.old, board.old.slots.items) (takers + k)) }
     requires actions { actions ≡ length enc.old.actions }
     requires places { takers + actions ≤ length board.old.slots.items }
     requires won { 8 ≤ won }
     requires apart { won < takers }
     ensures { (start : Start) → IsReady start (enc.old, board.old.slots.items)
+        → ShareFits start (states_at (enc.old, board.old.slots.items) won)
+        (states_at (enc.old, board.old.slots.items) won)
+        (λ k. states_at (enc.old, board.old.slots.items) (takers + k))
         → Left start (enc.new, board.new.slots.items)
         (EndTaken start (enc.old, board.old.slots.items) (enc.new, board.new.slots.items) won
         takers) result }

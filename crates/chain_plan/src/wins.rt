@@ -2,8 +2,9 @@
 
 ghost use Rattle.std.specs.Prelude.{◌≡◌, ◌≤◌, ◌+◌, ◌<◌, length};
 ghost use Rattle.chain_plan.specs.Chains.{IsChainOver, IsConditionOver, chain_sets};
-ghost use Rattle.chain_plan.specs.Scenes.{IsAt, IsReady, Left, Start};
-ghost use Rattle.chain_plan.specs.Steps.{EndWon, HasWins, StageMet, StageWon};
+ghost use Rattle.chain_plan.specs.Scenes.{IsAt, IsReady, Left, Start, states_at};
+ghost use Rattle.chain_plan.specs.Sizes.{EndFits, SearchFits, StageFits};
+ghost use Rattle.chain_plan.specs.Steps.{EndWon, HasKept, HasWins, StageMet, StageWon};
 
 use crate::places::{NEAR, win_at};
 use crate::rounds::{Way, turn_all};
@@ -13,6 +14,26 @@ use encode_task::Enc;
 use slot_board::{Board, Operation};
 use task_core::Cond;
 
+/// Finds the states in which a condition holds. A list of truth values that is no state is left out:
+/// no action leads there, and what an action would lead there need not be small.
+fn keep_states(enc: &mut Enc, board: &mut Board, keep: &Cond, place: usize) -> Result<(), SetErr>
+    requires ready { (start : Start) × IsAt start (enc.old, board.old.slots.items)
+        × EndFits start keep.now }
+    requires keep { IsConditionOver enc.old.sets.vars keep.now }
+    requires place { place < length board.old.slots.items }
+    requires high { 8 ≤ place }
+    ensures { (start : Start) → IsAt start (enc.old, board.old.slots.items)
+        → EndFits start keep.now
+        → Left start (enc.new, board.new.slots.items)
+        (HasKept start (enc.old, board.old.slots.items) (enc.new, board.new.slots.items) place
+        keep.now) result }
+{
+    board.condition(enc, place, keep)?;
+    let space = enc.space();
+    board.copy(enc, NEAR, space)?;
+    board.combine(enc, place, Operation::Meet, NEAR, place)
+}
+
 /// Finds where a condition can be kept for ever.
 fn win_end(
     enc: &mut Enc,
@@ -21,28 +42,32 @@ fn win_end(
     keep: &Cond,
     place: usize,
 ) -> Result<(), SetErr>
-    requires ready { (start : Start) × IsAt start (enc.old, board.old.slots.items) }
+    requires ready { (start : Start) × IsAt start (enc.old, board.old.slots.items)
+        × EndFits start keep.now }
     requires actions { actions ≡ length enc.old.actions }
     requires keep { IsConditionOver enc.old.sets.vars keep.now }
     requires place { place < length board.old.slots.items }
     requires high { 8 ≤ place }
     ensures { (start : Start) → IsAt start (enc.old, board.old.slots.items)
+        → EndFits start keep.now
         → Left start (enc.new, board.new.slots.items)
         (EndWon start (enc.old, board.old.slots.items) (enc.new, board.new.slots.items) place
         keep.now) result }
 {
-    board.condition(enc, place, keep)?;
+    keep_states(enc, board, keep, place)?;
     turn_all(enc, board, actions, Way::Shrinking, place)?;
     board.copy_of(enc, place, NEAR)
 }
 
 /// Finds where a stage is met: where its condition holds, and the states of the next context.
 fn meet_stage(enc: &mut Enc, board: &mut Board, stage: &Cond, place: usize) -> Result<(), SetErr>
-    requires ready { (start : Start) × IsReady start (enc.old, board.old.slots.items) }
+    requires ready { (start : Start) × IsReady start (enc.old, board.old.slots.items)
+        × StageFits start stage.now (states_at (enc.old, board.old.slots.items) (place + 2)) }
     requires stage { IsConditionOver enc.old.sets.vars stage.now }
     requires place { place + 2 < length board.old.slots.items }
     requires high { 8 ≤ place }
     ensures { (start : Start) → IsReady start (enc.old, board.old.slots.items)
+        → StageFits start stage.now (states_at (enc.old, board.old.slots.items) (place + 2))
         → Left start (enc.new, board.new.slots.items)
         (StageMet start (enc.old, board.old.slots.items) (enc.new, board.new.slots.items) place
         stage.now) result }
@@ -59,12 +84,14 @@ fn win_stage(
     stage: &Cond,
     place: usize,
 ) -> Result<(), SetErr>
-    requires ready { (start : Start) × IsReady start (enc.old, board.old.slots.items) }
+    requires ready { (start : Start) × IsReady start (enc.old, board.old.slots.items)
+        × StageFits start stage.now (states_at (enc.old, board.old.slots.items) (place + 2)) }
     requires actions { actions ≡ length enc.old.actions }
     requires stage { IsConditionOver enc.old.sets.vars stage.now }
     requires place { place + 2 < length board.old.slots.items }
     requires high { 8 ≤ place }
     ensures { (start : Start) → IsReady start (enc.old, board.old.slots.items)
+        → StageFits start stage.now (states_at (enc.old, board.old.slots.items) (place + 2))
         → Left start (enc.new, board.new.slots.items)
         (StageWon start (enc.old, board.old.slots.items) (enc.new, board.new.slots.items) place
         stage.now) result }
@@ -82,11 +109,11 @@ pub(crate) fn win_all(
     chain: &Chain,
 ) -> Result<(), SetErr>
     requires ready { (start : Start) × IsAt start (enc.old, board.old.slots.items)
-        × (start.stages ≡ length chain.now.stages.items) }
+        × (start.stages ≡ length chain.now.stages.items) × SearchFits start chain.now }
     requires actions { actions ≡ length enc.old.actions }
     requires chain { IsChainOver enc.old.sets.vars chain.now }
     ensures { (start : Start) → IsAt start (enc.old, board.old.slots.items)
-        → start.stages ≡ length chain.now.stages.items
+        → start.stages ≡ length chain.now.stages.items → SearchFits start chain.now
         → Left start (enc.new, board.new.slots.items)
         (HasWins start (enc.old, board.old.slots.items) (enc.new, board.new.slots.items)
         (chain_sets chain.now) 0) result }

@@ -2,6 +2,7 @@
 -- that it steps from states of the task alone.
 use Rattle.std.specs.Prelude.{◌≡◌, ℕ, ◌<◌, List, All, length}
 use Rattle.chain_plan.specs.Scenes.{Start}
+use Rattle.chain_plan.specs.Sizes.{EverySetIsSmall}
 use Rattle.chain_plan.specs.Tables.{HasTable}
 use Rattle.dd_sets.specs.LiveSets.{IsLive, LiveSets}
 use Rattle.dd_sets.specs.declared.slots.SetId.{SetId}
@@ -20,10 +21,12 @@ AreSlotsLive sets slots = (i : ℕ) → i < length slots → IsLive sets (slot_a
 abbrev pub AreReachedWithin : ℕ → List Place → Type 0
 AreReachedWithin n places = All (λ place. IsWithin n place.state) places
 
--- the board of a search for so many stages has the sets of a plan with contexts for the task
+-- the board of a search for so many stages has the sets of a plan with contexts for the task. Its
+-- width is one by which every set is small, as it takes as many sets more as there are actions
 pub record IsTableThere (task : Task) (now : Encoded) (slots : List SetId) (stages : ℕ) : Type 0 where
   pub start : Start
   pub chain : Chained
   pub of_task : start.task ≡ task
   pub count : start.stages ≡ stages
   pub table : HasTable start (now, slots) chain
+  pub small : EverySetIsSmall start

@@ -28,7 +28,7 @@ all_below n [] each = refl
 all_below n (p ∷ ps) each =
     and_from (tree_below n (condition_value p)) (trees_below n (condition_row (map condition_value ps))) (sym (below_is n p) ∙ each.0) (all_below n ps each.1)
 
-stage_below : (n : ℕ) (cond : Cond) (ps : List Cond) → condition_value cond ≡ all_conditions ps → EachOf (λ (p : Cond). ids_below n p ≡ true) ps → ids_below n cond ≡ true
+pub stage_below : (n : ℕ) (cond : Cond) (ps : List Cond) → condition_value cond ≡ all_conditions ps → EachOf (λ (p : Cond). ids_below n p ≡ true) ps → ids_below n cond ≡ true
 stage_below n cond ps is each = below_is n cond ∙ ap (tree_below n) is ∙ all_below n ps each
 
 all_deep : (n : ℕ) (ps : List Cond) → EachOf (λ (p : Cond). depth p ≤ n) ps → trees_depth (condition_row (map condition_value ps)) ≤ n
@@ -38,7 +38,7 @@ all_deep n (p ∷ ps) each =
     let later = all_deep n ps each.1 in
     omega (arith, here, later)
 
-stage_deep : (n : ℕ) (cond : Cond) (ps : List Cond) → condition_value cond ≡ all_conditions ps → EachOf (λ (p : Cond). depth p ≤ n) ps → depth cond ≤ n + 1
+pub stage_deep : (n : ℕ) (cond : Cond) (ps : List Cond) → condition_value cond ≡ all_conditions ps → EachOf (λ (p : Cond). depth p ≤ n) ps → depth cond ≤ n + 1
 stage_deep n cond ps is each =
     let e : depth cond ≡ 1 + trees_depth (condition_row (map condition_value ps)) = depth_is cond ∙ ap tree_depth is in
     let most = all_deep n ps each in
@@ -52,12 +52,12 @@ all_hold value (p ∷ ps) = (
       (holds_is p value ∙ both.0, (all_hold value ps).1 both.1),
 )
 
-stage_holds : (value : ℕ → Bool) (cond : Cond) (ps : List Cond) → condition_value cond ≡ all_conditions ps → EachOf (λ (p : Cond). holds p value ≡ true) ps ↔ (holds cond value ≡ true)
+pub stage_holds : (value : ℕ → Bool) (cond : Cond) (ps : List Cond) → condition_value cond ≡ all_conditions ps → EachOf (λ (p : Cond). holds p value ≡ true) ps ↔ (holds cond value ≡ true)
 stage_holds value cond ps is =
     let e : holds cond value ≡ trees_hold (condition_row (map condition_value ps)) value = holds_is cond value ∙ ap (λ (t : CondTree). tree_holds t value) is in
     (λ all. e ∙ (all_hold value ps).0 all, λ one. (all_hold value ps).1 (sym e ∙ one))
 
-same_holds : (value : ℕ → Bool) (c d : Cond) → condition_value c ≡ condition_value d → holds c value ≡ holds d value
+pub same_holds : (value : ℕ → Bool) (c d : Cond) → condition_value c ≡ condition_value d → holds c value ≡ holds d value
 same_holds value c d is = holds_is c value ∙ ap (λ (t : CondTree). tree_holds t value) is ∙ sym (holds_is d value)
 
 -- what holds of each stage

@@ -37,7 +37,7 @@ module _ {X : Type 0} (Step : X → X → Type 0) where
   pub reached_alike : (H K : X → Type 0) → ((x : X) → H x ↔ K x) → (x : X) → EveryPathMeets Step Anything H x ↔ EveryPathMeets Step Anything K x
   reached_alike H K same x = (reached_weaker H K (λ y. (same y).0) x, reached_weaker K H (λ y. (same y).1) x)
 
-  both_weaker : (G H : X → Type 0) → ((x : X) → G x → H x) → (path : List X) → MeetsOrKeeps G Nothing path → MeetsOrKeeps H Nothing path
+  pub both_weaker : (G H : X → Type 0) → ((x : X) → G x → H x) → (path : List X) → MeetsOrKeeps G Nothing path → MeetsOrKeeps H Nothing path
   both_weaker G H weaker path m =
       ⊎_elim
       (λ m. absurd m.has)
@@ -50,7 +50,7 @@ module _ {X : Type 0} (Step : X → X → Type 0) where
   pub kept_alike : (G H : X → Type 0) → ((x : X) → G x ↔ H x) → (x : X) → EveryPathKeeps Step G Nothing x ↔ EveryPathKeeps Step H Nothing x
   kept_alike G H same x = (kept_weaker G H (λ y. (same y).0) x, kept_weaker H G (λ y. (same y).1) x)
 
-  kept_always : (G : X → Type 0) → ((x : X) → G x) → (x : X) → EveryPathKeeps Step G Nothing x
+  pub kept_always : (G : X → Type 0) → ((x : X) → G x) → (x : X) → EveryPathKeeps Step G Nothing x
   kept_always G each x n rest long path = inr (record { each = λ i y is. each y })
 
   module _ {P : Type 0} (Has : P → X → Type 0) where

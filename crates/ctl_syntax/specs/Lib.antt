@@ -2,7 +2,12 @@ pub mod ChainSteps
 pub mod ChainValues
 pub mod Chains
 pub mod Conditions
+pub mod FarGoals
+pub mod FarSteps
+pub mod FarValues
 pub mod Goals
 pub mod Paths
+pub mod Patrols
 pub mod Truth
+pub mod UntilChains
 pub mod Values

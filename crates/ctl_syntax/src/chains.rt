@@ -121,7 +121,7 @@ fn with_stage(alloc: Global, parts: &[Ctl], stages: Vec<Cond>) -> Result<Option<
 }
 
 /// Whether the goals are conditions that can stand in a stage.
-fn is_stage(goals: &[Ctl]) -> bool
+pub(crate) fn is_stage(goals: &[Ctl]) -> bool
     ensures { result ≡ is_stage_row (map ctl_value goals.now) }
 {
     !goals.is_empty() && are_plain(goals)
@@ -150,7 +150,7 @@ fn is_without_operators(goal: &Ctl) -> bool
 }
 
 /// Copies of the goals that have no operators.
-fn plain_copies(alloc: Global, goals: &[Ctl]) -> Result<Vec<Cond>, AllocError>
+pub(crate) fn plain_copies(alloc: Global, goals: &[Ctl]) -> Result<Vec<Cond>, AllocError>
     ensures { IfOk result (λ copies. map condition_value copies.items
         ≡ map condition_value (plain_parts (map ctl_value goals.now))) }
 {

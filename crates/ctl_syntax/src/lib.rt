@@ -9,10 +9,12 @@
 
 mod chains;
 mod copies;
+mod far;
 mod goals;
 mod laws;
 
 pub use chains::{Chain, as_chain};
 pub use copies::{copied_condition, copied_conditions};
+pub use far::{Far, UntilChain, UntilStage, as_far};
 pub use goals::Ctl;
-pub use laws::chains_are_true;
+pub use laws::{chains_are_true, far_goals_are_true};

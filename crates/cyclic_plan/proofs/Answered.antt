@@ -1,5 +1,5 @@
 -- The planner's answer: what is said of it.
-use Rattle.std.proofs.Common.{◌≡◌, ℕ, suc, ap, ◌<◌, ◌≤◌, ⊎_elim, ◌+◌, ◌*◌, arith, ◌^◌, Bool, true, false, List, All, Option, Some, IfSome, Result, Ok, Err, IfOk, refl, sym, subst, ◌∙◌}
+use Rattle.std.proofs.Common.{◌≡◌, ℕ, suc, ap, ◌<◌, ◌≤◌, ⊎_elim, ◌+◌, ◌*◌, arith, ◌^◌, Bool, true, false, List, All, Option, Some, IfSome, Result, Ok, Err, IfOk, IsErrOf, refl, sym, subst, ◌∙◌}
 use Rattle.std.specs.List.{list_all}
 use Rattle.std.proofs.lemmas.Bool.{cases_lt, false_from_ne_true, true≢false}
 use Rattle.dd_sets.specs.declared.errors.SetErr.{SetErr}
@@ -32,10 +32,13 @@ use Rattle.cyclic_plan.specs.Stages.{HasNear, HasRounds, Takings, kept_system, n
 use Rattle.cyclic_plan.proofs.PlanMade.{covered_is, near_stays}
 use Rattle.cyclic_plan.specs.Takers.{HasTable, start_of}
 use Rattle.dd_sets.specs.LiveSets.{LiveSets}
-use Rattle.dd_sets.specs.Rooms.{AnySet, NoRoom}
+use Rattle.dd_sets.specs.Rooms.{NoRoom}
+use Rattle.dd_sets.proofs.RoomSteps.{room_wider}
 use Rattle.slot_board.specs.Board as board
 use Rattle.slot_board.specs.Board.{At, HasNoRoom, Left, Start, Stayed, set_at}
-use Rattle.cyclic_plan.specs.Stages.{HasNothing, place_count}
+use Rattle.cyclic_plan.specs.Stages.{AreTakersSmall, HasNothing, IsFit, place_count, rough_places}
+use Rattle.cyclic_plan.specs.WorkingSets.{IsWide}
+use Rattle.cyclic_plan.proofs.Fitting.{all_wide, takers_small}
 use Rattle.plan_theory.specs.LargestSets.{covers, goal_or_pair}
 use Rattle.plan_theory.specs.Pairs.{restricted}
 use Rattle.plan_theory.specs.CyclicPlans.{cyclic_rules}
@@ -160,8 +163,17 @@ ends_none start now slots result is ends = subst (Ends start now slots) is ends
 pub ends_refusal : (start : Start) (now : Encoded) (slots : List SetId) (result : Result Bool SetErr) (e : SetErr) → result ≡ Err e → Ends start now slots result → At start now slots × (e ≡ Full → HasNoRoom start now)
 ends_refusal start now slots result e is ends = subst (Ends start now slots) is ends
 
-pub room_of : (task : Task) (enc : Encoded) (after : LiveSets) → NoRoom AnySet (place_count (action_count task) + (action_count task + 17) + 8) enc.sets after → NoRoom AnySet (3 * action_count task + 32) enc.sets after
-room_of task enc after full = subst (λ most. NoRoom AnySet most enc.sets after) (omega arith) full
+pub room_of : (task : Task) (enc : Encoded) (after : LiveSets) (width : ℕ) → NoRoom width (place_count (action_count task) + (action_count task + 17) + 8) 6 enc.sets after → NoRoom width (3 * action_count task + 32) 16 enc.sets after
+room_of task enc after width full = room_wider enc.sets (place_count (action_count task) + (action_count task + 17) + 8) (3 * action_count task + 32) 6 16 (omega arith) (omega arith) full
+
+-- a refusal for want of room that is passed on was one
+pub full_before : {S T : Type 0} (inner : Result S SetErr) (outer : Result T SetErr) (e : SetErr) → inner ≡ Err e → (x : SetErr) × (outer ≡ Err x) × (x ≡ e) → IsErrOf outer Full → IsErrOf inner Full
+full_before inner outer e was p full =
+    let a = p.1 in
+    let b = p.2 in
+    let f = full in
+    let g : e ≡ Full = cc in
+    was ∙ ap Err g
 
 -- what is said of a value that is there
 pub some_has : {T : Type 0} (o : Option T) (P : T → Type 0) (x : T) → o ≡ Some x → IfSome o P → P x
@@ -179,8 +191,19 @@ answer_no_plan task (Ok NoPlan) is = is
 answer_no_plan task (Err e) is = tt
 
 -- the new board's places
-pub first_places : (task : Task) (enc now : Encoded) (made : MadeOf task enc) (places : ℕ) (slots : List SetId) → places ≡ place_count (action_count task)
-    → board.HasNothing (record { task = task; enc = enc; made = made; places = places; spare = action_count task + 17 }) now slots → HasNothing (start_of task enc made) now slots
-first_places task enc now made places slots e h =
-    let new : board.HasNothing (start_of task enc made) now slots = subst (λ n. board.HasNothing (record { task = task; enc = enc; made = made; places = n; spare = action_count task + 17 }) now slots) e h in
-    record { at = new.at; places = refl; holds_nothing = new.holds_nothing }
+pub first_places : (task : Task) (enc now : Encoded) (made : MadeOf task enc) (width : ℕ) (wide : IsWide width task) (places : ℕ) (slots : List SetId) → places ≡ place_count (action_count task)
+    → board.HasNothing (record { task = task; enc = enc; made = made; places = places; spare = action_count task + 17; width = width; wide = wide.wide; rough = rough_places }) now slots → HasNothing (start_of task enc made width wide.wide) now slots
+first_places task enc now made width wide places slots e h =
+    let new : board.HasNothing (start_of task enc made width wide.wide) now slots =
+    subst (λ n. board.HasNothing (record { task = task; enc = enc; made = made; places = n; spare = action_count task + 17; width = width; wide = wide.wide; rough = rough_places }) now slots) e h in
+    record { at = new.at; fit = record { wide = wide; rough = refl }; places = refl; holds_nothing = new.holds_nothing }
+
+-- a start with a width by which every set is small
+abbrev pub any_start : (task : Task) (enc : Encoded) → MadeOf task enc → Start
+any_start task enc made = start_of task enc made (2 ^ fluent_count task + 1) (all_wide task).wide
+
+-- what the actions take in the last round is small
+pub last_takers : (start : Start) (r : ℕ) → IsFit start → IsLastRound (system_of start.task) r → AreTakersSmall start true (round (system_of start.task) r)
+last_takers start r fit last is k a within =
+    let sys = system_of start.task in
+    takers_small start fit (kept sys (round sys r)) (last_is_largest sys (is_system start.task) r last) k a within

@@ -32,15 +32,18 @@ use Rattle.slot_board.proofs.BoardSlots.{depends}
 use Rattle.slot_board.specs.Board.{set_at}
 use Rattle.slot_board.specs.Board.{Start}
 use Rattle.plan_theory.specs.PairRounds.{connected, kept}
-use Rattle.cyclic_plan.specs.Stages.{HasNear, HasNext, HasRound, Takings, kept_system, next_by, taken_also, taken_by, taken_if, takers_within}
+use Rattle.cyclic_plan.specs.Stages.{AddsToSmall, AreTakersSmall, HasNear, HasNext, HasRound, IsFit, IsLeft, IsStep, Takings, kept_system, next_by, none_taken, taken_also, taken_by, taken_if, takers_within}
+use Rattle.cyclic_plan.proofs.Fitting.{next_small, set_as}
 
 -- the same states by another name
 pub round_as : (start : Start) (now : Encoded) (slots : List SetId) (left : SetOfVectors) (taken other : Takings) → HasRound start now slots left taken
     → ((a : ℕ) (v : Vector) → a < action_count start.task → IsVector (system_of start.task) v → taken a v ≡ other a v) → HasRound start now slots left other
 round_as start now slots left taken other h same = record {
   at = h.at;
+  fit = h.fit;
   places = h.places;
   sound = h.sound;
+  is_left = h.is_left;
   holds_goal = h.holds_goal;
   holds_left = h.holds_left;
   holds_taken = λ a l v is. h.holds_taken a l v is ∙ same a v l is;
@@ -58,6 +61,7 @@ pub next_as : (start : Start) (now : Encoded) (slots : List SetId) (left : SetOf
     → ((a : ℕ) (v : Vector) → a < action_count start.task → IsVector (system_of start.task) v → taken a v ≡ other a v) → ((v : Vector) → IsVector (system_of start.task) v → next v ≡ more v) → HasNext start now slots left other near more
 next_as start now slots left taken other near next more h same alike = record {
   by_near = near_as start now slots left taken other near near h.by_near same (λ v is. refl);
+  is_near = h.is_near;
   holds_next = λ v is. h.holds_next v is ∙ alike v is;
 }
 
@@ -272,3 +276,42 @@ spread_less start enc now old new left taking k n h differ is_n taken next after
     fewer v is out =
         up (set_at enc.sets old 3 (value_of v)) (set_at now.sets new 3 (value_of v))
         (λ near. after.by_near.holds_near v is ∙ or_left (layer Weak (kept_system start left) k v) _ (sym (h.by_near.holds_near v is) ∙ near)) out
+
+-- where no actions are to be taken, nothing is said of what they take
+pub not_taking : (start : Start) (left : SetOfVectors) → AreTakersSmall start false left
+not_taking start left e = absurd (false≢true e)
+
+-- one step's sets are small, where those of all steps are
+pub step_small : (start : Start) (left : SetOfVectors) (taking : Bool) (k : ℕ) → AreTakersSmall start taking left → IsStep start taking left (takers_within taking (kept_system start left) k) (layer Weak (kept_system start left) k)
+step_small start left taking k small = (
+  (k, refl),
+  λ is a within. set_as start (takers Weak (kept_system start left) (suc k) a) _
+      (λ v len.
+      sym (takers_step true (kept_system start left) k a v within)
+      ∙ ap (λ t. taken_by true (kept_system start left) (layer Weak (kept_system start left) k) (takers_within t (kept_system start left) k) (action_count start.task) a v) (sym is))
+      (small is (suc k) a within),
+)
+
+-- and so are what one action adds to the next states, and to those that take it
+pub adds_small : (start : Start) (fit : IsFit start) (left : SetOfVectors) (taking : Bool) (taken : Takings) (near : SetOfVectors) (a : ℕ) → a < action_count start.task → IsLeft start left → IsStep start taking left taken near
+    → AddsToSmall start taking left (taken_by taking (kept_system start left) near taken a) near (next_by (kept_system start left) near a) a
+adds_small start fit left taking taken near a within is_left step =
+    let sub = kept_system start left in (
+      set_as start (next_by sub near (a + 1)) (λ v. next_by sub near a v || may_lead sub near v a) (λ v is. sym (next_more sub near a v)) (next_small start fit left near is_left step.0 (a + 1) (omega arith)),
+      λ is. set_as start (taken_by true sub near taken (action_count start.task) a) _ (λ v len. same v is) (step.1 is a within),
+    )
+  where
+    same : (v : Vector) → taking ≡ true → taken_by true (kept_system start left) near taken (action_count start.task) a v
+        ≡ taken_also (taken_by taking (kept_system start left) near taken a) a (λ u. may_lead (kept_system start left) near u a && not (next_by (kept_system start left) near a u)) a v
+    same v is =
+        let sub = kept_system start left in
+        taken_below true sub near taken (action_count start.task) a v true (lt-ltb a (action_count start.task) within)
+        ∙ sym (taken_below true sub near taken (a + 1) a v true (lt-ltb a (a + 1) (omega arith)))
+        ∙ sym (taken_more true sub near taken a a v)
+        ∙ ap (λ t. taken_also (taken_by t sub near taken a) a (λ u. may_lead sub near u a && not (next_by sub near a u)) a v) (sym is)
+
+-- the goal states are near, and no action is taken yet
+pub begun_near : (start : Start) (now : Encoded) (slots : List SetId) (left : SetOfVectors) (taking : Bool) → HasNear start now slots left none_taken (layer Weak (kept_system start left) 0)
+    → HasNear start now slots left (takers_within taking (kept_system start left) 0) (layer Weak (kept_system start left) 0)
+begun_near start now slots left taking h =
+    near_as start now slots left none_taken (takers_within taking (kept_system start left) 0) (layer Weak (kept_system start left) 0) (layer Weak (kept_system start left) 0) h (λ a v l is. takers_none taking (kept_system start left) a v) (λ v is. refl)

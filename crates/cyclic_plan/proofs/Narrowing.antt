@@ -75,7 +75,7 @@ module _ (sys : System) (ok : IsSystem sys) (r : ℕ) (none : (a : ℕ) → a < 
 pub dropped_none : (start : Start) (enc now : Encoded) (old new : List SetId) (r : ℕ) → HasRounds start enc old r
     → Moved start enc.sets old now new 1 (set_at enc.sets old 3) → HasDropped start now new r 0
 dropped_none start enc now old new r h m = record {
-  round = left_copied start enc now old new (round (system_of start.task) r) none_taken (round (system_of start.task) (suc r)) h m;
+  round = left_copied start enc now old new (round (system_of start.task) r) none_taken (round (system_of start.task) (suc r)) h (suc r, refl) m;
   holds_near = still start enc now old new 1 _ m h.round.places 3 _ (omega arith) (λ e. absurd (omega arith)) h.holds_near;
   holds_kept = λ a below within. absurd (omega arith);
   holds_before = λ a low within. still start enc now old new 1 _ m h.round.places (7 + a) _ (omega arith) (λ e. absurd (omega arith)) (h.holds_pairs a within);
@@ -83,23 +83,23 @@ dropped_none start enc now old new r h m = record {
 
 -- the pairs of states that are left
 pub pairs_met : (start : Start) (enc now : Encoded) (old new : List SetId) (r a : ℕ) → a < action_count start.task → HasDropped start enc old r a
-    → Moved start enc.sets old now new (7 + a) (and_of (set_at enc.sets old (7 + a)) (set_at enc.sets old 1)) → HasMet start now new r a
+    → Moved start enc.sets old now new 6 (and_of (set_at enc.sets old (7 + a)) (set_at enc.sets old 1)) → HasMet start now new r a
 pairs_met start enc now old new r a l h m =
     let sys = system_of start.task in
     let places = h.round.places in
     record {
-      round = round_still start enc now old new (7 + a) _ m places _ none_taken h.round (λ e. absurd (omega arith)) (λ e. absurd (omega arith)) (omega arith);
-      holds_near = still start enc now old new (7 + a) _ m places 3 _ (omega arith) (λ e. absurd (omega arith)) h.holds_near;
-      holds_kept = λ b below within. still start enc now old new (7 + a) _ m places (7 + b) _ (omega arith) (λ e. absurd (omega arith)) (h.holds_kept b below within);
-      holds_met = here start enc now old new (7 + a) _ m places (λ v. kept sys (round sys r) v a && round sys (suc r) v)
+      round = round_still start enc now old new 6 _ m places _ none_taken h.round (λ e. absurd (omega arith)) (λ e. absurd (omega arith)) (omega arith);
+      holds_near = still start enc now old new 6 _ m places 3 _ (omega arith) (λ e. absurd (omega arith)) h.holds_near;
+      holds_kept = λ b below within. still start enc now old new 6 _ m places (7 + b) _ (omega arith) (λ e. absurd (omega arith)) (h.holds_kept b below within);
+      holds_met = here start enc now old new 6 _ m places (λ v. kept sys (round sys r) v a && round sys (suc r) v)
           (λ v is.
           ap (λ x. x && set_at enc.sets old 1 (value_of v)) (h.holds_before a (omega arith) l v is)
           ∙ ap (λ x. kept sys (round sys r) v a && x) (h.round.holds_left v is));
-      holds_before = λ b above within. still start enc now old new (7 + a) _ m places (7 + b) _ (omega arith) (λ e. absurd (omega arith)) (h.holds_before b (omega arith) within);
+      holds_before = λ b above within. still start enc now old new 6 _ m places (7 + b) _ (omega arith) (λ e. absurd (omega arith)) (h.holds_before b above within);
     }
 
 -- there are none
-module _ (start : Start) (now : Encoded) (slots : List SetId) (r a : ℕ) (l : a < action_count start.task) (h : HasMet start now slots r a) (none : set_at now.sets slots (7 + a) ≡ nothing) where
+module _ (start : Start) (enc now : Encoded) (old new : List SetId) (r a : ℕ) (l : a < action_count start.task) (h : HasMet start enc old r a) (none : set_at enc.sets old 6 ≡ nothing) where
   none_met : (v : Vector) → IsVector (system_of start.task) v → (kept (system_of start.task) (round (system_of start.task) r) v a && round (system_of start.task) (suc r) v) ≡ false
   none_met v is = sym (h.holds_met v is) ∙ ap (λ (f : Function). f (value_of v)) none
 
@@ -108,41 +108,49 @@ module _ (start : Start) (now : Encoded) (slots : List SetId) (r a : ℕ) (l : a
       let sys = system_of start.task in
       kept_narrowed sys r v a ∙ and_none (must_lead sys (round sys (suc r)) v a) (kept sys (round sys r) v a && round sys (suc r) v) (none_met v is)
 
-  pub none_dropped : HasDropped start now slots r (a + 1)
-  none_dropped = record {
-    round = h.round;
-    holds_near = h.holds_near;
-    holds_kept = λ b below within.
-        ⊎_elim
-        (λ (same : b ≡ a).
-        subst (λ k. Agrees start (set_at now.sets slots (7 + k)) (λ v. kept (system_of start.task) (round (system_of start.task) (suc r)) v k)) (sym same) (λ v is. h.holds_met v is ∙ sym (none_loses v is)))
-        (λ (differs : b ≢ a). h.holds_kept b (let d = differs in omega arith) within)
-        (cases_eq b a);
-    holds_before = λ b above within. h.holds_before b (omega arith) within;
-  }
+  pub none_dropped : Moved start enc.sets old now new (7 + a) (set_at enc.sets old 6) → HasDropped start now new r (a + 1)
+  none_dropped m =
+      let sys = system_of start.task in
+      let places = h.round.places in
+      record {
+        round = round_still start enc now old new (7 + a) _ m places _ none_taken h.round (λ e. absurd (omega arith)) (λ e. absurd (omega arith)) (omega arith);
+        holds_near = still start enc now old new (7 + a) _ m places 3 _ (omega arith) (λ e. absurd (omega arith)) h.holds_near;
+        holds_kept = λ b below within.
+            ⊎_elim
+            (λ (same : b ≡ a).
+            subst (λ k. Agrees start (set_at now.sets new (7 + k)) (λ v. kept sys (round sys (suc r)) v k)) (sym same)
+            (here start enc now old new (7 + a) _ m places (λ v. kept sys (round sys (suc r)) v a) (λ v is. h.holds_met v is ∙ sym (none_loses v is))))
+            (λ (differs : b ≢ a). still start enc now old new (7 + a) _ m places (7 + b) _ (omega arith) (λ e. differs (omega arith)) (h.holds_kept b (let d = differs in omega arith) within))
+            (cases_eq b a);
+        holds_before = λ b above within. still start enc now old new (7 + a) _ m places (7 + b) _ (omega arith) (λ e. absurd (omega arith)) (h.holds_before b (omega arith) within);
+      }
 
 pub not_false : (b : Bool) → not b ≡ false → b ≡ true
 not_false true e = refl
 not_false false e = sym e
 
--- there are some, of which those stay that don't lead out
+-- there are some, of which those that don't lead out
+pub kept_agree : (start : Start) (enc mid : Encoded) (old half : List SetId) (r a : ℕ) → HasMet start enc old r a → Moved start enc.sets old mid half 5 (led Outcomes.Every start.task a (set_at enc.sets old 1))
+    → Agrees start (and_of (set_at mid.sets half 5) (set_at mid.sets half 6)) (λ v. kept (system_of start.task) (round (system_of start.task) (suc r)) v a)
+kept_agree start enc mid old half r a h first v is =
+    let sys = system_of start.task in
+    let left : SetOfVectors = round sys (suc r) in
+    let places : start.places ≡ 7 + action_count start.task + action_count start.task = h.round.places in
+    ap (λ x. x && set_at mid.sets half 6 (value_of v))
+    (here start enc mid old half 5 _ first places (λ w. must_lead sys left w a) (strong_agrees start a (set_at enc.sets old 1) left (depends start enc old h.round.at h.round.sound 1) h.round.holds_left) v is)
+    ∙ ap (λ x. must_lead sys left v a && x) (still start enc mid old half 5 _ first places 6 _ (omega arith) (λ e. absurd (omega arith)) h.holds_met v is)
+    ∙ sym (kept_narrowed sys r v a)
+
+-- these stay
 module _ (start : Start) (enc mid met now : Encoded) (old half third new : List SetId) (r a : ℕ) (l : a < action_count start.task) (h : HasMet start enc old r a)
     (first : Moved start enc.sets old mid half 5 (led Outcomes.Every start.task a (set_at enc.sets old 1)))
-    (second : Moved start mid.sets half met third 5 (and_of (set_at mid.sets half 5) (set_at mid.sets half (7 + a))))
+    (second : Moved start mid.sets half met third 5 (and_of (set_at mid.sets half 5) (set_at mid.sets half 6)))
     (last : Moved start met.sets third now new (7 + a) (set_at met.sets third 5)) where
   places : start.places ≡ 7 + action_count start.task + action_count start.task
   places = h.round.places
 
   met_kept : Agrees start (set_at met.sets third 5) (λ v. kept (system_of start.task) (round (system_of start.task) (suc r)) v a)
-  met_kept v is =
-      let sys = system_of start.task in
-      let left : SetOfVectors = round sys (suc r) in
-      here start mid met half third 5 _ second places (λ u. must_lead sys left u a && (kept sys (round sys r) u a && left u))
-      (λ u at.
-      ap (λ x. x && set_at mid.sets half (7 + a) (value_of u))
-      (here start enc mid old half 5 _ first places (λ w. must_lead sys left w a) (strong_agrees start a (set_at enc.sets old 1) left (depends start enc old h.round.at h.round.sound 1) h.round.holds_left) u at)
-      ∙ ap (λ x. must_lead sys left u a && x) (still start enc mid old half 5 _ first places (7 + a) _ (omega arith) (λ e. absurd (omega arith)) h.holds_met u at)) v is
-      ∙ sym (kept_narrowed sys r v a)
+  met_kept = here start mid met half third 5 _ second places _ (kept_agree start enc mid old half r a h first)
 
   through : (k : ℕ) (set : SetOfVectors) → k < 7 + action_count start.task + action_count start.task → k ≢ 5 → k ≢ 7 + a → Agrees start (set_at enc.sets old k) set → Agrees start (set_at now.sets new k) set
   through k set within differs apart holds =
@@ -155,8 +163,10 @@ module _ (start : Start) (enc mid met now : Encoded) (old half third new : List 
       record {
         round = record {
           at = last.at;
+          fit = h.round.fit;
           places = places;
           sound = last.sound;
+          is_left = h.round.is_left;
           holds_goal = through 0 _ (omega arith) (λ e. absurd (omega arith)) (λ e. absurd (omega arith)) h.round.holds_goal;
           holds_left = through 1 _ (omega arith) (λ e. absurd (omega arith)) (λ e. absurd (omega arith)) h.round.holds_left;
           holds_taken = λ k below. through (7 + action_count start.task + k) (none_taken k) (omega arith) (λ e. absurd (omega arith)) (λ e. absurd (omega arith)) (h.round.holds_taken k below);
@@ -170,10 +180,10 @@ module _ (start : Start) (enc mid met now : Encoded) (old half third new : List 
         holds_before = λ b above within. through (7 + b) _ (omega arith) (λ e. absurd (omega arith)) (λ e. absurd (omega arith)) (h.holds_before b (omega arith) within);
       }
 
-  pub same_loses_none : set_at met.sets third 5 ≡ set_at met.sets third (7 + a) → LosesNone (system_of start.task) r a
+  pub same_loses_none : set_at met.sets third 5 ≡ set_at met.sets third 6 → LosesNone (system_of start.task) r a
   same_loses_none same v is =
       sym (met_kept v is) ∙ ap (λ (f : Function). f (value_of v)) same
-      ∙ still start mid met half third 5 _ second places (7 + a) _ (omega arith) (λ e. absurd (omega arith)) (still start enc mid old half 5 _ first places (7 + a) _ (omega arith) (λ e. absurd (omega arith)) h.holds_met) v is
+      ∙ still start mid met half third 5 _ second places 6 _ (omega arith) (λ e. absurd (omega arith)) (still start enc mid old half 5 _ first places 6 _ (omega arith) (λ e. absurd (omega arith)) h.holds_met) v is
 
 -- the round after them
 pub round_of_kept : (start : Start) (now : Encoded) (slots : List SetId) (r : ℕ) → HasDropped start now slots r (action_count start.task) → HasNear start now slots (round (system_of start.task) (suc r)) none_taken (round (system_of start.task) (suc r))

@@ -79,8 +79,10 @@ begun start enc mid now old half new slot h is first second =
     let long : length old ≡ 7 + action_count start.task + action_count start.task = h.at.long ∙ h.places in
     record {
       at = second.at;
+      fit = h.fit;
       places = h.places;
       sound = second.sound;
+      is_left = (0, refl);
       holds_goal = still start mid now half new 1 _ second h.places 0 _ (omega arith) (λ e. absurd (omega arith))
           (here start enc mid old half 0 _ first h.places _ (λ v at. ap (λ (f : Function). f (value_of v)) (h.at.working.kept.sets slot.0 goal.0) ∙ goal.1 v at));
       holds_left = here start mid now half new 1 _ second h.places _ (λ v at. refl);

@@ -12,7 +12,7 @@ use Rattle.slot_board.proofs.BoardSlots.{depends}
 use Rattle.slot_board.specs.Board.{set_at}
 use Rattle.slot_board.specs.Board.{Moved, Start}
 use Rattle.plan_theory.specs.PairRounds.{IsLastRound, round}
-use Rattle.cyclic_plan.specs.Stages.{HasNear, HasPairs, HasRound, HasRounds, Takings}
+use Rattle.cyclic_plan.specs.Stages.{HasNear, HasPairs, HasRound, HasRounds, IsLeft, Takings}
 use Rattle.cyclic_plan.proofs.Growth.{same_functions}
 use Rattle.plan_theory.proofs.RoundSteps.{held, holds_fewer, round_shrinks}
 use Rattle.cyclic_plan.proofs.StageSteps.{here, still}
@@ -26,12 +26,14 @@ some_near start now slots left taken h = record {
 }
 
 -- the states of the last round in the place of those before
-pub left_copied : (start : Start) (enc now : Encoded) (old new : List SetId) (left : SetOfVectors) (taken : Takings) (near : SetOfVectors) → HasNear start enc old left taken near
+pub left_copied : (start : Start) (enc now : Encoded) (old new : List SetId) (left : SetOfVectors) (taken : Takings) (near : SetOfVectors) → HasNear start enc old left taken near → IsLeft start near
     → Moved start enc.sets old now new 1 (set_at enc.sets old 3) → HasRound start now new near taken
-left_copied start enc now old new left taken near h m = record {
+left_copied start enc now old new left taken near h is m = record {
   at = m.at;
+  fit = h.round.fit;
   places = h.round.places;
   sound = m.sound;
+  is_left = is;
   holds_goal = still start enc now old new 1 _ m h.round.places 0 _ (omega arith) (λ e. absurd (omega arith)) h.round.holds_goal;
   holds_left = here start enc now old new 1 _ m h.round.places near h.holds_near;
   holds_taken = λ k l. still start enc now old new 1 _ m h.round.places (7 + action_count start.task + k) (taken k) (omega arith) (λ e. absurd (omega arith)) (h.round.holds_taken k l);

@@ -1,3 +1,4 @@
+pub mod WorkingSets
 pub mod Stages
 pub mod Rounds
 pub mod Takers

@@ -38,17 +38,17 @@ pub record HasDropped (start : Start) (now : Encoded) (slots : List SetId) (r n 
       → Agrees start (set_at now.sets slots (7 + a))
       (λ v. kept (system_of start.task) (round_of (system_of start.task) r) v a)
 
--- and action n those that round r kept of states that are left
+-- and of the states of action n's pairs in round r, those that are left stand at 6
 pub record HasMet (start : Start) (now : Encoded) (slots : List SetId) (r n : ℕ) : Type 0 where
   pub round : HasRound start now slots (round_of (system_of start.task) (suc r)) none_taken
   pub holds_near : Agrees start (set_at now.sets slots 3) (round_of (system_of start.task) (suc r))
   pub holds_kept : (a : ℕ) → a < n → a < action_count start.task
       → Agrees start (set_at now.sets slots (7 + a))
       (λ v. kept (system_of start.task) (round_of (system_of start.task) (suc r)) v a)
-  pub holds_met : Agrees start (set_at now.sets slots (7 + n))
+  pub holds_met : Agrees start (set_at now.sets slots 6)
       (λ v. kept (system_of start.task) (round_of (system_of start.task) r) v n
       && round_of (system_of start.task) (suc r) v)
-  pub holds_before : (a : ℕ) → n < a → a < action_count start.task
+  pub holds_before : (a : ℕ) → n ≤ a → a < action_count start.task
       → Agrees start (set_at now.sets slots (7 + a))
       (λ v. kept (system_of start.task) (round_of (system_of start.task) r) v a)
 

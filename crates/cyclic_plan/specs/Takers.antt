@@ -1,26 +1,31 @@
 -- The printed table on the board of a search: for each action, the states that take it.
-use Rattle.std.specs.Prelude.{◌≡◌, ℕ, ◌+◌, ◌<◌, List, true}
+use Rattle.std.specs.Prelude.{◌≡◌, ℕ, ◌+◌, ◌<◌, ◌≤◌, List, true}
 use Rattle.dd_sets.specs.LiveSets.{IsSets}
 use Rattle.dd_sets.specs.declared.slots.SetId.{SetId}
 use Rattle.encode_task.specs.Made.{MadeOf}
 use Rattle.encode_task.specs.Slots.{Encoded}
 use Rattle.plan_theory.specs.LayerPlans.{is_action}
-use Rattle.task_core.specs.Tasks.{action_count, system_of}
+use Rattle.task_core.specs.Tasks.{action_count, fluent_count, system_of}
 use Rattle.task_core.specs.declared.tasks.Task.{Task}
 use Rattle.slot_board.specs.Board.{At, Start, set_at}
 use Rattle.plan_theory.specs.LargestSets.{IsLargestSet, covers}
 use Rattle.plan_theory.specs.Pairs.{Pairs}
 use Rattle.plan_theory.specs.CyclicPlans.{progress_action}
-use Rattle.cyclic_plan.specs.Stages.{Agrees, place_count}
+use Rattle.cyclic_plan.specs.Stages.{Agrees, place_count, rough_places}
 
--- where a search for a task began: its board has places for seven sets and two for each action
-abbrev pub start_of : (task : Task) (enc : Encoded) → MadeOf task enc → Start
-start_of task enc made = record {
+-- where a search for a task began, with a width for its working sets: its board has places for seven
+-- sets and two for each action
+abbrev pub start_of : (task : Task) (enc : Encoded) → MadeOf task enc → (width : ℕ)
+    → fluent_count task + 2 ≤ width → Start
+start_of task enc made width wide = record {
   task = task;
   enc = enc;
   made = made;
   places = place_count (action_count task);
   spare = action_count task + 17;
+  width = width;
+  wide = wide;
+  rough = rough_places;
 }
 
 -- the place of the states that take an action, of so many actions

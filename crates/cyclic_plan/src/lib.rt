@@ -3,8 +3,9 @@
 //!
 //! `plan_cyclic` searches for them by rounds over sets of states. Which plan it gives is said in
 //! `plan_theory`, whose laws of strong cyclic planning the planner rests on. `cyclic_takers` gives
-//! the same plan as sets of states, in slots (`Takers`); `Stages`, `Rounds` and `Answers` have the
-//! words of the contracts inside.
+//! the same plan as sets of states, in slots (`Takers`). `WorkingSets` has the sets of which the nodes
+//! bound what the planner needs; `Stages`, `Rounds` and `Answers` have the words of the contracts
+//! inside.
 #![tactic(auto)]
 
 mod plan;

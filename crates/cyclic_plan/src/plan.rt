@@ -1,9 +1,9 @@
 //! The strong cyclic planner.
 
-ghost use Rattle.std.specs.Prelude.{◌≡◌, ◌+◌, ◌*◌, ◌<◌, [], map, length, Some, All};
+ghost use Rattle.std.specs.Prelude.{◌≡◌, ℕ, ◌+◌, ◌*◌, ◌<◌, [], map, length, Some, All};
 ghost use Rattle.std.specs.Prelude.{IsSome, IfErr, IfNone, IfOk, IfSome, OnErr, IsErrOf};
 ghost use Rattle.dd_sets.specs.Frames.{Owns};
-ghost use Rattle.dd_sets.specs.Rooms.{AnySet, NoRoom};
+ghost use Rattle.dd_sets.specs.Rooms.{NoRoom};
 ghost use Rattle.encode_task.specs.Made.{MadeOf};
 ghost use Rattle.task_core.specs.Solutions.{HasNoSolution, IsSolution};
 ghost use Rattle.task_core.specs.Tables.{IsTable};
@@ -23,6 +23,7 @@ ghost use Rattle.plan_theory.specs.CyclicPlans.{cyclic_rules};
 ghost use Rattle.plan_theory.specs.PairRounds.{round as round_of};
 ghost use Rattle.cyclic_plan.specs.Stages.{HasRound, none_taken};
 ghost use Rattle.cyclic_plan.specs.Takers.{HasTable, start_of};
+ghost use Rattle.cyclic_plan.specs.WorkingSets.{IsWide};
 
 use crate::rounds::{GOAL, LEFT, last_round, spread, takers_of};
 use dd_sets::{SetErr, SetId};
@@ -99,16 +100,18 @@ fn search(enc: &mut Enc, board: &mut Board, goal: SetId, actions: u32) -> Result
 ///
 /// `takers_of` tells the place of an action's states. `Full` comes only where the table holds as many
 /// nodes as it may, and its limit is tight with at most three sets of the search's own for each
-/// action and 32 more. Where no board is answered, all slots of the search are ended.
+/// action and 32 more, of which at most 16 are no working sets (`WorkingSets`). Where no board is
+/// answered, all slots of the search are ended.
 pub fn cyclic_takers(alloc: Global, task: &Task, enc: &mut Enc) -> Result<Option<Board>, SetErr>
     requires made { MadeOf task.now enc.old }
     requires goal { IsSome task.now.goal }
-    ensures table { (made : MadeOf task.now enc.old) → IfOk result (λ found. IfSome found
-        (λ board. HasTable (start_of task.now enc.old made) enc.new board.slots.items)) }
+    ensures table { (made : MadeOf task.now enc.old) (width : ℕ) (wide : IsWide width task.now)
+        → IfOk result (λ found. IfSome found (λ board.
+        HasTable (start_of task.now enc.old made width wide.wide) enc.new board.slots.items)) }
     ensures no_plan { IfOk result
         (λ found. IfNone found (HasNoSolution Cyclic (system_of task.now))) }
-    ensures full { IsErrOf result SetErr.Full
-        → NoRoom AnySet (3 * action_count task.now + 32) enc.old.sets enc.new.sets }
+    ensures full { IsErrOf result SetErr.Full → (width : ℕ) → IsWide width task.now
+        → NoRoom width (3 * action_count task.now + 32) 16 enc.old.sets enc.new.sets }
     ensures closed { IfOk result (λ found. IfNone found (Owns enc.old.sets enc.new.sets [])) }
     ensures refused { OnErr result (Owns enc.old.sets enc.new.sets []) }
     ensures same_slots { enc.new ≡ record enc.old { sets = enc.new.sets } }
@@ -162,8 +165,8 @@ fn find_plan(alloc: Global, task: &Task, enc: &mut Enc) -> Result<Found, SetErr>
     requires made { MadeOf task.now enc.old }
     requires goal { IsSome task.now.goal }
     ensures answer { IfOk result (IsAnswer task.now) }
-    ensures full { IsErrOf result SetErr.Full
-        → NoRoom AnySet (3 * action_count task.now + 32) enc.old.sets enc.new.sets }
+    ensures full { IsErrOf result SetErr.Full → (width : ℕ) → IsWide width task.now
+        → NoRoom width (3 * action_count task.now + 32) 16 enc.old.sets enc.new.sets }
     ensures slots { Owns enc.old.sets enc.new.sets [] }
     ensures same_slots { enc.new ≡ record enc.old { sets = enc.new.sets } }
 {
@@ -201,8 +204,8 @@ pub fn plan_cyclic(alloc: Global, task: &Task, enc: &mut Enc) -> Result<Found, S
         IfOk result (λ found. IfPlan found (λ plan. IsExecutable sys (rules_of plan))) }
     ensures no_plan { IfOk result
         (λ found. IfNoPlan found (HasNoSolution Cyclic (system_of task.now))) }
-    ensures full { IsErrOf result SetErr.Full
-        → NoRoom AnySet (3 * action_count task.now + 32) enc.old.sets enc.new.sets }
+    ensures full { IsErrOf result SetErr.Full → (width : ℕ) → IsWide width task.now
+        → NoRoom width (3 * action_count task.now + 32) 16 enc.old.sets enc.new.sets }
     ensures slots { Owns enc.old.sets enc.new.sets [] }
     ensures same_slots { enc.new ≡ record enc.old { sets = enc.new.sets } }
     ensures made { (task : TaskOf) → MadeOf task enc.old → MadeOf task enc.new }

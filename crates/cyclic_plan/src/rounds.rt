@@ -8,7 +8,8 @@ ghost use Rattle.plan_theory.specs.Layers.{may_lead};
 ghost use Rattle.slot_board.specs.Board.{Left, Start};
 ghost use Rattle.plan_theory.specs.PairRounds.{connected, kept, round as round_of};
 ghost use Rattle.cyclic_plan.specs.Rounds.{ArePairsAmong, HasDropped, HasMet, LosesNone, RoundsEnd};
-ghost use Rattle.cyclic_plan.specs.Stages.{HasHits, HasNear, HasNext, HasPairs, HasRounds};
+ghost use Rattle.cyclic_plan.specs.Stages.{AddsToSmall, AreTakersSmall, HasHits, HasNear};
+ghost use Rattle.cyclic_plan.specs.Stages.{HasNext, HasPairs, HasRounds, IsSmallSet, IsStep};
 ghost use Rattle.cyclic_plan.specs.Stages.{HasRound, HasStep, Takings, kept_system, next_by};
 ghost use Rattle.cyclic_plan.specs.Stages.{none_taken, taken_also, taken_by, taken_if};
 ghost use Rattle.cyclic_plan.specs.Stages.{takers_within};
@@ -31,7 +32,7 @@ pub(crate) const NEAR: usize = 3;
 const NEXT: usize = 4;
 /// The states of kept pairs from which an action leads into the near states.
 const HITS: usize = 5;
-/// Those of them that are new.
+/// Those of them that are new, and what else is made on the way to an action's set.
 const NEW: usize = 6;
 
 /// The place of the states of an action's kept pairs.
@@ -108,6 +109,7 @@ fn take(enc: &mut Enc, board: &mut Board, actions: u32, a: ActionId) -> Result<(
     ensures { (start : Start) (left : SetOfVectors) (taken : Takings)
         (near : SetOfVectors) (next : SetOfVectors) (hits : SetOfVectors)
         → HasHits start enc.old board.old.slots.items left taken near next hits
+        → IsSmallSet start (taken_also taken a.0 (λ v. hits v && not (next v)) a.0)
         → Left start enc.new board.new.slots.items
         (HasHits start enc.new board.new.slots.items left (taken_also taken a.0
         (λ v. hits v && not (next v))) near next hits) result }
@@ -133,6 +135,8 @@ fn take_where(
     ensures { (start : Start) (left : SetOfVectors) (taken : Takings)
         (near : SetOfVectors) (next : SetOfVectors) (hits : SetOfVectors)
         → HasHits start enc.old board.old.slots.items left taken near next hits
+        → (taking ≡ true
+        → IsSmallSet start (taken_also taken a.0 (λ v. hits v && not (next v)) a.0))
         → Left start enc.new board.new.slots.items
         (HasHits start enc.new board.new.slots.items left (taken_if taking taken a.0
         (λ v. hits v && not (next v))) near next hits) result }
@@ -175,12 +179,14 @@ fn join_hits(
 ) -> Result<(), SetErr>
     requires ready { (start : Start) × (left : SetOfVectors) × (taken : Takings)
         × (near : SetOfVectors) × (next : SetOfVectors)
-        × HasNext start enc.old board.old.slots.items left taken near next }
+        × HasNext start enc.old board.old.slots.items left taken near next
+        × AddsToSmall start taking left taken near next a.0 }
     requires actions { actions ≡ length enc.old.actions }
     requires action { a.0 < length enc.old.actions }
     ensures { (start : Start) (left : SetOfVectors) (taken : Takings)
         (near : SetOfVectors) (next : SetOfVectors)
         → HasNext start enc.old board.old.slots.items left taken near next
+        → AddsToSmall start taking left taken near next a.0
         → Left start enc.new board.new.slots.items
         (HasNext start enc.new board.new.slots.items left (taken_if taking taken a.0
         (λ v. may_lead (kept_system start left) near v a.0 && not (next v))) near
@@ -201,12 +207,14 @@ fn advance(
 ) -> Result<(), SetErr>
     requires ready { (start : Start) × (left : SetOfVectors) × (taken : Takings)
         × (near : SetOfVectors) × (next : SetOfVectors)
-        × HasNext start enc.old board.old.slots.items left taken near next }
+        × HasNext start enc.old board.old.slots.items left taken near next
+        × AddsToSmall start taking left taken near next a.0 }
     requires actions { actions ≡ length enc.old.actions }
     requires action { a.0 < length enc.old.actions }
     ensures { (start : Start) (left : SetOfVectors) (taken : Takings)
         (near : SetOfVectors) (next : SetOfVectors)
         → HasNext start enc.old board.old.slots.items left taken near next
+        → AddsToSmall start taking left taken near next a.0
         → Left start enc.new board.new.slots.items
         (HasNext start enc.new board.new.slots.items left (taken_if taking taken a.0
         (λ v. may_lead (kept_system start left) near v a.0 && not (next v))) near
@@ -221,10 +229,12 @@ fn advance(
 /// Adds the states that are one step farther from the goal.
 fn grow(enc: &mut Enc, board: &mut Board, actions: u32, taking: bool) -> Result<(), SetErr>
     requires ready { (start : Start) × (left : SetOfVectors) × (taken : Takings)
-        × (near : SetOfVectors) × HasNear start enc.old board.old.slots.items left taken near }
+        × (near : SetOfVectors) × HasNear start enc.old board.old.slots.items left taken near
+        × IsStep start taking left taken near }
     requires actions { actions ≡ length enc.old.actions }
     ensures { (start : Start) (left : SetOfVectors) (taken : Takings) (near : SetOfVectors)
         → HasNear start enc.old board.old.slots.items left taken near
+        → IsStep start taking left taken near
         → Left start enc.new board.new.slots.items
         (HasNext start enc.new board.new.slots.items left
         (taken_by taking (kept_system start left) near taken (action_count start.task)) near
@@ -240,11 +250,12 @@ fn grow(enc: &mut Enc, board: &mut Board, actions: u32, taking: bool) -> Result<
 /// The goal states, and the states that are one step from them.
 fn first_step(enc: &mut Enc, board: &mut Board, actions: u32, taking: bool) -> Result<(), SetErr>
     requires ready { (start : Start) × (left : SetOfVectors) × (near : SetOfVectors)
-        × HasNear start enc.old board.old.slots.items left none_taken near }
+        × HasNear start enc.old board.old.slots.items left none_taken near
+        × AreTakersSmall start taking left }
     requires actions { actions ≡ length enc.old.actions }
     ensures { (start : Start) (left : SetOfVectors) (near : SetOfVectors)
         → HasNear start enc.old board.old.slots.items left none_taken near
-        → Left start enc.new board.new.slots.items
+        → AreTakersSmall start taking left → Left start enc.new board.new.slots.items
         (HasStep start enc.new board.new.slots.items left taking 0) result }
 {
     board.copy_of(enc, NEAR, GOAL)?;
@@ -254,11 +265,12 @@ fn first_step(enc: &mut Enc, board: &mut Board, actions: u32, taking: bool) -> R
 /// One step more.
 fn next_step(enc: &mut Enc, board: &mut Board, actions: u32, taking: bool) -> Result<(), SetErr>
     requires ready { (start : Start) × (left : SetOfVectors) × (k : ℕ)
-        × HasStep start enc.old board.old.slots.items left taking k }
+        × HasStep start enc.old board.old.slots.items left taking k
+        × AreTakersSmall start taking left }
     requires actions { actions ≡ length enc.old.actions }
     ensures { (start : Start) (left : SetOfVectors) (k : ℕ)
         → HasStep start enc.old board.old.slots.items left taking k
-        → Left start enc.new board.new.slots.items
+        → AreTakersSmall start taking left → Left start enc.new board.new.slots.items
         (HasStep start enc.new board.new.slots.items left taking (suc k)) result }
 {
     board.copy_of(enc, NEAR, NEXT)?;
@@ -273,11 +285,12 @@ pub(crate) fn spread(
     taking: bool,
 ) -> Result<(), SetErr>
     requires ready { (start : Start) × (left : SetOfVectors) × (near : SetOfVectors)
-        × HasNear start enc.old board.old.slots.items left none_taken near }
+        × HasNear start enc.old board.old.slots.items left none_taken near
+        × AreTakersSmall start taking left }
     requires actions { actions ≡ length enc.old.actions }
     ensures { (start : Start) (left : SetOfVectors) (near : SetOfVectors)
         → HasNear start enc.old board.old.slots.items left none_taken near
-        → Left start enc.new board.new.slots.items
+        → AreTakersSmall start taking left → Left start enc.new board.new.slots.items
         (HasNear start enc.new board.new.slots.items left
         (takers_within taking (kept_system start left) (2 ^ fluent_count start.task))
         (connected (system_of start.task) (kept (system_of start.task) left))) result }
@@ -319,8 +332,8 @@ fn keep_inside(enc: &mut Enc, board: &mut Board, a: ActionId) -> Result<bool, Se
 {
     let pairs = pairs_of(a);
     board.lead(enc, HITS, Outcomes::Every, a, LEFT)?;
-    board.combine(enc, HITS, Operation::Meet, HITS, pairs)?;
-    let kept = board.is_same(enc, HITS, pairs);
+    board.combine(enc, HITS, Operation::Meet, HITS, NEW)?;
+    let kept = board.is_same(enc, HITS, NEW);
     board.copy_of(enc, pairs, HITS)?;
     Ok(!kept)
 }
@@ -338,8 +351,9 @@ fn keep_left(enc: &mut Enc, board: &mut Board, a: ActionId) -> Result<bool, SetE
         → IfOk result (λ lost. lost ≡ false → LosesNone (system_of start.task) r a.0) }
 {
     let pairs = pairs_of(a);
-    board.combine(enc, pairs, Operation::Meet, pairs, LEFT)?;
-    if board.is_empty(enc, pairs) {
+    board.combine(enc, NEW, Operation::Meet, pairs, LEFT)?;
+    if board.is_empty(enc, NEW) {
+        board.copy_of(enc, pairs, NEW)?;
         Ok(false)
     } else {
         keep_inside(enc, board, a)

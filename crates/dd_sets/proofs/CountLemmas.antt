@@ -13,15 +13,19 @@ use Rattle.dd_nodes.proofs.NodeCount.{count_is}
 -- a list whose elements each are the same as one of another list has no more different elements
 module _ {A : Type 0} (same : A → A → Bool) (turn : (a b : A) → same a b ≡ true → same b a ≡ true) (chain : (a b c : A) → same a b ≡ true → same b c ≡ true → same a c ≡ true) where
   -- one of each group of elements that are the same
-  firsts : List A → List A
+  pub firsts : List A → List A
   firsts [] = []
   firsts (x ∷ xs) = if list_any (same x) xs then firsts xs else x ∷ firsts xs
 
-  firsts-there : (x : A) (xs : List A) → list_any (same x) xs ≡ true → firsts (x ∷ xs) ≡ firsts xs
+  pub firsts-nil : firsts [] ≡ []
+  unfolding firsts
+  firsts-nil = refl
+
+  pub firsts-there : (x : A) (xs : List A) → list_any (same x) xs ≡ true → firsts (x ∷ xs) ≡ firsts xs
   unfolding firsts
   firsts-there x xs there = cond-true (list_any (same x) xs) (firsts xs) (x ∷ firsts xs) there
 
-  firsts-new : (x : A) (xs : List A) → list_any (same x) xs ≡ false → firsts (x ∷ xs) ≡ x ∷ firsts xs
+  pub firsts-new : (x : A) (xs : List A) → list_any (same x) xs ≡ false → firsts (x ∷ xs) ≡ x ∷ firsts xs
   unfolding firsts
   firsts-new x xs new = cond-false (list_any (same x) xs) (firsts xs) (x ∷ firsts xs) new
 
@@ -55,7 +59,7 @@ module _ {A : Type 0} (same : A → A → Bool) (turn : (a b : A) → same a b �
       (λ (new : list_any (same x) xs ≡ false). subst (Apart same) (sym (firsts-new x xs new)) (firsts_none (same x) xs new, firsts_apart xs))
       (cases_Bool (list_any (same x) xs))
 
-  length-firsts : (xs : List A) → length (firsts xs) ≡ count same xs
+  pub length-firsts : (xs : List A) → length (firsts xs) ≡ count same xs
   unfolding firsts count
   length-firsts [] = refl
   length-firsts (x ∷ xs) = ⊎_elim
@@ -114,7 +118,7 @@ all_mapped p h (x ∷ xs) each =
     list_all-append p (h x) (flat_map h xs)
     ∙ and_from (list_all p (h x)) (list_all p (flat_map h xs)) (each zero x (omega arith) refl) (all_mapped p h xs (λ k y within at. each (suc k) y (omega arith) at))
 
-any_mapped : {X A : Type 0} (p : A → Bool) (h : X → List A) (xs : List X) (k : ℕ) (x : X) → k < length xs → slice_index_or xs k x ≡ x → list_any p (h x) ≡ true → list_any p (flat_map h xs) ≡ true
+pub any_mapped : {X A : Type 0} (p : A → Bool) (h : X → List A) (xs : List X) (k : ℕ) (x : X) → k < length xs → slice_index_or xs k x ≡ x → list_any p (h x) ≡ true → list_any p (flat_map h xs) ≡ true
 any_mapped p h [] k x within at here = absurd (omega arith)
 any_mapped p h (y ∷ xs) zero x within at here =
     list_any-append p (h y) (flat_map h xs) ∙ or_left (list_any p (h y)) (list_any p (flat_map h xs)) (ap (λ z. list_any p (h z)) at ∙ here)
@@ -122,7 +126,7 @@ any_mapped p h (y ∷ xs) (suc k) x within at here =
     list_any-append p (h y) (flat_map h xs) ∙ or_right (list_any p (h y)) (list_any p (flat_map h xs)) (any_mapped p h xs k x (omega arith) at here)
 
 -- an element of a list that is the same as itself
-any_here : {A : Type 0} (p : A → Bool) (xs : List A) (k : ℕ) (x : A) → k < length xs → slice_index_or xs k x ≡ x → p x ≡ true → list_any p xs ≡ true
+pub any_here : {A : Type 0} (p : A → Bool) (xs : List A) (k : ℕ) (x : A) → k < length xs → slice_index_or xs k x ≡ x → p x ≡ true → list_any p xs ≡ true
 any_here p [] k x within at here = absurd (omega arith)
 any_here p (y ∷ xs) zero x within at here = or_left (p y) (list_any p xs) (ap p at ∙ here)
 any_here p (y ∷ xs) (suc k) x within at here = or_right (p y) (list_any p xs) (any_here p xs k x (omega arith) at here)
@@ -142,21 +146,21 @@ filter_covered {A} same self keep more weaker moves (x ∷ xs) ys all =
     (cases_Bool (keep x))
 
 module _ (vars : ℕ) where
-  self : (f : Function) → agree vars f f ≡ true
+  pub self : (f : Function) → agree vars f f ≡ true
   self f = agree_same vars f f (λ values. refl)
 
   -- whether a function agrees with none of a list
-  beside : List Function → Function → Bool
+  unfoldable pub beside : List Function → Function → Bool
   beside known g = not (list_any (agree vars g) known)
 
-  beside_moves : (known : List Function) (f g : Function) → agree vars f g ≡ true → beside known f ≡ true → beside known g ≡ true
+  pub beside_moves : (known : List Function) (f g : Function) → agree vars f g ≡ true → beside known f ≡ true → beside known g ≡ true
   unfolding beside
   beside_moves known f g same apart = not_from_false (list_any (agree vars g) known) (false_from_ne_true (list_any (agree vars g) known) (λ e.
       both_ways (list_any (agree vars f) known) (not-true (list_any (agree vars f) known) apart)
       (any_weaker (agree vars g) (agree vars f) (λ h there. agree_chain vars f g h same there) known e)))
 
   -- the different functions beside the known ones
-  counted : (known fs : List Function) → nodes_beside vars known fs ≡ count (agree vars) (filter (beside known) (flat_map (subfunctions vars) fs))
+  pub counted : (known fs : List Function) → nodes_beside vars known fs ≡ count (agree vars) (filter (beside known) (flat_map (subfunctions vars) fs))
   unfolding nodes_beside beside
   counted known fs = count_is vars (filter (beside known) (flat_map (subfunctions vars) fs))
 

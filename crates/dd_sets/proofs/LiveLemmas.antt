@@ -67,16 +67,26 @@ owned_live before now own owns f has =
     (λ (was : is_live before found.0 ≡ true). inl (moved (live_sets before) (sym (owns.kept.sets found.0 was) ∙ found.2) (live_in before found.0 was)))
     (or_cases (has_slot own found.0) (is_live before found.0) (sym (owns.live found.0) ∙ found.1))
 
--- live sets of which each is live or new, with others
-pub with_new : (live was own new pieces : List Function) → ((f : Function) → Contains live f → Contains was f ⊎ Contains new f)
-    → (f : Function) → Contains (live ++ own ++ pieces) f → Contains (was ++ (own ++ new) ++ pieces) f
-with_new live was own new pieces each f has = ⊎_elim
-    (λ (front : Contains (live ++ own) f). Contains-append_left (was ++ (own ++ new)) pieces f (⊎_elim
+-- an element of a list stays where one is put in front
+pub added : (g : Function) (sets : List Function) {f : Function} → Contains sets f → Contains (g ∷ sets) f
+added g sets {f} has = let within : has.0 < length sets = has.1 in (suc has.0, omega arith, has.2)
+
+-- live sets of which each was live, or is one of two kinds of new sets, with others
+pub with_sized : (live was own rough small more pieces : List Function) → ((f : Function) → Contains live f → Contains was f ⊎ (Contains small f ⊎ Contains more f))
+    → (f : Function) → Contains (live ++ own ++ rough ++ pieces) f → Contains (was ++ (own ++ small) ++ (rough ++ more) ++ pieces) f
+with_sized live was own rough small more pieces each f has = ⊎_elim
+    (λ (front : Contains (live ++ own ++ rough) f). Contains-append_left (was ++ (own ++ small) ++ (rough ++ more)) pieces f (⊎_elim
+    (λ (first : Contains (live ++ own) f). ⊎_elim
     (λ (is_live : Contains live f). ⊎_elim
-    (λ (before : Contains was f). Contains-append_left was (own ++ new) f before)
-    (λ (added : Contains new f). Contains-append_right was (own ++ new) f (Contains-append_right own new f added))
+    (λ (before : Contains was f). Contains-append_left (was ++ (own ++ small)) (rough ++ more) f (Contains-append_left was (own ++ small) f before))
+    (λ (new : Contains small f ⊎ Contains more f). ⊎_elim
+    (λ (is_small : Contains small f). Contains-append_left (was ++ (own ++ small)) (rough ++ more) f (Contains-append_right was (own ++ small) f (Contains-append_right own small f is_small)))
+    (λ (is_rough : Contains more f). Contains-append_right (was ++ (own ++ small)) (rough ++ more) f (Contains-append_right rough more f is_rough))
+    new)
     (each f is_live))
-    (λ (owned : Contains own f). Contains-append_right was (own ++ new) f (Contains-append_left own new f owned))
-    (Contains-append_cases live own f front)))
-    (λ (piece : Contains pieces f). Contains-append_right (was ++ (own ++ new)) pieces f piece)
-    (Contains-append_cases (live ++ own) pieces f has)
+    (λ (owned : Contains own f). Contains-append_left (was ++ (own ++ small)) (rough ++ more) f (Contains-append_right was (own ++ small) f (Contains-append_left own small f owned)))
+    (Contains-append_cases live own f first))
+    (λ (other : Contains rough f). Contains-append_right (was ++ (own ++ small)) (rough ++ more) f (Contains-append_left rough more f other))
+    (Contains-append_cases (live ++ own) rough f front)))
+    (λ (piece : Contains pieces f). Contains-append_right (was ++ (own ++ small) ++ (rough ++ more)) pieces f piece)
+    (Contains-append_cases (live ++ own ++ rough) pieces f has)

@@ -13,7 +13,7 @@ ghost use Rattle.dd_sets.specs.Frames.{Owns, OwnsAnswer, OwnsBoth, AreTwo, piece
 ghost use Rattle.dd_sets.specs.LiveSets.{LiveSets, IsSets, IsLive, AllLive, is_live, set_of, live_count};
 ghost use Rattle.dd_sets.specs.LiveSets.{nothing, everything, number_at, listed_set};
 ghost use Rattle.dd_sets.specs.LiveSets.{values_by_sets, subst_set};
-ghost use Rattle.dd_sets.specs.Rooms.{IsFull, AnySet, NoRoom};
+ghost use Rattle.dd_sets.specs.Rooms.{IsFull, Rough, AreRough, NoRoom};
 ghost use Rattle.dd_sets.specs.Stores.{ref_at, AreRefs};
 ghost use Rattle.dd_sets.specs.Tries.{IsReady, wanted, pieces, Computes, Collects, Tries};
 
@@ -477,7 +477,9 @@ impl Sets {
         requires { IsLive self.old a.0 }
         ensures answer { (before : LiveSets) (f : Function)
             → Owns before self.old ((a.0, f) ∷ []) → OwnsAnswer before self.new (not_of f) result }
-        ensures full { IsErrOf result SetErr.Full → NoRoom AnySet 0 self.old self.new }
+        ensures full { IsErrOf result SetErr.Full → (w : ℕ)
+            → Rough self.old.vars w (not_of (set_of self.old a.0))
+            → NoRoom w 0 0 self.old self.new }
         ensures made { MakesOnly (not_of (set_of self.old a.0) ∷ []) self.old self.new }
         ensures sound { IsSets self.new }
     {
@@ -492,9 +494,10 @@ impl Sets {
         requires { AreTwo self.old a b }
         ensures answer { (before : LiveSets) (f g : Function)
             → OwnsBoth before self.old a f b g → OwnsAnswer before self.new (and_of f g) result }
-        ensures full { IsErrOf result SetErr.Full
+        ensures full { IsErrOf result SetErr.Full → (w : ℕ)
+            → AreRough self.old.vars w (piece_of and_of self.old a b)
             → (IsErrOf b SetErr.Full × Releases self.old self.new a.0)
-            ⊎ NoRoom AnySet 0 self.old self.new }
+            ⊎ NoRoom w 0 0 self.old self.new }
         ensures made { MakesOnly (piece_of and_of self.old a b) self.old self.new }
         ensures sound { IsSets self.new }
     {
@@ -518,9 +521,10 @@ impl Sets {
         requires { AreTwo self.old a b }
         ensures answer { (before : LiveSets) (f g : Function)
             → OwnsBoth before self.old a f b g → OwnsAnswer before self.new (or_of f g) result }
-        ensures full { IsErrOf result SetErr.Full
+        ensures full { IsErrOf result SetErr.Full → (w : ℕ)
+            → AreRough self.old.vars w (piece_of or_of self.old a b)
             → (IsErrOf b SetErr.Full × Releases self.old self.new a.0)
-            ⊎ NoRoom AnySet 0 self.old self.new }
+            ⊎ NoRoom w 0 0 self.old self.new }
         ensures made { MakesOnly (piece_of or_of self.old a b) self.old self.new }
         ensures sound { IsSets self.new }
     {
@@ -544,9 +548,10 @@ impl Sets {
         requires { AreTwo self.old a b }
         ensures answer { (before : LiveSets) (f g : Function)
             → OwnsBoth before self.old a f b g → OwnsAnswer before self.new (minus_of f g) result }
-        ensures full { IsErrOf result SetErr.Full
+        ensures full { IsErrOf result SetErr.Full → (w : ℕ)
+            → AreRough self.old.vars w (piece_of minus_of self.old a b)
             → (IsErrOf b SetErr.Full × Releases self.old self.new a.0)
-            ⊎ NoRoom AnySet 0 self.old self.new }
+            ⊎ NoRoom w 0 0 self.old self.new }
         ensures made { MakesOnly (piece_of minus_of self.old a b) self.old self.new }
         ensures sound { IsSets self.new }
     {
@@ -570,7 +575,9 @@ impl Sets {
         requires b_live { IsLive self.old b.0 }
         ensures answer { (before : LiveSets) (f : Function) → Owns before self.old ((b.0, f) ∷ [])
             → OwnsAnswer before self.new (minus_of (set_of self.old a.0) f) result }
-        ensures full { IsErrOf result SetErr.Full → NoRoom AnySet 0 self.old self.new }
+        ensures full { IsErrOf result SetErr.Full → (w : ℕ)
+            → Rough self.old.vars w (minus_of (set_of self.old a.0) (set_of self.old b.0))
+            → NoRoom w 0 0 self.old self.new }
         ensures made { MakesOnly (minus_of (set_of self.old a.0) (set_of self.old b.0) ∷ [])
             self.old self.new }
         ensures sound { IsSets self.new }

@@ -1,5 +1,5 @@
 -- The changes of an outcome, one by one.
-use Rattle.std.proofs.Common.{◌≡◌, ℕ, zero, suc, arith, ◌+◌, ◌<◌, Bool, true, false, cond, not, ◌&&◌, ◌||◌, List, [], ◌∷◌, ◌++◌, append-nil, take, length, get_or, refl, sym, ap, ◌∙◌}
+use Rattle.std.proofs.Common.{◌≡◌, ℕ, zero, suc, arith, ◌+◌, ◌<◌, Bool, true, false, cond, not, ◌&&◌, ◌||◌, List, [], ◌∷◌, ◌++◌, append-nil, take, length, get_or, Contains, refl, sym, ap, ◌∙◌}
 use Rattle.std.specs.List.{list_all, list_any}
 use Rattle.std.proofs.lemmas.Bool.{and_parts, false≢true}
 use Rattle.std.proofs.lemmas.List.{take_more}
@@ -34,6 +34,11 @@ not_about change f positive set is = λ i values. (sym (or_none (set values)) �
 pub said_of_each : (p : Lit → Bool) (b : Bool) (lits : Cube) → list_any p lits ≡ true → list_all (λ (lit : Lit). b) lits ≡ true → b ≡ true
 said_of_each p b [] some all = absurd (false≢true some)
 said_of_each p b (x ∷ lits) some all = (and_parts b (list_all (λ (lit : Lit). b) lits) all).0
+
+-- there is a literal that passes where some does
+pub some_literal : (p : Lit → Bool) (lits : Cube) → list_any p lits ≡ true → (lit : Lit) × Contains lits lit
+some_literal p [] some = absurd (false≢true some)
+some_literal p (x ∷ lits) some = (x, (zero, omega arith, refl))
 
 -- each literal of a list passes what all do
 pub lit_passes : (p : Lit → Bool) (lits : Cube) (i : ℕ) (x : Lit) → list_all p lits ≡ true → i < length lits → p (get_or lits i x) ≡ true

@@ -54,10 +54,10 @@ image_move n move other set moved same is = record {
 }
 
 -- one value assigned
-value_at : (values : Values) (f : ℕ) (b : Bool) → with_value values f b f ≡ b
+pub value_at : (values : Values) (f : ℕ) (b : Bool) → with_value values f b f ≡ b
 value_at values f b = ap (λ t. cond t b (values f)) (eq-eqb f f refl)
 
-value_other : (values : Values) (f : ℕ) (b : Bool) (g : ℕ) → g ≢ f → with_value values f b g ≡ values g
+pub value_other : (values : Values) (f : ℕ) (b : Bool) (g : ℕ) → g ≢ f → with_value values f b g ≡ values g
 value_other values f b g ne = ap (λ t. cond t b (values g)) (ne_eqb g f ne)
 
 or_some : (set : Function) (values : Values) (f : ℕ) (c : Bool) → set (with_value values f c) ≡ true → (set (with_value values f false) || set (with_value values f true)) ≡ true

@@ -1,9 +1,9 @@
 -- What outcomes lead to states, one outcome more, and where some outcome does.
-use Rattle.std.proofs.Common.{◌≡◌, ℕ, zero, suc, ◌+◌, ◌<◌, ◌^◌, ◌==◌, Bool, true, false, ◌&&◌, ◌||◌, inl, inr, ⊎_elim, List, [], ◌∷◌, ◌++◌, Vec, map, length, get_or, take, ltb, refl, sym, ap, subst, ◌∙◌, arith}
+use Rattle.std.proofs.Common.{◌≡◌, ℕ, zero, suc, ◌+◌, ◌<◌, ◌^◌, ◌==◌, Bool, true, false, ◌&&◌, ◌||◌, ⊎_elim, List, [], ◌∷◌, ◌++◌, Vec, Contains, map, length, get_or, take, ltb, refl, sym, ap, subst, ◌∙◌, arith}
 use Rattle.std.specs.declared.alloc.Global.{Global}
 use Rattle.std.specs.List.{list_all, list_any}
 use Rattle.std.proofs.lemmas.Bool.{and_parts, false≢true, ltb-true}
-use Rattle.std.proofs.lemmas.List.{take_more}
+use Rattle.std.proofs.lemmas.List.{take_all, take_more}
 use Rattle.std.proofs.lemmas.List.Folds.{list_any_more}
 use Rattle.dd_nodes.specs.NodeList.{Values}
 use Rattle.dd_nodes.specs.Subfunctions.{Function}
@@ -18,10 +18,11 @@ use Rattle.dd_sets.specs.Calls.{Adds, KeepsSets}
 use Rattle.dd_sets.specs.LiveSets.{LiveSets, AllLive, IsLive, set_of, subst_set}
 use Rattle.dd_sets.specs.declared.slots.SetId.{SetId}
 use Rattle.encode_task.specs.Made.{Holds, HoldsOutcome}
-use Rattle.encode_task.specs.Tables.{AllPaired, LandsMade, OutcomeMade, exec_of, lands_of}
+use Rattle.encode_task.specs.Tables.{AllPaired, LandsMade, OutcomeMade}
 use Rattle.encode_task.proofs.LedLemmas.{led_by_sets}
 use Rattle.encode_task.proofs.MadeLemmas.{holds_kept, outcome_kept}
-use Rattle.encode_task.proofs.TableLemmas.{paired_more, paired_weaker}
+use Rattle.encode_task.proofs.TableLemmas.{paired_length, paired_more, paired_weaker}
+use Rattle.encode_task.specs.TaskSets.{exec_of, lands_of}
 
 -- the outcome whose slots are at a place
 pub made_at : (sets : LiveSets) (changed : List (Vec (FluentId × SetId) Global)) (outcomes : List Outcome) (i : ℕ) (x : Vec (FluentId × SetId) Global)
@@ -53,6 +54,20 @@ lands_more first before after space slot invariant lands all changed outcomes i 
     (subst (AllPaired (λ slot o. Holds after slot (lands_of invariant o)) (lands ++ slot ∷ [])) (sym more)
     (paired_more (λ slot o. Holds after slot (lands_of invariant o)) lands (take i outcomes) slot found.0
     (paired_weaker (λ slot o. Holds before slot (lands_of invariant o)) (λ slot o. Holds after slot (lands_of invariant o)) (λ slot o. holds_kept before after step slot (lands_of invariant o)) lands (take i outcomes) each) one))
+
+-- the set of the slot that an outcome more takes, and the outcome
+pub landed : (first before : LiveSets) (space : SetId) (invariant : Cond) (changed : List (Vec (FluentId × SetId) Global)) (outcomes : List Outcome) (i : ℕ) (x : Vec (FluentId × SetId) Global) (listed : List (FluentId × SetId))
+    → KeepsSets first before → Holds first space (holds invariant) → AllPaired (OutcomeMade first) (map (λ (c : Vec (FluentId × SetId) Global). c.items) changed) outcomes → i < length changed → x ≡ get_or changed i x → listed ≡ x.items
+    → (o : Outcome) × Contains outcomes o × HoldsOutcome before listed (after_value o) × (subst_set before listed (set_of before space.0) ≡ lands_of invariant o)
+landed first before space invariant changed outcomes i x listed kept held made within at is =
+    let found = made_at first changed outcomes i x made within at in
+    let outcome : HoldsOutcome before listed (after_value found.0) = subst (λ l. HoldsOutcome before l (after_value found.0)) (sym is) (outcome_kept first before kept x.items (after_value found.0) found.3) in
+    let space_is : set_of before space.0 ≡ holds invariant = (holds_kept first before kept space (holds invariant) held).holds in (
+      found.0,
+      (i, found.1, found.2),
+      outcome,
+      led_by_sets before listed (after_value found.0) outcome (set_of before space.0) ∙ ap (λ (set : Function). (λ (values : Values). set (after_value found.0 values))) space_is,
+    )
 
 -- the lists of the outcomes are live
 pub list_live : (first before : LiveSets) (changed : List (Vec (FluentId × SetId) Global)) (outcomes : List Outcome) (i : ℕ) (x : Vec (FluentId × SetId) Global) (listed : List (FluentId × SetId))
@@ -116,14 +131,19 @@ lands_live before after invariant outcomes lands kept made i d within = ⊎_elim
     at (x ∷ lands) (o ∷ outcomes) each zero within = each.0.live
     at (x ∷ lands) (o ∷ outcomes) each (suc i) within = at lands outcomes each.1 i (omega arith)
 
-pub exec_lands : (before sets : LiveSets) (invariant : Cond) (action : GroundAction) (lands : List SetId) (allowed : Function) → KeepsSets before sets → LandsMade before invariant lands action.outcomes.items → 0 < length lands
-    → allowed ≡ and_of (holds invariant) (holds action.exec) → (λ (values : Values). list_any (λ slot. allowed values && set_of sets slot.0 values) lands) ≡ exec_of invariant action
-exec_lands before sets invariant action lands allowed kept made some is = ⊎_elim
-    (λ (always : AlwaysHolds invariant × (lands ≡ [])). absurd (let none : length lands ≡ 0 = ap length always.1 in omega arith))
-    (λ (each : AllPaired (λ slot o. Holds before slot (lands_of invariant o)) lands action.outcomes.items).
-    (λ i values. list_any (λ slot. is i values && set_of sets slot.0 values) lands)
-    ∙ (λ i values. (spread (holds invariant values && holds action.exec values) values lands action.outcomes.items each) i))
-    made
+-- what is in a set and in one of some slots, and what is in it and led to a state by one of some
+-- outcomes
+abbrev pub in_slots : LiveSets → Function → List SetId → Function
+in_slots sets allowed lands values = list_any (λ slot. allowed values && set_of sets slot.0 values) lands
+
+abbrev pub led_by : Cond → Function → List Outcome → Function
+led_by invariant allowed outcomes values = allowed values && list_any (λ o. lands_of invariant o values) outcomes
+
+-- what is allowed and in one of the first slots is what is allowed and led to a state by one of the
+-- first outcomes
+pub first_lands : (before sets : LiveSets) (invariant : Cond) (outcomes : List Outcome) (lands : List SetId) (allowed : Function) (j : ℕ) → KeepsSets before sets → AllPaired (λ slot o. Holds before slot (lands_of invariant o)) lands outcomes
+    → in_slots sets allowed (take j lands) ≡ led_by invariant allowed (take j outcomes)
+first_lands before sets invariant outcomes lands allowed j kept each = λ i values. spread (allowed values) values j lands outcomes each i
   where
     and_none : (a : Bool) → false ≡ (a && false)
     and_none true = refl
@@ -133,11 +153,41 @@ exec_lands before sets invariant action lands allowed kept made some is = ⊎_el
     out true s r = refl
     out false s r = refl
 
-    spread : (a : Bool) (values : Values) (lands : List SetId) (outcomes : List Outcome) → AllPaired (λ slot o. Holds before slot (lands_of invariant o)) lands outcomes
-        → list_any (λ slot. a && set_of sets slot.0 values) lands ≡ (a && list_any (λ o. lands_of invariant o values) outcomes)
-    spread a values [] [] each = and_none a
-    spread a values [] (o ∷ outcomes) each = absurd each
-    spread a values (x ∷ lands) [] each = absurd each
-    spread a values (x ∷ lands) (o ∷ outcomes) each =
+    spread : (a : Bool) (values : Values) (j : ℕ) (lands : List SetId) (outcomes : List Outcome) → AllPaired (λ slot o. Holds before slot (lands_of invariant o)) lands outcomes
+        → list_any (λ slot. a && set_of sets slot.0 values) (take j lands) ≡ (a && list_any (λ o. lands_of invariant o values) (take j outcomes))
+    spread a values zero lands outcomes each = and_none a
+    spread a values (suc j) [] [] each = and_none a
+    spread a values (suc j) [] (o ∷ outcomes) each = absurd each
+    spread a values (suc j) (x ∷ lands) [] each = absurd each
+    spread a values (suc j) (x ∷ lands) (o ∷ outcomes) each =
         let same = (holds_kept before sets kept x (lands_of invariant o) each.0).holds in
-        (λ i. (a && same i values) || spread a values lands outcomes each.1 i) ∙ out a (lands_of invariant o values) (list_any (λ o. lands_of invariant o values) outcomes)
+        (λ i. (a && same i values) || spread a values j lands outcomes each.1 i) ∙ out a (lands_of invariant o values) (list_any (λ o. lands_of invariant o values) (take j outcomes))
+
+-- with slots there is one for each outcome
+pub each_lands : (sets : LiveSets) (invariant : Cond) (outcomes : List Outcome) (lands : List SetId) → LandsMade sets invariant lands outcomes → 0 < length lands → AllPaired (λ slot o. Holds sets slot (lands_of invariant o)) lands outcomes
+each_lands sets invariant outcomes lands made some = ⊎_elim
+    (λ (always : AlwaysHolds invariant × (lands ≡ [])). absurd (let none : length lands ≡ 0 = ap length always.1 in omega arith))
+    (λ (each : AllPaired (λ slot o. Holds sets slot (lands_of invariant o)) lands outcomes). each)
+    made
+
+pub exec_lands : (before sets : LiveSets) (invariant : Cond) (action : GroundAction) (lands : List SetId) (allowed : Function) → KeepsSets before sets → LandsMade before invariant lands action.outcomes.items → 0 < length lands
+    → allowed ≡ and_of (holds invariant) (holds action.exec) → (λ (values : Values). list_any (λ slot. allowed values && set_of sets slot.0 values) lands) ≡ exec_of invariant action
+exec_lands before sets invariant action lands allowed kept made some is =
+    let each = each_lands before invariant action.outcomes.items lands made some in
+    let long = paired_length (λ slot o. Holds before slot (lands_of invariant o)) lands action.outcomes.items each in
+    ap (in_slots sets allowed) (sym (take_all (length lands) lands (omega arith)))
+    ∙ first_lands before sets invariant action.outcomes.items lands allowed (length lands) kept each
+    ∙ ap (led_by invariant allowed) (take_all (length lands) action.outcomes.items (omega arith))
+    ∙ ap (λ (set : Function). led_by invariant set action.outcomes.items) is
+
+-- a slot's set, of one of the outcomes
+pub land_at : (before sets : LiveSets) (invariant : Cond) (outcomes : List Outcome) (lands : List SetId) (slot : SetId) → KeepsSets before sets → AllPaired (λ slot o. Holds before slot (lands_of invariant o)) lands outcomes → Contains lands slot
+    → (o : Outcome) × Contains outcomes o × (set_of sets slot.0 ≡ lands_of invariant o)
+land_at before sets invariant [] [] slot kept each (k, within, at) = absurd (omega arith)
+land_at before sets invariant (o ∷ outcomes) [] slot kept each has = absurd each
+land_at before sets invariant [] (x ∷ lands) slot kept each has = absurd each
+land_at before sets invariant (o ∷ outcomes) (x ∷ lands) slot kept each (zero, within, at) =
+    (o, (zero, omega arith, refl), ap (λ (s : SetId). set_of sets s.0) (sym at) ∙ (holds_kept before sets kept x (lands_of invariant o) each.0).holds)
+land_at before sets invariant (o ∷ outcomes) (x ∷ lands) slot kept each (suc k, within, at) =
+    let rest = land_at before sets invariant outcomes lands slot kept each.1 (k, omega arith, at) in
+    (rest.0, (suc rest.1.0, omega (arith, rest.1.1), rest.1.2), rest.2)

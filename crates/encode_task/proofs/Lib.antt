@@ -1,19 +1,25 @@
+pub mod ActionSizes
 pub mod ChangeLemmas
 pub mod CountLemmas
 pub mod EntryLemmas
+pub mod EntrySizes
 mod Examples
 pub mod ImageLemmas
 pub mod InitialLemmas
+pub mod KeptLemmas
 pub mod LandsLemmas
 pub mod LedLemmas
 pub mod MadeLemmas
 pub mod OnlyLemmas
+pub mod OutcomeSizes
 pub mod PartLemmas
 pub mod ShallowLemmas
 pub mod ShareLemmas
 pub mod ShownLemmas
 pub mod SpaceLemmas
 pub mod StateLemmas
+pub mod StateSizes
 pub mod StepLemmas
 pub mod TableLemmas
+pub mod TaskSizes
 pub mod WholeLemmas

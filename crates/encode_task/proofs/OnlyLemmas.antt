@@ -11,7 +11,7 @@ use Rattle.dd_ops.specs.Operations.{variable}
 use Rattle.encode_task.specs.Slots.{ActionSlots, is_listed, is_of_action, is_one_of, is_slot}
 use Rattle.encode_task.specs.Tables.{AddsOnly, IsSharedSlot}
 
-either : (a b : Bool) → (a || b) ≡ true → (a ≡ true) ⊎ (b ≡ true)
+pub either : (a b : Bool) → (a || b) ≡ true → (a ≡ true) ⊎ (b ≡ true)
 either true b is = inl refl
 either false b is = inr is
 

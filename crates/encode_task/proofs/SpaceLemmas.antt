@@ -1,9 +1,9 @@
 -- The states of a task, as a set.
-use Rattle.std.proofs.Common.{◌≡◌, ◌<◌, Bool, true, false, cond, ◌&&◌, ◌||◌, List, [], ◌∷◌, refl, sym, ap, ◌∙◌, arith}
+use Rattle.std.proofs.Common.{◌≡◌, Bool, true, false, cond, ◌&&◌, ◌||◌, List, [], ◌∷◌, refl, sym, ap, ◌∙◌, arith}
 use Rattle.std.specs.List.{filter, list_any}
-use Rattle.std.proofs.lemmas.Bool.{cases_Bool, false≢true}
+use Rattle.std.proofs.lemmas.Bool.{false≢true}
 use Rattle.dd_nodes.specs.NodeList.{Values}
-use Rattle.dd_nodes.specs.Subfunctions.{DependsOnly, Function}
+use Rattle.dd_nodes.specs.Subfunctions.{DependsOnly}
 use Rattle.dd_ops.specs.Operations.{and_of}
 use Rattle.task_core.specs.Tasks.{fluent_count, in_space, initial_vectors}
 use Rattle.task_core.specs.Vectors.{Vector, same_vector, value_of}

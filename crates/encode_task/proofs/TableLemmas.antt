@@ -1,5 +1,5 @@
 -- The tables of slots, step by step, and what they are for a whole task.
-use Rattle.std.proofs.Common.{◌≡◌, ℕ, zero, suc, ◌+◌, ◌<◌, true, false, not, ◌&&◌, ◌⊎◌, inl, inr, ⊎_elim, List, [], ◌∷◌, ◌++◌, map, length, get_or, take, Some, None, is_some, slice_get, unwrap_or, refl, sym, ap, subst, ◌∙◌, arith}
+use Rattle.std.proofs.Common.{◌≡◌, ℕ, zero, suc, ◌+◌, ◌<◌, true, false, not, ◌&&◌, inl, inr, ⊎_elim, List, [], ◌∷◌, ◌++◌, map, length, get_or, take, Some, None, is_some, slice_get, unwrap_or, refl, sym, ap, subst, ◌∙◌, arith}
 use Rattle.std.proofs.lemmas.Bool.{or_left, or_right}
 use Rattle.std.proofs.lemmas.List.{map-append, take_more}
 use Rattle.std.specs.List.{list_any}
@@ -16,8 +16,9 @@ use Rattle.dd_sets.specs.declared.slots.SetId.{SetId}
 use Rattle.encode_task.specs.Counts.{leaves, action_leaves, some_leaves}
 use Rattle.encode_task.specs.Made.{Holds, HoldsLands}
 use Rattle.encode_task.specs.Slots.{ActionSlots, changed_in, lands_in, outcomes_in}
-use Rattle.encode_task.specs.Tables.{ActionMade, AllPaired, LandsMade, OutcomeMade, lands_of}
+use Rattle.encode_task.specs.Tables.{ActionMade, AllPaired, LandsMade, OutcomeMade}
 use Rattle.encode_task.proofs.MadeLemmas.{holds_kept, outcome_kept}
+use Rattle.encode_task.specs.TaskSets.{lands_of}
 
 -- related lists: one pair more, a weaker relation, one length
 pub paired_more : {X Y : Type 0} (R : X → Y → Type 0) (xs : List X) (ys : List Y) (x : X) (y : Y) → AllPaired R xs ys → R x y → AllPaired R (xs ++ x ∷ []) (ys ++ y ∷ [])

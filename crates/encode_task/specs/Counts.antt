@@ -1,6 +1,8 @@
 -- Private: how many fluents the outcomes leave alone.
-use Rattle.std.specs.Prelude.{ℕ, zero, suc, ◌+◌, Bool, not, cond, List, [], ◌∷◌, is_some}
+use Rattle.std.specs.Prelude.{◌≡◌, ℕ, zero, suc, ◌+◌, ◌<◌, Bool, true, not, cond, List, [], ◌∷◌, is_some}
 use Rattle.std.specs.List.{list_any}
+use Rattle.dd_nodes.specs.Subfunctions.{Function}
+use Rattle.dd_ops.specs.Operations.{variable}
 use Rattle.task_core.specs.declared.literals.FluentId.{FluentId}
 use Rattle.dd_sets.specs.LiveSets.{listed_set}
 use Rattle.dd_sets.specs.declared.slots.SetId.{SetId}
@@ -21,6 +23,11 @@ action_leaves f action = list_any (leaves f) action.outcomes
 
 abbrev pub some_leaves : List ActionSlots → ℕ → Bool
 some_leaves actions f = list_any (action_leaves f) actions
+
+-- the set is where one of the first n fluents is true that some outcome leaves alone
+abbrev pub IsLeftAlone : ℕ → List ActionSlots → Function → Type 0
+IsLeftAlone n actions set =
+    (f : ℕ) × (f < n) × (some_leaves actions f ≡ true) × (set ≡ variable f)
 
 -- how many of the first n fluents an outcome leaves alone, and these numbers added up for the
 -- outcomes of an action, and for those of all actions

@@ -1,4 +1,4 @@
--- Private: what assignments of values make of a set of states.
+-- What assignments of values make of a set of states.
 use Rattle.std.specs.Prelude.{ℕ, ◌||◌, ◌&&◌, Bool, true, false, if◌then◌else◌}
 use Rattle.std.specs.List.{fold, list_any}
 use Rattle.dd_nodes.specs.NodeList.{with_value}

@@ -1,7 +1,11 @@
 -- What layers above cite.
+use Rattle.std.specs.Prelude.{◌≤◌}
+use Rattle.dd_nodes.specs.Subfunctions.{nodes}
+use Rattle.task_core.specs.Tasks.{fluent_count}
 use Rattle.task_core.specs.declared.tasks.Task.{Task}
 use Rattle.dd_sets.specs.Calls.{KeepsSets}
-use Rattle.dd_sets.specs.LiveSets.{LiveSets}
+use Rattle.dd_sets.specs.LiveSets.{LiveSets, live_sets}
+use Rattle.encode_task.specs.KeptSets.{AreKept, kept_nodes}
 use Rattle.encode_task.specs.Made.{IsReady, MadeOf}
 use Rattle.encode_task.specs.Slots.{Encoded}
 
@@ -15,3 +19,10 @@ abbrev pub KeptSetsStayReady : Type 0
 KeptSetsStayReady =
     (enc : Encoded) (after : LiveSets) → KeepsSets enc.sets after
     → IsReady enc → IsReady (record enc { sets = after })
+
+-- where each live slot holds a set of a task, the live sets have no more nodes than the sets of the
+-- task
+abbrev pub KeptSetsBoundNodes : Type 0
+KeptSetsBoundNodes =
+    (task : Task) (sets : LiveSets) → AreKept task sets
+    → nodes (fluent_count task) (live_sets sets) ≤ kept_nodes task

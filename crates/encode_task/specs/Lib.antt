@@ -1,6 +1,8 @@
 pub mod Bounds
 pub mod Counts
 pub mod Images
+pub mod KeptRooms
+pub mod KeptSets
 pub mod Laws
 pub mod Made
 pub mod Names
@@ -8,3 +10,4 @@ pub mod Seen
 pub mod Slots
 pub mod Tables
 pub mod TaskSets
+pub mod WorkingSets

@@ -1,11 +1,9 @@
 -- Private: the tables of slots while they are made.
-use Rattle.std.specs.Prelude.{◌≡◌, ℕ, ◌<◌, ◌||◌, ◌&&◌, Bool, true, false, ⊤, ◌⊎◌, List, [], ◌∷◌}
+use Rattle.std.specs.Prelude.{◌≡◌, ℕ, ◌<◌, ◌||◌, Bool, true, false, ⊤, ◌⊎◌, List, [], ◌∷◌}
 use Rattle.std.specs.Prelude.{Option, Some, None, IsSome, slice_index_or}
-use Rattle.std.specs.List.{list_any}
-use Rattle.dd_nodes.specs.Subfunctions.{Function}
 use Rattle.dd_ops.specs.Operations.{variable}
 use Rattle.task_core.specs.Actions.{after_value}
-use Rattle.task_core.specs.Conditions.{AlwaysHolds, holds}
+use Rattle.task_core.specs.Conditions.{AlwaysHolds}
 use Rattle.task_core.specs.Cubes.{Cube}
 use Rattle.task_core.specs.declared.conditions.Cond.{Cond}
 use Rattle.task_core.specs.declared.actions.GroundAction.{GroundAction}
@@ -18,6 +16,7 @@ use Rattle.encode_task.specs.Counts.{some_leaves}
 use Rattle.encode_task.specs.Made.{Holds, HoldsOutcome}
 use Rattle.encode_task.specs.Names.{names_fluent}
 use Rattle.encode_task.specs.Slots.{ActionSlots}
+use Rattle.encode_task.specs.TaskSets.{exec_of, lands_of}
 
 -- the slots that outcomes share hold the values of their fluents
 pub record IsShared (sets : LiveSets) (shared : List (Option SetId)) : Type 0 where
@@ -54,16 +53,6 @@ AllPaired R [] (y ∷ ys) = ⊥
 -- the slots of an outcome are made
 abbrev pub OutcomeMade : LiveSets → List (FluentId × SetId) → Outcome → Type 0
 OutcomeMade sets changed outcome = HoldsOutcome sets changed (after_value outcome)
-
--- what an outcome leads to states, those where the invariant holds, and where an action can be
--- executed
-abbrev pub lands_of : Cond → Outcome → Function
-lands_of invariant outcome values = holds invariant (after_value outcome values)
-
-abbrev pub exec_of : Cond → GroundAction → Function
-exec_of invariant action values =
-    holds invariant values && holds action.exec values
-    && list_any (λ o. lands_of invariant o values) action.outcomes.items
 
 -- the slots of what the outcomes of an action lead to states are made: none where the invariant
 -- always holds, else one an outcome

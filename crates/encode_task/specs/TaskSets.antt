@@ -10,6 +10,8 @@ use Rattle.task_core.specs.Actions.{after_value}
 use Rattle.task_core.specs.Conditions.{holds}
 use Rattle.task_core.specs.Tasks.{fluent_count, initial_states, outcomes_at}
 use Rattle.task_core.specs.Vectors.{Vector, same_vector}
+use Rattle.task_core.specs.declared.actions.GroundAction.{GroundAction}
+use Rattle.task_core.specs.declared.actions.Outcome.{Outcome}
 use Rattle.task_core.specs.declared.conditions.Cond.{Cond}
 use Rattle.task_core.specs.declared.tasks.Task.{Task}
 
@@ -58,3 +60,13 @@ lands_set task a o values = holds task.invariant (after_values task a o values)
 -- what an outcome of action a leads into a set, wherever the action can be executed
 abbrev pub led_into : Task → ℕ → ℕ → Function → Function
 led_into task a o set values = set (after_values task a o values)
+
+-- the same of an action and an outcome by themselves: what the outcome leads to states, where the
+-- invariant holds, and where the action can be executed
+abbrev pub lands_of : Cond → Outcome → Function
+lands_of invariant outcome values = holds invariant (after_value outcome values)
+
+abbrev pub exec_of : Cond → GroundAction → Function
+exec_of invariant action values =
+    holds invariant values && holds action.exec values
+    && list_any (λ o. lands_of invariant o values) action.outcomes.items

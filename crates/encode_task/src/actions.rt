@@ -16,22 +16,28 @@ ghost use Rattle.std.specs.Prelude.{
   IfOk,
   OnOk,
   IsErrOf,
+  Contains,
 };
-ghost use Rattle.std.specs.List.{list_all, list_any};
+ghost use Rattle.std.specs.List.{flat_map, list_all, list_any};
 ghost use Rattle.dd_sets.specs.Calls.{KeepsSets};
 ghost use Rattle.dd_sets.specs.LiveSets.{LiveSets, live_count};
-ghost use Rattle.dd_sets.specs.Rooms.{AnySet, NoRoom};
+ghost use Rattle.dd_sets.specs.Rooms.{NoRoom, Small};
 ghost use Rattle.task_core.specs.Actions.{action_is_shallow, action_within, change_within};
 ghost use Rattle.task_core.specs.Actions.{outcome_is_shallow, outcome_within};
 ghost use Rattle.task_core.specs.Conditions.{holds};
 ghost use Rattle.task_core.specs.Cubes.{Cube};
 ghost use Rattle.task_core.specs.declared.literals.Lit.{Lit as Literal};
 ghost use Rattle.encode_task.specs.Counts.{left_by, left_in_actions, left_in_outcomes};
+ghost use Rattle.encode_task.specs.KeptRooms.{AddsSets, NoRoomKept};
+ghost use Rattle.encode_task.specs.KeptSets.{next_sets, sets_of_action};
 ghost use Rattle.encode_task.specs.Made.{Holds};
 ghost use Rattle.encode_task.specs.Names.{has_outcomes_within};
 ghost use Rattle.encode_task.specs.Seen.{slots_of};
 ghost use Rattle.encode_task.specs.Slots.{is_listed, is_of_action};
 ghost use Rattle.encode_task.specs.Tables.{ActionMade, AddsOnly, AllPaired, IsDone, OutcomeMade};
+ghost use Rattle.encode_task.specs.WorkingSets.{AreSmall, IsMadeForAction, IsMadeForOutcome};
+ghost use Rattle.task_core.specs.declared.actions.GroundAction.{GroundAction as Action};
+ghost use Rattle.task_core.specs.declared.actions.Outcome.{Outcome as ActionOutcome};
 
 use crate::action_sets::ActionSets;
 use crate::landing::{encode_lands, exec_states};
@@ -65,10 +71,15 @@ pub fn encode_actions(
         (most : ℕ) → list_all (has_outcomes_within most) actions.now ≡ true
         → live_count sets.new + left_in_actions sets.old.vars (map slots_of made.items)
         ≤ live_count sets.old + length actions.now * (most * (sets.old.vars + 1) + 1)) }
-    ensures full { IsErrOf result SetErr.Full
+    ensures adds { OnOk result (AddsSets (Contains (flat_map
+        (sets_of_action sets.old.vars invariant.now) actions.now)) sets.old sets.new) }
+    ensures full { IsErrOf result SetErr.Full → (w : ℕ) → sets.old.vars + 2 ≤ w
+        → Small sets.old.vars w (holds invariant.now)
+        → ((action : Action) → Contains actions.now action
+        → AreSmall sets.old.vars w (IsMadeForAction sets.old.vars invariant.now action))
         → (most : ℕ) → list_all (has_outcomes_within most) actions.now ≡ true
-        → NoRoom AnySet (length actions.now * (most * (sets.old.vars + 1) + 1) + 210)
-        sets.old sets.new }
+        → NoRoomKept (Contains (flat_map (sets_of_action sets.old.vars invariant.now) actions.now))
+        (length actions.now * (most * (sets.old.vars + 1) + 1)) w sets.old sets.new }
 {
     let mut made = Vec::new(alloc);
     for action in actions {
@@ -97,9 +108,13 @@ fn encode_action(
     ensures few { IfOk result (λ made.
         live_count sets.new + left_in_outcomes sets.old.vars (slots_of made).outcomes
         ≤ live_count sets.old + (length action.now.outcomes.items * (sets.old.vars + 1) + 1)) }
-    ensures full { IsErrOf result SetErr.Full
-        → NoRoom AnySet (length action.now.outcomes.items * (sets.old.vars + 1) + 210)
-        sets.old sets.new }
+    ensures adds { OnOk result (AddsSets
+        (Contains (sets_of_action sets.old.vars invariant.now action.now)) sets.old sets.new) }
+    ensures full { IsErrOf result SetErr.Full → (w : ℕ) → sets.old.vars + 2 ≤ w
+        → Small sets.old.vars w (holds invariant.now)
+        → AreSmall sets.old.vars w (IsMadeForAction sets.old.vars invariant.now action.now)
+        → NoRoomKept (Contains (sets_of_action sets.old.vars invariant.now action.now))
+        (length action.now.outcomes.items * (sets.old.vars + 1)) w sets.old sets.new }
 {
     let outcomes = encode_outcomes(alloc, sets, &action.outcomes)?;
     let lands = encode_lands(alloc, sets, invariant, space, action, &outcomes)?;
@@ -127,9 +142,13 @@ fn encode_outcomes(
     ensures few { IfOk result (λ made. live_count sets.new
         + left_in_outcomes sets.old.vars (map (λ changed. changed.items) made.items)
         ≤ live_count sets.old + length outcomes.now * sets.old.vars) }
-    ensures full { IsErrOf result SetErr.Full
-        → NoRoom AnySet (length outcomes.now * sets.old.vars + 209)
-        sets.old sets.new }
+    ensures adds { OnOk result (AddsSets
+        (Contains (flat_map (next_sets sets.old.vars) outcomes.now)) sets.old sets.new) }
+    ensures full { IsErrOf result SetErr.Full → (w : ℕ) → sets.old.vars + 2 ≤ w
+        → ((outcome : ActionOutcome) → Contains outcomes.now outcome
+        → AreSmall sets.old.vars w (IsMadeForOutcome sets.old.vars outcome))
+        → NoRoomKept (Contains (flat_map (next_sets sets.old.vars) outcomes.now))
+        (length outcomes.now * sets.old.vars) w sets.old sets.new }
 {
     let mut made = Vec::new(alloc);
     for outcome in outcomes {
@@ -149,7 +168,12 @@ fn encode_outcome(alloc: Global, sets: &mut Sets, outcome: &Outcome) -> Result<C
         AddsOnly sets.old sets.new (λ slot. is_listed slot changed.items)) }
     ensures few { IfOk result (λ changed. live_count sets.new + left_by sets.old.vars changed.items
         ≤ live_count sets.old + sets.old.vars) }
-    ensures full { IsErrOf result SetErr.Full → NoRoom AnySet (sets.old.vars + 208) sets.old sets.new }
+    ensures adds { OnOk result
+        (AddsSets (Contains (next_sets sets.old.vars outcome.now)) sets.old sets.new) }
+    ensures full { IsErrOf result SetErr.Full → (w : ℕ) → sets.old.vars + 2 ≤ w
+        → AreSmall sets.old.vars w (IsMadeForOutcome sets.old.vars outcome.now)
+        → NoRoomKept (Contains (next_sets sets.old.vars outcome.now)) sets.old.vars w
+        sets.old sets.new }
 {
     let mut changed = Vec::new(alloc);
     for change in &outcome.changes {
@@ -176,8 +200,12 @@ fn encode_change(
         → AddsOnly before sets.new (λ slot. is_listed slot changed.new.items)) }
     ensures few { OnOk result (live_count sets.new + left_by sets.old.vars changed.new.items
         ≤ live_count sets.old + left_by sets.old.vars changed.old.items) }
-    ensures full { IsErrOf result SetErr.Full
-        → NoRoom AnySet (left_by sets.old.vars changed.old.items + 208) sets.old sets.new }
+    ensures adds { OnOk result
+        (AddsSets (Contains (next_sets sets.old.vars outcome.now)) sets.old sets.new) }
+    ensures full { IsErrOf result SetErr.Full → (w : ℕ) → sets.old.vars + 2 ≤ w
+        → AreSmall sets.old.vars w (IsMadeForOutcome sets.old.vars outcome.now)
+        → NoRoomKept (Contains (next_sets sets.old.vars outcome.now))
+        (left_by sets.old.vars changed.old.items) w sets.old sets.new }
 {
     for lit in &change.lits {
         encode_fluent(sets, changed, outcome, lit.fluent)?;
@@ -204,7 +232,11 @@ fn encode_fluent(
         → AddsOnly before sets.new (λ slot. is_listed slot changed.new.items)) }
     ensures few { OnOk result (live_count sets.new + left_by sets.old.vars changed.new.items
         ≤ live_count sets.old + left_by sets.old.vars changed.old.items) }
-    ensures full { IsErrOf result SetErr.Full → NoRoom AnySet 208 sets.old sets.new }
+    ensures adds { OnOk result
+        (AddsSets (Contains (next_sets sets.old.vars outcome.now)) sets.old sets.new) }
+    ensures full { IsErrOf result SetErr.Full → (w : ℕ) → sets.old.vars + 2 ≤ w
+        → AreSmall sets.old.vars w (IsMadeForOutcome sets.old.vars outcome.now)
+        → NoRoom w 208 1 sets.old sets.new }
 {
     if slot_for(changed, f).is_some() {
         return Ok(());

@@ -1,8 +1,9 @@
 //! The set of a condition, made part by part in one accumulator.
-ghost use Rattle.std.specs.Prelude.{◌≡◌, ◌+◌, true, IsErrOf};
+ghost use Rattle.std.specs.Prelude.{◌≡◌, ℕ, ◌+◌, true, IsErrOf};
 ghost use Rattle.dd_sets.specs.Frames.{OwnsAnswer};
-ghost use Rattle.dd_sets.specs.Rooms.{AnySet, NoRoom};
+ghost use Rattle.dd_sets.specs.Rooms.{NoRoom};
 ghost use Rattle.task_core.specs.Conditions.{depth, holds, ids_below};
+ghost use Rattle.encode_task.specs.WorkingSets.{AreSmall, IsPartOf};
 
 use dd_sets::{SetErr, SetId, Sets};
 use task_core::Cond;
@@ -14,8 +15,9 @@ use task_core::Cond;
 pub fn set_where(sets: &mut Sets, cond: &Cond) -> Result<SetId, SetErr>
     requires { ids_below sets.old.vars cond.now ≡ true }
     ensures answer { OwnsAnswer sets.old sets.new (holds cond.now) result }
-    ensures full { IsErrOf result SetErr.Full
-        → NoRoom AnySet (depth cond.now + 4) sets.old sets.new }
+    ensures full { IsErrOf result SetErr.Full → (w : ℕ)
+        → AreSmall sets.old.vars w (IsPartOf cond.now)
+        → NoRoom w (depth cond.now + 4) 0 sets.old sets.new }
 {
     match cond {
         Cond::Yes => sets.whole(),

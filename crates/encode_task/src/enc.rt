@@ -3,6 +3,7 @@ ghost use Rattle.std.specs.Prelude.{
   ◌≡◌,
   ℕ,
   ◌+◌,
+  ◌*◌,
   ◌<◌,
   ◌≤◌,
   Some,
@@ -14,21 +15,30 @@ ghost use Rattle.std.specs.Prelude.{
   OnOk,
   OnErr,
   IsErrOf,
+  Contains,
 };
 ghost use Rattle.std.specs.Borrow.{Lends, sem};
 ghost use Rattle.dd_sets.specs.Calls.{KeepsSets, Adds, AddsNone};
 ghost use Rattle.dd_sets.specs.LiveSets.{IsLive, IsSets, set_of, live_count};
-ghost use Rattle.dd_sets.specs.Rooms.{AnySet, NoRoom, Tight, nodes_of_slots};
+ghost use Rattle.dd_sets.specs.Rooms.{NoRoom, Small, Tight, nodes_of_slots};
 ghost use Rattle.dd_sets.specs.contracts.sets.Sets as SetsRow;
 ghost use Rattle.task_core.specs.Conditions.{holds, ids_below, is_shallow};
 ghost use Rattle.task_core.specs.Tasks.{fluent_count};
 ghost use Rattle.encode_task.specs.Bounds.{action_slots, kept_slots, working_slots};
+ghost use Rattle.encode_task.specs.KeptRooms.{AddsSets, NoRoomKept};
+ghost use Rattle.encode_task.specs.KeptSets.{AreKept, kept_nodes, kept_sets, sets_of_goal};
 ghost use Rattle.encode_task.specs.Made.{Holds, HoldsGoal, IsReady, MadeOf};
 ghost use Rattle.encode_task.specs.Seen.{slots_of};
 ghost use Rattle.encode_task.specs.Slots.{exec_slot, is_kept, is_slot, lands_slot, next_slot};
 ghost use Rattle.encode_task.specs.Slots.{outcome_slots};
 ghost use Rattle.encode_task.specs.Tables.{AddsOnly};
 ghost use Rattle.encode_task.specs.TaskSets.{led_into, next_set, space_set};
+ghost use Rattle.encode_task.specs.WorkingSets.{
+  AreSmall,
+  ImagesAreSmall,
+  IsMadeByEncode,
+  IsPartOf,
+};
 ghost use Rattle.encode_task.specs.contracts.enc.Enc.{the_row};
 
 use crate::action_sets::ActionSets;
@@ -87,6 +97,10 @@ impl Model for Enc {
 /// leads to states; a fluent that some outcome leaves alone has one more slot, which all such outcomes
 /// share. No other slot is live afterwards. The time grows with the fluents that are changed, for each
 /// with the changes of its outcome.
+///
+/// Where the table is full, the limit is less than two numbers: one by the slots that are live while
+/// the sets are made, with which few fluents do, and one by the nodes of the sets themselves, with
+/// which many fluents do where each set that is made has few.
 pub fn encode(alloc: Global, task: &Task, limit: u32) -> Result<Enc, SetErr>
     requires some_room { 0 < limit }
     requires small_limit { limit ≤ 16777216 }
@@ -97,8 +111,12 @@ pub fn encode(alloc: Global, task: &Task, limit: u32) -> Result<Enc, SetErr>
     ensures few { IfOk result (λ enc. live_count enc.sets ≤ kept_slots task.now) }
     ensures only_kept { IfOk result (λ enc.
         (slot : ℕ) → IsLive enc.sets slot → is_kept enc slot ≡ true) }
+    ensures are_kept { IfOk result (λ enc. AreKept task.now enc.sets) }
     ensures full { IsErrOf result SetErr.Full → Tight limit (fluent_count task.now)
         (nodes_of_slots (working_slots task.now) (fluent_count task.now)) }
+    ensures full_by_sets { IsErrOf result SetErr.Full → (w : ℕ) → fluent_count task.now + 2 ≤ w
+        → AreSmall (fluent_count task.now) w (IsMadeByEncode task.now)
+        → limit < kept_nodes task.now + 220 * w + 13 * (w * w) }
 {
     let fluents = task.fluents.len() as u32;
     let mut sets = Sets::new(alloc, fluents, limit)?;
@@ -178,8 +196,11 @@ fn encode_sets(alloc: Global, sets: &mut Sets, task: &Task) -> Result<KeptSlots,
     }))) }
     ensures few { OnOk result (live_count sets.new
         ≤ live_count sets.old + action_slots task.now + 3) }
-    ensures full { IsErrOf result SetErr.Full
-        → NoRoom AnySet (action_slots task.now + 213) sets.old sets.new }
+    ensures are_kept { OnOk result (AddsSets (Contains (kept_sets task.now)) sets.old sets.new) }
+    ensures full { IsErrOf result SetErr.Full → (w : ℕ) → fluent_count task.now + 2 ≤ w
+        → AreSmall (fluent_count task.now) w (IsMadeByEncode task.now)
+        → NoRoomKept (Contains (kept_sets task.now)) (action_slots task.now + 3) w
+        sets.old sets.new }
 {
     let space = set_where(sets, &task.invariant)?;
     let initial = initial_states(sets, task, space)?;
@@ -204,7 +225,11 @@ fn goal_states(sets: &mut Sets, task: &Task, space: SetId) -> Result<Option<SetI
     ensures only { IfOk result (λ slot.
         AddsOnly sets.old sets.new (λ other. is_slot other slot)) }
     ensures few { OnOk result (live_count sets.new ≤ live_count sets.old + 1) }
-    ensures full { IsErrOf result SetErr.Full → NoRoom AnySet 204 sets.old sets.new }
+    ensures adds { OnOk result
+        (AddsSets (Contains (sets_of_goal task.now task.now.goal)) sets.old sets.new) }
+    ensures full { IsErrOf result SetErr.Full → (w : ℕ)
+        → AreSmall (fluent_count task.now) w (IsMadeByEncode task.now)
+        → NoRoom w 204 0 sets.old sets.new }
 {
     match &task.goal {
         Some(goal) => {
@@ -312,7 +337,8 @@ impl Enc {
         ensures kept { KeepsSets self.old.sets self.new.sets }
         ensures refused { OnErr result (AddsNone self.old.sets self.new.sets) }
         ensures full { IsErrOf result SetErr.Full → is_shallow cond.now ≡ true
-            → NoRoom AnySet 204 self.old.sets self.new.sets }
+            → (w : ℕ) → AreSmall self.old.sets.vars w (IsPartOf cond.now)
+            → NoRoom w 204 0 self.old.sets self.new.sets }
         ensures sound { IsSets self.new.sets }
         ensures same_slots { self.new ≡ record self.old { sets = self.new.sets } }
         ensures made { (task : Task) → MadeOf task self.old → MadeOf task self.new }
@@ -335,8 +361,11 @@ impl Enc {
             (led_into task a.0 outcome (set_of self.old.sets x.0))) }
         ensures kept { KeepsSets self.old.sets self.new.sets }
         ensures refused { OnErr result (AddsNone self.old.sets self.new.sets) }
-        ensures full { IsErrOf result SetErr.Full
-            → NoRoom AnySet 0 self.old.sets self.new.sets }
+        ensures full { IsErrOf result SetErr.Full → (task : Task) → MadeOf task self.old
+            → (w : ℕ) → fluent_count task + 2 ≤ w
+            → Small (fluent_count task) w (set_of self.old.sets x.0)
+            → ImagesAreSmall w task a.0 outcome (set_of self.old.sets x.0)
+            → NoRoom w 0 0 self.old.sets self.new.sets }
         ensures sound { IsSets self.new.sets }
         ensures same_slots { self.new ≡ record self.old { sets = self.new.sets } }
         ensures made { (task : Task) → MadeOf task self.old → MadeOf task self.new }

@@ -1,15 +1,20 @@
 //! What outcomes lead to states, and where some outcome does.
-ghost use Rattle.std.specs.Prelude.{◌≡◌, ◌+◌, ◌≤◌, ◌&&◌, true, length, map, IfOk, IsErrOf};
+ghost use Rattle.std.specs.Prelude.{◌≡◌, ℕ, ◌+◌, ◌≤◌, ◌&&◌, true, length, map, take, IfOk, OnOk};
+ghost use Rattle.std.specs.Prelude.{IsErrOf, Contains};
 ghost use Rattle.std.specs.List.{All, list_any};
+ghost use Rattle.dd_ops.specs.Operations.{and_of};
 ghost use Rattle.dd_sets.specs.Calls.{KeepsSets};
 ghost use Rattle.dd_sets.specs.Frames.{OwnsAnswer};
 ghost use Rattle.dd_sets.specs.LiveSets.{IsLive, live_count, set_of};
-ghost use Rattle.dd_sets.specs.Rooms.{AnySet, NoRoom};
+ghost use Rattle.dd_sets.specs.Rooms.{NoRoom, Rough, Small};
 ghost use Rattle.task_core.specs.Conditions.{holds};
 ghost use Rattle.task_core.specs.Actions.{action_is_shallow, action_within};
 ghost use Rattle.encode_task.specs.Made.{Holds};
 ghost use Rattle.encode_task.specs.Slots.{is_one_of};
-ghost use Rattle.encode_task.specs.Tables.{AddsOnly, AllPaired, LandsMade, OutcomeMade, exec_of};
+ghost use Rattle.encode_task.specs.KeptRooms.{AddsSets, NoRoomKept};
+ghost use Rattle.encode_task.specs.Tables.{AddsOnly, AllPaired, LandsMade, OutcomeMade};
+ghost use Rattle.encode_task.specs.WorkingSets.{AreSmall, IsMadeForAction};
+ghost use Rattle.encode_task.specs.TaskSets.{exec_of, lands_of};
 
 use crate::actions::Changed;
 use crate::slots::put;
@@ -38,8 +43,13 @@ pub fn encode_lands(
         AddsOnly sets.old sets.new (λ slot. is_one_of slot lands.items)) }
     ensures few { IfOk result (λ lands.
         live_count sets.new ≤ live_count sets.old + length action.now.outcomes.items) }
-    ensures full { IsErrOf result SetErr.Full
-        → NoRoom AnySet (length action.now.outcomes.items) sets.old sets.new }
+    ensures adds { OnOk result (AddsSets
+        (Contains (map (lands_of invariant.now) action.now.outcomes.items)) sets.old sets.new) }
+    ensures full { IsErrOf result SetErr.Full → (w : ℕ) → sets.old.vars + 2 ≤ w
+        → Small sets.old.vars w (holds invariant.now)
+        → AreSmall sets.old.vars w (IsMadeForAction sets.old.vars invariant.now action.now)
+        → NoRoomKept (Contains (map (lands_of invariant.now) action.now.outcomes.items))
+        (length action.now.outcomes.items) w sets.old sets.new }
 {
     let mut lands = Vec::new(alloc);
     if always_holds(invariant) {
@@ -65,7 +75,9 @@ pub fn exec_states(
     requires shallow { action_is_shallow action.now ≡ true }
     requires lands { LandsMade sets.old invariant.now lands.now action.now.outcomes.items }
     ensures answer { OwnsAnswer sets.old sets.new (exec_of invariant.now action.now) result }
-    ensures full { IsErrOf result SetErr.Full → NoRoom AnySet 204 sets.old sets.new }
+    ensures full { IsErrOf result SetErr.Full → (w : ℕ)
+        → AreSmall sets.old.vars w (IsMadeForAction sets.old.vars invariant.now action.now)
+        → NoRoom w 204 1 sets.old sets.new }
 {
     let allowed = states_where(sets, invariant, space, &action.exec)?;
     if lands.is_empty() {
@@ -83,7 +95,13 @@ fn some_landing(sets: &mut Sets, allowed: SetId, lands: &[SetId]) -> Result<SetI
     ensures answer { OwnsAnswer sets.old sets.new (λ values. list_any
         (λ slot. set_of sets.old allowed.0 values && set_of sets.old slot.0 values) lands.now)
         result }
-    ensures full { IsErrOf result SetErr.Full → NoRoom AnySet 2 sets.old sets.new }
+    ensures full { IsErrOf result SetErr.Full → (w : ℕ)
+        → ((j : ℕ) → Small sets.old.vars w (λ values. list_any
+        (λ slot. set_of sets.old allowed.0 values && set_of sets.old slot.0 values)
+        (take j lands.now)))
+        → ((slot : SetId) → Contains lands.now slot
+        → Rough sets.old.vars w (and_of (set_of sets.old allowed.0) (set_of sets.old slot.0)))
+        → NoRoom w 2 1 sets.old sets.new }
 {
     let mut some = sets.none()?;
     for slot in lands {

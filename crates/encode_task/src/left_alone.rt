@@ -1,14 +1,16 @@
 //! The slots of fluents that some outcome leaves alone, which all such outcomes share.
-ghost use Rattle.std.specs.Prelude.{◌≡◌, ◌+◌, ◌<◌, ◌≤◌, map, IfOk, IsErrOf};
+ghost use Rattle.std.specs.Prelude.{◌≡◌, ℕ, ◌+◌, ◌<◌, ◌≤◌, map, IfOk, OnOk, IsErrOf};
 ghost use Rattle.std.specs.List.{list_any};
 ghost use Rattle.dd_sets.specs.Calls.{KeepsSets};
 ghost use Rattle.dd_sets.specs.LiveSets.{live_count};
-ghost use Rattle.dd_sets.specs.Rooms.{AnySet, NoRoom};
+ghost use Rattle.dd_sets.specs.Rooms.{NoRoom};
 ghost use Rattle.encode_task.specs.Counts.{
+  IsLeftAlone,
   leaves as is_left_by_outcome,
   left_in_actions,
   some_leaves as is_left,
 };
+ghost use Rattle.encode_task.specs.KeptRooms.{AddsSets, NoRoomKept};
 ghost use Rattle.encode_task.specs.Seen.{slots_of};
 ghost use Rattle.encode_task.specs.Slots.{is_slot};
 ghost use Rattle.encode_task.specs.Tables.{AddsOnly, IsShared, IsSharedSlot, SharesLeft};
@@ -41,9 +43,11 @@ pub fn share(
         AddsOnly sets.old sets.new (λ slot. list_any (is_slot slot) shared.items)) }
     ensures few { IfOk result (λ _. live_count sets.new
         ≤ live_count sets.old + left_in_actions sets.old.vars (map slots_of actions.now)) }
-    ensures full { IsErrOf result SetErr.Full
-        → NoRoom AnySet (left_in_actions sets.old.vars (map slots_of actions.now))
-        sets.old sets.new }
+    ensures adds { OnOk result (AddsSets
+        (IsLeftAlone sets.old.vars (map slots_of actions.now)) sets.old sets.new) }
+    ensures full { IsErrOf result SetErr.Full → (w : ℕ) → sets.old.vars + 2 ≤ w
+        → NoRoomKept (IsLeftAlone sets.old.vars (map slots_of actions.now))
+        (left_in_actions sets.old.vars (map slots_of actions.now)) w sets.old sets.new }
 {
     let mut shared = Vec::new(alloc);
     for f in 0..fluents {
@@ -63,7 +67,8 @@ fn share_fluent(
     ensures answer { IfOk result (λ slot.
         IsSharedSlot sets.old sets.new (is_left (map slots_of actions.now) f.0) f.0 slot) }
     ensures kept { KeepsSets sets.old sets.new }
-    ensures full { IsErrOf result SetErr.Full → NoRoom AnySet 0 sets.old sets.new }
+    ensures full { IsErrOf result SetErr.Full → (w : ℕ) → sets.old.vars + 2 ≤ w
+        → NoRoom w 0 0 sets.old sets.new }
 {
     if some_leaves(actions, f) {
         Ok(Some(sets.of_fluent(f)?))

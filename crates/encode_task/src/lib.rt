@@ -20,4 +20,4 @@ mod slots;
 mod space;
 
 pub use enc::{Enc, encode, encode_in_order};
-pub use laws::made_is_kept;
+pub use laws::{kept_sets_bound_nodes, made_is_kept};

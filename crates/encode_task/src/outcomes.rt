@@ -1,14 +1,17 @@
 //! The next values of fluents under an outcome, as sets.
-ghost use Rattle.std.specs.Prelude.{◌≡◌, ◌<◌, ◌==◌, ◌||◌, ◌&&◌, [], ◌∷◌, true, IsErrOf};
+ghost use Rattle.std.specs.Prelude.{◌≡◌, ℕ, ◌+◌, ◌<◌, ◌≤◌, ◌==◌, ◌||◌, ◌&&◌, [], ◌∷◌, true};
+ghost use Rattle.std.specs.Prelude.{IsErrOf, Contains};
 ghost use Rattle.std.specs.List.{list_any};
 ghost use Rattle.dd_nodes.specs.Subfunctions.{Function};
 ghost use Rattle.dd_sets.specs.Frames.{Owns, OwnsAnswer};
-ghost use Rattle.dd_sets.specs.LiveSets.{LiveSets, IsLive};
-ghost use Rattle.dd_sets.specs.Rooms.{AnySet, NoRoom};
+ghost use Rattle.dd_sets.specs.LiveSets.{LiveSets, IsLive, set_of};
+ghost use Rattle.dd_sets.specs.Rooms.{NoRoom, Rough};
 ghost use Rattle.task_core.specs.Actions.{after_value, change_is_shallow, change_makes};
 ghost use Rattle.task_core.specs.Actions.{change_within, outcome_is_shallow, outcome_within};
 ghost use Rattle.task_core.specs.Initial.{names_it};
 ghost use Rattle.task_core.specs.Vectors.{same_value};
+ghost use Rattle.task_core.specs.declared.literals.Lit.{Lit as Literal};
+ghost use Rattle.encode_task.specs.WorkingSets.{AreSmall, IsMadeForOutcome, IsPartOf};
 
 use crate::conditions::set_where;
 use dd_sets::{SetErr, SetId, Sets};
@@ -22,7 +25,9 @@ pub fn next_value(sets: &mut Sets, outcome: &Outcome, f: FluentId) -> Result<Set
     requires shallow { outcome_is_shallow outcome.now ≡ true }
     ensures answer { OwnsAnswer sets.old sets.new (λ values. after_value outcome.now values f.0)
         result }
-    ensures full { IsErrOf result SetErr.Full → NoRoom AnySet 208 sets.old sets.new }
+    ensures full { IsErrOf result SetErr.Full → (w : ℕ) → sets.old.vars + 2 ≤ w
+        → AreSmall sets.old.vars w (IsMadeForOutcome sets.old.vars outcome.now)
+        → NoRoom w 208 1 sets.old sets.new }
 {
     let value = sets.of_fluent(f)?;
     let deleted = made_so(sets, outcome, f, false);
@@ -34,11 +39,14 @@ pub fn next_value(sets: &mut Sets, outcome: &Outcome, f: FluentId) -> Result<Set
 /// The lists of truth values at which some change of an outcome makes a fluent true (positive) or
 /// false (not positive), in a new slot.
 fn made_so(sets: &mut Sets, outcome: &Outcome, f: FluentId, positive: bool) -> Result<SetId, SetErr>
+    requires fluent { f.0 < sets.old.vars }
     requires fluents { outcome_within sets.old.vars outcome.now ≡ true }
     requires shallow { outcome_is_shallow outcome.now ≡ true }
     ensures answer { OwnsAnswer sets.old sets.new
         (λ values. list_any (change_makes positive values f.0) outcome.now.changes.items) result }
-    ensures full { IsErrOf result SetErr.Full → NoRoom AnySet 206 sets.old sets.new }
+    ensures full { IsErrOf result SetErr.Full → (w : ℕ)
+        → AreSmall sets.old.vars w (IsMadeForOutcome sets.old.vars outcome.now)
+        → NoRoom w 206 0 sets.old sets.new }
 {
     let mut some = sets.none()?;
     for change in &outcome.changes {
@@ -62,7 +70,12 @@ fn with_change(
     ensures answer { (before : LiveSets) (set : Function)
         → Owns before sets.old ((some.0, set) ∷ []) → OwnsAnswer before sets.new
         (λ values. set values || change_makes positive values f.0 change.now) result }
-    ensures full { IsErrOf result SetErr.Full → NoRoom AnySet 205 sets.old sets.new }
+    ensures full { IsErrOf result SetErr.Full → (w : ℕ)
+        → ((lit : Literal) → Contains change.now.lits.items lit
+        → AreSmall sets.old.vars w (IsPartOf change.now.cond))
+        → Rough sets.old.vars w
+        (λ values. set_of sets.old some.0 values || change_makes positive values f.0 change.now)
+        → NoRoom w 205 0 sets.old sets.new }
 {
     if is_about(change, f, positive) {
         let answer = set_where(sets, &change.cond);

@@ -61,6 +61,18 @@ pub match_none : (rules : List Rule) (index : CubeIndex) (n m : ℕ) (state : St
     → MatchNone (vector n state) (map rule_of rules) from to
 match_none rules index n m state few is fits from to none k rule h l at = sym (answer_is rules index n m state few is fits k rule at) ∙ none k h l
 
+-- a rule more that doesn't match
+pub none_more : (v : Vector) (rules : List Rule) (from place : ℕ) (rule : Rule) → place < length rules → rule ≡ get_or rules place rule
+    → matches rule.cube.items v ≡ false → MatchNone v (map rule_of rules) from place → MatchNone v (map rule_of rules) from (place + 1)
+none_more v rules from place rule l is differs before k r f b at =
+    ⊎_elim (λ (earlier : k < place). before k r f earlier at)
+    (λ (past : place ≤ k).
+    let same : k ≡ place = omega arith in
+    let there : Some r ≡ Some (rule_of rule) =
+    sym at ∙ ap (λ j. slice_get (map rule_of rules) j) same ∙ rule_at rules place rule l is in
+    ap (λ (x : PlanRule). matches x.cube v) (same_Some r (rule_of rule) there) ∙ differs)
+    (cases_lt k place)
+
 -- the moves by the rules before a place are those by the rules before a later one, where none
 -- between them matches
 module _ (sys : System) (v : Vector) (rules : List PlanRule) where

@@ -107,6 +107,9 @@ fn cubes_of(alloc: Global, rules: &[Rule]) -> Result<Vec<&[Lit]>, AllocError>
     Ok(cubes)
 }
 
+/// So many rules are tried one after another, which is quicker than the index.
+const FEW_RULES: usize = 64;
+
 /// The place of the first rule of a table from `from` on that matches a state; how many rules there
 /// are, where none does.
 pub(crate) fn next_rule(
@@ -116,6 +119,42 @@ pub(crate) fn next_rule(
     state: &State,
     from: usize,
 ) -> usize
+    requires in_task { let n = fluent_count task.now in let m = action_count task.now in
+        All (λ rule. IsRuleOf n m (rule_of rule)) rules.now }
+    requires index { IsIndexOf index.now (cubes_of rules.now) }
+    requires from { from ≤ length rules.now }
+    ensures from { from ≤ result }
+    ensures within { result ≤ length rules.now }
+    ensures none_before { MatchNone (vector (fluent_count task.now) state.now)
+        (map rule_of rules.now) from result }
+{
+    if rules.len() <= FEW_RULES {
+        next_of_few(task, rules, state, from)
+    } else {
+        next_of_many(task, rules, index, state, from)
+    }
+}
+
+/// The same, rule by rule.
+fn next_of_few(task: &Task, rules: &[Rule], state: &State, from: usize) -> usize
+    requires in_task { let n = fluent_count task.now in let m = action_count task.now in
+        All (λ rule. IsRuleOf n m (rule_of rule)) rules.now }
+    requires from { from ≤ length rules.now }
+    ensures from { from ≤ result }
+    ensures within { result ≤ length rules.now }
+    ensures none_before { MatchNone (vector (fluent_count task.now) state.now)
+        (map rule_of rules.now) from result }
+{
+    for place in from..rules.len() {
+        if has_all(task, &rules[place].cube, state) {
+            return place;
+        }
+    }
+    rules.len()
+}
+
+/// The same by the index.
+fn next_of_many(task: &Task, rules: &[Rule], index: &CubeIndex, state: &State, from: usize) -> usize
     requires in_task { let n = fluent_count task.now in let m = action_count task.now in
         All (λ rule. IsRuleOf n m (rule_of rule)) rules.now }
     requires index { IsIndexOf index.now (cubes_of rules.now) }

@@ -38,16 +38,16 @@ use Rattle.task_core.specs.Tasks.{action_names as names_of_actions, fluent_names
 use Rattle.task_core.specs.declared.conditions.Cond.{Cond}
 use Rattle.task_core.specs.declared.tasks.Task.{Task}
 use Rattle.mbp_top.specs.Answers.{Answer, affirmed, over_limit, refused, text_fault}
-use Rattle.mbp_top.specs.ChainGoals.{goal_chain, is_short_chain, most_stages, stage_count}
-use Rattle.mbp_top.specs.Enough.{IsTightLimit}
+use Rattle.mbp_top.specs.ChainGoals.{goal_chain, grounded_chain, is_short_chain, most_stages, stage_count}
+use Rattle.mbp_top.specs.Enough.{IsTightForChain, IsTightLimit, IsTightPlan}
 use Rattle.mbp_top.specs.FoundChains.{IsChainMissing, IsChainResult, IsChainShown, IsFoundChain, StandsForChain}
 use Rattle.mbp_top.specs.Grounded.{IsTaskOf}
 use Rattle.mbp_top.specs.InitialStates.{empty_init}
 use Rattle.mbp_top.specs.Meets.{Meets, contextual}
-use Rattle.mbp_top.specs.PlanCommand.{IsPlanFound, IsPlanMissing, IsPlanResult, IsResultOf, MayBeTooFew, PlanThen, is_sought, stages_for}
+use Rattle.mbp_top.specs.PlanCommand.{IsPlanFound, IsPlanMissing, IsPlanResult, IsResultOf, MayBeTooFew, PlanThen, is_sought}
 use Rattle.mbp_top.specs.TemporalGoals.{HasGoal}
 use Rattle.mbp_top.specs.Words.{Bytes, PlanKind, PlanWords, with_contexts}
-use Rattle.mbp_top.proofs.ChainSets.{ground, same_sets, stands_as}
+use Rattle.mbp_top.proofs.ChainSets.{ground, same_conditions, same_sets, stands_as}
 use Rattle.mbp_top.proofs.CheckAnswers.{goal_behind}
 use Rattle.mbp_top.proofs.Listings.{same_actions, same_fluents}
 use Rattle.mbp_top.proofs.Meetings.{contexts_meet, no_contexts}
@@ -109,6 +109,8 @@ chain_stands law d p goal chain stands is =
     record {
       parts = pair.parts;
       is = text_chain p behind.0 behind.1 ∙ pair.of_text;
+      conditions = same_conditions d p chain pair.parts (stands_as d p chain pair.conds pair.parts pair.is pair.same)
+          ∙ sym (ap (λ (o : Option (PlainChain FormulaTree)). option_map (grounded_chain d p) o) (text_chain p behind.0 behind.1 ∙ pair.of_text));
       sets = same_sets d p chain pair.parts (stands_as d p chain pair.conds pair.parts pair.is pair.same);
       goal = behind.0;
       goal_is = behind.1;
@@ -207,13 +209,15 @@ module _ (d : DomainTree) (p : ProblemTree) (chain : Chain) (s : StandsForChain 
 
   -- the nodes may be too few
   pub few_nodes : (asked : PlanWords) (t : Task) → asked.kind ≡ with_contexts → IsTaskOf d p t → length chain.stages.items ≤ most_stages
-      → IsTightLimit (length chain.stages.items) asked.options.nodes (system_of t) → MayBeTooFew asked d p
+      → IsTightForChain chain asked.options.nodes t → MayBeTooFew asked d p
   few_nodes asked t kind of few tight = record {
     goal = subst (λ (k : PlanKind). is_sought k p ≡ true) (sym kind) (short few);
     within = of.within;
-    tight = subst (λ (k : PlanKind). IsTightLimit (stages_for k p) asked.options.nodes (system d p)) (sym kind)
-        (subst (λ n. IsTightLimit n asked.options.nodes (system d p)) counted
-        (subst (λ (y : System). IsTightLimit (length chain.stages.items) asked.options.nodes y) of.system_is tight));
+    tight = subst (λ (k : PlanKind). IsTightPlan k asked.options.nodes d p) (sym kind) (record {
+      by_sizes = subst (λ n. IsTightLimit n asked.options.nodes (system d p)) counted
+          (subst (λ (y : System). IsTightLimit (length chain.stages.items) asked.options.nodes y) of.system_is tight.by_sizes);
+      by_sets = (t, chain, of, s.conditions, tight.by_sets);
+    });
   }
 
 -- the goal is no chain

@@ -18,7 +18,7 @@ use Rattle.pddl_system.proofs.TreeTruth.{formula_same, trees_hold-row}
 use Rattle.task_core.specs.Cubes.{SetOfVectors}
 use Rattle.task_core.specs.Vectors.{Vector, value_of}
 use Rattle.task_core.specs.declared.conditions.Cond.{Cond}
-use Rattle.mbp_top.specs.ChainGoals.{all_hold, chained_of}
+use Rattle.mbp_top.specs.ChainGoals.{all_hold, chained_of, grounded_chain}
 
 map_map : {X Y Z : Type 0} (g : Y → Z) (h : X → Y) (xs : List X) → map g (map h xs) ≡ map (λ x. g (h x)) xs
 map_map g h [] = refl
@@ -86,6 +86,12 @@ module _ (d : DomainTree) (p : ProblemTree) where
       let stages = same_stages chain parts is in
       let keep = same_keep chain parts is in
       λ i. record { stages = stages i; keep = keep i }
+
+  pub same_conditions : (chain : Chain) (parts : PlainChain FormulaTree) → StandsAs chain parts → Some (chain_value chain) ≡ Some (grounded_chain d p parts)
+  same_conditions chain parts is =
+      let stages = is.stages in
+      let keep = is.keep in
+      λ i. Some (record { stages = stages i; keep = keep i })
 
   -- the parts of the task's chain goal, and those of the text's, have one image as trees
   kept_tree : (a : Option Cond) (b : Option FormulaTree) → option_map condition_value a ≡ option_map ground b

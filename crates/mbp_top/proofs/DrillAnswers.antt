@@ -3,8 +3,9 @@ use Rattle.std.proofs.Common.{◌≡◌, ◌⊎◌, ◌+◌, ℕ, [], length, in
 use Rattle.std.specs.Prelude.{IfOk, Result, Ok, Err}
 use Rattle.std.proofs.lemmas.List.{length-map}
 use Rattle.dd_sets.specs.Frames.{Owns}
-use Rattle.dd_sets.specs.LiveSets.{LiveSets, live_count}
-use Rattle.dd_sets.specs.Rooms.{IsTightFor, Tight, nodes_of_slots}
+use Rattle.dd_sets.proofs.RoomSteps.{room_owned}
+use Rattle.dd_sets.specs.LiveSets.{LiveSets}
+use Rattle.dd_sets.specs.Rooms.{NoRoom}
 use Rattle.exec_graph.specs.Initials.{HasTooManyInitial}
 use Rattle.pddl_ast.specs.Trees.{DomainTree, ProblemTree}
 use Rattle.pddl_system.specs.Sizes.{first_passed}
@@ -22,11 +23,12 @@ use Rattle.task_core.specs.declared.tasks.Task.{Task}
 use Rattle.mbp_top.specs.Answers.{Answer, Refusal, affirmed, full, no_memory, refused}
 use Rattle.mbp_top.specs.CheckCommand.{HasTooManyStates, most_followed}
 use Rattle.mbp_top.specs.DrillCommand.{DrillThen, IsClassLine, IsDrillAnswer, IsDrilled, IsNotFollowed, IsTightDrill, LineThen, SpellBoth, TextsThen, domain_name, drill_domain, drill_problem, drill_text, problem_name}
-use Rattle.mbp_top.specs.Enough.{IsTightLimit}
+use Rattle.mbp_top.specs.Enough.{IsTightForClass}
 use Rattle.mbp_top.specs.Grounding.{has_goal_for}
 use Rattle.mbp_top.specs.PddlTexts.{IsFaultyDomain, IsFaultyProblem}
 use Rattle.mbp_top.specs.Words.{Bytes, DrillWords, default_nodes, of_class}
 use Rattle.mbp_top.proofs.CheckAnswers.{explored, too_many, too_many_back}
+use Rattle.mbp_top.proofs.PlanAnswers.{tight_class}
 
 -- where two ways to say that there are too many initial states agree
 module _ (X Y : Type 0) (to : X → Y) (from : Y → X) (class : Class) (sys : System) where
@@ -66,11 +68,16 @@ drilled_carried X Y to from asked sys a =
 -- the answer for a task is that for the domain and the problem
 pub drilled_answer : (asked : DrillWords) (d : DomainTree) (p : ProblemTree) (t : Task) (a : Answer) → task_value t ≡ task_of d p → system_of t ≡ system d p
     → first_passed d p ≡ None → has_goal_for (of_class Weak) p ≡ true
-    → (a ≡ refused no_memory) ⊎ (IsTightLimit 0 default_nodes (system_of t) × (a ≡ refused (full default_nodes))) ⊎ IsDrilled asked (HasTooManyInitial t most_followed) (system_of t) a
+    → (a ≡ refused no_memory) ⊎ (((class : Class) × IsTightForClass class default_nodes t) × (a ≡ refused (full default_nodes))) ⊎ IsDrilled asked (HasTooManyInitial t most_followed) (system_of t) a
     → (a ≡ refused no_memory) ⊎ (IsTightDrill d p × (a ≡ refused (full default_nodes))) ⊎ DrillThen asked d p a
 drilled_answer asked d p t a is same within goal (inl memory) = inl memory
-drilled_answer asked d p t a is same within goal (inr (inl (tight, full_is))) = inr (inl (
-  record { goal = goal; within = within; tight = subst (λ (s : System). IsTightLimit 0 default_nodes s) same tight },
+drilled_answer asked d p t a is same within goal (inr (inl ((class, tight), full_is))) = inr (inl (
+  record {
+    goal = goal;
+    within = within;
+    class = class;
+    tight = tight_class class default_nodes d p t (record { task_is = is; system_is = same; within = within }) tight;
+  },
   full_is,
 ))
 drilled_answer asked d p t a is same within goal (inr (inr drilled)) =
@@ -95,13 +102,9 @@ drill_read asked d p a both (inl memory) = inl memory
 drill_read asked d p a both (inr (inl (few, is))) = inr (inl (record { domain = d; problem = p; both = both; few = few }, is))
 drill_read asked d p a both (inr (inr then)) = inr (inr (inr (d, both.spells_domain, inr (p, both.spells_problem, then))))
 
--- where a call left the slots as they were, a limit that is tight after it was tight before it
-pub tight_before : (before after : LiveSets) (more : ℕ) → Owns before after [] → IsTightFor more after → IsTightFor more before
-tight_before before after more owns tight plain =
-    let count : live_count after ≡ live_count before = omega (arith, owns.count) in
-    subst (λ (l : ℕ). Tight l before.vars (nodes_of_slots (live_count before + more) before.vars)) owns.kept.limit
-    (subst (λ (v : ℕ). Tight after.limit v (nodes_of_slots (live_count before + more) v)) owns.kept.vars
-    (subst (λ (c : ℕ). Tight after.limit after.vars (nodes_of_slots (c + more) after.vars)) count (tight (owns.kept.order ∙ plain))))
+-- where a call left the slots as they were, one that found no room after it found none before it
+pub room_after : {w : ℕ} (before now : LiveSets) {after : LiveSets} (most others : ℕ) → Owns before now [] → NoRoom w most others now after → NoRoom w most others before after
+room_after before now most others owns none = room_owned before now [] owns most most others 0 others tt (omega arith) (omega arith) none
 
 -- another property of an answer that is one
 pub if_ok_map : {A E : Type 0} (P Q : A → Type 0) (r : Result A E) → ((x : A) → P x → Q x) → IfOk r P → IfOk r Q

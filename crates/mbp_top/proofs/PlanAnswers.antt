@@ -29,13 +29,13 @@ use Rattle.plan_theory.specs.Bounds.{PathsAreWithin, ReachesGoalWithin}
 use Rattle.plan_theory.specs.Layers.{IsLastLayer}
 use Rattle.plan_theory.specs.LayerPlans.{printed_rules}
 use Rattle.mbp_top.specs.Answers.{Answer, affirmed, full, no_memory, refused}
-use Rattle.mbp_top.specs.Enough.{IsTightLimit}
+use Rattle.mbp_top.specs.Enough.{IsTightForClass, IsTightLimit, IsTightPlan}
 use Rattle.mbp_top.specs.FoundPlans.{IsFoundPlan, IsSearched, IsTableResult}
 use Rattle.mbp_top.specs.Grounded.{IsTaskOf}
 use Rattle.mbp_top.specs.Grounding.{has_goal_for}
 use Rattle.mbp_top.specs.InitialStates.{empty_init}
 use Rattle.mbp_top.specs.PddlTexts.{HoldBoth, ReadBoth}
-use Rattle.mbp_top.specs.PlanCommand.{ArePrintedRules, IsPlanAnswer, IsPlanned, IsResultOf, IsShortest, MayBeTooFew, PlanThen, is_sought, stages_for}
+use Rattle.mbp_top.specs.PlanCommand.{ArePrintedRules, IsPlanAnswer, IsPlanned, IsResultOf, IsShortest, MayBeTooFew, PlanThen, is_sought}
 use Rattle.mbp_top.specs.Words.{Bytes, PlanKind, PlanWords, of_class}
 use Rattle.mbp_top.proofs.Listings.{same_actions, same_fluents}
 use Rattle.mbp_top.proofs.Meetings.{followed, of_system}
@@ -88,13 +88,15 @@ without_initial asked class d p t a kind of none is =
     subst (λ (k : PlanKind). IsResultOf k asked.problem d p a) (sym kind) (inl (sym (ap (λ (y : System). y.initial) of.system_is) ∙ none, is))
 
 -- the nodes may be too few for the problem where they may be for its task
+pub tight_class : (class : Class) (nodes : ℕ) (d : DomainTree) (p : ProblemTree) (t : Task) → IsTaskOf d p t → IsTightForClass class nodes t → IsTightPlan (of_class class) nodes d p
+tight_class class nodes d p t of tight = record { by_sizes = subst (IsTightLimit 0 nodes) of.system_is tight.by_sizes; by_sets = (t, of, tight.by_sets) }
+
 pub too_few : (asked : PlanWords) (class : Class) (d : DomainTree) (p : ProblemTree) (t : Task) → asked.kind ≡ of_class class → IsTaskOf d p t → IsSome p.goal
-    → IsTightLimit 0 asked.options.nodes (system_of t) → MayBeTooFew asked d p
+    → IsTightForClass class asked.options.nodes t → MayBeTooFew asked d p
 too_few asked class d p t kind of goal tight = record {
   goal = subst (λ (k : PlanKind). is_sought k p ≡ true) (sym kind) goal;
   within = of.within;
-  tight = subst (λ (k : PlanKind). IsTightLimit (stages_for k p) asked.options.nodes (system d p)) (sym kind)
-      (subst (IsTightLimit 0 asked.options.nodes) of.system_is tight);
+  tight = subst (λ (k : PlanKind). IsTightPlan k asked.options.nodes d p) (sym kind) (tight_class class asked.options.nodes d p t of tight);
 }
 
 -- no other table is shorter than that of the printed rules

@@ -13,10 +13,10 @@ use Rattle.pddl_system.specs.Systems.{system}
 use Rattle.mbp_top.specs.Answers.{Answer, Refusal, refused, no_memory, full, status_of, status_of_refusal, text_of, is_shown}
 use Rattle.mbp_top.specs.Delivery.{IsWhole, Seen}
 use Rattle.mbp_top.specs.Grounding.{GroundThen, has_goal_for}
-use Rattle.mbp_top.specs.Enough.{IsTightLimit}
+use Rattle.mbp_top.specs.Enough.{IsTightPlan}
 use Rattle.mbp_top.specs.InitialStates.{empty_init}
 use Rattle.mbp_top.specs.PddlTexts.{HoldBoth, IsFaultyDomain, IsFaultyProblem, ReadBoth}
-use Rattle.mbp_top.specs.PlanCommand.{HasNoPlan, IsGoodText, IsPlanAnswer, IsPlanFound, IsPlanMissing, IsPlanResult, IsPlanned, IsResultFrom, IsResultOf, IsShortText, IsTextPrinted, MayRunOut, PlanThen, is_sought, no_plan_text, stages_for}
+use Rattle.mbp_top.specs.PlanCommand.{HasNoPlan, IsGoodText, IsPlanAnswer, IsPlanFound, IsPlanMissing, IsPlanResult, IsPlanned, IsResultFrom, IsResultOf, IsShortText, IsTextPrinted, MayRunOut, PlanThen, is_sought, no_plan_text}
 use Rattle.mbp_top.specs.ChainGoals.{ChainThen, goal_chain, is_short_chain, most_stages}
 use Rattle.mbp_top.specs.Reading.{IsRefusedFile}
 use Rattle.mbp_top.specs.Told.{AreFilesTold, NoFault}
@@ -221,16 +221,16 @@ full_written held failed tallies words before after out out' err err' status a a
 -- them
 tight_of : OneReading → (held : Bytes → Held) (failed : Bytes → Type 0) (asked : PlanWords) (domain : DomainTree) (problem : ProblemTree) (a : Answer)
     → held asked.domain ≢ Untold → held asked.problem ≢ Untold → ((file : Bytes) → failed file → ⊥)
-    → HoldBoth held asked.domain asked.problem domain problem → MayRunOut held asked → IsTightLimit (stages_for asked.kind problem) asked.options.nodes (system domain problem)
+    → HoldBoth held asked.domain asked.problem domain problem → MayRunOut held asked → IsTightPlan asked.kind asked.options.nodes domain problem
 tight_of one held failed asked domain problem a told told' quiet both may =
-    both_as one held failed asked.domain asked.problem (λ d p b. IsTightLimit (stages_for asked.kind p) asked.options.nodes (system d p)) domain problem a told told' quiet both
+    both_as one held failed asked.domain asked.problem (λ d p b. IsTightPlan asked.kind asked.options.nodes d p) domain problem a told told' quiet both
     (inr (may.domain, may.both.holds_domain, inr (may.problem, may.both.holds_problem, may.few.tight)))
 
 -- the status where the files spell a domain and a problem of it within the limits
 pub plan_status : OneReading → (held : Bytes → Held) (failed : Bytes → Type 0) (tallies : Tallies) (words : List Bytes) (before after : ℕ) (out out' err err' : Seen) (status : ℕ) (a : Answer)
     (asked : PlanWords) (domain : DomainTree) (problem : ProblemTree) → Done held failed tallies words before after out out' err err' status a
     → SaysPlan words asked → HoldBoth held asked.domain asked.problem domain problem
-    → is_sought asked.kind problem ≡ true → first_passed domain problem ≡ None → (system domain problem).initial ≢ [] → (IsTightLimit (stages_for asked.kind problem) asked.options.nodes (system domain problem) → ⊥)
+    → is_sought asked.kind problem ≡ true → first_passed domain problem ≡ None → (system domain problem).initial ≢ [] → (IsTightPlan asked.kind asked.options.nodes domain problem → ⊥)
     → AreFilesTold held words → ((file : Bytes) → failed file → ⊥)
     → NoFault out.faults out'.faults → NoFault err.faults err'.faults → (status ≡ 0) ⊎ (status ≡ 1) ⊎ (status ≡ 8)
 plan_status one held failed tallies words before after out out' err err' status a asked domain problem d says both goal kept some room told quiet no_out no_err =

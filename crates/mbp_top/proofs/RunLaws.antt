@@ -10,14 +10,14 @@ use Rattle.mbp_top.specs.Answers.{Answer, no_command, no_memory, refused}
 use Rattle.mbp_top.specs.Causes.{HasCause, IsQuietAt}
 use Rattle.mbp_top.specs.CheckCommand.{HasTooManyStates, most_followed}
 use Rattle.mbp_top.specs.Delivery.{IsDelivered}
-use Rattle.mbp_top.specs.Enough.{IsTightLimit}
+use Rattle.mbp_top.specs.Enough.{IsTightPlan}
 use Rattle.mbp_top.specs.Fetching.{FetchesFiles}
 use Rattle.mbp_top.specs.Grounding.{has_goal_for}
 use Rattle.mbp_top.specs.Laws.{AreQuietSinks, ComesToListing, ComesToReplay, HasStatus, IsAnswered, IsCutOff, IsDrillOf, IsDueAnswer, IsDueStatus, IsFullAtLimit, IsFullDrill, IsListing, IsNo, IsQuietShelf, IsReplayOf, IsYes}
 use Rattle.mbp_top.specs.Meets.{PlanMeets}
 use Rattle.mbp_top.specs.OneReading.{OneReading}
 use Rattle.mbp_top.specs.PddlTexts.{HoldBoth}
-use Rattle.mbp_top.specs.PlanCommand.{is_sought, stages_for}
+use Rattle.mbp_top.specs.PlanCommand.{is_sought}
 use Rattle.mbp_top.specs.PlanFiles.{HoldsPlan, is_of_kind}
 use Rattle.mbp_top.specs.Runs.{FailedIn, HasRun, Run}
 use Rattle.mbp_top.specs.Told.{AreFilesTold, NoFault}
@@ -135,7 +135,7 @@ module _ {S : Type 0} (held : S → Bytes → Held) (faults : S → ℕ) (fetche
     module _ (one : OneReading) where
       pub comes_to_plan : (asked : PlanWords) (domain : DomainTree) (problem : ProblemTree) → SaysPlan run.words asked
           → HoldBoth (held run.shelf) asked.domain asked.problem domain problem → is_sought asked.kind problem ≡ true → first_passed domain problem ≡ None
-          → (system domain problem).initial ≢ [] → (IsTightLimit (stages_for asked.kind problem) asked.options.nodes (system domain problem) → ⊥) → AreFilesTold (held run.shelf) run.words
+          → (system domain problem).initial ≢ [] → (IsTightPlan asked.kind asked.options.nodes domain problem → ⊥) → AreFilesTold (held run.shelf) run.words
           → NoFault (faults run.shelf) (faults run.shelf_after) → NoFault run.out.faults run.out_after.faults → NoFault run.err.faults run.err_after.faults
           → (run.status ≡ 0) ⊎ (run.status ≡ 1) ⊎ (run.status ≡ 8)
       comes_to_plan asked domain problem says both goal kept some room told no_rise no_out no_err =

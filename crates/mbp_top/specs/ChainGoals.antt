@@ -5,12 +5,15 @@ use Rattle.std.specs.Prelude.{None, Some, codes, nat_le, option_to_list}
 use Rattle.std.specs.List.{list_all}
 use Rattle.std.specs.Option.{option_and_then, option_map_or}
 use Rattle.plan_theory.specs.Chains.{Chained}
+use Rattle.ctl_syntax.specs.ChainValues.{ChainTree}
 use Rattle.ctl_syntax.specs.Chains.{PlainChain, chain_of}
+use Rattle.ctl_syntax.specs.Conditions.{CondTree, all_of, condition_row}
 use Rattle.pddl_ast.specs.Trees.{DomainTree, FormulaTree, ProblemTree}
 use Rattle.pddl_system.specs.CtlGoals.{ctl_tree}
 use Rattle.pddl_system.specs.Fluents.{fluents}
 use Rattle.pddl_system.specs.Settings.{setting}
 use Rattle.pddl_system.specs.States.{formula_holds}
+use Rattle.pddl_system.specs.Tasks.{condition_of}
 use Rattle.sexpr_text.specs.declared.faults.FaultKind.TheVariants.{NotChain}
 use Rattle.task_core.specs.Cubes.{SetOfVectors}
 use Rattle.mbp_top.specs.Answers.{Answer, refused, over_limit, text_fault}
@@ -30,6 +33,23 @@ abbrev pub chained_of : DomainTree → ProblemTree → PlainChain FormulaTree �
 chained_of domain problem chain = record {
   stages = map (all_hold domain problem) chain.stages;
   keep = all_hold domain problem (option_to_list chain.keep);
+}
+
+-- the condition of a formula without free variables, and the conjunction of those of some formulas
+abbrev pub grounded_formula : DomainTree → ProblemTree → FormulaTree → CondTree
+grounded_formula domain problem f = condition_of (setting domain problem) (fluents domain problem) f []
+
+abbrev pub grounded_formulas : DomainTree → ProblemTree → List FormulaTree → CondTree
+grounded_formulas domain problem formulas =
+    all_of (condition_row (map (grounded_formula domain problem) formulas))
+
+-- a chain, as conditions: each stage is the conjunction of what it asks for. Where nothing is kept,
+-- the conjunction of nothing is
+abbrev pub grounded_chain : DomainTree → ProblemTree → PlainChain FormulaTree → ChainTree
+grounded_chain domain problem chain = record {
+  stages = map (grounded_formulas domain problem) chain.stages;
+  keep = option_map_or (grounded_formula domain problem) chain.keep
+      (grounded_formulas domain problem []);
 }
 
 -- the most stages of a chain

@@ -21,7 +21,7 @@ use Rattle.task_gen.specs.Roads.{tyres_domain, tyres_problem}
 use Rattle.mbp_top.specs.Answers.{Answer, Refusal, affirmed, full, refused, text_of}
 use Rattle.mbp_top.specs.CheckCommand.{ExploreThen, HasTooManyStates, most_followed}
 use Rattle.mbp_top.specs.CheckCommand.{verdict_answer}
-use Rattle.mbp_top.specs.Enough.{IsTightLimit}
+use Rattle.mbp_top.specs.Enough.{IsTightPlan}
 use Rattle.mbp_top.specs.GroundCommand.{count_line}
 use Rattle.mbp_top.specs.Grounding.{GoalThen, GroundThen, has_goal_for}
 use Rattle.mbp_top.specs.PddlTexts.{IsFaultyDomain, IsFaultyProblem, SpellsProblemOf}
@@ -143,11 +143,12 @@ DrillThen asked domain problem =
     (GroundThen domain problem
     (IsDrilled asked (HasTooManyStates domain problem) (system domain problem)))
 
--- a plan is looked for of this domain and problem, for which the nodes may be too few
+-- plans are looked for of this domain and problem, and for that of one class the nodes may be too few
 pub record IsTightDrill (domain : DomainTree) (problem : ProblemTree) : Type 0 where
   pub goal : has_goal_for (of_class Weak) problem ≡ true
   pub within : first_passed domain problem ≡ None
-  pub tight : IsTightLimit 0 default_nodes (system domain problem)
+  pub class : Class
+  pub tight : IsTightPlan (of_class class) default_nodes domain problem
 
 -- the same of what the two texts spell
 pub record MayDrillRunOut (asked : DrillWords) : Type 0 where

@@ -1,7 +1,25 @@
 -- How many nodes are enough for the sets of a planning problem, and when a limit may be too small.
-use Rattle.std.specs.Prelude.{ℕ, ◌+◌, ◌*◌, ◌^◌}
+-- There are two numbers that are enough: one by the sizes of the problem alone, and one by the sizes
+-- of the sets that a search makes. A table may be too small where it is for both.
+use Rattle.std.specs.Prelude.{◌≡◌, ℕ, ◌+◌, ◌*◌, ◌^◌, ◌<◌, length, Some}
+use Rattle.std.specs.Option.{option_map}
+use Rattle.ctl_syntax.specs.ChainValues.{chain_value}
+use Rattle.ctl_syntax.specs.declared.chains.Chain.{Chain}
+use Rattle.chain_plan.specs.WorkingSets.{IsWide as BoundsChainSets}
+use Rattle.cyclic_plan.specs.WorkingSets.{IsWide as BoundsCyclicSets}
 use Rattle.dd_sets.specs.Rooms.{Tight}
+use Rattle.encode_task.specs.KeptSets.{kept_nodes}
+use Rattle.pddl_ast.specs.Trees.{DomainTree, ProblemTree}
+use Rattle.reach_plan.specs.WorkingSets.{IsWide as BoundsReachSets}
 use Rattle.task_core.specs.Systems.{System, most_outcomes}
+use Rattle.task_core.specs.Tasks.{action_count, system_of}
+use Rattle.task_core.specs.declared.classes.Class.{Class}
+use Rattle.task_core.specs.declared.classes.Class.TheVariants.{Weak, Strong, Cyclic}
+use Rattle.task_core.specs.declared.tasks.Task.{Task}
+use Rattle.pddl_system.specs.Systems.{system}
+use Rattle.mbp_top.specs.ChainGoals.{goal_chain, grounded_chain, stage_count}
+use Rattle.mbp_top.specs.Grounded.{IsTaskOf}
+use Rattle.mbp_top.specs.Words.{PlanKind, of_class, with_contexts}
 
 -- nodes that are enough for all sets that are live at a time and for one operation, where a chain
 -- of so many stages is looked for, or a plan of a class (no stages). Over F fluents a set has fewer
@@ -20,3 +38,65 @@ enough stages sys =
 -- the limit, once all others are dropped
 abbrev pub IsTightLimit : ℕ → ℕ → System → Type 0
 IsTightLimit stages nodes sys = Tight nodes sys.fluents (enough stages sys)
+
+-- nodes that are enough where each set that the search makes has at most w of them, the constants
+-- included, however many fluents there are: those of the sets that are kept for the task, of the
+-- sets that are live besides, and of one operation. An operation on two sets makes at most w * w
+-- (Bryant 1986), and at most 16 live sets are what one has just made
+abbrev pub enough_by_sets : ℕ → Task → ℕ → ℕ
+enough_by_sets stages task w =
+    kept_nodes task
+    + (action_count task * (stages + 3) + 8 * stages + 236) * w
+    + 17 * (w * w)
+
+-- w bounds the sets that a search for a plan of the class makes
+abbrev pub BoundsSets : Class → Task → ℕ → Type 0
+BoundsSets Weak task w = BoundsReachSets w Weak task
+BoundsSets Strong task w = BoundsReachSets w Strong task
+BoundsSets Cyclic task w = BoundsCyclicSets w task
+
+-- they are fewer than are enough by each bound on the sets that a search makes
+abbrev pub IsTightBySets : ℕ → ℕ → Task → (ℕ → Type 0) → Type 0
+IsTightBySets stages nodes task Bounds =
+    (w : ℕ) → Bounds w → nodes < enough_by_sets stages task w
+
+-- Private: they are fewer than are enough for a task by both numbers
+pub record IsTightTask (stages nodes : ℕ) (task : Task) (Bounds : ℕ → Type 0) : Type 0 where
+  pub by_sizes : IsTightLimit stages nodes (system_of task)
+  pub by_sets : IsTightBySets stages nodes task Bounds
+
+-- Private: for a plan of a class, or for a plan with contexts for a chain
+abbrev pub IsTightForClass : Class → ℕ → Task → Type 0
+IsTightForClass class nodes task = IsTightTask 0 nodes task (BoundsSets class task)
+
+abbrev pub IsTightForChain : Chain → ℕ → Task → Type 0
+IsTightForChain chain nodes task =
+    IsTightTask (length chain.stages.items) nodes task (λ w. BoundsChainSets w task chain)
+
+-- the chain is the one that the problem's goal is, over the task's conditions
+abbrev pub IsChainOf : DomainTree → ProblemTree → Chain → Type 0
+IsChainOf domain problem chain =
+    Some (chain_value chain) ≡ option_map (grounded_chain domain problem) (goal_chain problem)
+
+-- they are fewer than are enough by the sets of a search for a plan of the kind for the task that the
+-- domain and the problem spell, and for its chain
+abbrev pub IsTightForKind : PlanKind → ℕ → DomainTree → ProblemTree → Type 0
+IsTightForKind (of_class class) nodes domain problem =
+    (task : Task) × IsTaskOf domain problem task
+    × IsTightBySets 0 nodes task (BoundsSets class task)
+IsTightForKind with_contexts nodes domain problem =
+    (task : Task) × (chain : Chain) × IsTaskOf domain problem task
+    × IsChainOf domain problem chain
+    × IsTightBySets (length chain.stages.items) nodes task (λ w. BoundsChainSets w task chain)
+
+-- the stages of the goal; a goal by reachability has none
+abbrev pub stages_for : PlanKind → ProblemTree → ℕ
+stages_for (of_class class) problem = 0
+stages_for with_contexts problem = stage_count problem
+
+-- a table for so many nodes may be too small for a plan of the kind: they are fewer than are enough
+-- by both numbers
+pub record IsTightPlan (kind : PlanKind) (nodes : ℕ) (domain : DomainTree)
+    (problem : ProblemTree) : Type 0 where
+  pub by_sizes : IsTightLimit (stages_for kind problem) nodes (system domain problem)
+  pub by_sets : IsTightForKind kind nodes domain problem

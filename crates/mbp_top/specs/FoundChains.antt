@@ -24,6 +24,7 @@ use Rattle.task_core.specs.Tasks.{initial_states, system_of}
 use Rattle.task_core.specs.declared.tasks.Task.{Task}
 use Rattle.mbp_top.specs.Answers.{Answer, affirmed, denied}
 use Rattle.mbp_top.specs.ChainGoals.{chained_of, goal_chain}
+use Rattle.mbp_top.specs.Enough.{IsChainOf}
 use Rattle.mbp_top.specs.PlanCommand.{no_plan_text}
 use Rattle.mbp_top.specs.TemporalGoals.{HasGoal}
 use Rattle.mbp_top.specs.Words.{Bytes}
@@ -70,12 +71,13 @@ abbrev pub IsChainResult : Task → Chain → Answer → Type 0
 IsChainResult task chain answer =
     IsChainShown task chain answer ⊎ IsChainMissing task chain answer
 
--- Private: the chain stands for the chain that the problem's goal is: its sets are those of that
--- chain, and it is true wherever the goal is
+-- Private: the chain stands for the chain that the problem's goal is: its conditions, and its sets,
+-- are those of that chain, and it is true wherever the goal is
 pub record StandsForChain (domain : DomainTree) (problem : ProblemTree)
     (chain : Chain) : Type 0 where
   pub parts : PlainChain FormulaTree
   pub is : goal_chain problem ≡ Some parts
+  pub conditions : IsChainOf domain problem chain
   pub sets : chain_sets chain ≡ chained_of domain problem parts
   pub goal : TemporalTree
   pub goal_is : problem.ctl ≡ Some goal

@@ -1,4 +1,4 @@
--- Private: that a task and a goal in computation tree logic are those of a domain and a problem.
+-- That a task and a goal in computation tree logic are those of a domain and a problem.
 use Rattle.std.specs.Prelude.{◌≡◌, IfSome, None}
 use Rattle.std.specs.Option.{option_map}
 use Rattle.ctl_syntax.specs.Values.{IsAtMostDeep, NamesBelow, ctl_value}
@@ -12,7 +12,7 @@ use Rattle.pddl_system.specs.Values.{task_value}
 use Rattle.task_core.specs.Tasks.{fluent_count, system_of}
 use Rattle.task_core.specs.declared.tasks.Task.{Task}
 
--- Private: the task is theirs, and all that is counted is within its limits
+-- the task is theirs, and all that is counted is within its limits
 pub record IsTaskOf (domain : DomainTree) (problem : ProblemTree) (task : Task) : Type 0 where
   pub task_is : task_value task ≡ task_of domain problem
   pub system_is : system_of task ≡ system domain problem

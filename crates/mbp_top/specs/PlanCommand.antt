@@ -29,12 +29,11 @@ use Rattle.task_core.specs.Tables.{IsTable, Table}
 use Rattle.task_core.specs.Vectors.{Vector}
 use Rattle.mbp_top.specs.Answers.{Answer, affirmed, denied, refused, full}
 use Rattle.mbp_top.specs.Grounding.{GoalThen, GroundThen}
-use Rattle.mbp_top.specs.Enough.{IsTightLimit}
+use Rattle.mbp_top.specs.Enough.{IsTightPlan}
 use Rattle.mbp_top.specs.InitialStates.{InitialThen, empty_init}
 use Rattle.mbp_top.specs.Meets.{Meaning, Meets, PlanMeets}
 use Rattle.mbp_top.specs.PddlTexts.{HoldBoth, ReadBoth}
 use Rattle.mbp_top.specs.ChainGoals.{ChainThen, chained_of, goal_chain, is_short_chain}
-use Rattle.mbp_top.specs.ChainGoals.{stage_count}
 use Rattle.mbp_top.specs.Words.{Bytes, PlanKind, PlanWords, of_class, with_contexts}
 
 -- the plan is written for the kind: a table for the class, or an automaton
@@ -177,11 +176,6 @@ abbrev pub is_sought : PlanKind → ProblemTree → Bool
 is_sought (of_class class) problem = is_some problem.goal
 is_sought with_contexts problem = is_short_chain problem
 
--- the stages of the goal; a goal by reachability has none
-abbrev pub stages_for : PlanKind → ProblemTree → ℕ
-stages_for (of_class class) problem = 0
-stages_for with_contexts problem = stage_count problem
-
 -- what follows once both are read: the goal is of the kind that is wanted, the limits are kept, there
 -- is an initial state, and a plan is looked for
 abbrev pub IsPlanned : PlanWords → DomainTree → ProblemTree → Answer → Type 0
@@ -195,8 +189,7 @@ pub record MayBeTooFew (asked : PlanWords) (domain : DomainTree) (problem : Prob
     : Type 0 where
   pub goal : is_sought asked.kind problem ≡ true
   pub within : first_passed domain problem ≡ None
-  pub tight : IsTightLimit (stages_for asked.kind problem) asked.options.nodes
-      (system domain problem)
+  pub tight : IsTightPlan asked.kind asked.options.nodes domain problem
 
 -- the same of what the two files spell
 pub record MayRunOut (held : Bytes → Held) (asked : PlanWords) : Type 0 where

@@ -4,7 +4,7 @@ ghost use Rattle.chain_plan.specs.Chains.{IsChainOver, chain_sets};
 ghost use Rattle.ctl_syntax.specs.ChainValues.{ChainIsAtMostDeep, ChainNamesBelow};
 ghost use Rattle.ctl_syntax.specs.Values.{IsAtMostDeep, NamesBelow, ctl_value};
 ghost use Rattle.mbp_top.specs.Answers.{full, no_memory, refused};
-ghost use Rattle.mbp_top.specs.Enough.{IsTightLimit};
+ghost use Rattle.mbp_top.specs.Enough.{IsTightForChain};
 ghost use Rattle.mbp_top.specs.FoundChains.{IsChainResult, StandsForChain};
 ghost use Rattle.mbp_top.specs.Grounded.{IsGroundedOf, IsTaskOf};
 ghost use Rattle.mbp_top.specs.PlanCommand.{MayBeTooFew, PlanThen};
@@ -153,8 +153,7 @@ fn chain_task(
     ensures some { IfOk result (λ found. IfSome found (λ _. initial_states task.now ≢ [])) }
     ensures plan { IfOk result (λ found. IfSome found
         (λ shown. IsChainResult task.now chain.now (shown_of shown))) }
-    ensures full { IsErrOf result SetErr.Full
-        → IsTightLimit (length chain.now.stages.items) nodes (system_of task.now) }
+    ensures full { IsErrOf result SetErr.Full → IsTightForChain chain.now nodes task.now }
 {
     match search_chain(alloc, nodes, task, chain)? {
         Some(FoundAuto::Plan(plan)) => {

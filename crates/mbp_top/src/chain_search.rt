@@ -1,20 +1,21 @@
 //! The search for the plan with contexts of a chain, in two tries.
 
 ghost use Rattle.chain_plan.specs.Chains.{IsChainOver};
-ghost use Rattle.dd_sets.specs.Rooms.{IsTightFor};
+ghost use Rattle.chain_plan.specs.WorkingSets.{IsWide};
+ghost use Rattle.dd_sets.specs.Rooms.{NoRoom};
 ghost use Rattle.encode_task.specs.Made.{MadeOf};
-ghost use Rattle.mbp_top.specs.Enough.{IsTightLimit};
+ghost use Rattle.mbp_top.specs.Enough.{IsTightForChain};
 ghost use Rattle.mbp_top.specs.FoundChains.{IsChainSearchedFrom};
 ghost use Rattle.mbp_top.specs.Words.{IsNodeLimit};
-ghost use Rattle.std.specs.Prelude.{◌+◌, ◌*◌, IsErrOf, length};
-ghost use Rattle.task_core.specs.Tasks.{action_count, fluent_count, system_of};
+ghost use Rattle.std.specs.Prelude.{◌+◌, ◌*◌, IsErrOf, length, ℕ};
+ghost use Rattle.task_core.specs.Tasks.{action_count, fluent_count};
 
 use crate::initial_states::has_no_initial;
 use crate::ordered_sets::encode_ordered;
 use chain_plan::{FoundAuto, plan_chain};
 use ctl_syntax::Chain;
-use dd_sets::{SetErr, no_room_is_tight, tight_is_monotone};
-use encode_task::{Enc, encode};
+use dd_sets::{SetErr, no_room_is_small, no_room_is_tight, tight_is_monotone};
+use encode_task::{Enc, encode, kept_sets_bound_nodes};
 use std::alloc::Global;
 use task_core::Task;
 
@@ -31,8 +32,7 @@ pub(crate) fn search_chain(
     requires room { IsNodeLimit nodes }
     requires chain { IsChainOver (fluent_count task.now) chain.now }
     ensures found { IsChainSearchedFrom task.now chain.now result }
-    ensures full { IsErrOf result SetErr.Full
-        → IsTightLimit (length chain.now.stages.items) nodes (system_of task.now) }
+    ensures full { IsErrOf result SetErr.Full → IsTightForChain chain.now nodes task.now }
 {
     match search_in_order(alloc, nodes, task, chain) {
         Ok(found) => Ok(found),
@@ -66,11 +66,14 @@ fn search_plainly(
     requires room { IsNodeLimit nodes }
     requires chain { IsChainOver (fluent_count task.now) chain.now }
     ensures found { IsChainSearchedFrom task.now chain.now result }
-    ensures full { IsErrOf result SetErr.Full
-        → IsTightLimit (length chain.now.stages.items) nodes (system_of task.now) }
+    ensures full { IsErrOf result SetErr.Full → IsTightForChain chain.now nodes task.now }
 {
-    // This does nothing: that few nodes are too few for more sets rests on what it promises.
+    // These do nothing: that few nodes are too few for more sets, and for sets of their sizes, rests
+    // on what they promise.
     tight_is_monotone();
+    no_room_is_tight();
+    no_room_is_small();
+    kept_sets_bound_nodes();
     let mut enc = encode(alloc, task, nodes)?;
     chain_from_initial(alloc, task, &mut enc, chain)
 }
@@ -87,11 +90,10 @@ fn chain_from_initial(
     requires chain { IsChainOver (fluent_count task.now) chain.now }
     ensures found { IsChainSearchedFrom task.now chain.now result }
     ensures full { let stages = length chain.now.stages.items in
-        IsErrOf result SetErr.Full
-        → IsTightFor (action_count task.now * (stages + 3) + 8 * stages + 236) enc.old.sets }
+        IsErrOf result SetErr.Full → (w : ℕ) → IsWide w task.now chain.now
+        → NoRoom w (action_count task.now * (stages + 3) + 8 * stages + 236) 16
+        enc.old.sets enc.new.sets }
 {
-    // This does nothing: that the limit is tight where there was no room rests on what it promises.
-    no_room_is_tight();
     if has_no_initial(task, enc) {
         return Ok(None);
     }

@@ -1,19 +1,19 @@
 //! The search for the plan of a class, in two tries.
 
 ghost use Rattle.dd_sets.specs.Frames.{Owns};
-ghost use Rattle.dd_sets.specs.Rooms.{IsTightFor};
+ghost use Rattle.dd_sets.specs.Rooms.{NoRoom};
 ghost use Rattle.encode_task.specs.Made.{MadeOf};
-ghost use Rattle.mbp_top.specs.Enough.{IsTightLimit};
+ghost use Rattle.mbp_top.specs.Enough.{BoundsSets, IsTightForClass};
 ghost use Rattle.mbp_top.specs.FoundPlans.{IsSearched, IsSearchedFrom};
 ghost use Rattle.mbp_top.specs.Words.{IsNodeLimit};
-ghost use Rattle.std.specs.Prelude.{◌+◌, ◌*◌, [], IsErrOf, IsSome};
-ghost use Rattle.task_core.specs.Tasks.{action_count, system_of};
+ghost use Rattle.std.specs.Prelude.{◌+◌, ◌*◌, [], IsErrOf, IsSome, ℕ};
+ghost use Rattle.task_core.specs.Tasks.{action_count};
 
 use crate::initial_states::has_no_initial;
 use crate::ordered_sets::encode_ordered;
 use cyclic_plan::plan_cyclic;
-use dd_sets::{SetErr, no_room_is_tight, tight_is_monotone};
-use encode_task::{Enc, encode};
+use dd_sets::{SetErr, no_room_is_small, no_room_is_tight, no_room_of_fewer, tight_is_monotone};
+use encode_task::{Enc, encode, kept_sets_bound_nodes};
 use plan_rules::Class;
 use plan_theory::{Found, printed_plan_is_shortest};
 use reach_plan::{plan_strong, plan_weak};
@@ -33,7 +33,7 @@ pub(crate) fn search_task(
     requires room { IsNodeLimit nodes }
     requires goal { IsSome task.now.goal }
     ensures found { IsSearchedFrom class task.now result }
-    ensures full { IsErrOf result SetErr.Full → IsTightLimit 0 nodes (system_of task.now) }
+    ensures full { IsErrOf result SetErr.Full → IsTightForClass class nodes task.now }
 {
     match search_in_order(alloc, class, nodes, task) {
         Ok(found) => Ok(found),
@@ -67,10 +67,14 @@ fn search_plainly(
     requires room { IsNodeLimit nodes }
     requires goal { IsSome task.now.goal }
     ensures found { IsSearchedFrom class task.now result }
-    ensures full { IsErrOf result SetErr.Full → IsTightLimit 0 nodes (system_of task.now) }
+    ensures full { IsErrOf result SetErr.Full → IsTightForClass class nodes task.now }
 {
-    // This does nothing: that few nodes are too few for more sets rests on what it promises.
+    // These do nothing: that few nodes are too few for more sets, and for sets of their sizes, rests
+    // on what they promise.
     tight_is_monotone();
+    no_room_is_tight();
+    no_room_is_small();
+    kept_sets_bound_nodes();
     let mut enc = encode(alloc, task, nodes)?;
     find_from_initial(alloc, class, task, &mut enc)
 }
@@ -85,8 +89,8 @@ fn find_from_initial(
     requires made { MadeOf task.now enc.old }
     requires goal { IsSome task.now.goal }
     ensures found { IsSearchedFrom class task.now result }
-    ensures full { IsErrOf result SetErr.Full
-        → IsTightFor (3 * action_count task.now + 32) enc.old.sets }
+    ensures full { IsErrOf result SetErr.Full → (w : ℕ) → BoundsSets class task.now w
+        → NoRoom w (3 * action_count task.now + 32) 16 enc.old.sets enc.new.sets }
 {
     if has_no_initial(task, enc) {
         return Ok(None);
@@ -105,13 +109,13 @@ pub(crate) fn find_plan(
     requires made { MadeOf task.now enc.old }
     requires goal { IsSome task.now.goal }
     ensures found { IsSearched class task.now result }
-    ensures full { IsErrOf result SetErr.Full
-        → IsTightFor (3 * action_count task.now + 32) enc.old.sets }
+    ensures full { IsErrOf result SetErr.Full → (w : ℕ) → BoundsSets class task.now w
+        → NoRoom w (3 * action_count task.now + 32) 16 enc.old.sets enc.new.sets }
     ensures still_made { MadeOf task.now enc.new }
     ensures slots { Owns enc.old.sets enc.new.sets [] }
 {
-    // This does nothing: that the limit is tight for more slots, too, rests on what it promises.
-    tight_is_monotone();
+    // This does nothing: that there was no room with more slots, too, rests on what it promises.
+    no_room_of_fewer();
     match class {
         Class::Weak => weak_plan(alloc, task, enc),
         Class::Strong => strong_plan(alloc, task, enc),
@@ -124,16 +128,14 @@ fn weak_plan(alloc: Global, task: &Task, enc: &mut Enc) -> Result<Found, SetErr>
     requires made { MadeOf task.now enc.old }
     requires goal { IsSome task.now.goal }
     ensures found { IsSearched Class.Weak task.now result }
-    ensures full { IsErrOf result SetErr.Full
-        → IsTightFor (action_count task.now + 24) enc.old.sets }
+    ensures full { IsErrOf result SetErr.Full → (w : ℕ) → BoundsSets Class.Weak task.now w
+        → NoRoom w (action_count task.now + 24) 16 enc.old.sets enc.new.sets }
     ensures still_made { MadeOf task.now enc.new }
     ensures slots { Owns enc.old.sets enc.new.sets [] }
 {
-    // These do nothing: that no solution is shorter, and that the limit is tight where there was no
-    // room, rests on what they promise.
+    // These do nothing: that no solution is shorter rests on what they promise.
     tasks_have_systems(task);
     printed_plan_is_shortest();
-    no_room_is_tight();
     plan_weak(alloc, task, enc)
 }
 
@@ -142,16 +144,14 @@ fn strong_plan(alloc: Global, task: &Task, enc: &mut Enc) -> Result<Found, SetEr
     requires made { MadeOf task.now enc.old }
     requires goal { IsSome task.now.goal }
     ensures found { IsSearched Class.Strong task.now result }
-    ensures full { IsErrOf result SetErr.Full
-        → IsTightFor (action_count task.now + 24) enc.old.sets }
+    ensures full { IsErrOf result SetErr.Full → (w : ℕ) → BoundsSets Class.Strong task.now w
+        → NoRoom w (action_count task.now + 24) 16 enc.old.sets enc.new.sets }
     ensures still_made { MadeOf task.now enc.new }
     ensures slots { Owns enc.old.sets enc.new.sets [] }
 {
-    // These do nothing: that no solution is shorter, and that the limit is tight where there was no
-    // room, rests on what they promise.
+    // These do nothing: that no solution is shorter rests on what they promise.
     tasks_have_systems(task);
     printed_plan_is_shortest();
-    no_room_is_tight();
     plan_strong(alloc, task, enc)
 }
 
@@ -160,12 +160,10 @@ fn strong_cyclic_plan(alloc: Global, task: &Task, enc: &mut Enc) -> Result<Found
     requires made { MadeOf task.now enc.old }
     requires goal { IsSome task.now.goal }
     ensures found { IsSearched Class.Cyclic task.now result }
-    ensures full { IsErrOf result SetErr.Full
-        → IsTightFor (3 * action_count task.now + 32) enc.old.sets }
+    ensures full { IsErrOf result SetErr.Full → (w : ℕ) → BoundsSets Class.Cyclic task.now w
+        → NoRoom w (3 * action_count task.now + 32) 16 enc.old.sets enc.new.sets }
     ensures still_made { MadeOf task.now enc.new }
     ensures slots { Owns enc.old.sets enc.new.sets [] }
 {
-    // This does nothing: that the limit is tight where there was no room rests on what it promises.
-    no_room_is_tight();
     plan_cyclic(alloc, task, enc)
 }

@@ -1,6 +1,6 @@
 //! The command `drill`.
 
-ghost use Rattle.dd_sets.specs.Rooms.{IsTightFor};
+ghost use Rattle.dd_sets.specs.Rooms.{NoRoom};
 ghost use Rattle.encode_task.specs.Made.{MadeOf};
 ghost use Rattle.exec_graph.specs.Graphs.{IsGraphOf};
 ghost use Rattle.exec_graph.specs.Initials.{HasTooManyInitial};
@@ -25,7 +25,7 @@ ghost use Rattle.mbp_top.specs.DrillCommand.{
   no_plan_line,
   rules_line,
 };
-ghost use Rattle.mbp_top.specs.Enough.{IsTightLimit};
+ghost use Rattle.mbp_top.specs.Enough.{BoundsSets, IsTightForClass};
 ghost use Rattle.mbp_top.specs.FoundPlans.{IsFoundPlan, IsSearched};
 ghost use Rattle.mbp_top.specs.Values.{answer_of, drill_kind_of, drill_words_of, refusal_of};
 ghost use Rattle.mbp_top.specs.Words.{IsDrillSize, default_nodes};
@@ -48,6 +48,7 @@ ghost use Rattle.std.specs.Prelude.{
   Ok,
   OnOk,
   string_bytes,
+  ℕ,
 };
 ghost use Rattle.task_core.specs.Tasks.{action_count, fluent_count, system_of};
 
@@ -58,8 +59,8 @@ use crate::ground_command::push_count;
 use crate::grounding::{check_goal, grounded};
 use crate::pddl_texts::{domain_in, problem_in};
 use crate::words::{DEFAULT_NODES, DrillKind, DrillWords, PlanKind, class_name};
-use dd_sets::{SetErr, tight_is_monotone};
-use encode_task::{Enc, encode};
+use dd_sets::{SetErr, no_room_is_small, no_room_is_tight, tight_is_monotone};
+use encode_task::{Enc, encode, kept_sets_bound_nodes};
 use exec_graph::{Graph, GraphErr, explore};
 use pddl_ast::{Domain, Problem};
 use pddl_system::read_names_are_words;
@@ -160,7 +161,7 @@ fn drill_both(
 fn drill_task(alloc: Global, asked: &DrillWords, task: &Task) -> Result<Shown, Refusal>
     requires goal { IsSome task.now.goal }
     ensures { (answer_of result ≡ refused no_memory)
-        ⊎ (IsTightLimit 0 default_nodes (system_of task.now)
+        ⊎ (((class : Class) × IsTightForClass class default_nodes task.now)
         × (answer_of result ≡ refused (full default_nodes)))
         ⊎ IsDrilled (drill_words_of asked.now) (HasTooManyInitial task.now most_followed)
         (system_of task.now) (answer_of result) }
@@ -179,10 +180,14 @@ fn search_classes(alloc: Global, task: &Task) -> Result<ClassPlans, SetErr>
     ensures strong { IfOk result (λ plans. IsSearched Class.Strong task.now (Ok plans.strong)) }
     ensures cyclic { IfOk result (λ plans. IsSearched Class.Cyclic task.now (Ok plans.cyclic)) }
     ensures full { IsErrOf result SetErr.Full
-        → IsTightLimit 0 default_nodes (system_of task.now) }
+        → (class : Class) × IsTightForClass class default_nodes task.now }
 {
-    // This does nothing: that few nodes are too few for more sets rests on what it promises.
+    // These do nothing: that few nodes are too few for more sets, and for sets of their sizes, rests
+    // on what they promise.
     tight_is_monotone();
+    no_room_is_tight();
+    no_room_is_small();
+    kept_sets_bound_nodes();
     let mut enc = encode(alloc, task, DEFAULT_NODES)?;
     find_classes(alloc, task, &mut enc)
 }
@@ -194,8 +199,9 @@ fn find_classes(alloc: Global, task: &Task, enc: &mut Enc) -> Result<ClassPlans,
     ensures weak { IfOk result (λ plans. IsSearched Class.Weak task.now (Ok plans.weak)) }
     ensures strong { IfOk result (λ plans. IsSearched Class.Strong task.now (Ok plans.strong)) }
     ensures cyclic { IfOk result (λ plans. IsSearched Class.Cyclic task.now (Ok plans.cyclic)) }
-    ensures full { IsErrOf result SetErr.Full
-        → IsTightFor (3 * action_count task.now + 32) enc.old.sets }
+    ensures full { IsErrOf result SetErr.Full → (class : Class) × ((w : ℕ)
+        → BoundsSets class task.now w
+        → NoRoom w (3 * action_count task.now + 32) 16 enc.old.sets enc.new.sets) }
 {
     let weak = find_plan(alloc, Class::Weak, task, enc)?;
     let strong = find_plan(alloc, Class::Strong, task, enc)?;

@@ -2,7 +2,7 @@
 
 ghost use Rattle.mbp_top.specs.Answers.{full, no_memory, refused};
 ghost use Rattle.mbp_top.specs.Causes.{IsQuietAt};
-ghost use Rattle.mbp_top.specs.Enough.{IsTightLimit};
+ghost use Rattle.mbp_top.specs.Enough.{IsTightForClass};
 ghost use Rattle.mbp_top.specs.Fetching.{FetchesFiles};
 ghost use Rattle.mbp_top.specs.FoundPlans.{IsTableResult};
 ghost use Rattle.mbp_top.specs.Grounded.{IsGroundedOf, IsTaskOf};
@@ -158,7 +158,7 @@ fn plan_task(alloc: Global, class: Class, nodes: u32, task: &Task) -> Result<Opt
     ensures plan { IfOk result (λ found. IfSome found
         (λ shown. IsTableResult class (system_of task.now) (fluent_names task.now)
         (action_names task.now) (shown_of shown))) }
-    ensures full { IsErrOf result SetErr.Full → IsTightLimit 0 nodes (system_of task.now) }
+    ensures full { IsErrOf result SetErr.Full → IsTightForClass class nodes task.now }
 {
     // This does nothing: that the rules can be followed rests on what it promises.
     tasks_have_systems(task);

@@ -3,7 +3,7 @@
 ghost use Rattle.exec_graph.specs.Executions.{ReachesMoreThan};
 ghost use Rattle.mbp_top.specs.CheckCommand.{HasTooManyStates, most_followed};
 ghost use Rattle.mbp_top.specs.Delivery.{seen};
-ghost use Rattle.mbp_top.specs.Enough.{IsTightLimit};
+ghost use Rattle.mbp_top.specs.Enough.{IsTightPlan};
 ghost use Rattle.mbp_top.specs.Grounding.{has_goal_for};
 ghost use Rattle.mbp_top.specs.Meets.{PlanMeets};
 ghost use Rattle.mbp_top.specs.PddlTexts.{HoldBoth, ReadAsBoth};
@@ -14,7 +14,6 @@ ghost use Rattle.mbp_top.specs.PlanCommand.{
   IsTextPrinted,
   is_sought,
   no_plan_text,
-  stages_for,
 };
 ghost use Rattle.mbp_top.specs.PlanFiles.{HoldsPlan, is_of_kind};
 ghost use Rattle.run_replay.specs.TraceTexts.{tallies_of};
@@ -145,8 +144,7 @@ pub fn run<S: Shelf, O: Sink, E: Sink>(
         → HoldBoth (S.held shelf.old) asked.domain asked.problem domain problem
         → is_sought asked.kind problem ≡ true → first_passed domain problem ≡ None
         → (system domain problem).initial ≢ []
-        → (IsTightLimit (stages_for asked.kind problem) asked.options.nodes
-        (system domain problem) → ⊥)
+        → (IsTightPlan asked.kind asked.options.nodes domain problem → ⊥)
         → AreFilesTold (S.held shelf.old) (map string_bytes words.now)
         → NoFault (S.faults shelf.old) (S.faults shelf.new)
         → NoFault (O.faults out.old) (O.faults out.new)

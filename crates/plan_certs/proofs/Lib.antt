@@ -8,3 +8,4 @@ pub mod InOrder
 pub mod Whole
 pub mod Judged
 mod Examples
+pub mod PrintedLemmas

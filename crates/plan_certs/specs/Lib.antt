@@ -1,4 +1,5 @@
 pub mod Certificates
+pub mod Printed
 pub mod Named
 pub mod Texts
 pub mod Readings

@@ -13,6 +13,8 @@ ghost use Rattle.plan_certs.specs.Certificates.{
   PlainCertificate,
 };
 ghost use Rattle.plan_certs.specs.Named.{IsPlainCertificateOf};
+ghost use Rattle.plan_certs.specs.Printed.{IsPrinted};
+ghost use Rattle.task_core.specs.declared.classes.Class.{Class};
 ghost use Rattle.plan_certs.specs.Readings.{HasCertificateFault, SpellsPlain};
 ghost use Rattle.plan_certs.specs.Texts.{certificate_text};
 
@@ -30,6 +32,21 @@ pub fn one_verdict()
         × IsFirstFlaw sys certificate flaw) }
     ensures not_both { (sys : System) (certificate : PlainCertificate) (flaw : CertificateFlaw)
         → IsAccepted sys certificate → IsFirstFlaw sys certificate flaw → ⊥ }
+{}
+
+/// The printed certificate of a class is accepted exactly where no table is a solution of the class,
+/// and each system has one and no other.
+pub fn printed_where_none()
+    ensures accepted { (class : Class) (sys : System) (certificate : PlainCertificate)
+        → IsSystem sys → IsPrinted class sys certificate → HasNoSolution class sys
+        → IsAccepted sys certificate }
+    ensures none { (class : Class) (sys : System) (certificate : PlainCertificate)
+        → IsSystem sys → IsPrinted class sys certificate → IsAccepted sys certificate
+        → HasNoSolution class sys }
+    ensures some { (class : Class) (sys : System) → IsSystem sys
+        → (certificate : PlainCertificate) × IsPrinted class sys certificate }
+    ensures one { (class : Class) (sys : System) (certificate other : PlainCertificate)
+        → IsPrinted class sys certificate → IsPrinted class sys other → certificate ≡ other }
 {}
 
 /// The text that is written of a certificate spells that certificate, where the names of the

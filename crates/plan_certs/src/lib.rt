@@ -24,7 +24,7 @@ pub use certificates::{Certificate, CertificateRead, StateSet};
 pub use judging::{is_no_way_out, set_holds, some_set_holds};
 pub use laws::{
     accepted_certificates_mean_no_plan, certificate_or_fault, one_certificate, one_verdict,
-    written_spells,
+    printed_where_none, written_spells,
 };
 pub use reader::read_cert;
 pub use text::write_cert;

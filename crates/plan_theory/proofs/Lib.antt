@@ -27,3 +27,16 @@ pub mod PlanRuns
 pub mod Sound
 pub mod NoChain
 mod ChainExamples
+mod FarExamples
+pub mod GuardedSets
+pub mod PlanPaths
+pub mod UntilTowards
+pub mod ContextRuleParts
+pub mod UntilRules
+pub mod UntilSound
+pub mod NoUntil
+pub mod PatrolSets
+pub mod PatrolSound
+pub mod PatrolRules
+pub mod NoPatrol
+pub mod ChainsAsUntil

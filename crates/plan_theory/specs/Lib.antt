@@ -13,3 +13,11 @@ pub mod StageSets
 pub mod Wins
 pub mod ChainPrinted
 pub mod ChainPlans
+pub mod GuardedSets
+pub mod ContextRules
+pub mod UntilChains
+pub mod UntilPrinted
+pub mod UntilPlans
+pub mod Patrols
+pub mod PatrolPrinted
+pub mod PatrolPlans

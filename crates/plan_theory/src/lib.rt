@@ -20,6 +20,8 @@ mod chain_laws;
 mod chain_rules;
 mod cyclic_laws;
 mod layer_laws;
+mod patrol_laws;
+mod until_laws;
 
 pub use answers::Found;
 pub use chain_laws::{
@@ -36,4 +38,13 @@ pub use cyclic_laws::{
 pub use layer_laws::{
     layers_grow, layers_stand_still, no_plan_once_stable, no_plan_without_cover,
     printed_plan_is_shortest, printed_plan_solves, strong_plans_end,
+};
+pub use patrol_laws::{
+    no_patrol_plan_without_cover, patrol_actions_lead_on, patrol_set_is_largest,
+    printed_patrol_plan_has_goal, printed_patrol_rules_act,
+};
+pub use until_laws::{
+    chains_are_until_chains, guarded_actions_lead_nearer, guarded_set_is_least,
+    no_until_plan_without_cover, printed_until_plan_has_goal, printed_until_rules_act,
+    until_actions_lead_on,
 };

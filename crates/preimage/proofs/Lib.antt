@@ -1,3 +1,4 @@
 pub mod FrameSteps
 pub mod OutcomeLemmas
 pub mod SideLemmas
+pub mod SizeLemmas

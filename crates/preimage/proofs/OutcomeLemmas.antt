@@ -27,15 +27,15 @@ use Rattle.preimage.specs.declared.slots.Side.TheVariants.{Inside, Outside}
 abbrev lands : Task → Values → Outcome → Bool
 lands task values o = space_set task (after_value o values)
 
-abbrev leads : Task → Function → Values → Outcome → Bool
+abbrev pub leads : Task → Function → Values → Outcome → Bool
 leads task set values o = space_set task (after_value o values) && set (after_value o values)
 
-abbrev stays : Task → Function → Values → Outcome → Bool
+abbrev pub stays : Task → Function → Values → Outcome → Bool
 stays task set values o = not (space_set task (after_value o values)) || set (after_value o values)
 
 -- what is left of where the action can be executed without what the first outcomes lead to states in
 -- the set, and without what they lead to states outside it
-abbrev left_after : Task → ℕ → Function → ℕ → Function
+abbrev pub left_after : Task → ℕ → Function → ℕ → Function
 left_after task a set i values = exec_set task a values && not (list_any (leads task set values) (take i (outcomes_at task a)))
 
 abbrev all_after : Task → ℕ → Function → ℕ → Function

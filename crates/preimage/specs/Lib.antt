@@ -1,3 +1,4 @@
 pub mod Laws
 pub mod Preimages
 pub mod Sides
+pub mod WorkingSets

@@ -1,13 +1,14 @@
 //! The weak and the strong preimage.
-ghost use Rattle.std.specs.Prelude.{◌≡◌, ◌<◌, ◌==◌, length, IsErrOf};
+ghost use Rattle.std.specs.Prelude.{◌≡◌, ℕ, ◌<◌, ◌==◌, length, IsErrOf};
 ghost use Rattle.dd_sets.specs.Frames.{OwnsAnswer};
 ghost use Rattle.dd_sets.specs.LiveSets.{IsLive, IsSets, set_of};
-ghost use Rattle.dd_sets.specs.Rooms.{AnySet, NoRoom};
+ghost use Rattle.dd_sets.specs.Rooms.{NoRoom};
 ghost use Rattle.encode_task.specs.Made.{MadeOf};
 ghost use Rattle.encode_task.specs.Slots.{outcome_slots};
 ghost use Rattle.task_core.specs.declared.tasks.Task.{Task};
 ghost use Rattle.preimage.specs.Preimages.{OfSomeTask, strong_preimage, weak_preimage};
-ghost use Rattle.preimage.specs.Sides.{all_outcomes_on};
+ghost use Rattle.preimage.specs.Sides.{SideFits, all_outcomes_on};
+ghost use Rattle.preimage.specs.WorkingSets.{PreimageFits, first_every, first_some};
 
 use crate::slots::{Side, copied, is_none, part_of, rest_of};
 use dd_sets::{SetErr, SetId};
@@ -20,7 +21,8 @@ use task_core::ActionId;
 /// With one outcome this is the strong preimage: what the outcome leads into `x`, met with where the
 /// action can be executed. Outcomes are passed over once none can change the answer.
 ///
-/// At most 3 slots more than at entry are live while it works. Time grows with the fluents that the
+/// At most 3 slots more than at entry are live while it works, and where the working sets that belong
+/// to `x` are small, two of them at most hold another set. Time grows with the fluents that the
 /// outcomes change, and not with all of them.
 pub fn weak_pre(enc: &mut Enc, a: ActionId, x: SetId) -> Result<SetId, SetErr>
     requires made { OfSomeTask enc.old }
@@ -28,7 +30,9 @@ pub fn weak_pre(enc: &mut Enc, a: ActionId, x: SetId) -> Result<SetId, SetErr>
     requires live { IsLive enc.old.sets x.0 }
     ensures answer { (task : Task) → MadeOf task enc.old → OwnsAnswer enc.old.sets enc.new.sets
         (weak_preimage task a.0 (set_of enc.old.sets x.0)) result }
-    ensures full { IsErrOf result SetErr.Full → NoRoom AnySet 8 enc.old.sets enc.new.sets }
+    ensures full { IsErrOf result SetErr.Full → (task : Task) → MadeOf task enc.old → (width : ℕ)
+        → PreimageFits width task a.0 first_some (set_of enc.old.sets x.0)
+        → NoRoom width 8 4 enc.old.sets enc.new.sets }
     ensures sound { IsSets enc.new.sets }
     ensures same_slots { enc.new ≡ record enc.old { sets = enc.new.sets } }
     ensures made { (task : Task) → MadeOf task enc.old → MadeOf task enc.new }
@@ -56,7 +60,9 @@ fn not_all_outside(enc: &mut Enc, a: ActionId, x: SetId) -> Result<SetId, SetErr
     requires live { IsLive enc.old.sets x.0 }
     ensures answer { (task : Task) → MadeOf task enc.old → OwnsAnswer enc.old.sets enc.new.sets
         (weak_preimage task a.0 (set_of enc.old.sets x.0)) result }
-    ensures full { IsErrOf result SetErr.Full → NoRoom AnySet 8 enc.old.sets enc.new.sets }
+    ensures full { IsErrOf result SetErr.Full → (task : Task) → MadeOf task enc.old → (width : ℕ)
+        → PreimageFits width task a.0 first_some (set_of enc.old.sets x.0)
+        → NoRoom width 8 4 enc.old.sets enc.new.sets }
     ensures sound { IsSets enc.new.sets }
     ensures same_slots { enc.new ≡ record enc.old { sets = enc.new.sets } }
     ensures made { (task : Task) → MadeOf task enc.old → MadeOf task enc.new }
@@ -71,7 +77,8 @@ fn not_all_outside(enc: &mut Enc, a: ActionId, x: SetId) -> Result<SetId, SetErr
 ///
 /// Outcomes are passed over once no state is left.
 ///
-/// At most 3 slots more than at entry are live while it works. Time grows with the fluents that the
+/// At most 3 slots more than at entry are live while it works, and where the working sets that belong
+/// to `x` are small, two of them at most hold another set. Time grows with the fluents that the
 /// outcomes change, and not with all of them.
 pub fn strong_pre(enc: &mut Enc, a: ActionId, x: SetId) -> Result<SetId, SetErr>
     requires made { OfSomeTask enc.old }
@@ -79,7 +86,9 @@ pub fn strong_pre(enc: &mut Enc, a: ActionId, x: SetId) -> Result<SetId, SetErr>
     requires live { IsLive enc.old.sets x.0 }
     ensures answer { (task : Task) → MadeOf task enc.old → OwnsAnswer enc.old.sets enc.new.sets
         (strong_preimage task a.0 (set_of enc.old.sets x.0)) result }
-    ensures full { IsErrOf result SetErr.Full → NoRoom AnySet 8 enc.old.sets enc.new.sets }
+    ensures full { IsErrOf result SetErr.Full → (task : Task) → MadeOf task enc.old → (width : ℕ)
+        → PreimageFits width task a.0 first_every (set_of enc.old.sets x.0)
+        → NoRoom width 8 4 enc.old.sets enc.new.sets }
     ensures sound { IsSets enc.new.sets }
     ensures same_slots { enc.new ≡ record enc.old { sets = enc.new.sets } }
     ensures made { (task : Task) → MadeOf task enc.old → MadeOf task enc.new }
@@ -95,7 +104,9 @@ fn all_on_side(enc: &mut Enc, a: ActionId, x: SetId, side: Side) -> Result<SetId
     requires live { IsLive enc.old.sets x.0 }
     ensures answer { (task : Task) → MadeOf task enc.old → OwnsAnswer enc.old.sets enc.new.sets
         (all_outcomes_on side task a.0 (set_of enc.old.sets x.0)) result }
-    ensures full { IsErrOf result SetErr.Full → NoRoom AnySet 8 enc.old.sets enc.new.sets }
+    ensures full { IsErrOf result SetErr.Full → (task : Task) → MadeOf task enc.old → (width : ℕ)
+        → SideFits width side task a.0 (set_of enc.old.sets x.0)
+        → NoRoom width 8 4 enc.old.sets enc.new.sets }
     ensures sound { IsSets enc.new.sets }
     ensures same_slots { enc.new ≡ record enc.old { sets = enc.new.sets } }
     ensures made { (task : Task) → MadeOf task enc.old → MadeOf task enc.new }

@@ -1,14 +1,14 @@
 //! Sets in the place of slots, on the sets of a task.
-ghost use Rattle.std.specs.Prelude.{◌≡◌, ◌⊎◌, ◌↔◌, [], ◌∷◌, IfErr, IfOk, IsErrOf, IsTrue};
+ghost use Rattle.std.specs.Prelude.{◌≡◌, ◌⊎◌, ◌↔◌, ℕ, [], ◌∷◌, IfErr, IfOk, IsErrOf, IsTrue};
 ghost use Rattle.dd_nodes.specs.Subfunctions.{Function};
 ghost use Rattle.dd_ops.specs.Operations.{and_of, minus_of};
 ghost use Rattle.dd_sets.specs.Calls.{Releases};
-ghost use Rattle.dd_sets.specs.Frames.{AreTwo, Owns, OwnsAnswer, OwnsBoth};
+ghost use Rattle.dd_sets.specs.Frames.{AreTwo, Owns, OwnsAnswer, OwnsBoth, piece_of};
 ghost use Rattle.dd_sets.specs.LiveSets.{IsSets, LiveSets, IsLive};
 ghost use Rattle.dd_sets.specs.LiveSets.{everything, nothing, set_of};
-ghost use Rattle.dd_sets.specs.Rooms.{AnySet, NoRoom};
+ghost use Rattle.dd_sets.specs.Rooms.{AreRough, NoRoom, Rough, Small};
 ghost use Rattle.encode_task.specs.Made.{HoldsLands};
-ghost use Rattle.preimage.specs.Sides.{AreOwned, off_side, on_side};
+ghost use Rattle.preimage.specs.Sides.{AreOwned, PartFits, off_side, on_side};
 
 use dd_sets::{SetErr, SetId, Sets};
 use encode_task::Enc;
@@ -58,10 +58,12 @@ pub fn part_of(
         → Owns before now ((a.0, f) ∷ []) → OwnsAnswer now enc.old.sets g b
         → OwnsAnswer before enc.new.sets (on_side side landing f g) result }
     ensures same_slots { enc.new ≡ record enc.old { sets = enc.new.sets } }
-    ensures full { IsErrOf result SetErr.Full → (before now : LiveSets) (f g : Function)
+    ensures full { IsErrOf result SetErr.Full → (before now : LiveSets) (landing f g : Function)
+        → HoldsLands enc.old.sets lands landing
         → Owns before now ((a.0, f) ∷ []) → OwnsAnswer now enc.old.sets g b
-        → (IsErrOf b SetErr.Full → NoRoom AnySet 0 now enc.old.sets)
-        → NoRoom AnySet 3 before enc.new.sets }
+        → (width : ℕ) → PartFits before.vars width side landing f g
+        → (IsErrOf b SetErr.Full → NoRoom width 0 0 now enc.old.sets)
+        → NoRoom width 3 2 before enc.new.sets }
     ensures sound { IsSets enc.new.sets }
 {
     match lands {
@@ -78,9 +80,10 @@ fn part_led(enc: &mut Enc, side: Side, a: SetId, b: Result<SetId, SetErr>) -> Re
         → OwnsBoth before enc.old.sets a f b g
         → OwnsAnswer before enc.new.sets (on_side side everything f g) result }
     ensures same_slots { enc.new ≡ record enc.old { sets = enc.new.sets } }
-    ensures full { IsErrOf result SetErr.Full
+    ensures full { IsErrOf result SetErr.Full → (width : ℕ)
+        → AreRough enc.old.sets.vars width (piece_of (on_side side everything) enc.old.sets a b)
         → (IsErrOf b SetErr.Full × Releases enc.old.sets enc.new.sets a.0)
-        ⊎ NoRoom AnySet 0 enc.old.sets enc.new.sets }
+        ⊎ NoRoom width 0 0 enc.old.sets enc.new.sets }
     ensures sound { IsSets enc.new.sets }
 {
     match side {
@@ -107,8 +110,9 @@ fn part_landing(
     ensures same_slots { enc.new ≡ record enc.old { sets = enc.new.sets } }
     ensures full { IsErrOf result SetErr.Full → (before now : LiveSets) (f g : Function)
         → Owns before now ((a.0, f) ∷ []) → OwnsAnswer now enc.old.sets g b
-        → (IsErrOf b SetErr.Full → NoRoom AnySet 0 now enc.old.sets)
-        → NoRoom AnySet 3 before enc.new.sets }
+        → (width : ℕ) → PartFits before.vars width side (set_of enc.old.sets lands.0) f g
+        → (IsErrOf b SetErr.Full → NoRoom width 0 0 now enc.old.sets)
+        → NoRoom width 3 2 before enc.new.sets }
     ensures sound { IsSets enc.new.sets }
 {
     let other = other_side(enc, side, lands, b);
@@ -131,8 +135,10 @@ fn other_side(
     ensures same_slots { enc.new ≡ record enc.old { sets = enc.new.sets } }
     ensures full { IsErrOf result SetErr.Full → (before : LiveSets) (g : Function)
         → OwnsAnswer before enc.old.sets g b
-        → (IsErrOf b SetErr.Full → NoRoom AnySet 0 before enc.old.sets)
-        → NoRoom AnySet 1 before enc.new.sets }
+        → (width : ℕ) → Small before.vars width g
+        → Rough before.vars width (off_side side (set_of enc.old.sets lands.0) g)
+        → (IsErrOf b SetErr.Full → NoRoom width 0 0 before enc.old.sets)
+        → NoRoom width 1 0 before enc.new.sets }
     ensures sound { IsSets enc.new.sets }
 {
     match b {
@@ -152,7 +158,10 @@ fn other_led(enc: &mut Enc, side: Side, lands: SetId, led: SetId) -> Result<SetI
         → Owns before enc.old.sets ((led.0, g) ∷ [])
         → OwnsAnswer before enc.new.sets (off_side side (set_of enc.old.sets lands.0) g) result }
     ensures same_slots { enc.new ≡ record enc.old { sets = enc.new.sets } }
-    ensures full { IsErrOf result SetErr.Full → NoRoom AnySet 0 enc.old.sets enc.new.sets }
+    ensures full { IsErrOf result SetErr.Full → (width : ℕ)
+        → Rough enc.old.sets.vars width
+        (off_side side (set_of enc.old.sets lands.0) (set_of enc.old.sets led.0))
+        → NoRoom width 0 0 enc.old.sets enc.new.sets }
     ensures sound { IsSets enc.new.sets }
 {
     match side {
@@ -169,9 +178,10 @@ fn in_both(enc: &mut Enc, a: SetId, b: Result<SetId, SetErr>) -> Result<SetId, S
         → OwnsBoth before enc.old.sets a f b g
         → OwnsAnswer before enc.new.sets (and_of f g) result }
     ensures same_slots { enc.new ≡ record enc.old { sets = enc.new.sets } }
-    ensures full { IsErrOf result SetErr.Full
+    ensures full { IsErrOf result SetErr.Full → (width : ℕ)
+        → AreRough enc.old.sets.vars width (piece_of and_of enc.old.sets a b)
         → (IsErrOf b SetErr.Full × Releases enc.old.sets enc.new.sets a.0)
-        ⊎ NoRoom AnySet 0 enc.old.sets enc.new.sets }
+        ⊎ NoRoom width 0 0 enc.old.sets enc.new.sets }
     ensures sound { IsSets enc.new.sets }
 {
     enc.sets_mut().in_both(a, b)
@@ -185,9 +195,10 @@ fn without(enc: &mut Enc, a: SetId, b: Result<SetId, SetErr>) -> Result<SetId, S
         → OwnsBoth before enc.old.sets a f b g
         → OwnsAnswer before enc.new.sets (minus_of f g) result }
     ensures same_slots { enc.new ≡ record enc.old { sets = enc.new.sets } }
-    ensures full { IsErrOf result SetErr.Full
+    ensures full { IsErrOf result SetErr.Full → (width : ℕ)
+        → AreRough enc.old.sets.vars width (piece_of minus_of enc.old.sets a b)
         → (IsErrOf b SetErr.Full × Releases enc.old.sets enc.new.sets a.0)
-        ⊎ NoRoom AnySet 0 enc.old.sets enc.new.sets }
+        ⊎ NoRoom width 0 0 enc.old.sets enc.new.sets }
     ensures sound { IsSets enc.new.sets }
 {
     enc.sets_mut().without(a, b)
@@ -201,7 +212,10 @@ fn met_with(enc: &mut Enc, a: SetId, b: SetId) -> Result<SetId, SetErr>
         → Owns before enc.old.sets ((b.0, f) ∷ [])
         → OwnsAnswer before enc.new.sets (and_of f (set_of enc.old.sets a.0)) result }
     ensures same_slots { enc.new ≡ record enc.old { sets = enc.new.sets } }
-    ensures full { IsErrOf result SetErr.Full → NoRoom AnySet 0 enc.old.sets enc.new.sets }
+    ensures full { IsErrOf result SetErr.Full → (width : ℕ)
+        → Rough enc.old.sets.vars width
+        (and_of (set_of enc.old.sets b.0) (set_of enc.old.sets a.0))
+        → NoRoom width 0 0 enc.old.sets enc.new.sets }
     ensures sound { IsSets enc.new.sets }
 {
     meet_of(enc.sets_mut(), a, b)
@@ -214,7 +228,9 @@ fn meet_of(sets: &mut Sets, a: SetId, b: SetId) -> Result<SetId, SetErr>
     ensures answer { (before : LiveSets) (f : Function)
         → Owns before sets.old ((b.0, f) ∷ [])
         → OwnsAnswer before sets.new (and_of f (set_of sets.old a.0)) result }
-    ensures full { IsErrOf result SetErr.Full → NoRoom AnySet 0 sets.old sets.new }
+    ensures full { IsErrOf result SetErr.Full → (width : ℕ)
+        → Rough sets.old.vars width (and_of (set_of sets.old b.0) (set_of sets.old a.0))
+        → NoRoom width 0 0 sets.old sets.new }
     ensures sound { IsSets sets.new }
 {
     let met = sets.meet(b, a);
@@ -230,7 +246,10 @@ pub fn rest_of(enc: &mut Enc, a: SetId, b: SetId) -> Result<SetId, SetErr>
         → Owns before enc.old.sets ((b.0, f) ∷ [])
         → OwnsAnswer before enc.new.sets (minus_of (set_of enc.old.sets a.0) f) result }
     ensures same_slots { enc.new ≡ record enc.old { sets = enc.new.sets } }
-    ensures full { IsErrOf result SetErr.Full → NoRoom AnySet 0 enc.old.sets enc.new.sets }
+    ensures full { IsErrOf result SetErr.Full → (width : ℕ)
+        → Rough enc.old.sets.vars width
+        (minus_of (set_of enc.old.sets a.0) (set_of enc.old.sets b.0))
+        → NoRoom width 0 0 enc.old.sets enc.new.sets }
     ensures sound { IsSets enc.new.sets }
 {
     enc.sets_mut().rest_of(a, b)

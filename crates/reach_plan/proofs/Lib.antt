@@ -1,3 +1,5 @@
 pub mod PlanSteps
 pub mod SearchSteps
 pub mod SetLayers
+pub mod SmallSets
+pub mod PlaceFits

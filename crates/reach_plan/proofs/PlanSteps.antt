@@ -1,5 +1,5 @@
 -- The rules of the plan, from what the actions take.
-use Rattle.std.proofs.Common.{◌≡◌, ℕ, ◌+◌, ◌<◌, List, [], ◌∷◌, ◌++◌, map, length, refl, sym, ap, subst, ◌∙◌, arith, append-nil, All, Bool, true, false, Result, Ok, Err, IfOk, IsErrOf, Option, None, Some}
+use Rattle.std.proofs.Common.{◌≡◌, ℕ, ◌+◌, ◌<◌, ◌≤◌, List, [], ◌∷◌, ◌++◌, map, length, refl, sym, ap, subst, ◌∙◌, arith, append-nil, All, Bool, true, false, Result, Ok, Err, IfOk, IsErrOf, Option, None, Some}
 use Rattle.std.specs.Prelude.{IsSome, OnErr}
 use Rattle.std.specs.List.{Contains, flat_map, range_with_len}
 use Rattle.std.proofs.lemmas.List.Concat.{flat_map-append}
@@ -10,8 +10,8 @@ use Rattle.dd_sets.specs.declared.errors.SetErr.{SetErr}
 use Rattle.dd_sets.specs.declared.errors.SetErr.TheVariants.{Full}
 use Rattle.dd_sets.specs.declared.slots.SetId.{SetId}
 use Rattle.dd_sets.proofs.FrameLemmas.{kept_chain, not_before}
-use Rattle.dd_sets.specs.Rooms.{AnySet, NoRoom}
-use Rattle.dd_sets.proofs.RoomSteps.{room_before}
+use Rattle.dd_sets.specs.Rooms.{NoRoom}
+use Rattle.dd_sets.proofs.RoomSteps.{room_owned}
 use Rattle.encode_task.specs.Made.{HoldsGoal, MadeOf}
 use Rattle.encode_task.specs.Slots.{Encoded}
 use Rattle.plan_rules.specs.Denoted.{denoted, IsExecutable}
@@ -31,12 +31,13 @@ use Rattle.task_core.proofs.TaskSystem.{is_system}
 use Rattle.plan_theory.specs.Classes.{IsFoundByLayers}
 use Rattle.plan_theory.specs.Layers.{IsLastLayer}
 use Rattle.plan_theory.specs.LayerPlans.{printed_rules, rules_of_action, takers}
-use Rattle.reach_plan.specs.Searches.{HasProgress, SearchLeft}
+use Rattle.reach_plan.specs.Searches.{HasProgress, MayRetrace, SearchLeft}
 use Rattle.reach_plan.specs.Steps.{LeadToLast, Progress, after_steps, at_goal}
 use Rattle.reach_plan.specs.declared.steps.Step.{Step}
 use Rattle.reach_plan.specs.SetRules.{rules_of_place}
 use Rattle.slot_board.specs.Rules.{rule_for}
 use Rattle.reach_plan.specs.Takers.{HoldTakers, IsDecided}
+use Rattle.reach_plan.specs.WorkingSets.{IsWide}
 use Rattle.plan_theory.proofs.ClassLayers.{printed_executable}
 use Rattle.plan_theory.proofs.LeastBounds.{solves_by_class}
 use Rattle.plan_theory.proofs.PrintedWithin.{printed_within}
@@ -110,8 +111,8 @@ full_at start now slots P (Ok x) ends full = absurd (let h : Ok x ≡ Err Full =
 full_at start now slots P (Err e) ends full = ends.1 (let h : Err e ≡ Err Full = full in cc)
 
 -- where a search with so many places begins
-abbrev pub start_of : (task : Task) (enc : Encoded) → MadeOf task enc → ℕ → ℕ → Start
-start_of task enc made places spare = record { task = task; enc = enc; made = made; places = places; spare = spare }
+abbrev pub start_of : (task : Task) (enc : Encoded) → MadeOf task enc → ℕ → ℕ → (width : ℕ) → fluent_count task + 2 ≤ width → List ℕ → Start
+start_of task enc made places spare width wide rough = record { task = task; enc = enc; made = made; places = places; spare = spare; width = width; wide = wide; rough = rough }
 
 -- slots that were taken after others were ended
 pub working_after : (a b c : LiveSets) (slots : List SetId) → Owns a b [] → Working b c slots → Working a c slots
@@ -175,7 +176,16 @@ owns_working a b own = record {
 }
 
 -- a call that found no room after other slots were ended
-pub room_after : (a b c : LiveSets) (many : ℕ) → Owns a b [] → NoRoom AnySet many b c → NoRoom AnySet many a c
-room_after a b c many own none =
-    let count : live_count b ≡ live_count a + 0 = own.count in
-    room_before a b own.kept many many (omega arith) none
+pub room_after : (width : ℕ) (a b c : LiveSets) (many others : ℕ) → Owns a b [] → NoRoom width many others b c → NoRoom width many others a c
+room_after width a b c many others own none = room_owned {w = width} a b [] own many many others 0 others tt (omega arith) (omega arith) none
+
+-- where the two passes begin
+abbrev pub first_pass : (task : Task) (enc : Encoded) → MadeOf task enc → ℕ → (width : ℕ) → fluent_count task + 2 ≤ width → Start
+first_pass task enc made actions width wide = start_of task enc made 4 (actions + 12) width wide []
+
+abbrev pub second_pass : (task : Task) (enc : Encoded) → MadeOf task enc → ℕ → (width : ℕ) → fluent_count task + 2 ≤ width → Start
+second_pass task enc made actions width wide = start_of task enc made (actions + 4) 12 width wide ((actions + 3) ∷ [])
+
+-- the second pass may make the steps of the first
+pub may_retrace : (class : Class) (task : Task) (enc : Encoded) (made : MadeOf task enc) (actions width : ℕ) (wide : IsWide width class task) (steps : List Step) → LeadToLast class task steps → MayRetrace class (second_pass task enc made actions width wide.wide) actions steps
+may_retrace class task enc made actions width wide steps leads = record { wide = wide; rough = Contains-head (actions + 3) []; along = leads.led.along }

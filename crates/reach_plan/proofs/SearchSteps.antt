@@ -1,11 +1,11 @@
 -- One step of the search: what it leaves on the board.
-use Rattle.std.proofs.Common.{inl, inr, true≢false, IfErr, OnOk, ◌≡◌, ◌≢◌, ℕ, zero, suc, ◌+◌, ◌<◌, ◌≤◌, ◌==◌, get_or, Bool, true, false, not, ◌&&◌, ◌||◌, List, [], ◌∷◌, ◌++◌, length, nat_lt, Option, Some, None, Result, Ok, Err, refl, sym, ap, subst, ◌∙◌, ⊎_elim, arith}
+use Rattle.std.proofs.Common.{inl, inr, true≢false, IfErr, OnOk, ◌≡◌, ◌≢◌, ℕ, zero, suc, ◌+◌, ◌<◌, ◌≤◌, ◌==◌, get_or, Bool, true, false, not, ◌&&◌, ◌||◌, List, [], ◌∷◌, ◌++◌, length, nat_lt, take, take_all, Option, Some, None, Result, Ok, Err, refl, sym, ap, subst, ◌∙◌, ⊎_elim, arith}
 use Rattle.std.specs.Prelude.{slice_index_or, slice_set}
 use Rattle.std.specs.List.{list_all, list_any, range_with_len}
 use Rattle.std.specs.Option.{option_map_or}
 use Rattle.std.proofs.Math.Path.{fun_ext}
 use Rattle.std.proofs.lemmas.Bool.{cases_eq, cases_lt, cond-false, cond-true, eq-eqb, lt-ltb, ltb-true, ne_eqb, false_from_ne_true}
-use Rattle.std.proofs.lemmas.List.{get_or_past, get_or-set_same, get_or-set_other}
+use Rattle.std.proofs.lemmas.List.{get_or_past, get_or-set_same, get_or-set_other, length_push, take-append-le}
 use Rattle.std.proofs.lemmas.List.Folds.{list_all-append, list_any-append}
 use Rattle.dd_nodes.specs.Subfunctions.{DependsOnly, Function}
 use Rattle.dd_ops.specs.Operations.{minus_of, or_of}
@@ -19,7 +19,7 @@ use Rattle.encode_task.specs.Slots.{Encoded}
 use Rattle.encode_task.specs.TaskSets.{exec_set, goal_set}
 use Rattle.preimage.specs.Laws.{StrongLeadsToAll, WeakLeadsToSome}
 use Rattle.preimage.specs.Preimages.{every_outcome_in, some_outcome_in}
-use Rattle.slot_board.specs.Board.{At, Ends, HasNothing, Left, Moved, Start, Stayed, set_at}
+use Rattle.slot_board.specs.Board.{At, Ends, HasNothing, IsSmall, Left, Moved, Start, Stayed, set_at}
 use Rattle.slot_board.proofs.BoardSlots.{depends, made_at}
 use Rattle.task_core.specs.Tasks.{action_count, fluent_count, initial_states, system_of}
 use Rattle.task_core.specs.Vectors.{all_vectors, value_of}
@@ -33,11 +33,13 @@ use Rattle.plan_theory.specs.Classes.{IsFoundByLayers}
 use Rattle.plan_theory.specs.Layers.{covers, layer}
 use Rattle.reach_plan.specs.LayerSets.{AreTakers, IsRound, class_preimage, grown, taken_by}
 use Rattle.reach_plan.specs.Searches.{AreSpent, BeginsRound, FoundLast, FoundNone, HasGrown, HasHits, HasJoined, HasLayer, HasNext, HasRound, IsCovered, IsMore, IsStill}
-use Rattle.reach_plan.specs.Steps.{HaveLed, Progress, after_step, after_steps, at_goal, goal_layer, is_step_of, untaken, with_set}
+use Rattle.reach_plan.specs.Steps.{HaveLed, IsWithinRound, Progress, after_step, after_steps, at_goal, goal_layer, is_step_of, untaken, with_set}
 use Rattle.reach_plan.specs.declared.steps.Step.{Step}
 use Rattle.reach_plan.specs.declared.steps.Step.TheVariants.{Advance, Grow}
 use Rattle.plan_theory.proofs.LeastBounds.{none_once_stable}
 use Rattle.plan_theory.proofs.Ranges.{range-more}
+use Rattle.reach_plan.specs.WorkingSets.{IsWide}
+use Rattle.reach_plan.proofs.SmallSets.{at_layer, grown_none, within_round}
 use Rattle.reach_plan.proofs.SetLayers.{fewer_next, goal_is_layer, missed, next_layer_set, next_takers, none_take, stable_same}
 use Rattle.plan_theory.proofs.WeakLists.{list_all-agree}
 
@@ -66,9 +68,6 @@ or_false false = refl
 not_below_zero : (a : ℕ) → nat_lt a 0 ≡ false
 not_below_zero a = false_from_ne_true (nat_lt a 0) (λ lt. let l : a < 0 = ltb-true a 0 lt in absurd (omega arith))
 
-grown_none : (class : Class) (task : Task) (f : Function) → f ≡ grown class task f 0
-grown_none class task f = fun_ext (λ values. or_false (f values))
-
 taken_none : (class : Class) (task : Task) (f : Function) (h : ℕ → Function) → h ≡ taken_by class task f h 0
 taken_none class task f h = fun_ext (λ a. sym (cond-false (nat_lt a 0) (or_of (h a) (minus_of (class_preimage class task a f) (grown class task f a))) (h a) (not_below_zero a)))
 
@@ -78,7 +77,7 @@ or_last true l p = refl
 or_last false true p = refl
 or_last false false p = or_false p
 
-grown_more : (class : Class) (task : Task) (f : Function) (a : ℕ) → or_of (grown class task f a) (class_preimage class task a f) ≡ grown class task f (a + 1)
+pub grown_more : (class : Class) (task : Task) (f : Function) (a : ℕ) → or_of (grown class task f a) (class_preimage class task a f) ≡ grown class task f (a + 1)
 grown_more class task f a = fun_ext step
   where
     step : (values : ℕ → Bool) → (grown class task f a values || class_preimage class task a f values) ≡ grown class task f (a + 1) values
@@ -134,14 +133,16 @@ module _ (start : Start) (x now : Encoded) (old new : List SetId) (n p : ℕ) (s
   hits_still behind f h g hits has = record {
     by_next = next_still (omega arith) f h g has.by_next;
     holds_hits = m.others (n + 2) (within (n + 2) (omega arith)) (λ e. absurd (omega arith)) ∙ has.holds_hits;
+    joined = has.joined;
   }
 
 -- the hits of an action
 pub hits_found : (start : Start) (x now : Encoded) (old new : List SetId) (n : ℕ) (class : Class) (a : ℕ) (f : Function) (h : ℕ → Function) (g : Function) (lead : Function → Function) → length old ≡ n + 4 → HasNext start x old n f h g → ((s : Function) → lead s ≡ class_preimage class start.task a s)
-    → Moved start x.sets old now new (n + 2) (lead (set_at x.sets old n)) → HasHits start now new n f h g (class_preimage class start.task a f)
-hits_found start x now old new n class a f h g lead long has is m = record {
+    → IsSmall start (or_of g (class_preimage class start.task a f)) → Moved start x.sets old now new (n + 2) (lead (set_at x.sets old n)) → HasHits start now new n f h g (class_preimage class start.task a f)
+hits_found start x now old new n class a f h g lead long has is small m = record {
   by_next = next_still start x now old new n (n + 2) _ long has.by_layer.at m (omega arith) f h g has;
   holds_hits = m.here ∙ is (set_at x.sets old n) ∙ ap (class_preimage class start.task a) has.by_layer.holds_layer;
+  joined = small;
 }
 
 -- what an action takes
@@ -170,6 +171,7 @@ take_one start x mid now old half new n a f h g hits long low has first second =
         holds_next = second.others (n + 1) (there (n + 1) (omega arith)) (λ e. absurd (omega arith)) ∙ begun.by_next.holds_next;
       };
       holds_hits = second.others (n + 2) (there (n + 2) (omega arith)) (λ e. absurd (omega arith)) ∙ begun.holds_hits;
+      joined = has.joined;
     }
 
 -- the hits are joined to the next layer at its place
@@ -209,9 +211,21 @@ after_more class task here (first ∷ steps) step = after_more class task (after
 within_more : (p : Step → Bool) (steps : List Step) (step : Step) → list_all p steps ≡ true → p step ≡ true → list_all p (steps ++ step ∷ []) ≡ true
 within_more p steps step all is = list_all-append p steps (step ∷ []) ∙ ap (λ b. b && (p step && true)) all ∙ ap (λ b. b && true) is
 
-pub led_more : (class : Class) (task : Task) (steps : List Step) (here : Progress) (step : Step) → is_step_of (action_count task) step ≡ true → HaveLed class task steps here → HaveLed class task (steps ++ step ∷ []) (after_step class task here step)
-led_more class task steps here step is led = record {
+-- and where it leads is within a round
+along_more : (class : Class) (task : Task) (steps : List Step) (step : Step) → ((i : ℕ) → IsWithinRound class task (after_steps class task (at_goal task) (take i steps))) → IsWithinRound class task (after_steps class task (at_goal task) (steps ++ step ∷ []))
+    → (i : ℕ) → IsWithinRound class task (after_steps class task (at_goal task) (take i (steps ++ step ∷ [])))
+along_more class task steps step along last i = ⊎_elim
+    (λ (low : i < length steps + 1). subst (λ (front : List Step). IsWithinRound class task (after_steps class task (at_goal task) front)) (sym (take-append-le i steps (step ∷ []) (omega arith))) (along i))
+    (λ (high : length steps + 1 ≤ i).
+    let long : length (steps ++ step ∷ []) ≡ length steps + 1 = length_push steps step in
+    subst (λ (front : List Step). IsWithinRound class task (after_steps class task (at_goal task) front)) (sym (take_all i (steps ++ step ∷ []) (omega arith))) last)
+    (cases_lt i (length steps + 1))
+
+pub led_more : (class : Class) (task : Task) (steps : List Step) (here : Progress) (step : Step) → is_step_of (action_count task) step ≡ true → IsWithinRound class task (after_step class task here step) → HaveLed class task steps here
+    → HaveLed class task (steps ++ step ∷ []) (after_step class task here step)
+led_more class task steps here step is within led = record {
   there = after_more class task (at_goal task) steps step ∙ ap (λ (p : Progress). after_step class task p step) led.there;
+  along = along_more class task steps step led.along (subst (IsWithinRound class task) (sym (after_more class task (at_goal task) steps step ∙ ap (λ (p : Progress). after_step class task p step) led.there)) within);
   within = within_more (is_step_of (action_count task)) steps step led.within is;
 }
 
@@ -268,7 +282,9 @@ module _ (class : Class) (start : Start) (x now : Encoded) (old new : List SetId
       (λ (is : after ≡ before ++ Grow a ∷ []).
       subst (HaveLed class start.task after) (λ j. record { layer = f; taken = taken_more class start.task f h a.0 j; next = grown_more class start.task f a.0 j })
       (subst (λ (steps : List Step). HaveLed class start.task steps (after_step class start.task (record { layer = f; taken = taken_by class start.task f h a.0; next = grown class start.task f a.0 }) (Grow a))) (sym is)
-      (led_more class start.task before _ (Grow a) (lt-ltb a.0 (action_count start.task) within) has.led)))
+      (led_more class start.task before _ (Grow a) (lt-ltb a.0 (action_count start.task) within)
+      (subst (IsWithinRound class start.task) (λ j. record { layer = f; taken = sym (taken_more class start.task f h a.0) j; next = sym (grown_more class start.task f a.0) j })
+      (within_round class start.task has.known.rank f has.known.is_layer h has.known.are_takers (a.0 + 1) (omega arith))) has.led)))
       (λ (same : (after ≡ before) × (or_of (grown class start.task f a.0) (class_preimage class start.task a.0 f) ≡ grown class start.task f a.0)).
       subst (HaveLed class start.task after) (λ j. record { layer = f; taken = taken_same class start.task f h a.0 same.1 j; next = (sym same.1 ∙ grown_more class start.task f a.0) j })
       (subst (λ (steps : List Step). HaveLed class start.task steps (record { layer = f; taken = taken_by class start.task f h a.0; next = grown class start.task f a.0 })) (sym same.0) has.led))
@@ -287,6 +303,7 @@ module _ (class : Class) (start : Start) (x now : Encoded) (old new : List SetId
   pub grown_still : HasGrown class start now new f h (a.0 + 1) after spent
   grown_still = record {
     by_next = next_on;
+    known = has.known;
     led = led_on;
     are_spent = record { long = has.are_spent.long; inside = λ b is values exec. grows values (has.are_spent.inside b is values exec) };
   }
@@ -295,6 +312,7 @@ module _ (class : Class) (start : Start) (x now : Encoded) (old new : List SetId
   pub grown_on : (is_spent : Bool) → (is_spent ≡ true → class_preimage class start.task a.0 f ≡ exec_set start.task a.0) → length (slice_set spent a.0 is_spent) ≡ length spent → HasGrown class start now new f h (a.0 + 1) after (slice_set spent a.0 is_spent)
   grown_on is_spent all long = record {
     by_next = next_on;
+    known = has.known;
     led = led_on;
     are_spent = record { long = long ∙ has.are_spent.long; inside = inside };
   }
@@ -354,6 +372,7 @@ memory_passed start now slots Q inner outer e was p never at =
 pub grown_first : (class : Class) (start : Start) (x now : Encoded) (old new : List SetId) (f : Function) (h : ℕ → Function) (steps : List Step) (spent : List Bool) → length old ≡ 4 → BeginsRound class start x old f h steps spent → Moved start x.sets old now new 1 (set_at x.sets old 0) → HasGrown class start now new f h 0 steps spent
 grown_first class start x now old new f h steps spent long begins m = record {
   by_next = subst (λ (s : Function). HasNext start now new 0 f untaken s) (grown_none class start.task f) (copied_next start x now old new 0 f untaken long begins.by_layer m);
+  known = begins.known;
   led = subst (HaveLed class start.task steps) (λ j. record { layer = f; taken = taken_none class start.task f h j; next = grown_none class start.task f j }) begins.led;
   are_spent = subst (λ (s : Function). AreSpent start.task s spent) (grown_none class start.task f) begins.are_spent;
 }
@@ -370,6 +389,7 @@ layer_stays start x now slots n f h long stayed has = record {
 pub begins_still : (class : Class) (start : Start) (x now : Encoded) (slots : List SetId) (f : Function) (h : ℕ → Function) (steps : List Step) (spent : List Bool) → length slots ≡ 4 → Stayed start x.sets now slots → BeginsRound class start x slots f h steps spent → BeginsRound class start now slots f h steps spent
 begins_still class start x now slots f h steps spent long stayed begins = record {
   by_layer = layer_stays start x now slots 0 f untaken long stayed begins.by_layer;
+  known = begins.known;
   led = begins.led;
   are_spent = begins.are_spent;
 }
@@ -410,8 +430,10 @@ module _ (weak : WeakLeadsToSome) (strong : StrongLeadsToAll) (class : Class) (s
       h = taken_by class start.task f h actions;
       begins = record {
         by_layer = done.0;
+        known = record { wide = has.known.wide; rank = suc k; is_layer = next.is_layer; are_takers = next.are_takers };
         led = subst (λ (s : List Step). HaveLed class start.task s (record { layer = grown class start.task f actions; taken = taken_by class start.task f h actions; next = grown class start.task f actions })) (sym done.1)
-            (led_more class start.task steps (record { layer = f; taken = taken_by class start.task f h actions; next = grown class start.task f actions }) Advance refl has.led);
+            (led_more class start.task steps (record { layer = f; taken = taken_by class start.task f h actions; next = grown class start.task f actions }) Advance refl
+            (at_layer class start.task (suc k) (grown class start.task f actions) (taken_by class start.task f h actions) next.is_layer next.are_takers) has.led);
         are_spent = has.are_spent;
       };
       round = next;
@@ -420,7 +442,7 @@ module _ (weak : WeakLeadsToSome) (strong : StrongLeadsToAll) (class : Class) (s
   }
 
 -- the goal, where the search begins
-goal_slot : (task : Task) (enc : Encoded) (slot : SetId) → MadeOf task enc → enc.goal ≡ Some slot → (goal : Cond) × (task.goal ≡ Some goal) × Holds enc.sets slot (goal_set task goal)
+pub goal_slot : (task : Task) (enc : Encoded) (slot : SetId) → MadeOf task enc → enc.goal ≡ Some slot → (goal : Cond) × (task.goal ≡ Some goal) × Holds enc.sets slot (goal_set task goal)
 goal_slot task enc slot made is = at task.goal refl (subst (λ (o : Option SetId). HoldsGoal task enc.sets o task.goal) is made.goal)
   where
     at : (goal : Option Cond) → task.goal ≡ goal → HoldsGoal task enc.sets (Some slot) goal → (goal : Cond) × (task.goal ≡ Some goal) × Holds enc.sets slot (goal_set task goal)
@@ -437,25 +459,35 @@ no_mark spent n long none a is = ⊎_elim
     (λ (high : n ≤ a). true≢false (sym is ∙ get_or_past spent a false (omega arith)))
     (cases_lt a n)
 
-pub first_round : (class : Class) (start : Start) (x now : Encoded) (old new : List SetId) (slot : SetId) (steps : List Step) (spent : List Bool) → length old ≡ 4 → HasNothing start x old → x.goal ≡ Some slot → steps ≡ [] → length spent ≡ length x.actions
+take_none : (i : ℕ) → take {A = Step} i [] ≡ []
+take_none zero = refl
+take_none (suc i) = refl
+
+pub first_round : (class : Class) (start : Start) (x now : Encoded) (old new : List SetId) (slot : SetId) (steps : List Step) (spent : List Bool) → IsWide start.width class start.task → length old ≡ 4 → HasNothing start x old → x.goal ≡ Some slot → steps ≡ [] → length spent ≡ length x.actions
     → ((a : ℕ) → a < length x.actions → slice_index_or spent a false ≡ false) → Moved start x.sets old now new 0 (set_of x.sets slot.0) → HasRound class start now new 0 steps spent
-first_round class start x now old new slot steps spent long has is no_steps marks none m =
+first_round class start x now old new slot steps spent wide long has is no_steps marks none m =
     let goal = goal_slot start.task x slot (made_at start x old has.at) is in
     let held : set_at now.sets new 0 ≡ goal_set start.task goal.0 = m.here ∙ goal.2.holds in
+    let layer = goal_is_layer class start.task goal.0 goal.1 (subst (DependsOnly 0 (fluent_count start.task)) held (depends start now new m.at m.sound 0)) in
     let states : goal_layer start.task ≡ goal_set start.task goal.0 = ap (λ (o : Option Cond). option_map_or (goal_set start.task) o nothing) goal.1 in
     record {
       f = goal_set start.task goal.0;
       h = untaken;
       begins = record {
         by_layer = record { at = m.at; sound = m.sound; holds_layer = held; holds_taken = λ a l. absurd (omega arith) };
+        known = record { wide = wide; rank = 0; is_layer = layer; are_takers = none_take class start.task };
         led = record {
+          along = λ i.
+              subst (λ (front : List Step). IsWithinRound class start.task (after_steps class start.task (at_goal start.task) front)) (sym (ap (take i) no_steps ∙ take_none i))
+              (subst (λ (s : Function). IsWithinRound class start.task (record { layer = s; taken = untaken; next = s })) (sym states)
+              (at_layer class start.task 0 (goal_set start.task goal.0) untaken layer (none_take class start.task)));
           there = ap (after_steps class start.task (at_goal start.task)) no_steps ∙ ap (λ (s : Function). record { layer = s; taken = untaken; next = s }) states;
           within = ap (list_all (is_step_of (action_count start.task))) no_steps;
         };
         are_spent = record { long = marks ∙ (made_at start x old has.at).actions; inside = λ a mark values exec. absurd (no_mark spent (length x.actions) marks none a mark) };
       };
       round = record {
-        is_layer = goal_is_layer class start.task goal.0 goal.1 (subst (DependsOnly 0 (fluent_count start.task)) held (depends start now new m.at m.sound 0));
+        is_layer = layer;
         are_takers = none_take class start.task;
         before = λ j low. absurd (omega arith);
       };

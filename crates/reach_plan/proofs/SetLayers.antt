@@ -41,14 +41,14 @@ values_are p first (suc n) (x ∷ v) long same =
     let rest : map p (range_with_len (first + 1) n) ≡ v = values_are p (first + 1) n v (omega arith) (λ g within. ap p (let e : first + 1 + g ≡ first + suc g = omega arith in e) ∙ same (suc g) (omega arith)) in
     cc
 
-own_values : (n : ℕ) (v : Vector) → length v ≡ n → first_values n (value_of v) ≡ v
+pub own_values : (n : ℕ) (v : Vector) → length v ≡ n → first_values n (value_of v) ≡ v
 own_values n v long = values_are (value_of v) 0 n v long (λ g within. ap (value_of v) (let e : 0 + g ≡ g = omega arith in e))
 
 -- a set that depends on the fluents alone has the values of a state where it has the state's
-at_state : (n : ℕ) (f : Function) → DependsOnly 0 n f → (values : Values) → f values ≡ f (value_of (first_values n values))
+pub at_state : (n : ℕ) (f : Function) → DependsOnly 0 n f → (values : Values) → f values ≡ f (value_of (first_values n values))
 at_state n f depends values = depends values (value_of (first_values n values)) (λ u low high. sym (get_or-map-range_with_len values 0 n u u false high (let e : 0 + u ≡ u = omega arith in e)))
 
-state_of : (n : ℕ) (values : Values) → length (first_values n values) ≡ n
+pub state_of : (n : ℕ) (values : Values) → length (first_values n values) ≡ n
 state_of n values = length-map-range_with_len values 0 n
 
 -- sets that hold the same states are one

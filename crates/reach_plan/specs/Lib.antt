@@ -3,3 +3,4 @@ pub mod Searches
 pub mod SetRules
 pub mod Steps
 pub mod Takers
+pub mod WorkingSets

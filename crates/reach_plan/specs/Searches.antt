@@ -3,15 +3,15 @@
 -- what each of the first n actions takes; behind these stand this layer, the next one, where an
 -- action leads into this one, and what is new of that.
 use Rattle.std.specs.Prelude.{◌≡◌, ◌≢◌, ◌⊎◌, ℕ, suc, ◌+◌, ◌<◌, Bool, true, false, List, [], ◌∷◌}
-use Rattle.std.specs.Prelude.{◌++◌, length, slice_index_or}
+use Rattle.std.specs.Prelude.{◌++◌, Contains, length, slice_index_or, take}
 use Rattle.dd_nodes.specs.NodeList.{Values}
 use Rattle.dd_nodes.specs.Subfunctions.{Function}
-use Rattle.dd_ops.specs.Operations.{or_of}
+use Rattle.dd_ops.specs.Operations.{minus_of, or_of}
 use Rattle.dd_sets.specs.LiveSets.{IsSets}
 use Rattle.dd_sets.specs.declared.slots.SetId.{SetId}
 use Rattle.encode_task.specs.Slots.{Encoded}
 use Rattle.encode_task.specs.TaskSets.{exec_set}
-use Rattle.slot_board.specs.Board.{At, Start, set_at}
+use Rattle.slot_board.specs.Board.{At, Fits, IsSmall, Start, set_at}
 use Rattle.task_core.specs.Solutions.{HasNoSolution}
 use Rattle.task_core.specs.Tasks.{action_count, system_of}
 use Rattle.task_core.specs.declared.classes.Class.{Class}
@@ -19,8 +19,10 @@ use Rattle.task_core.specs.declared.literals.ActionId.{ActionId}
 use Rattle.task_core.specs.declared.tasks.Task.{Task}
 use Rattle.plan_theory.specs.Classes.{IsStable}
 use Rattle.plan_theory.specs.Layers.{covers}
-use Rattle.reach_plan.specs.LayerSets.{IsRound, grown, taken_by}
-use Rattle.reach_plan.specs.Steps.{HaveLed, LeadToLast, Progress, untaken}
+use Rattle.reach_plan.specs.LayerSets.{AreTakers, IsLayerSet, IsRound, grown, taken_by}
+use Rattle.reach_plan.specs.Steps.{HaveLed, IsWithinRound, LeadToLast, Progress, after_step}
+use Rattle.reach_plan.specs.Steps.{after_steps, at_goal, untaken}
+use Rattle.reach_plan.specs.WorkingSets.{IsWide}
 use Rattle.reach_plan.specs.declared.search.Round.{Round}
 use Rattle.reach_plan.specs.declared.search.Round.TheVariants.{Covered, Stable, More}
 use Rattle.reach_plan.specs.declared.steps.Step.{Step}
@@ -40,11 +42,12 @@ pub record HasNext (start : Start) (now : Encoded) (slots : List SetId) (n : ℕ
   pub by_layer : HasLayer start now slots n f h
   pub holds_next : set_at now.sets slots (n + 1) ≡ g
 
--- and an action leads into this one from hits
+-- and an action leads into this one from hits, which may be joined to the next one
 pub record HasHits (start : Start) (now : Encoded) (slots : List SetId) (n : ℕ) (f : Function)
     (h : ℕ → Function) (g hits : Function) : Type 0 where
   pub by_next : HasNext start now slots n f h g
   pub holds_hits : set_at now.sets slots (n + 2) ≡ hits
+  pub joined : IsSmall start (or_of g hits)
 
 -- the board is where a search stands
 abbrev pub HasProgress : Start → Encoded → List SetId → ℕ → Progress → Type 0
@@ -63,10 +66,20 @@ pub record AreSpent (task : Task) (set : Function) (spent : List Bool) : Type 0 
   pub inside : (a : ℕ) → slice_index_or spent a false ≡ true → (values : Values)
       → exec_set task a values ≡ true → set values ≡ true
 
+-- f is some layer, the actions take h within it, and a search makes working sets alone, which are
+-- small
+pub record IsKnown (class : Class) (start : Start) (f : Function) (h : ℕ → Function)
+    : Type 0 where
+  pub wide : IsWide start.width class start.task
+  pub rank : ℕ
+  pub is_layer : IsLayerSet class start.task rank f
+  pub are_takers : AreTakers class start.task rank h
+
 -- this layer is f, and the steps so far lead to it and to what the actions take within it
 pub record BeginsRound (class : Class) (start : Start) (now : Encoded) (slots : List SetId)
     (f : Function) (h : ℕ → Function) (steps : List Step) (spent : List Bool) : Type 0 where
   pub by_layer : HasLayer start now slots 0 f untaken
+  pub known : IsKnown class start f h
   pub led : HaveLed class start.task steps (record { layer = f; taken = h; next = f })
   pub are_spent : AreSpent start.task f spent
 
@@ -75,6 +88,7 @@ pub record HasGrown (class : Class) (start : Start) (now : Encoded) (slots : Lis
     (f : Function) (h : ℕ → Function) (m : ℕ) (steps : List Step) (spent : List Bool)
     : Type 0 where
   pub by_next : HasNext start now slots 0 f untaken (grown class start.task f m)
+  pub known : IsKnown class start f h
   pub led : HaveLed class start.task steps (record {
     layer = f;
     taken = taken_by class start.task f h m;
@@ -132,3 +146,25 @@ pub record FoundNone (class : Class) (start : Start) (now : Encoded) (slots : Li
 abbrev pub SearchLeft : Class → Start → Encoded → List SetId → List Step → Bool → Type 0
 SearchLeft class start now slots steps true = FoundLast class start now slots steps
 SearchLeft class start now slots steps false = FoundNone class start now slots
+
+-- an action may take what is new of the hits: that is put behind these, and joined to what it takes
+pub record MayTake (start : Start) (n a : ℕ) (before g hits : Function) : Type 0 where
+  pub new : Fits start (n + 3) (minus_of hits g)
+  pub taken : Fits start a (or_of before (minus_of hits g))
+
+-- the second pass may make a step: it leads from within a round to within one, and the place of what
+-- is new of the hits may hold a rough set
+pub record MayStep (class : Class) (start : Start) (n : ℕ) (here : Progress) (step : Step)
+    : Type 0 where
+  pub wide : IsWide start.width class start.task
+  pub rough : Contains start.rough (n + 3)
+  pub from : IsWithinRound class start.task here
+  pub into : IsWithinRound class start.task (after_step class start.task here step)
+
+-- it may make all of these
+pub record MayRetrace (class : Class) (start : Start) (n : ℕ) (steps : List Step) : Type 0 where
+  pub wide : IsWide start.width class start.task
+  pub rough : Contains start.rough (n + 3)
+  pub along : (i : ℕ)
+      → IsWithinRound class start.task (after_steps class start.task (at_goal start.task)
+      (take i steps))

@@ -1,16 +1,20 @@
 -- Private: a search as the list of the steps that changed something, and where they lead.
-use Rattle.std.specs.Prelude.{◌≡◌, ℕ, ◌==◌, Bool, true, if◌then◌else◌, List, [], ◌∷◌, nat_lt}
+use Rattle.std.specs.Prelude.{◌≡◌, ℕ, ◌<◌, ◌≤◌, ◌==◌, Bool, true, if◌then◌else◌, List, [], ◌∷◌}
+use Rattle.std.specs.Prelude.{nat_lt, take}
 use Rattle.std.specs.List.{list_all}
 use Rattle.std.specs.Option.{option_map_or}
 use Rattle.dd_nodes.specs.Subfunctions.{Function}
 use Rattle.dd_ops.specs.Operations.{minus_of, or_of}
 use Rattle.dd_sets.specs.LiveSets.{nothing}
 use Rattle.encode_task.specs.TaskSets.{goal_set}
+use Rattle.task_core.specs.Systems.{IsVector}
 use Rattle.task_core.specs.Tasks.{action_count, system_of}
+use Rattle.task_core.specs.Vectors.{Vector, value_of}
 use Rattle.task_core.specs.declared.classes.Class.{Class}
 use Rattle.task_core.specs.declared.tasks.Task.{Task}
 use Rattle.plan_theory.specs.Layers.{IsLastLayer}
-use Rattle.reach_plan.specs.LayerSets.{AreTakers, class_preimage}
+use Rattle.plan_theory.specs.LayerPlans.{takers}
+use Rattle.reach_plan.specs.LayerSets.{AreTakers, IsLayerSet, class_preimage, grown}
 use Rattle.reach_plan.specs.declared.steps.Step.{Step}
 use Rattle.reach_plan.specs.declared.steps.Step.TheVariants.{Advance, Grow}
 
@@ -56,9 +60,27 @@ abbrev pub is_step_of : ℕ → Step → Bool
 is_step_of n (Grow a) = nat_lt a.0 n
 is_step_of n Advance = true
 
--- these steps lead from the goal to here, and are steps of the task
+-- a set has the states within some layer that take the action
+pub record IsTaken (class : Class) (task : Task) (a : ℕ) (set : Function) : Type 0 where
+  pub rank : ℕ
+  pub takes : (v : Vector) → IsVector (system_of task) v
+      → set (value_of v) ≡ takers class (system_of task) rank a v
+
+-- a search is within a round: this is a layer, the next one is what the first actions make it, and
+-- each action takes its states within some layer
+pub record IsWithinRound (class : Class) (task : Task) (here : Progress) : Type 0 where
+  pub rank : ℕ
+  pub is_layer : IsLayerSet class task rank here.layer
+  pub grown_by : ℕ
+  pub few : grown_by ≤ action_count task
+  pub is_grown : here.next ≡ grown class task here.layer grown_by
+  pub is_taken : (a : ℕ) → a < action_count task → IsTaken class task a (here.taken a)
+
+-- these steps lead from the goal to here, each of them within a round, and are steps of the task
 pub record HaveLed (class : Class) (task : Task) (steps : List Step) (here : Progress) : Type 0 where
   pub there : after_steps class task (at_goal task) steps ≡ here
+  pub along : (i : ℕ)
+      → IsWithinRound class task (after_steps class task (at_goal task) (take i steps))
   pub within : list_all (is_step_of (action_count task)) steps ≡ true
 
 -- these steps lead to the last layer, and to what each action takes within it

@@ -9,9 +9,10 @@
 //! and hands these sets out; `set_rules` reads the rules off them.
 //!
 //! Which plan is found is said in `plan_theory`, whose laws of planning by layers the planners rest
-//! on. `specs/` has the words of the contracts: `Takers` (the sets that are handed out),
-//! `SetRules`, and of those inside `LayerSets` (the layers as sets on diagrams), `Steps` (where the
-//! steps of a search lead) and `Searches` (what the board has).
+//! on. `specs/` has the words of the contracts: `Takers` (the sets that are handed out), `WorkingSets`
+//! (the sets of which the nodes bound what a search needs), `SetRules`, and of those inside
+//! `LayerSets` (the layers as sets on diagrams), `Steps` (where the steps of a search lead) and
+//! `Searches` (what the board has).
 #![tactic(auto)]
 
 mod planner;

@@ -2,7 +2,7 @@
 
 ghost use Rattle.std.specs.Prelude.{◌≡◌, ℕ, ◌+◌, [], All, IfOk, IsErrOf, IsSome};
 ghost use Rattle.dd_sets.specs.Frames.{Owns};
-ghost use Rattle.dd_sets.specs.Rooms.{AnySet, NoRoom};
+ghost use Rattle.dd_sets.specs.Rooms.{NoRoom};
 ghost use Rattle.encode_task.specs.Made.{MadeOf};
 ghost use Rattle.plan_rules.specs.Denoted.{denoted, IsExecutable};
 ghost use Rattle.plan_rules.specs.Plans.{IsRuleOf};
@@ -16,6 +16,7 @@ ghost use Rattle.plan_theory.specs.Classes.{IsFoundByLayers};
 ghost use Rattle.plan_theory.specs.Found.{IfNoPlan, IfPlan};
 ghost use Rattle.plan_theory.specs.Layers.{IsLastLayer};
 ghost use Rattle.plan_theory.specs.LayerPlans.{printed_rules};
+ghost use Rattle.reach_plan.specs.WorkingSets.{IsWide};
 
 use crate::set_rules::write_rules;
 use crate::takers::{Takers, find_takers};
@@ -34,7 +35,8 @@ use task_core::Task;
 /// and Traverso 2003). Each state of a layer takes the least-numbered action that may lead into the
 /// layer before it; a state in which the goal holds takes none. What each action takes is found in
 /// a second pass, where there is a plan. On every exit the slots of entry are live, with their
-/// sets, and no others; at most as many slots more as there are actions and 24 are live in between.
+/// sets, and no others; at most as many slots more as there are actions and 24 are live in between,
+/// each with a set that is small by any width by which the working sets are, but for 16 at most.
 /// `Full` says that the table holds as many nodes as it may and its limit is tight for the sets of
 /// such slots, and `Memory` that memory ran out.
 pub fn plan_weak(alloc: Global, task: &Task, enc: &mut Enc) -> Result<Found, SetErr>
@@ -56,8 +58,8 @@ pub fn plan_weak(alloc: Global, task: &Task, enc: &mut Enc) -> Result<Found, Set
         IfOk result (λ found. IfPlan found (λ plan. IsExecutable sys (rules_of plan))) }
     ensures no_plan { IfOk result
         (λ found. IfNoPlan found (HasNoSolution Weak (system_of task.now))) }
-    ensures full { IsErrOf result SetErr.Full
-        → NoRoom AnySet (action_count task.now + 24) enc.old.sets enc.new.sets }
+    ensures full { IsErrOf result SetErr.Full → (width : ℕ) → IsWide width Weak task.now
+        → NoRoom width (action_count task.now + 24) 16 enc.old.sets enc.new.sets }
     ensures slots { Owns enc.old.sets enc.new.sets [] }
     ensures same_slots { enc.new ≡ record enc.old { sets = enc.new.sets } }
     ensures made { (task : Task) → MadeOf task enc.old → MadeOf task enc.new }
@@ -73,7 +75,8 @@ pub fn plan_weak(alloc: Global, task: &Task, enc: &mut Enc) -> Result<Found, Set
 /// and Traverso 2003). Each state of a layer takes the least-numbered action that must lead into
 /// the layer before it; a state in which the goal holds takes none. What each action takes is found
 /// in a second pass, where there is a plan. On every exit the slots of entry are live, with their
-/// sets, and no others; at most as many slots more as there are actions and 24 are live in between.
+/// sets, and no others; at most as many slots more as there are actions and 24 are live in between,
+/// each with a set that is small by any width by which the working sets are, but for 16 at most.
 /// `Full` says that the table holds as many nodes as it may and its limit is tight for the sets of
 /// such slots, and `Memory` that memory ran out.
 pub fn plan_strong(alloc: Global, task: &Task, enc: &mut Enc) -> Result<Found, SetErr>
@@ -95,8 +98,8 @@ pub fn plan_strong(alloc: Global, task: &Task, enc: &mut Enc) -> Result<Found, S
         IfOk result (λ found. IfPlan found (λ plan. IsExecutable sys (rules_of plan))) }
     ensures no_plan { IfOk result
         (λ found. IfNoPlan found (HasNoSolution Strong (system_of task.now))) }
-    ensures full { IsErrOf result SetErr.Full
-        → NoRoom AnySet (action_count task.now + 24) enc.old.sets enc.new.sets }
+    ensures full { IsErrOf result SetErr.Full → (width : ℕ) → IsWide width Strong task.now
+        → NoRoom width (action_count task.now + 24) 16 enc.old.sets enc.new.sets }
     ensures slots { Owns enc.old.sets enc.new.sets [] }
     ensures same_slots { enc.new ≡ record enc.old { sets = enc.new.sets } }
     ensures made { (task : Task) → MadeOf task enc.old → MadeOf task enc.new }
@@ -125,8 +128,8 @@ fn plan(alloc: Global, task: &Task, enc: &mut Enc, class: Class) -> Result<Found
         IfOk result (λ found. IfPlan found (λ plan. IsExecutable sys (rules_of plan))) }
     ensures no_plan { IfOk result
         (λ found. IfNoPlan found (HasNoSolution class (system_of task.now))) }
-    ensures full { IsErrOf result SetErr.Full
-        → NoRoom AnySet (action_count task.now + 24) enc.old.sets enc.new.sets }
+    ensures full { IsErrOf result SetErr.Full → (width : ℕ) → IsWide width class task.now
+        → NoRoom width (action_count task.now + 24) 16 enc.old.sets enc.new.sets }
     ensures slots { Owns enc.old.sets enc.new.sets [] }
     ensures same_slots { enc.new ≡ record enc.old { sets = enc.new.sets } }
     ensures made { (task : Task) → MadeOf task enc.old → MadeOf task enc.new }

@@ -5,7 +5,7 @@ ghost use Rattle.std.specs.List.{list_all};
 ghost use Rattle.dd_nodes.specs.Subfunctions.{Function};
 ghost use Rattle.dd_ops.specs.Operations.{minus_of, or_of};
 ghost use Rattle.slot_board.specs.Board.{HasNothing, Left, Start};
-ghost use Rattle.reach_plan.specs.Searches.{HasHits, HasProgress};
+ghost use Rattle.reach_plan.specs.Searches.{HasHits, HasProgress, MayRetrace, MayStep, MayTake};
 ghost use Rattle.reach_plan.specs.Steps.{Progress, after_step, after_steps, at_goal, is_step_of};
 ghost use Rattle.reach_plan.specs.Steps.{with_set};
 
@@ -27,11 +27,13 @@ const NEW: usize = 3;
 /// Has an action taken where it leads into the layer from outside the next one.
 fn take(enc: &mut Enc, board: &mut Board, takers: usize, a: ActionId) -> Result<(), SetErr>
     requires ready { (start : Start) × (f : Function) × (h : ℕ → Function) × (g : Function)
-        × (hits : Function) × HasHits start enc.old board.old.slots.items takers f h g hits }
+        × (hits : Function) × HasHits start enc.old board.old.slots.items takers f h g hits
+        × MayTake start takers a.0 (h a.0) g hits }
     requires places { length board.old.slots.items ≡ takers + 4 }
     requires action { a.0 < takers }
     ensures { (start : Start) (f : Function) (h : ℕ → Function) (g hits : Function)
         → HasHits start enc.old board.old.slots.items takers f h g hits
+        → MayTake start takers a.0 (h a.0) g hits
         → Left start enc.new board.new.slots.items
         (HasHits start enc.new board.new.slots.items takers f
         (with_set h a.0 (or_of (h a.0) (minus_of hits g))) g hits) result }
@@ -57,12 +59,14 @@ fn grow_and_take(
     a: ActionId,
 ) -> Result<(), SetErr>
     requires ready { (start : Start) × (here : Progress)
-        × HasProgress start enc.old board.old.slots.items takers here }
+        × HasProgress start enc.old board.old.slots.items takers here
+        × MayStep class start takers here (Step.Grow a) }
     requires places { length board.old.slots.items ≡ takers + 4 }
     requires action { a.0 < takers }
     requires actions { takers ≡ length enc.old.actions }
     ensures { (start : Start) (here : Progress)
         → HasProgress start enc.old board.old.slots.items takers here
+        → MayStep class start takers here (Step.Grow a)
         → Left start enc.new board.new.slots.items (HasProgress start enc.new
         board.new.slots.items takers (after_step class start.task here (Step.Grow a))) result }
 {
@@ -86,12 +90,14 @@ fn retrace_step(
     step: &Step,
 ) -> Result<(), SetErr>
     requires ready { (start : Start) × (here : Progress)
-        × HasProgress start enc.old board.old.slots.items takers here }
+        × HasProgress start enc.old board.old.slots.items takers here
+        × MayStep class start takers here step.now }
     requires places { length board.old.slots.items ≡ takers + 4 }
     requires step { is_step_of takers step.now ≡ true }
     requires actions { takers ≡ length enc.old.actions }
     ensures { (start : Start) (here : Progress)
         → HasProgress start enc.old board.old.slots.items takers here
+        → MayStep class start takers here step.now
         → Left start enc.new board.new.slots.items (HasProgress start enc.new
         board.new.slots.items takers (after_step class start.task here step.now)) result }
 {
@@ -110,11 +116,13 @@ pub(crate) fn retrace(
     steps: &[Step],
 ) -> Result<(), SetErr>
     requires goal { IsSome enc.old.goal }
-    requires ready { (start : Start) × HasNothing start enc.old board.old.slots.items }
+    requires ready { (start : Start) × HasNothing start enc.old board.old.slots.items
+        × MayRetrace class start takers steps.now }
     requires places { length board.old.slots.items ≡ takers + 4 }
     requires steps { list_all (is_step_of takers) steps.now ≡ true }
     requires actions { takers ≡ length enc.old.actions }
     ensures { (start : Start) → HasNothing start enc.old board.old.slots.items
+        → MayRetrace class start takers steps.now
         → Left start enc.new board.new.slots.items (HasProgress start enc.new
         board.new.slots.items takers (after_steps class start.task (at_goal start.task)
         steps.now)) result }

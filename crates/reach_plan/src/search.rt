@@ -3,12 +3,15 @@
 ghost use Rattle.std.specs.Prelude.{◌≡◌, ◌⊎◌, ℕ, ◌+◌, ◌<◌, ◌↔◌, ◌++◌, [], ◌∷◌, false, length};
 ghost use Rattle.std.specs.Prelude.{IsSome, IsTrue, slice_index_or};
 ghost use Rattle.dd_nodes.specs.Subfunctions.{Function};
-ghost use Rattle.slot_board.specs.Board.{At, Ends, HasNothing, Left, Start, led, set_at};
+ghost use Rattle.preimage.specs.WorkingSets.{PreimageFits};
+ghost use Rattle.slot_board.specs.Board.{At, Ends, HasNothing, IsSmall, LeadFits, Left, Start, led};
+ghost use Rattle.slot_board.specs.Board.{set_at};
 ghost use Rattle.plan_theory.specs.Classes.{IsFoundByLayers};
 ghost use Rattle.reach_plan.specs.LayerSets.{class_preimage};
 ghost use Rattle.reach_plan.specs.Searches.{BeginsRound, HasGrown, HasHits, HasJoined, HasLayer};
 ghost use Rattle.reach_plan.specs.Searches.{HasNext, HasRound, RoundLeft, SearchLeft};
 ghost use Rattle.reach_plan.specs.Steps.{untaken};
+ghost use Rattle.reach_plan.specs.WorkingSets.{IsWide, first_of};
 ghost use Rattle.reach_plan.specs.declared.steps.Step.{Step as Noted};
 ghost use Rattle.reach_plan.specs.declared.steps.Step.TheVariants.{Advance};
 
@@ -43,7 +46,9 @@ enum Round {
 
 /// Which outcomes have to lead into a layer.
 pub(crate) fn outcomes_of(class: Class) -> Outcomes
-    ensures { led result ≡ class_preimage class }
+    ensures led { led result ≡ class_preimage class }
+    ensures fits { (start : Start) (a : ℕ) (set : Function)
+        → PreimageFits start.width start.task a (first_of class) set → LeadFits start result a set }
 {
     match class {
         Class::Weak | Class::Cyclic => Outcomes::Some,
@@ -135,10 +140,10 @@ fn grow(
 /// Puts the next layer in the place of this one.
 fn advance(enc: &mut Enc, board: &mut Board, steps: &mut Vec<Step>) -> Result<(), SetErr>
     requires ready { (start : Start) × (f : Function) × (g : Function)
-        × HasNext start enc.old board.old.slots.items 0 f untaken g }
+        × HasNext start enc.old board.old.slots.items 0 f untaken g × IsSmall start g }
     requires places { length board.old.slots.items ≡ 4 }
     ensures { (start : Start) (f g : Function)
-        → HasNext start enc.old board.old.slots.items 0 f untaken g
+        → HasNext start enc.old board.old.slots.items 0 f untaken g → IsSmall start g
         → Left start enc.new board.new.slots.items
         (HasLayer start enc.new board.new.slots.items 0 g untaken
         × (steps.new.items ≡ steps.old.items ++ Advance ∷ [])) result }
@@ -191,11 +196,13 @@ pub(crate) fn search_back(
 ) -> Result<bool, SetErr>
     requires class { IsFoundByLayers class }
     requires goal { IsSome enc.old.goal }
-    requires ready { (start : Start) × HasNothing start enc.old board.old.slots.items }
+    requires ready { (start : Start) × HasNothing start enc.old board.old.slots.items
+        × IsWide start.width class start.task }
     requires places { length board.old.slots.items ≡ 4 }
     requires actions { actions ≡ length enc.old.actions }
     requires no_steps { steps.old.items ≡ [] }
     ensures { (start : Start) → HasNothing start enc.old board.old.slots.items
+        → IsWide start.width class start.task
         → Ends start enc.new board.new.slots.items
         (SearchLeft class start enc.new board.new.slots.items steps.new.items) result }
 {

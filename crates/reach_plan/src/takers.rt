@@ -2,7 +2,7 @@
 
 ghost use Rattle.std.specs.Prelude.{◌≡◌, ℕ, ◌+◌, [], IfOk, IsErrOf, IsSome, OnErr, length};
 ghost use Rattle.dd_sets.specs.Frames.{Owns};
-ghost use Rattle.dd_sets.specs.Rooms.{AnySet, NoRoom};
+ghost use Rattle.dd_sets.specs.Rooms.{NoRoom};
 ghost use Rattle.encode_task.specs.Made.{MadeOf};
 ghost use Rattle.preimage.specs.Preimages.{OfSomeTask};
 ghost use Rattle.slot_board.specs.Board.{Working};
@@ -11,6 +11,7 @@ ghost use Rattle.task_core.specs.declared.tasks.Task.{Task as TaskOf};
 ghost use Rattle.plan_theory.specs.Classes.{IsFoundByLayers};
 ghost use Rattle.reach_plan.specs.Steps.{LeadToLast};
 ghost use Rattle.reach_plan.specs.Takers.{AreFound, HoldTakers, IsDecided, slots_of};
+ghost use Rattle.reach_plan.specs.WorkingSets.{IsWide};
 
 use crate::retrace::retrace;
 use crate::search::search_back;
@@ -47,8 +48,9 @@ fn is_covered(
     requires no_steps { steps.old.items ≡ [] }
     ensures answer { (task : TaskOf) → MadeOf task enc.old
         → IfOk result (IsDecided class task steps.new.items) }
-    ensures full { IsErrOf result SetErr.Full
-        → NoRoom AnySet (actions + 24) enc.old.sets enc.new.sets }
+    ensures full { IsErrOf result SetErr.Full → (task : TaskOf) → MadeOf task enc.old
+        → (width : ℕ) → IsWide width class task
+        → NoRoom width (actions + 24) 16 enc.old.sets enc.new.sets }
     ensures slots { Owns enc.old.sets enc.new.sets [] }
     ensures same_slots { enc.new ≡ record enc.old { sets = enc.new.sets } }
 {
@@ -72,8 +74,9 @@ fn take_all(
     requires actions { actions ≡ length enc.old.actions }
     ensures answer { (task : TaskOf) → MadeOf task enc.old → LeadToLast class task steps.now
         → IfOk result (λ board. HoldTakers class task enc.new.sets board.slots.items) }
-    ensures full { IsErrOf result SetErr.Full
-        → NoRoom AnySet (actions + 24) enc.old.sets enc.new.sets }
+    ensures full { IsErrOf result SetErr.Full → (task : TaskOf) → MadeOf task enc.old
+        → LeadToLast class task steps.now → (width : ℕ) → IsWide width class task
+        → NoRoom width (actions + 24) 16 enc.old.sets enc.new.sets }
     ensures slots { IfOk result (λ board. Working enc.old.sets enc.new.sets board.slots.items) }
     ensures refused { OnErr result (Owns enc.old.sets enc.new.sets []) }
     ensures same_slots { enc.new ≡ record enc.old { sets = enc.new.sets } }
@@ -100,7 +103,8 @@ fn take_all(
 /// Pistore, Roveri and Traverso 2003). Each state of a layer takes the least-numbered action that
 /// leads so into the layer before it; a state in which the goal holds takes none. What each action
 /// takes is found in a second pass, where there is a plan, which makes the steps that changed
-/// something once more. At most as many slots as there are actions and 24 are live in between.
+/// something once more. At most as many slots as there are actions and 24 are live in between, each
+/// with a set that is small by any width by which the working sets are, but for 16 at most.
 pub fn find_takers(
     alloc: Global,
     task: &Task,
@@ -111,8 +115,8 @@ pub fn find_takers(
     requires made { MadeOf task.now enc.old }
     requires goal { IsSome task.now.goal }
     ensures found { IfOk result (AreFound class task.now enc.new.sets) }
-    ensures full { IsErrOf result SetErr.Full
-        → NoRoom AnySet (action_count task.now + 24) enc.old.sets enc.new.sets }
+    ensures full { IsErrOf result SetErr.Full → (width : ℕ) → IsWide width class task.now
+        → NoRoom width (action_count task.now + 24) 16 enc.old.sets enc.new.sets }
     ensures slots { IfOk result (λ found. Working enc.old.sets enc.new.sets (slots_of found)) }
     ensures refused { OnErr result (Owns enc.old.sets enc.new.sets []) }
     ensures same_slots { enc.new ≡ record enc.old { sets = enc.new.sets } }

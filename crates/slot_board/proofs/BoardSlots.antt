@@ -8,8 +8,8 @@ use Rattle.dd_nodes.specs.NodeList.{Values}
 use Rattle.dd_sets.specs.Calls.{Adds, AddsNone, KeepsSets, Releases}
 use Rattle.dd_sets.specs.Frames.{Owns, OwnsAnswer}
 use Rattle.dd_sets.specs.LiveSets.{LiveSets, IsLive, IsSets, is_live, live_count, nothing, set_of}
-use Rattle.dd_sets.specs.Rooms.{AnySet, NoRoom}
-use Rattle.dd_sets.proofs.RoomSteps.{room_before}
+use Rattle.dd_sets.specs.Rooms.{NoRoom}
+use Rattle.dd_sets.proofs.OwnedLemmas.{answer_kept}
 use Rattle.dd_sets.specs.declared.errors.SetErr.TheVariants.{Full}
 use Rattle.encode_task.specs.Slots.{Encoded}
 use Rattle.encode_task.specs.Made.{MadeOf}
@@ -24,7 +24,8 @@ use Rattle.dd_sets.proofs.OwnLemmas.{own_one}
 use Rattle.dd_nodes.specs.Subfunctions.{DependsOnly}
 use Rattle.dd_sets.proofs.SetLemmas.{set_depends}
 use Rattle.encode_task.specs.TaskSets.{initial_set}
-use Rattle.slot_board.specs.Board.{AllNothing, At, HasNoRoom, Left, Moved, Start, Stayed, Working, set_at, slot_at}
+use Rattle.slot_board.specs.Board.{AllNothing, At, Fits, HasNoRoom, Left, Moved, Start, Stayed, Working, set_at, slot_at}
+use Rattle.slot_board.proofs.BoardSizes.{room_at}
 use Rattle.slot_board.proofs.InitialStates.{inside_is}
 
 length_set : (slots : List SetId) (at : ℕ) (new : SetId) → length (slice_set slots at new) ≡ length slots
@@ -117,13 +118,6 @@ module _ (before mid now after : LiveSets) (slots : List SetId) (place : ℕ) (n
       ∙ ends.sets (slot_at slots other) (work.apart other place l within differs)
       ∙ answer.kept.sets (slot_at slots other) (work.live other l)
 
--- a call that found no room beside the slots of the board
-pub room_at : (start : Start) (enc now : Encoded) (slots : List SetId) → At start enc slots → (few : ℕ) → few ≤ start.spare + 8 → NoRoom AnySet few enc.sets now.sets → HasNoRoom start now
-room_at start enc now slots here few within none =
-    let count : live_count enc.sets ≡ live_count start.enc.sets + length slots = here.working.count in
-    let long : length slots ≡ start.places = here.long in
-    room_before start.enc.sets enc.sets here.working.kept few (start.places + start.spare + 8) (omega arith) none
-
 pub same_chain : (a b c : Encoded) → b ≡ record a { sets = b.sets } → c ≡ record b { sets = c.sets } → c ≡ record a { sets = c.sets }
 same_chain a b c first second = second ∙ ap (λ (e : Encoded). record e { sets = c.sets }) first
 
@@ -131,23 +125,50 @@ same_chain a b c first second = second ∙ ap (λ (e : Encoded). record e { sets
 pub made_at : (start : Start) (enc : Encoded) (slots : List SetId) → At start enc slots → MadeOf start.task enc
 made_at start enc slots here = made_now start.task start.enc enc here.same here.working.kept start.made
 
+-- the sets at the places fit still, where one place has a set that fits and the others have theirs
+fit_now : (start : Start) (before after : LiveSets) (old new : List SetId) (place : ℕ) (set : Function) → ((k : ℕ) → k < length old → Fits start k (set_at before old k)) → Fits start place set → set_at after new place ≡ set
+    → ((k : ℕ) → k < length old → k ≢ place → set_at after new k ≡ set_at before old k) → (k : ℕ) → k < length old → Fits start k (set_at after new k)
+fit_now start before after old new place set each fits here others k l = ⊎_elim
+    (λ (same : k ≡ place). subst (λ p. Fits start p (set_at after new p)) (sym same) (subst (Fits start place) (sym here) fits))
+    (λ (differs : k ≢ place). subst (Fits start k) (sym (others k l differs)) (each k l))
+    (cases_eq k place)
+
+-- they do where no place changes
+fit_still : (start : Start) (before after : LiveSets) (old new : List SetId) → new ≡ old → ((k : ℕ) → k < length old → set_at after old k ≡ set_at before old k)
+    → ((k : ℕ) → k < length old → Fits start k (set_at before old k)) → (k : ℕ) → k < length new → Fits start k (set_at after new k)
+fit_still start before after old new same stays each =
+    subst (λ slots. (k : ℕ) → k < length slots → Fits start k (set_at after slots k)) (sym same) (λ k l. subst (Fits start k) (sym (stays k l)) (each k l))
+
 -- an answer was put at a place
 pub placed : (start : Start) (enc mid now : Encoded) (old new : List SetId) (place : ℕ) (set : Function) (answer : Result SetId SetErr) (result : Result Unit SetErr)
-    → At start enc old → mid ≡ record enc { sets = mid.sets } → now ≡ record mid { sets = now.sets } → OwnsAnswer enc.sets mid.sets set answer → (few : ℕ) → few ≤ start.spare + 8 → (IsErrOf answer Full → NoRoom AnySet few enc.sets mid.sets)
+    → At start enc old → Fits start place set → mid ≡ record enc { sets = mid.sets } → now ≡ record mid { sets = now.sets } → OwnsAnswer enc.sets mid.sets set answer → (few fewer : ℕ) → few ≤ start.spare + 8 → fewer ≤ 4
+    → (IsErrOf answer Full → NoRoom start.width few fewer enc.sets mid.sets)
     → ((before other : LiveSets) (g : Function) → Working before other old → OwnsAnswer other mid.sets g answer → Working before now.sets new)
     → ((before other : LiveSets) (g : Function) → Working before other old → OwnsAnswer other mid.sets g answer → OnOk result (set_at now.sets new place ≡ g))
     → ((before other : LiveSets) (g : Function) → Working before other old → OwnsAnswer other mid.sets g answer → OnOk result ((k : ℕ) → k < length old → k ≢ place → set_at now.sets new k ≡ set_at other old k))
-    → length new ≡ length old → (IsErrOf result Full → IsErrOf answer Full) → OnOk result (IsSets now.sets) → OnErr result (now ≡ mid)
+    → length new ≡ length old → (IsErrOf result Full → IsErrOf answer Full) → OnOk result (IsSets now.sets) → OnErr result (now ≡ mid) → OnErr result (new ≡ old)
     → Left start now new (Moved start enc.sets old now new place set) result
-placed start enc mid now old new place set answer (Ok x) here first second owns few within tight frame at others long full sound refused = record {
-  at = record { same = same_chain start.enc enc now here.same (same_chain enc mid now first second); working = frame start.enc.sets enc.sets set here.working owns; long = long ∙ here.long };
-  sound = sound;
-  here = at start.enc.sets enc.sets set here.working owns;
-  others = λ k l differs. others start.enc.sets enc.sets set here.working owns k (omega arith) differs;
-}
-placed start enc mid now old new place set answer (Err e) here first second owns few within tight frame at others long full sound refused = (
-  record { same = same_chain start.enc enc now here.same (same_chain enc mid now first second); working = frame start.enc.sets enc.sets set here.working owns; long = long ∙ here.long },
-  λ is. subst (λ (e : Encoded). HasNoRoom start e) (sym refused) (room_at start enc mid old here few within (tight (full (ap Err is)))),
+placed start enc mid now old new place set answer (Ok x) here fits first second owns few fewer within rougher tight frame at others long full sound refused stays =
+    let is : set_at now.sets new place ≡ set = at start.enc.sets enc.sets set here.working owns in
+    record {
+      at = record {
+        same = same_chain start.enc enc now here.same (same_chain enc mid now first second);
+        working = frame start.enc.sets enc.sets set here.working owns;
+        long = long ∙ here.long;
+        each = λ k l. fit_now start enc.sets now.sets old new place set here.each fits is (others start.enc.sets enc.sets set here.working owns) k (omega arith);
+      };
+      sound = sound;
+      here = is;
+      others = λ k l differs. others start.enc.sets enc.sets set here.working owns k (omega arith) differs;
+    }
+placed start enc mid now old new place set answer (Err e) here fits first second owns few fewer within rougher tight frame at others long full sound refused stays = (
+  record {
+    same = same_chain start.enc enc now here.same (same_chain enc mid now first second);
+    working = frame start.enc.sets enc.sets set here.working owns;
+    long = long ∙ here.long;
+    each = fit_still start enc.sets now.sets old new stays (λ k l. ap (λ (e : Encoded). set_at e.sets old k) refused ∙ (answer_kept enc.sets mid.sets set answer owns).sets (slot_at old k) (here.working.live k l)) here.each;
+  },
+  λ is. subst (λ (e : Encoded). HasNoRoom start e) (sym refused) (room_at start enc mid old here few fewer within rougher (tight (full (ap Err is)))),
 )
 
 -- what is left of an answer, and of what is made of it
@@ -181,7 +202,7 @@ depends start enc slots at sound place =
     subst (λ n. DependsOnly 0 n (set_at enc.sets slots place)) vars (set_depends enc.sets sound _)
 
 -- the initial states
-initial_is : (start : Start) (enc : Encoded) (slots : List SetId) → At start enc slots → set_of enc.sets enc.initial.0 ≡ initial_set start.task
+pub initial_is : (start : Start) (enc : Encoded) (slots : List SetId) → At start enc slots → set_of enc.sets enc.initial.0 ≡ initial_set start.task
 initial_is start enc slots at =
     ap (λ (e : Encoded). set_of enc.sets e.initial.0) at.same ∙ at.working.kept.sets start.enc.initial.0 start.made.initial.live ∙ start.made.initial.holds
 
@@ -341,10 +362,11 @@ at_same start enc now slots here same kept none = record {
   same = same_chain start.enc enc now here.same same;
   working = working_same start.enc.sets enc.sets now.sets slots here.working kept none;
   long = here.long;
+  each = fit_still start enc.sets now.sets slots slots refl (λ k l. kept.sets (slot_at slots k) (here.working.live k l)) here.each;
 }
 
 -- the test of the initial states
-pub tested : (start : Start) (enc now : Encoded) (slots : List SetId) (result : Result Bool SetErr) → At start enc slots → now ≡ record enc { sets = now.sets } → KeepsSets enc.sets now.sets → AddsNone enc.sets now.sets → IsSets now.sets → (IsErrOf result Full → NoRoom AnySet 8 enc.sets now.sets)
+pub tested : (start : Start) (enc now : Encoded) (slots : List SetId) (result : Result Bool SetErr) → At start enc slots → now ≡ record enc { sets = now.sets } → KeepsSets enc.sets now.sets → AddsNone enc.sets now.sets → IsSets now.sets → (IsErrOf result Full → NoRoom start.width 0 0 enc.sets now.sets)
     → Left start now slots (Stayed start enc.sets now slots) result
 tested start enc now slots (Ok covered) here same kept none sound full = record {
   at = at_same start enc now slots here same kept none;
@@ -353,7 +375,7 @@ tested start enc now slots (Ok covered) here same kept none sound full = record 
 }
 tested start enc now slots (Err e) here same kept none sound full = (
   at_same start enc now slots here same kept none,
-  λ is. room_at start enc now slots here 8 (omega arith) (full (ap Err is)),
+  λ is. room_at start enc now slots here 0 0 (omega arith) (omega arith) (full (ap Err is)),
 )
 
 pub covered_is : (start : Start) (enc now : Encoded) (slots : List SetId) (place : ℕ) (covered : Bool) → At start enc slots → place < length slots → now ≡ record enc { sets = now.sets } → KeepsSets enc.sets now.sets → AddsNone enc.sets now.sets → IsSets now.sets

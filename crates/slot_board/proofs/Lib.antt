@@ -1,2 +1,3 @@
+pub mod BoardSizes
 pub mod BoardSlots
 mod InitialStates

@@ -1,23 +1,28 @@
 //! The slots of a search, each at a place.
 
-ghost use Rattle.std.specs.Prelude.{◌≡◌, ◌≢◌, ℕ, ◌+◌, ◌<◌, ◌≤◌, ◌↔◌, [], IsTrue, length};
+ghost use Rattle.std.specs.Prelude.{◌≡◌, ◌≢◌, ℕ, ◌+◌, ◌<◌, ◌≤◌, ◌↔◌, List, [], IsTrue, length};
 ghost use Rattle.std.specs.Prelude.{map, IfErr, IfOk, OnErr, OnOk, IsErrOf, true};
 ghost use Rattle.std.specs.List.{list_all};
 ghost use Rattle.dd_nodes.specs.NodeList.{Values};
 ghost use Rattle.dd_nodes.specs.Subfunctions.{Function};
+ghost use Rattle.dd_ops.specs.Operations.{minus_of};
 ghost use Rattle.dd_sets.specs.Calls.{AddsNone, KeepsSets, Releases};
 ghost use Rattle.dd_sets.specs.Frames.{Owns, OwnsAnswer};
 ghost use Rattle.dd_sets.specs.LiveSets.{LiveSets, IsLive, IsSets, everything, nothing, set_of};
-ghost use Rattle.dd_sets.specs.Rooms.{AnySet, NoRoom};
+ghost use Rattle.dd_sets.specs.Rooms.{NoRoom, Rough};
 ghost use Rattle.encode_task.specs.Made.{MadeOf};
+ghost use Rattle.encode_task.specs.WorkingSets.{AreSmall, IsPartOf};
 ghost use Rattle.preimage.specs.Preimages.{OfSomeTask};
+ghost use Rattle.preimage.specs.WorkingSets.{PreimageFits};
 ghost use Rattle.task_core.specs.Conditions.{holds, ids_below, is_shallow};
 ghost use Rattle.task_core.specs.Cubes.{cubes_of};
-ghost use Rattle.task_core.specs.Tasks.{initial_states};
+ghost use Rattle.task_core.specs.Tasks.{fluent_count, initial_states};
 ghost use Rattle.task_core.specs.Vectors.{value_of};
 ghost use Rattle.task_core.specs.declared.tasks.Task.{Task};
-ghost use Rattle.slot_board.specs.Board.{AllNothing, At, HasNothing, IsWorking, Left, Moved};
-ghost use Rattle.slot_board.specs.Board.{Start, Stayed, Working, combined, led, set_at, slot_at};
+ghost use Rattle.slot_board.specs.Board.{AllNothing, At, ConditionFits, Fits, HasNothing, IsWorking};
+ghost use Rattle.slot_board.specs.Board.{LeadFits, Left, Moved, TestFits};
+ghost use Rattle.slot_board.specs.Board.{Start, Stayed, Working, combined, first_of, led, set_at};
+ghost use Rattle.slot_board.specs.Board.{slot_at};
 
 use dd_sets::{SetErr, SetId, Sets};
 use encode_task::Enc;
@@ -52,7 +57,9 @@ pub enum Outcomes {
 /// board was made, the number of places, and how many slots the search allows itself besides. A
 /// call leaves the board and the sets at such a start wherever they were at it, also where it
 /// refuses; and it refuses for want of room only where the table holds as many nodes as it may, and
-/// its limit is tight for the sets of that start, and of the search's own slots.
+/// its limit is tight for the sets of that start, and of the search's own slots. Of these all are
+/// small by the start's width but those at the places that it lists, and four of an operation's; a
+/// call asks that the sets that it makes are.
 #[derive(Drop)]
 pub struct Board {
     /// The slots, in the order of the places.
@@ -65,12 +72,16 @@ impl Board {
     /// It refuses for want of memory alone, and then has ended all slots that it began.
     pub fn new(alloc: Global, enc: &mut Enc, places: usize) -> Result<Board, SetErr>
         ensures opened { (task : Task) (made : MadeOf task enc.old) (spare : ℕ)
+            (width : ℕ) (wide : fluent_count task + 2 ≤ width) (rough : List ℕ)
             → IfOk result (λ board. HasNothing (record {
               task = task;
               enc = enc.old;
               made = made;
               places = places;
               spare = spare;
+              width = width;
+              wide = wide;
+              rough = rough;
             }) enc.new board.slots.items) }
         ensures refused { OnErr result (Owns enc.old.sets enc.new.sets []) }
         ensures same_slots { enc.new ≡ record enc.old { sets = enc.new.sets } }
@@ -140,8 +151,9 @@ impl Board {
             → set_at enc.new.sets self.new.slots.items place
             ≡ set_at enc.old.sets self.old.slots.items place }
         ensures long { length self.new.slots.items ≡ places }
-        ensures room { (before : LiveSets) (most : ℕ) → NoRoom AnySet most before enc.old.sets
-            → NoRoom AnySet most before enc.new.sets }
+        ensures room { (before : LiveSets) (width most others : ℕ)
+            → NoRoom width most others before enc.old.sets
+            → NoRoom width most others before enc.new.sets }
         ensures same_slots { enc.new ≡ record enc.old { sets = enc.new.sets } }
     {
         while self.slots.len() > places {
@@ -159,8 +171,9 @@ impl Board {
             → set_at enc.new.sets self.new.slots.items place
             ≡ set_at enc.old.sets self.old.slots.items place }
         ensures long { length self.new.slots.items + 1 ≡ length self.old.slots.items }
-        ensures room { (before : LiveSets) (most : ℕ) → NoRoom AnySet most before enc.old.sets
-            → NoRoom AnySet most before enc.new.sets }
+        ensures room { (before : LiveSets) (width most others : ℕ)
+            → NoRoom width most others before enc.old.sets
+            → NoRoom width most others before enc.new.sets }
         ensures same_slots { enc.new ≡ record enc.old { sets = enc.new.sets } }
     {
         if let Some(slot) = self.slots.pop() {
@@ -173,8 +186,9 @@ impl Board {
         requires { (before : LiveSets) × Working before enc.old.sets self.old.slots.items }
         ensures frame { (before : LiveSets) → Working before enc.old.sets self.old.slots.items
             → Owns before enc.new.sets [] }
-        ensures room { (before : LiveSets) (most : ℕ) → NoRoom AnySet most before enc.old.sets
-            → NoRoom AnySet most before enc.new.sets }
+        ensures room { (before : LiveSets) (width most others : ℕ)
+            → NoRoom width most others before enc.old.sets
+            → NoRoom width most others before enc.new.sets }
         ensures same_slots { enc.new ≡ record enc.old { sets = enc.new.sets } }
     {
         self.cut(enc, 0);
@@ -211,6 +225,7 @@ impl Board {
         ensures long { length self.new.slots.items ≡ length self.old.slots.items }
         ensures full { IsErrOf result SetErr.Full → IsErrOf answer SetErr.Full }
         ensures refused { OnErr result (enc.new ≡ enc.old) }
+        ensures stays { OnErr result (self.new.slots.items ≡ self.old.slots.items) }
         ensures sound { OnOk result (IsSets enc.new.sets) }
         ensures same_slots { enc.new ≡ record enc.old { sets = enc.new.sets } }
     {
@@ -227,6 +242,7 @@ impl Board {
         requires place { place < length self.old.slots.items }
         requires live { IsLive enc.old.sets set.0 }
         ensures { (start : Start) → At start enc.old self.old.slots.items
+            → Fits start place (set_of enc.old.sets set.0)
             → Left start enc.new self.new.slots.items
             (Moved start enc.old.sets self.old.slots.items enc.new self.new.slots.items place
             (set_of enc.old.sets set.0)) result }
@@ -241,6 +257,7 @@ impl Board {
         requires place { place < length self.old.slots.items }
         requires from { from < length self.old.slots.items }
         ensures { (start : Start) → At start enc.old self.old.slots.items
+            → Fits start place (set_at enc.old.sets self.old.slots.items from)
             → Left start enc.new self.new.slots.items
             (Moved start enc.old.sets self.old.slots.items enc.new self.new.slots.items place
             (set_at enc.old.sets self.old.slots.items from)) result }
@@ -277,6 +294,7 @@ impl Board {
         requires working { IsWorking enc.old self.now.slots.items }
         requires place { place < length self.now.slots.items }
         ensures left { (start : Start) → At start enc.old self.now.slots.items
+            → TestFits start (set_at enc.old.sets self.now.slots.items place)
             → Left start enc.new self.now.slots.items
             (Stayed start enc.old.sets enc.new self.now.slots.items) result }
         ensures answer { (start : Start) → At start enc.old self.now.slots.items
@@ -327,6 +345,9 @@ impl Board {
         requires a { a < length self.old.slots.items }
         requires b { b < length self.old.slots.items }
         ensures { (start : Start) → At start enc.old self.old.slots.items
+            → Fits start place (combined operation
+            (set_at enc.old.sets self.old.slots.items a)
+            (set_at enc.old.sets self.old.slots.items b))
             → Left start enc.new self.new.slots.items
             (Moved start enc.old.sets self.old.slots.items enc.new self.new.slots.items place
             (combined operation (set_at enc.old.sets self.old.slots.items a)
@@ -344,6 +365,7 @@ impl Board {
         requires fluents { ids_below enc.old.sets.vars cond.now ≡ true }
         requires shallow { is_shallow cond.now ≡ true }
         ensures { (start : Start) → At start enc.old self.old.slots.items → 196 ≤ start.spare
+            → ConditionFits start cond.now
             → Left start enc.new self.new.slots.items
             (Moved start enc.old.sets self.old.slots.items enc.new self.new.slots.items place
             (holds cond.now)) result }
@@ -366,6 +388,8 @@ impl Board {
         requires action { action.0 < length enc.old.actions }
         requires into { into < length self.old.slots.items }
         ensures { (start : Start) → At start enc.old self.old.slots.items
+            → LeadFits start outcomes action.0
+            (set_at enc.old.sets self.old.slots.items into)
             → Left start enc.new self.new.slots.items
             (Moved start enc.old.sets self.old.slots.items enc.new self.new.slots.items place
             (led outcomes start.task action.0 (set_at enc.old.sets self.old.slots.items into)))
@@ -387,7 +411,6 @@ fn end(enc: &mut Enc, slot: SetId)
 }
 
 /// Whether the set of a slot has all initial states.
-#[tactic(auto, using(dd_sets::proofs::RoomSteps::room_for))]
 fn holds_initial(enc: &mut Enc, set: SetId) -> Result<bool, SetErr>
     requires initial { IsLive enc.old.sets enc.old.initial.0 }
     requires live { IsLive enc.old.sets set.0 }
@@ -396,7 +419,10 @@ fn holds_initial(enc: &mut Enc, set: SetId) -> Result<bool, SetErr>
         → set_of enc.old.sets set.0 values ≡ true)) }
     ensures kept { KeepsSets enc.old.sets enc.new.sets }
     ensures none { AddsNone enc.old.sets enc.new.sets }
-    ensures full { IsErrOf result SetErr.Full → NoRoom AnySet 8 enc.old.sets enc.new.sets }
+    ensures full { IsErrOf result SetErr.Full → (width : ℕ)
+        → Rough enc.old.sets.vars width
+        (minus_of (set_of enc.old.sets enc.old.initial.0) (set_of enc.old.sets set.0))
+        → NoRoom width 0 0 enc.old.sets enc.new.sets }
     ensures same_slots { enc.new ≡ record enc.old { sets = enc.new.sets } }
     ensures sound { IsSets enc.new.sets }
 {
@@ -409,7 +435,8 @@ fn copied(enc: &mut Enc, set: SetId) -> Result<SetId, SetErr>
     requires { IsLive enc.old.sets set.0 }
     ensures answer { OwnsAnswer enc.old.sets enc.new.sets (set_of enc.old.sets set.0) result }
     ensures same_slots { enc.new ≡ record enc.old { sets = enc.new.sets } }
-    ensures full { IsErrOf result SetErr.Full → NoRoom AnySet 8 enc.old.sets enc.new.sets }
+    ensures full { IsErrOf result SetErr.Full → (width : ℕ)
+        → NoRoom width 0 0 enc.old.sets enc.new.sets }
 {
     enc.sets_mut().copy(set)
 }
@@ -420,7 +447,9 @@ fn where_holds(enc: &mut Enc, cond: &Cond) -> Result<SetId, SetErr>
     requires shallow { is_shallow cond.now ≡ true }
     ensures answer { OwnsAnswer enc.old.sets enc.new.sets (holds cond.now) result }
     ensures same_slots { enc.new ≡ record enc.old { sets = enc.new.sets } }
-    ensures full { IsErrOf result SetErr.Full → NoRoom AnySet 204 enc.old.sets enc.new.sets }
+    ensures full { IsErrOf result SetErr.Full → (width : ℕ)
+        → AreSmall enc.old.sets.vars width (IsPartOf cond.now)
+        → NoRoom width 204 0 enc.old.sets enc.new.sets }
 {
     enc.set_of(cond)
 }
@@ -438,7 +467,8 @@ fn no_lists(enc: &mut Enc) -> Result<SetId, SetErr>
 fn all_lists(enc: &mut Enc) -> Result<SetId, SetErr>
     ensures answer { OwnsAnswer enc.old.sets enc.new.sets everything result }
     ensures same_slots { enc.new ≡ record enc.old { sets = enc.new.sets } }
-    ensures full { IsErrOf result SetErr.Full → NoRoom AnySet 8 enc.old.sets enc.new.sets }
+    ensures full { IsErrOf result SetErr.Full → (width : ℕ)
+        → NoRoom width 0 0 enc.old.sets enc.new.sets }
 {
     enc.sets_mut().whole()
 }
@@ -450,18 +480,23 @@ fn put_together(enc: &mut Enc, operation: Operation, a: SetId, b: SetId) -> Resu
     ensures answer { OwnsAnswer enc.old.sets enc.new.sets
         (combined operation (set_of enc.old.sets a.0) (set_of enc.old.sets b.0)) result }
     ensures same_slots { enc.new ≡ record enc.old { sets = enc.new.sets } }
-    ensures full { IsErrOf result SetErr.Full → NoRoom AnySet 8 enc.old.sets enc.new.sets }
+    ensures full { IsErrOf result SetErr.Full → (width : ℕ)
+        → Rough enc.old.sets.vars width
+        (combined operation (set_of enc.old.sets a.0) (set_of enc.old.sets b.0))
+        → NoRoom width 0 0 enc.old.sets enc.new.sets }
 {
     operate(enc.sets_mut(), operation, a, b)
 }
 
-#[tactic(auto, using(dd_sets::proofs::RoomSteps::room_for))]
 fn operate(sets: &mut Sets, operation: Operation, a: SetId, b: SetId) -> Result<SetId, SetErr>
     requires a_live { IsLive sets.old a.0 }
     requires b_live { IsLive sets.old b.0 }
     ensures answer { OwnsAnswer sets.old sets.new
         (combined operation (set_of sets.old a.0) (set_of sets.old b.0)) result }
-    ensures full { IsErrOf result SetErr.Full → NoRoom AnySet 8 sets.old sets.new }
+    ensures full { IsErrOf result SetErr.Full → (width : ℕ)
+        → Rough sets.old.vars width
+        (combined operation (set_of sets.old a.0) (set_of sets.old b.0))
+        → NoRoom width 0 0 sets.old sets.new }
 {
     match operation {
         Operation::Meet => sets.meet(a, b),
@@ -483,7 +518,9 @@ fn leading(
     ensures answer { (task : Task) → MadeOf task enc.old → OwnsAnswer enc.old.sets enc.new.sets
         (led outcomes task action.0 (set_of enc.old.sets into.0)) result }
     ensures same_slots { enc.new ≡ record enc.old { sets = enc.new.sets } }
-    ensures full { IsErrOf result SetErr.Full → NoRoom AnySet 8 enc.old.sets enc.new.sets }
+    ensures full { IsErrOf result SetErr.Full → (task : Task) → MadeOf task enc.old → (width : ℕ)
+        → PreimageFits width task action.0 (first_of outcomes) (set_of enc.old.sets into.0)
+        → NoRoom width 8 4 enc.old.sets enc.new.sets }
 {
     match outcomes {
         Outcomes::Some => weak_pre(enc, action, into),

@@ -199,6 +199,22 @@ fn run_line(
     Ok(run(alloc, &words, shelf, out, err, world, monitors))
 }
 
+/// Whether the words are answered by this status and these texts, on a shelf of their own.
+fn is_answered(
+    alloc: Global,
+    line: &str,
+    status: u8,
+    text: &str,
+    errors: &str,
+) -> Result<bool, Fail> {
+    let mut shelf = shelf(alloc)?;
+    let mut out = MemSink::new(alloc, 8, 1000)?;
+    let mut err = MemSink::new(alloc, 8, 1000)?;
+    let got = run_line(alloc, line, &mut shelf, &mut out, &mut err)?;
+    Ok(got == status && out.bytes() == text.as_bytes() && err.bytes() == errors.as_bytes())
+}
+
+// The commands stand in a test for each kind, since the check of one long table outgrows its memory.
 #[test]
 fn each_answer_goes_where_it_belongs(rt: HostRuntime) -> Result<(), Fail> {
     let wanted = [
@@ -236,6 +252,17 @@ fn each_answer_goes_where_it_belongs(rt: HostRuntime) -> Result<(), Fail> {
         ("ground longest-d longest-up", 0, LISTING, ""),
         ("ground coin-d eight-d", 3, "", "eight-d:1:1: 5 NoDefine\n"),
         ("ground many-d many", 4, "", "limit instances\n"),
+    ];
+    for (line, status, text, errors) in wanted {
+        let is_so = is_answered(rt.alloc(), line, status, text, errors)?;
+        assert!(rt; is_so, "{line}");
+    }
+    Ok(())
+}
+
+#[test]
+fn each_answer_on_plans_goes_where_it_belongs(rt: HostRuntime) -> Result<(), Fail> {
+    let wanted = [
         ("plan ctl nine-d light", 0, LIGHT_PLAN, ""),
         ("check ctl nine-d light light-plan", 0, "yes\n", ""),
         ("plan ctl coin-d keep", 1, "no plan\n", ""),
@@ -276,6 +303,17 @@ fn each_answer_goes_where_it_belongs(rt: HostRuntime) -> Result<(), Fail> {
             "flips:1:1: 22 WrongPlanKind\n",
         ),
         ("check CTL coin-d both flips", 2, "", NO_COMMAND),
+    ];
+    for (line, status, text, errors) in wanted {
+        let is_so = is_answered(rt.alloc(), line, status, text, errors)?;
+        assert!(rt; is_so, "{line}");
+    }
+    Ok(())
+}
+
+#[test]
+fn each_answer_on_runs_goes_where_it_belongs(rt: HostRuntime) -> Result<(), Fail> {
+    let wanted = [
         ("replay coin-d up plan run", 0, RUN, ""),
         ("replay coin-d up one-context run", 0, NO_STEP, ""),
         ("replay coin-d up plan", 2, "", NO_COMMAND),
@@ -297,6 +335,29 @@ fn each_answer_goes_where_it_belongs(rt: HostRuntime) -> Result<(), Fail> {
             "",
             "stray outcome step 2 word 2 outcomes 2\n",
         ),
+        ("drill corridor 3", 0, CORRIDOR, ""),
+        ("drill tyres 3", 0, TYRES, ""),
+        ("drill corridor 1", 2, "", NO_COMMAND),
+        ("drill corridor 121", 2, "", NO_COMMAND),
+        ("drill tyres 02", 2, "", NO_COMMAND),
+        ("drill Tyres 2", 2, "", NO_COMMAND),
+        (
+            "ground left-out nowhere",
+            3,
+            "",
+            "left-out:1:36: 13 LeftOut :functions\n",
+        ),
+    ];
+    for (line, status, text, errors) in wanted {
+        let is_so = is_answered(rt.alloc(), line, status, text, errors)?;
+        assert!(rt; is_so, "{line}");
+    }
+    Ok(())
+}
+
+#[test]
+fn each_answer_on_states_goes_where_it_belongs(rt: HostRuntime) -> Result<(), Fail> {
+    let wanted = [
         ("plan weak two-d neither", 0, TWO_PLAN, ""),
         ("plan strong two-d neither", 1, "no plan\n", ""),
         ("plan cyclic two-d neither", 1, "no plan\n", ""),
@@ -321,27 +382,10 @@ fn each_answer_goes_where_it_belongs(rt: HostRuntime) -> Result<(), Fail> {
             "",
             "stray outcome step 2 word 0 outcomes 2\n",
         ),
-        ("drill corridor 3", 0, CORRIDOR, ""),
-        ("drill tyres 3", 0, TYRES, ""),
-        ("drill corridor 1", 2, "", NO_COMMAND),
-        ("drill corridor 121", 2, "", NO_COMMAND),
-        ("drill tyres 02", 2, "", NO_COMMAND),
-        ("drill Tyres 2", 2, "", NO_COMMAND),
-        (
-            "ground left-out nowhere",
-            3,
-            "",
-            "left-out:1:36: 13 LeftOut :functions\n",
-        ),
     ];
     for (line, status, text, errors) in wanted {
-        let mut shelf = shelf(rt.alloc())?;
-        let mut out = MemSink::new(rt.alloc(), 8, 1000)?;
-        let mut err = MemSink::new(rt.alloc(), 8, 1000)?;
-        let got = run_line(rt.alloc(), line, &mut shelf, &mut out, &mut err)?;
-        assert_eq!(rt; got, status, "{line}");
-        assert!(rt; out.bytes() == text.as_bytes(), "{line}");
-        assert!(rt; err.bytes() == errors.as_bytes(), "{line}");
+        let is_so = is_answered(rt.alloc(), line, status, text, errors)?;
+        assert!(rt; is_so, "{line}");
     }
     Ok(())
 }

@@ -17,7 +17,7 @@ returns-clause-plan c start chain n h =
 
 pub returns-clause-full : goal.returns-clause-full
 returns-clause-full c start chain n h full =
-    c.close.ensures.room start.enc.sets _ (left_full start (c.write-plan.new.enc, c.write-plan.new.board.slots.items) _ c.write-plan.result (c.write-plan.ensures.left start chain n h) full)
+    c.close.ensures.room start.enc.sets _ _ _ (left_full start (c.write-plan.new.enc, c.write-plan.new.board.slots.items) _ c.write-plan.result (c.write-plan.ensures.left start chain n h) full)
 
 pub returns-clause-slots : goal.returns-clause-slots
 returns-clause-slots c start chain n h =

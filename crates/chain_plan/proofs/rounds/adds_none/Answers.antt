@@ -15,5 +15,5 @@ pub is_same-requires-clause-b : goal.is_same-requires-clause-b
 is_same-requires-clause-b c = low c.requires.ready.0 (c.args.enc.now, c.args.board.now.slots.items) c.requires.ready.1.at 0 (omega arith)
 
 pub returns-in-Growing-clause-none : goal.returns-in-Growing-clause-none
-returns-in-Growing-clause-none c start ready =
-    subst (λ (way : Way). IfOk c.is_joined.result (λ none. none ≡ true → HitsAmong way start (c.args.enc.now, c.args.board.now.slots.items) c.args.a.0)) (sym c.in-Growing.is) (c.is_joined.ensures.joined start ready)
+returns-in-Growing-clause-none c start ready fits =
+    subst (λ (way : Way). IfOk c.is_joined.result (λ none. none ≡ true → HitsAmong way start (c.args.enc.now, c.args.board.now.slots.items) c.args.a.0)) (sym c.in-Growing.is) (c.is_joined.ensures.joined start ready fits)

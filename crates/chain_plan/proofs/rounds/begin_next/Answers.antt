@@ -1,6 +1,9 @@
-use Rattle.std.proofs.Common.{arith, subst, sym}
+use Rattle.chain_plan.proofs.SizeSteps.{fits_none, placed_small}
+use Rattle.chain_plan.specs.Rounds.{turn_by}
+use Rattle.chain_plan.specs.Sizes.{IsSmall}
+use Rattle.std.proofs.Common.{arith, inl, subst, sym}
 use Rattle.slot_board.proofs.BoardSlots.{left_with}
-use Rattle.chain_plan.specs.Scenes.{Left, Scene, board_of}
+use Rattle.chain_plan.specs.Scenes.{Left, Scene, board_of, states_at, sys_of}
 use Rattle.chain_plan.specs.Steps.{Leads}
 use Rattle.chain_plan.specs.declared.rounds.Way.{Way}
 use Rattle.chain_plan.proofs.SceneSteps.{low}
@@ -29,17 +32,18 @@ pub copy_of-requires-clause-from : goal.copy_of-requires-clause-from
 copy_of-requires-clause-from c = let r = c.requires.ready in low r.0 (c.args.enc.now, c.args.board.now.slots.items) r.1.at 0 (omega arith)
 
 pub returns-in-Shrinking : goal.returns-in-Shrinking
-returns-in-Shrinking c start ready =
+returns-in-Shrinking c start ready fits =
     let now : Scene = (c.combine.new.enc, c.combine.new.self.slots.items) in
     subst (λ (w : Way). Left start now (Leads w start (c.args.enc.now, c.args.board.now.slots.items) now 0) c.combine.result) (sym c.in-Shrinking.is)
     (left_with (board_of start) c.combine.new.enc c.combine.new.self.slots.items _ _ c.combine.result
     (λ m. leads_none start (c.args.enc.now, c.args.board.now.slots.items) now m)
-    (c.combine.ensures (board_of start) ready.at))
+    (c.combine.ensures (board_of start) ready.at
+    (fits_none start (c.args.enc.now, c.args.board.now.slots.items) (subst (λ (w : Way). IsSmall start (turn_by w (sys_of start) (states_at (c.args.enc.now, c.args.board.now.slots.items) 0) 0)) c.in-Shrinking.is fits))))
 
 pub returns-in-Growing : goal.returns-in-Growing
-returns-in-Growing c start ready =
+returns-in-Growing c start ready fits =
     let now : Scene = (c.copy_of.new.enc, c.copy_of.new.self.slots.items) in
     subst (λ (w : Way). Left start now (Leads w start (c.args.enc.now, c.args.board.now.slots.items) now 0) c.copy_of.result) (sym c.in-Growing.is)
     (left_with (board_of start) c.copy_of.new.enc c.copy_of.new.self.slots.items _ _ c.copy_of.result
     (λ m. leads_copied start (c.args.enc.now, c.args.board.now.slots.items) now m)
-    (c.copy_of.ensures (board_of start) ready.at))
+    (c.copy_of.ensures (board_of start) ready.at (inl (placed_small start (c.args.enc.now, c.args.board.now.slots.items) ready 0 (low start (c.args.enc.now, c.args.board.now.slots.items) ready.at 0 (omega arith)) (inl (omega arith))))))

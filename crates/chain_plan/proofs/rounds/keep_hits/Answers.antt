@@ -1,4 +1,5 @@
-use Rattle.std.proofs.Common.{arith, subst, sym}
+use Rattle.chain_plan.proofs.SizeSteps.{at_small, fits_meet, may_two, placed_small}
+use Rattle.std.proofs.Common.{arith, inl, subst, sym}
 use Rattle.slot_board.proofs.BoardSlots.{left_with}
 use Rattle.chain_plan.specs.Scenes.{Left, Scene, board_of}
 use Rattle.chain_plan.specs.Steps.{KeepsHits}
@@ -20,13 +21,14 @@ pub combine-requires-clause-b : goal.combine-requires-clause-b
 combine-requires-clause-b c = let r = c.requires.ready in low r.0 (c.args.enc.now, c.args.board.now.slots.items) r.1.at 2 (omega arith)
 
 pub returns-in-Shrinking : goal.returns-in-Shrinking
-returns-in-Shrinking c start ready =
+returns-in-Shrinking c start ready fits =
     let now : Scene = (c.combine.new.enc, c.combine.new.self.slots.items) in
     subst (λ (w : Way). Left start now (KeepsHits w start (c.args.enc.now, c.args.board.now.slots.items) now) c.combine.result) (sym c.in-Shrinking.is)
     (left_with (board_of start) c.combine.new.enc c.combine.new.self.slots.items _ _ c.combine.result
     (λ m. keeps_some start (c.args.enc.now, c.args.board.now.slots.items) now m)
-    (c.combine.ensures (board_of start) ready.at))
+    (c.combine.ensures (board_of start) ready.at
+    (fits_meet start 2 _ _ may_two (placed_small start (c.args.enc.now, c.args.board.now.slots.items) ready 0 (low start (c.args.enc.now, c.args.board.now.slots.items) ready.at 0 (omega arith)) (inl (omega arith))) (at_small start (c.args.enc.now, c.args.board.now.slots.items) 2 fits))))
 
 pub returns-in-Growing : goal.returns-in-Growing
-returns-in-Growing c start ready =
+returns-in-Growing c start ready fits =
     subst (λ (w : Way). KeepsHits w start (c.args.enc.now, c.args.board.now.slots.items) (c.args.enc.now, c.args.board.now.slots.items)) (sym c.in-Growing.is) (keeps_all start (c.args.enc.now, c.args.board.now.slots.items) ready)

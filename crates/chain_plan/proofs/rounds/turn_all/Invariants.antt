@@ -1,11 +1,12 @@
 use Rattle.std.proofs.Common.{ℕ}
 use Rattle.chain_plan.specs.Scenes.{IsReady, Start, states_at}
+use Rattle.chain_plan.specs.Sizes.{TurnsFit}
 use Rattle.chain_plan.specs.Steps.{HasTurned}
 use Rattle.chain_plan.proofs.RoundSteps.{left_over}
 use Rattle.chain_plan.proofs.rounds.turn_all.Given as goal
 
 abbrev pub invariant-loop-way : goal.invariant-loop-way
-invariant-loop-way l = (start : Start) → IsReady start (l.fn.enc, l.fn.board.slots.items) → (k : ℕ) × HasTurned l.fn.way start (l.fn.enc, l.fn.board.slots.items) (l.enc, l.board.slots.items) (states_at (l.fn.enc, l.fn.board.slots.items) l.fn.place) k
+invariant-loop-way l = (start : Start) → IsReady start (l.fn.enc, l.fn.board.slots.items) → TurnsFit l.fn.way start (states_at (l.fn.enc, l.fn.board.slots.items) l.fn.place) → (k : ℕ) × HasTurned l.fn.way start (l.fn.enc, l.fn.board.slots.items) (l.enc, l.board.slots.items) (states_at (l.fn.enc, l.fn.board.slots.items) l.fn.place) k
 
 -- how many states may still go, or come
 abbrev pub decreases-loop-way : goal.decreases-loop-way

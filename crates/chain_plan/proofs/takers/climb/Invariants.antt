@@ -1,12 +1,13 @@
-use Rattle.std.proofs.Common.{ℕ}
+use Rattle.std.proofs.Common.{ℕ, ◌+◌}
 use Rattle.chain_plan.specs.Scenes.{IsReady, Start, states_at}
+use Rattle.chain_plan.specs.Sizes.{ClimbsFit}
 use Rattle.chain_plan.specs.Steps.{HasClimbed}
 use Rattle.chain_plan.specs.declared.rounds.Way.TheVariants.{Growing}
 use Rattle.chain_plan.proofs.RoundSteps.{left_over}
 use Rattle.chain_plan.proofs.takers.climb.Given as goal
 
 abbrev pub invariant-loop-enc : goal.invariant-loop-enc
-invariant-loop-enc l = (start : Start) → IsReady start (l.fn.enc, l.fn.board.slots.items) → (k : ℕ) × HasClimbed start (l.fn.enc, l.fn.board.slots.items) (l.enc, l.board.slots.items) l.fn.met l.fn.takers k
+invariant-loop-enc l = (start : Start) → IsReady start (l.fn.enc, l.fn.board.slots.items) → ClimbsFit start (states_at (l.fn.enc, l.fn.board.slots.items) l.fn.met) (λ k. states_at (l.fn.enc, l.fn.board.slots.items) (l.fn.takers + k)) → (k : ℕ) × HasClimbed start (l.fn.enc, l.fn.board.slots.items) (l.enc, l.board.slots.items) l.fn.met l.fn.takers k
 
 -- how many states are not near
 abbrev pub decreases-loop-enc : goal.decreases-loop-enc

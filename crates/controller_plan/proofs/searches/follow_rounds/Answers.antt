@@ -1,8 +1,14 @@
-use Rattle.controller_plan.proofs.Tables.{rounds_live}
+use Rattle.cyclic_plan.specs.Takers.{start_of}
+use Rattle.task_core.specs.declared.classes.Class.TheVariants.{Cyclic}
+use Rattle.controller_plan.proofs.Tables.{rounds_live, width_for}
+use Rattle.mbp_top.proofs.EnoughNodes.{all_bounds}
 use Rattle.controller_plan.proofs.searches.follow_rounds.Goals as goal
 
 pub follow_table-requires : goal.follow_table-requires
-follow_table-requires c = record {
-  live = rounds_live c.args.task.now c.args.enc.now c.cyclic_takers.new.enc c.requires.made c.in_ok-board.field-0 c.in-Some.board c.deref.result.now c.in-Some.is c.deref.ensures.value
-      (c.in_ok-board.ensures.table c.requires.made);
-}
+follow_table-requires c =
+    let task = c.args.task.now in
+    let bounds = all_bounds Cyclic task in
+    record {
+      live = rounds_live (start_of task c.args.enc.now c.requires.made (width_for task) bounds.wide) c.cyclic_takers.new.enc c.in_ok-board.field-0 c.in-Some.board c.deref.result.now c.in-Some.is
+          c.deref.ensures.value (c.in_ok-board.ensures.table c.requires.made (width_for task) bounds);
+    }

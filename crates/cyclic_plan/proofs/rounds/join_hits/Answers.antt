@@ -4,11 +4,12 @@ use Rattle.task_core.specs.Tasks.{action_count}
 use Rattle.plan_theory.specs.Layers.{may_lead}
 use Rattle.cyclic_plan.specs.Stages.{kept_system}
 use Rattle.slot_board.proofs.BoardSlots.{left_with, passed, same_actions, went}
+use Rattle.cyclic_plan.proofs.Premises.{joined_fits}
 use Rattle.cyclic_plan.proofs.StageSteps.{next_joined}
 use Rattle.cyclic_plan.proofs.rounds.join_hits.Goals as goal
 
 pub returns-in_err-hit : goal.returns-in_err-hit
-returns-in_err-hit c start left taken near next ready =
+returns-in_err-hit c start left taken near next ready small =
     let p = err_from_is_err_and c.from_residual.result c.from_residual.ensures.1 in
     passed start c.hit.new.enc c.hit.new.board.slots.items _ _ c.hit.result c.from_residual.result _ c.in_err-hit.was p (c.hit.ensures start left taken near next ready)
 
@@ -39,23 +40,23 @@ take_where-requires-clause-action c =
     omega (arith, c.requires.action)
 
 pub returns-in_err-take_where : goal.returns-in_err-take_where
-returns-in_err-take_where c start left taken near next ready =
+returns-in_err-take_where c start left taken near next ready small =
     let p = err_from_is_err_and c.from_residual-in_err-take_where.result c.from_residual-in_err-take_where.ensures.1 in
     let h = went start c.hit.new.enc c.hit.new.board.slots.items _ c.hit.result _ c.in_ok-hit.was (c.hit.ensures start left taken near next ready) in
-    passed start c.take_where.new.enc c.take_where.new.board.slots.items _ _ c.take_where.result c.from_residual-in_err-take_where.result _ c.in_err-take_where.was p (c.take_where.ensures start left taken near next _ h)
+    passed start c.take_where.new.enc c.take_where.new.board.slots.items _ _ c.take_where.result c.from_residual-in_err-take_where.result _ c.in_err-take_where.was p (c.take_where.ensures start left taken near next _ h small.1)
 
 pub combine-requires-clause-working : goal.combine-requires-clause-working
 combine-requires-clause-working c =
     let r = c.requires.ready in
     let h = went r.0 c.hit.new.enc c.hit.new.board.slots.items _ c.hit.result _ c.in_ok-hit.was (c.hit.ensures r.0 r.1 r.2 r.3 r.4 r.5) in
-    let t = went r.0 c.take_where.new.enc c.take_where.new.board.slots.items _ c.take_where.result _ c.in_ok-take_where.was (c.take_where.ensures r.0 r.1 r.2 r.3 r.4 _ h) in
+    let t = went r.0 c.take_where.new.enc c.take_where.new.board.slots.items _ c.take_where.result _ c.in_ok-take_where.was (c.take_where.ensures r.0 r.1 r.2 r.3 r.4 _ h r.6.1) in
     (r.0, t.by_next.by_near.round.at)
 
 pub combine-requires-clause-place : goal.combine-requires-clause-place
 combine-requires-clause-place c =
     let r = c.requires.ready in
     let h = went r.0 c.hit.new.enc c.hit.new.board.slots.items _ c.hit.result _ c.in_ok-hit.was (c.hit.ensures r.0 r.1 r.2 r.3 r.4 r.5) in
-    let t = went r.0 c.take_where.new.enc c.take_where.new.board.slots.items _ c.take_where.result _ c.in_ok-take_where.was (c.take_where.ensures r.0 r.1 r.2 r.3 r.4 _ h) in
+    let t = went r.0 c.take_where.new.enc c.take_where.new.board.slots.items _ c.take_where.result _ c.in_ok-take_where.was (c.take_where.ensures r.0 r.1 r.2 r.3 r.4 _ h r.6.1) in
     let e : length c.take_where.new.board.slots.items ≡ 7 + action_count r.0.task + action_count r.0.task = t.by_next.by_near.round.at.long ∙ t.by_next.by_near.round.places in
     omega arith
 
@@ -66,14 +67,14 @@ pub combine-requires-clause-b : goal.combine-requires-clause-b
 combine-requires-clause-b c =
     let r = c.requires.ready in
     let h = went r.0 c.hit.new.enc c.hit.new.board.slots.items _ c.hit.result _ c.in_ok-hit.was (c.hit.ensures r.0 r.1 r.2 r.3 r.4 r.5) in
-    let t = went r.0 c.take_where.new.enc c.take_where.new.board.slots.items _ c.take_where.result _ c.in_ok-take_where.was (c.take_where.ensures r.0 r.1 r.2 r.3 r.4 _ h) in
+    let t = went r.0 c.take_where.new.enc c.take_where.new.board.slots.items _ c.take_where.result _ c.in_ok-take_where.was (c.take_where.ensures r.0 r.1 r.2 r.3 r.4 _ h r.6.1) in
     let e : length c.take_where.new.board.slots.items ≡ 7 + action_count r.0.task + action_count r.0.task = t.by_next.by_near.round.at.long ∙ t.by_next.by_near.round.places in
     omega arith
 
 pub returns : goal.returns
-returns c start left taken near next ready =
+returns c start left taken near next ready small =
     let h = went start c.hit.new.enc c.hit.new.board.slots.items _ c.hit.result _ c.in_ok-hit.was (c.hit.ensures start left taken near next ready) in
-    let t = went start c.take_where.new.enc c.take_where.new.board.slots.items _ c.take_where.result _ c.in_ok-take_where.was (c.take_where.ensures start left taken near next _ h) in
+    let t = went start c.take_where.new.enc c.take_where.new.board.slots.items _ c.take_where.result _ c.in_ok-take_where.was (c.take_where.ensures start left taken near next _ h small.1) in
     left_with start c.combine.new.enc c.combine.new.self.slots.items _ _ c.combine.result
     (λ m. next_joined start c.take_where.new.enc c.combine.new.enc c.take_where.new.board.slots.items c.combine.new.self.slots.items left _ near next _ t m)
-    (c.combine.ensures start t.by_next.by_near.round.at)
+    (c.combine.ensures start t.by_next.by_near.round.at (joined_fits start c.take_where.new.enc c.take_where.new.board.slots.items 4 left _ near next _ t small.0))

@@ -1,42 +1,49 @@
 use Rattle.task_core.specs.Tasks.{action_count}
 use Rattle.std.proofs.lemmas.Result.{err_from_is_err_and}
-use Rattle.std.proofs.Common.{ℕ, subst, ◌≡◌, ◌+◌, arith, length, ◌∙◌}
+use Rattle.std.proofs.Common.{ℕ, subst, sym, ◌≡◌, ◌+◌, arith, length, ◌∙◌}
 use Rattle.dd_ops.specs.Operations.{and_of}
 use Rattle.slot_board.specs.Board.{led as leads, set_at}
-use Rattle.slot_board.specs.Board.{Moved}
+use Rattle.slot_board.specs.Board.{Fits, Moved}
 use Rattle.slot_board.specs.declared.board.Outcomes.TheVariants as Outcomes
 use Rattle.slot_board.proofs.BoardSlots.{action_within, left_with, went, passed, made_at}
+use Rattle.cyclic_plan.proofs.Premises.{left_lead, pairs_made}
 use Rattle.cyclic_plan.proofs.StageSteps.{pairs_more}
 use Rattle.cyclic_plan.proofs.rounds.keep.Goals as goal
 
 pub combine-requires-clause-working : goal.combine-requires-clause-working
 combine-requires-clause-working c =
     let start = c.requires.ready.0 in
-    (start, (went start c.lead.new.enc c.lead.new.self.slots.items _ c.lead.result _ c.in_ok-lead.was (c.lead.ensures start c.requires.ready.3.round.at)).at)
+    (start, (went start c.lead.new.enc c.lead.new.self.slots.items _ c.lead.result _ c.in_ok-lead.was (c.lead.ensures start c.requires.ready.3.round.at (left_lead start c.args.enc.now c.args.board.now.slots.items _ _ c.requires.ready.3.round c.args.a.0 (action_within start c.args.enc.now c.args.board.now.slots.items c.args.a.0 c.requires.ready.3.round.at c.requires.action)))).at)
 
 pub returns : goal.returns
 returns c start left taken ready =
+    let enc = c.args.enc.now in
     let old = c.args.board.now.slots.items in
+    let mid = c.lead.new.enc in
+    let half = c.lead.new.self.slots.items in
     let a = c.args.a.0 in
     let at = ready.round.at in
-    let led = went start c.lead.new.enc c.lead.new.self.slots.items _ c.lead.result _ c.in_ok-lead.was (c.lead.ensures start at) in
+    let place = c.pairs_of-pairs.ensures in
+    let l = action_within start enc old a at c.requires.action in
+    let led = went start mid half _ c.lead.result _ c.in_ok-lead.was (c.lead.ensures start at (left_lead start enc old left taken ready.round a l)) in
+    let first = subst (λ (p : ℕ). Moved start enc.sets old mid half p (leads Outcomes.Every start.task a (set_at enc.sets old 1))) place led in
     left_with start c.combine.new.enc c.combine.new.self.slots.items _ _ c.combine.result
     (λ met.
-    pairs_more start c.args.enc.now c.lead.new.enc c.combine.new.enc old c.lead.new.self.slots.items c.combine.new.self.slots.items a left taken (action_within start c.args.enc.now old a at c.requires.action) ready
-    (subst (λ (p : ℕ). Moved start c.args.enc.now.sets old c.lead.new.enc c.lead.new.self.slots.items p (leads Outcomes.Every start.task a (set_at c.args.enc.now.sets old 1))) c.pairs_of-pairs.ensures led)
-    (subst (λ (p : ℕ). Moved start c.lead.new.enc.sets c.lead.new.self.slots.items c.combine.new.enc c.combine.new.self.slots.items p (and_of (set_at c.lead.new.enc.sets c.lead.new.self.slots.items p) (set_at c.lead.new.enc.sets c.lead.new.self.slots.items 2))) c.pairs_of-pairs.ensures met))
-    (c.combine.ensures start led.at)
+    pairs_more start enc mid c.combine.new.enc old half c.combine.new.self.slots.items a left taken l ready first
+    (subst (λ (p : ℕ). Moved start mid.sets half c.combine.new.enc c.combine.new.self.slots.items p (and_of (set_at mid.sets half p) (set_at mid.sets half 2))) place met))
+    (c.combine.ensures start led.at
+    (subst (λ (p : ℕ). Fits start c.pairs_of-pairs.result (and_of (set_at mid.sets half p) (set_at mid.sets half 2))) (sym place) (pairs_made start enc mid old half a c.pairs_of-pairs.result left taken l ready first)))
 
 pub returns-in_err-lead : goal.returns-in_err-lead
 returns-in_err-lead c start left taken ready =
     let p = err_from_is_err_and c.from_residual.result c.from_residual.ensures.1 in
-    passed start c.lead.new.enc c.lead.new.self.slots.items _ _ c.lead.result c.from_residual.result _ c.in_err-lead.was p (c.lead.ensures start ready.round.at)
+    passed start c.lead.new.enc c.lead.new.self.slots.items _ _ c.lead.result c.from_residual.result _ c.in_err-lead.was p (c.lead.ensures start ready.round.at (left_lead start c.args.enc.now c.args.board.now.slots.items left taken ready.round c.args.a.0 (action_within start c.args.enc.now c.args.board.now.slots.items c.args.a.0 ready.round.at c.requires.action)))
 
 pub combine-requires-clause-place : goal.combine-requires-clause-place
 combine-requires-clause-place c =
     let start = c.requires.ready.0 in
     let at = c.requires.ready.3.round.at in
-    let now = (went start c.lead.new.enc c.lead.new.self.slots.items _ c.lead.result _ c.in_ok-lead.was (c.lead.ensures start at)).at in
+    let now = (went start c.lead.new.enc c.lead.new.self.slots.items _ c.lead.result _ c.in_ok-lead.was (c.lead.ensures start at (left_lead start c.args.enc.now c.args.board.now.slots.items _ _ c.requires.ready.3.round c.args.a.0 (action_within start c.args.enc.now c.args.board.now.slots.items c.args.a.0 at c.requires.action)))).at in
     let e : length c.lead.new.self.slots.items ≡ 7 + action_count start.task + action_count start.task = now.long ∙ c.requires.ready.3.round.places in
     let actions : length c.args.enc.now.actions ≡ action_count start.task = (made_at start c.args.enc.now c.args.board.now.slots.items at).actions in
     omega (arith, c.pairs_of-pairs.ensures, c.requires.action)
@@ -45,7 +52,7 @@ pub combine-requires-clause-a : goal.combine-requires-clause-a
 combine-requires-clause-a c =
     let start = c.requires.ready.0 in
     let at = c.requires.ready.3.round.at in
-    let now = (went start c.lead.new.enc c.lead.new.self.slots.items _ c.lead.result _ c.in_ok-lead.was (c.lead.ensures start at)).at in
+    let now = (went start c.lead.new.enc c.lead.new.self.slots.items _ c.lead.result _ c.in_ok-lead.was (c.lead.ensures start at (left_lead start c.args.enc.now c.args.board.now.slots.items _ _ c.requires.ready.3.round c.args.a.0 (action_within start c.args.enc.now c.args.board.now.slots.items c.args.a.0 at c.requires.action)))).at in
     let e : length c.lead.new.self.slots.items ≡ 7 + action_count start.task + action_count start.task = now.long ∙ c.requires.ready.3.round.places in
     let actions : length c.args.enc.now.actions ≡ action_count start.task = (made_at start c.args.enc.now c.args.board.now.slots.items at).actions in
     omega (arith, c.pairs_of-pairs.ensures, c.requires.action)
@@ -54,7 +61,7 @@ pub combine-requires-clause-b : goal.combine-requires-clause-b
 combine-requires-clause-b c =
     let start = c.requires.ready.0 in
     let at = c.requires.ready.3.round.at in
-    let now = (went start c.lead.new.enc c.lead.new.self.slots.items _ c.lead.result _ c.in_ok-lead.was (c.lead.ensures start at)).at in
+    let now = (went start c.lead.new.enc c.lead.new.self.slots.items _ c.lead.result _ c.in_ok-lead.was (c.lead.ensures start at (left_lead start c.args.enc.now c.args.board.now.slots.items _ _ c.requires.ready.3.round c.args.a.0 (action_within start c.args.enc.now c.args.board.now.slots.items c.args.a.0 at c.requires.action)))).at in
     let e : length c.lead.new.self.slots.items ≡ 7 + action_count start.task + action_count start.task = now.long ∙ c.requires.ready.3.round.places in
     let actions : length c.args.enc.now.actions ≡ action_count start.task = (made_at start c.args.enc.now c.args.board.now.slots.items at).actions in
     omega (arith, c.pairs_of-pairs.ensures, c.requires.action)

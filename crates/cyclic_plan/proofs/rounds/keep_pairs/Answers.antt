@@ -2,6 +2,7 @@ use Rattle.std.proofs.Common.{◌≡◌, arith, length}
 use Rattle.std.proofs.lemmas.Result.{err_from_is_err_and}
 use Rattle.task_core.specs.Tasks.{action_count}
 use Rattle.slot_board.proofs.BoardSlots.{made_at, passed, same_actions, went}
+use Rattle.cyclic_plan.proofs.Premises.{outside_made}
 use Rattle.cyclic_plan.proofs.StageSteps.{pairs_all, outside_found}
 use Rattle.cyclic_plan.proofs.rounds.keep_pairs.Goals as goal
 
@@ -27,9 +28,9 @@ returns c start left taken ready =
 pub returns-in_err-combine : goal.returns-in_err-combine
 returns-in_err-combine c start left taken ready =
     let p = err_from_is_err_and c.from_residual.result c.from_residual.ensures.1 in
-    passed start c.combine.new.enc c.combine.new.self.slots.items _ _ c.combine.result c.from_residual.result _ c.in_err-combine.was p (c.combine.ensures start ready.at)
+    passed start c.combine.new.enc c.combine.new.self.slots.items _ _ c.combine.result c.from_residual.result _ c.in_err-combine.was p (c.combine.ensures start ready.at (outside_made start c.args.enc.now c.args.board.now.slots.items left taken ready))
 
 pub loop-a-init : goal.loop-a-init
 loop-a-init c start left taken ready =
     outside_found start c.args.enc.now c.combine.new.enc c.args.board.now.slots.items c.combine.new.self.slots.items left taken ready
-    (went start c.combine.new.enc c.combine.new.self.slots.items _ c.combine.result _ c.in_ok-combine.was (c.combine.ensures start ready.at))
+    (went start c.combine.new.enc c.combine.new.self.slots.items _ c.combine.result _ c.in_ok-combine.was (c.combine.ensures start ready.at (outside_made start c.args.enc.now c.args.board.now.slots.items left taken ready)))

@@ -7,6 +7,7 @@ use Rattle.cyclic_plan.specs.Stages.{none_taken}
 use Rattle.slot_board.proofs.BoardSlots.{same_actions, same_fluents, went}
 use Rattle.cyclic_plan.proofs.Answered.{lost_is, near_covered_is, rounds_ended, rounds_refused}
 use Rattle.cyclic_plan.proofs.PlanMade.{near_stays}
+use Rattle.cyclic_plan.proofs.Premises.{test_left, test_near}
 use Rattle.cyclic_plan.proofs.RoundsMade.{round_last, round_less}
 use Rattle.cyclic_plan.proofs.rounds.last_round.Goals as goal
 
@@ -49,7 +50,7 @@ pub returns-in_err-covers_initial : goal.returns-in_err-covers_initial
 returns-in_err-covers_initial c start ready =
     let p = err_from_is_err_and c.from_residual-in_err-covers_initial.result c.from_residual-in_err-covers_initial.ensures.1 in
     let k = c.loop-board.invariant start ready in
-    rounds_refused start c.covers_initial.new.enc c.loop-board.board.slots.items _ c.covers_initial.result c.from_residual-in_err-covers_initial.result _ c.in_err-covers_initial.was p (c.covers_initial.ensures.left start k.1.round.at)
+    rounds_refused start c.covers_initial.new.enc c.loop-board.board.slots.items _ c.covers_initial.result c.from_residual-in_err-covers_initial.result _ c.in_err-covers_initial.was p (c.covers_initial.ensures.left start k.1.round.at (test_near start c.loop-board.enc c.loop-board.board.slots.items _ _ k.1.round))
 
 pub returns-then-not-branch : goal.returns-then-not-branch
 returns-then-not-branch c start ready =
@@ -58,21 +59,21 @@ returns-then-not-branch c start ready =
     let e : c.in_ok-covers_initial.field-0 ≡ list_all (round sys (suc k.0)) sys.initial =
     c.in_ok-covers_initial.ensures.answer start k.1.round.at ∙ near_covered_is start c.loop-board.enc c.loop-board.board.slots.items (round sys k.0) none_taken (round sys (suc k.0)) k.1 in
     let short : list_all (round sys (suc k.0)) sys.initial ≡ false = sym e ∙ (let h = c.if-not-branch.true in cc) in
-    ((near_stays start c.loop-board.enc c.covers_initial.new.enc c.loop-board.board.slots.items (round sys k.0) none_taken (round sys (suc k.0)) k.1 (c.in_ok-covers_initial.ensures.left start k.1.round.at)).round.at, lost_is start.task (suc k.0) short)
+    ((near_stays start c.loop-board.enc c.covers_initial.new.enc c.loop-board.board.slots.items (round sys k.0) none_taken (round sys (suc k.0)) k.1 (c.in_ok-covers_initial.ensures.left start k.1.round.at (test_near start c.loop-board.enc c.loop-board.board.slots.items _ _ k.1.round))).round.at, lost_is start.task (suc k.0) short)
 
 pub next_round-requires-clause-ready : goal.next_round-requires-clause-ready
 next_round-requires-clause-ready c =
     let r = c.requires.ready in
     let k = c.loop-board.invariant r.0 r.1 in
     let sys = system_of r.0.task in
-    (r.0, k.0, near_stays r.0 c.loop-board.enc c.covers_initial.new.enc c.loop-board.board.slots.items (round sys k.0) none_taken (round sys (suc k.0)) k.1 (c.in_ok-covers_initial.ensures.left r.0 k.1.round.at))
+    (r.0, k.0, near_stays r.0 c.loop-board.enc c.covers_initial.new.enc c.loop-board.board.slots.items (round sys k.0) none_taken (round sys (suc k.0)) k.1 (c.in_ok-covers_initial.ensures.left r.0 k.1.round.at (test_near r.0 c.loop-board.enc c.loop-board.board.slots.items _ _ k.1.round)))
 
 pub next_round-requires-clause-actions : goal.next_round-requires-clause-actions
 next_round-requires-clause-actions c =
     let r = c.requires.ready in
     let k = c.loop-board.invariant r.0 r.1 in
     let sys = system_of r.0.task in
-    let t = near_stays r.0 c.loop-board.enc c.covers_initial.new.enc c.loop-board.board.slots.items (round sys k.0) none_taken (round sys (suc k.0)) k.1 (c.in_ok-covers_initial.ensures.left r.0 k.1.round.at) in
+    let t = near_stays r.0 c.loop-board.enc c.covers_initial.new.enc c.loop-board.board.slots.items (round sys k.0) none_taken (round sys (suc k.0)) k.1 (c.in_ok-covers_initial.ensures.left r.0 k.1.round.at (test_near r.0 c.loop-board.enc c.loop-board.board.slots.items _ _ k.1.round)) in
     let e : length c.covers_initial.new.enc.actions ≡ length c.args.enc.now.actions = same_actions r.0 c.args.enc.now c.covers_initial.new.enc c.args.board.now.slots.items c.loop-board.board.slots.items r.1.at t.round.at in
     omega (arith, c.requires.actions)
 
@@ -81,7 +82,7 @@ returns-in_err-next_round c start ready =
     let p = err_from_is_err_and c.from_residual-in_err-next_round.result c.from_residual-in_err-next_round.ensures.1 in
     let k = c.loop-board.invariant start ready in
     let sys = system_of start.task in
-    let t = near_stays start c.loop-board.enc c.covers_initial.new.enc c.loop-board.board.slots.items (round sys k.0) none_taken (round sys (suc k.0)) k.1 (c.in_ok-covers_initial.ensures.left start k.1.round.at) in
+    let t = near_stays start c.loop-board.enc c.covers_initial.new.enc c.loop-board.board.slots.items (round sys k.0) none_taken (round sys (suc k.0)) k.1 (c.in_ok-covers_initial.ensures.left start k.1.round.at (test_near start c.loop-board.enc c.loop-board.board.slots.items _ _ k.1.round)) in
     rounds_refused start c.next_round.new.enc c.next_round.new.board.slots.items _ c.next_round.result c.from_residual-in_err-next_round.result _ c.in_err-next_round.was p (c.next_round.ensures start k.0 t)
 
 pub loop-board-smaller : goal.loop-board-smaller
@@ -91,7 +92,7 @@ loop-board-smaller c =
     let sys = system_of r.0.task in
     let now = c.next_round.new.enc in
     let slots = c.next_round.new.board.slots.items in
-    let t = near_stays r.0 c.loop-board.enc c.covers_initial.new.enc c.loop-board.board.slots.items (round sys k.0) none_taken (round sys (suc k.0)) k.1 (c.in_ok-covers_initial.ensures.left r.0 k.1.round.at) in
+    let t = near_stays r.0 c.loop-board.enc c.covers_initial.new.enc c.loop-board.board.slots.items (round sys k.0) none_taken (round sys (suc k.0)) k.1 (c.in_ok-covers_initial.ensures.left r.0 k.1.round.at (test_near r.0 c.loop-board.enc c.loop-board.board.slots.items _ _ k.1.round)) in
     let after = went r.0 now slots _ c.next_round.result _ c.in_ok-next_round.was (c.next_round.ensures r.0 k.0 t) in
     round_less r.0 c.loop-board.enc now c.loop-board.board.slots.items slots k.0 c.args.enc.now.fluents k.1
     (λ same. let e = c.is_same.ensures.1 same in let f = c.loop-board-test.true in cc)
@@ -101,7 +102,7 @@ pub loop-board-preserved : goal.loop-board-preserved
 loop-board-preserved c start ready =
     let k = c.loop-board.invariant start ready in
     let sys = system_of start.task in
-    let t = near_stays start c.loop-board.enc c.covers_initial.new.enc c.loop-board.board.slots.items (round sys k.0) none_taken (round sys (suc k.0)) k.1 (c.in_ok-covers_initial.ensures.left start k.1.round.at) in
+    let t = near_stays start c.loop-board.enc c.covers_initial.new.enc c.loop-board.board.slots.items (round sys k.0) none_taken (round sys (suc k.0)) k.1 (c.in_ok-covers_initial.ensures.left start k.1.round.at (test_near start c.loop-board.enc c.loop-board.board.slots.items _ _ k.1.round)) in
     (suc k.0, went start c.next_round.new.enc c.next_round.new.board.slots.items _ c.next_round.result _ c.in_ok-next_round.was (c.next_round.ensures start k.0 t))
 
 pub covers_initial-requires-2-clause-working : goal.covers_initial-requires-2-clause-working
@@ -118,4 +119,4 @@ returns c start ready =
     let k = c.loop-board.invariant start ready in
     rounds_ended start c.loop-board.enc c.covers_initial-2.new.enc c.loop-board.board.slots.items k.0 c.covers_initial-2.result
     (round_last start c.loop-board.enc c.loop-board.board.slots.items k.0 k.1 (c.is_same.ensures.0 (let f = c.loop-board-test.false in cc))) k.1
-    (c.covers_initial-2.ensures.left start k.1.round.at) (c.covers_initial-2.ensures.answer start k.1.round.at)
+    (c.covers_initial-2.ensures.left start k.1.round.at (test_left start c.loop-board.enc c.loop-board.board.slots.items _ _ k.1.round)) (c.covers_initial-2.ensures.answer start k.1.round.at)

@@ -3,12 +3,12 @@ use Rattle.task_core.specs.Cubes.{SetOfVectors}
 use Rattle.task_core.specs.Vectors.{all_vectors, value_of}
 use Rattle.slot_board.specs.Board.{set_at}
 use Rattle.slot_board.specs.Board.{Start}
-use Rattle.cyclic_plan.specs.Stages.{HasNear, HasStep, none_taken}
+use Rattle.cyclic_plan.specs.Stages.{AreTakersSmall, HasNear, HasStep, none_taken}
 use Rattle.plan_theory.proofs.RoundSteps.{held}
 use Rattle.cyclic_plan.proofs.rounds.spread.Given as goal
 
 abbrev pub invariant-loop-enc : goal.invariant-loop-enc
-invariant-loop-enc l = (start : Start) (left near : SetOfVectors) → HasNear start l.fn.enc l.fn.board.slots.items left none_taken near
+invariant-loop-enc l = (start : Start) (left near : SetOfVectors) → HasNear start l.fn.enc l.fn.board.slots.items left none_taken near → AreTakersSmall start l.fn.taking left
     → (k : ℕ) × HasStep start l.enc l.board.slots.items left l.fn.taking k
 
 -- how many states are not near

@@ -1,12 +1,11 @@
 -- One literal more.
-use Rattle.std.proofs.Common.{◌≡◌, ◌+◌, ◌++◌, ◌∙◌, ◌≤◌, ◌<◌, ◌&&◌, [], ◌∷◌, ℕ, false, append-nil, take, get_or, arith, ap, refl, subst, sym}
+use Rattle.std.proofs.Common.{Contains, ◌≡◌, ◌+◌, ◌++◌, ◌∙◌, ◌≤◌, ◌<◌, ◌&&◌, [], ◌∷◌, ℕ, false, append-nil, take, get_or, arith, ap, refl, subst, sym}
 use Rattle.std.specs.List.{list_all}
 use Rattle.std.proofs.lemmas.Bool.{and_parts, ltb-true}
 use Rattle.std.proofs.lemmas.List.{append_assoc, take_all, take_more}
 use Rattle.std.proofs.lemmas.Result.{err_from_is_err_and}
 use Rattle.dd_sets.specs.LiveSets.{live_count}
 use Rattle.dd_sets.proofs.FrameLemmas.{kept_chain, kept_same}
-use Rattle.dd_sets.proofs.RoomSteps.{room_before}
 use Rattle.task_core.specs.Conditions.{ids_below}
 use Rattle.task_core.specs.Cubes.{Cube}
 use Rattle.task_core.specs.Initial.{lit_within}
@@ -14,6 +13,10 @@ use Rattle.task_core.specs.declared.literals.Lit.{Lit}
 use Rattle.encode_task.specs.Counts.{left_by}
 use Rattle.encode_task.specs.Tables.{IsDone}
 use Rattle.encode_task.proofs.ChangeLemmas.{lit_passes}
+use Rattle.encode_task.specs.KeptRooms.{AddsSets}
+use Rattle.encode_task.specs.KeptSets.{next_sets}
+use Rattle.encode_task.proofs.KeptLemmas.{adds_chain, adds_same, room_from}
+use Rattle.encode_task.proofs.OutcomeSizes.{outcome_at}
 use Rattle.encode_task.proofs.PartLemmas.{same_refusal_of}
 use Rattle.encode_task.proofs.actions.encode_change.Goals as goal
 
@@ -25,6 +28,7 @@ pub loop-lit-init : goal.loop-lit-init
 loop-lit-init c = record {
   kept = kept_same c.args.sets.now;
   done = λ front done. subst (λ (lits : Cube). IsDone c.args.sets.now c.args.changed.now.items c.args.outcome.now lits) (sym (append-nil front)) done;
+  adds = adds_same (Contains (next_sets c.args.sets.now.vars c.args.outcome.now)) c.args.sets.now;
   only = λ before only. only;
   few = omega arith;
 }
@@ -40,10 +44,11 @@ encode_fluent-requires-clause-fluent c =
     omega arith
 
 pub returns-in_err-encode_fluent-clause-full : goal.returns-in_err-encode_fluent-clause-full
-returns-in_err-encode_fluent-clause-full c full =
+returns-in_err-encode_fluent-clause-full c full w wide small =
     let p = err_from_is_err_and c.from_residual.result c.from_residual.ensures.1 in
-    room_before _ _ c.loop-lit.invariant.kept 208 _ (omega (arith, c.loop-lit.invariant.few))
-    (c.encode_fluent.ensures.full (same_refusal_of c.encode_fluent.result c.from_residual.result _ c.in_err-encode_fluent.was p full))
+    let vars : c.loop-lit.sets.vars ≡ c.args.sets.now.vars = c.loop-lit.invariant.kept.vars in
+    room_from _ _ 208 1 c.loop-lit.invariant.kept c.loop-lit.invariant.adds (omega (arith, c.loop-lit.invariant.few)) (omega arith) (omega arith)
+    (c.encode_fluent.ensures.full (same_refusal_of c.encode_fluent.result c.from_residual.result _ c.in_err-encode_fluent.was p full) w (omega arith) (outcome_at w _ _ c.args.outcome.now vars small))
 
 pub loop-lit-preserved : goal.loop-lit-preserved
 unfolding lit_at
@@ -59,6 +64,8 @@ loop-lit-preserved c =
           subst (λ (l : Cube). IsDone c.encode_fluent.new.sets c.encode_fluent.new.changed.items c.args.outcome.now l)
           (append_assoc front (take c.loop-lit.lit-index lits) (lit_at lits c.loop-lit.lit-index ∷ []) ∙ ap (λ (l : Cube). front ++ l) (sym more))
           (c.in_ok-encode_fluent.ensures.step _ (lit_at lits c.loop-lit.lit-index) refl (c.loop-lit.invariant.done front done));
+      adds = adds_chain (Contains (next_sets c.args.sets.now.vars c.args.outcome.now)) _ _ _ c.encode_fluent.ensures.kept c.loop-lit.invariant.adds
+          (subst (λ v. AddsSets (Contains (next_sets v c.args.outcome.now)) c.loop-lit.sets c.encode_fluent.new.sets) vars c.in_ok-encode_fluent.ensures.adds);
       only = λ before only. c.in_ok-encode_fluent.ensures.only before (c.loop-lit.invariant.only before only);
       few = omega (arith, c.loop-lit.invariant.few);
     }

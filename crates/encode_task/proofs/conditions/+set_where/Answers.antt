@@ -1,14 +1,17 @@
 -- A condition's set from those of its parts.
-use Rattle.std.proofs.Common.{◌+◌, take, ◌∷◌, [], ◌∙◌, Err, sym, ap, subst, arith}
+use Rattle.std.proofs.Common.{ℕ, ◌+◌, take, ◌∷◌, [], ◌∙◌, Err, sym, ap, subst}
 use Rattle.std.proofs.lemmas.Result.{err_from_is_err_and}
 use Rattle.dd_sets.specs.Frames.{Owns, OwnsAnswer}
 use Rattle.dd_ops.specs.Operations.{not_of}
 use Rattle.dd_sets.specs.LiveSets.{everything, nothing}
-use Rattle.task_core.specs.Conditions.{holds}
+use Rattle.dd_sets.specs.Rooms.{NoRoom}
+use Rattle.encode_task.specs.WorkingSets.{AreSmall, IsPartOf}
+use Rattle.task_core.specs.Conditions.{depth, holds}
 use Rattle.dd_nodes.specs.Subfunctions.{Function}
-use Rattle.dd_sets.proofs.RoomSteps.{room_for, room_owned}
+use Rattle.dd_sets.proofs.RoomSteps.{room_for}
+use Rattle.dd_sets.proofs.SizeLemmas.{small_rough}
 use Rattle.dd_sets.proofs.OwnedLemmas.{answered, both}
-use Rattle.encode_task.proofs.PartLemmas.{all_more, some_more, all_parts, some_parts, all_deeper, some_deeper, not_part, all_hold, some_hold, rest_below, all_begin_below, some_begin_below, answer_slot, answer_refusal, room_part}
+use Rattle.encode_task.proofs.PartLemmas.{all_more, some_more, all_parts, some_parts, not_part, all_hold, some_hold, rest_below, all_begin_below, some_begin_below, answer_slot, answer_refusal, fluent_part, room_all, room_some, room_not, room_not_part}
 use Rattle.encode_task.proofs.conditions.+set_where.Goals as goal
 
 pub loop-part-preserved : goal.loop-part-preserved
@@ -29,11 +32,10 @@ returns-in_err-all-in-All-2-clause-answer t c =
     (c.in_both.ensures.answer _ _ _ (both _ _ _ c.loop-part.all _ _ c.set_where-answer.result c.loop-part.invariant.owns c.set_where-answer.ensures.answer))
 
 pub returns-in_err-all-in-All-2-clause-full : goal.returns-in_err-all-in-All-2-clause-full
-returns-in_err-all-in-All-2-clause-full t c full =
+returns-in_err-all-in-All-2-clause-full t c full w small =
     let p = err_from_is_err_and c.from_residual-in_err-all-in-All-2.result c.from_residual-in_err-all-in-All-2.ensures.1 in
-    room_part _ _ _ c.loop-part.all _ _ c.set_where-answer.result _ _ c.loop-part.invariant.owns c.set_where-answer.ensures.answer c.set_where-answer.ensures.full
-    (all_deeper _ _ _ c.loop-part.part-index c.part-item.result c.in-All.is c.deref-part-items.ensures.value c.loop-part-test.true c.part-item.is)
-    (c.in_both.ensures.full (c.in_err-all-in-All-2.was ∙ ap Err (sym p.2) ∙ sym p.1 ∙ full))
+    room_all w c.args.cond.now _ _ c.loop-part.part-index c.part-item.result _ _ _ c.loop-part.all c.set_where-answer.result c.in-All.is c.deref-part-items.ensures.value c.loop-part-test.true c.part-item.is small
+    c.loop-part.invariant.owns c.set_where-answer.ensures.answer c.set_where-answer.ensures.full (c.in_both.ensures.full (c.in_err-all-in-All-2.was ∙ ap Err (sym p.2) ∙ sym p.1 ∙ full))
 
 pub returns-after-loop-part-clause-answer : goal.returns-after-loop-part-clause-answer
 returns-after-loop-part-clause-answer t c =
@@ -58,10 +60,10 @@ returns-in_err-any-in-Any-2-clause-answer t c =
     (c.in_some.ensures.answer _ _ _ (both _ _ _ c.loop-part-2.any _ _ c.set_where-answer-in-loop-part-2.result c.loop-part-2.invariant.owns c.set_where-answer-in-loop-part-2.ensures.answer))
 
 pub returns-in_err-any-in-Any-2-clause-full : goal.returns-in_err-any-in-Any-2-clause-full
-returns-in_err-any-in-Any-2-clause-full t c full =
+returns-in_err-any-in-Any-2-clause-full t c full w small =
     let p = err_from_is_err_and c.from_residual-in_err-any-in-Any-2.result c.from_residual-in_err-any-in-Any-2.ensures.1 in
-    room_part _ _ _ c.loop-part-2.any _ _ c.set_where-answer-in-loop-part-2.result _ _ c.loop-part-2.invariant.owns c.set_where-answer-in-loop-part-2.ensures.answer c.set_where-answer-in-loop-part-2.ensures.full
-    (some_deeper _ _ _ c.loop-part-2.part-index c.part-item-in-loop-part-2.result c.in-Any.is c.deref-part-items-in-Any.ensures.value c.loop-part-2-test.true c.part-item-in-loop-part-2.is)
+    room_some w c.args.cond.now _ _ c.loop-part-2.part-index c.part-item-in-loop-part-2.result _ _ _ c.loop-part-2.any c.set_where-answer-in-loop-part-2.result c.in-Any.is c.deref-part-items-in-Any.ensures.value c.loop-part-2-test.true
+    c.part-item-in-loop-part-2.is small c.loop-part-2.invariant.owns c.set_where-answer-in-loop-part-2.ensures.answer c.set_where-answer-in-loop-part-2.ensures.full
     (c.in_some.ensures.full (c.in_err-any-in-Any-2.was ∙ ap Err (sym p.2) ∙ sym p.1 ∙ full))
 
 pub returns-after-loop-part-2-clause-answer : goal.returns-after-loop-part-2-clause-answer
@@ -70,7 +72,8 @@ returns-after-loop-part-2-clause-answer t c =
     (some_parts c.args.cond.now _ _ c.loop-part-2.part-index c.in-Any.is c.deref-part-items-in-Any.ensures.value c.loop-part-2-test.false) c.loop-part-2.invariant.owns
 
 pub returns-in-Is-clause-full : goal.returns-in-Is-clause-full
-returns-in-Is-clause-full t c full = room_for _ _ _ (c.of_fluent.ensures.full full) c.of_fluent.ensures.kept.vars c.of_fluent.ensures.kept.limit _
+returns-in-Is-clause-full t c full w small =
+    room_for _ _ _ (c.of_fluent.ensures.full full) c.of_fluent.ensures.kept.vars c.of_fluent.ensures.kept.limit _ 0 (small_rough _ w _ (small _ (fluent_part c.args.cond.now c.in-Is.f c.in-Is.is)))
 
 pub returns-in_ok-inside-in-Not-clause-answer : goal.returns-in_ok-inside-in-Not-clause-answer
 returns-in_ok-inside-in-Not-clause-answer t c =
@@ -79,8 +82,16 @@ returns-in_ok-inside-in-Not-clause-answer t c =
     (c.outside.ensures.answer _ _ (answer_slot _ _ _ c.set_where.result _ c.in_ok-inside-in-Not.was c.set_where.ensures.answer))
 
 pub returns-in_ok-inside-in-Not-clause-full : goal.returns-in_ok-inside-in-Not-clause-full
-returns-in_ok-inside-in-Not-clause-full t c full =
-    room_owned _ _ _ (answer_slot _ _ _ c.set_where.result _ c.in_ok-inside-in-Not.was c.set_where.ensures.answer) 0 _ (omega arith) (c.outside.ensures.full full)
+returns-in_ok-inside-in-Not-clause-full t c full w small =
+    room_not w c.args.cond.now c.in-Not.part _ _ c.in_ok-inside-in-Not.inside c.in-Not.is small
+    (subst (λ part. Owns c.args.sets.now c.set_where.new.sets ((c.in_ok-inside-in-Not.inside.0, holds part) ∷ [])) c.deref.ensures (answer_slot _ _ _ c.set_where.result _ c.in_ok-inside-in-Not.was c.set_where.ensures.answer))
+    (c.outside.ensures.full full)
+
+pub returns-in_err-inside-in-Not-clause-full : goal.returns-in_err-inside-in-Not-clause-full
+returns-in_err-inside-in-Not-clause-full t c full w small =
+    let p = err_from_is_err_and c.from_residual.result c.from_residual.ensures.1 in
+    room_not_part w c.args.cond.now c.in-Not.part _ c.in-Not.is small
+    (subst (λ part. (w : ℕ) → AreSmall c.args.sets.now.vars w (IsPartOf part) → NoRoom w (depth part + 4) 0 c.args.sets.now c.set_where.new.sets) c.deref.ensures (c.set_where.ensures.full (c.in_err-inside-in-Not.was ∙ ap Err (sym p.2) ∙ sym p.1 ∙ full)))
 
 pub loop-part-init : goal.loop-part-init
 loop-part-init t c = record {

@@ -1,15 +1,18 @@
 -- A slot where an outcome leaves the fluent alone.
-use Rattle.std.proofs.Common.{refl, sym, ◌∙◌}
+use Rattle.std.proofs.Common.{arith, refl, sym, ◌∙◌}
 use Rattle.std.proofs.lemmas.Result.{err_from_is_err_and}
 use Rattle.dd_sets.proofs.RoomSteps.{room_for}
+use Rattle.dd_sets.proofs.OperationSizes.{variable_small}
+use Rattle.dd_sets.proofs.SizeLemmas.{small_rough}
 use Rattle.encode_task.proofs.CountLemmas.{actions_leave}
 use Rattle.encode_task.proofs.PartLemmas.{call_slot, same_refusal_of}
 use Rattle.encode_task.proofs.left_alone.share_fluent.Goals as goal
 
 pub returns-in_err-of_fluent-clause-full : goal.returns-in_err-of_fluent-clause-full
-returns-in_err-of_fluent-clause-full c full =
+returns-in_err-of_fluent-clause-full c full w wide =
     let p = err_from_is_err_and c.from_residual.result c.from_residual.ensures.1 in
-    room_for _ _ _ (c.of_fluent.ensures.full (same_refusal_of c.of_fluent.result c.from_residual.result _ c.in_err-of_fluent.was p full)) c.of_fluent.ensures.kept.vars c.of_fluent.ensures.kept.limit 0
+    room_for _ _ _ (c.of_fluent.ensures.full (same_refusal_of c.of_fluent.result c.from_residual.result _ c.in_err-of_fluent.was p full)) c.of_fluent.ensures.kept.vars c.of_fluent.ensures.kept.limit 0 0
+    (small_rough _ w _ (variable_small _ w c.args.f.0 (omega (arith, c.requires))))
 
 pub returns-in_ok-of_fluent-clause-answer : goal.returns-in_ok-of_fluent-clause-answer
 returns-in_ok-of_fluent-clause-answer c = (

@@ -1,7 +1,7 @@
-use Rattle.std.proofs.Common.{inr, rules}
+use Rattle.std.proofs.Common.{inl, inr, rules}
 use Rattle.pddl_ast.specs.Values.{domain_value, problem_value}
 use Rattle.mbp_top.specs.Values.{plan_words_of, shown_of}
-use Rattle.mbp_top.proofs.PlanAnswers.{planned_answer}
+use Rattle.mbp_top.proofs.PlanAnswers.{planned_answer, too_few}
 use Rattle.mbp_top.proofs.plan_command.plan_class.Goals as goal
 
 pub returns-in-Ok-Some : goal.returns-in-Ok-Some
@@ -10,3 +10,10 @@ returns-in-Ok-Some c =
     let domain = domain_value c.args.domain.now in
     let problem = problem_value c.args.problem.now in
     inr (inr (planned_answer asked c.args.class domain problem c.args.task.now (shown_of c.in-Ok-Some.shown) c.requires.class c.requires.task (search rules) (search rules)))
+
+pub returns-in-Err-Full : goal.returns-in-Err-Full
+returns-in-Err-Full c =
+    let asked = plan_words_of c.args.asked.now in
+    let domain = domain_value c.args.domain.now in
+    let problem = problem_value c.args.problem.now in
+    inr (inl (too_few asked c.args.class domain problem c.args.task.now c.requires.class c.requires.task (search rules) (search rules), search rules))

@@ -4,8 +4,10 @@ use Rattle.std.proofs.lemmas.Result.{IfErr-at_err, err_from_is_err_and}
 use Rattle.dd_nodes.specs.Subfunctions.{Function}
 use Rattle.dd_sets.specs.Frames.{Owns}
 use Rattle.dd_sets.specs.LiveSets.{set_of}
+use Rattle.dd_sets.specs.Rooms.{Small}
 use Rattle.dd_sets.specs.declared.errors.SetErr.TheVariants.{Full, Memory}
-use Rattle.task_core.specs.Tasks.{outcomes_at}
+use Rattle.task_core.specs.Tasks.{fluent_count, outcomes_at}
+use Rattle.encode_task.specs.WorkingSets.{ImagesAreSmall}
 use Rattle.encode_task.specs.Slots.{Encoded, outcome_slots}
 use Rattle.dd_sets.proofs.OwnLemmas.{own_one}
 use Rattle.dd_sets.proofs.OwnedLemmas.{answer_kept, one_live}
@@ -14,6 +16,7 @@ use Rattle.encode_task.specs.TaskSets.{lands_set}
 use Rattle.encode_task.proofs.PartLemmas.{answer_refusal, answer_slot, same_refusal}
 use Rattle.preimage.proofs.FrameSteps.{exec_holds, lands_hold, led_answer, made_now, same_chain, still_action}
 use Rattle.preimage.proofs.OutcomeLemmas.{exec_side, side_after, side_emptied, side_more, side_whole}
+use Rattle.preimage.proofs.SizeLemmas.{led_fits, part_fits}
 use Rattle.preimage.proofs.preimages.all_on_side.Goals as goal
 
 pub exec-exec-requires : goal.exec-exec-requires
@@ -28,7 +31,7 @@ returns-in_err-rest-clause-answer c task made =
     answer_refusal _ _ _ _ c.copied.result _ _ _ c.in_err-rest.was p.1 c.copied.ensures.answer
 
 pub returns-in_err-rest-clause-full : goal.returns-in_err-rest-clause-full
-returns-in_err-rest-clause-full c full =
+returns-in_err-rest-clause-full c full task made width fits =
     let p = err_from_is_err_and c.from_residual.result c.from_residual.ensures.1 in
     let no_room : Full ≡ Memory = IfErr-at_err (λ e. e ≡ Memory) (same_refusal c.copied.result c.from_residual.result _ c.in_err-rest.was p full) c.copied.ensures.never_full in
     cc
@@ -66,7 +69,7 @@ returns-then-is_none-clause-answer c task made =
     (side_emptied c.args.side task c.args.a.0 c.loop-o.o (set_of c.args.enc.now.sets c.args.x.0) within (sym holds ∙ c.is_none.ensures.0 c.if-is_none.true)) owns
 
 pub returns-then-is_none-clause-full : goal.returns-then-is_none-clause-full
-returns-then-is_none-clause-full c full = cc
+returns-then-is_none-clause-full c full task made width fits = cc
 
 pub returns-then-is_none-clause-same_slots : goal.returns-then-is_none-clause-same_slots
 returns-then-is_none-clause-same_slots c = c.loop-o.invariant.same
@@ -129,14 +132,24 @@ returns-in_err-rest-2-clause-answer c task made =
     answer_refusal _ _ _ _ c.part_of.result _ _ _ c.in_err-rest-2.was p.1 (c.part_of.ensures.answer _ _ _ _ _ lands owns led)
 
 pub returns-in_err-rest-2-clause-full : goal.returns-in_err-rest-2-clause-full
-returns-in_err-rest-2-clause-full c full =
+returns-in_err-rest-2-clause-full c full task made width fits =
     let p = err_from_is_err_and c.from_residual-in_err-rest-2.result c.from_residual-in_err-rest-2.ensures.1 in
-    let task = c.requires.made.0 in
-    let made = c.requires.made.1 in
+    let entry = c.args.enc.now.sets in
+    let set = set_of entry c.args.x.0 in
     let owns = c.loop-o.invariant.owns task made in
     let led = led_answer task c.args.enc.now c.loop-o.enc _ c.args.x.0 c.args.a.0 c.loop-o.o c.led_into-led.result c.loop-o.invariant.same owns.kept c.requires.live made c.led_into-led.ensures.added c.led_into-led.ensures.kept c.led_into-led.ensures.refused in
-    room_wider _ 3 8 (omega arith)
-    (c.part_of.ensures.full (same_refusal c.part_of.result c.from_residual-in_err-rest-2.result _ c.in_err-rest-2.was p full) c.args.enc.now.sets c.loop-o.enc.sets _ _ owns led c.led_into-led.ensures.full)
+    let there : length (outcome_slots c.copied.new.enc c.args.a.0) ≡ length (outcome_slots c.args.enc.now c.args.a.0) = ap (λ (e : Encoded). length (outcome_slots e c.args.a.0)) c.copied.ensures.same_slots in
+    let within : c.loop-o.o < length (outcomes_at task c.args.a.0) = omega (arith, c.outcomes-o-end.ensures, made.outcomes c.args.a.0) in
+    let now_made = made_now task c.args.enc.now c.loop-o.enc c.loop-o.invariant.same owns.kept made in
+    let lands = lands_hold task c.led_into-led.new.self c.args.a.0 c.loop-o.o c.lands-lands.result (c.led_into-led.ensures.made task now_made)
+    (still_action c.args.enc.now c.led_into-led.new.self c.args.a.0 (same_chain c.args.enc.now c.loop-o.enc c.led_into-led.new.self c.loop-o.invariant.same c.led_into-led.ensures.same_slots) c.requires.action) within c.lands-lands.ensures in
+    let vars : entry.vars ≡ fluent_count task = made.ready.vars ∙ made.fluents in
+    let asked = led_fits width c.args.side task c.args.a.0 set fits c.loop-o.o within in
+    let stays : set_of c.loop-o.enc.sets c.args.x.0 ≡ set = owns.kept.sets c.args.x.0 c.requires.live in
+    room_wider _ 3 8 2 4 (omega arith) (omega arith)
+    (c.part_of.ensures.full (same_refusal c.part_of.result c.from_residual-in_err-rest-2.result _ c.in_err-rest-2.was p full) entry c.loop-o.enc.sets _ _ _ lands owns led width
+    (part_fits entry.vars width c.args.side task c.args.a.0 set vars fits c.loop-o.o within)
+    (λ refused. c.led_into-led.ensures.full refused task now_made width asked.0 (subst (Small (fluent_count task) width) (sym stays) asked.1) (subst (ImagesAreSmall width task c.args.a.0 c.loop-o.o) (sym stays) asked.2)))
 
 pub returns-in_err-rest-2-clause-same_slots : goal.returns-in_err-rest-2-clause-same_slots
 returns-in_err-rest-2-clause-same_slots c =
@@ -178,7 +191,7 @@ returns-clause-answer c task made =
     subst (λ (f : Function). Owns c.args.enc.now.sets c.loop-o.enc.sets ((c.loop-o.rest.0, f) ∷ [])) (side_whole c.args.side task c.args.a.0 c.loop-o.o (set_of c.args.enc.now.sets c.args.x.0) done) owns
 
 pub returns-clause-full : goal.returns-clause-full
-returns-clause-full c full = cc
+returns-clause-full c full task made width fits = cc
 
 pub returns-clause-same_slots : goal.returns-clause-same_slots
 returns-clause-same_slots c = c.loop-o.invariant.same

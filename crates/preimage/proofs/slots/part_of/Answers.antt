@@ -1,11 +1,14 @@
 -- By the slot of what the outcome leads to states, or without.
-use Rattle.std.proofs.Common.{[], ◌∷◌, arith, ap, sym, subst}
+use Rattle.std.proofs.Common.{arith, sym, subst}
 use Rattle.dd_nodes.specs.Subfunctions.{Function}
 use Rattle.dd_sets.specs.Frames.{OwnsAnswer}
 use Rattle.dd_sets.proofs.OwnedLemmas.{both}
 use Rattle.dd_sets.proofs.RoomSteps.{room_join}
 use Rattle.encode_task.proofs.PartLemmas.{answer_ready}
-use Rattle.preimage.specs.Sides.{on_side}
+use Rattle.dd_sets.specs.LiveSets.{everything}
+use Rattle.dd_sets.specs.Rooms.{Rough}
+use Rattle.preimage.specs.Sides.{PartFits, on_side}
+use Rattle.preimage.proofs.SizeLemmas.{rough_slot, small_rough_slots}
 use Rattle.preimage.proofs.SideLemmas.{lands_none, lands_some}
 use Rattle.preimage.proofs.slots.part_of.Goals as goal
 
@@ -25,6 +28,14 @@ returns-in-None-clause-answer c before now landing f g held owns answer =
     subst (λ (l : Function). OwnsAnswer before c.part_led.new.enc.sets (on_side c.args.side l f g) c.part_led.result)
     (sym (lands_none _ c.args.lands landing c.in-None.is held)) (c.part_led.ensures.answer before f g (both _ _ _ c.args.a f g c.args.b owns answer))
 
+pub returns-in-Some-clause-full : goal.returns-in-Some-clause-full
+returns-in-Some-clause-full c full before now landing f g held owns answer width fits room =
+    c.part_landing.ensures.full full before now f g owns answer width
+    (subst (λ (l : Function). PartFits before.vars width c.args.side l f g) (sym (lands_some _ c.args.lands c.in-Some.lands landing c.in-Some.is held).holds) fits) room
+
 pub returns-in-None-clause-full : goal.returns-in-None-clause-full
-returns-in-None-clause-full c full before now f g owns answer room =
-    room_join before now _ c.args.a f g c.args.b 0 3 owns answer room (omega arith) (omega arith) (c.part_led.ensures.full full)
+returns-in-None-clause-full c full before now landing f g held owns answer width fits room =
+    let left : Rough before.vars width (on_side c.args.side everything f g) = subst (λ (l : Function). Rough before.vars width (on_side c.args.side l f g)) (lands_none _ c.args.lands landing c.in-None.is held) fits.left in
+    room_join (on_side c.args.side everything) before now _ c.args.a f g c.args.b 0 3 0 1 1 2 owns answer room
+    (rough_slot before.vars width 0 f fits.rest) (small_rough_slots before.vars width 0 0 g f fits.led fits.rest) left (omega arith) (omega arith) (omega arith) (omega arith)
+    (λ rough. c.part_led.ensures.full full width rough)

@@ -3,7 +3,9 @@ use Rattle.std.proofs.Common.{◌≡◌, arith, length, subst}
 use Rattle.std.proofs.lemmas.Result.{err_from_is_err_and}
 use Rattle.slot_board.proofs.BoardSlots.{made_at, passed, same_actions, went}
 use Rattle.task_core.specs.Tasks.{action_count}
+use Rattle.reach_plan.specs.Steps.{untaken}
 use Rattle.reach_plan.specs.Searches.{HasGrown}
+use Rattle.reach_plan.proofs.PlaceFits.{layer_copy_fits}
 use Rattle.reach_plan.proofs.SearchSteps.{grown_first}
 use Rattle.reach_plan.proofs.search.grow.Goals as goal
 
@@ -13,12 +15,12 @@ copy_of-requires-clause-working c = let r = c.requires.ready in (r.0, r.3.by_lay
 pub returns-in_err-copy_of : goal.returns-in_err-copy_of
 returns-in_err-copy_of c start f h ready =
     let p = err_from_is_err_and c.from_residual.result c.from_residual.ensures.1 in
-    passed start c.copy_of.new.enc c.copy_of.new.self.slots.items _ _ c.copy_of.result c.from_residual.result _ c.in_err-copy_of.was p (c.copy_of.ensures start ready.by_layer.at)
+    passed start c.copy_of.new.enc c.copy_of.new.self.slots.items _ _ c.copy_of.result c.from_residual.result _ c.in_err-copy_of.was p (c.copy_of.ensures start ready.by_layer.at (layer_copy_fits c.args.class start c.args.enc.now c.args.board.now.slots.items 0 1 f untaken h ready.by_layer ready.known))
 
 pub loop-a-init : goal.loop-a-init
 loop-a-init c start f h ready =
     grown_first c.args.class start c.args.enc.now c.copy_of.new.enc c.args.board.now.slots.items c.copy_of.new.self.slots.items f h c.args.steps.now.items c.args.spent.now.items c.requires.places ready
-    (went start c.copy_of.new.enc c.copy_of.new.self.slots.items _ c.copy_of.result _ c.in_ok-copy_of.was (c.copy_of.ensures start ready.by_layer.at))
+    (went start c.copy_of.new.enc c.copy_of.new.self.slots.items _ c.copy_of.result _ c.in_ok-copy_of.was (c.copy_of.ensures start ready.by_layer.at (layer_copy_fits c.args.class start c.args.enc.now c.args.board.now.slots.items 0 1 f untaken h ready.by_layer ready.known)))
 
 pub grow_by-requires-clause-ready : goal.grow_by-requires-clause-ready
 grow_by-requires-clause-ready c = let r = c.requires.ready in (r.0, r.1, r.2, c.loop-a.invariant r.0 r.1 r.2 r.3)

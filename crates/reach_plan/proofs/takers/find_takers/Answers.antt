@@ -2,7 +2,7 @@
 use Rattle.std.proofs.Common.{◌+◌, ◌≡◌, ◌∙◌, Err, arith, ap, length, sym, subst}
 use Rattle.std.specs.Prelude.{IsSome}
 use Rattle.std.proofs.lemmas.Result.{err_from_is_err_and}
-use Rattle.dd_sets.specs.Rooms.{AnySet, NoRoom}
+use Rattle.dd_sets.specs.Rooms.{NoRoom}
 use Rattle.dd_sets.specs.declared.errors.SetErr.TheVariants.{Full}
 use Rattle.encode_task.specs.Slots.{Encoded}
 use Rattle.slot_board.proofs.BoardSlots.{same_chain}
@@ -17,11 +17,11 @@ pub is_covered-requires-clause-goal : goal.is_covered-requires-clause-goal
 is_covered-requires-clause-goal c = goal_there c.args.task.now c.args.enc.now c.requires.made c.requires.goal
 
 pub returns-in_err-is_covered-clause-full : goal.returns-in_err-is_covered-clause-full
-returns-in_err-is_covered-clause-full c full =
+returns-in_err-is_covered-clause-full c full width wide =
     let count : length c.args.enc.now.actions ≡ action_count c.args.task.now = c.requires.made.actions in
     let p = err_from_is_err_and c.from_residual.result c.from_residual.ensures.1 in
     let same : p.0 ≡ Full = cc in
-    subst (λ n. NoRoom AnySet (n + 24) c.args.enc.now.sets c.is_covered.new.enc.sets) (omega arith) (c.in_err-is_covered.ensures.full (ap Err (sym p.2 ∙ same)))
+    subst (λ n. NoRoom width (n + 24) 16 c.args.enc.now.sets c.is_covered.new.enc.sets) (omega arith) (c.in_err-is_covered.ensures.full (ap Err (sym p.2 ∙ same)) c.args.task.now c.requires.made width wide)
 
 pub returns-in_err-is_covered-clause-made : goal.returns-in_err-is_covered-clause-made
 returns-in_err-is_covered-clause-made c task made = made_now task c.args.enc.now c.is_covered.new.enc c.is_covered.ensures.same_slots c.is_covered.ensures.slots.kept made
@@ -52,11 +52,16 @@ take_all-requires-clause-actions c =
     omega arith
 
 pub returns-in_err-board-clause-full : goal.returns-in_err-board-clause-full
-returns-in_err-board-clause-full c full =
+returns-in_err-board-clause-full c full width wide =
+    let mid = c.is_covered.new.enc in
+    let made = made_now c.args.task.now c.args.enc.now mid c.is_covered.ensures.same_slots c.is_covered.ensures.slots.kept c.requires.made in
+    let decided = subst (IsDecided c.args.class c.args.task.now c.is_covered.new.steps.items) c.if-not-branch.false (c.in_ok-is_covered.ensures.answer c.args.task.now c.requires.made) in
+    let leads = subst (LeadToLast c.args.class c.args.task.now) (sym c.deref.ensures.value) decided in
     let count : length c.args.enc.now.actions ≡ action_count c.args.task.now = c.requires.made.actions in
     let p = err_from_is_err_and c.from_residual-in_err-board.result c.from_residual-in_err-board.ensures.1 in
     let same : p.0 ≡ Full = cc in
-    subst (λ n. NoRoom AnySet (n + 24) c.args.enc.now.sets c.take_all.new.enc.sets) (omega arith) (room_after c.args.enc.now.sets c.is_covered.new.enc.sets c.take_all.new.enc.sets _ c.is_covered.ensures.slots (c.in_err-board.ensures.full (ap Err (sym p.2 ∙ same))))
+    subst (λ n. NoRoom width (n + 24) 16 c.args.enc.now.sets c.take_all.new.enc.sets) (omega arith)
+    (room_after width c.args.enc.now.sets c.is_covered.new.enc.sets c.take_all.new.enc.sets _ 16 c.is_covered.ensures.slots (c.in_err-board.ensures.full (ap Err (sym p.2 ∙ same)) c.args.task.now made leads width wide))
 
 pub returns-in_err-board-clause-refused : goal.returns-in_err-board-clause-refused
 returns-in_err-board-clause-refused c =

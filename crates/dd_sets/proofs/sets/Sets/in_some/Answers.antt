@@ -3,6 +3,7 @@ use Rattle.std.proofs.Common.{inr, Result, sym, subst}
 use Rattle.dd_ops.specs.Operations.{or_of}
 use Rattle.dd_sets.specs.Calls.{MakesOnly}
 use Rattle.dd_sets.specs.Frames.{piece_of}
+use Rattle.dd_sets.specs.Rooms.{AreRough}
 use Rattle.dd_sets.specs.declared.errors.SetErr.{SetErr}
 use Rattle.dd_sets.specs.declared.slots.SetId.{SetId}
 use Rattle.dd_sets.proofs.MadeLemmas.{makes_then}
@@ -10,7 +11,8 @@ use Rattle.dd_sets.proofs.NoRoomLemmas.{no_room_two}
 use Rattle.dd_sets.proofs.sets.Sets.in_some.Goals as goal
 
 pub returns-in-Ok-clause-full : goal.returns-in-Ok-clause-full
-returns-in-Ok-clause-full c full = inr (no_room_two _ _ _ _ _ _ _ (c.join-joined.ensures.full full) c.join-joined.ensures.kept c.release.ensures.released c.release-in-Ok.ensures.released)
+returns-in-Ok-clause-full c full w rough = inr (no_room_two w _ _ _ _ _ _ _ (c.join-joined.ensures.full full) c.join-joined.ensures.kept c.release.ensures.released c.release-in-Ok.ensures.released
+    (subst (λ (answer : Result SetId SetErr). AreRough c.args.self.now.vars w (piece_of or_of c.args.self.now c.args.a answer)) c.in-Ok.is rough))
 
 pub returns-in-Ok-clause-made : goal.returns-in-Ok-clause-made
 returns-in-Ok-clause-made c =

@@ -4,7 +4,7 @@ use Rattle.dd_sets.proofs.NoRoomLemmas.{no_room_one}
 use Rattle.dd_sets.proofs.sets.Sets.outside.Goals as goal
 
 pub returns-clause-full : goal.returns-clause-full
-returns-clause-full c full = no_room_one _ _ _ _ _ (c.complement-complement.ensures.full full) c.complement-complement.ensures.kept c.release.ensures.released
+returns-clause-full c full w rough = no_room_one w _ _ _ _ _ (c.complement-complement.ensures.full full) c.complement-complement.ensures.kept c.release.ensures.released rough
 
 pub returns-clause-made : goal.returns-clause-made
 returns-clause-made c = makes_then _ _ _ _ c.complement-complement.ensures.made c.release.ensures.nodes

@@ -1,4 +1,4 @@
-use Rattle.std.proofs.Common.{◌≡◌, ◌∙◌, List, subst, sym, ap}
+use Rattle.std.proofs.Common.{◌∙◌, List, subst, sym, ap}
 use Rattle.dd_sets.specs.declared.slots.SetId.{SetId}
 use Rattle.dd_sets.proofs.RoomSteps.{room_released}
 use Rattle.slot_board.specs.Board.{Working, set_at}
@@ -15,4 +15,4 @@ returns-in-Some-clause-sets c place l =
     ∙ ap (λ (slots : List SetId). set_at c.args.enc.now.sets slots place) (sym c.in-Some.ensures.items)
 
 pub returns-in-Some-clause-room : goal.returns-in-Some-clause-room
-returns-in-Some-clause-room c before most none = room_released before none c.end.ensures.released
+returns-in-Some-clause-room c before width most others none = room_released before none c.end.ensures.released

@@ -1,0 +1,47 @@
+-- The working sets of a search for a weak or a strong plan, of which the nodes bound what it needs.
+use Rattle.std.specs.Prelude.{ℕ, ◌+◌, ◌<◌, ◌≤◌}
+use Rattle.dd_nodes.specs.Subfunctions.{Function}
+use Rattle.dd_sets.specs.Rooms.{Small}
+use Rattle.encode_task.specs.TaskSets.{first_values, initial_set, space_set}
+use Rattle.encode_task.specs.WorkingSets.{IsMadeByEncode}
+use Rattle.preimage.specs.WorkingSets.{IsMadeByRounds, first_every, first_some}
+use Rattle.task_core.specs.Cubes.{SetOfVectors}
+use Rattle.task_core.specs.Tasks.{action_count, fluent_count, system_of}
+use Rattle.task_core.specs.declared.classes.Class.{Class}
+use Rattle.task_core.specs.declared.classes.Class.TheVariants.{Weak, Strong, Cyclic}
+use Rattle.task_core.specs.declared.tasks.Task.{Task}
+use Rattle.plan_theory.specs.Layers.{layer}
+use Rattle.plan_theory.specs.LayerPlans.{takers}
+
+-- the function that is true on the states of a set
+abbrev pub states_in : Task → SetOfVectors → Function
+states_in task set values = set (first_values (fluent_count task) values)
+
+-- how the first outcomes of an action are to lead into a set: some one of them for weak plans, every
+-- one for strong plans
+abbrev pub first_of : Class → Task → ℕ → ℕ → Function → Function
+first_of Weak = first_some
+first_of Strong = first_every
+first_of Cyclic = first_some
+
+-- the sets of states that are gone back from: the initial states, all states, and each layer
+pub data IsRoundSet (class : Class) (task : Task) : Function → Type 0 where
+  initial_round : IsRoundSet class task (initial_set task)
+  space_round : IsRoundSet class task (space_set task)
+  layer_round : (k : ℕ) → IsRoundSet class task (states_in task (layer class (system_of task) k))
+
+-- the sets that are made of the task, those that belong to a set that is gone back from, and for each
+-- action the states within a layer to which the printed table gives it
+pub data IsWorkingSet (class : Class) (task : Task) : Function → Type 0 where
+  by_task : (set : Function) → IsMadeByEncode task set → IsWorkingSet class task set
+  by_rounds : (set : Function)
+      → IsMadeByRounds task (first_of class) (IsRoundSet class task) set
+      → IsWorkingSet class task set
+  taken : (k a : ℕ) → a < action_count task
+      → IsWorkingSet class task (states_in task (takers class (system_of task) k a))
+
+-- each working set is small by a width, which is more than the fluents by two at least
+pub record IsWide (width : ℕ) (class : Class) (task : Task) : Type 0 where
+  pub wide : fluent_count task + 2 ≤ width
+  pub each : (set : Function) → IsWorkingSet class task set
+      → Small (fluent_count task) width set

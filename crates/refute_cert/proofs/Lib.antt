@@ -1,0 +1,13 @@
+mod StepLemmas
+mod ProgramLemmas
+mod LookLemmas
+mod LeftLemmas
+mod MakeLemmas
+mod JudgeLemmas
+mod LoopLemmas
+mod CubeLoops
+mod VerdictLemmas
+mod UnionLemmas
+mod Sizes
+mod FitLemmas
+mod CubeNodes

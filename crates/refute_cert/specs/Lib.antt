@@ -1,0 +1,5 @@
+pub mod Steps
+pub mod Programs
+pub mod Sets
+pub mod Sizes
+pub mod Judgements

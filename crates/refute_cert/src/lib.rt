@@ -1,0 +1,19 @@
+//! Judges certificates that there is no plan of a class: whether a certificate is accepted, or what is
+//! wrong with it.
+//!
+//! `refute` looks at each set, and at each action that can be executed in it, once. It makes no
+//! fixpoint and stands on no planner: what it shares with these are the sets of a task on diagrams,
+//! the preimages and the slots of a board. What the verdict means is said in `plan_certs`, with the
+//! law that no table is a solution where a certificate is accepted.
+//!
+//! `steps` has what is done on a board as plain data, `making` does it, `programs` says which steps
+//! make the sets of a certificate, and `judging` looks at these sets.
+#![tactic(auto)]
+
+mod judging;
+mod making;
+mod programs;
+mod steps;
+mod verdict;
+
+pub use verdict::{Flaw, Judged, refute};
