@@ -6,7 +6,7 @@ use Rattle.pddl_system.specs.Systems.{system}
 use Rattle.plan_io.specs.Fetches.{FailedLast}
 use Rattle.plan_io.specs.Held.{Held}
 use Rattle.mbp_top.specs.Answers.{Answer, affirmed, denied, full, is_shown, no_command, no_memory, over_limit, refused, status_of, text_of}
-use Rattle.mbp_top.specs.ChainGoals.{ChainThen}
+use Rattle.mbp_top.specs.ContextGoals.{ContextGoalThen}
 use Rattle.mbp_top.specs.Delivery.{IsDelivered, Seen}
 use Rattle.mbp_top.specs.Grounding.{GroundThen}
 use Rattle.mbp_top.specs.InitialStates.{empty_init}

@@ -48,7 +48,7 @@ use Rattle.plan_theory.proofs.Survives.{last_is_largest, left_state, none_withou
 
 module _ (task : Task) (r : ℕ) (last : IsLastRound (system_of task) r) where
   -- the states that the last round leaves are the goal states and those of its pairs
-  all_covered : list_all (round (system_of task) r) (system_of task).initial ≡ true → covers (system_of task) (kept (system_of task) (round (system_of task) r)) ≡ true
+  pub all_covered : list_all (round (system_of task) r) (system_of task).initial ≡ true → covers (system_of task) (kept (system_of task) (round (system_of task) r)) ≡ true
   all_covered all =
       let sys = system_of task in
       list_all-from (goal_or_pair sys (kept sys (round sys r))) sys.initial

@@ -109,6 +109,9 @@ module _ (start : Start) (fit : IsFit start) where
   space_small : (f : Function) → IsMadeByRound start.task first_every (hits_at first_every start.task (space_set start.task)) (space_set start.task) f → IsSmall start f
   space_small f made = fit.wide.each f (by_rounds Outcomes.Every f (space_set start.task, space_round, made))
 
+  pub space_itself : IsSmall start (space_set start.task)
+  space_itself = space_small (space_set start.task) itself
+
   pub initial_small : IsSmall start (initial_set start.task)
   initial_small = fit.wide.each (initial_set start.task) (by_rounds Outcomes.Some (initial_set start.task) (initial_set start.task, initial_round, itself))
 

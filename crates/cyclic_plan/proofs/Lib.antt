@@ -6,3 +6,4 @@ pub mod PlanMade
 pub mod Narrowing
 pub mod Premises
 pub mod Answered
+pub mod CertSteps

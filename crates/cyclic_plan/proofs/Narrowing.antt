@@ -29,7 +29,7 @@ use Rattle.cyclic_plan.proofs.RoundsMade.{left_copied}
 use Rattle.cyclic_plan.proofs.StageSteps.{here, may_restricted, next_still, round_still, still, strong_agrees}
 
 -- a round keeps, of the pairs of states that are left, those that don't lead out of these
-kept_narrowed : (sys : System) (r : ℕ) (v : Vector) (a : ℕ) → kept sys (round sys (suc r)) v a ≡ (must_lead sys (round sys (suc r)) v a && (kept sys (round sys r) v a && round sys (suc r) v))
+pub kept_narrowed : (sys : System) (r : ℕ) (v : Vector) (a : ℕ) → kept sys (round sys (suc r)) v a ≡ (must_lead sys (round sys (suc r)) v a && (kept sys (round sys r) v a && round sys (suc r) v))
 kept_narrowed sys r v a =
     let l : SetOfVectors = round sys (suc r) in
     let b : SetOfVectors = round sys r in

@@ -3,3 +3,4 @@ pub mod Stages
 pub mod Rounds
 pub mod Takers
 pub mod Answers
+pub mod Certificates

@@ -35,14 +35,14 @@ use std::alloc::{AllocError, Global};
 use task_core::{ActionId, Task};
 
 /// How many places the board has for a task with so many actions.
-fn places(actions: u32) -> usize
+pub(crate) fn places(actions: u32) -> usize
     ensures { result ≡ place_count actions }
 {
     7 + actions as usize + actions as usize
 }
 
 /// Puts the goal states and the set of all states at their places.
-fn begin(enc: &mut Enc, board: &mut Board, goal: SetId) -> Result<(), SetErr>
+pub(crate) fn begin(enc: &mut Enc, board: &mut Board, goal: SetId) -> Result<(), SetErr>
     requires ready { (start : Start) × HasNothing start enc.old board.old.slots.items }
     requires goal { enc.old.goal ≡ Some goal }
     ensures { (start : Start) → HasNothing start enc.old board.old.slots.items

@@ -33,7 +33,7 @@ const NEXT: usize = 4;
 /// The states of kept pairs from which an action leads into the near states.
 const HITS: usize = 5;
 /// Those of them that are new, and what else is made on the way to an action's set.
-const NEW: usize = 6;
+pub(crate) const NEW: usize = 6;
 
 /// The place of the states of an action's kept pairs.
 fn pairs_of(a: ActionId) -> usize
@@ -304,7 +304,7 @@ pub(crate) fn spread(
 
 /// One round: the pairs that don't lead out of the states that are left, and the states from which
 /// these pairs reach the goal.
-fn round(enc: &mut Enc, board: &mut Board, actions: u32) -> Result<(), SetErr>
+pub(crate) fn round(enc: &mut Enc, board: &mut Board, actions: u32) -> Result<(), SetErr>
     requires ready { (start : Start) × (left : SetOfVectors)
         × HasRound start enc.old board.old.slots.items left none_taken }
     requires actions { actions ≡ length enc.old.actions }
@@ -390,7 +390,7 @@ fn drop_pairs(enc: &mut Enc, board: &mut Board, actions: u32) -> Result<bool, Se
 
 /// The next round, with the states that the last one left. Where these lose no pair, they are the
 /// states from which the goal is reached, and no step is made.
-fn next_round(enc: &mut Enc, board: &mut Board, actions: u32) -> Result<(), SetErr>
+pub(crate) fn next_round(enc: &mut Enc, board: &mut Board, actions: u32) -> Result<(), SetErr>
     requires ready { (start : Start) × (r : ℕ)
         × HasRounds start enc.old board.old.slots.items r }
     requires actions { actions ≡ length enc.old.actions }

@@ -6,13 +6,13 @@ use Rattle.plan_io.specs.Fetches.{Fetches}
 use Rattle.plan_io.specs.Held.{Held}
 use Rattle.mbp_top.specs.Answers.{Answer, Refusal, refused, status_of, status_of_refusal}
 use Rattle.mbp_top.specs.Fetching.{FetchesFiles, RefusesPlan, Stops}
-use Rattle.mbp_top.specs.Grounding.{GoalThen, GroundThen}
+use Rattle.mbp_top.specs.Grounding.{GoalThen, GroundThen, for_tables}
 use Rattle.mbp_top.specs.Laws.{AreAllFetched}
 use Rattle.mbp_top.specs.PddlTexts.{IsFaultyDomain, IsFaultyProblem, ReadBoth}
 use Rattle.mbp_top.specs.PlanFiles.{IsFaultyPlan}
 use Rattle.mbp_top.specs.Reading.{IsRefusedFile, ReadThen}
 use Rattle.mbp_top.specs.Runs.{FailedIn, HasRun, Run}
-use Rattle.mbp_top.specs.Words.{Bytes, Command, PlanKind, check, drill, files_of, ground, plan, replay}
+use Rattle.mbp_top.specs.Words.{Bytes, Command, PlanKind, check, drill, files_of, ground, plan, refute, replay}
 use Rattle.mbp_top.proofs.Statuses.{whole_delivery}
 use Rattle.pddl_system.specs.Systems.{action_names, fluent_names}
 use Rattle.task_core.specs.Names.{Name}
@@ -106,6 +106,11 @@ module _ {S : Type 0} (held : Bytes → Held) (failed : Bytes → Type 0) (fetch
       (plan_early held failed (fluent_names domain problem) (action_names domain problem) asked.plan a)) stops))
   all_fetched (replay asked) (x, first, inr (holds, (y, second, inr (needed, (z, third, inr (some, rest)))))) = (x, first, (y, second, (z, third, rest)))
   all_fetched (drill asked) same = same
+  all_fetched (refute asked) (x, first, inl (stops, same)) = absurd (not_early (domain_early held failed asked.domain _ a stops))
+  all_fetched (refute asked) (x, first, inr (holds, (y, second, inl (stops, same)))) =
+      absurd (not_early (both_early held failed asked.domain asked.problem (λ domain problem. GoalThen for_tables asked.problem problem (GroundThen domain problem (λ answer. ⊥))) a
+      (λ domain problem. goal_early for_tables asked.problem problem (GroundThen domain problem (λ answer. ⊥)) a (ground_early domain problem (λ answer. ⊥) a (λ never. absurd never))) stops))
+  all_fetched (refute asked) (x, first, inr (holds, (y, second, inr (needed, rest)))) = (x, first, (y, second, rest))
 
 module _ {S : Type 0} (held : S → Bytes → Held) (faults : S → ℕ) (fetched : S → Bytes → S → Type 0) (run : Run S) (has : HasRun held faults fetched run) where
   not_seven : IsLate run.status → run.status ≡ 7 → ⊥

@@ -9,15 +9,17 @@ use Rattle.mbp_top.specs.Answers.{Answer, refused, full, no_command, no_memory}
 use Rattle.mbp_top.specs.Causes.{IsAnswerOf, HasCause}
 use Rattle.mbp_top.specs.DrillCommand.{IsDrillAnswer}
 use Rattle.mbp_top.specs.PlanCommand.{IsPlanAnswer}
+use Rattle.mbp_top.specs.RefuteCommand.{IsRefuteAnswer}
 use Rattle.mbp_top.specs.ReplayCommand.{Tallies}
 use Rattle.mbp_top.specs.Told.{AreFilesTold, IsDue, MayStandIn}
-use Rattle.mbp_top.specs.Words.{Bytes, Command, PlanKind, kind_word, of_class, with_contexts, plan, ground, check, replay, drill, PlanOptions, PlanWords, GroundWords, CheckWords, ReplayWords, DrillWords, DrillKind, corridors, roads, drill_word, IsNodeLimit, Says, SaysOptions, SaysPlan, SaysGround, SaysCheck, SaysReplay, SaysDrill, default_nodes}
+use Rattle.mbp_top.specs.Words.{Bytes, Command, PlanKind, kind_word, of_class, with_contexts, plan, ground, check, replay, drill, PlanOptions, PlanWords, GroundWords, CheckWords, ReplayWords, DrillWords, DrillKind, corridors, roads, drill_word, IsNodeLimit, Says, SaysOptions, SaysPlan, SaysGround, SaysCheck, SaysReplay, SaysDrill, default_nodes, RefuteWords, refute, SaysRefute}
 use Rattle.plan_rules.specs.Texts.{class_word}
 use Rattle.mbp_top.proofs.CheckDecides.{check_decides}
 use Rattle.mbp_top.proofs.DrillDecides.{drill_decides}
 use Rattle.mbp_top.proofs.GroundDecides.{ground_command_decides}
 use Rattle.mbp_top.specs.OneReading.{OneReading}
 use Rattle.mbp_top.proofs.PlanDecides.{plan_decides}
+use Rattle.mbp_top.proofs.RefuteDecides.{refute_decides}
 use Rattle.mbp_top.proofs.ReplayDecides.{replay_decides}
 
 -- the words of the classes differ
@@ -102,6 +104,16 @@ same_drill words v w says says' =
     let sizes = decimal_injective v.size w.size (omega (arith, says.room.1)) (omega (arith, says'.room.1)) numerals in
     λ i. record { kind = kinds i; size = sizes i }
 
+same_refute : (words : List Bytes) (v w : RefuteWords) → SaysRefute words v → SaysRefute words w → v ≡ w
+same_refute words v w says says' =
+    let both = sym says.written ∙ says'.written in
+    let domains : v.domain ≡ w.domain = ap (λ (ws : List Bytes). get_or ws 1 []) both in
+    let problems : v.problem ≡ w.problem = ap (λ (ws : List Bytes). get_or ws 2 []) both in
+    let certificates : v.certificate ≡ w.certificate = ap (λ (ws : List Bytes). get_or ws 3 []) both in
+    let rests : says.rest ≡ says'.rest = ap (λ (ws : List Bytes). drop 4 ws) both in
+    let options = same_options says'.rest v.options w.options says.room says'.room (subst (λ (ws : List Bytes). SaysOptions ws v.options) rests says.options) says'.options in
+    λ i. record { domain = domains i; problem = problems i; certificate = certificates i; options = options i }
+
 -- the commands without what they are asked
 data Form : Type 0 where
   planning : Form
@@ -109,6 +121,7 @@ data Form : Type 0 where
   checking : Form
   replaying : Form
   drilling : Form
+  refuting : Form
 
 abbrev WordsOf : Form → Type 0
 WordsOf planning = PlanWords
@@ -116,6 +129,7 @@ WordsOf grounding = GroundWords
 WordsOf checking = CheckWords
 WordsOf replaying = ReplayWords
 WordsOf drilling = DrillWords
+WordsOf refuting = RefuteWords
 
 abbrev form_of : Command → Form
 form_of (plan v) = planning
@@ -123,6 +137,7 @@ form_of (ground v) = grounding
 form_of (check v) = checking
 form_of (replay v) = replaying
 form_of (drill v) = drilling
+form_of (refute v) = refuting
 
 abbrev asked_of : (c : Command) → WordsOf (form_of c)
 asked_of (plan v) = v
@@ -130,6 +145,7 @@ asked_of (ground v) = v
 asked_of (check v) = v
 asked_of (replay v) = v
 asked_of (drill v) = v
+asked_of (refute v) = v
 
 abbrev made : (f : Form) → WordsOf f → Command
 made planning v = plan v
@@ -137,6 +153,7 @@ made grounding v = ground v
 made checking v = check v
 made replaying v = replay v
 made drilling v = drill v
+made refuting v = refute v
 
 made_of : (c : Command) → made (form_of c) (asked_of c) ≡ c
 made_of (plan v) = refl
@@ -144,17 +161,20 @@ made_of (ground v) = refl
 made_of (check v) = refl
 made_of (replay v) = refl
 made_of (drill v) = refl
+made_of (refute v) = refl
 
--- the letter with which the first word begins, and the form that it stands for
+-- the third letter of the first word, and the form that it stands for
 abbrev letter : Form → ℕ
-letter planning = 112
-letter grounding = 103
-letter checking = 99
-letter replaying = 114
-letter drilling = 100
+letter planning = 97
+letter grounding = 111
+letter checking = 101
+letter replaying = 112
+letter drilling = 105
+letter refuting = 102
 
 abbrev form_at : ℕ → Form
-form_at n = if n == 112 then planning else if n == 103 then grounding else if n == 99 then checking else if n == 114 then replaying else drilling
+form_at n =
+    if n == 97 then planning else if n == 111 then grounding else if n == 101 then checking else if n == 112 then replaying else if n == 105 then drilling else refuting
 
 form_at-letter : (f : Form) → form_at (letter f) ≡ f
 form_at-letter planning = refl
@@ -162,16 +182,18 @@ form_at-letter grounding = refl
 form_at-letter checking = refl
 form_at-letter replaying = refl
 form_at-letter drilling = refl
+form_at-letter refuting = refl
 
-abbrev first_letter : List Bytes → ℕ
-first_letter words = get_or (get_or words 0 []) 0 0
+abbrev third_letter : List Bytes → ℕ
+third_letter words = get_or (get_or words 0 []) 2 0
 
-letter_is : (words : List Bytes) (c : Command) → Says words c → first_letter words ≡ letter (form_of c)
-letter_is words (plan v) says = ap first_letter says.written
-letter_is words (ground v) says = ap first_letter says
-letter_is words (check v) says = ap first_letter says
-letter_is words (replay v) says = ap first_letter says
-letter_is words (drill v) says = ap first_letter says.written
+letter_is : (words : List Bytes) (c : Command) → Says words c → third_letter words ≡ letter (form_of c)
+letter_is words (plan v) says = ap third_letter says.written
+letter_is words (ground v) says = ap third_letter says
+letter_is words (check v) says = ap third_letter says
+letter_is words (replay v) says = ap third_letter says
+letter_is words (drill v) says = ap third_letter says.written
+letter_is words (refute v) says = ap third_letter says.written
 
 same_asked : (words : List Bytes) (f : Form) (v w : WordsOf f) → Says words (made f v) → Says words (made f w) → v ≡ w
 same_asked words planning v w says says' = same_plan words v w says says'
@@ -179,6 +201,7 @@ same_asked words grounding v w says says' = same_ground words v w says says'
 same_asked words checking v w says says' = same_check words v w says says'
 same_asked words replaying v w says says' = same_replay words v w says says'
 same_asked words drilling v w says says' = same_drill words v w says says'
+same_asked words refuting v w says says' = same_refute words v w says says'
 
 -- the words say one command at most: the first decides its form
 pub one_command : (words : List Bytes) (c d : Command) → Says words c → Says words d → c ≡ d
@@ -201,9 +224,20 @@ one_plan_answer once held failed failed' words asked says told quiet quiet' a b 
 -- the words decide that of `drill`, unless it is
 one_drill_answer : OneReading → (held : Bytes → Held) (words : List Bytes) (asked : DrillWords) → SaysDrill words asked
     → (a b : Answer) → ((nodes : ℕ) → b ≢ refused (full nodes)) → IsDrillAnswer asked a → IsDrillAnswer asked b → (a ≡ b) ⊎ MayStandIn held words a
-one_drill_answer once held words asked says a b not_full (inl (may, is)) is' = inr (inr (inr (asked, says, may, is)))
+one_drill_answer once held words asked says a b not_full (inl (may, is)) is' = inr (inr (inr (inl (asked, says, may, is))))
 one_drill_answer once held words asked says a b not_full (inr read) (inl (may, is)) = absurd (not_full default_nodes is)
 one_drill_answer once held words asked says a b not_full (inr read) (inr read') = inl (drill_decides once asked a b read read')
+
+-- the three files decide that of `refute`, unless it is
+one_refute_answer : OneReading → (held : Bytes → Held) (failed failed' : Bytes → Type 0) (words : List Bytes) (asked : RefuteWords)
+    → SaysRefute words asked → AreFilesTold held words → ((file : Bytes) → failed file → ⊥) → ((file : Bytes) → failed' file → ⊥)
+    → (a b : Answer) → ((nodes : ℕ) → b ≢ refused (full nodes)) → IsRefuteAnswer held failed asked a → IsRefuteAnswer held failed' asked b
+    → (a ≡ b) ⊎ MayStandIn held words a
+one_refute_answer once held failed failed' words asked says told quiet quiet' a b not_full (inl (may, is)) is' = inr (inr (inr (inr (asked, says, may, is))))
+one_refute_answer once held failed failed' words asked says told quiet quiet' a b not_full (inr read) (inl (may, is)) = absurd (not_full asked.options.nodes is)
+one_refute_answer once held failed failed' words asked says told quiet quiet' a b not_full (inr read) (inr read') =
+    inl (refute_decides once held failed failed' asked (told (refute asked) asked.domain says (0, omega arith, refl)) (told (refute asked) asked.problem says (1, omega arith, refl))
+    (told (refute asked) asked.certificate says (2, omega arith, refl)) quiet quiet' a b read read')
 
 -- the words and the files decide the answer of a command, but for one that may stand in
 one_answer : OneReading → (held : Bytes → Held) (failed failed' : Bytes → Type 0) (tallies : Tallies) (words : List Bytes) (command : Command)
@@ -222,6 +256,8 @@ one_answer once held failed failed' tallies words (replay asked) says told quiet
     (told (replay asked) asked.plan says (2, omega arith, refl)) (told (replay asked) asked.recorded says (3, omega arith, refl)) quiet quiet' a b is is')
 one_answer once held failed failed' tallies words (drill asked) says told quiet quiet' a b not_full is is' =
     one_drill_answer once held words asked says a b not_full is is'
+one_answer once held failed failed' tallies words (refute asked) says told quiet quiet' a b not_full is is' =
+    one_refute_answer once held failed failed' words asked says told quiet quiet' a b not_full is is'
 
 -- where the words say a command, an answer that has its cause is that command's, or want of memory
 pub of_command : (held : Bytes → Held) (failed : Bytes → Type 0) (tallies : Tallies) (words : List Bytes) (command : Command) (a : Answer)

@@ -78,7 +78,7 @@ refused_no_tree held failed Spells Wrong name r t told quiet grammar (inr (inr m
     grammar.not_both name m.bytes r t m.wrong (subst (λ text. Spells text t) same holds.spelled)
 
 -- a file spells one tree at most
-one_tree : {X : Type 0} (held : Bytes → Held) (Spells : Bytes → X → Type 0) (Wrong : Bytes → Bytes → Refusal → Type 0) (name : Bytes) (t u : X)
+pub one_tree : {X : Type 0} (held : Bytes → Held) (Spells : Bytes → X → Type 0) (Wrong : Bytes → Bytes → Refusal → Type 0) (name : Bytes) (t u : X)
     → held name ≢ Untold → IsGrammar Spells Wrong → Holds held Spells name t → Holds held Spells name u → t ≡ u
 one_tree held Spells Wrong name t u told grammar h k =
     let same = one_text (held name) k.bytes h.bytes told k.file.gives h.file.gives in

@@ -1,11 +1,10 @@
 -- A limit that is tight for the sets of a task, or for those of its planners, is tight for the
 -- nodes that are enough, by both numbers.
-use Rattle.std.proofs.Common.{◌≡◌, ◌≤◌, ◌<◌, ◌+◌, ◌*◌, ◌^◌, ℕ, zero, suc, [], length, subst, sym, arith}
+use Rattle.std.proofs.Common.{◌≡◌, ◌≤◌, ◌<◌, ◌+◌, ◌*◌, ◌^◌, ℕ, zero, suc, [], subst, sym, arith}
 use native.Mathlib.Nat.{pow-succ'}
 use Rattle.std.proofs.Math.Nat.{mul-le-mul_right}
-use Rattle.chain_plan.specs.WorkingSets.{IsWide as BoundsChainSets}
-use Rattle.chain_plan.specs.WorkingSets.IsWorkingSet.{of_task}
-use Rattle.ctl_syntax.specs.declared.chains.Chain.{Chain}
+use Rattle.chain_plan.specs.WorkingSets.IsWorkingSet.{of_task as of_chain}
+use Rattle.ctl_syntax.specs.declared.far.Far.TheVariants.{Patrol, Until}
 use Rattle.cyclic_plan.specs.WorkingSets.IsWorkingSet.{by_task as of_cyclic}
 use Rattle.dd_nodes.specs.Subfunctions.{nodes}
 use Rattle.dd_sets.proofs.SizeLemmas.{every_small}
@@ -16,13 +15,18 @@ use Rattle.encode_task.specs.Bounds.{kept_slots, working_slots}
 use Rattle.encode_task.specs.KeptSets.{AreKept, kept_nodes}
 use Rattle.encode_task.specs.Laws.{KeptSetsBoundNodes}
 use Rattle.encode_task.specs.WorkingSets.{AreSmall, IsMadeByEncode}
+use Rattle.patrol_plan.specs.PatrolWorkingSets.IsWorkingSet.{of_task as of_patrol}
+use Rattle.patrol_plan.specs.WorkingSets.IsWorkingSet.{of_task as of_until}
 use Rattle.reach_plan.specs.WorkingSets.IsWorkingSet.{by_task as of_reach}
 use Rattle.task_core.specs.Systems.{most_outcomes}
 use Rattle.task_core.specs.Tasks.{action_count, fluent_count, system_of}
 use Rattle.task_core.specs.declared.classes.Class.{Class}
 use Rattle.task_core.specs.declared.classes.Class.TheVariants.{Cyclic, Strong, Weak}
 use Rattle.task_core.specs.declared.tasks.Task.{Task}
-use Rattle.mbp_top.specs.Enough.{BoundsSets, IsTightForChain, IsTightForClass, IsTightLimit, enough, enough_by_sets}
+use Rattle.mbp_top.specs.Enough.{BoundsGoalSets, BoundsSets, IsTightForClass, IsTightForGoal, IsTightLimit, enough, enough_by_sets}
+use Rattle.mbp_top.specs.GoalConditions.{count_of}
+use Rattle.mbp_top.specs.declared.context_goals.ContextGoal.{ContextGoal}
+use Rattle.mbp_top.specs.declared.context_goals.ContextGoal.TheVariants.{Chain, Far}
 
 -- so many slots have no more nodes than are enough, where there are no more slots
 few_slots : (slots most P Q : ℕ) → slots ≤ most → slots * P + Q ≤ 2 * Q + most * P
@@ -36,13 +40,13 @@ slots_of_actions n A M =
     let e : A * (M + 1) ≤ A * (M + n + 6) = grind arith in
     omega arith
 
-slots_of_planner : (L A M : ℕ) → L ≤ A * (M + 1) + 5 → L + (3 * A + 32) ≤ A * (M + 0 + 6) + 8 * 0 + 256
+pub slots_of_planner : (L A M : ℕ) → L ≤ A * (M + 1) + 5 → L + (3 * A + 32) ≤ A * (M + 0 + 6) + 8 * 0 + 256
 slots_of_planner L A M few =
     let e : A * (M + 1) + 3 * A ≤ A * (M + 0 + 6) = grind arith in
     omega arith
 
-slots_of_chain : (n L A M : ℕ) → L ≤ A * (M + 1) + 5 → L + (A * (n + 3) + 8 * n + 236) ≤ A * (M + n + 6) + 8 * n + 256
-slots_of_chain n L A M few =
+slots_of_goal : (n L A M : ℕ) → L ≤ A * (M + 1) + 5 → L + (A * (n + 3) + 8 * n + 236) ≤ A * (M + n + 6) + 8 * n + 256
+slots_of_goal n L A M few =
     let e : A * (M + 1) + A * (n + 3) ≤ A * (M + n + 6) = grind arith in
     omega arith
 
@@ -55,13 +59,13 @@ tight_for_slots monotone t n limit slots few tight =
     monotone limit F (nodes_of_slots slots F) (enough n (system_of t)) (few_slots slots (A * (most_outcomes (system_of t) * (F + 1) + n + 6) + 8 * n + 256) (2 ^ F) (4 ^ F) few) tight
 
 -- while the sets of the task are made
-tight_for_sets : TightIsMonotone → (t : Task) (n limit : ℕ)
+pub tight_for_sets : TightIsMonotone → (t : Task) (n limit : ℕ)
     → Tight limit (fluent_count t) (nodes_of_slots (working_slots t) (fluent_count t)) → IsTightLimit n limit (system_of t)
 tight_for_sets monotone t n limit tight =
     tight_for_slots monotone t n limit (working_slots t) (slots_of_actions n (action_count t) (most_outcomes (system_of t) * (fluent_count t + 1))) tight
 
 -- of the sets that are live
-tight_for_live : TightIsMonotone → (t : Task) (n : ℕ) (sets : LiveSets) (limit more : ℕ) → sets.vars ≡ fluent_count t → sets.limit ≡ limit → sets.order ≡ []
+pub tight_for_live : TightIsMonotone → (t : Task) (n : ℕ) (sets : LiveSets) (limit more : ℕ) → sets.vars ≡ fluent_count t → sets.limit ≡ limit → sets.order ≡ []
     → live_count sets + more ≤ action_count t * (most_outcomes (system_of t) * (fluent_count t + 1) + n + 6) + 8 * n + 256
     → IsTightFor more sets → IsTightLimit n limit (system_of t)
 tight_for_live monotone t n sets limit more of_vars of_limit of_order few tight =
@@ -93,8 +97,20 @@ all_bounds Weak t = record { wide = more_lists (fluent_count t); each = λ set m
 all_bounds Strong t = record { wide = more_lists (fluent_count t); each = λ set made. every_small (fluent_count t) set }
 all_bounds Cyclic t = record { wide = more_lists (fluent_count t); each = λ set made. every_small (fluent_count t) set }
 
-pub all_chain_bounds : (chain : Chain) (t : Task) → BoundsChainSets (2 ^ fluent_count t + 1) t chain
-all_chain_bounds chain t = record { fluents = more_lists (fluent_count t); small = λ set made. every_small (fluent_count t) set }
+pub all_goal_bounds : (goal : ContextGoal) (t : Task) → BoundsGoalSets goal t (2 ^ fluent_count t + 1)
+all_goal_bounds (Chain chain) t = record { fluents = more_lists (fluent_count t); small = λ set made. every_small (fluent_count t) set }
+all_goal_bounds (Far (Until chain)) t = record { fluents = more_lists (fluent_count t); small = λ set made. every_small (fluent_count t) set }
+all_goal_bounds (Far (Patrol visits)) t = record { fluents = more_lists (fluent_count t); small = λ set made. every_small (fluent_count t) set }
+
+wide_of_goal : (goal : ContextGoal) (t : Task) (w : ℕ) → BoundsGoalSets goal t w → fluent_count t + 2 ≤ w
+wide_of_goal (Chain chain) t w bounds = bounds.fluents
+wide_of_goal (Far (Until chain)) t w bounds = bounds.fluents
+wide_of_goal (Far (Patrol visits)) t w bounds = bounds.fluents
+
+small_of_goal : (goal : ContextGoal) (t : Task) (w : ℕ) → BoundsGoalSets goal t w → AreSmall (fluent_count t) w (IsMadeByEncode t)
+small_of_goal (Chain chain) t w bounds = λ set made. bounds.small set (of_chain set made)
+small_of_goal (Far (Until chain)) t w bounds = λ set made. bounds.small set (of_until set made)
+small_of_goal (Far (Patrol visits)) t w bounds = λ set made. bounds.small set (of_patrol set made)
 
 -- while the sets of the task are made, few nodes are fewer than are enough by the sets
 few_for_sets : (t : Task) (n w limit : ℕ) → limit < kept_nodes t + 220 * w + 13 * (w * w) → limit < enough_by_sets n t w
@@ -112,12 +128,12 @@ module _ (monotone : TightIsMonotone) (t : Task) (limit : ℕ)
     by_sets = λ w bounds. few_for_sets t 0 w limit (by_sets w (wide_of class t w bounds) (task_small class t w bounds));
   }
 
-  pub chain_at_sets : (chain : Chain) → IsTightForChain chain limit t
-  chain_at_sets chain =
-      let n = length chain.stages.items in
+  pub goal_at_sets : (goal : ContextGoal) → IsTightForGoal goal limit t
+  goal_at_sets goal =
+      let n = count_of goal in
       record {
         by_sizes = tight_for_sets monotone t n limit by_sizes;
-        by_sets = λ w bounds. few_for_sets t n w limit (by_sets w bounds.fluents (λ set made. bounds.small set (of_task set made)));
+        by_sets = λ w bounds. few_for_sets t n w limit (by_sets w (wide_of_goal goal t w bounds) (small_of_goal goal t w bounds));
       }
 
 -- that a search finds no room over the sets of a task
@@ -139,15 +155,15 @@ module _ (monotone : TightIsMonotone) (tight_law : NoRoomIsTight) (small_law : N
     by_sets = λ w bounds. few_by_sets 0 (3 * action_count t + 32) w (omega arith) (none w bounds);
   }
 
-  pub chain_at_search : (chain : Chain)
-      → ((w : ℕ) → BoundsChainSets w t chain
-      → NoRoom w (action_count t * (length chain.stages.items + 3) + 8 * length chain.stages.items + 236) 16 sets after) → IsTightForChain chain limit t
-  chain_at_search chain none =
-      let n = length chain.stages.items in
+  pub goal_at_search : (goal : ContextGoal)
+      → ((w : ℕ) → BoundsGoalSets goal t w
+      → NoRoom w (action_count t * (count_of goal + 3) + 8 * count_of goal + 236) 16 sets after) → IsTightForGoal goal limit t
+  goal_at_search goal none =
+      let n = count_of goal in
       let more = action_count t * (n + 3) + 8 * n + 236 in
       record {
         by_sizes = tight_for_live monotone t n sets limit more of_vars of_limit of_order
-            (slots_of_chain n (live_count sets) (action_count t) (most_outcomes (system_of t) * (fluent_count t + 1)) few)
-            (tight_law (2 ^ fluent_count t + 1) sets after more 16 (none (2 ^ fluent_count t + 1) (all_chain_bounds chain t)));
+            (slots_of_goal n (live_count sets) (action_count t) (most_outcomes (system_of t) * (fluent_count t + 1)) few)
+            (tight_law (2 ^ fluent_count t + 1) sets after more 16 (none (2 ^ fluent_count t + 1) (all_goal_bounds goal t)));
         by_sets = λ w bounds. few_by_sets n more w (omega arith) (none w bounds);
       }

@@ -17,7 +17,7 @@ use Rattle.mbp_top.specs.Grounding.{GoalThen, GroundThen, has_goal_for}
 use Rattle.mbp_top.specs.PddlTexts.{HoldBoth, IsFaultyDomain, IsFaultyProblem, ReadBoth, SpellsProblemOf}
 use Rattle.mbp_top.specs.PlanFiles.{IsFaultyPlan, SpellsPlaced}
 use Rattle.mbp_top.specs.Reading.{Holds, IsFile, IsRefusedFile, IsTooLong, IsUnreadable, ReadThen}
-use Rattle.mbp_top.specs.Words.{Bytes, CheckWords, Command, ReplayWords, plan, ground, check, replay, drill}
+use Rattle.mbp_top.specs.Words.{Bytes, CheckWords, Command, ReplayWords, plan, ground, check, replay, drill, refute}
 use Rattle.mbp_top.proofs.Later.{failed_over, next_answer, read_over, refused_later, some_plan_over}
 use Rattle.mbp_top.proofs.Listings.{same_actions, same_fluents}
 use Rattle.mbp_top.proofs.PddlDecides.{refused_both}
@@ -76,6 +76,9 @@ fetched_for_memory held failed fetched (replay asked) a before after (x, first, 
 fetched_for_memory held failed fetched (replay asked) a before after (x, first, inr (holds, (y, second, inr (needed, (z, third, inr (some, rest)))))) =
     (x, first, inr (holds, (y, second, inr (needed, (z, third, inr (some, rest))))))
 fetched_for_memory held failed fetched (drill asked) a before after same = same
+fetched_for_memory held failed fetched (refute asked) a before after (x, first, inl (was, same)) = (x, first, inl (inl refl, same))
+fetched_for_memory held failed fetched (refute asked) a before after (x, first, inr (holds, (y, second, inl (was, same)))) = (x, first, inr (holds, (y, second, inl (inl refl, same))))
+fetched_for_memory held failed fetched (refute asked) a before after (x, first, inr (holds, (y, second, inr (needed, rest)))) = (x, first, inr (holds, (y, second, inr (needed, rest))))
 
 -- a text of the problem's file that has a fault
 pub problem_misread : (held : Bytes → Held) (failed : Bytes → Type 0) (d p : Bytes) (domain : DomainTree) (bytes : Bytes) (r : Refusal) → Holds held SpellsDomain d domain → IsFile held p bytes

@@ -7,8 +7,10 @@ pub mod OneCyclicPlan
 pub mod GroundDecides
 pub mod CheckDecides
 pub mod CheckAnswers
-pub mod ChainSets
-pub mod ChainAnswers
+pub mod GoalSets
+pub mod GoalParts
+pub mod ContextAnswers
+pub mod ContextFound
 pub mod CheckWritten
 pub mod PlanWritten
 pub mod GroundWritten
@@ -20,6 +22,10 @@ pub mod DrillSizes
 pub mod DrillDecides
 pub mod DrillAnswers
 pub mod DrillWritten
+pub mod RefuteDecides
+pub mod RefuteSizes
+pub mod RefuteAnswers
+pub mod RefuteWritten
 pub mod ByCommand
 pub mod Statuses
 pub mod Unread

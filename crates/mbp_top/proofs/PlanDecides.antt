@@ -1,26 +1,24 @@
 -- The two files and the class decide the answer of `plan`, unless the table of nodes is full.
-use Rattle.std.proofs.Common.{◌≡◌, ◌≢◌, ℕ, true, false, ◌<◌, List, length, inl, inr, sym, subst, ap, ◌∙◌, arith, Some}
-use Rattle.plan_theory.specs.Chains.{context_count}
-use Rattle.plan_theory.specs.ChainPrinted.{chain_rules}
-use Rattle.ctl_syntax.specs.Chains.{PlainChain}
+use Rattle.std.proofs.Common.{◌≡◌, ◌≢◌, ℕ, true, false, ◌<◌, ◌≤◌, List, inl, inr, sym, subst, ap, ◌∙◌, arith, Some}
 use Rattle.pddl_ast.specs.Trees.{DomainTree, FormulaTree, ProblemTree}
 use Rattle.plan_io.specs.Held.{Held, Untold}
 use Rattle.pddl_system.specs.Systems.{system, fluent_names, action_names}
 use Rattle.pddl_system.proofs.States.{they_have_a_system}
 use Rattle.task_core.specs.Systems.{IsSystem, System}
 use Rattle.plan_rules.specs.Rules.{PlanRule}
-use Rattle.plan_rules.specs.Texts.{automaton_text, table_text}
+use Rattle.plan_rules.specs.Texts.{table_text}
 use Rattle.task_core.specs.Names.{Name}
 use Rattle.task_core.specs.declared.classes.Class.{Class}
 use Rattle.task_core.specs.declared.classes.Class.TheVariants.{Weak, Strong, Cyclic}
 use Rattle.plan_theory.specs.Layers.{IsLastLayer}
 use Rattle.plan_theory.specs.LayerPlans.{printed_rules}
-use Rattle.mbp_top.specs.Answers.{Answer, affirmed}
-use Rattle.mbp_top.specs.ChainGoals.{ChainThen, chained_of, most_stages}
+use Rattle.mbp_top.specs.Answers.{Answer, affirmed, over_limit, refused}
+use Rattle.mbp_top.specs.ContextGoals.{ContextGoalThen, PlainGoal, most_parts, part_count, part_limit}
+use Rattle.mbp_top.specs.GoalSets.{goal_sets}
 use Rattle.mbp_top.specs.Grounding.{GroundThen}
 use Rattle.mbp_top.specs.PddlTexts.{ReadBoth}
 use Rattle.mbp_top.specs.InitialStates.{empty_init}
-use Rattle.mbp_top.specs.PlanCommand.{ArePrintedRules, AreRulesOfLayers, IsPrintedChain, IsPrintedText, IsPlanResult, IsPlanned, IsResultFrom, IsResultOf, PlanThen}
+use Rattle.mbp_top.specs.PlanCommand.{ArePrintedRules, AreRulesOfLayers, IsPrintedPlan, IsPrintedText, IsPlanResult, IsPlanned, IsResultFrom, IsResultOf, PlanThen, text_for}
 use Rattle.mbp_top.specs.Words.{Bytes, PlanKind, PlanWords, of_class, with_contexts}
 use Rattle.mbp_top.proofs.Deciding.{Decides}
 use Rattle.mbp_top.proofs.Initials.{initial_decides}
@@ -59,15 +57,13 @@ result_decides class d p a b (inl f) (inr n) = absurd (n.none f.good.meets.0 f.g
 result_decides class d p a b (inr n) (inl f) = absurd (n.none f.good.meets.0 f.good.meets.2)
 result_decides class d p a b (inr m) (inr n) = m.shown ∙ sym n.shown
 
--- one chain at most
-one_chain : (c e : PlainChain FormulaTree) → Some c ≡ Some e → c ≡ e
-one_chain c e same = cc
+-- one goal at most
+one_goal : (c e : PlainGoal FormulaTree) → Some c ≡ Some e → c ≡ e
+one_goal c e same = cc
 
-printed_once : (d : DomainTree) (p : ProblemTree) (text other : Bytes) → IsPrintedChain d p text → IsPrintedChain d p other → text ≡ other
+printed_once : (d : DomainTree) (p : ProblemTree) (text other : Bytes) → IsPrintedPlan d p text → IsPrintedPlan d p other → text ≡ other
 printed_once d p text other (c, is, spelled) (e, is', spelled') =
-    spelled
-    ∙ (ap (λ (x : PlainChain FormulaTree). automaton_text (fluent_names d p) (action_names d p) (context_count (chained_of d p x)) (chain_rules (system d p) (chained_of d p x))) (one_chain c e (sym is ∙ is'))
-    ∙ sym spelled')
+    spelled ∙ (ap (λ (x : PlainGoal FormulaTree). text_for d p (goal_sets d p x)) (one_goal c e (sym is ∙ is')) ∙ sym spelled')
 
 context_decides : (d : DomainTree) (p : ProblemTree) → Decides (IsPlanResult with_contexts d p) (IsPlanResult with_contexts d p)
 context_decides d p a b (inl f) (inl g) = f.shown ∙ (ap affirmed (printed_once d p f.text g.text f.printed g.printed) ∙ sym g.shown)
@@ -75,22 +71,27 @@ context_decides d p a b (inl f) (inr n) = absurd (n.none f.good.meets.0 f.good.m
 context_decides d p a b (inr n) (inl f) = absurd (n.none f.good.meets.0 f.good.meets.2)
 context_decides d p a b (inr m) (inr n) = m.shown ∙ sym n.shown
 
-chain_decides : (name : Bytes) (p : ProblemTree) (Then : Answer → Type 0) → Decides Then Then → Decides (ChainThen name p (λ chain. Then)) (ChainThen name p (λ chain. Then))
-chain_decides name p Then next a b (inl (none, is)) (inl (none', is')) = is ∙ sym is'
-chain_decides name p Then next a b (inl (none, is)) (inr (c, some, why)) = absurd (cc (none, some))
-chain_decides name p Then next a b (inr (c, some, why)) (inl (none, is)) = absurd (cc (none, some))
-chain_decides name p Then next a b (inr (c, some, inl (many, is))) (inr (e, some', inl (many', is'))) = is ∙ sym is'
-chain_decides name p Then next a b (inr (c, some, inl (many, is))) (inr (e, some', inr (few, then))) =
-    absurd (let less : most_stages < length e.stages = subst (λ (x : PlainChain FormulaTree). most_stages < length x.stages) (one_chain c e (sym some ∙ some')) many in omega (arith, less, few))
-chain_decides name p Then next a b (inr (c, some, inr (few, then))) (inr (e, some', inl (many, is))) =
-    absurd (let less : most_stages < length c.stages = subst (λ (x : PlainChain FormulaTree). most_stages < length x.stages) (one_chain e c (sym some' ∙ some)) many in omega (arith, less, few))
-chain_decides name p Then next a b (inr (c, some, inr (few, then))) (inr (e, some', inr (few', then'))) = next a b then then'
+-- a goal of few stages or visits is no other of many
+not_many : (c e : PlainGoal FormulaTree) → Some c ≡ Some e → most_parts c < part_count c → part_count e ≤ most_parts e → ⊥
+not_many c e same many few =
+    let less : most_parts e < part_count e = subst (λ (x : PlainGoal FormulaTree). most_parts x < part_count x) (one_goal c e same) many in
+    omega (arith, less, few)
+
+goal_parts_decide : (name : Bytes) (p : ProblemTree) (Then : Answer → Type 0) → Decides Then Then → Decides (ContextGoalThen name p (λ goal. Then)) (ContextGoalThen name p (λ goal. Then))
+goal_parts_decide name p Then next a b (inl (none, is)) (inl (none', is')) = is ∙ sym is'
+goal_parts_decide name p Then next a b (inl (none, is)) (inr (c, some, why)) = absurd (cc (none, some))
+goal_parts_decide name p Then next a b (inr (c, some, why)) (inl (none, is)) = absurd (cc (none, some))
+goal_parts_decide name p Then next a b (inr (c, some, inl (many, is))) (inr (e, some', inl (many', is'))) =
+    is ∙ (ap (λ (x : PlainGoal FormulaTree). refused (over_limit (part_limit x))) (one_goal c e (sym some ∙ some')) ∙ sym is')
+goal_parts_decide name p Then next a b (inr (c, some, inl (many, is))) (inr (e, some', inr (few, then))) = absurd (not_many c e (sym some ∙ some') many few)
+goal_parts_decide name p Then next a b (inr (c, some, inr (few, then))) (inr (e, some', inl (many, is))) = absurd (not_many e c (sym some' ∙ some) many few)
+goal_parts_decide name p Then next a b (inr (c, some, inr (few, then))) (inr (e, some', inr (few', then'))) = next a b then then'
 
 kind_decides : (kind : PlanKind) (name : Bytes) (d : DomainTree) (p : ProblemTree) → Decides (IsResultOf kind name d p) (IsResultOf kind name d p)
 kind_decides (of_class class) name d p =
     initial_decides (empty_init name p) (system d p).initial (IsPlanResult (of_class class) d p) (result_decides class d p)
 kind_decides with_contexts name d p =
-    chain_decides name p (IsResultFrom with_contexts name d p)
+    goal_parts_decide name p (IsResultFrom with_contexts name d p)
     (initial_decides (empty_init name p) (system d p).initial (IsPlanResult with_contexts d p) (context_decides d p))
 
 pub plan_decides : OneReading → (held : Bytes → Held) (failed failed' : Bytes → Type 0) (asked : PlanWords)

@@ -1,10 +1,9 @@
 -- `plan`: what was written at status 0, 1 and 5, and which statuses come.
-use Rattle.std.proofs.Common.{◌≡◌, ◌≢◌, ℕ, List, [], ◌⊎◌, inl, inr, refl, sym, arith, ◌∙◌, ap, true, false, Some, None, Option, length, ◌≤◌}
+use Rattle.std.proofs.Common.{◌≡◌, ◌≢◌, ℕ, List, [], ◌⊎◌, inl, inr, refl, sym, arith, ◌∙◌, ap, true, false, Some, None, Option, Bool, ◌≤◌}
 use Rattle.std.specs.Io.KnownBytes.{append_known}
 use Rattle.std.specs.Option.{option_and_then, option_map_or}
 use Rattle.std.specs.Prelude.{is_some, nat_le}
 use Rattle.std.proofs.lemmas.Bool.{false≢true, leb-true}
-use Rattle.ctl_syntax.specs.Chains.{PlainChain, chain_of}
 use Rattle.pddl_system.specs.CtlGoals.{ctl_tree}
 use Rattle.plan_io.specs.Held.{Held, Untold}
 use Rattle.pddl_ast.specs.Trees.{DomainTree, FormulaTree, ProblemTree, TemporalTree}
@@ -17,7 +16,7 @@ use Rattle.mbp_top.specs.Enough.{IsTightPlan}
 use Rattle.mbp_top.specs.InitialStates.{empty_init}
 use Rattle.mbp_top.specs.PddlTexts.{HoldBoth, IsFaultyDomain, IsFaultyProblem, ReadBoth}
 use Rattle.mbp_top.specs.PlanCommand.{HasNoPlan, IsGoodText, IsPlanAnswer, IsPlanFound, IsPlanMissing, IsPlanResult, IsPlanned, IsResultFrom, IsResultOf, IsShortText, IsTextPrinted, MayRunOut, PlanThen, is_sought, no_plan_text}
-use Rattle.mbp_top.specs.ChainGoals.{ChainThen, goal_chain, is_short_chain, most_stages}
+use Rattle.mbp_top.specs.ContextGoals.{ContextGoalThen, PlainGoal, context_goal, is_short_goal, most_parts, part_count, plain_goal}
 use Rattle.mbp_top.specs.Reading.{IsRefusedFile}
 use Rattle.mbp_top.specs.Told.{AreFilesTold, NoFault}
 use Rattle.mbp_top.specs.ReplayCommand.{Tallies}
@@ -50,17 +49,17 @@ shown_plan held failed asked a shown (inl is) = absurd (not_refused no_memory a 
 shown_plan held failed asked a shown (inr (inl (may, is))) = absurd (not_refused (full asked.options.nodes) a is shown)
 shown_plan held failed asked a shown (inr (inr is)) = plan_for held asked a shown (shown_both held failed asked.domain asked.problem (IsPlanned asked) a shown is)
 
-shown_chain : (name : Bytes) (p : ProblemTree) (Then : Answer → Type 0) (a : Answer) → is_shown a ≡ true → ChainThen name p (λ chain. Then) a → Then a
-shown_chain name p Then a shown (inl (none, is)) = absurd (not_refused _ a is shown)
-shown_chain name p Then a shown (inr (c, some, inl (many, is))) = absurd (not_refused _ a is shown)
-shown_chain name p Then a shown (inr (c, some, inr (few, then))) = then
+shown_parts : (name : Bytes) (p : ProblemTree) (Then : Answer → Type 0) (a : Answer) → is_shown a ≡ true → ContextGoalThen name p (λ goal. Then) a → Then a
+shown_parts name p Then a shown (inl (none, is)) = absurd (not_refused _ a is shown)
+shown_parts name p Then a shown (inr (c, some, inl (many, is))) = absurd (not_refused _ a is shown)
+shown_parts name p Then a shown (inr (c, some, inr (few, then))) = then
 
 of_result : (kind : PlanKind) (name : Bytes) (d : DomainTree) (p : ProblemTree) (a : Answer) → is_shown a ≡ true → IsResultOf kind name d p a → IsPlanResult kind d p a
 of_result (of_class class) name d p a shown r =
     shown_initial (empty_init name p) (system d p).initial (IsPlanResult (of_class class) d p) a shown r
 of_result with_contexts name d p a shown r =
     shown_initial (empty_init name p) (system d p).initial (IsPlanResult with_contexts d p) a shown
-    (shown_chain name p (IsResultFrom with_contexts name d p) a shown r)
+    (shown_parts name p (IsResultFrom with_contexts name d p) a shown r)
 
 plan_found : (kind : PlanKind) (d : DomainTree) (p : ProblemTree) (a : Answer) → IsPlanResult kind d p a → status_of a ≡ 0 → IsPlanFound kind d p a
 plan_found kind d p a (inl found) zero = found
@@ -129,20 +128,20 @@ plan_code : (kind : PlanKind) (d : DomainTree) (p : ProblemTree) (a : Answer) (s
 plan_code kind d p a status (inl found) code = inl (code ∙ ap status_of found.shown)
 plan_code kind d p a status (inr missing) code = inr (inl (code ∙ ap status_of missing.shown))
 
--- a short chain is neither refused nor too long
-never_short : (o : Option (PlainChain FormulaTree)) → o ≡ None → option_map_or (λ (c : PlainChain FormulaTree). nat_le (length c.stages) most_stages) o false ≡ true → ⊥
-never_short o none short = false≢true (sym (ap (λ (x : Option (PlainChain FormulaTree)). option_map_or (λ c. nat_le (length c.stages) most_stages) x false) none) ∙ short)
+-- a short goal is neither refused nor too long
+abbrev is_short : Option (PlainGoal FormulaTree) → Bool
+is_short o = option_map_or (λ (g : PlainGoal FormulaTree). nat_le (part_count g) (most_parts g)) o false
 
-within_limit : (n : ℕ) → nat_le n most_stages ≡ true → n ≤ most_stages
-within_limit n short = leb-true n most_stages short
+never_short : (o : Option (PlainGoal FormulaTree)) → o ≡ None → is_short o ≡ true → ⊥
+never_short o none short = false≢true (sym (ap (λ (x : Option (PlainGoal FormulaTree)). is_short x) none) ∙ short)
 
-few_of : (o : Option (PlainChain FormulaTree)) (c : PlainChain FormulaTree) → o ≡ Some c → option_map_or (λ (c : PlainChain FormulaTree). nat_le (length c.stages) most_stages) o false ≡ true → length c.stages ≤ most_stages
-few_of o c some short = within_limit (length c.stages) (sym (ap (λ (x : Option (PlainChain FormulaTree)). option_map_or (λ c. nat_le (length c.stages) most_stages) x false) some) ∙ short)
+few_of : (o : Option (PlainGoal FormulaTree)) (c : PlainGoal FormulaTree) → o ≡ Some c → is_short o ≡ true → part_count c ≤ most_parts c
+few_of o c some short = leb-true (part_count c) (most_parts c) (sym (ap (λ (x : Option (PlainGoal FormulaTree)). is_short x) some) ∙ short)
 
-chain_sought : (name : Bytes) (p : ProblemTree) (Then : Answer → Type 0) (a : Answer) → is_short_chain p ≡ true → ChainThen name p (λ chain. Then) a → Then a
-chain_sought name p Then a short (inl (none, is)) = absurd (never_short (goal_chain p) none short)
-chain_sought name p Then a short (inr (c, some, inl (many, is))) = absurd (let few = few_of (goal_chain p) c some short in omega (arith, many, few))
-chain_sought name p Then a short (inr (c, some, inr (few, then))) = then
+parts_sought : (name : Bytes) (p : ProblemTree) (Then : Answer → Type 0) (a : Answer) → is_short_goal p ≡ true → ContextGoalThen name p (λ goal. Then) a → Then a
+parts_sought name p Then a short (inl (none, is)) = absurd (never_short (context_goal p) none short)
+parts_sought name p Then a short (inr (c, some, inl (many, is))) = absurd (let few = few_of (context_goal p) c some short in omega (arith, many, few))
+parts_sought name p Then a short (inr (c, some, inr (few, then))) = then
 
 result_code : (kind : PlanKind) (name : Bytes) (d : DomainTree) (p : ProblemTree) (a : Answer) (status : ℕ) → is_sought kind p ≡ true → (system d p).initial ≢ []
     → IsResultOf kind name d p a → status ≡ status_of a → (status ≡ 0) ⊎ (status ≡ 1) ⊎ (status ≡ 8)
@@ -151,19 +150,19 @@ result_code (of_class class) name d p a status sought some r code =
 result_code with_contexts name d p a status sought some r code =
     plan_code with_contexts d p a status
     (with_initial (empty_init name p) (system d p).initial (IsPlanResult with_contexts d p) a some
-    (chain_sought name p (IsResultFrom with_contexts name d p) a sought r)) code
+    (parts_sought name p (IsResultFrom with_contexts name d p) a sought r)) code
 
 -- a plan that is looked for has a goal
-some_chain : (o : Option TemporalTree) → option_map_or (λ (c : PlainChain FormulaTree). nat_le (length c.stages) most_stages) (option_and_then (λ goal. chain_of (ctl_tree goal)) o) false ≡ true → is_some o ≡ true
-some_chain None short = absurd (false≢true short)
-some_chain (Some g) short = refl
+some_goal : (o : Option TemporalTree) → is_short (option_and_then (λ goal. plain_goal (ctl_tree goal)) o) ≡ true → is_some o ≡ true
+some_goal None short = absurd (false≢true short)
+some_goal (Some g) short = refl
 
 sought_has_goal : (kind : PlanKind) (p : ProblemTree) → is_sought kind p ≡ true → has_goal_for kind p ≡ true
 sought_has_goal (of_class class) p sought = sought
-sought_has_goal with_contexts p sought = some_chain p.ctl sought
+sought_has_goal with_contexts p sought = some_goal p.ctl sought
 
 -- a file that is refused has another status than a full table
-refused_not_full : (held : Bytes → Held) (failed : Bytes → Type 0) (Wrong : Bytes → Bytes → Refusal → Type 0) (name : Bytes) (r : Refusal)
+pub refused_not_full : (held : Bytes → Held) (failed : Bytes → Type 0) (Wrong : Bytes → Bytes → Refusal → Type 0) (name : Bytes) (r : Refusal)
     → ((bytes : Bytes) → Wrong name bytes r → status_of_refusal r ≡ 3) → IsRefusedFile held failed Wrong name r → status_of_refusal r ≢ 5
 refused_not_full held failed Wrong name r wrong (inl (is, why)) five = omega (arith, ap status_of_refusal is, five)
 refused_not_full held failed Wrong name r wrong (inr (inl (is, long))) five = omega (arith, ap status_of_refusal is, five)

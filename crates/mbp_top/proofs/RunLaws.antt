@@ -13,7 +13,7 @@ use Rattle.mbp_top.specs.Delivery.{IsDelivered}
 use Rattle.mbp_top.specs.Enough.{IsTightPlan}
 use Rattle.mbp_top.specs.Fetching.{FetchesFiles}
 use Rattle.mbp_top.specs.Grounding.{has_goal_for}
-use Rattle.mbp_top.specs.Laws.{AreQuietSinks, ComesToListing, ComesToReplay, HasStatus, IsAnswered, IsCutOff, IsDrillOf, IsDueAnswer, IsDueStatus, IsFullAtLimit, IsFullDrill, IsListing, IsNo, IsQuietShelf, IsReplayOf, IsYes}
+use Rattle.mbp_top.specs.Laws.{AreQuietSinks, ComesToJudged, ComesToListing, ComesToReplay, HasStatus, IsAcceptance, IsFullRefutation, IsRejection, IsAnswered, IsCutOff, IsDrillOf, IsDueAnswer, IsDueStatus, IsFullAtLimit, IsFullDrill, IsListing, IsNo, IsQuietShelf, IsReplayOf, IsYes}
 use Rattle.mbp_top.specs.Meets.{PlanMeets}
 use Rattle.mbp_top.specs.OneReading.{OneReading}
 use Rattle.mbp_top.specs.PddlTexts.{HoldBoth}
@@ -28,6 +28,7 @@ use Rattle.mbp_top.proofs.Fetched.{fetched_for_memory}
 use Rattle.mbp_top.proofs.DrillWritten.{drill_written, full_drill}
 use Rattle.mbp_top.proofs.GroundWritten.{listing_status, listing_written}
 use Rattle.mbp_top.proofs.PlanWritten.{NoPlanWritten, PlanWritten, full_written, no_plan_written, plan_status, plan_written}
+use Rattle.mbp_top.proofs.RefuteWritten.{AcceptedMeansNone, acceptance_written, full_refutation, refute_status, rejection_written}
 use Rattle.mbp_top.proofs.ReplayWritten.{run_status, run_written}
 use Rattle.mbp_top.proofs.Statuses.{Done, cut_delivery, done, due_status, no_failure, of_delivery, quiet_shelf, quiet_sinks, whole_delivery}
 
@@ -122,6 +123,19 @@ module _ {S : Type 0} (held : S → Bytes → Held) (faults : S → ℕ) (fetche
     pub is_full_drill : IsFullDrill run
     is_full_drill asked says five = full_drill _ _ _ _ _ _ _ _ _ _ _ _ asked it_is says five
 
+    pub is_acceptance : AcceptedMeansNone → IsAcceptance held run
+    is_acceptance law asked says zero =
+        let w = acceptance_written law _ _ _ _ _ _ _ _ _ _ _ _ asked it_is says zero in
+        (w.domain, w.problem, w.certificate, w.both, w.file, w.accepted, w.none, w.written)
+
+    pub is_rejection : IsRejection held run
+    is_rejection asked says one =
+        let w = rejection_written _ _ _ _ _ _ _ _ _ _ _ _ asked it_is says one in
+        (w.domain, w.problem, w.certificate, w.flaw, w.both, w.file, w.first, w.written)
+
+    pub is_full_refutation : IsFullRefutation held run
+    is_full_refutation asked says five = let w = full_refutation _ _ _ _ _ _ _ _ _ _ _ _ asked it_is says five in (w.may, w.written)
+
     pub quiet_shelf_is : IsQuietShelf faults run
     quiet_shelf_is six seven eight =
         let whole = whole_delivery has.answer run.out run.out_after run.err run.err_after run.status has.delivered seven in
@@ -157,6 +171,10 @@ module _ {S : Type 0} (held : S → Bytes → Held) (faults : S → ℕ) (fetche
       pub comes_to_replay : ComesToReplay held faults run
       comes_to_replay asked domain problem plan recorded first says both kept few files u =
           run_status one _ _ _ _ _ _ _ _ _ _ _ _ asked domain problem plan recorded first it_is says both kept few files u.files.told (not_failed u.files.shelf) u.out u.err
+
+      pub comes_to_judged : ComesToJudged held faults run
+      comes_to_judged asked domain problem certificate says both goal kept some file room u =
+          refute_status one _ _ _ _ _ _ _ _ _ _ _ _ asked domain problem certificate it_is says both goal kept some file room u.files.told (not_failed u.files.shelf) u.out u.err
 
       pub is_due_answer : IsDueAnswer held faults run
       is_due_answer answer is told =

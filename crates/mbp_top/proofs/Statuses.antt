@@ -10,9 +10,10 @@ use Rattle.mbp_top.specs.Causes.{HasCause, IsQuietAt, MayHaveFault}
 use Rattle.mbp_top.specs.Delivery.{Seen, IsWhole, IsCut, IsDelivered}
 use Rattle.mbp_top.specs.DrillCommand.{MayDrillRunOut}
 use Rattle.mbp_top.specs.PlanCommand.{MayRunOut}
+use Rattle.mbp_top.specs.RefuteCommand.{MayRefuteRunOut}
 use Rattle.mbp_top.specs.ReplayCommand.{Tallies}
 use Rattle.mbp_top.specs.Told.{AreFilesTold, IsDue, MayStandIn, NoFault}
-use Rattle.mbp_top.specs.Words.{Bytes, DrillWords, PlanWords, SaysDrill, SaysPlan}
+use Rattle.mbp_top.specs.Words.{Bytes, DrillWords, PlanWords, RefuteWords, SaysDrill, SaysPlan, SaysRefute}
 use Rattle.mbp_top.proofs.ByCommand.{due_answer, memory_instead}
 use Rattle.mbp_top.specs.OneReading.{OneReading}
 
@@ -118,13 +119,15 @@ abbrev pub IsFullStatus : (Bytes → Held) → List Bytes → ℕ → Type 0
 IsFullStatus held words status =
     ((status ≡ 5) × (asked : PlanWords) × SaysPlan words asked × MayRunOut held asked)
     ⊎ ((status ≡ 5) × (asked : DrillWords) × SaysDrill words asked × MayDrillRunOut asked)
+    ⊎ ((status ≡ 5) × (asked : RefuteWords) × SaysRefute words asked × MayRefuteRunOut held asked)
 
 same_code : (held : Bytes → Held) (words : List Bytes) (a b : Answer) (status : ℕ) → (a ≡ b) ⊎ MayStandIn held words a → status ≡ status_of a
     → (status ≡ status_of b) ⊎ (status ≡ 8) ⊎ IsFullStatus held words status
 same_code held words a b status (inl is) code = inl (code ∙ ap status_of is)
 same_code held words a b status (inr (inl is)) code = inr (inl (code ∙ ap status_of is))
 same_code held words a b status (inr (inr (inl (asked, says, may, is)))) code = inr (inr (inl (code ∙ ap status_of is, asked, says, may)))
-same_code held words a b status (inr (inr (inr (asked, says, may, is)))) code = inr (inr (inr (code ∙ ap status_of is, asked, says, may)))
+same_code held words a b status (inr (inr (inr (inl (asked, says, may, is))))) code = inr (inr (inr (inl (code ∙ ap status_of is, asked, says, may))))
+same_code held words a b status (inr (inr (inr (inr (asked, says, may, is))))) code = inr (inr (inr (inr (code ∙ ap status_of is, asked, says, may))))
 
 -- the status is that of the answer that is due
 pub due_status : OneReading → (held : Bytes → Held) (failed : Bytes → Type 0) (tallies : Tallies) (words : List Bytes) (before after : ℕ) (out out' err err' : Seen) (status : ℕ) (a b : Answer)

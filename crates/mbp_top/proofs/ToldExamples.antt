@@ -3,11 +3,14 @@ use Rattle.std.proofs.Common.{◌≡◌, List, [], ◌∷◌, ◌++◌, arith, c
 use Rattle.std.specs.Fmt.{digits}
 use Rattle.plan_io.specs.Held.{Held, Missing}
 use Rattle.plan_rules.specs.Texts.{line_feed}
+use Rattle.refute_cert.specs.declared.verdict.Flaw.TheVariants.{Goal}
+use Rattle.refute_cert.specs.declared.verdict.Judged.TheVariants.{Accepted, Rejected}
 use Rattle.task_core.specs.declared.classes.Class.TheVariants.{Weak, Strong}
 use Rattle.mbp_top.specs.Answers.{full, no_command, over_limit, read_fault, refused, status_of, text_of}
+use Rattle.mbp_top.specs.RefuteCommand.{judged_answer}
 use Rattle.mbp_top.specs.ReplayCommand.{Tallies}
 use Rattle.mbp_top.specs.Told.{AreFilesTold, IsDue}
-use Rattle.mbp_top.specs.Words.{Bytes, Command, PlanWords, of_class, plan, ground, check, replay, drill, Says, files_of}
+use Rattle.mbp_top.specs.Words.{Bytes, Command, PlanWords, of_class, plan, ground, check, refute, replay, drill, Says, files_of}
 
 -- the words `plan weak coin-d coin-p`, the command that they say, and the two files that it names
 abbrev coin_words : List Bytes
@@ -43,6 +46,17 @@ few_said = record {
   options = inr refl;
 }
 
+-- the words `refute coin-d coin-p cert --nodes 40`, the command that they say, and its three files
+refute_said : Says (codes "refute" ∷ codes "coin-d" ∷ codes "coin-p" ∷ codes "cert" ∷ codes "--nodes" ∷ codes "40" ∷ [])
+    (refute (record { domain = codes "coin-d"; problem = codes "coin-p"; certificate = codes "cert"; options = record { nodes = 40 } }))
+unfolding digits
+refute_said = record {
+  room = (omega arith, omega arith);
+  rest = codes "--nodes" ∷ codes "40" ∷ [];
+  written = refl;
+  options = inr refl;
+}
+
 -- a shelf that holds nothing tells of every file, whatever the words
 empty_shelf_told : (words : List Bytes) → AreFilesTold (λ file. Missing) words
 empty_shelf_told words command file says named untold = cc
@@ -63,6 +77,7 @@ plan_alone (ground asked) says = cc
 plan_alone (check asked) says = cc
 plan_alone (replay asked) says = cc
 plan_alone (drill asked) says = let written = says.written in cc
+plan_alone (refute asked) says = let written = says.written in cc
 
 -- so the answer to it is that, whatever the files
 no_command_due : (held : Bytes → Held) (tallies : Tallies) → IsDue held tallies (codes "plan" ∷ []) (refused no_command)
@@ -77,3 +92,13 @@ full_status = refl
 
 long_line : text_of (refused (over_limit (codes "file"))) ≡ codes "limit file" ++ line_feed
 long_line = refl
+
+-- verdicts on certificates
+accepted_status : status_of (judged_answer Accepted) ≡ 0
+accepted_status = refl
+
+goal_text : text_of (judged_answer (Rejected Goal)) ≡ codes "rejected goal" ++ line_feed
+goal_text = refl
+
+goal_status : status_of (judged_answer (Rejected Goal)) ≡ 1
+goal_status = refl

@@ -20,9 +20,12 @@ use Rattle.mbp_top.specs.PddlTexts.{IsFaultyDomain, IsFaultyProblem, ReadBoth}
 use Rattle.mbp_top.specs.PlanCommand.{IsPlanResult, IsPlanned, IsResultOf}
 use Rattle.mbp_top.specs.PlanFiles.{IsFaultyPlan}
 use Rattle.mbp_top.specs.Reading.{IsFile, IsRefusedFile}
+use Rattle.mbp_top.specs.RefuteCommand.{IsFaultyCertificate, IsRefuted, judged_answer}
+use Rattle.refute_cert.specs.declared.verdict.Judged.{Judged}
+use Rattle.refute_cert.specs.declared.verdict.Judged.TheVariants.{Accepted, Rejected}
 use Rattle.mbp_top.specs.ReplayCommand.{IsFaultyRecord, IsReplay, Tallies, ended_answer, trace_under}
 use Rattle.mbp_top.specs.Runs.{FailedIn, HasRun, Run}
-use Rattle.mbp_top.specs.Words.{Bytes, CheckWords, Command, DrillWords, PlanKind, PlanWords, ReplayWords, check, drill, files_of, ground, of_class, plan, replay, with_contexts}
+use Rattle.mbp_top.specs.Words.{Bytes, CheckWords, Command, DrillWords, PlanKind, PlanWords, ReplayWords, check, drill, files_of, ground, of_class, plan, replay, with_contexts, RefuteWords, refute}
 use Rattle.mbp_top.proofs.ByCommand.{of_command}
 use Rattle.mbp_top.proofs.PddlDecides.{not_refused}
 use Rattle.mbp_top.proofs.Statuses.{whole_delivery}
@@ -120,6 +123,10 @@ verdict_has_other (Yes None) six = omega (arith, six)
 verdict_has_other (Yes (Some bound)) six = omega (arith, six)
 verdict_has_other (No reason) six = omega (arith, six)
 
+judged_has_other : (j : Judged) → status_of (judged_answer j) ≢ 6
+judged_has_other Accepted six = omega (arith, six)
+judged_has_other (Rejected flaw) six = omega (arith, six)
+
 ending_has_other : (text : Bytes) (e : Ending) → status_of (ended_answer text e) ≢ 6
 ending_has_other text Terminal six = omega (arith, six)
 ending_has_other text Ended six = omega (arith, six)
@@ -162,6 +169,18 @@ module _ (held : Bytes → Held) (failed : Bytes → Type 0) (a : Answer) (six :
     go (inr (some, inr (within, inr (placed, holds, inr (right, inr (inr (few, small, inl (none, is)))))))) = absurd (omega (arith, ap status_of is, six))
     go (inr (some, inr (within, inr (placed, holds, inr (right, inr (inr (few, small, inr (first, (v, of, is))))))))) = absurd (verdict_has_other v (sym (ap status_of is) ∙ six))
 
+  in_refute : (asked : RefuteWords) → BothRead held asked.domain asked.problem (IsRefuted held failed asked) a → UnreadAt held failed (files_of (refute asked)) a
+  in_refute asked both = go both.then where
+    go : IsRefuted held failed asked both.domain both.problem a → UnreadAt held failed (files_of (refute asked)) a
+    go (inl (none, is)) = absurd (omega (arith, ap status_of is, six))
+    go (inr (some, inl (l, passed, is))) = absurd (omega (arith, ap status_of is, six))
+    go (inr (some, inr (within, inl (r, is, why)))) =
+        unread_at held failed (files_of (refute asked)) a r 2 asked.certificate (omega arith) refl
+        (two_before held asked.domain asked.problem (asked.certificate ∷ []) both.domain_bytes both.problem_bytes both.domain_file both.problem_file) is
+        (unread_file held failed (IsFaultyCertificate (fluent_names both.domain both.problem)) asked.certificate r (λ bytes wrong. ap status_of_refusal wrong.2) why (sym (ap status_of is) ∙ six))
+    go (inr (some, inr (within, inr (certificate, holds, inl (none, is))))) = absurd (omega (arith, ap status_of is, six))
+    go (inr (some, inr (within, inr (certificate, holds, inr (first, (j, of, is)))))) = absurd (judged_has_other j (sym (ap status_of is) ∙ six))
+
   in_replay : (tallies : Tallies) (asked : ReplayWords) → BothRead held asked.domain asked.problem (IsReplay held failed tallies asked) a → UnreadAt held failed (files_of (replay asked)) a
   in_replay tallies asked both = go both.then where
     go : IsReplay held failed tallies asked both.domain both.problem a → UnreadAt held failed (files_of (replay asked)) a
@@ -199,6 +218,11 @@ module _ (held : Bytes → Held) (failed : Bytes → Type 0) (a : Answer) (six :
     go (inl is) = is
     go (inr both) = in_replay tallies asked both
   of_answer tallies (drill asked) is = absurd (drill_has_other asked a is six)
+  of_answer tallies (refute asked) (inl (may, is)) = absurd (omega (arith, ap status_of is, six))
+  of_answer tallies (refute asked) (inr read) = go (unread_both held failed asked.domain asked.problem (asked.certificate ∷ []) (IsRefuted held failed asked) a read six) where
+    go : UnreadAt held failed (files_of (refute asked)) a ⊎ BothRead held asked.domain asked.problem (IsRefuted held failed asked) a → UnreadAt held failed (files_of (refute asked)) a
+    go (inl is) = is
+    go (inr both) = in_refute asked both
 
 module _ {S : Type 0} (held : S → Bytes → Held) (faults : S → ℕ) (fetched : S → Bytes → S → Type 0) (run : Run S) (has : HasRun held faults fetched run) where
   pub is_unread : IsUnread held faults fetched run

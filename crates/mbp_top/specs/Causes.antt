@@ -10,9 +10,10 @@ use Rattle.mbp_top.specs.CheckCommand.{IsCheckAnswer}
 use Rattle.mbp_top.specs.DrillCommand.{IsDrillAnswer}
 use Rattle.mbp_top.specs.GroundCommand.{IsGroundAnswer}
 use Rattle.mbp_top.specs.PlanCommand.{IsPlanAnswer}
+use Rattle.mbp_top.specs.RefuteCommand.{IsRefuteAnswer}
 use Rattle.mbp_top.specs.ReplayCommand.{IsReplayAnswer, Tallies}
 use Rattle.mbp_top.specs.Words.{Bytes, Command, plan, ground, check, replay, drill, Says}
-use Rattle.mbp_top.specs.Words.{SayNothing}
+use Rattle.mbp_top.specs.Words.{SayNothing, refute}
 
 -- the answer of a command
 abbrev pub IsAnswerOf : (Bytes → Held) → (Bytes → Type 0) → Tallies → Command → Answer → Type 0
@@ -21,6 +22,7 @@ IsAnswerOf held failed tallies (ground asked) = IsGroundAnswer held failed asked
 IsAnswerOf held failed tallies (check asked) = IsCheckAnswer held failed asked
 IsAnswerOf held failed tallies (replay asked) = IsReplayAnswer held failed tallies asked
 IsAnswerOf held failed tallies (drill asked) = IsDrillAnswer asked
+IsAnswerOf held failed tallies (refute asked) = IsRefuteAnswer held failed asked
 
 abbrev pub HasCause : (Bytes → Held) → (Bytes → Type 0) → Tallies → List Bytes → Answer → Type 0
 HasCause held failed tallies words answer =

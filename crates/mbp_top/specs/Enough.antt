@@ -1,14 +1,14 @@
 -- How many nodes are enough for the sets of a planning problem, and when a limit may be too small.
 -- There are two numbers that are enough: one by the sizes of the problem alone, and one by the sizes
 -- of the sets that a search makes. A table may be too small where it is for both.
-use Rattle.std.specs.Prelude.{◌≡◌, ℕ, ◌+◌, ◌*◌, ◌^◌, ◌<◌, length, Some}
-use Rattle.std.specs.Option.{option_map}
-use Rattle.ctl_syntax.specs.ChainValues.{chain_value}
-use Rattle.ctl_syntax.specs.declared.chains.Chain.{Chain}
+use Rattle.std.specs.Prelude.{ℕ, ◌+◌, ◌*◌, ◌^◌, ◌<◌}
+use Rattle.ctl_syntax.specs.declared.far.Far.TheVariants.{Patrol, Until}
 use Rattle.chain_plan.specs.WorkingSets.{IsWide as BoundsChainSets}
 use Rattle.cyclic_plan.specs.WorkingSets.{IsWide as BoundsCyclicSets}
 use Rattle.dd_sets.specs.Rooms.{Tight}
 use Rattle.encode_task.specs.KeptSets.{kept_nodes}
+use Rattle.patrol_plan.specs.PatrolWorkingSets.{IsWide as BoundsPatrolSets}
+use Rattle.patrol_plan.specs.WorkingSets.{IsWide as BoundsUntilSets}
 use Rattle.pddl_ast.specs.Trees.{DomainTree, ProblemTree}
 use Rattle.reach_plan.specs.WorkingSets.{IsWide as BoundsReachSets}
 use Rattle.task_core.specs.Systems.{System, most_outcomes}
@@ -17,12 +17,15 @@ use Rattle.task_core.specs.declared.classes.Class.{Class}
 use Rattle.task_core.specs.declared.classes.Class.TheVariants.{Weak, Strong, Cyclic}
 use Rattle.task_core.specs.declared.tasks.Task.{Task}
 use Rattle.pddl_system.specs.Systems.{system}
-use Rattle.mbp_top.specs.ChainGoals.{goal_chain, grounded_chain, stage_count}
+use Rattle.mbp_top.specs.ContextGoals.{stage_count}
+use Rattle.mbp_top.specs.GoalConditions.{IsGoalOf, count_of}
 use Rattle.mbp_top.specs.Grounded.{IsTaskOf}
 use Rattle.mbp_top.specs.Words.{PlanKind, of_class, with_contexts}
+use Rattle.mbp_top.specs.declared.context_goals.ContextGoal.{ContextGoal}
+use Rattle.mbp_top.specs.declared.context_goals.ContextGoal.TheVariants.{Chain, Far}
 
--- nodes that are enough for all sets that are live at a time and for one operation, where a chain
--- of so many stages is looked for, or a plan of a class (no stages). Over F fluents a set has fewer
+-- nodes that are enough for all sets that are live at a time and for one operation, where a plan for
+-- so many stages or visits is looked for, or a plan of a class (no stages). Over F fluents a set has fewer
 -- than 2 ^ F nodes and an operation makes fewer than 4 ^ F; an action has sets of its own, one for
 -- each stage, and for each outcome one a fluent and one more (Bryant 1986: the size of a reduced
 -- diagram)
@@ -65,31 +68,33 @@ pub record IsTightTask (stages nodes : ℕ) (task : Task) (Bounds : ℕ → Type
   pub by_sizes : IsTightLimit stages nodes (system_of task)
   pub by_sets : IsTightBySets stages nodes task Bounds
 
--- Private: for a plan of a class, or for a plan with contexts for a chain
+-- w bounds the sets that a search for a plan with contexts makes, for a chain, an until-chain or a
+-- patrol goal
+abbrev pub BoundsGoalSets : ContextGoal → Task → ℕ → Type 0
+BoundsGoalSets (Chain chain) task w = BoundsChainSets w task chain
+BoundsGoalSets (Far (Until chain)) task w = BoundsUntilSets w task chain
+BoundsGoalSets (Far (Patrol visits)) task w = BoundsPatrolSets w task visits.items
+
+-- Private: for a plan of a class, or for a plan with contexts for a goal
 abbrev pub IsTightForClass : Class → ℕ → Task → Type 0
 IsTightForClass class nodes task = IsTightTask 0 nodes task (BoundsSets class task)
 
-abbrev pub IsTightForChain : Chain → ℕ → Task → Type 0
-IsTightForChain chain nodes task =
-    IsTightTask (length chain.stages.items) nodes task (λ w. BoundsChainSets w task chain)
-
--- the chain is the one that the problem's goal is, over the task's conditions
-abbrev pub IsChainOf : DomainTree → ProblemTree → Chain → Type 0
-IsChainOf domain problem chain =
-    Some (chain_value chain) ≡ option_map (grounded_chain domain problem) (goal_chain problem)
+abbrev pub IsTightForGoal : ContextGoal → ℕ → Task → Type 0
+IsTightForGoal goal nodes task =
+    IsTightTask (count_of goal) nodes task (BoundsGoalSets goal task)
 
 -- they are fewer than are enough by the sets of a search for a plan of the kind for the task that the
--- domain and the problem spell, and for its chain
+-- domain and the problem spell, and for its goal
 abbrev pub IsTightForKind : PlanKind → ℕ → DomainTree → ProblemTree → Type 0
 IsTightForKind (of_class class) nodes domain problem =
     (task : Task) × IsTaskOf domain problem task
     × IsTightBySets 0 nodes task (BoundsSets class task)
 IsTightForKind with_contexts nodes domain problem =
-    (task : Task) × (chain : Chain) × IsTaskOf domain problem task
-    × IsChainOf domain problem chain
-    × IsTightBySets (length chain.stages.items) nodes task (λ w. BoundsChainSets w task chain)
+    (task : Task) × (goal : ContextGoal) × IsTaskOf domain problem task
+    × IsGoalOf domain problem goal
+    × IsTightBySets (count_of goal) nodes task (BoundsGoalSets goal task)
 
--- the stages of the goal; a goal by reachability has none
+-- the stages or visits of the goal; a goal by reachability has none
 abbrev pub stages_for : PlanKind → ProblemTree → ℕ
 stages_for (of_class class) problem = 0
 stages_for with_contexts problem = stage_count problem

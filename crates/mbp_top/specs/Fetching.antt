@@ -11,12 +11,12 @@ use Rattle.plan_io.specs.Held.{Held}
 use Rattle.plan_rules.specs.Rules.{PlainPlan}
 use Rattle.task_core.specs.Names.{Name}
 use Rattle.mbp_top.specs.Answers.{Answer, no_memory, refused}
-use Rattle.mbp_top.specs.Grounding.{GoalThen, GroundThen, has_goal_for}
+use Rattle.mbp_top.specs.Grounding.{GoalThen, GroundThen, for_tables, has_goal_for}
 use Rattle.mbp_top.specs.PddlTexts.{HoldBoth, IsFaultyDomain, ReadBoth}
 use Rattle.mbp_top.specs.PlanFiles.{HoldsPlan, IsFaultyPlan, SpellsPlaced}
 use Rattle.mbp_top.specs.Reading.{Holds, ReadThen}
 use Rattle.mbp_top.specs.Words.{Bytes, CheckWords, Command, ReplayWords, check, ground, plan}
-use Rattle.mbp_top.specs.Words.{drill, replay}
+use Rattle.mbp_top.specs.Words.{RefuteWords, drill, refute, replay}
 
 -- the file of this name spells a domain
 abbrev pub HoldsDomain : (Bytes → Held) → Bytes → Type 0
@@ -92,6 +92,15 @@ FetchPlan {S} held failed fetched asked answer =
     GoalThen asked.kind asked.problem problem (GroundThen domain problem (λ answer. ⊥)))) answer)
     (AsksForPlan held asked) (Fetches fetched (asked.plan ∷ []))
 
+-- `refute` asks for its certificate where `check` of a table would ask for its plan
+abbrev pub as_check : RefuteWords → CheckWords
+as_check asked = record {
+  kind = for_tables;
+  domain = asked.domain;
+  problem = asked.problem;
+  plan = asked.certificate;
+}
+
 -- the file of a plan is fetched, which may decide the answer (`Cause`); or it spells a plan
 -- (`HoldsOne`), and then that of a record is
 abbrev pub FetchRecord : {S : Type 0} → (S → Bytes → S → Type 0) → ReplayWords
@@ -136,3 +145,6 @@ FetchesFiles {S} held failed fetched (replay asked) answer =
     FetchDomain held failed fetched asked.domain answer
     (FetchRun held failed fetched asked answer)
 FetchesFiles {S} held failed fetched (drill asked) answer = FetchesNothing
+FetchesFiles {S} held failed fetched (refute asked) answer =
+    FetchDomain held failed fetched asked.domain answer
+    (FetchPlan held failed fetched (as_check asked) answer)

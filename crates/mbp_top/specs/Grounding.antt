@@ -6,6 +6,7 @@ use Rattle.pddl_system.specs.Sizes.{Limit, object_limit, size_limit, instance_li
 use Rattle.pddl_system.specs.Sizes.{outcome_limit, fluent_limit, first_passed}
 use Rattle.sexpr_text.specs.declared.faults.FaultKind.TheVariants.{WrongGoalKind}
 use Rattle.mbp_top.specs.Answers.{Answer, refused, over_limit, text_fault}
+use Rattle.task_core.specs.declared.classes.Class.TheVariants.{Weak}
 use Rattle.mbp_top.specs.Words.{Bytes, PlanKind, of_class, with_contexts}
 
 -- the name of a limit
@@ -29,6 +30,10 @@ GroundThen domain problem Then answer =
 abbrev pub has_goal_for : PlanKind → ProblemTree → Bool
 has_goal_for (of_class class) problem = is_some problem.goal
 has_goal_for with_contexts problem = is_some problem.ctl
+
+-- a kind of plans for a goal by reachability: the same goal is wanted for each class
+abbrev pub for_tables : PlanKind
+for_tables = of_class Weak
 
 -- the problem in the file of this name has no goal for plans of the kind, which is a fault at its
 -- definition; or it has one, and then comes what Then says

@@ -1,18 +1,23 @@
 -- What follows for every run that has its cause: statements of laws. `held`, `faults` and `fetched`
 -- are what the shelf tells.
 use Rattle.std.specs.Prelude.{◌≡◌, ◌≢◌, ◌<◌, ◌⊎◌, ℕ, [], ◌∷◌, Contains, List, None, Option}
-use Rattle.std.specs.Prelude.{length, slice_index_or}
+use Rattle.std.specs.Prelude.{length, slice_index_or, true}
 use Rattle.std.specs.Io.KnownBytes.{append_known}
 use Rattle.pddl_ast.specs.Trees.{DomainTree, ProblemTree}
 use Rattle.pddl_system.specs.Sizes.{first_passed}
 use Rattle.pddl_system.specs.Systems.{action_names, fluent_names, system}
+use Rattle.plan_certs.specs.Certificates.{IsAccepted, PlainCertificate}
 use Rattle.plan_check.specs.declared.verdicts.Reason.{Reason}
 use Rattle.plan_check.specs.declared.verdicts.Verdict.TheVariants.{Yes, No}
 use Rattle.plan_io.specs.Fetches.{Fetches}
 use Rattle.plan_io.specs.Held.{Held, Missing}
 use Rattle.plan_rules.specs.Rules.{PlainPlan}
+use Rattle.refute_cert.specs.Judgements.{IsVerdict}
+use Rattle.refute_cert.specs.declared.verdict.Flaw.{Flaw}
+use Rattle.refute_cert.specs.declared.verdict.Judged.TheVariants.{Accepted, Rejected}
 use Rattle.run_replay.specs.Records.{RecordTree}
 use Rattle.run_replay.specs.declared.worlds.Step.{Step}
+use Rattle.task_core.specs.Solutions.{HasNoSolution}
 use Rattle.task_core.specs.Vectors.{Vector}
 use Rattle.task_core.specs.declared.classes.Class.TheVariants.{Weak, Strong, Cyclic}
 use Rattle.mbp_top.specs.Answers.{Answer, full, read_fault, refused, status_of, text_of}
@@ -26,12 +31,15 @@ use Rattle.mbp_top.specs.PddlTexts.{HoldBoth}
 use Rattle.mbp_top.specs.PlanCommand.{MayRunOut}
 use Rattle.mbp_top.specs.PlanFiles.{HoldsPlan}
 use Rattle.mbp_top.specs.Reading.{IsFile}
+use Rattle.mbp_top.specs.Grounding.{for_tables, has_goal_for}
+use Rattle.mbp_top.specs.RefuteCommand.{HoldsCertificate, IsTightVerdict, MayRefuteRunOut}
+use Rattle.mbp_top.specs.RefuteCommand.{judged_answer}
 use Rattle.mbp_top.specs.ReplayCommand.{AreToldAs, HoldRun, ended_status, replay_text, trace_under}
 use Rattle.mbp_top.specs.Runs.{FailedIn, HasRun, IsTold, IsUndisturbed, Run}
 use Rattle.mbp_top.specs.Told.{IsDue, MayStandIn}
 use Rattle.mbp_top.specs.Words.{Bytes, CheckWords, GroundWords, PlanWords, ReplayWords, SaysCheck}
 use Rattle.mbp_top.specs.Words.{DrillWords, SaysDrill, SaysGround, SaysPlan, SaysReplay}
-use Rattle.mbp_top.specs.Words.{Command, Says, default_nodes, files_of}
+use Rattle.mbp_top.specs.Words.{Command, RefuteWords, Says, SaysRefute, default_nodes, files_of}
 
 -- of every run that has its cause
 abbrev pub OfRuns : {S : Type 0} → (S → Bytes → Held) → (S → ℕ) → (S → Bytes → S → Type 0)
@@ -173,6 +181,62 @@ IsFullDrill {S} run =
     × (run.err_after.written
     ≡ append_known run.err.written (text_of (refused (full default_nodes))))
 
+-- `refute`, status 0: the certificate that the third file spells is accepted for the problem that the
+-- two others spell, so that no table at all is a solution of its class; and the text that was written
+-- says that it is accepted
+abbrev pub IsAcceptance : {S : Type 0} → (S → Bytes → Held) → Run S → Type 0
+IsAcceptance {S} held run =
+    (asked : RefuteWords) → SaysRefute run.words asked → run.status ≡ 0
+    → (domain : DomainTree) × (problem : ProblemTree) × (certificate : PlainCertificate)
+    × HoldBoth (held run.shelf) asked.domain asked.problem domain problem
+    × HoldsCertificate (held run.shelf) (fluent_names domain problem) asked.certificate
+    certificate
+    × IsAccepted (system domain problem) certificate
+    × HasNoSolution certificate.class (system domain problem)
+    × (run.out_after.written
+    ≡ append_known run.out.written (text_of (judged_answer Accepted)))
+
+-- `refute`, status 1: the text that was written names the first thing that is wrong with the
+-- certificate
+abbrev pub IsRejection : {S : Type 0} → (S → Bytes → Held) → Run S → Type 0
+IsRejection {S} held run =
+    (asked : RefuteWords) → SaysRefute run.words asked → run.status ≡ 1
+    → (domain : DomainTree) × (problem : ProblemTree) × (certificate : PlainCertificate)
+    × (flaw : Flaw)
+    × HoldBoth (held run.shelf) asked.domain asked.problem domain problem
+    × HoldsCertificate (held run.shelf) (fluent_names domain problem) asked.certificate
+    certificate
+    × IsVerdict (system domain problem) certificate (Rejected flaw)
+    × (run.out_after.written
+    ≡ append_known run.out.written (text_of (judged_answer (Rejected flaw))))
+
+-- `refute`, status 5: the number of nodes may be too small for the verdict on the certificate, and it
+-- is what was written
+abbrev pub IsFullRefutation : {S : Type 0} → (S → Bytes → Held) → Run S → Type 0
+IsFullRefutation {S} held run =
+    (asked : RefuteWords) → SaysRefute run.words asked → run.status ≡ 5
+    → MayRefuteRunOut (held run.shelf) asked
+    × (run.err_after.written
+    ≡ append_known run.err.written (text_of (refused (full asked.options.nodes))))
+
+-- `refute` of files that spell a problem within the limits, with an initial state and a goal, and a
+-- certificate, and of enough nodes: status 0 exactly where the certificate is accepted, if no fault
+-- comes
+abbrev pub ComesToJudged : {S : Type 0} → (S → Bytes → Held) → (S → ℕ) → Run S → Type 0
+ComesToJudged {S} held faults run =
+    (asked : RefuteWords) (domain : DomainTree) (problem : ProblemTree)
+    (certificate : PlainCertificate) → SaysRefute run.words asked
+    → HoldBoth (held run.shelf) asked.domain asked.problem domain problem
+    → has_goal_for for_tables problem ≡ true → first_passed domain problem ≡ None
+    → (system domain problem).initial ≢ []
+    → HoldsCertificate (held run.shelf) (fluent_names domain problem) asked.certificate
+    certificate
+    → (IsTightVerdict asked.options.nodes domain problem certificate → ⊥)
+    → IsUndisturbed held faults run
+    → ((run.status ≡ 0) × IsAccepted (system domain problem) certificate)
+    ⊎ ((run.status ≡ 1) × (IsAccepted (system domain problem) certificate → ⊥))
+    ⊎ (run.status ≡ 8)
+
 -- the file of this place in the command can't be read: there is none of its name, or the count of
 -- faults rose in its fetch, the last of the run. The files before it were read, and its name is what
 -- was written
@@ -223,6 +287,8 @@ IsDueStatus {S} held faults run =
     × MayRunOut (held run.shelf) asked)
     ⊎ ((run.status ≡ 5) × (asked : DrillWords) × SaysDrill run.words asked
     × MayDrillRunOut asked)
+    ⊎ ((run.status ≡ 5) × (asked : RefuteWords) × SaysRefute run.words asked
+    × MayRefuteRunOut (held run.shelf) asked)
 
 -- the shelf's count of faults is as it was unless a file can't be read, the answer can't be written
 -- or memory is wanted

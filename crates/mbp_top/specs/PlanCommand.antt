@@ -3,9 +3,6 @@
 -- those of the system's fluents and actions, by their numbers.
 use Rattle.std.specs.Prelude.{◌≡◌, ℕ, ◌⊎◌, ⊤, List, Contains, ◌++◌, codes, None, Some, is_some}
 use Rattle.std.specs.Prelude.{Bool, true}
-use Rattle.plan_theory.specs.Chains.{context_count}
-use Rattle.plan_theory.specs.ChainPrinted.{chain_rules}
-use Rattle.ctl_syntax.specs.Chains.{PlainChain}
 use Rattle.pddl_ast.specs.Trees.{DomainTree, FormulaTree, ProblemTree}
 use Rattle.pddl_system.specs.Sizes.{first_passed}
 use Rattle.pddl_system.specs.Systems.{system, fluent_names, action_names}
@@ -33,7 +30,8 @@ use Rattle.mbp_top.specs.Enough.{IsTightPlan}
 use Rattle.mbp_top.specs.InitialStates.{InitialThen, empty_init}
 use Rattle.mbp_top.specs.Meets.{Meaning, Meets, PlanMeets}
 use Rattle.mbp_top.specs.PddlTexts.{HoldBoth, ReadBoth}
-use Rattle.mbp_top.specs.ChainGoals.{ChainThen, chained_of, goal_chain, is_short_chain}
+use Rattle.mbp_top.specs.ContextGoals.{ContextGoalThen, PlainGoal, context_goal, is_short_goal}
+use Rattle.mbp_top.specs.GoalSets.{GoalSets, contexts_for, goal_sets, rules_for}
 use Rattle.mbp_top.specs.Words.{Bytes, PlanKind, PlanWords, of_class, with_contexts}
 
 -- the plan is written for the kind: a table for the class, or an automaton
@@ -107,14 +105,18 @@ pub record IsPrintedText (class : Class) (sys : System) (fluents actions : List 
 abbrev pub no_plan_text : Bytes
 no_plan_text = codes "no plan" ++ line_feed
 
--- the text is the one that is printed for a chain: in each context the action towards the first
--- stage that isn't met
-abbrev pub IsPrintedChain : DomainTree → ProblemTree → Bytes → Type 0
-IsPrintedChain domain problem text =
-    (chain : PlainChain FormulaTree) × (goal_chain problem ≡ Some chain)
-    × (text ≡ automaton_text (fluent_names domain problem) (action_names domain problem)
-    (context_count (chained_of domain problem chain))
-    (chain_rules (system domain problem) (chained_of domain problem chain)))
+-- the text of the plan that is printed for a goal, as sets of states
+abbrev pub text_for : DomainTree → ProblemTree → GoalSets → Bytes
+text_for domain problem sets =
+    automaton_text (fluent_names domain problem) (action_names domain problem)
+    (contexts_for sets) (rules_for (system domain problem) sets)
+
+-- the text is the one that is printed for a chain, an until-chain or a patrol goal: in each context
+-- the action towards the first stage that isn't met, or towards the visit that is made next
+abbrev pub IsPrintedPlan : DomainTree → ProblemTree → Bytes → Type 0
+IsPrintedPlan domain problem text =
+    (goal : PlainGoal FormulaTree) × (context_goal problem ≡ Some goal)
+    × (text ≡ text_for domain problem (goal_sets domain problem goal))
 
 -- the text's plan is as short as any; of plans with contexts nothing is said
 abbrev pub IsShortText : PlanKind → DomainTree → ProblemTree → Bytes → Type 0
@@ -128,7 +130,7 @@ abbrev pub IsTextPrinted : PlanKind → DomainTree → ProblemTree → Bytes →
 IsTextPrinted (of_class class) domain problem =
     IsPrintedText class (system domain problem) (fluent_names domain problem)
     (action_names domain problem)
-IsTextPrinted with_contexts domain problem = IsPrintedChain domain problem
+IsTextPrinted with_contexts domain problem = IsPrintedPlan domain problem
 
 -- there is no plan of the kind: nothing that a plan can mean meets the problem, no table whatever
 -- its pairs, and no plan with contexts whatever its contexts are and however many
@@ -161,20 +163,21 @@ IsResultFrom kind name domain problem =
     InitialThen (empty_init name problem) (system domain problem).initial
     (IsPlanResult kind domain problem)
 
--- the answer for a domain and a problem: with contexts the goal is first to be a short chain
+-- the answer for a domain and a problem: with contexts the goal is first to be a short chain,
+-- until-chain or patrol goal
 abbrev pub IsResultOf : PlanKind → Bytes → DomainTree → ProblemTree → Answer → Type 0
 IsResultOf (of_class class) name domain problem = IsResultFrom (of_class class) name domain problem
 IsResultOf with_contexts name domain problem =
-    ChainThen name problem (λ chain. IsResultFrom with_contexts name domain problem)
+    ContextGoalThen name problem (λ goal. IsResultFrom with_contexts name domain problem)
 
 abbrev pub PlanThen : PlanWords → DomainTree → ProblemTree → Answer → Type 0
 PlanThen asked domain problem = IsResultOf asked.kind asked.problem domain problem
 
 -- a plan of the kind is looked for: there is a goal for it, and a goal in computation tree logic is
--- a chain of no more stages than may be
+-- a chain, an until-chain or a patrol goal of no more stages or visits than may be
 abbrev pub is_sought : PlanKind → ProblemTree → Bool
 is_sought (of_class class) problem = is_some problem.goal
-is_sought with_contexts problem = is_short_chain problem
+is_sought with_contexts problem = is_short_goal problem
 
 -- what follows once both are read: the goal is of the kind that is wanted, the limits are kept, there
 -- is an initial state, and a plan is looked for

@@ -6,9 +6,10 @@ use Rattle.mbp_top.specs.Answers.{Answer, refused, full, no_memory}
 use Rattle.mbp_top.specs.Causes.{HasCause}
 use Rattle.mbp_top.specs.DrillCommand.{MayDrillRunOut}
 use Rattle.mbp_top.specs.PlanCommand.{MayRunOut}
+use Rattle.mbp_top.specs.RefuteCommand.{MayRefuteRunOut}
 use Rattle.mbp_top.specs.ReplayCommand.{Tallies}
 use Rattle.mbp_top.specs.Words.{Bytes, Command, DrillWords, PlanWords, Says, SaysDrill, SaysPlan}
-use Rattle.mbp_top.specs.Words.{default_nodes, files_of}
+use Rattle.mbp_top.specs.Words.{RefuteWords, SaysRefute, default_nodes, files_of}
 
 -- of each file that the words name, the shelf tells its bytes, or that there is none
 abbrev pub AreFilesTold : (Bytes → Held) → List Bytes → Type 0
@@ -26,8 +27,8 @@ pub record IsDue (held : Bytes → Held) (tallies : Tallies) (words : List Bytes
   pub not_full : (nodes : ℕ) → answer ≢ refused (full nodes)
 
 -- an answer that may be given in place of one that is due: want of memory; or that the table of
--- nodes is full, where the words ask for a plan of a problem, or for plans of one that is made, for
--- which the limit may be too small
+-- nodes is full, where the words ask for a plan of a problem, or for plans of one that is made, or for
+-- a verdict on a certificate, for which the limit may be too small
 abbrev pub MayStandIn : (Bytes → Held) → List Bytes → Answer → Type 0
 MayStandIn held words given =
     (given ≡ refused no_memory)
@@ -35,6 +36,8 @@ MayStandIn held words given =
     × (given ≡ refused (full asked.options.nodes)))
     ⊎ ((asked : DrillWords) × SaysDrill words asked × MayDrillRunOut asked
     × (given ≡ refused (full default_nodes)))
+    ⊎ ((asked : RefuteWords) × SaysRefute words asked × MayRefuteRunOut held asked
+    × (given ≡ refused (full asked.options.nodes)))
 
 -- no fault came: the count of faults didn't rise
 abbrev pub NoFault : ℕ → ℕ → Type 0

@@ -13,12 +13,13 @@ use Rattle.mbp_top.specs.Words.{Bytes, PlanKind, PlanOptions, PlanWords, GroundW
 use Rattle.mbp_top.specs.Words.{of_class, plan, with_contexts}
 use Rattle.mbp_top.specs.Words.{ReplayWords, ground, check, replay, Says, SayNothing}
 use Rattle.mbp_top.specs.Words.{DrillKind, DrillWords, corridors, roads, drill}
+use Rattle.mbp_top.specs.Words.{RefuteWords, refute}
 use Rattle.sexpr_text.specs.declared.faults.ReadErr.{ReadErr}
 use Rattle.sexpr_text.specs.declared.faults.ReadErr.TheVariants.{Fault, Memory}
 use Rattle.mbp_top.specs.declared.answers.Limit.{Limit}
 use Rattle.mbp_top.specs.declared.answers.Limit.TheVariants.{File, Objects, Size, Instances}
 use Rattle.mbp_top.specs.declared.answers.Limit.TheVariants.{Actions, Outcomes, Fluents, Initial}
-use Rattle.mbp_top.specs.declared.answers.Limit.TheVariants.{Configurations, Stages}
+use Rattle.mbp_top.specs.declared.answers.Limit.TheVariants.{Configurations, Patrol, Stages}
 use Rattle.mbp_top.specs.declared.answers.Refusal.{Refusal as CodeRefusal}
 use Rattle.mbp_top.specs.declared.answers.Refusal.TheVariants.{NoCommand, TextFault, OverLimit}
 use Rattle.mbp_top.specs.declared.answers.Refusal.TheVariants.{ReadFault, NoMemory, Full}
@@ -29,7 +30,7 @@ use Rattle.mbp_top.specs.declared.answers.Text.{Text}
 use Rattle.mbp_top.specs.declared.answers.Text.TheVariants.{Fixed, Made}
 use Rattle.mbp_top.specs.declared.words.Command.{Command as CodeCommand}
 use Rattle.mbp_top.specs.declared.words.Command.TheVariants.{Plan, Ground, Check, Replay, Drill}
-use Rattle.mbp_top.specs.declared.words.Command.TheVariants.{Nothing}
+use Rattle.mbp_top.specs.declared.words.Command.TheVariants.{Nothing, Refute}
 use Rattle.mbp_top.specs.declared.words.DrillKind.{DrillKind as CodeDrillKind}
 use Rattle.mbp_top.specs.declared.words.DrillKind.TheVariants.{Corridor, Tyres}
 use Rattle.mbp_top.specs.declared.words.DrillWords.{DrillWords as CodeDrillWords}
@@ -39,6 +40,7 @@ use Rattle.mbp_top.specs.declared.words.PlanOptions.{PlanOptions as CodePlanOpti
 use Rattle.mbp_top.specs.declared.words.PlanWords.{PlanWords as CodePlanWords}
 use Rattle.mbp_top.specs.declared.words.GroundWords.{GroundWords as CodeGroundWords}
 use Rattle.mbp_top.specs.declared.words.CheckWords.{CheckWords as CodeCheckWords}
+use Rattle.mbp_top.specs.declared.words.RefuteWords.{RefuteWords as CodeRefuteWords}
 use Rattle.mbp_top.specs.declared.words.ReplayWords.{ReplayWords as CodeReplayWords}
 
 abbrev pub bytes_of : Text → List ℕ
@@ -54,6 +56,7 @@ limit_of Actions = limit_name action_limit
 limit_of Outcomes = limit_name outcome_limit
 limit_of Fluents = limit_name fluent_limit
 limit_of Stages = codes "stages"
+limit_of Patrol = codes "patrol"
 limit_of Initial = codes "initial"
 limit_of Configurations = codes "configurations"
 
@@ -116,6 +119,14 @@ drill_kind_of Tyres = roads
 abbrev pub drill_words_of : CodeDrillWords → DrillWords
 drill_words_of words = record { kind = drill_kind_of words.kind; size = words.size }
 
+abbrev pub refute_words_of : CodeRefuteWords → RefuteWords
+refute_words_of words = record {
+  domain = words.domain.now;
+  problem = words.problem.now;
+  certificate = words.certificate.now;
+  options = plan_options_of words.options;
+}
+
 abbrev pub placed_of : PlanRead → PlacedPlan
 placed_of read = record { plan = plain_of read.plan; place = read.place }
 
@@ -126,6 +137,7 @@ IsSaid words (Ground asked) = Says words (ground (ground_words_of asked))
 IsSaid words (Check asked) = Says words (check (check_words_of asked))
 IsSaid words (Replay asked) = Says words (replay (replay_words_of asked))
 IsSaid words (Drill asked) = Says words (drill (drill_words_of asked))
+IsSaid words (Refute asked) = Says words (refute (refute_words_of asked))
 IsSaid words Nothing = SayNothing words
 
 -- the refusal of the file of this name for what was wrong in reading it

@@ -42,6 +42,14 @@ pub record CheckWords : Type 0 where
   pub problem : Bytes
   pub plan : Bytes
 
+-- what `refute` is asked: the verdict on the certificate that there is no plan, for the domain and the
+-- problem, in the files of these names, with the options of `plan`
+pub record RefuteWords : Type 0 where
+  pub domain : Bytes
+  pub problem : Bytes
+  pub certificate : Bytes
+  pub options : PlanOptions
+
 -- what `replay` is asked: the run of the plan under the record, for the domain and the problem, in
 -- the files of these names
 pub record ReplayWords : Type 0 where
@@ -71,6 +79,7 @@ pub data Command : Type 0 where
   check : CheckWords → Command
   replay : ReplayWords → Command
   drill : DrillWords → Command
+  refute : RefuteWords → Command
 
 -- the most nodes that may be asked for, and how many there may be where nothing is said of them
 abbrev pub most_nodes : ℕ
@@ -119,6 +128,14 @@ pub record SaysDrill (words : List Bytes) (asked : DrillWords) : Type 0 where
   pub room : IsDrillSize asked.size
   pub written : words ≡ codes "drill" ∷ drill_word asked.kind ∷ decimal asked.size ∷ []
 
+-- `refute DOMAIN PROBLEM CERTIFICATE`, and then the options
+pub record SaysRefute (words : List Bytes) (asked : RefuteWords) : Type 0 where
+  pub room : IsNodeLimit asked.options.nodes
+  pub rest : List Bytes
+  pub written : words
+      ≡ codes "refute" ∷ asked.domain ∷ asked.problem ∷ asked.certificate ∷ rest
+  pub options : SaysOptions rest asked.options
+
 -- the words say the command. Fixed words are compared exactly, with case, and names may be any
 -- words
 abbrev pub Says : List Bytes → Command → Type 0
@@ -127,6 +144,7 @@ Says words (ground asked) = SaysGround words asked
 Says words (check asked) = SaysCheck words asked
 Says words (replay asked) = SaysReplay words asked
 Says words (drill asked) = SaysDrill words asked
+Says words (refute asked) = SaysRefute words asked
 
 -- the words say no command
 abbrev pub SayNothing : List Bytes → Type 0
@@ -139,3 +157,4 @@ files_of (ground asked) = asked.domain ∷ asked.problem ∷ []
 files_of (check asked) = asked.domain ∷ asked.problem ∷ asked.plan ∷ []
 files_of (replay asked) = asked.domain ∷ asked.problem ∷ asked.plan ∷ asked.recorded ∷ []
 files_of (drill asked) = []
+files_of (refute asked) = asked.domain ∷ asked.problem ∷ asked.certificate ∷ []

@@ -92,8 +92,10 @@ pub enum Limit {
     /// Outcomes of a kept instance.
     Outcomes,
     Fluents,
-    /// Stages of a chain.
+    /// Stages of a chain or an until-chain.
     Stages,
+    /// Visits of a patrol goal.
+    Patrol,
     /// Initial states that are followed.
     Initial,
     /// Configurations that are followed.
@@ -113,6 +115,7 @@ impl Limit {
             Limit::Outcomes => "outcomes",
             Limit::Fluents => "fluents",
             Limit::Stages => "stages",
+            Limit::Patrol => "patrol",
             Limit::Initial => "initial",
             Limit::Configurations => "configurations",
         }

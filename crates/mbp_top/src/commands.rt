@@ -13,6 +13,7 @@ use crate::check_command::check_files;
 use crate::drill_command::run_drill;
 use crate::ground_command::ground_files;
 use crate::plan_command::plan_files;
+use crate::refute_command::refute_files;
 use crate::replay_command::replay_files;
 use crate::words::{Command, read_words};
 use plan_io::Shelf;
@@ -47,6 +48,7 @@ pub(crate) fn answer<S: Shelf>(
         Command::Check(asked) => check_files(alloc, shelf, &asked),
         Command::Replay(asked) => replay_files(alloc, shelf, &asked, world, monitors),
         Command::Drill(asked) => run_drill(alloc, &asked),
+        Command::Refute(asked) => refute_files(alloc, shelf, &asked),
         Command::Nothing => Err(Refusal::NoCommand),
     }
 }

@@ -3,9 +3,11 @@
 ghost use Rattle.mbp_top.specs.Laws.{
   AreAllFetched,
   AreQuietSinks,
+  ComesToJudged,
   ComesToListing,
   ComesToReplay,
   HasStatus,
+  IsAcceptance,
   IsAnswered,
   IsCutOff,
   IsDrillOf,
@@ -13,9 +15,11 @@ ghost use Rattle.mbp_top.specs.Laws.{
   IsDueStatus,
   IsFullAtLimit,
   IsFullDrill,
+  IsFullRefutation,
   IsListing,
   IsNo,
   IsQuietShelf,
+  IsRejection,
   IsReplayOf,
   IsUnread,
   IsYes,
@@ -25,6 +29,7 @@ ghost use Rattle.mbp_top.specs.OneReading.{OneReading};
 
 use domain_read::domain_or_fault;
 use pddl_problem::one_answer;
+use plan_certs::{accepted_certificates_mean_no_plan, certificate_or_fault, one_certificate};
 use plan_check::{one_verdict, yes_is_solution};
 use plan_io::Shelf;
 use plan_rules::plan_or_fault;
@@ -40,6 +45,8 @@ pub(crate) fn texts_are_read_one_way()
     one_spelling();
     plan_or_fault();
     one_verdict();
+    one_certificate();
+    certificate_or_fault();
 }
 
 /// Each status is one of ten.
@@ -110,6 +117,32 @@ pub fn drills_are_written<S: Shelf>()
 pub fn full_drills_are_tight<S: Shelf>()
     ensures { OfRuns S.held S.faults S.fetched IsFullDrill }
 {}
+
+/// Status 0 of `refute` comes with a certificate that is accepted: no table is a solution of its class.
+pub fn certificates_are_accepted<S: Shelf>()
+    ensures { OfRuns S.held S.faults S.fetched (IsAcceptance S.held) }
+{
+    // This does nothing: all rests on what it promises.
+    accepted_certificates_mean_no_plan();
+}
+
+/// Status 1 of `refute` comes with the first thing that is wrong with the certificate.
+pub fn certificates_are_rejected<S: Shelf>()
+    ensures { OfRuns S.held S.faults S.fetched (IsRejection S.held) }
+{}
+
+/// Status 5 of `refute` comes where the number of nodes may be too small.
+pub fn full_refutations_are_tight<S: Shelf>()
+    ensures { OfRuns S.held S.faults S.fetched (IsFullRefutation S.held) }
+{}
+
+/// `refute` judges what three files spell.
+pub fn certificates_are_judged<S: Shelf>()
+    ensures { OfRuns S.held S.faults S.fetched (ComesToJudged S.held S.faults) }
+{
+    // This does nothing: all rests on what it promises.
+    texts_are_read_one_way();
+}
 
 /// Status 6 comes with the name of the command's file that can't be read.
 pub fn unread_files_are_named<S: Shelf>()

@@ -36,8 +36,8 @@ ghost use Rattle.std.specs.Prelude.{
 ghost use Rattle.task_core.specs.Tasks.{action_names, fluent_names, initial_states, system_of};
 
 use crate::answers::{Refusal, Shown, Text};
-use crate::chain_command::plan_contexts;
 use crate::class_search::search_task;
+use crate::context_command::plan_contexts;
 use crate::grounding::{check_goal, ground_both};
 use crate::initial_states::no_initial;
 use crate::pddl_texts::read_both;

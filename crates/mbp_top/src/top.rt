@@ -42,10 +42,12 @@ use std::alloc::Global;
 /// the words `--nodes N` after it, N being the most nodes of a table of diagrams, 1 to 16,777,216
 /// and 1,048,576 where nothing is said; `ground DOMAIN PROBLEM`; `check KIND DOMAIN PROBLEM PLAN`,
 /// PLAN being the name of a plan's file; `replay DOMAIN PROBLEM PLAN RECORD`, RECORD being the name
-/// of a record's file; or `drill corridor N` or `drill tyres N`, N being the size of a problem that
-/// is made, 2 to 120. The text of a plan, `no plan`, the listing of the fluents and actions, the
-/// verdict on the plan, its run with what the monitors show of it, or the drill's lines go to `out`;
-/// every other answer is one line on `err`.
+/// of a record's file; `drill corridor N` or `drill tyres N`, N being the size of a problem that is
+/// made, 2 to 120; or `refute DOMAIN PROBLEM CERTIFICATE`, CERTIFICATE being the name of the file of a
+/// certificate that there is no plan of a class, with or without `--nodes N` after it. The text of a
+/// plan, `no plan`, the listing of the fluents and actions, the verdict on the plan or the
+/// certificate, its run with what the monitors show of it, or the drill's lines go to `out`; every
+/// other answer is one line on `err`.
 ///
 /// `replay` hands the record's outcome numbers to the world, runs the plan with what the world then
 /// chooses, and tells the monitors of each step. No monitor has counted anything yet. The other
@@ -56,16 +58,17 @@ use std::alloc::Global;
 ///   ends nowhere else; with contexts: it always goes on, and the goal in computation tree logic is
 ///   true where it begins), or the listing, or that the plan is one of the kind, or the run, or for
 ///   each class the number of rules of its plan for the problem that was made with the verdict on
-///   them, or that it has no plan;
-/// - 1: there is no plan of the kind, or the plan is none of it;
+///   them, or that it has no plan, or that the certificate is accepted;
+/// - 1: there is no plan of the kind, or the plan is none of it, or the certificate is rejected;
 /// - 2: the words are no command;
-/// - 3: a file spells no domain, no problem of it, no plan or no record, the problem's goal or the
-///   plan isn't of the kind, the goal to plan for is no chain, the problem has no initial state, or
-///   the record's first number is that of none, with the place of the fault;
+/// - 3: a file spells no domain, no problem of it, no plan, no record or no certificate, the
+///   problem's goal or the plan isn't of the kind, the goal to plan for is no chain, until-chain or
+///   patrol goal, the problem has no initial state, or the record's first number is that of none,
+///   with the place of the fault;
 /// - 4: a limit is passed: a file is longer than 1,048,576 bytes, there is too much to ground or to
-///   follow, or a chain has more than 32 stages;
-/// - 5: the table of diagram nodes is full before a plan is found, or that there is none (`plan` and
-///   `drill`);
+///   follow, a chain or an until-chain has more than 32 stages, or a patrol goal more than 8 visits;
+/// - 5: the table of diagram nodes is full before a plan is found, or that there is none, or before
+///   the certificate is judged (`plan`, `drill` and `refute`);
 /// - 6: a file can't be read;
 /// - 7: the answer can't be written, and only a part of it is on `out` or `err`;
 /// - 8: there is not enough memory;
@@ -137,8 +140,8 @@ pub fn run<S: Shelf, O: Sink, E: Sink>(
         × (O.written out.new ≡ append_known (O.written out.old) no_plan_text) }
 
     // `plan` of two files that spell a problem within the limits, with an initial state, a goal of
-    // the kind (a goal in computation tree logic being a chain of few stages) and enough nodes: there
-    // is a plan or there is none, if no fault comes.
+    // the kind (a goal in computation tree logic being a chain, an until-chain or a patrol goal of few
+    // stages or visits) and enough nodes: there is a plan or there is none, if no fault comes.
     ensures plan_complete { (asked : PlanWords) (domain : DomainTree) (problem : ProblemTree)
         → SaysPlan (map string_bytes words.now) asked
         → HoldBoth (S.held shelf.old) asked.domain asked.problem domain problem

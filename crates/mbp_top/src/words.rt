@@ -9,6 +9,7 @@ ghost use Rattle.mbp_top.specs.Values.{
   kind_of,
   plan_options_of,
   plan_words_of,
+  refute_words_of,
   replay_words_of,
 };
 ghost use Rattle.mbp_top.specs.Words.{
@@ -21,12 +22,14 @@ ghost use Rattle.mbp_top.specs.Words.{
   PlanKind as AskedKind,
   PlanOptions as AskedOptions,
   PlanWords as AskedPlan,
+  RefuteWords as AskedRefute,
   ReplayWords as AskedReplay,
   SaysCheck,
   SaysDrill,
   SaysGround,
   SaysOptions,
   SaysPlan,
+  SaysRefute,
   SaysReplay,
   drill_word,
   kind_word,
@@ -70,6 +73,7 @@ pub(crate) enum Command<'a> {
     Check(CheckWords<'a>),
     Replay(ReplayWords<'a>),
     Drill(DrillWords),
+    Refute(RefuteWords<'a>),
     /// The words are none of the commands.
     Nothing,
 }
@@ -115,6 +119,16 @@ pub(crate) struct CheckWords<'a> {
     pub(crate) domain: &'a str,
     pub(crate) problem: &'a str,
     pub(crate) plan: &'a str,
+}
+
+/// What `refute` is asked: the verdict on the certificate that there is no plan, for the domain and
+/// the problem, in the files of these names, with the options of `plan`.
+#[derive(Clone, Copy)]
+pub(crate) struct RefuteWords<'a> {
+    pub(crate) domain: &'a str,
+    pub(crate) problem: &'a str,
+    pub(crate) certificate: &'a str,
+    pub(crate) options: PlanOptions,
 }
 
 /// What `replay` is asked: the run of the plan under the record, for the domain and the problem, in
@@ -192,6 +206,12 @@ pub(crate) fn read_words<'a>(words: &'a [String]) -> Command<'a>
             None => Command::Nothing,
         };
     }
+    if command.as_str() == "refute" {
+        return match refute_words(rest) {
+            Some(asked) => Command::Refute(asked),
+            None => Command::Nothing,
+        };
+    }
     Command::Nothing
 }
 
@@ -208,6 +228,23 @@ pub fn plan_words<'a>(words: &'a [String]) -> Option<PlanWords<'a>>
         kind: kind_named(kind)?,
         domain,
         problem,
+        options: plan_options(rest)?,
+    })
+}
+
+/// `refute`, and these words after it.
+fn refute_words<'a>(words: &'a [String]) -> Option<RefuteWords<'a>>
+    ensures { let said = codes "refute" ∷ map string_bytes words.now in
+        MatchOption result ((asked : AskedRefute) → SaysRefute said asked → ⊥)
+        (λ asked. SaysRefute said (refute_words_of asked)) }
+{
+    let [domain, problem, certificate, rest @ ..] = words else {
+        return None;
+    };
+    Some(RefuteWords {
+        domain,
+        problem,
+        certificate,
         options: plan_options(rest)?,
     })
 }

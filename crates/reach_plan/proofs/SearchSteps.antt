@@ -31,7 +31,7 @@ use Rattle.task_core.specs.declared.tasks.Task.{Task}
 use Rattle.task_core.proofs.TaskSystem.{is_system}
 use Rattle.plan_theory.specs.Classes.{IsFoundByLayers}
 use Rattle.plan_theory.specs.Layers.{covers, layer}
-use Rattle.reach_plan.specs.LayerSets.{AreTakers, IsRound, class_preimage, grown, taken_by}
+use Rattle.reach_plan.specs.LayerSets.{AreTakers, IsLayerSet, IsRound, class_preimage, grown, taken_by}
 use Rattle.reach_plan.specs.Searches.{AreSpent, BeginsRound, FoundLast, FoundNone, HasGrown, HasHits, HasJoined, HasLayer, HasNext, HasRound, IsCovered, IsMore, IsStill}
 use Rattle.reach_plan.specs.Steps.{HaveLed, IsWithinRound, Progress, after_step, after_steps, at_goal, goal_layer, is_step_of, untaken, with_set}
 use Rattle.reach_plan.specs.declared.steps.Step.{Step}
@@ -419,6 +419,7 @@ module _ (weak : WeakLeadsToSome) (strong : StrongLeadsToAll) (class : Class) (s
   pub is_still : set_at x.sets slots 1 ≡ set_at x.sets slots 0 → IsStill class start x slots k
   is_still same = record {
     at = has.by_next.by_layer.at;
+    is_layer = subst (IsLayerSet class start.task k) (sym has.by_next.by_layer.holds_layer) round.is_layer;
     stable = stable_same class start.task k f (grown class start.task f actions) round.is_layer next.is_layer (sym has.by_next.holds_next ∙ same ∙ has.by_next.by_layer.holds_layer);
     short = short;
   }
@@ -519,7 +520,13 @@ found_last class start now slots k steps spent is = record {
 }
 
 pub found_none : (class : Class) → IsFoundByLayers class → (start : Start) (now : Encoded) (slots : List SetId) (k : ℕ) → IsStill class start now slots k → FoundNone class start now slots
-found_none class by_layers start now slots k still = record { at = still.at; none = none_once_stable class by_layers (system_of start.task) k (is_system start.task) still.stable still.short }
+found_none class by_layers start now slots k still = record {
+  at = still.at;
+  none = none_once_stable class by_layers (system_of start.task) k (is_system start.task) still.stable still.short;
+  rank = k;
+  stable = still.stable;
+  is_layer = still.is_layer;
+}
 
 -- the second pass: the goal's states at first
 pub at_first : (start : Start) (x now : Encoded) (old new : List SetId) (n : ℕ) (slot : SetId) → length old ≡ n + 4 → HasNothing start x old → x.goal ≡ Some slot → Moved start x.sets old now new n (set_of x.sets slot.0) → HasLayer start now new n (goal_layer start.task) untaken

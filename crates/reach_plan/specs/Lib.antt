@@ -1,3 +1,4 @@
+pub mod Certs
 pub mod LayerSets
 pub mod Searches
 pub mod SetRules

@@ -114,6 +114,7 @@ pub record IsCovered (class : Class) (start : Start) (now : Encoded) (slots : Li
 pub record IsStill (class : Class) (start : Start) (now : Encoded) (slots : List SetId) (k : ℕ)
     : Type 0 where
   pub at : At start now slots
+  pub is_layer : IsLayerSet class start.task k (set_at now.sets slots 0)
   pub stable : IsStable class (system_of start.task) k
   pub short : covers class (system_of start.task) k ≡ false
 
@@ -132,7 +133,8 @@ RoundLeft class start before now slots k steps spent Stable = IsStill class star
 RoundLeft class start before now slots k steps spent More =
     IsMore class start before now slots k steps spent
 
--- a search found the last layer, and the steps to it, or that there is no solution
+-- a search found the last layer, and the steps to it, or that there is no solution and which layer is
+-- the same as the next one
 pub record FoundLast (class : Class) (start : Start) (now : Encoded) (slots : List SetId)
     (steps : List Step) : Type 0 where
   pub at : At start now slots
@@ -142,6 +144,9 @@ pub record FoundNone (class : Class) (start : Start) (now : Encoded) (slots : Li
     : Type 0 where
   pub at : At start now slots
   pub none : HasNoSolution class (system_of start.task)
+  pub rank : ℕ
+  pub stable : IsStable class (system_of start.task) rank
+  pub is_layer : IsLayerSet class start.task rank (set_at now.sets slots 0)
 
 abbrev pub SearchLeft : Class → Start → Encoded → List SetId → List Step → Bool → Type 0
 SearchLeft class start now slots steps true = FoundLast class start now slots steps

@@ -1,7 +1,7 @@
 use Rattle.std.proofs.Common.{rules}
 use Rattle.task_core.specs.Tasks.{fluent_count}
-use Rattle.mbp_top.proofs.ChainAnswers.{over_task}
+use Rattle.mbp_top.proofs.ContextAnswers.{chain_over_task}
 use Rattle.controller_plan.proofs.searches.follow_chain.Goals as goal
 
 pub follow_stages-requires-clause-chain : goal.follow_stages-requires-clause-chain
-follow_stages-requires-clause-chain c = over_task (fluent_count c.args.task.now) c.args.chain.now (search rules) c.requires.names c.requires.shallow
+follow_stages-requires-clause-chain c = chain_over_task (fluent_count c.args.task.now) c.args.chain.now (search rules) c.requires.names c.requires.shallow

@@ -1,8 +1,8 @@
 use Rattle.std.proofs.Common.{map, string_bytes, inr, refl, subst}
 use Rattle.plan_io.specs.Fetches.{FailedLast}
 use Rattle.mbp_top.specs.Fetching.{FetchesFiles}
-use Rattle.mbp_top.specs.Values.{answer_of, check_words_of, drill_words_of, ground_words_of, plan_words_of, replay_words_of}
-use Rattle.mbp_top.specs.Words.{Command, plan, ground, check, replay, drill}
+use Rattle.mbp_top.specs.Values.{answer_of, check_words_of, drill_words_of, ground_words_of, plan_words_of, refute_words_of, replay_words_of}
+use Rattle.mbp_top.specs.Words.{Command, plan, ground, check, replay, drill, refute}
 use Rattle.mbp_top.proofs.ByCommand.{one_command}
 use Rattle.mbp_top.proofs.commands.answer.Goals as goal
 
@@ -65,3 +65,15 @@ returns-in-Drill-clause-fetches g c = λ command says.
 
 pub returns-in-Drill-clause-no_fetch : goal.returns-in-Drill-clause-no_fetch
 returns-in-Drill-clause-no_fetch g c = λ nothing. absurd (nothing (drill (drill_words_of c.in-Drill.asked)) c.in-Drill.ensures)
+
+pub returns-in-Refute-clause-cause : goal.returns-in-Refute-clause-cause
+returns-in-Refute-clause-cause g c = inr (refute (refute_words_of c.in-Refute.asked), c.in-Refute.ensures, c.refute_files.ensures.answer)
+
+pub returns-in-Refute-clause-fetches : goal.returns-in-Refute-clause-fetches
+returns-in-Refute-clause-fetches g c = λ command says.
+    subst (λ (said : Command). FetchesFiles (g.S.Shelf.held c.args.shelf.now) (FailedLast g.S.Shelf.fetched g.S.Shelf.faults c.args.shelf.now c.refute_files.new.shelf) g.S.Shelf.fetched said (answer_of c.refute_files.result) c.args.shelf.now c.refute_files.new.shelf)
+    (one_command (map string_bytes c.args.words.now) (refute (refute_words_of c.in-Refute.asked)) command c.in-Refute.ensures says)
+    c.refute_files.ensures.fetches
+
+pub returns-in-Refute-clause-no_fetch : goal.returns-in-Refute-clause-no_fetch
+returns-in-Refute-clause-no_fetch g c = λ nothing. absurd (nothing (refute (refute_words_of c.in-Refute.asked)) c.in-Refute.ensures)

@@ -11,5 +11,8 @@ returns c = record {
   one_forest = c.one_spelling.ensures.trees;
   one_plan_fault = c.plan_or_fault.ensures.one_fault;
   not_both_plan = c.plan_or_fault.ensures.not_both;
+  one_certificate = c.one_certificate.ensures;
+  one_certificate_fault = c.certificate_or_fault.ensures.one_fault;
+  not_both_certificate = c.certificate_or_fault.ensures.not_both;
   one_verdict = c.one_verdict.ensures;
 }

@@ -1,8 +1,8 @@
 use Rattle.std.proofs.Common.{◌≡◌, ℕ, ◌∷◌, List, codes, map, string_bytes, length, take, drop, ◌-◌, subst, sym, ap, ◌∙◌}
 use Rattle.std.specs.declared.alloc.Global.{Global}
 use Rattle.std.proofs.lemmas.Slice.Eq.{bytes_eq-Decides}
-use Rattle.mbp_top.specs.Values.{check_words_of, drill_words_of, ground_words_of, plan_words_of, replay_words_of}
-use Rattle.mbp_top.specs.Words.{SaysCheck, SaysDrill, SaysGround, SaysPlan, SaysReplay}
+use Rattle.mbp_top.specs.Values.{check_words_of, drill_words_of, ground_words_of, plan_words_of, refute_words_of, replay_words_of}
+use Rattle.mbp_top.specs.Words.{SaysCheck, SaysDrill, SaysGround, SaysPlan, SaysRefute, SaysReplay}
 use Rattle.mbp_top.proofs.WordLists.{first_and_rest}
 use Rattle.mbp_top.proofs.words.read_words.Goals as goal
 
@@ -45,3 +45,11 @@ returns-in-Some-drill_words c =
     let first : string_bytes c.command-item.result ≡ codes "drill" = sym c.as_str-5.ensures.value ∙ (bytes_eq-Decides c.as_str-5.result.now (codes "drill")).0 (sym c.if-eq-5.ensures) in
     let rest = map (string_bytes {Z = Global}) (take (length words - 1) (drop 1 words)) in
     subst (λ (ws : List (List ℕ)). SaysDrill ws (drill_words_of c.in-Some-drill_words.asked)) (sym (parts ∙ ap (λ (w : List ℕ). w ∷ rest) first)) c.in-Some-drill_words.ensures
+
+pub returns-in-Some-refute_words : goal.returns-in-Some-refute_words
+returns-in-Some-refute_words c =
+    let words = c.args.words.now in
+    let parts = first_and_rest (string_bytes {Z = Global}) words c.command-item.result c.in-len1-up.len_at_least c.command-item.is in
+    let first : string_bytes c.command-item.result ≡ codes "refute" = sym c.as_str-6.ensures.value ∙ (bytes_eq-Decides c.as_str-6.result.now (codes "refute")).0 (sym c.if-eq-6.ensures) in
+    let rest = map (string_bytes {Z = Global}) (take (length words - 1) (drop 1 words)) in
+    subst (λ (ws : List (List ℕ)). SaysRefute ws (refute_words_of c.in-Some-refute_words.asked)) (sym (parts ∙ ap (λ (w : List ℕ). w ∷ rest) first)) c.in-Some-refute_words.ensures

@@ -1,0 +1,267 @@
+-- `refute`: what was written at status 0, 1 and 5, and which statuses come.
+use Rattle.std.proofs.Common.{◌≡◌, ◌≢◌, ℕ, List, [], ◌⊎◌, inl, inr, refl, sym, subst, arith, ◌∙◌, ap, true, None}
+use Rattle.std.specs.Io.KnownBytes.{append_known}
+use Rattle.pddl_ast.specs.Trees.{DomainTree, ProblemTree}
+use Rattle.pddl_system.specs.Sizes.{first_passed}
+use Rattle.pddl_system.specs.Systems.{fluent_names, system}
+use Rattle.pddl_system.proofs.States.{they_have_a_system}
+use Rattle.plan_certs.specs.Certificates.{IsAccepted, PlainCertificate}
+use Rattle.plan_certs.specs.Readings.{SpellsPlain}
+use Rattle.plan_io.specs.Held.{Held, Untold}
+use Rattle.refute_cert.specs.Judgements.{IsVerdict}
+use Rattle.refute_cert.specs.declared.verdict.Flaw.{Flaw}
+use Rattle.refute_cert.specs.declared.verdict.Judged.{Judged}
+use Rattle.refute_cert.specs.declared.verdict.Judged.TheVariants.{Accepted, Rejected}
+use Rattle.task_core.specs.Solutions.{HasNoSolution}
+use Rattle.task_core.specs.Systems.{IsSystem, System}
+use Rattle.mbp_top.specs.Answers.{Answer, full, is_shown, no_memory, refused, status_of, status_of_refusal, text_of}
+use Rattle.mbp_top.specs.Delivery.{IsWhole, Seen}
+use Rattle.mbp_top.specs.Grounding.{GroundThen, for_tables, has_goal_for}
+use Rattle.mbp_top.specs.InitialStates.{empty_init}
+use Rattle.mbp_top.specs.OneReading.{OneReading}
+use Rattle.mbp_top.specs.PddlTexts.{HoldBoth, IsFaultyDomain, IsFaultyProblem, ReadBoth}
+use Rattle.mbp_top.specs.Reading.{Holds}
+use Rattle.mbp_top.specs.RefuteCommand.{HoldsCertificate, IsFaultyCertificate, IsRefuteAnswer, IsRefuted, IsTightVerdict, JudgeThen, MayRefuteRunOut, RefuteThen, ShowsJudged, judged_answer}
+use Rattle.mbp_top.specs.ReplayCommand.{Tallies}
+use Rattle.mbp_top.specs.Told.{AreFilesTold, NoFault}
+use Rattle.mbp_top.specs.Words.{Bytes, RefuteWords, SaysRefute, refute}
+use Rattle.mbp_top.proofs.ByCommand.{of_command}
+use Rattle.mbp_top.proofs.Deciding.{one_tree, read_as}
+use Rattle.mbp_top.proofs.Initials.{shown_initial, with_initial}
+use Rattle.mbp_top.proofs.PddlDecides.{ReadFor, both_as, not_refused, shown_both, shown_goal, shown_grounded, with_goal, within_limits}
+use Rattle.mbp_top.proofs.PlanWritten.{refused_not_full}
+use Rattle.mbp_top.proofs.RefuteDecides.{certificate_grammar, not_accepted}
+use Rattle.mbp_top.proofs.Statuses.{Done, shown_at, undisturbed, whole_delivery, written_shown}
+
+-- what is known of accepted certificates
+abbrev pub AcceptedMeansNone : Type 0
+AcceptedMeansNone = (sys : System) (certificate : PlainCertificate) → IsSystem sys → IsAccepted sys certificate → HasNoSolution certificate.class sys
+
+-- the trees and the certificate that the files spell, and the verdict on it
+pub record RefuteFor (held : Bytes → Held) (asked : RefuteWords) (answer : Answer) : Type 0 where
+  pub domain : DomainTree
+  pub problem : ProblemTree
+  pub certificate : PlainCertificate
+  pub both : HoldBoth held asked.domain asked.problem domain problem
+  pub file : HoldsCertificate held (fluent_names domain problem) asked.certificate certificate
+  pub judged : Judged
+  pub of_certificate : IsVerdict (system domain problem) certificate judged
+  pub shown : answer ≡ judged_answer judged
+
+shown_then : (held : Bytes → Held) (failed : Bytes → Type 0) (asked : RefuteWords) (d : DomainTree) (p : ProblemTree) (a : Answer) → is_shown a ≡ true
+    → HoldBoth held asked.domain asked.problem d p → RefuteThen held failed asked d p a → RefuteFor held asked a
+shown_then held failed asked d p a shown both (inl (r, is, why)) = absurd (not_refused r a is shown)
+shown_then held failed asked d p a shown both (inr (certificate, holds, then)) =
+    let judged = shown_initial (empty_init asked.problem p) (system d p).initial (ShowsJudged (system d p) certificate) a shown then in
+    record {
+      domain = d;
+      problem = p;
+      certificate = certificate;
+      both = both;
+      file = holds;
+      judged = judged.0;
+      of_certificate = judged.1;
+      shown = judged.2;
+    }
+
+refute_for : (held : Bytes → Held) (failed : Bytes → Type 0) (asked : RefuteWords) (a : Answer) → is_shown a ≡ true
+    → ReadFor held asked.domain asked.problem (IsRefuted held failed asked) a → RefuteFor held asked a
+refute_for held failed asked a shown read =
+    let d = read.domain in
+    let p = read.problem in
+    shown_then held failed asked d p a shown read.both
+    (shown_grounded d p (RefuteThen held failed asked d p) a shown
+    (shown_goal for_tables asked.problem p (GroundThen d p (RefuteThen held failed asked d p)) a shown read.result)).1
+
+shown_refute : (held : Bytes → Held) (failed : Bytes → Type 0) (asked : RefuteWords) (a : Answer) → is_shown a ≡ true
+    → (a ≡ refused no_memory) ⊎ IsRefuteAnswer held failed asked a → RefuteFor held asked a
+shown_refute held failed asked a shown (inl is) = absurd (not_refused no_memory a is shown)
+shown_refute held failed asked a shown (inr (inl (may, is))) = absurd (not_refused (full asked.options.nodes) a is shown)
+shown_refute held failed asked a shown (inr (inr is)) =
+    refute_for held failed asked a shown (shown_both held failed asked.domain asked.problem (IsRefuted held failed asked) a shown is)
+
+-- what was written at status 0: that the certificate is accepted, and so there is no plan
+pub record AcceptanceWritten (held : Bytes → Held) (asked : RefuteWords) (out out' : Seen) : Type 0 where
+  pub domain : DomainTree
+  pub problem : ProblemTree
+  pub certificate : PlainCertificate
+  pub both : HoldBoth held asked.domain asked.problem domain problem
+  pub file : HoldsCertificate held (fluent_names domain problem) asked.certificate certificate
+  pub accepted : IsAccepted (system domain problem) certificate
+  pub none : HasNoSolution certificate.class (system domain problem)
+  pub written : out'.written ≡ append_known out.written (text_of (judged_answer Accepted))
+
+-- what was written at status 1: the first thing that is wrong with it
+pub record RejectionWritten (held : Bytes → Held) (asked : RefuteWords) (out out' : Seen) : Type 0 where
+  pub domain : DomainTree
+  pub problem : ProblemTree
+  pub certificate : PlainCertificate
+  pub flaw : Flaw
+  pub both : HoldBoth held asked.domain asked.problem domain problem
+  pub file : HoldsCertificate held (fluent_names domain problem) asked.certificate certificate
+  pub first : IsVerdict (system domain problem) certificate (Rejected flaw)
+  pub written : out'.written ≡ append_known out.written (text_of (judged_answer (Rejected flaw)))
+
+acceptance : AcceptedMeansNone → (held : Bytes → Held) (asked : RefuteWords) (out out' : Seen) (a : Answer) (read : RefuteFor held asked a) (judged : Judged)
+    → IsVerdict (system read.domain read.problem) read.certificate judged → status_of (judged_answer judged) ≡ 0
+    → out'.written ≡ append_known out.written (text_of (judged_answer judged)) → AcceptanceWritten held asked out out'
+acceptance law held asked out out' a read Accepted is zero written = record {
+  domain = read.domain;
+  problem = read.problem;
+  certificate = read.certificate;
+  both = read.both;
+  file = read.file;
+  accepted = is;
+  none = law (system read.domain read.problem) read.certificate (they_have_a_system read.domain read.problem) is;
+  written = written;
+}
+acceptance law held asked out out' a read (Rejected flaw) is one written = absurd (omega (arith, one))
+
+rejection : (held : Bytes → Held) (asked : RefuteWords) (out out' : Seen) (a : Answer) (read : RefuteFor held asked a) (judged : Judged)
+    → IsVerdict (system read.domain read.problem) read.certificate judged → status_of (judged_answer judged) ≡ 1
+    → out'.written ≡ append_known out.written (text_of (judged_answer judged)) → RejectionWritten held asked out out'
+rejection held asked out out' a read Accepted is one written = absurd (omega (arith, one))
+rejection held asked out out' a read (Rejected flaw) is one written = record {
+  domain = read.domain;
+  problem = read.problem;
+  certificate = read.certificate;
+  flaw = flaw;
+  both = read.both;
+  file = read.file;
+  first = is;
+  written = written;
+}
+
+pub acceptance_written : AcceptedMeansNone → (held : Bytes → Held) (failed : Bytes → Type 0) (tallies : Tallies) (words : List Bytes) (before after : ℕ) (out out' err err' : Seen) (status : ℕ) (a : Answer)
+    (asked : RefuteWords) → Done held failed tallies words before after out out' err err' status a → SaysRefute words asked → status ≡ 0 → AcceptanceWritten held asked out out'
+acceptance_written law held failed tallies words before after out out' err err' status a asked d says zero =
+    let whole = whole_delivery a out out' err err' status d.delivered (λ seven. let e : 0 ≡ 7 = sym zero ∙ seven in omega arith) in
+    let code : status_of a ≡ 0 = sym whole.0 ∙ zero in
+    let shown = shown_at a (inl code) in
+    let read = shown_refute held failed asked a shown (of_command held failed tallies words (refute asked) a says d.cause) in
+    acceptance law held asked out out' a read read.judged read.of_certificate (sym (ap status_of read.shown) ∙ code)
+    (written_shown a (text_of (judged_answer read.judged)) out out' err err' whole.1 shown (ap text_of read.shown))
+
+pub rejection_written : (held : Bytes → Held) (failed : Bytes → Type 0) (tallies : Tallies) (words : List Bytes) (before after : ℕ) (out out' err err' : Seen) (status : ℕ) (a : Answer)
+    (asked : RefuteWords) → Done held failed tallies words before after out out' err err' status a → SaysRefute words asked → status ≡ 1 → RejectionWritten held asked out out'
+rejection_written held failed tallies words before after out out' err err' status a asked d says one =
+    let whole = whole_delivery a out out' err err' status d.delivered (λ seven. let e : 1 ≡ 7 = sym one ∙ seven in omega arith) in
+    let code : status_of a ≡ 1 = sym whole.0 ∙ one in
+    let shown = shown_at a (inr code) in
+    let read = shown_refute held failed asked a shown (of_command held failed tallies words (refute asked) a says d.cause) in
+    rejection held asked out out' a read read.judged read.of_certificate (sym (ap status_of read.shown) ∙ code)
+    (written_shown a (text_of (judged_answer read.judged)) out out' err err' whole.1 shown (ap text_of read.shown))
+
+-- what follows the reading of the files has another status than a full table
+judged_not_full : (j : Judged) → status_of (judged_answer j) ≢ 5
+judged_not_full Accepted five = omega (arith, five)
+judged_not_full (Rejected flaw) five = omega (arith, five)
+
+refuted_not_full : (held : Bytes → Held) (failed : Bytes → Type 0) (asked : RefuteWords) (a : Answer)
+    → ReadBoth held failed asked.domain asked.problem (IsRefuted held failed asked) a → status_of a ≢ 5
+refuted_not_full held failed asked a (inl (r, is, why)) five =
+    refused_not_full held failed IsFaultyDomain asked.domain r (λ bytes wrong. ap status_of_refusal wrong.2) why (sym (ap status_of is) ∙ five)
+refuted_not_full held failed asked a (inr (d, holds, inl (r, is, why))) five =
+    refused_not_full held failed (IsFaultyProblem d) asked.problem r (λ bytes wrong. ap status_of_refusal wrong.2) why (sym (ap status_of is) ∙ five)
+refuted_not_full held failed asked a (inr (d, holds, inr (p, holds', inl (none, is)))) five = omega (arith, ap status_of is, five)
+refuted_not_full held failed asked a (inr (d, holds, inr (p, holds', inr (some, inl (l, passed, is))))) five = omega (arith, ap status_of is, five)
+refuted_not_full held failed asked a (inr (d, holds, inr (p, holds', inr (some, inr (within, inl (r, is, why)))))) five =
+    refused_not_full held failed (IsFaultyCertificate (fluent_names d p)) asked.certificate r (λ bytes wrong. ap status_of_refusal wrong.2) why (sym (ap status_of is) ∙ five)
+refuted_not_full held failed asked a (inr (d, holds, inr (p, holds', inr (some, inr (within, inr (c, file, inl (none, is))))))) five = omega (arith, ap status_of is, five)
+refuted_not_full held failed asked a (inr (d, holds, inr (p, holds', inr (some, inr (within, inr (c, file, inr (first, (j, of, is)))))))) five =
+    judged_not_full j (sym (ap status_of is) ∙ five)
+
+-- what was written at status 5
+pub record FullRefutation (held : Bytes → Held) (asked : RefuteWords) (err err' : Seen) : Type 0 where
+  pub may : MayRefuteRunOut held asked
+  pub written : err'.written ≡ append_known err.written (text_of (refused (full asked.options.nodes)))
+
+pub full_refutation : (held : Bytes → Held) (failed : Bytes → Type 0) (tallies : Tallies) (words : List Bytes) (before after : ℕ) (out out' err err' : Seen) (status : ℕ) (a : Answer)
+    (asked : RefuteWords) → Done held failed tallies words before after out out' err err' status a → SaysRefute words asked → status ≡ 5 → FullRefutation held asked err err'
+full_refutation held failed tallies words before after out out' err err' status a asked d says five =
+    go (of_command held failed tallies words (refute asked) a says d.cause) where
+      whole : (status ≡ status_of a) × IsWhole a out out' err err'
+      whole = whole_delivery a out out' err err' status d.delivered (λ seven. let e : 5 ≡ 7 = sym five ∙ seven in omega arith)
+
+      code : status_of a ≡ 5
+      code = sym whole.0 ∙ five
+
+      line : (a ≡ refused (full asked.options.nodes)) → IsWhole a out out' err err' → err'.written ≡ append_known err.written (text_of (refused (full asked.options.nodes)))
+      line is (inl showed) = absurd (not_refused (full asked.options.nodes) a is showed.shown)
+      line is (inr refusal) = refusal.errors.written ∙ ap (λ b. append_known err.written (text_of b)) is
+
+      go : (a ≡ refused no_memory) ⊎ IsRefuteAnswer held failed asked a → FullRefutation held asked err err'
+      go (inl is) = absurd (let e : 5 ≡ 8 = sym code ∙ ap status_of is in omega arith)
+      go (inr (inl (may, is))) = record { may = may; written = line is whole.1 }
+      go (inr (inr read)) = absurd (refuted_not_full held failed asked a read code)
+
+-- the nodes are too few for the certificate that the file spells, if they are for what is known of it
+record MayFor (held : Bytes → Held) (asked : RefuteWords) (d : DomainTree) (p : ProblemTree) : Type 0 where
+  pub certificate : PlainCertificate
+  pub file : HoldsCertificate held (fluent_names d p) asked.certificate certificate
+  pub tight : IsTightVerdict asked.options.nodes d p certificate
+
+may_for : OneReading → (held : Bytes → Held) (failed : Bytes → Type 0) (asked : RefuteWords) (d : DomainTree) (p : ProblemTree) (a : Answer)
+    → held asked.domain ≢ Untold → held asked.problem ≢ Untold → ((file : Bytes) → failed file → ⊥)
+    → HoldBoth held asked.domain asked.problem d p → MayRefuteRunOut held asked → MayFor held asked d p
+may_for one held failed asked d p a told told' quiet both may =
+    let few : MayFor held asked may.domain may.problem = record { certificate = may.few.certificate; file = may.few.file; tight = may.few.tight } in
+    both_as one held failed asked.domain asked.problem (λ e q b. MayFor held asked e q) d p a told told' quiet both
+    (inr (may.domain, may.both.holds_domain, inr (may.problem, may.both.holds_problem, few)))
+
+tight_of : OneReading → (held : Bytes → Held) (asked : RefuteWords) (d : DomainTree) (p : ProblemTree) (certificate : PlainCertificate)
+    → held asked.certificate ≢ Untold → HoldsCertificate held (fluent_names d p) asked.certificate certificate → MayFor held asked d p
+    → IsTightVerdict asked.options.nodes d p certificate
+tight_of one held asked d p certificate told file may =
+    let names = fluent_names d p in
+    subst (λ (c : PlainCertificate). IsTightVerdict asked.options.nodes d p c)
+    (one_tree held (SpellsPlain names) (IsFaultyCertificate names) asked.certificate may.certificate certificate told (certificate_grammar one names) may.file file)
+    may.tight
+
+-- the status where the files spell a domain, a problem of it and a certificate, within the limits: 0
+-- exactly where it is accepted
+rejected_not_accepted : (sys : System) (certificate : PlainCertificate) (flaw : Flaw) → IsVerdict sys certificate (Rejected flaw) → IsAccepted sys certificate → ⊥
+rejected_not_accepted sys certificate flaw is accepted = cc (not_accepted sys certificate (Rejected flaw) is accepted)
+
+judged_status : (sys : System) (certificate : PlainCertificate) (judged : Judged) (status : ℕ) → IsVerdict sys certificate judged → status ≡ status_of (judged_answer judged)
+    → ((status ≡ 0) × IsAccepted sys certificate) ⊎ ((status ≡ 1) × (IsAccepted sys certificate → ⊥)) ⊎ (status ≡ 8)
+judged_status sys certificate Accepted status is code = inl (code, is)
+judged_status sys certificate (Rejected flaw) status is code = inr (inl (code, rejected_not_accepted sys certificate flaw is))
+
+pub refute_status : OneReading → (held : Bytes → Held) (failed : Bytes → Type 0) (tallies : Tallies) (words : List Bytes) (before after : ℕ) (out out' err err' : Seen) (status : ℕ) (a : Answer)
+    (asked : RefuteWords) (domain : DomainTree) (problem : ProblemTree) (certificate : PlainCertificate) → Done held failed tallies words before after out out' err err' status a
+    → SaysRefute words asked → HoldBoth held asked.domain asked.problem domain problem → has_goal_for for_tables problem ≡ true → first_passed domain problem ≡ None
+    → (system domain problem).initial ≢ [] → HoldsCertificate held (fluent_names domain problem) asked.certificate certificate
+    → (IsTightVerdict asked.options.nodes domain problem certificate → ⊥)
+    → AreFilesTold held words → ((file : Bytes) → failed file → ⊥)
+    → NoFault out.faults out'.faults → NoFault err.faults err'.faults
+    → ((status ≡ 0) × IsAccepted (system domain problem) certificate) ⊎ ((status ≡ 1) × (IsAccepted (system domain problem) certificate → ⊥)) ⊎ (status ≡ 8)
+refute_status one held failed tallies words before after out out' err err' status a asked domain problem certificate d says both goal kept some file room told quiet no_out no_err =
+    go (of_command held failed tallies words (refute asked) a says d.cause) where
+      code : status ≡ status_of a
+      code = undisturbed a out out' err err' status no_out no_err d.delivered
+
+      told_domain : held asked.domain ≢ Untold
+      told_domain = told (refute asked) asked.domain says (0, omega arith, refl)
+
+      told_problem : held asked.problem ≢ Untold
+      told_problem = told (refute asked) asked.problem says (1, omega arith, refl)
+
+      told_certificate : held asked.certificate ≢ Untold
+      told_certificate = told (refute asked) asked.certificate says (2, omega arith, refl)
+
+      go : (a ≡ refused no_memory) ⊎ IsRefuteAnswer held failed asked a
+          → ((status ≡ 0) × IsAccepted (system domain problem) certificate) ⊎ ((status ≡ 1) × (IsAccepted (system domain problem) certificate → ⊥)) ⊎ (status ≡ 8)
+      go (inl is) = inr (inr (code ∙ ap status_of is))
+      go (inr (inl (may, is))) =
+          absurd (room (tight_of one held asked domain problem certificate told_certificate file
+          (may_for one held failed asked domain problem a told_domain told_problem quiet both may)))
+      go (inr (inr is)) =
+          let then = within_limits domain problem (RefuteThen held failed asked domain problem) a kept
+          (with_goal for_tables asked.problem problem (GroundThen domain problem (RefuteThen held failed asked domain problem)) a goal
+          (both_as one held failed asked.domain asked.problem (IsRefuted held failed asked) domain problem a told_domain told_problem quiet both is)) in
+          let Then : PlainCertificate → Answer → Type 0 = JudgeThen asked domain problem in
+          let judged = with_initial (empty_init asked.problem problem) (system domain problem).initial (ShowsJudged (system domain problem) certificate) a some
+          (read_as held failed asked.certificate (SpellsPlain (fluent_names domain problem)) (IsFaultyCertificate (fluent_names domain problem))
+          Then certificate a told_certificate (quiet asked.certificate) (certificate_grammar one (fluent_names domain problem)) file then) in
+          judged_status (system domain problem) certificate judged.0 status judged.1 (code ∙ ap status_of judged.2)

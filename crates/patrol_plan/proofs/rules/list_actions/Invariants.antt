@@ -1,0 +1,15 @@
+use Rattle.std.proofs.Common.{◌≡◌, map, suc}
+use Rattle.std.specs.List.{flat_map, range_with_len}
+use Rattle.plan_theory.specs.UntilChains.{UntilSets}
+use Rattle.plan_theory.specs.ContextRules.{action_rules}
+use Rattle.plan_theory.specs.UntilPrinted.{until_states}
+use Rattle.plan_rules.specs.Rules.{context_rule_of}
+use Rattle.task_core.specs.Tasks.{action_count}
+use Rattle.patrol_plan.specs.Listing.{ListsTurning}
+use Rattle.patrol_plan.specs.Scenes.{Start, sys_of, takers_place}
+use Rattle.patrol_plan.specs.Tables.{HasTurning}
+use Rattle.patrol_plan.proofs.rules.list_actions.Given as goal
+
+abbrev pub invariant-loop-a : goal.invariant-loop-a
+invariant-loop-a l = (start : Start) (chain : UntilSets) → l.fn.takers ≡ takers_place (action_count start.task) start.stages l.fn.next → HasTurning start (l.fn.enc, l.fn.board.slots.items) chain l.fn.stage l.fn.next
+    → ListsTurning start (l.enc, l.board.slots.items) chain (map context_rule_of l.fn.rules.items) (map context_rule_of l.rules.items) l.fn.stage l.fn.next (flat_map (action_rules (sys_of start) (until_states (sys_of start) chain) (suc l.fn.stage) (suc l.fn.next)) (range_with_len 0 l.a))

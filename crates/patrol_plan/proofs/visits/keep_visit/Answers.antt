@@ -1,0 +1,150 @@
+use Rattle.std.proofs.Common.{◌≡◌, arith, length, subst, sym}
+use Rattle.std.proofs.lemmas.Result.{err_from_is_err_and}
+use Rattle.slot_board.proofs.BoardSlots.{left_with, passed, same_actions, went}
+use Rattle.patrol_plan.specs.PatrolSizes.{within_round}
+use Rattle.patrol_plan.specs.PatrolSteps.{visit_place}
+use Rattle.patrol_plan.specs.Scenes.{board_of, states_at}
+use Rattle.patrol_plan.specs.Sizes.{TurnsFit}
+use Rattle.patrol_plan.specs.Steps.{HasLast}
+use Rattle.patrol_plan.specs.declared.rounds.Way.TheVariants.{Growing}
+use Rattle.patrol_plan.proofs.VisitSteps.{kept_fits, met_turns, visit_low, visits_more}
+use Rattle.patrol_plan.proofs.visits.keep_visit.Goals as goal
+
+pub meet_visit-requires-clause-ready : goal.meet_visit-requires-clause-ready
+meet_visit-requires-clause-ready c =
+    let start = c.requires.ready.0 in
+    let conds = c.requires.ready.1 in
+    let r = c.requires.ready.2 in
+    let i = c.requires.ready.3 in
+    let place = c.requires.ready.4 in
+    let less = c.requires.ready.5 in
+    let is_visit = c.requires.ready.6 in
+    let h = c.requires.ready.7 in
+    (start, conds, r, i, place, less, is_visit, h)
+
+pub returns-in_err-meet_visit : goal.returns-in_err-meet_visit
+returns-in_err-meet_visit c start conds r i place less is_visit h =
+    passed (board_of start) c.meet_visit.new.enc c.meet_visit.new.board.slots.items _ _ c.meet_visit.result c.from_residual.result _ c.in_err-meet_visit.was (err_from_is_err_and c.from_residual.result c.from_residual.ensures.1) (c.meet_visit.ensures start conds r i place less is_visit h)
+
+pub turn_all-requires-clause-ready : goal.turn_all-requires-clause-ready
+turn_all-requires-clause-ready c =
+    let start = c.requires.ready.0 in
+    let conds = c.requires.ready.1 in
+    let r = c.requires.ready.2 in
+    let i = c.requires.ready.3 in
+    let place = c.requires.ready.4 in
+    let less = c.requires.ready.5 in
+    let is_visit = c.requires.ready.6 in
+    let h = c.requires.ready.7 in
+    let m = went (board_of start) c.meet_visit.new.enc c.meet_visit.new.board.slots.items _ c.meet_visit.result _ c.in_ok-meet_visit.was (c.meet_visit.ensures start conds r i place less is_visit h) in
+    let at = m.visits.stay.ready in
+    let turns = subst (λ k. TurnsFit Growing (within_round start conds r) (states_at (c.meet_visit.new.enc, c.meet_visit.new.board.slots.items) k)) (sym place) (met_turns start conds (c.meet_visit.new.enc, c.meet_visit.new.board.slots.items) r i less m) in
+    ((within_round start conds r), at, turns)
+
+pub turn_all-requires-clause-actions : goal.turn_all-requires-clause-actions
+turn_all-requires-clause-actions c =
+    let start = c.requires.ready.0 in
+    let conds = c.requires.ready.1 in
+    let r = c.requires.ready.2 in
+    let i = c.requires.ready.3 in
+    let place = c.requires.ready.4 in
+    let less = c.requires.ready.5 in
+    let is_visit = c.requires.ready.6 in
+    let h = c.requires.ready.7 in
+    let m = went (board_of start) c.meet_visit.new.enc c.meet_visit.new.board.slots.items _ c.meet_visit.result _ c.in_ok-meet_visit.was (c.meet_visit.ensures start conds r i place less is_visit h) in
+    let e : length c.meet_visit.new.enc.actions ≡ length c.args.enc.now.actions = same_actions (board_of start) c.args.enc.now c.meet_visit.new.enc c.args.board.now.slots.items c.meet_visit.new.board.slots.items h.stay.ready.at m.visits.stay.ready.at in omega (arith, c.requires.actions)
+
+pub turn_all-requires-clause-place : goal.turn_all-requires-clause-place
+turn_all-requires-clause-place c =
+    let start = c.requires.ready.0 in
+    let conds = c.requires.ready.1 in
+    let r = c.requires.ready.2 in
+    let i = c.requires.ready.3 in
+    let place = c.requires.ready.4 in
+    let less = c.requires.ready.5 in
+    let is_visit = c.requires.ready.6 in
+    let h = c.requires.ready.7 in
+    let m = went (board_of start) c.meet_visit.new.enc c.meet_visit.new.board.slots.items _ c.meet_visit.result _ c.in_ok-meet_visit.was (c.meet_visit.ensures start conds r i place less is_visit h) in
+    let w = visit_low start (c.meet_visit.new.enc, c.meet_visit.new.board.slots.items) m.visits.stay.ready.at m.visits.stay.some (visit_place i) (let e = m.visits.stay.count in omega arith) in omega (arith, place)
+
+pub returns-in_err-turn_all : goal.returns-in_err-turn_all
+returns-in_err-turn_all c start conds r i place less is_visit h =
+    let m = went (board_of start) c.meet_visit.new.enc c.meet_visit.new.board.slots.items _ c.meet_visit.result _ c.in_ok-meet_visit.was (c.meet_visit.ensures start conds r i place less is_visit h) in
+    let at = m.visits.stay.ready in
+    let turns = subst (λ k. TurnsFit Growing (within_round start conds r) (states_at (c.meet_visit.new.enc, c.meet_visit.new.board.slots.items) k)) (sym place) (met_turns start conds (c.meet_visit.new.enc, c.meet_visit.new.board.slots.items) r i less m) in
+    passed (board_of start) c.turn_all.new.enc c.turn_all.new.board.slots.items _ _ c.turn_all.result c.from_residual-in_err-turn_all.result _ c.in_err-turn_all.was (err_from_is_err_and c.from_residual-in_err-turn_all.result c.from_residual-in_err-turn_all.ensures.1) (c.turn_all.ensures (within_round start conds r) at turns)
+
+pub combine-requires-clause-working : goal.combine-requires-clause-working
+combine-requires-clause-working c =
+    let start = c.requires.ready.0 in
+    let conds = c.requires.ready.1 in
+    let r = c.requires.ready.2 in
+    let i = c.requires.ready.3 in
+    let place = c.requires.ready.4 in
+    let less = c.requires.ready.5 in
+    let is_visit = c.requires.ready.6 in
+    let h = c.requires.ready.7 in
+    let m = went (board_of start) c.meet_visit.new.enc c.meet_visit.new.board.slots.items _ c.meet_visit.result _ c.in_ok-meet_visit.was (c.meet_visit.ensures start conds r i place less is_visit h) in
+    let at = m.visits.stay.ready in
+    let turns = subst (λ k. TurnsFit Growing (within_round start conds r) (states_at (c.meet_visit.new.enc, c.meet_visit.new.board.slots.items) k)) (sym place) (met_turns start conds (c.meet_visit.new.enc, c.meet_visit.new.board.slots.items) r i less m) in
+    let t = went (board_of start) c.turn_all.new.enc c.turn_all.new.board.slots.items _ c.turn_all.result _ c.in_ok-turn_all.was (c.turn_all.ensures (within_round start conds r) at turns) in
+    (board_of start, t.worked.ready.at)
+
+pub combine-requires-clause-place : goal.combine-requires-clause-place
+combine-requires-clause-place c =
+    let start = c.requires.ready.0 in
+    let conds = c.requires.ready.1 in
+    let r = c.requires.ready.2 in
+    let i = c.requires.ready.3 in
+    let place = c.requires.ready.4 in
+    let less = c.requires.ready.5 in
+    let is_visit = c.requires.ready.6 in
+    let h = c.requires.ready.7 in
+    let m = went (board_of start) c.meet_visit.new.enc c.meet_visit.new.board.slots.items _ c.meet_visit.result _ c.in_ok-meet_visit.was (c.meet_visit.ensures start conds r i place less is_visit h) in
+    let at = m.visits.stay.ready in
+    let turns = subst (λ k. TurnsFit Growing (within_round start conds r) (states_at (c.meet_visit.new.enc, c.meet_visit.new.board.slots.items) k)) (sym place) (met_turns start conds (c.meet_visit.new.enc, c.meet_visit.new.board.slots.items) r i less m) in
+    let t = went (board_of start) c.turn_all.new.enc c.turn_all.new.board.slots.items _ c.turn_all.result _ c.in_ok-turn_all.was (c.turn_all.ensures (within_round start conds r) at turns) in
+    visit_low start (c.turn_all.new.enc, c.turn_all.new.board.slots.items) t.worked.ready.at h.stay.some 10 (omega arith)
+
+pub combine-requires-clause-a : goal.combine-requires-clause-a
+combine-requires-clause-a c =
+    let start = c.requires.ready.0 in
+    let conds = c.requires.ready.1 in
+    let r = c.requires.ready.2 in
+    let i = c.requires.ready.3 in
+    let place = c.requires.ready.4 in
+    let less = c.requires.ready.5 in
+    let is_visit = c.requires.ready.6 in
+    let h = c.requires.ready.7 in
+    let m = went (board_of start) c.meet_visit.new.enc c.meet_visit.new.board.slots.items _ c.meet_visit.result _ c.in_ok-meet_visit.was (c.meet_visit.ensures start conds r i place less is_visit h) in
+    let at = m.visits.stay.ready in
+    let turns = subst (λ k. TurnsFit Growing (within_round start conds r) (states_at (c.meet_visit.new.enc, c.meet_visit.new.board.slots.items) k)) (sym place) (met_turns start conds (c.meet_visit.new.enc, c.meet_visit.new.board.slots.items) r i less m) in
+    let t = went (board_of start) c.turn_all.new.enc c.turn_all.new.board.slots.items _ c.turn_all.result _ c.in_ok-turn_all.was (c.turn_all.ensures (within_round start conds r) at turns) in
+    visit_low start (c.turn_all.new.enc, c.turn_all.new.board.slots.items) t.worked.ready.at h.stay.some 10 (omega arith)
+
+pub combine-requires-clause-b : goal.combine-requires-clause-b
+combine-requires-clause-b c =
+    let start = c.requires.ready.0 in
+    let conds = c.requires.ready.1 in
+    let r = c.requires.ready.2 in
+    let i = c.requires.ready.3 in
+    let place = c.requires.ready.4 in
+    let less = c.requires.ready.5 in
+    let is_visit = c.requires.ready.6 in
+    let h = c.requires.ready.7 in
+    let m = went (board_of start) c.meet_visit.new.enc c.meet_visit.new.board.slots.items _ c.meet_visit.result _ c.in_ok-meet_visit.was (c.meet_visit.ensures start conds r i place less is_visit h) in
+    let at = m.visits.stay.ready in
+    let turns = subst (λ k. TurnsFit Growing (within_round start conds r) (states_at (c.meet_visit.new.enc, c.meet_visit.new.board.slots.items) k)) (sym place) (met_turns start conds (c.meet_visit.new.enc, c.meet_visit.new.board.slots.items) r i less m) in
+    let t = went (board_of start) c.turn_all.new.enc c.turn_all.new.board.slots.items _ c.turn_all.result _ c.in_ok-turn_all.was (c.turn_all.ensures (within_round start conds r) at turns) in
+    visit_low start (c.turn_all.new.enc, c.turn_all.new.board.slots.items) t.worked.ready.at h.stay.some 0 (omega arith)
+
+pub returns : goal.returns
+returns c start conds r i place less is_visit h =
+    let m = went (board_of start) c.meet_visit.new.enc c.meet_visit.new.board.slots.items _ c.meet_visit.result _ c.in_ok-meet_visit.was (c.meet_visit.ensures start conds r i place less is_visit h) in
+    let at = m.visits.stay.ready in
+    let turns = subst (λ k. TurnsFit Growing (within_round start conds r) (states_at (c.meet_visit.new.enc, c.meet_visit.new.board.slots.items) k)) (sym place) (met_turns start conds (c.meet_visit.new.enc, c.meet_visit.new.board.slots.items) r i less m) in
+    let t = went (board_of start) c.turn_all.new.enc c.turn_all.new.board.slots.items _ c.turn_all.result _ c.in_ok-turn_all.was (c.turn_all.ensures (within_round start conds r) at turns) in
+    let last = subst (λ k. HasLast Growing (within_round start conds r) (c.meet_visit.new.enc, c.meet_visit.new.board.slots.items) (c.turn_all.new.enc, c.turn_all.new.board.slots.items) (states_at (c.meet_visit.new.enc, c.meet_visit.new.board.slots.items) k)) place t in
+    left_with (board_of start) c.combine.new.enc c.combine.new.self.slots.items _ _ c.combine.result
+    (λ z. visits_more start conds (c.meet_visit.new.enc, c.meet_visit.new.board.slots.items) (c.turn_all.new.enc, c.turn_all.new.board.slots.items) r i less m last (c.combine.new.enc, c.combine.new.self.slots.items) z)
+    (c.combine.ensures (board_of start) t.worked.ready.at (kept_fits start conds (c.meet_visit.new.enc, c.meet_visit.new.board.slots.items) (c.turn_all.new.enc, c.turn_all.new.board.slots.items) r i less m last))

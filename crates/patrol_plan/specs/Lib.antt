@@ -1,0 +1,15 @@
+pub mod Guards
+pub mod Chains
+pub mod Found
+pub mod WorkingSets
+pub mod Scenes
+pub mod Rounds
+pub mod Sizes
+pub mod Steps
+pub mod Tables
+pub mod Listing
+pub mod Answers
+pub mod PatrolWorkingSets
+pub mod PatrolSizes
+pub mod PatrolSteps
+pub mod PatrolAnswers

@@ -1,0 +1,224 @@
+//! Rounds on sets of states: what can be kept for one step more, or met in one step more.
+
+ghost use Rattle.std.specs.Prelude.{◌≡◌, ◌<◌, length, true, IfOk};
+ghost use Rattle.slot_board.specs.Board as board_specs;
+ghost use Rattle.slot_board.specs.declared.board.Outcomes.TheVariants as Every;
+ghost use Rattle.task_core.specs.Tasks.{action_count};
+ghost use Rattle.patrol_plan.specs.Rounds.{turn_by};
+ghost use Rattle.patrol_plan.specs.Scenes.{IsGuarded, Left, Moved, Start, board_of, led_inside};
+ghost use Rattle.patrol_plan.specs.Scenes.{states_at, sys_in};
+ghost use Rattle.patrol_plan.specs.Sizes.{ExecFits, HitFits, IsSmall, RoundFits, TurnsFit};
+ghost use Rattle.patrol_plan.specs.Steps.{AddsHits, HasLast, HitsAmong, KeepsHits, Leads};
+ghost use Rattle.patrol_plan.specs.Steps.{LeadsAmong, OnlyHits, TurnedFrom};
+
+use crate::places::{GUARD, HITS, NEAR, NEXT};
+use dd_sets::SetErr;
+use encode_task::Enc;
+use slot_board::{Board, Operation, Outcomes};
+use task_core::ActionId;
+
+/// What rounds do to a set of states.
+#[derive(Clone, Copy, Debug)]
+pub(crate) enum Way {
+    /// They keep the states with an action that leads into the set.
+    Shrinking,
+    /// They add the states with an action that leads into the set.
+    Growing,
+}
+
+/// Finds where an action can be executed in the guard and leads into the first states.
+pub(crate) fn lead_inside(enc: &mut Enc, board: &mut Board, a: ActionId) -> Result<(), SetErr>
+    requires ready { (start : Start) × IsGuarded start (enc.old, board.old.slots.items)
+        × board_specs.LeadFits (board_of start) Every.Every a.0
+        (board_specs.set_at enc.old.sets board.old.slots.items 0) }
+    requires action { a.0 < length enc.old.actions }
+    ensures { (start : Start) → IsGuarded start (enc.old, board.old.slots.items)
+        → board_specs.LeadFits (board_of start) Every.Every a.0
+        (board_specs.set_at enc.old.sets board.old.slots.items 0)
+        → Left start (enc.new, board.new.slots.items)
+        (Moved start (enc.old, board.old.slots.items) (enc.new, board.new.slots.items) 2
+        (led_inside start (enc.old, board.old.slots.items) a.0)) result }
+{
+    board.lead(enc, HITS, Outcomes::Every, a, NEAR)?;
+    board.combine(enc, HITS, Operation::Meet, GUARD, HITS)
+}
+
+/// Where rounds shrink, leaves of the states from which an action leads into the first ones those
+/// that are among these.
+fn keep_hits(enc: &mut Enc, board: &mut Board, way: Way) -> Result<(), SetErr>
+    requires ready { (start : Start) × IsGuarded start (enc.old, board.old.slots.items) }
+    ensures { (start : Start) → IsGuarded start (enc.old, board.old.slots.items)
+        → IsSmall start (states_at (enc.old, board.old.slots.items) 2)
+        → Left start (enc.new, board.new.slots.items)
+        (KeepsHits way start (enc.old, board.old.slots.items) (enc.new, board.new.slots.items))
+        result }
+{
+    match way {
+        Way::Shrinking => board.combine(enc, HITS, Operation::Meet, NEAR, HITS),
+        Way::Growing => Ok(()),
+    }
+}
+
+/// Whether the states in which an action can be executed are all among the next ones already.
+pub(crate) fn is_joined(enc: &mut Enc, board: &mut Board, a: ActionId) -> Result<bool, SetErr>
+    requires ready { (start : Start) × IsGuarded start (enc.old, board.old.slots.items)
+        × ExecFits start a.0 }
+    requires action { a.0 < length enc.old.actions }
+    ensures left { (start : Start) → IsGuarded start (enc.old, board.old.slots.items)
+        → ExecFits start a.0
+        → Left start (enc.new, board.new.slots.items)
+        (OnlyHits start (enc.old, board.old.slots.items) (enc.new, board.new.slots.items))
+        result }
+    ensures joined { (start : Start) → IsGuarded start (enc.old, board.old.slots.items)
+        → ExecFits start a.0
+        → IfOk result (λ joined. joined ≡ true
+        → LeadsAmong start (enc.old, board.old.slots.items) a.0) }
+{
+    let executable = enc.exec(a);
+    board.copy(enc, HITS, executable)?;
+    board.combine(enc, HITS, Operation::Minus, HITS, NEXT)?;
+    Ok(board.is_empty(enc, HITS))
+}
+
+/// Whether the states that a round adds by an action are all among the next ones already, as far as
+/// that can be seen without a preimage.
+fn adds_none(enc: &mut Enc, board: &mut Board, way: Way, a: ActionId) -> Result<bool, SetErr>
+    requires ready { (start : Start) × IsGuarded start (enc.old, board.old.slots.items)
+        × ExecFits start a.0 }
+    requires action { a.0 < length enc.old.actions }
+    ensures left { (start : Start) → IsGuarded start (enc.old, board.old.slots.items)
+        → ExecFits start a.0
+        → Left start (enc.new, board.new.slots.items)
+        (OnlyHits start (enc.old, board.old.slots.items) (enc.new, board.new.slots.items))
+        result }
+    ensures none { (start : Start) → IsGuarded start (enc.old, board.old.slots.items)
+        → ExecFits start a.0
+        → IfOk result (λ none. none ≡ true
+        → HitsAmong way start (enc.old, board.old.slots.items) a.0) }
+{
+    match way {
+        Way::Shrinking => Ok(board.is_same(enc, NEXT, NEAR)),
+        Way::Growing => is_joined(enc, board, a),
+    }
+}
+
+/// Adds the states from which an action leads into the first states to the next ones, where rounds
+/// shrink those of the first states alone.
+fn join_hits(enc: &mut Enc, board: &mut Board, way: Way, a: ActionId) -> Result<(), SetErr>
+    requires ready { (start : Start) × IsGuarded start (enc.old, board.old.slots.items)
+        × HitFits way start (states_at (enc.old, board.old.slots.items) 0)
+        (states_at (enc.old, board.old.slots.items) 1) a.0 }
+    requires action { a.0 < length enc.old.actions }
+    ensures { (start : Start) → IsGuarded start (enc.old, board.old.slots.items)
+        → HitFits way start (states_at (enc.old, board.old.slots.items) 0)
+        (states_at (enc.old, board.old.slots.items) 1) a.0
+        → Left start (enc.new, board.new.slots.items)
+        (AddsHits way start (enc.old, board.old.slots.items) (enc.new, board.new.slots.items)
+        a.0) result }
+{
+    lead_inside(enc, board, a)?;
+    keep_hits(enc, board, way)?;
+    board.combine(enc, NEXT, Operation::Join, NEXT, HITS)
+}
+
+/// The same, with no preimage where it would add nothing.
+fn add_hits(enc: &mut Enc, board: &mut Board, way: Way, a: ActionId) -> Result<(), SetErr>
+    requires ready { (start : Start) × IsGuarded start (enc.old, board.old.slots.items)
+        × HitFits way start (states_at (enc.old, board.old.slots.items) 0)
+        (states_at (enc.old, board.old.slots.items) 1) a.0 }
+    requires action { a.0 < length enc.old.actions }
+    ensures { (start : Start) → IsGuarded start (enc.old, board.old.slots.items)
+        → HitFits way start (states_at (enc.old, board.old.slots.items) 0)
+        (states_at (enc.old, board.old.slots.items) 1) a.0
+        → Left start (enc.new, board.new.slots.items)
+        (AddsHits way start (enc.old, board.old.slots.items) (enc.new, board.new.slots.items)
+        a.0) result }
+{
+    if adds_none(enc, board, way, a)? {
+        return Ok(());
+    }
+    join_hits(enc, board, way, a)
+}
+
+/// Puts the states that a round begins with to the next ones where rounds grow, and none where they
+/// shrink.
+fn begin_next(enc: &mut Enc, board: &mut Board, way: Way) -> Result<(), SetErr>
+    requires ready { (start : Start) × IsGuarded start (enc.old, board.old.slots.items) }
+    ensures { (start : Start) → IsGuarded start (enc.old, board.old.slots.items)
+        → IsSmall start (turn_by way (sys_in start)
+        (states_at (enc.old, board.old.slots.items) 0) 0)
+        → Left start (enc.new, board.new.slots.items)
+        (Leads way start (enc.old, board.old.slots.items) (enc.new, board.new.slots.items) 0)
+        result }
+{
+    match way {
+        Way::Shrinking => board.combine(enc, NEXT, Operation::Minus, NEAR, NEAR),
+        Way::Growing => board.copy_of(enc, NEXT, NEAR),
+    }
+}
+
+/// Makes a round on the first states. Each set that it makes is the first states with some from
+/// which an action leads into them, or a part of that.
+fn lead_all(enc: &mut Enc, board: &mut Board, actions: u32, way: Way) -> Result<(), SetErr>
+    requires ready { (start : Start) × IsGuarded start (enc.old, board.old.slots.items)
+        × RoundFits start (states_at (enc.old, board.old.slots.items) 0) }
+    requires actions { actions ≡ length enc.old.actions }
+    ensures { (start : Start) → IsGuarded start (enc.old, board.old.slots.items)
+        → RoundFits start (states_at (enc.old, board.old.slots.items) 0)
+        → Left start (enc.new, board.new.slots.items)
+        (Leads way start (enc.old, board.old.slots.items) (enc.new, board.new.slots.items)
+        (action_count start.task)) result }
+{
+    begin_next(enc, board, way)?;
+    for a in 0..actions {
+        add_hits(enc, board, way, ActionId(a))?;
+    }
+    Ok(())
+}
+
+/// Makes a round on the states at a place.
+pub(crate) fn turn_from(
+    enc: &mut Enc,
+    board: &mut Board,
+    actions: u32,
+    way: Way,
+    place: usize,
+) -> Result<(), SetErr>
+    requires ready { (start : Start) × IsGuarded start (enc.old, board.old.slots.items)
+        × RoundFits start (states_at (enc.old, board.old.slots.items) place) }
+    requires actions { actions ≡ length enc.old.actions }
+    requires place { place < length board.old.slots.items }
+    ensures { (start : Start) → IsGuarded start (enc.old, board.old.slots.items)
+        → RoundFits start (states_at (enc.old, board.old.slots.items) place)
+        → Left start (enc.new, board.new.slots.items)
+        (TurnedFrom way start (enc.old, board.old.slots.items) (enc.new, board.new.slots.items)
+        place) result }
+{
+    board.copy_of(enc, NEAR, place)?;
+    lead_all(enc, board, actions, way)
+}
+
+/// Makes rounds, from the states at a place on, until nothing changes.
+pub(crate) fn turn_all(
+    enc: &mut Enc,
+    board: &mut Board,
+    actions: u32,
+    way: Way,
+    place: usize,
+) -> Result<(), SetErr>
+    requires ready { (start : Start) × IsGuarded start (enc.old, board.old.slots.items)
+        × TurnsFit way start (states_at (enc.old, board.old.slots.items) place) }
+    requires actions { actions ≡ length enc.old.actions }
+    requires place { place < length board.old.slots.items }
+    ensures { (start : Start) → IsGuarded start (enc.old, board.old.slots.items)
+        → TurnsFit way start (states_at (enc.old, board.old.slots.items) place)
+        → Left start (enc.new, board.new.slots.items)
+        (HasLast way start (enc.old, board.old.slots.items) (enc.new, board.new.slots.items)
+        (states_at (enc.old, board.old.slots.items) place)) result }
+{
+    turn_from(enc, board, actions, way, place)?;
+    while !board.is_same(enc, NEXT, NEAR) {
+        turn_from(enc, board, actions, way, NEXT)?;
+    }
+    Ok(())
+}

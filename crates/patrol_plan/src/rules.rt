@@ -1,0 +1,262 @@
+//! The rules of a plan, by context, next context and action.
+
+ghost use Rattle.std.specs.Prelude.{◌≡◌, ℕ, suc, ◌≤◌, ◌+◌, ◌<◌, ◌++◌, List, map, length, IfErr};
+ghost use Rattle.std.specs.Prelude.{OnOk};
+ghost use Rattle.plan_theory.specs.ContextRules.{action_rules, next_rules, rules_in_context};
+ghost use Rattle.plan_theory.specs.UntilChains.{UntilSets};
+ghost use Rattle.plan_theory.specs.UntilPrinted.{until_nexts, until_rules, until_states};
+ghost use Rattle.plan_rules.specs.Rules.{ContextRule, context_rule_of};
+ghost use Rattle.task_core.specs.Tasks.{action_count, fluent_count};
+ghost use Rattle.patrol_plan.specs.Chains.{most_stages};
+ghost use Rattle.patrol_plan.specs.Scenes.{IsReady, Left, Start, states_at, sys_of, takers_place};
+ghost use Rattle.patrol_plan.specs.Listing.{Lists, ListsStages, ListsTurning, rule_for, rules_for};
+ghost use Rattle.patrol_plan.specs.Steps.{HasRest, HasTakers};
+ghost use Rattle.patrol_plan.specs.Tables.{HasTable, HasTurning};
+
+use crate::places::{HITS, NEW, REST, met_at, takers_at, win_at};
+use dd_sets::SetErr;
+use encode_task::Enc;
+use plan_rules::{AutoRule, Next};
+use slot_board::{Board, Operation};
+use std::alloc::AllocError;
+use task_core::{ActionId, Lit};
+
+/// A rule for each cube.
+fn add_rules(
+    rules: &mut Vec<AutoRule>,
+    context: u32,
+    next: u32,
+    action: ActionId,
+    cubes: Vec<Vec<Lit>>,
+) -> Result<(), AllocError>
+    ensures { OnOk result (map context_rule_of rules.new.items
+        ≡ map context_rule_of rules.old.items
+        ++ map (rule_for context next action.0) (map (λ cube. cube.items) cubes.items)) }
+{
+    for cube in cubes {
+        rules.push(AutoRule {
+            context,
+            cube,
+            action,
+            next: Next::One(next),
+        })?;
+    }
+    Ok(())
+}
+
+/// The rules of the states at a place.
+pub(crate) fn list_at(
+    enc: &Enc,
+    board: &Board,
+    rules: &mut Vec<AutoRule>,
+    context: u32,
+    next: u32,
+    action: ActionId,
+    place: usize,
+) -> Result<(), SetErr>
+    requires ready { (start : Start) × IsReady start (enc.now, board.now.slots.items) }
+    requires place { place < length board.now.slots.items }
+    ensures never_full { IfErr result (λ e. e ≡ SetErr.Memory) }
+    ensures listed { (start : Start) → IsReady start (enc.now, board.now.slots.items)
+        → OnOk result (map context_rule_of rules.new.items
+        ≡ map context_rule_of rules.old.items ++ rules_for (fluent_count start.task) context next
+        action.0 (states_at (enc.now, board.now.slots.items) place)) }
+{
+    match board.cubes(enc, place) {
+        Ok(cubes) => match add_rules(rules, context, next, action, cubes) {
+            Ok(()) => Ok(()),
+            Err(_) => Err(SetErr::Memory),
+        },
+        Err(_) => Err(SetErr::Memory),
+    }
+}
+
+/// Finds the states of a context in which the stages before a next one are met.
+fn rest_at(
+    enc: &mut Enc,
+    board: &mut Board,
+    stages: u32,
+    context: u32,
+    next: u32,
+) -> Result<(), SetErr>
+    requires ready { (start : Start) × (chain : UntilSets)
+        × (start.stages ≡ stages) × (length chain.stages ≡ stages)
+        × HasTakers start (enc.old, board.old.slots.items) chain (suc stages) }
+    requires few { stages ≤ most_stages }
+    requires context { context ≤ next }
+    requires next { next ≤ stages }
+    ensures { (start : Start) (chain : UntilSets)
+        → start.stages ≡ stages → length chain.stages ≡ stages
+        → HasTakers start (enc.old, board.old.slots.items) chain (suc stages)
+        → Left start (enc.new, board.new.slots.items)
+        (HasRest start (enc.new, board.new.slots.items) chain context next) result }
+{
+    board.copy_of(enc, REST, win_at(context))?;
+    for stage in context..next {
+        board.combine(enc, REST, Operation::Meet, REST, met_at(stage))?;
+    }
+    Ok(())
+}
+
+/// Finds the states of a context that turn to a next one: in which the stages before it are met, and
+/// its own isn't.
+fn turn_states(
+    enc: &mut Enc,
+    board: &mut Board,
+    stages: u32,
+    context: u32,
+    next: u32,
+) -> Result<(), SetErr>
+    requires ready { (start : Start) × (chain : UntilSets) × (start.stages ≡ stages)
+        × HasTable start (enc.old, board.old.slots.items) chain }
+    requires few { stages ≤ most_stages }
+    requires context { context ≤ next }
+    requires next { next ≤ stages }
+    ensures { (start : Start) (chain : UntilSets) → start.stages ≡ stages
+        → HasTable start (enc.old, board.old.slots.items) chain
+        → Left start (enc.new, board.new.slots.items)
+        (HasTurning start (enc.new, board.new.slots.items) chain context next) result }
+{
+    rest_at(enc, board, stages, context, next)?;
+    board.combine(enc, NEW, Operation::Minus, REST, met_at(next))
+}
+
+/// The rules of an action in a context, counted from 0, towards a next one.
+fn list_action(
+    enc: &mut Enc,
+    board: &mut Board,
+    rules: &mut Vec<AutoRule>,
+    takers: usize,
+    stage: u32,
+    next: u32,
+    action: ActionId,
+) -> Result<(), SetErr>
+    requires ready { (start : Start) × (chain : UntilSets)
+        × (takers ≡ takers_place (action_count start.task) start.stages next)
+        × HasTurning start (enc.old, board.old.slots.items) chain stage next }
+    requires action { action.0 < length enc.old.actions }
+    requires stage { stage ≤ next }
+    requires next { next ≤ most_stages }
+    ensures { (start : Start) (chain : UntilSets)
+        → takers ≡ takers_place (action_count start.task) start.stages next
+        → HasTurning start (enc.old, board.old.slots.items) chain stage next
+        → Left start (enc.new, board.new.slots.items)
+        (ListsTurning start (enc.new, board.new.slots.items) chain
+        (map context_rule_of rules.old.items) (map context_rule_of rules.new.items) stage next
+        (action_rules (sys_of start) (until_states (sys_of start) chain) (suc stage) (suc next) action.0)) result }
+{
+    let place = takers + action.0 as usize;
+    board.combine(enc, HITS, Operation::Meet, NEW, place)?;
+    list_at(enc, board, rules, stage + 1, next + 1, action, HITS)
+}
+
+/// The rules of a context, counted from 0, towards a next one, the actions in rising number.
+fn list_actions(
+    enc: &mut Enc,
+    board: &mut Board,
+    rules: &mut Vec<AutoRule>,
+    actions: u32,
+    takers: usize,
+    stage: u32,
+    next: u32,
+) -> Result<(), SetErr>
+    requires ready { (start : Start) × (chain : UntilSets)
+        × (takers ≡ takers_place (action_count start.task) start.stages next)
+        × HasTurning start (enc.old, board.old.slots.items) chain stage next }
+    requires actions { actions ≡ length enc.old.actions }
+    requires stage { stage ≤ next }
+    requires next { next ≤ most_stages }
+    ensures { (start : Start) (chain : UntilSets)
+        → takers ≡ takers_place (action_count start.task) start.stages next
+        → HasTurning start (enc.old, board.old.slots.items) chain stage next
+        → Left start (enc.new, board.new.slots.items)
+        (ListsTurning start (enc.new, board.new.slots.items) chain
+        (map context_rule_of rules.old.items) (map context_rule_of rules.new.items) stage next
+        (next_rules (sys_of start) (until_states (sys_of start) chain) (suc stage) (suc next))) result }
+{
+    for a in 0..actions {
+        list_action(enc, board, rules, takers, stage, next, ActionId(a))?;
+    }
+    Ok(())
+}
+
+/// The rules of a context, counted from 0, towards a next one.
+fn list_stage(
+    enc: &mut Enc,
+    board: &mut Board,
+    rules: &mut Vec<AutoRule>,
+    actions: u32,
+    stages: u32,
+    stage: u32,
+    next: u32,
+) -> Result<(), SetErr>
+    requires ready { (start : Start) × (chain : UntilSets) × (before : List ContextRule)
+        × (start.stages ≡ stages) × ListsStages start (enc.old, board.old.slots.items) chain
+        before (map context_rule_of rules.old.items) stage next }
+    requires actions { actions ≡ length enc.old.actions }
+    requires few { stages ≤ most_stages }
+    requires stage { stage ≤ next }
+    requires next { next ≤ stages }
+    ensures { (start : Start) (chain : UntilSets) (before : List ContextRule)
+        → start.stages ≡ stages
+        → ListsStages start (enc.old, board.old.slots.items) chain before
+        (map context_rule_of rules.old.items) stage next
+        → Left start (enc.new, board.new.slots.items)
+        (ListsStages start (enc.new, board.new.slots.items) chain before
+        (map context_rule_of rules.new.items) stage (next + 1)) result }
+{
+    let takers = takers_at(actions, stages, next);
+    turn_states(enc, board, stages, stage, next)?;
+    list_actions(enc, board, rules, actions, takers, stage, next)
+}
+
+/// The rules of a context, the next contexts in rising number.
+fn list_context(
+    enc: &mut Enc,
+    board: &mut Board,
+    rules: &mut Vec<AutoRule>,
+    actions: u32,
+    stages: u32,
+    stage: u32,
+) -> Result<(), SetErr>
+    requires ready { (start : Start) × (chain : UntilSets) × (start.stages ≡ stages)
+        × HasTable start (enc.old, board.old.slots.items) chain }
+    requires actions { actions ≡ length enc.old.actions }
+    requires few { stages ≤ most_stages }
+    requires stage { stage ≤ stages }
+    ensures { (start : Start) (chain : UntilSets) → start.stages ≡ stages
+        → HasTable start (enc.old, board.old.slots.items) chain
+        → Left start (enc.new, board.new.slots.items)
+        (Lists start (enc.new, board.new.slots.items) chain (map context_rule_of rules.old.items)
+        (map context_rule_of rules.new.items)
+        (rules_in_context (sys_of start) (until_states (sys_of start) chain) (until_nexts chain) (suc stage))) result }
+{
+    for next in stage..stages + 1 {
+        list_stage(enc, board, rules, actions, stages, stage, next)?;
+    }
+    Ok(())
+}
+
+/// The rules of all contexts, in rising number.
+pub(crate) fn list_all(
+    enc: &mut Enc,
+    board: &mut Board,
+    rules: &mut Vec<AutoRule>,
+    actions: u32,
+    stages: u32,
+) -> Result<(), SetErr>
+    requires ready { (start : Start) × (chain : UntilSets) × (start.stages ≡ stages)
+        × HasTable start (enc.old, board.old.slots.items) chain }
+    requires actions { actions ≡ length enc.old.actions }
+    requires few { stages ≤ most_stages }
+    ensures { (start : Start) (chain : UntilSets) → start.stages ≡ stages
+        → HasTable start (enc.old, board.old.slots.items) chain
+        → Left start (enc.new, board.new.slots.items)
+        (Lists start (enc.new, board.new.slots.items) chain (map context_rule_of rules.old.items)
+        (map context_rule_of rules.new.items) (until_rules (sys_of start) chain)) result }
+{
+    for stage in 0..stages + 1 {
+        list_context(enc, board, rules, actions, stages, stage)?;
+    }
+    Ok(())
+}

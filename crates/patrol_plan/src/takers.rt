@@ -1,0 +1,339 @@
+//! Which states take which action, in each context.
+
+ghost use Rattle.std.specs.Prelude.{◌≡◌, suc, ◌≤◌, ◌+◌, ◌<◌, length};
+ghost use Rattle.ctl_syntax.specs.ChainValues.{states_of};
+ghost use Rattle.slot_board.specs.Board as board_specs;
+ghost use Rattle.task_core.specs.Tasks.{action_count};
+ghost use Rattle.patrol_plan.specs.Chains.{IsConditionOver, IsUntilOver, until_sets};
+ghost use Rattle.patrol_plan.specs.Guards.{anywhere};
+ghost use Rattle.patrol_plan.specs.Scenes.{IsAt, IsGuarded, Left, Scene, Start, board_of, guarded};
+ghost use Rattle.patrol_plan.specs.Scenes.{states_at};
+ghost use Rattle.patrol_plan.specs.Sizes.{ClimbFits, ClimbsFit, SearchFits, ShareFits};
+ghost use Rattle.patrol_plan.specs.Steps.{Climbed, ClimbedFrom, Climbs, FirstTaken, HasTakers};
+ghost use Rattle.patrol_plan.specs.Steps.{Shared};
+
+use crate::places::{GUARD, HITS, NEAR, NEW, NEXT, REST, met_at, takers_at, win_at};
+use crate::rounds::{is_joined, lead_inside};
+use ctl_syntax::UntilChain;
+use dd_sets::SetErr;
+use encode_task::Enc;
+use slot_board::{Board, Operation};
+use task_core::{ActionId, Cond};
+
+/// Has an action taken by the states without one from which it leads into the first states.
+fn share_one(enc: &mut Enc, board: &mut Board, takers: usize, a: ActionId) -> Result<(), SetErr>
+    requires ready { (start : Start) × (x : Scene)
+        × Shared start x (enc.old, board.old.slots.items) takers a.0
+        × ShareFits start (states_at x 0) (states_at x 3)
+        (λ k. states_at x (takers + k)) }
+    requires action { a.0 < length enc.old.actions }
+    requires places { takers + length enc.old.actions ≤ length board.old.slots.items }
+    requires high { 8 ≤ takers }
+    ensures { (start : Start) (x : Scene)
+        → Shared start x (enc.old, board.old.slots.items) takers a.0
+        → ShareFits start (states_at x 0) (states_at x 3)
+        (λ k. states_at x (takers + k))
+        → Left start (enc.new, board.new.slots.items)
+        (Shared start x (enc.new, board.new.slots.items) takers (a.0 + 1)) result }
+{
+    let place = takers + a.0 as usize;
+    lead_inside(enc, board, a)?;
+    board.combine(enc, HITS, Operation::Meet, REST, HITS)?;
+    board.combine(enc, place, Operation::Join, place, HITS)?;
+    board.combine(enc, REST, Operation::Minus, REST, HITS)
+}
+
+/// The same, with no preimage where no state is without an action.
+fn share_rest(enc: &mut Enc, board: &mut Board, takers: usize, a: ActionId) -> Result<(), SetErr>
+    requires ready { (start : Start) × (x : Scene)
+        × Shared start x (enc.old, board.old.slots.items) takers a.0
+        × ShareFits start (states_at x 0) (states_at x 3)
+        (λ k. states_at x (takers + k)) }
+    requires action { a.0 < length enc.old.actions }
+    requires places { takers + length enc.old.actions ≤ length board.old.slots.items }
+    requires high { 8 ≤ takers }
+    ensures { (start : Start) (x : Scene)
+        → Shared start x (enc.old, board.old.slots.items) takers a.0
+        → ShareFits start (states_at x 0) (states_at x 3)
+        (λ k. states_at x (takers + k))
+        → Left start (enc.new, board.new.slots.items)
+        (Shared start x (enc.new, board.new.slots.items) takers (a.0 + 1)) result }
+{
+    if board.is_empty(enc, REST) {
+        return Ok(());
+    }
+    share_one(enc, board, takers, a)
+}
+
+/// Gives each of the states without an action the least-numbered one that leads into the first
+/// states.
+fn share(enc: &mut Enc, board: &mut Board, actions: u32, takers: usize) -> Result<(), SetErr>
+    requires ready { (start : Start) × IsGuarded start (enc.old, board.old.slots.items)
+        × ShareFits start (states_at (enc.old, board.old.slots.items) 0)
+        (states_at (enc.old, board.old.slots.items) 3)
+        (λ k. states_at (enc.old, board.old.slots.items) (takers + k)) }
+    requires actions { actions ≡ length enc.old.actions }
+    requires places { takers + actions ≤ length board.old.slots.items }
+    requires high { 8 ≤ takers }
+    ensures { (start : Start) → IsGuarded start (enc.old, board.old.slots.items)
+        → ShareFits start (states_at (enc.old, board.old.slots.items) 0)
+        (states_at (enc.old, board.old.slots.items) 3)
+        (λ k. states_at (enc.old, board.old.slots.items) (takers + k))
+        → Left start (enc.new, board.new.slots.items)
+        (Shared start (enc.old, board.old.slots.items) (enc.new, board.new.slots.items) takers
+        (action_count start.task)) result }
+{
+    for a in 0..actions {
+        share_rest(enc, board, takers, ActionId(a))?;
+    }
+    Ok(())
+}
+
+/// Adds the states from which an action leads into the first states to the next ones, and has it
+/// taken by those that are new.
+fn climb_hits(enc: &mut Enc, board: &mut Board, takers: usize, a: ActionId) -> Result<(), SetErr>
+    requires ready { (start : Start) × (x : Scene)
+        × Climbs start x (enc.old, board.old.slots.items) takers a.0
+        × ClimbFits start (states_at x 0) (λ k. states_at x (takers + k)) }
+    requires action { a.0 < length enc.old.actions }
+    requires places { takers + length enc.old.actions ≤ length board.old.slots.items }
+    requires high { 8 ≤ takers }
+    ensures { (start : Start) (x : Scene)
+        → Climbs start x (enc.old, board.old.slots.items) takers a.0
+        → ClimbFits start (states_at x 0) (λ k. states_at x (takers + k))
+        → Left start (enc.new, board.new.slots.items)
+        (Climbs start x (enc.new, board.new.slots.items) takers (a.0 + 1)) result }
+{
+    let place = takers + a.0 as usize;
+    lead_inside(enc, board, a)?;
+    board.combine(enc, NEW, Operation::Minus, HITS, NEXT)?;
+    board.combine(enc, place, Operation::Join, place, NEW)?;
+    board.combine(enc, NEXT, Operation::Join, NEXT, HITS)
+}
+
+/// The same, with no preimage where no state would be new.
+fn climb_by(enc: &mut Enc, board: &mut Board, takers: usize, a: ActionId) -> Result<(), SetErr>
+    requires ready { (start : Start) × (x : Scene)
+        × Climbs start x (enc.old, board.old.slots.items) takers a.0
+        × ClimbFits start (states_at x 0) (λ k. states_at x (takers + k)) }
+    requires action { a.0 < length enc.old.actions }
+    requires places { takers + length enc.old.actions ≤ length board.old.slots.items }
+    requires high { 8 ≤ takers }
+    ensures { (start : Start) (x : Scene)
+        → Climbs start x (enc.old, board.old.slots.items) takers a.0
+        → ClimbFits start (states_at x 0) (λ k. states_at x (takers + k))
+        → Left start (enc.new, board.new.slots.items)
+        (Climbs start x (enc.new, board.new.slots.items) takers (a.0 + 1)) result }
+{
+    if is_joined(enc, board, a)? {
+        return Ok(());
+    }
+    climb_hits(enc, board, takers, a)
+}
+
+/// Makes a round on the first states, and gives each new state its action.
+fn climb_near(enc: &mut Enc, board: &mut Board, actions: u32, takers: usize) -> Result<(), SetErr>
+    requires ready { (start : Start) × IsGuarded start (enc.old, board.old.slots.items)
+        × ClimbFits start (states_at (enc.old, board.old.slots.items) 0)
+        (λ k. states_at (enc.old, board.old.slots.items) (takers + k)) }
+    requires actions { actions ≡ length enc.old.actions }
+    requires places { takers + actions ≤ length board.old.slots.items }
+    requires high { 8 ≤ takers }
+    ensures { (start : Start) → IsGuarded start (enc.old, board.old.slots.items)
+        → ClimbFits start (states_at (enc.old, board.old.slots.items) 0)
+        (λ k. states_at (enc.old, board.old.slots.items) (takers + k))
+        → Left start (enc.new, board.new.slots.items)
+        (Climbs start (enc.old, board.old.slots.items) (enc.new, board.new.slots.items) takers
+        (action_count start.task)) result }
+{
+    board.copy_of(enc, NEXT, NEAR)?;
+    for a in 0..actions {
+        climb_by(enc, board, takers, ActionId(a))?;
+    }
+    Ok(())
+}
+
+/// Makes a round on the states at a place, and gives each new state its action.
+fn climb_from(
+    enc: &mut Enc,
+    board: &mut Board,
+    actions: u32,
+    place: usize,
+    takers: usize,
+) -> Result<(), SetErr>
+    requires ready { (start : Start) × IsGuarded start (enc.old, board.old.slots.items)
+        × ClimbFits start (states_at (enc.old, board.old.slots.items) place)
+        (λ k. states_at (enc.old, board.old.slots.items) (takers + k)) }
+    requires actions { actions ≡ length enc.old.actions }
+    requires place { place < length board.old.slots.items }
+    requires places { takers + actions ≤ length board.old.slots.items }
+    requires high { 8 ≤ takers }
+    ensures { (start : Start) → IsGuarded start (enc.old, board.old.slots.items)
+        → ClimbFits start (states_at (enc.old, board.old.slots.items) place)
+        (λ k. states_at (enc.old, board.old.slots.items) (takers + k))
+        → Left start (enc.new, board.new.slots.items)
+        (ClimbedFrom start (enc.old, board.old.slots.items) (enc.new, board.new.slots.items)
+        place takers) result }
+{
+    board.copy_of(enc, NEAR, place)?;
+    climb_near(enc, board, actions, takers)
+}
+
+/// Gives each state from which a stage is met for certain the action of its rank.
+pub(crate) fn climb(
+    enc: &mut Enc,
+    board: &mut Board,
+    actions: u32,
+    met: usize,
+    takers: usize,
+) -> Result<(), SetErr>
+    requires ready { (start : Start) × IsGuarded start (enc.old, board.old.slots.items)
+        × ClimbsFit start (states_at (enc.old, board.old.slots.items) met)
+        (λ k. states_at (enc.old, board.old.slots.items) (takers + k)) }
+    requires actions { actions ≡ length enc.old.actions }
+    requires places { takers + actions ≤ length board.old.slots.items }
+    requires met { 8 ≤ met }
+    requires apart { met < takers }
+    ensures { (start : Start) → IsGuarded start (enc.old, board.old.slots.items)
+        → ClimbsFit start (states_at (enc.old, board.old.slots.items) met)
+        (λ k. states_at (enc.old, board.old.slots.items) (takers + k))
+        → Left start (enc.new, board.new.slots.items)
+        (Climbed start (enc.old, board.old.slots.items) (enc.new, board.new.slots.items) met
+        takers) result }
+{
+    climb_from(enc, board, actions, met, takers)?;
+    while !board.is_same(enc, NEXT, NEAR) {
+        climb_from(enc, board, actions, NEXT, takers)?;
+    }
+    Ok(())
+}
+
+/// Gives each of the states at a place the least-numbered action that leads into those at another.
+pub(crate) fn take_first(
+    enc: &mut Enc,
+    board: &mut Board,
+    actions: u32,
+    near: usize,
+    rest: usize,
+    takers: usize,
+) -> Result<(), SetErr>
+    requires ready { (start : Start) × IsGuarded start (enc.old, board.old.slots.items)
+        × ShareFits start (states_at (enc.old, board.old.slots.items) near)
+        (states_at (enc.old, board.old.slots.items) rest)
+        (λ k. states_at (enc.old, board.old.slots.items) (takers + k)) }
+    requires actions { actions ≡ length enc.old.actions }
+    requires places { takers + actions ≤ length board.old.slots.items }
+    requires near { 8 ≤ near }
+    requires rest { 8 ≤ rest }
+    requires apart { (near < takers) × (rest < takers) }
+    ensures { (start : Start) → IsGuarded start (enc.old, board.old.slots.items)
+        → ShareFits start (states_at (enc.old, board.old.slots.items) near)
+        (states_at (enc.old, board.old.slots.items) rest)
+        (λ k. states_at (enc.old, board.old.slots.items) (takers + k))
+        → Left start (enc.new, board.new.slots.items)
+        (FirstTaken start (enc.old, board.old.slots.items) (enc.new, board.new.slots.items) near
+        rest takers) result }
+{
+    board.copy_of(enc, NEAR, near)?;
+    board.copy_of(enc, REST, rest)?;
+    share(enc, board, actions, takers)
+}
+
+/// Has the actions towards a stage taken.
+fn take_stage(
+    enc: &mut Enc,
+    board: &mut Board,
+    actions: u32,
+    guard: &Cond,
+    met: usize,
+    takers: usize,
+) -> Result<(), SetErr>
+    requires ready { (start : Start) × IsAt start (enc.old, board.old.slots.items)
+        × board_specs.ConditionFits (board_of start) guard.now
+        × ClimbsFit (guarded start (states_of guard.now))
+        (states_at (enc.old, board.old.slots.items) met)
+        (λ k. states_at (enc.old, board.old.slots.items) (takers + k)) }
+    requires actions { actions ≡ length enc.old.actions }
+    requires guard { IsConditionOver enc.old.sets.vars guard.now }
+    requires places { takers + actions ≤ length board.old.slots.items }
+    requires met { 8 ≤ met }
+    requires apart { met < takers }
+    ensures { (start : Start) → IsAt start (enc.old, board.old.slots.items)
+        → board_specs.ConditionFits (board_of start) guard.now
+        → ClimbsFit (guarded start (states_of guard.now))
+        (states_at (enc.old, board.old.slots.items) met)
+        (λ k. states_at (enc.old, board.old.slots.items) (takers + k))
+        → Left start (enc.new, board.new.slots.items)
+        (Climbed (guarded start (states_of guard.now)) (enc.old, board.old.slots.items)
+        (enc.new, board.new.slots.items) met takers) result }
+{
+    board.condition(enc, GUARD, guard)?;
+    climb(enc, board, actions, met, takers)
+}
+
+/// Has the actions taken that keep the condition at the end.
+fn take_end(
+    enc: &mut Enc,
+    board: &mut Board,
+    actions: u32,
+    won: usize,
+    takers: usize,
+) -> Result<(), SetErr>
+    requires ready { (start : Start) × IsAt start (enc.old, board.old.slots.items)
+        × ShareFits (guarded start anywhere) (states_at (enc.old, board.old.slots.items) won)
+        (states_at (enc.old, board.old.slots.items) won)
+        (λ k. states_at (enc.old, board.old.slots.items) (takers + k)) }
+    requires actions { actions ≡ length enc.old.actions }
+    requires places { takers + actions ≤ length board.old.slots.items }
+    requires won { 8 ≤ won }
+    requires apart { won < takers }
+    ensures { (start : Start) → IsAt start (enc.old, board.old.slots.items)
+        → ShareFits (guarded start anywhere) (states_at (enc.old, board.old.slots.items) won)
+        (states_at (enc.old, board.old.slots.items) won)
+        (λ k. states_at (enc.old, board.old.slots.items) (takers + k))
+        → Left start (enc.new, board.new.slots.items)
+        (FirstTaken (guarded start anywhere) (enc.old, board.old.slots.items)
+        (enc.new, board.new.slots.items) won won takers) result }
+{
+    board.whole(enc, GUARD)?;
+    take_first(enc, board, actions, won, won, takers)
+}
+
+/// Has the actions towards all stages taken, and those that keep the condition.
+pub(crate) fn take_all(
+    enc: &mut Enc,
+    board: &mut Board,
+    actions: u32,
+    stages: u32,
+    chain: &UntilChain,
+) -> Result<(), SetErr>
+    requires ready { (start : Start) × (start.stages ≡ stages)
+        × (length chain.now.stages.items ≡ stages) × SearchFits start chain.now
+        × HasTakers start (enc.old, board.old.slots.items) (until_sets chain.now) 0 }
+    requires actions { actions ≡ length enc.old.actions }
+    requires chain { IsUntilOver enc.old.sets.vars chain.now }
+    ensures { (start : Start) → start.stages ≡ stages
+        → length chain.now.stages.items ≡ stages → SearchFits start chain.now
+        → HasTakers start (enc.old, board.old.slots.items) (until_sets chain.now) 0
+        → Left start (enc.new, board.new.slots.items)
+        (HasTakers start (enc.new, board.new.slots.items) (until_sets chain.now) (suc stages))
+        result }
+{
+    for i in 0..stages {
+        take_stage(
+            enc,
+            board,
+            actions,
+            &chain.stages[i as usize].guard,
+            met_at(i),
+            takers_at(actions, stages, i),
+        )?;
+    }
+    take_end(
+        enc,
+        board,
+        actions,
+        win_at(stages),
+        takers_at(actions, stages, stages),
+    )
+}

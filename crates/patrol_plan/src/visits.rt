@@ -1,0 +1,214 @@
+//! The states from which every visit can be made again and again, and those that take each action.
+
+ghost use Rattle.std.specs.Prelude.{◌≡◌, ℕ, suc, ◌≤◌, ◌+◌, ◌<◌, List, get_or, length};
+ghost use Rattle.task_core.specs.Tasks.{action_count};
+ghost use Rattle.task_core.specs.declared.conditions.Cond.{Cond as CondOf};
+ghost use Rattle.patrol_plan.specs.Chains.{IsConditionOver, IsPatrolOver, most_visits};
+ghost use Rattle.patrol_plan.specs.PatrolSizes.{PatrolFits};
+ghost use Rattle.patrol_plan.specs.PatrolSteps.{HasMet, HasPatrol, HasStay, HasVisits, IsLeft};
+ghost use Rattle.patrol_plan.specs.PatrolSteps.{visit_place};
+ghost use Rattle.patrol_plan.specs.Scenes.{HasNothing, Left, Start, takers_place};
+
+use crate::places::{GUARD, NEAR, NEXT, takers_at};
+use crate::rounds::{Way, turn_all, turn_from};
+use crate::takers::{climb, take_first};
+use dd_sets::SetErr;
+use encode_task::Enc;
+use slot_board::{Board, Operation};
+use task_core::Cond;
+
+/// The states that are left.
+pub(crate) const LEFT: usize = 8;
+/// Those of them with an action all of whose outcomes are among them.
+const STAY: usize = 9;
+/// Those from which each visit so far can be made among them.
+const KEPT: usize = 10;
+
+/// The place of the states in which a visit is made.
+pub(crate) fn visit_at(visit: u32) -> usize
+    requires { visit ≤ most_visits }
+    ensures { result ≡ visit_place visit }
+{
+    11 + visit as usize
+}
+
+/// Finds from which of the states that are left one can stay among them.
+fn find_stay(enc: &mut Enc, board: &mut Board, actions: u32) -> Result<(), SetErr>
+    requires ready { (start : Start) × (conds : List CondOf) × (r : ℕ)
+        × IsLeft start conds (enc.old, board.old.slots.items) r }
+    requires actions { actions ≡ length enc.old.actions }
+    ensures { (start : Start) (conds : List CondOf) (r : ℕ)
+        → IsLeft start conds (enc.old, board.old.slots.items) r
+        → Left start (enc.new, board.new.slots.items)
+        (HasStay start conds (enc.new, board.new.slots.items) r) result }
+{
+    board.copy_of(enc, GUARD, LEFT)?;
+    turn_from(enc, board, actions, Way::Shrinking, LEFT)?;
+    board.copy_of(enc, STAY, NEXT)
+}
+
+/// Finds where a visit is made.
+fn meet_visit(enc: &mut Enc, board: &mut Board, visit: &Cond, place: usize) -> Result<(), SetErr>
+    requires ready { (start : Start) × (conds : List CondOf) × (r : ℕ) × (i : ℕ)
+        × (place ≡ visit_place i) × (i < length conds) × (visit.now ≡ get_or conds i visit.now)
+        × HasVisits start conds (enc.old, board.old.slots.items) r i }
+    requires visit { IsConditionOver enc.old.sets.vars visit.now }
+    ensures { (start : Start) (conds : List CondOf) (r i : ℕ) → place ≡ visit_place i
+        → i < length conds → visit.now ≡ get_or conds i visit.now
+        → HasVisits start conds (enc.old, board.old.slots.items) r i
+        → Left start (enc.new, board.new.slots.items)
+        (HasMet start conds (enc.new, board.new.slots.items) r i) result }
+{
+    board.condition(enc, place, visit)?;
+    board.combine(enc, place, Operation::Meet, STAY, place)
+}
+
+/// Leaves of the states those from which a visit can be made.
+fn keep_visit(
+    enc: &mut Enc,
+    board: &mut Board,
+    actions: u32,
+    visit: &Cond,
+    place: usize,
+) -> Result<(), SetErr>
+    requires ready { (start : Start) × (conds : List CondOf) × (r : ℕ) × (i : ℕ)
+        × (place ≡ visit_place i) × (i < length conds) × (visit.now ≡ get_or conds i visit.now)
+        × HasVisits start conds (enc.old, board.old.slots.items) r i }
+    requires actions { actions ≡ length enc.old.actions }
+    requires visit { IsConditionOver enc.old.sets.vars visit.now }
+    ensures { (start : Start) (conds : List CondOf) (r i : ℕ) → place ≡ visit_place i
+        → i < length conds → visit.now ≡ get_or conds i visit.now
+        → HasVisits start conds (enc.old, board.old.slots.items) r i
+        → Left start (enc.new, board.new.slots.items)
+        (HasVisits start conds (enc.new, board.new.slots.items) r (suc i)) result }
+{
+    meet_visit(enc, board, visit, place)?;
+    turn_all(enc, board, actions, Way::Growing, place)?;
+    board.combine(enc, KEPT, Operation::Meet, KEPT, NEAR)
+}
+
+/// Makes a round: finds from which of the states that are left every visit can be made among them.
+fn keep_all(enc: &mut Enc, board: &mut Board, actions: u32, visits: &[Cond]) -> Result<(), SetErr>
+    requires ready { (start : Start) × (r : ℕ)
+        × IsLeft start visits.now (enc.old, board.old.slots.items) r }
+    requires actions { actions ≡ length enc.old.actions }
+    requires visits { IsPatrolOver enc.old.sets.vars visits.now }
+    ensures { (start : Start) (r : ℕ)
+        → IsLeft start visits.now (enc.old, board.old.slots.items) r
+        → Left start (enc.new, board.new.slots.items)
+        (HasVisits start visits.now (enc.new, board.new.slots.items) r (length visits.now))
+        result }
+{
+    find_stay(enc, board, actions)?;
+    board.copy_of(enc, KEPT, LEFT)?;
+    for i in 0..visits.len() as u32 {
+        keep_visit(enc, board, actions, &visits[i as usize], visit_at(i))?;
+    }
+    Ok(())
+}
+
+/// Makes the first round, on all states.
+fn keep_first(enc: &mut Enc, board: &mut Board, actions: u32, visits: &[Cond]) -> Result<(), SetErr>
+    requires ready { (start : Start) × (start.stages ≡ length visits.now)
+        × HasNothing start (enc.old, board.old.slots.items) × PatrolFits start visits.now }
+    requires actions { actions ≡ length enc.old.actions }
+    requires visits { IsPatrolOver enc.old.sets.vars visits.now }
+    ensures { (start : Start) → start.stages ≡ length visits.now
+        → HasNothing start (enc.old, board.old.slots.items) → PatrolFits start visits.now
+        → Left start (enc.new, board.new.slots.items)
+        (HasVisits start visits.now (enc.new, board.new.slots.items) 0 (length visits.now))
+        result }
+{
+    let space = enc.space();
+    board.copy(enc, LEFT, space)?;
+    keep_all(enc, board, actions, visits)
+}
+
+/// Makes one round more.
+fn keep_more(enc: &mut Enc, board: &mut Board, actions: u32, visits: &[Cond]) -> Result<(), SetErr>
+    requires ready { (start : Start) × (r : ℕ) × HasVisits start visits.now
+        (enc.old, board.old.slots.items) r (length visits.now) }
+    requires actions { actions ≡ length enc.old.actions }
+    requires visits { IsPatrolOver enc.old.sets.vars visits.now }
+    ensures { (start : Start) (r : ℕ) → HasVisits start visits.now
+        (enc.old, board.old.slots.items) r (length visits.now)
+        → Left start (enc.new, board.new.slots.items)
+        (HasVisits start visits.now (enc.new, board.new.slots.items) (suc r)
+        (length visits.now)) result }
+{
+    board.copy_of(enc, LEFT, KEPT)?;
+    keep_all(enc, board, actions, visits)
+}
+
+/// Makes rounds until nothing changes.
+pub(crate) fn find_left(
+    enc: &mut Enc,
+    board: &mut Board,
+    actions: u32,
+    visits: &[Cond],
+) -> Result<(), SetErr>
+    requires ready { (start : Start) × (start.stages ≡ length visits.now)
+        × HasNothing start (enc.old, board.old.slots.items) × PatrolFits start visits.now }
+    requires actions { actions ≡ length enc.old.actions }
+    requires visits { IsPatrolOver enc.old.sets.vars visits.now }
+    ensures { (start : Start) → start.stages ≡ length visits.now
+        → HasNothing start (enc.old, board.old.slots.items) → PatrolFits start visits.now
+        → Left start (enc.new, board.new.slots.items)
+        (HasPatrol start visits.now (enc.new, board.new.slots.items) 0) result }
+{
+    keep_first(enc, board, actions, visits)?;
+    while !board.is_same(enc, KEPT, LEFT) {
+        keep_more(enc, board, actions, visits)?;
+    }
+    Ok(())
+}
+
+/// Has the actions towards a visit taken, and after it those that stay among the states of the plan.
+fn take_visit(
+    enc: &mut Enc,
+    board: &mut Board,
+    actions: u32,
+    place: usize,
+    takers: usize,
+) -> Result<(), SetErr>
+    requires ready { (start : Start) × (conds : List CondOf) × (i : ℕ) × (place ≡ visit_place i)
+        × (takers ≡ takers_place (action_count start.task) start.stages i) × (i < start.stages)
+        × HasPatrol start conds (enc.old, board.old.slots.items) i }
+    requires actions { actions ≡ length enc.old.actions }
+    ensures { (start : Start) (conds : List CondOf) (i : ℕ) → place ≡ visit_place i
+        → takers ≡ takers_place (action_count start.task) start.stages i → i < start.stages
+        → HasPatrol start conds (enc.old, board.old.slots.items) i
+        → Left start (enc.new, board.new.slots.items)
+        (HasPatrol start conds (enc.new, board.new.slots.items) (suc i)) result }
+{
+    take_first(enc, board, actions, LEFT, place, takers)?;
+    climb(enc, board, actions, place, takers)
+}
+
+/// Has the actions of all contexts taken.
+pub(crate) fn take_visits(
+    enc: &mut Enc,
+    board: &mut Board,
+    actions: u32,
+    visits: u32,
+) -> Result<(), SetErr>
+    requires ready { (start : Start) × (conds : List CondOf) × (start.stages ≡ visits)
+        × HasPatrol start conds (enc.old, board.old.slots.items) 0 }
+    requires actions { actions ≡ length enc.old.actions }
+    requires few { visits ≤ most_visits }
+    ensures { (start : Start) (conds : List CondOf) → start.stages ≡ visits
+        → HasPatrol start conds (enc.old, board.old.slots.items) 0
+        → Left start (enc.new, board.new.slots.items)
+        (HasPatrol start conds (enc.new, board.new.slots.items) start.stages) result }
+{
+    for i in 0..visits {
+        take_visit(
+            enc,
+            board,
+            actions,
+            visit_at(i),
+            takers_at(actions, visits, i),
+        )?;
+    }
+    Ok(())
+}

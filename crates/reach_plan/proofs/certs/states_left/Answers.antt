@@ -1,0 +1,83 @@
+-- What is left, and no slot of it stays.
+use Rattle.std.proofs.Common.{◌+◌, ◌≡◌, ◌∙◌, [], ◌∷◌, arith, ap, length, sym, subst}
+use Rattle.std.specs.Prelude.{IsSome}
+use Rattle.encode_task.specs.Slots.{Encoded}
+use Rattle.slot_board.proofs.BoardSlots.{same_chain}
+use Rattle.dd_sets.proofs.RoomSteps.{room_wider}
+use Rattle.plan_theory.proofs.WeakLists.{Contains-head}
+use Rattle.reach_plan.proofs.CertSteps.{cert_pass, left_by}
+use Rattle.reach_plan.proofs.PlanSteps.{full_at}
+use Rattle.reach_plan.proofs.SearchSteps.{ends_at}
+use Rattle.reach_plan.proofs.SmallSets.{wide_enough}
+use Rattle.reach_plan.proofs.certs.states_left.Goals as goal
+
+pub search_and_leave-left-requires-clause-goal : goal.search_and_leave-left-requires-clause-goal
+search_and_leave-left-requires-clause-goal c = subst (λ (e : Encoded). IsSome e.goal) (sym c.new.ensures.same_slots) c.requires.goal
+
+pub search_and_leave-left-requires-clause-ready : goal.search_and_leave-left-requires-clause-ready
+search_and_leave-left-requires-clause-ready c =
+    let m = c.requires.made in
+    let any = wide_enough c.args.class m.0 in
+    let opened = c.in_ok-board.ensures.opened m.0 m.1 (c.args.actions + 12) _ any.wide (2 ∷ []) in
+    (cert_pass m.0 c.args.enc.now m.1 c.args.actions _ any.wide, opened, any, Contains-head 2 [])
+
+pub search_and_leave-left-requires-clause-places : goal.search_and_leave-left-requires-clause-places
+search_and_leave-left-requires-clause-places c =
+    let m = c.requires.made in
+    let any = wide_enough c.args.class m.0 in
+    let opened = c.in_ok-board.ensures.opened m.0 m.1 (c.args.actions + 12) _ any.wide (2 ∷ []) in
+    let long : length c.in_ok-board.board.slots.items ≡ 4 = opened.at.long in
+    omega arith
+
+pub search_and_leave-left-requires-clause-actions : goal.search_and_leave-left-requires-clause-actions
+search_and_leave-left-requires-clause-actions c = c.requires.actions ∙ sym (ap (λ (e : Encoded). length e.actions) c.new.ensures.same_slots)
+
+pub close-requires : goal.close-requires
+close-requires c =
+    let m = c.requires.made in
+    let any = wide_enough c.args.class m.0 in
+    let opened = c.in_ok-board.ensures.opened m.0 m.1 (c.args.actions + 12) _ any.wide (2 ∷ []) in
+    let start = cert_pass m.0 c.args.enc.now m.1 c.args.actions _ any.wide in
+    let now = c.search_and_leave-left.new.enc in
+    let slots = c.search_and_leave-left.new.board.slots.items in (
+      c.args.enc.now.sets,
+      (ends_at start now slots _ c.search_and_leave-left.result (λ cubes left. left.at) (c.search_and_leave-left.ensures start opened any (Contains-head 2 []))).working,
+    )
+
+pub returns-clause-answer : goal.returns-clause-answer
+returns-clause-answer c task made =
+    let any = wide_enough c.args.class task in
+    let opened = c.in_ok-board.ensures.opened task made (c.args.actions + 12) _ any.wide (2 ∷ []) in
+    let start = cert_pass task c.args.enc.now made c.args.actions _ any.wide in
+    left_by c.args.class start c.search_and_leave-left.new.enc c.search_and_leave-left.new.board.slots.items c.search_and_leave-left.result (c.search_and_leave-left.ensures start opened any (Contains-head 2 []))
+
+pub returns-clause-full : goal.returns-clause-full
+returns-clause-full c full task made width wide =
+    let start = cert_pass task c.args.enc.now made c.args.actions width wide.wide in
+    let opened = c.in_ok-board.ensures.opened task made (c.args.actions + 12) width wide.wide (2 ∷ []) in
+    room_wider c.args.enc.now.sets (4 + (c.args.actions + 12) + 8) (c.args.actions + 24) 5 16 (omega arith) (omega arith)
+    (c.close.ensures.room c.args.enc.now.sets width _ _
+    (full_at start c.search_and_leave-left.new.enc c.search_and_leave-left.new.board.slots.items _ c.search_and_leave-left.result (c.search_and_leave-left.ensures start opened wide (Contains-head 2 [])) full))
+
+pub returns-clause-slots : goal.returns-clause-slots
+returns-clause-slots c =
+    let m = c.requires.made in
+    let any = wide_enough c.args.class m.0 in
+    let opened = c.in_ok-board.ensures.opened m.0 m.1 (c.args.actions + 12) _ any.wide (2 ∷ []) in
+    let start = cert_pass m.0 c.args.enc.now m.1 c.args.actions _ any.wide in
+    let now = c.search_and_leave-left.new.enc in
+    let slots = c.search_and_leave-left.new.board.slots.items in
+    c.close.ensures.frame c.args.enc.now.sets
+    (ends_at start now slots _ c.search_and_leave-left.result (λ cubes left. left.at) (c.search_and_leave-left.ensures start opened any (Contains-head 2 []))).working
+
+pub returns-clause-same_slots : goal.returns-clause-same_slots
+returns-clause-same_slots c =
+    let m = c.requires.made in
+    let any = wide_enough c.args.class m.0 in
+    let opened = c.in_ok-board.ensures.opened m.0 m.1 (c.args.actions + 12) _ any.wide (2 ∷ []) in
+    let start = cert_pass m.0 c.args.enc.now m.1 c.args.actions _ any.wide in
+    let now = c.search_and_leave-left.new.enc in
+    let slots = c.search_and_leave-left.new.board.slots.items in
+    same_chain c.args.enc.now now c.close.new.enc
+    (ends_at start now slots _ c.search_and_leave-left.result (λ cubes left. left.at) (c.search_and_leave-left.ensures start opened any (Contains-head 2 []))).same
+    c.close.ensures.same_slots
