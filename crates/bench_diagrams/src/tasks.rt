@@ -7,6 +7,7 @@ use anyhow::{Result, bail};
 use encode_task::{Enc, encode};
 use std::alloc::{AllocError, Global};
 use std::fmt;
+use std::rc::RcStr;
 use task_core::{
     ActionId, Change, Cond, FluentId, GroundAction, InitSpec, Lit, Outcome, State, Task,
 };
@@ -88,9 +89,9 @@ fn task(alloc: Global, count: u32) -> Result<Option<Task>, AllocError> {
     Ok(Task::try_new(fluents, actions, init, goal, Cond::Yes))
 }
 
-fn name(alloc: Global, word: &str, number: u32) -> Result<Vec<String>, AllocError> {
+fn name(alloc: Global, word: &str, number: u32) -> Result<Vec<RcStr>, AllocError> {
     let mut words = Vec::new(alloc);
-    words.push(format!(in alloc; "{word}{number}")?)?;
+    words.push(RcStr::from_string(format!(in alloc; "{word}{number}")?)?)?;
     Ok(words)
 }
 

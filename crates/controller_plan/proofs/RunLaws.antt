@@ -1,5 +1,5 @@
 -- What follows from a run that has its cause.
-use Rattle.std.proofs.Common.{◌≡◌, ◌≢◌, ◌⊎◌, ◌≤◌, ◌<◌, ℕ, true, List, length, inl, inr, refl, sym, subst, ap, ◌∙◌, arith, Some, None}
+use Rattle.std.proofs.Common.{◌≡◌, ◌≢◌, ◌⊎◌, ◌≤◌, ◌<◌, ℕ, true, false, List, length, inl, inr, refl, sym, subst, ap, ◌∙◌, arith, Some, None}
 use Rattle.std.specs.Io.KnownBytes.{append_known}
 use Rattle.pddl_ast.specs.Trees.{DomainTree, ProblemTree}
 use Rattle.pddl_system.specs.Systems.{system}
@@ -11,7 +11,7 @@ use Rattle.mbp_top.specs.Delivery.{IsDelivered, Seen}
 use Rattle.mbp_top.specs.Grounding.{GroundThen}
 use Rattle.mbp_top.specs.InitialStates.{empty_init}
 use Rattle.mbp_top.specs.PddlTexts.{HoldBoth}
-use Rattle.mbp_top.specs.PlanCommand.{HasNoPlan, IsPlanResult, IsResultOf, no_plan_text}
+use Rattle.mbp_top.specs.PlanCommand.{HasNoPlan, IsNoPlanText, IsPlanResult, IsResultOf, no_plan_text}
 use Rattle.mbp_top.specs.Words.{Bytes, PlanKind, of_class, with_contexts}
 use Rattle.mbp_top.proofs.Initials.{shown_initial}
 use Rattle.mbp_top.proofs.PddlDecides.{ReadFor, not_refused, shown_both, shown_goal, shown_grounded}
@@ -77,25 +77,30 @@ controller_for asked d p a text is shown (inr (inl (name, is_name, refused_is)))
 controller_for asked d p a text is shown (inr (inr (plan, none))) = absurd (none text is)
 
 -- there is no plan where it denies
-plan_missing : (kind : PlanKind) (d : DomainTree) (p : ProblemTree) (a : Answer) → ((text : Bytes) → a ≡ affirmed text → ⊥) → IsPlanResult kind d p a
+uncertified : (kind : PlanKind) (d : DomainTree) (p : ProblemTree) (text : Bytes) → IsNoPlanText false kind d p text → text ≡ no_plan_text
+uncertified (of_class class) d p text is = is
+uncertified with_contexts d p text is = is
+
+plan_missing : (kind : PlanKind) (d : DomainTree) (p : ProblemTree) (a : Answer) → ((text : Bytes) → a ≡ affirmed text → ⊥) → IsPlanResult false kind d p a
     → (a ≡ denied no_plan_text) × HasNoPlan kind d p
 plan_missing kind d p a none (inl found) = absurd (none found.text found.shown)
-plan_missing kind d p a none (inr missing) = (missing.shown, missing.none)
+plan_missing kind d p a none (inr missing) = (missing.shown ∙ ap denied (uncertified kind d p missing.text missing.written), missing.none)
 
 result_missing : (kind : PlanKind) (name : Bytes) (d : DomainTree) (p : ProblemTree) (a : Answer) → is_shown a ≡ true → ((text : Bytes) → a ≡ affirmed text → ⊥)
-    → IsResultOf kind name d p a → (a ≡ denied no_plan_text) × HasNoPlan kind d p
+    → IsResultOf false kind name d p a → (a ≡ denied no_plan_text) × HasNoPlan kind d p
 result_missing (of_class class) name d p a shown none result =
-    plan_missing (of_class class) d p a none (shown_initial (empty_init name p) (system d p).initial (IsPlanResult (of_class class) d p) a shown result)
+    plan_missing (of_class class) d p a none (shown_initial (empty_init name p) (system d p).initial (IsPlanResult false (of_class class) d p) a shown result)
 result_missing with_contexts name d p a shown none (inl (no_chain, is)) = absurd (not_refused _ a is shown)
 result_missing with_contexts name d p a shown none (inr (chain, is_chain, inl (many, is))) = absurd (not_refused _ a is shown)
 result_missing with_contexts name d p a shown none (inr (chain, is_chain, inr (few, result))) =
-    plan_missing with_contexts d p a none (shown_initial (empty_init name p) (system d p).initial (IsPlanResult with_contexts d p) a shown result)
+    plan_missing with_contexts d p a none (shown_initial (empty_init name p) (system d p).initial (IsPlanResult false with_contexts d p) a shown result)
 
-missing_for : (asked : ControlWords) (d : DomainTree) (p : ProblemTree) (a : Answer) → is_shown a ≡ true → ((text : Bytes) → a ≡ affirmed text → ⊥)
+missing_for : (asked : ControlWords) (d : DomainTree) (p : ProblemTree) (a : Answer) → asked.plan.certified ≡ false → is_shown a ≡ true → ((text : Bytes) → a ≡ affirmed text → ⊥)
     → ControlThen asked d p a → (a ≡ denied no_plan_text) × HasNoPlan asked.plan.kind d p
-missing_for asked d p a shown none (inl controller) = absurd (none _ controller.shown)
-missing_for asked d p a shown none (inr (inl (name, is_name, is))) = absurd (not_refused _ a is shown)
-missing_for asked d p a shown none (inr (inr (plan, nothing))) = result_missing asked.plan.kind asked.plan.problem d p a shown none plan
+missing_for asked d p a plain shown none (inl controller) = absurd (none _ controller.shown)
+missing_for asked d p a plain shown none (inr (inl (name, is_name, is))) = absurd (not_refused _ a is shown)
+missing_for asked d p a plain shown none (inr (inr (plan, nothing))) =
+    result_missing asked.plan.kind asked.plan.problem d p a shown none (subst (λ b. IsResultOf b asked.plan.kind asked.plan.problem d p a) plain plan)
 
 module _ {S : Type 0} (held : S → Bytes → Held) (faults : S → ℕ) (fetched : S → Bytes → S → Type 0) (run : ControlRun S) (has : HasControlled held faults fetched run) where
   abbrev failed : Bytes → Type 0
@@ -120,6 +125,6 @@ module _ {S : Type 0} (held : S → Bytes → Held) (faults : S → ℕ) (fetche
       let code : status_of a ≡ 1 = sym whole.0 ∙ one in
       let shown = shown_at a (inr code) in
       let found = shown_cause (held run.shelf) failed run.words asked a shown says has.cause in
-      let missing = missing_for asked found.domain found.problem a shown (denies a shown code) found.then in
+      let missing = missing_for asked found.domain found.problem a says.plain shown (denies a shown code) found.then in
       let written = written_shown a no_plan_text run.out run.out_after run.err run.err_after whole.1 shown (ap text_of missing.0) in
       (found.domain, found.problem, found.both, missing.1, written)

@@ -1,6 +1,7 @@
 //! What a plan reaches, and what it does there.
 
 ghost use Rattle.controller_plan.specs.Followed.{AreReachedWithin, AreSlotsLive};
+ghost use Rattle.plan_guide.specs.Guides.{IsGuideOf};
 ghost use Rattle.std.specs.Prelude.{◌≡◌, ◌<◌, ℕ, All, IfOk, IfSome, OnOk, length};
 ghost use Rattle.task_core.specs.States.{IsWithin};
 ghost use Rattle.task_core.specs.Tasks.{action_count, fluent_count, outcomes_at};
@@ -10,6 +11,7 @@ use dd_sets::SetId;
 use encode_task::Enc;
 use exec_graph::MAX_CONFIGURATIONS;
 use indexmap::IndexSet;
+use plan_guide::{Guide, GuideNext};
 use reached_plan::ReachedPlan;
 use std::alloc::Global;
 use task_core::{ActionId, State, Task, in_space, step};
@@ -161,6 +163,23 @@ impl Followed {
         Ok(())
     }
 
+    /// Finds what a plan with contexts does in the configurations, and adds what follows them.
+    pub(crate) fn visit_guided(&mut self, task: &Task, guide: &Guide<'_>) -> Result<(), Stop>
+        requires guide { IsGuideOf (fluent_count task.now) (action_count task.now) guide.now }
+        requires within { AreReachedWithin (fluent_count task.now) self.old.places.items }
+    {
+        for number in 0..MAX_CONFIGURATIONS {
+            if number >= self.places.len() {
+                return Ok(());
+            }
+            let place = self.places[number];
+            if let Some(taken) = move_in(task, guide, &place) {
+                self.take(task, number, &place.state, taken.action, taken.next)?;
+            }
+        }
+        Ok(())
+    }
+
     /// Notes that the plan takes an action in the state of a configuration, and adds what follows.
     fn take(
         &mut self,
@@ -239,6 +258,22 @@ fn action_of(task: &Task, plan: &ReachedPlan, state: &State) -> Option<ActionId>
         Some(action)
     } else {
         None
+    }
+}
+
+/// What a plan with contexts does in a configuration. The guide counts contexts from 1.
+fn move_in(task: &Task, guide: &Guide<'_>, place: &Place) -> Option<Move>
+    requires { IsGuideOf (fluent_count task.now) (action_count task.now) guide.now }
+    ensures { IfSome result (λ taken. taken.action.0 < action_count task.now) }
+{
+    let context = place.context.saturating_add(1);
+    let rule = guide.rule_in(task, &place.state, context)?;
+    match rule.onward {
+        GuideNext::Always(next) => Some(Move {
+            action: rule.action,
+            next: next.saturating_sub(1),
+        }),
+        GuideNext::ByCases(_) => None,
     }
 }
 

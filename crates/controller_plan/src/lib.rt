@@ -12,6 +12,7 @@
 #![tactic(auto)]
 
 mod commands;
+mod far_searches;
 mod followed;
 mod judged;
 mod laws;

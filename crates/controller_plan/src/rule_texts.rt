@@ -4,6 +4,7 @@ use crate::rules::{Pattern, ShortRule};
 use mbp_top::PlanKind;
 use plan_rules::{Class, push_name, push_number};
 use std::alloc::{AllocError, Global};
+use std::rc::RcStr;
 use task_core::{FluentId, Task};
 
 /// The text of a plan of a kind with so many contexts and these rules. A comment stands before the
@@ -110,7 +111,7 @@ fn push_pattern(out: &mut String, pattern: &Pattern, task: &Task) -> Result<(), 
 }
 
 /// A fluent that is true, or one that is false.
-fn push_literal(out: &mut String, name: &[String], positive: bool) -> Result<(), AllocError> {
+fn push_literal(out: &mut String, name: &[RcStr], positive: bool) -> Result<(), AllocError> {
     if positive {
         return push_name(out, name);
     }

@@ -1,6 +1,6 @@
 //! Few and short rules for what a plan does in the configurations that it reaches.
 
-ghost use Rattle.std.specs.Prelude.{◌<◌};
+ghost use Rattle.std.specs.Prelude.{◌<◌, IfSome};
 
 use crate::followed::{Followed, Move, Place};
 use std::alloc::{AllocError, Global};
@@ -9,9 +9,12 @@ use task_core::{FluentId, State};
 /// The most fluents of a state.
 const MOST_FLUENTS: u32 = 256;
 
+/// A place behind all those of fluents that are false in a state, and those that are true in it.
+const NOWHERE: u32 = 2 * MOST_FLUENTS;
+
 /// How many configurations may be looked at while rules are made short, all in all. Once there were
 /// so many, rules stay as long as they are.
-const MOST_LOOKS: u64 = 1 << 30;
+const MOST_LOOKS: u64 = 1 << 32;
 
 /// How many rules are made at most: so many are more than a plan's file may hold.
 const MOST_RULES: usize = 65_536;
@@ -38,13 +41,13 @@ impl Pattern {
         true
     }
 
-    /// The same, with one fluent left out.
-    fn without(&self, fluent: FluentId) -> Pattern
+    /// The same, where one fluent more is kept.
+    fn with(&self, fluent: FluentId) -> Pattern
         requires { fluent.0 < 256 }
     {
         Pattern {
             state: self.state,
-            kept: self.kept.with(fluent, false),
+            kept: self.kept.with(fluent, true),
         }
     }
 }
@@ -61,6 +64,11 @@ pub(crate) struct ShortRule {
 }
 
 impl ShortRule {
+    /// The same rule with another pattern.
+    fn asking(&self, pattern: Pattern) -> ShortRule {
+        ShortRule { pattern, ..*self }
+    }
+
     /// Whether the rule counts in a configuration.
     fn counts_in(&self, place: &Place) -> bool {
         self.context == place.context && self.pattern.matches(&place.state)
@@ -97,7 +105,7 @@ pub(crate) fn rules_of(
     let mut rules = Vec::new(alloc);
     for (number, place) in followed.places.iter().enumerate() {
         if rules.len() < MOST_RULES {
-            if let Some(rule) = maker.rule_at(followed, number, place) {
+            if let Some(rule) = maker.rule_at(alloc, followed, number, place)? {
                 maker.note(followed, number, &rule);
                 rules.push(rule)?;
             }
@@ -143,11 +151,35 @@ struct Maker {
 
 impl Maker {
     /// The rule for a configuration, if it isn't covered yet and the plan does anything there.
-    fn rule_at(&mut self, followed: &Followed, number: usize, place: &Place) -> Option<ShortRule> {
+    fn rule_at(
+        &mut self,
+        alloc: Global,
+        followed: &Followed,
+        number: usize,
+        place: &Place,
+    ) -> Result<Option<ShortRule>, AllocError> {
         if self.covers_of(number) > 0 {
-            return None;
+            return Ok(None);
         }
-        let taken = move_at(followed, number)?;
+        match move_at(followed, number) {
+            Some(taken) => {
+                let steps = steps_at(followed, number);
+                self.rule_for(alloc, followed, place, taken, steps)
+            }
+            None => Ok(None),
+        }
+    }
+
+    /// The rule for a configuration in which the plan makes this move, and which was found after so
+    /// many steps.
+    fn rule_for(
+        &mut self,
+        alloc: Global,
+        followed: &Followed,
+        place: &Place,
+        taken: Move,
+        steps: u32,
+    ) -> Result<Option<ShortRule>, AllocError> {
         let rule = ShortRule {
             context: place.context,
             pattern: Pattern {
@@ -155,12 +187,12 @@ impl Maker {
                 kept: first_fluents(self.fluents),
             },
             taken,
-            steps: steps_at(followed, number),
+            steps,
             length: self.length_now(),
         };
         match rule.length {
-            Length::Full => Some(rule),
-            Length::Short => Some(self.shortened(followed, &rule)),
+            Length::Full => Ok(Some(rule)),
+            Length::Short => Ok(Some(self.shortened(alloc, followed, &rule)?)),
         }
     }
 
@@ -173,40 +205,66 @@ impl Maker {
         }
     }
 
-    /// The rule without the literals that it doesn't need: first those that are false go, and then
-    /// those that are true.
-    fn shortened(&mut self, followed: &Followed, rule: &ShortRule) -> ShortRule {
-        let fewer = self.shortened_by(followed, rule, false);
-        self.shortened_by(followed, &fewer, true)
-    }
-
-    /// The rule without the literals of this value that it doesn't need.
-    fn shortened_by(&mut self, followed: &Followed, rule: &ShortRule, value: bool) -> ShortRule {
-        let mut short = *rule;
-        for number in 0..MOST_FLUENTS {
-            let fluent = FluentId(number);
-            if number < self.fluents && rule.pattern.state.get(fluent) == value {
-                let shorter = ShortRule {
-                    pattern: short.pattern.without(fluent),
-                    ..short
-                };
-                if self.looks < MOST_LOOKS && self.is_right(followed, &shorter) {
-                    short = shorter;
+    /// The rule with those of its literals alone that it needs. That is what is left where each
+    /// literal goes in turn without which the rule still counts only where the plan makes its move:
+    /// first those that are false, and then those that are true. So the first that stays is the
+    /// earliest that is the last in which some other configuration differs.
+    fn shortened(
+        &mut self,
+        alloc: Global,
+        followed: &Followed,
+        rule: &ShortRule,
+    ) -> Result<ShortRule, AllocError> {
+        let mut short = rule.asking(Pattern {
+            state: rule.pattern.state,
+            kept: State::none(),
+        });
+        let mut wrong = self.wrong_for(alloc, followed, &short)?;
+        for _ in 0..MOST_FLUENTS {
+            match first_wanted(followed, &short, &wrong) {
+                Some(fluent) => {
+                    short = short.asking(short.pattern.with(fluent));
+                    wrong = self.still_wrong(alloc, followed, &short, &wrong)?;
                 }
+                None => return Ok(short),
             }
         }
-        short
+        Ok(short)
     }
 
-    /// Whether the plan makes the rule's move in each configuration in which the rule counts.
-    fn is_right(&mut self, followed: &Followed, rule: &ShortRule) -> bool {
+    /// The configurations in which a rule counts and the plan doesn't make its move.
+    fn wrong_for(
+        &mut self,
+        alloc: Global,
+        followed: &Followed,
+        rule: &ShortRule,
+    ) -> Result<Vec<usize>, AllocError> {
+        let mut wrong = Vec::new(alloc);
         for (number, place) in followed.places.iter().enumerate() {
             self.looks = self.looks.saturating_add(1);
             if rule.counts_in(place) && !makes_move(followed, number, &rule.taken) {
-                return false;
+                wrong.push(number)?;
             }
         }
-        true
+        Ok(wrong)
+    }
+
+    /// Those of these configurations in which a rule counts.
+    fn still_wrong(
+        &mut self,
+        alloc: Global,
+        followed: &Followed,
+        rule: &ShortRule,
+        wrong: &[usize],
+    ) -> Result<Vec<usize>, AllocError> {
+        let mut still = Vec::new(alloc);
+        for number in wrong {
+            self.looks = self.looks.saturating_add(1);
+            if counts_at(followed, rule, *number) {
+                still.push(*number)?;
+            }
+        }
+        Ok(still)
     }
 
     /// Whether some configuration is covered by the rule and by no other one. Full rules come after
@@ -264,6 +322,63 @@ impl Maker {
             None => 0,
         }
     }
+}
+
+/// Whether a rule counts in the configuration of a number.
+fn counts_at(followed: &Followed, rule: &ShortRule, number: usize) -> bool {
+    match followed.places.get(number) {
+        Some(place) => rule.counts_in(place),
+        None => false,
+    }
+}
+
+/// The earliest fluent that is, for some of these configurations, the last in which it differs from
+/// the state that a rule was made of: those that are false there come first, and then those that
+/// are true.
+fn first_wanted(followed: &Followed, rule: &ShortRule, wrong: &[usize]) -> Option<FluentId>
+    ensures { IfSome result (λ fluent. fluent.0 < 256) }
+{
+    let mut first = NOWHERE;
+    for number in wrong {
+        if let Some(place) = followed.places.get(*number) {
+            first = first.min(last_difference(&rule.pattern.state, &place.state));
+        }
+    }
+    if first < NOWHERE {
+        return Some(FluentId(first % MOST_FLUENTS));
+    }
+    None
+}
+
+/// The last fluent in which a state differs from another, by its place among those that are false in
+/// the first one, in rising order, and then those that are true in it.
+fn last_difference(state: &State, other: &State) -> u32 {
+    let own = state.bits();
+    let bits = other.bits();
+    let mut last = NOWHERE;
+    for word in 0..4 {
+        let lost = own[word] & !bits[word];
+        if lost != 0 {
+            last = MOST_FLUENTS + 64 * word as u32 + highest(lost);
+        }
+    }
+    if last < NOWHERE {
+        return last;
+    }
+    for word in 0..4 {
+        let gained = bits[word] & !own[word];
+        if gained != 0 {
+            last = 64 * word as u32 + highest(gained);
+        }
+    }
+    last
+}
+
+/// The highest bit of a word that isn't zero.
+fn highest(word: u64) -> u32
+    ensures { result < 64 }
+{
+    63u32.saturating_sub(word.leading_zeros())
 }
 
 /// The state in which so many first fluents are true.

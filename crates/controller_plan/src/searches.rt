@@ -10,15 +10,16 @@ ghost use Rattle.plan_theory.specs.Classes.{IsFoundByLayers};
 ghost use Rattle.std.specs.Prelude.{◌≡◌, ◌≤◌, IfOk, IfSome, IsSome, OnOk};
 ghost use Rattle.task_core.specs.Tasks.{action_count, fluent_count};
 
+use crate::far_searches::follow_far;
 use crate::followed::Followed;
 use chain_plan::{chain_takers, rule_place, rule_sets};
-use ctl_syntax::{Chain, Ctl, as_chain};
+use ctl_syntax::{Chain, Ctl, as_chain, as_far};
 use cyclic_plan::{cyclic_takers, takers_of};
 use dd_sets::{SetErr, SetId};
 use encode_task::{Enc, encode};
 use exec_graph::MAX_CONFIGURATIONS;
 use ground_task::Grounded;
-use mbp_top::{PlanKind, PlanWords};
+use mbp_top::{PlanKind, PlanWords, encode_ordered};
 use plan_rules::Class;
 use reach_plan::{Takers, find_takers};
 use reached_plan::{ReachedPlan, plan_reached};
@@ -26,8 +27,8 @@ use slot_board::Board;
 use std::alloc::{AllocError, AllocFailed, Global};
 use task_core::{ActionId, InitErr, Task, init_states};
 
-/// The most stages of a chain.
-const MOST_STAGES: usize = 32;
+/// The most stages of a chain or an until-chain.
+pub(crate) const MOST_STAGES: usize = 32;
 
 /// What came of a search.
 #[derive(Drop)]
@@ -133,7 +134,9 @@ fn follow_reached(
     Ok(Some(followed))
 }
 
-/// What the plan of a class reaches that is found over sets of states, if there is one.
+/// What the plan of a class reaches that is found over sets of states, if there is one: over
+/// variables in an order that is chosen for the task, and where there is no room or no memory for
+/// that, once more from nothing, over the fluents in their own order.
 fn follow_encoded(
     alloc: Global,
     class: Class,
@@ -145,6 +148,36 @@ fn follow_encoded(
     if task.goal.is_none() {
         return Ok(None);
     }
+    match follow_in_order(alloc, class, nodes, task) {
+        Err(Stop::Full | Stop::Memory) => follow_plainly(alloc, class, nodes, task),
+        answer => answer,
+    }
+}
+
+/// The first try: over variables in an order that is chosen for the task.
+fn follow_in_order(
+    alloc: Global,
+    class: Class,
+    nodes: u32,
+    task: &Task,
+) -> Result<Option<Followed>, Stop>
+    requires room { IsNodeLimit nodes }
+    requires goal { IsSome task.now.goal }
+{
+    let mut enc = encode_ordered(alloc, task, nodes)?;
+    follow_sets(alloc, class, task, &mut enc)
+}
+
+/// The second try: over the fluents in their own order.
+fn follow_plainly(
+    alloc: Global,
+    class: Class,
+    nodes: u32,
+    task: &Task,
+) -> Result<Option<Followed>, Stop>
+    requires room { IsNodeLimit nodes }
+    requires goal { IsSome task.now.goal }
+{
     let mut enc = encode(alloc, task, nodes)?;
     follow_sets(alloc, class, task, &mut enc)
 }
@@ -214,7 +247,7 @@ fn follow_table(
 }
 
 /// The initial configurations of a plan with so many contexts.
-fn begun(alloc: Global, task: &Task, contexts: u32) -> Result<Followed, Stop>
+pub(crate) fn begun(alloc: Global, task: &Task, contexts: u32) -> Result<Followed, Stop>
     ensures { IfOk result
         (λ followed. AreReachedWithin (fluent_count task.now) followed.places.items) }
 {
@@ -235,7 +268,8 @@ fn follow_contexts(alloc: Global, nodes: u32, grounded: &Grounded) -> Result<Opt
     }
 }
 
-/// What the plan with contexts for a goal reaches, if the goal is a chain and there is one.
+/// What the plan with contexts for a goal reaches, if the goal is a chain, an until-chain or a patrol
+/// goal and there is one.
 fn follow_goal(alloc: Global, nodes: u32, task: &Task, goal: &Ctl) -> Result<Option<Followed>, Stop>
     requires room { IsNodeLimit nodes }
     requires names { NamesBelow (fluent_count task.now) (ctl_value goal.now) }
@@ -243,11 +277,30 @@ fn follow_goal(alloc: Global, nodes: u32, task: &Task, goal: &Ctl) -> Result<Opt
 {
     match as_chain(alloc, goal)? {
         Some(chain) => follow_chain(alloc, nodes, task, &chain),
+        None => follow_beyond_chains(alloc, nodes, task, goal),
+    }
+}
+
+/// The same for a goal that is no chain.
+fn follow_beyond_chains(
+    alloc: Global,
+    nodes: u32,
+    task: &Task,
+    goal: &Ctl,
+) -> Result<Option<Followed>, Stop>
+    requires room { IsNodeLimit nodes }
+    requires names { NamesBelow (fluent_count task.now) (ctl_value goal.now) }
+    requires shallow { IsAtMostDeep 199 (ctl_value goal.now) }
+{
+    match as_far(alloc, goal)? {
+        Some(far) => follow_far(alloc, nodes, task, &far),
         None => Ok(None),
     }
 }
 
-/// What the plan with contexts for a chain reaches, if the chain is short and there is one.
+/// What the plan with contexts for a chain reaches, if the chain is short and there is one: over
+/// variables in an order that is chosen for the task, and where there is no room or no memory for
+/// that, once more from nothing, over the fluents in their own order.
 fn follow_chain(
     alloc: Global,
     nodes: u32,
@@ -261,6 +314,36 @@ fn follow_chain(
     if chain.stages.len() > MOST_STAGES {
         return Ok(None);
     }
+    match follow_chain_in_order(alloc, nodes, task, chain) {
+        Err(Stop::Full | Stop::Memory) => follow_chain_plainly(alloc, nodes, task, chain),
+        answer => answer,
+    }
+}
+
+/// The first try: over variables in an order that is chosen for the task.
+fn follow_chain_in_order(
+    alloc: Global,
+    nodes: u32,
+    task: &Task,
+    chain: &Chain,
+) -> Result<Option<Followed>, Stop>
+    requires room { IsNodeLimit nodes }
+    requires chain { IsChainOver (fluent_count task.now) chain.now }
+{
+    let mut enc = encode_ordered(alloc, task, nodes)?;
+    follow_stages(alloc, task, &mut enc, chain)
+}
+
+/// The second try: over the fluents in their own order.
+fn follow_chain_plainly(
+    alloc: Global,
+    nodes: u32,
+    task: &Task,
+    chain: &Chain,
+) -> Result<Option<Followed>, Stop>
+    requires room { IsNodeLimit nodes }
+    requires chain { IsChainOver (fluent_count task.now) chain.now }
+{
     let mut enc = encode(alloc, task, nodes)?;
     follow_stages(alloc, task, &mut enc, chain)
 }

@@ -5,7 +5,7 @@ ghost use Rattle.controller_plan.specs.Words.{ControlWords as AskedControl, Says
 ghost use Rattle.mbp_top.specs.Words.{IsNodeLimit};
 ghost use Rattle.std.specs.Prelude.{◌≡◌, IfSome, MatchOption, map, string_bytes, true};
 
-use mbp_top::{PlanWords, plan_words};
+use mbp_top::{PlanWords, plain_plan_words};
 
 /// What is asked: a controller from a plan, as `mbp_top` is asked for one, and whether as a JSON
 /// document.
@@ -23,7 +23,7 @@ pub(crate) fn read_words<'a>(words: &'a [String]) -> Option<ControlWords<'a>>
         MatchOption result ((asked : AskedControl) → SaysControl said asked → ⊥)
         (λ asked. SaysControl said (control_words_of asked)) }
 {
-    match plan_words(words) {
+    match plain_plan_words(words) {
         Some(plan) => Some(ControlWords { plan, json: false }),
         None => json_words(words),
     }
@@ -43,7 +43,7 @@ fn json_words<'a>(words: &'a [String]) -> Option<ControlWords<'a>>
     if last.as_str() != "--json" {
         return None;
     }
-    match plan_words(front) {
+    match plain_plan_words(front) {
         Some(plan) => Some(ControlWords { plan, json: true }),
         None => None,
     }

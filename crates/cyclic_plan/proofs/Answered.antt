@@ -26,9 +26,10 @@ use Rattle.plan_theory.proofs.RoundSteps.{later_rounds, rounds_end, rounds_shrin
 use Rattle.task_core.specs.Systems.{IsVector}
 use Rattle.task_core.specs.Vectors.{Vector, value_of}
 use Rattle.task_core.specs.Cubes.{SetOfVectors}
-use Rattle.cyclic_plan.specs.Answers.{Ends, IsAnswer, IsPlanOf}
-use Rattle.cyclic_plan.specs.Rounds.{RoundsEnd}
+use Rattle.cyclic_plan.specs.Answers.{Ends, IsAnswer, IsPlanOf, RoundsEnd}
 use Rattle.cyclic_plan.specs.Stages.{HasNear, HasRounds, Takings, kept_system, none_taken, takers_within}
+use Rattle.cyclic_plan.specs.Steps.{Follows}
+use Rattle.cyclic_plan.specs.declared.steps.Step.{Step}
 use Rattle.cyclic_plan.proofs.PlanMade.{covered_is, near_stays}
 use Rattle.cyclic_plan.specs.Takers.{HasTable, start_of}
 use Rattle.dd_sets.specs.LiveSets.{LiveSets}
@@ -84,39 +85,40 @@ lost_is task r short =
     (λ all. true≢false (sym (list_all-from (round sys r) sys.initial (λ s c. down s ((is_system task).initial s c).vector (list_all-at (round sys last.0) sys.initial s all c))) ∙ short)))
 
 -- what the rounds end with: a refusal, an early end, and the last round
-pub rounds_refused : {T : Type 0} (start : Start) (now : Encoded) (slots : List SetId) (P : Type 0) (inner : Result T SetErr) (outer : Result Bool SetErr) (e : SetErr) → inner ≡ Err e → (x : SetErr) × (outer ≡ Err x) × (x ≡ e) → Left start now slots P inner → RoundsEnd start now slots outer
-rounds_refused start now slots P inner outer e was p left =
-    subst (RoundsEnd start now slots) (sym p.1) (let kept = subst (Left start now slots P) was left in (kept.0, λ full. kept.1 (sym p.2 ∙ full)))
+pub rounds_refused : {T : Type 0} (start : Start) (now : Encoded) (slots : List SetId) (steps : List Step) (P : Type 0) (inner : Result T SetErr) (outer : Result Bool SetErr) (e : SetErr) → inner ≡ Err e → (x : SetErr) × (outer ≡ Err x) × (x ≡ e) → Left start now slots P inner → RoundsEnd start now slots steps outer
+rounds_refused start now slots steps P inner outer e was p left =
+    subst (RoundsEnd start now slots steps) (sym p.1) (let kept = subst (Left start now slots P) was left in (kept.0, λ full. kept.1 (sym p.2 ∙ full)))
 
 pub near_covered_is : (start : Start) (enc : Encoded) (slots : List SetId) (left : SetOfVectors) (taken : Takings) (near : SetOfVectors) → HasNear start enc slots left taken near
     → list_all (λ state. set_at enc.sets slots 3 (value_of state)) (initial_states start.task) ≡ list_all near (system_of start.task).initial
 near_covered_is start enc slots left taken near h =
     list_all-agree (λ state. set_at enc.sets slots 3 (value_of state)) near (initial_states start.task) (λ s c. h.holds_near s ((is_system start.task).initial s c).vector)
 
-pub rounds_ended : (start : Start) (enc now : Encoded) (slots : List SetId) (r : ℕ) (result : Result Bool SetErr) → IsLastRound (system_of start.task) r → HasRounds start enc slots r → Left start now slots (Stayed start enc.sets now slots) result
-    → IfOk result (λ covered. covered ≡ list_all (λ state. set_at enc.sets slots 1 (value_of state)) (initial_states start.task)) → RoundsEnd start now slots result
-rounds_ended start enc now slots r (Ok true) last h left answer = (
+pub rounds_ended : (start : Start) (enc now : Encoded) (slots : List SetId) (steps : List Step) (r : ℕ) (result : Result Bool SetErr) → IsLastRound (system_of start.task) r → HasRounds start enc slots r → Follows start (round (system_of start.task) r) 0 0 steps → Left start now slots (Stayed start enc.sets now slots) result
+    → IfOk result (λ covered. covered ≡ list_all (λ state. set_at enc.sets slots 1 (value_of state)) (initial_states start.task)) → RoundsEnd start now slots steps result
+rounds_ended start enc now slots steps r (Ok true) last h follows left answer = (
   r,
   last,
   sym (answer ∙ covered_is start enc slots (round (system_of start.task) r) none_taken (round (system_of start.task) (suc r)) h),
   near_stays start enc now slots (round (system_of start.task) r) none_taken (round (system_of start.task) (suc r)) h left,
+  follows,
 )
-rounds_ended start enc now slots r (Ok false) last h left answer = (
+rounds_ended start enc now slots steps r (Ok false) last h follows left answer = (
   left.at,
   lost_is start.task r (sym (answer ∙ covered_is start enc slots (round (system_of start.task) r) none_taken (round (system_of start.task) (suc r)) h)),
 )
-rounds_ended start enc now slots r (Err e) last h left answer = left
+rounds_ended start enc now slots steps r (Err e) last h follows left answer = left
 
-pub rounds_found : (start : Start) (now : Encoded) (slots : List SetId) (result : Result Bool SetErr) (covered : Bool) → result ≡ Ok covered → covered ≡ true → RoundsEnd start now slots result
-    → (r : ℕ) × IsLastRound (system_of start.task) r × (list_all (round (system_of start.task) r) (system_of start.task).initial ≡ true) × HasRounds start now slots r
-rounds_found start now slots result covered was is ends = subst (RoundsEnd start now slots) (was ∙ ap Ok is) ends
+pub rounds_found : (start : Start) (now : Encoded) (slots : List SetId) (steps : List Step) (result : Result Bool SetErr) (covered : Bool) → result ≡ Ok covered → covered ≡ true → RoundsEnd start now slots steps result
+    → (r : ℕ) × IsLastRound (system_of start.task) r × (list_all (round (system_of start.task) r) (system_of start.task).initial ≡ true) × HasRounds start now slots r × Follows start (round (system_of start.task) r) 0 0 steps
+rounds_found start now slots steps result covered was is ends = subst (RoundsEnd start now slots steps) (was ∙ ap Ok is) ends
 
-pub rounds_lost : (start : Start) (now : Encoded) (slots : List SetId) (result : Result Bool SetErr) (covered : Bool) → result ≡ Ok covered → covered ≡ false → RoundsEnd start now slots result → At start now slots × HasNoSolution Cyclic (system_of start.task)
-rounds_lost start now slots result covered was is ends = subst (RoundsEnd start now slots) (was ∙ ap Ok is) ends
+pub rounds_lost : (start : Start) (now : Encoded) (slots : List SetId) (steps : List Step) (result : Result Bool SetErr) (covered : Bool) → result ≡ Ok covered → covered ≡ false → RoundsEnd start now slots steps result → At start now slots × HasNoSolution Cyclic (system_of start.task)
+rounds_lost start now slots steps result covered was is ends = subst (RoundsEnd start now slots steps) (was ∙ ap Ok is) ends
 
-pub rounds_refusal : (start : Start) (now : Encoded) (slots : List SetId) (inner outer : Result Bool SetErr) (e : SetErr) → inner ≡ Err e → (x : SetErr) × (outer ≡ Err x) × (x ≡ e) → RoundsEnd start now slots inner → Ends start now slots outer
-rounds_refusal start now slots inner outer e was p ends =
-    subst (Ends start now slots) (sym p.1) (let kept = subst (RoundsEnd start now slots) was ends in (kept.0, λ full. kept.1 (sym p.2 ∙ full)))
+pub rounds_refusal : (start : Start) (now : Encoded) (slots : List SetId) (steps : List Step) (inner outer : Result Bool SetErr) (e : SetErr) → inner ≡ Err e → (x : SetErr) × (outer ≡ Err x) × (x ≡ e) → RoundsEnd start now slots steps inner → Ends start now slots outer
+rounds_refusal start now slots steps inner outer e was p ends =
+    subst (Ends start now slots) (sym p.1) (let kept = subst (RoundsEnd start now slots steps) was ends in (kept.0, λ full. kept.1 (sym p.2 ∙ full)))
 
 -- the search's board has the printed table
 pub table_is : (start : Start) (r : ℕ) (last : IsLastRound (system_of start.task) r) → list_all (round (system_of start.task) r) (system_of start.task).initial ≡ true → (now : Encoded) (slots : List SetId) (near : SetOfVectors)

@@ -1,8 +1,8 @@
 -- What the rounds lose, and what is said of it at the end.
-use Rattle.std.proofs.Common.{◌≡◌, ◌≢◌, ℕ, zero, suc, ◌+◌, ◌<◌, ◌^◌, Bool, true, false, not, ◌&&◌, ◌||◌, List, [], ◌∷◌, ◌++◌, map, length, inl, Option, Some, None, IfSome, IfNone, Vec, Result, Ok, Err, IfOk, IsErrOf, refl, sym, ap, subst, ◌∙◌, ⊎_elim, arith}
+use Rattle.std.proofs.Common.{◌≡◌, ◌≢◌, ℕ, zero, suc, ◌+◌, ◌<◌, ◌^◌, Bool, true, false, not, ◌&&◌, List, [], ◌∷◌, ◌++◌, map, inl, Option, Some, None, IfSome, IfNone, Vec, Result, Ok, Err, IfOk, IsErrOf, refl, sym, ap, subst, ◌∙◌, ⊎_elim, arith}
 use Rattle.std.specs.List.{Contains, list_all, list_any, range_with_len}
 use Rattle.std.specs.declared.alloc.Global.{Global}
-use Rattle.std.proofs.lemmas.Bool.{and_from, and_parts, cases_Bool, cases_eq, or_cases, true≢false}
+use Rattle.std.proofs.lemmas.Bool.{and_from, and_parts, cases_eq, or_cases, true≢false}
 use Rattle.std.proofs.lemmas.List.{map-append}
 use Rattle.dd_nodes.specs.Subfunctions.{Function}
 use Rattle.dd_ops.specs.Operations.{minus_of}
@@ -11,11 +11,10 @@ use Rattle.dd_sets.specs.declared.errors.SetErr.{SetErr}
 use Rattle.dd_sets.specs.declared.errors.SetErr.TheVariants.{Full}
 use Rattle.dd_sets.specs.declared.slots.SetId.{SetId}
 use Rattle.encode_task.specs.Slots.{Encoded}
-use Rattle.encode_task.specs.TaskSets.{space_set}
 use Rattle.task_core.specs.Cubes.{cubes_of}
 use Rattle.task_core.specs.Solutions.{HasNoSolution}
 use Rattle.task_core.specs.Systems.{IsVector, IsSystem, System, goal_states}
-use Rattle.task_core.specs.Tasks.{action_count, fluent_count, in_space, initial_states, system_of}
+use Rattle.task_core.specs.Tasks.{fluent_count, in_space, initial_states, system_of}
 use Rattle.task_core.specs.Vectors.{Vector, all_vectors, same_vector, value_of}
 use Rattle.task_core.specs.declared.classes.Class.TheVariants.{Cyclic, Weak}
 use Rattle.task_core.specs.declared.tasks.Task.{Task}
@@ -44,7 +43,7 @@ use Rattle.slot_board.specs.Board.{At, Fits, HasNoRoom, IsSmall, Left, Moved, St
 use Rattle.slot_board.proofs.BoardSlots.{depends, made_at}
 use Rattle.cyclic_plan.specs.Certificates.{CertificateEnds, Certifies, HasAllSets, HasLost, HasLostSets, HasSolution, LosesNoState, LosesSome}
 use Rattle.cyclic_plan.specs.Rounds.{LosesNone}
-use Rattle.cyclic_plan.specs.Stages.{Agrees, HasRounds, none_taken}
+use Rattle.cyclic_plan.specs.Stages.{HasRounds, none_taken}
 use Rattle.cyclic_plan.proofs.Answered.{all_covered, lost_is, near_covered_is}
 use Rattle.cyclic_plan.proofs.Fitting.{new_fits, space_itself}
 use Rattle.cyclic_plan.proofs.Growth.{same_functions}

@@ -24,14 +24,11 @@ use Rattle.plan_theory.proofs.Ranges.{find-first, range-more}
 use Rattle.plan_theory.proofs.LeastBounds.{stands_still}
 use Rattle.plan_theory.proofs.WeakLists.{find-None, find-Some, find-found, Contains-range_with_len-below}
 use Rattle.plan_theory.proofs.WeakPrinted.{is_action-Some, is_action-from}
-use Rattle.task_core.proofs.TaskSystem.{is_system}
 use Rattle.plan_theory.proofs.Cubes.{all_vectors-agree, all_vectors-length}
-use Rattle.plan_theory.proofs.Restricted.{restricted_system}
 use Rattle.plan_theory.proofs.RoundSteps.{held, holds_fewer}
 use Rattle.slot_board.proofs.BoardSlots.{depends}
 use Rattle.slot_board.specs.Board.{set_at}
 use Rattle.slot_board.specs.Board.{Start}
-use Rattle.plan_theory.specs.PairRounds.{connected, kept}
 use Rattle.cyclic_plan.specs.Stages.{AddsToSmall, AreTakersSmall, HasNear, HasNext, HasRound, IsFit, IsLeft, IsStep, Takings, kept_system, next_by, none_taken, taken_also, taken_by, taken_if, takers_within}
 use Rattle.cyclic_plan.proofs.Fitting.{next_small, set_as}
 
@@ -117,10 +114,6 @@ taken_more true sys near taken n a v =
     taken_below true sys near taken n a v false (not_below a n above) ∙ sym (taken_below true sys near taken (n + 1) a v false (not_below a (n + 1) (omega (arith, differs)))))
     (cases_lt a n))
     (cases_eq a n)
-
--- all actions
-pub taken_all : (taking : Bool) (sys : System) (near : SetOfVectors) (taken : Takings) (n m a : ℕ) (v : Vector) → n ≡ m → taken_by taking sys near taken n a v ≡ taken_by taking sys near taken m a v
-taken_all taking sys near taken n m a v e = ap (λ k. taken_by taking sys near taken k a v) e
 
 -- the least-numbered action that passes a test is b
 split : (k m : ℕ) → range_with_len 0 (k + m) ≡ range_with_len 0 k ++ range_with_len k m
@@ -222,34 +215,13 @@ pub takers_none : (taking : Bool) (sys : System) (a : ℕ) (v : Vector) → fals
 takers_none false sys a v = refl
 takers_none true sys a v = sym (ap (is_action a) (chosen_zero Weak sys v))
 
-pub grown : (start : Start) (now : Encoded) (slots : List SetId) (left : SetOfVectors) (taking : Bool) (k : ℕ)
-    → HasNext start now slots left (taken_by taking (kept_system start left) (layer Weak (kept_system start left) k) (takers_within taking (kept_system start left) k) (action_count start.task)) (layer Weak (kept_system start left) k) (next_by (kept_system start left) (layer Weak (kept_system start left) k) (action_count start.task))
-    → HasNext start now slots left (takers_within taking (kept_system start left) (suc k)) (layer Weak (kept_system start left) k) (layer Weak (kept_system start left) (suc k))
-grown start now slots left taking k h =
-    next_as start now slots left _ _ (layer Weak (kept_system start left) k) _ _ h (λ a v l is. takers_step taking (kept_system start left) k a v l) (λ v is. refl)
-
--- where the near states are as the next ones, they are all that are connected, and the actions are
--- taken as at last
-pub spread_done : (start : Start) (now : Encoded) (slots : List SetId) (left : SetOfVectors) (taking : Bool) (k : ℕ)
-    → HasNext start now slots left (takers_within taking (kept_system start left) (suc k)) (layer Weak (kept_system start left) k) (layer Weak (kept_system start left) (suc k))
-    → set_at now.sets slots 4 ≡ set_at now.sets slots 3
-    → HasNear start now slots left (takers_within taking (kept_system start left) (2 ^ fluent_count start.task)) (connected (system_of start.task) (kept (system_of start.task) left))
-spread_done start now slots left taking k h same =
-    let sys = system_of start.task in
-    let sub = kept_system start left in
-    let ok = restricted_system sys (kept sys left) (is_system start.task) in
-    let stable : IsStable Weak sub k = λ v is. sym (h.holds_next v is) ∙ ap (λ (f : Function). f (value_of v)) same ∙ h.by_near.holds_near v is in
-    near_as start now slots left _ _ _ _ h.by_near
-    (λ a v l is. ap (λ o. taking && is_action a o) (chosen_same sub (suc k) (2 ^ fluent_count start.task) v (stable v is ∙ layer_last sub ok k stable v is)))
-    (λ v is. layer_last sub ok k stable v is)
-
--- and where they are not, fewer states are not near
-pub spread_less : (start : Start) (enc now : Encoded) (old new : List SetId) (left : SetOfVectors) (taking : Bool) (k : ℕ) (n : ℕ)
-    → HasNext start enc old left (takers_within taking (kept_system start left) (suc k)) (layer Weak (kept_system start left) k) (layer Weak (kept_system start left) (suc k))
-    → (set_at enc.sets old 4 ≡ set_at enc.sets old 3 → ⊥) → n ≡ fluent_count start.task → (taken : Takings) (next : SetOfVectors)
-    → HasNext start now new left taken (layer Weak (kept_system start left) (suc k)) next
+-- where the near states are not as the next ones, fewer states are not near after one step more
+pub spread_less : (start : Start) (enc now : Encoded) (old new : List SetId) (left : SetOfVectors) (k : ℕ) (n : ℕ)
+    → HasNext start enc old left none_taken (layer Weak (kept_system start left) k) (layer Weak (kept_system start left) (suc k))
+    → (set_at enc.sets old 4 ≡ set_at enc.sets old 3 → ⊥) → n ≡ fluent_count start.task → (next : SetOfVectors)
+    → HasNext start now new left none_taken (layer Weak (kept_system start left) (suc k)) next
     → held (λ v. not (set_at now.sets new 3 (value_of v))) (all_vectors n) < held (λ v. not (set_at enc.sets old 3 (value_of v))) (all_vectors n)
-spread_less start enc now old new left taking k n h differ is_n taken next after =
+spread_less start enc now old new left k n h differ is_n next after =
     holds_fewer (λ v. not (set_at enc.sets old 3 (value_of v))) (λ v. not (set_at now.sets new 3 (value_of v))) (all_vectors n)
     (λ v c out. fewer v (state v c) out)
     (λ same. differ (same_functions (fluent_count start.task) (set_at enc.sets old 4) (set_at enc.sets old 3)
@@ -276,10 +248,6 @@ spread_less start enc now old new left taking k n h differ is_n taken next after
     fewer v is out =
         up (set_at enc.sets old 3 (value_of v)) (set_at now.sets new 3 (value_of v))
         (λ near. after.by_near.holds_near v is ∙ or_left (layer Weak (kept_system start left) k v) _ (sym (h.by_near.holds_near v is) ∙ near)) out
-
--- where no actions are to be taken, nothing is said of what they take
-pub not_taking : (start : Start) (left : SetOfVectors) → AreTakersSmall start false left
-not_taking start left e = absurd (false≢true e)
 
 -- one step's sets are small, where those of all steps are
 pub step_small : (start : Start) (left : SetOfVectors) (taking : Bool) (k : ℕ) → AreTakersSmall start taking left → IsStep start taking left (takers_within taking (kept_system start left) k) (layer Weak (kept_system start left) k)
@@ -309,9 +277,3 @@ adds_small start fit left taking taken near a within is_left step =
         ∙ sym (taken_below true sub near taken (a + 1) a v true (lt-ltb a (a + 1) (omega arith)))
         ∙ sym (taken_more true sub near taken a a v)
         ∙ ap (λ t. taken_also (taken_by t sub near taken a) a (λ u. may_lead sub near u a && not (next_by sub near a u)) a v) (sym is)
-
--- the goal states are near, and no action is taken yet
-pub begun_near : (start : Start) (now : Encoded) (slots : List SetId) (left : SetOfVectors) (taking : Bool) → HasNear start now slots left none_taken (layer Weak (kept_system start left) 0)
-    → HasNear start now slots left (takers_within taking (kept_system start left) 0) (layer Weak (kept_system start left) 0)
-begun_near start now slots left taking h =
-    near_as start now slots left none_taken (takers_within taking (kept_system start left) 0) (layer Weak (kept_system start left) 0) (layer Weak (kept_system start left) 0) h (λ a v l is. takers_none taking (kept_system start left) a v) (λ v is. refl)

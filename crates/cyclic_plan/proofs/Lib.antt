@@ -5,5 +5,7 @@ pub mod RoundsMade
 pub mod PlanMade
 pub mod Narrowing
 pub mod Premises
+pub mod Kept
+pub mod Followed
 pub mod Answered
 pub mod CertSteps

@@ -1,9 +1,9 @@
 -- A round that begins with the pairs of the one before.
-use Rattle.std.proofs.Common.{◌≡◌, ◌≢◌, ◌==◌, ℕ, zero, suc, ◌+◌, ◌<◌, ◌^◌, cond, Bool, true, false, not, ◌&&◌, ◌||◌, List, refl, sym, ap, subst, ◌∙◌, ⊎_elim, arith}
+use Rattle.std.proofs.Common.{◌≡◌, ◌≢◌, ℕ, zero, suc, ◌+◌, ◌<◌, ◌^◌, Bool, true, false, not, ◌&&◌, ◌||◌, List, refl, sym, ap, subst, ◌∙◌, ⊎_elim, arith}
 use Rattle.std.specs.Prelude.{⊤}
 use Rattle.std.proofs.lemmas.Bool.{and_from, and_parts, cases_eq, or_cases, or_left, true≢false}
 use Rattle.dd_nodes.specs.Subfunctions.{Function}
-use Rattle.dd_ops.specs.Operations.{and_of, minus_of}
+use Rattle.dd_ops.specs.Operations.{and_of}
 use Rattle.dd_sets.specs.LiveSets.{nothing}
 use Rattle.dd_sets.specs.declared.slots.SetId.{SetId}
 use Rattle.encode_task.specs.Slots.{Encoded}
@@ -21,12 +21,12 @@ use Rattle.plan_theory.proofs.WeakLists.{Contains-range_with_len-below, list_any
 use Rattle.slot_board.proofs.BoardSlots.{depends}
 use Rattle.slot_board.specs.Board.{Moved, Start, led, set_at}
 use Rattle.slot_board.specs.declared.board.Outcomes.TheVariants as Outcomes
-use Rattle.cyclic_plan.specs.Stages.{Agrees, HasNear, HasNext, HasRounds, Takings, kept_system, none_taken, taken_if}
-use Rattle.cyclic_plan.specs.Rounds.{ArePairsAmong, HasDropped, HasMet, LosesNone}
-use Rattle.cyclic_plan.proofs.Growth.{near_as, next_as}
+use Rattle.cyclic_plan.specs.Stages.{Agrees, HasNear, HasRounds, none_taken}
+use Rattle.cyclic_plan.specs.Rounds.{HasDropped, HasMet, LosesNone}
+use Rattle.cyclic_plan.proofs.Growth.{near_as}
 use Rattle.cyclic_plan.proofs.PlanMade.{same_truth}
 use Rattle.cyclic_plan.proofs.RoundsMade.{left_copied}
-use Rattle.cyclic_plan.proofs.StageSteps.{here, may_restricted, next_still, round_still, still, strong_agrees}
+use Rattle.cyclic_plan.proofs.StageSteps.{here, round_still, still, strong_agrees}
 
 -- a round keeps, of the pairs of states that are left, those that don't lead out of these
 pub kept_narrowed : (sys : System) (r : ℕ) (v : Vector) (a : ℕ) → kept sys (round sys (suc r)) v a ≡ (must_lead sys (round sys (suc r)) v a && (kept sys (round sys r) v a && round sys (suc r) v))
@@ -52,7 +52,7 @@ and_none false b e = sym e
 
 -- where it loses no pair of a state that is left, it leaves the same states
 module _ (sys : System) (ok : IsSystem sys) (r : ℕ) (none : (a : ℕ) → a < sys.actions → LosesNone sys r a) where
-  stays : (k : ℕ) (v : Vector) → IsVector sys v → progress sys (kept sys (round sys r)) k v ≡ true → progress sys (kept sys (round sys (suc r))) k v ≡ true
+  pub stays : (k : ℕ) (v : Vector) → IsVector sys v → progress sys (kept sys (round sys r)) k v ≡ true → progress sys (kept sys (round sys (suc r))) k v ≡ true
   stays zero v is h = h
   stays (suc k) v is h =
       let before : Pairs = kept sys (round sys r) in
@@ -205,56 +205,3 @@ loses_none_more sys r n false lost both e one all none a below =
     ⊎_elim (λ (same : a ≡ n). subst (LosesNone sys r) (sym same) (one refl))
     (λ (differs : a ≢ n). all (sym e ∙ none) a (let d = differs in omega arith))
     (cases_eq a n)
-
--- the states of an action's kept pairs that aren't among the next ones
-minus_none : (x y : Bool) → (x && not y) ≡ false → x ≡ true → y ≡ true
-minus_none true true e h = refl
-minus_none true false e h = sym e
-minus_none false true e h = refl
-minus_none false false e h = h
-
-module _ (start : Start) (enc now : Encoded) (old new : List SetId) (a : ℕ) (left : SetOfVectors) (taken : Takings) (near next : SetOfVectors) (l : a < action_count start.task) (h : HasNext start enc old left taken near next)
-    (m : Moved start enc.sets old now new 6 (minus_of (set_at enc.sets old (7 + a)) (set_at enc.sets old 4))) where
-  pub joined_left : HasNext start now new left taken near next
-  joined_left = next_still start enc now old new 6 _ m h.by_near.round.places left taken near next h (λ e. absurd (omega arith)) (λ e. absurd (omega arith)) (λ e. absurd (omega arith)) (λ e. absurd (omega arith)) (omega arith)
-
-  pub joined_pairs : set_at now.sets new 6 ≡ nothing → ArePairsAmong (system_of start.task) left next a
-  joined_pairs none v is pair =
-      minus_none (kept (system_of start.task) left v a) (next v)
-      (ap (λ x. x && not (next v)) (sym (h.by_near.holds_pairs a l v is))
-      ∙ ap (λ x. set_at enc.sets old (7 + a) (value_of v) && not x) (sym (h.holds_next v is))
-      ∙ ap (λ (f : Function). f (value_of v)) (sym m.here ∙ none)) pair
-
--- where there are none, the action adds no state, and takes none
-module _ (start : Start) (now : Encoded) (slots : List SetId) (a : ℕ) (left : SetOfVectors) (taken : Takings) (near next : SetOfVectors) (taking : Bool) (among : ArePairsAmong (system_of start.task) left next a) where
-  hit_among : (v : Vector) → IsVector (system_of start.task) v → may_lead (kept_system start left) near v a ≡ true → next v ≡ true
-  hit_among v is hit =
-      let sys = system_of start.task in
-      among v is (and_parts (may_lead sys near v a) (kept sys left v a) (sym (may_restricted sys (kept sys left) near v a) ∙ hit)).1
-
-  or_same : (x y : Bool) → (y ≡ true → x ≡ true) → x ≡ (x || y)
-  or_same true y up = refl
-  or_same false true up = up refl
-  or_same false false up = refl
-
-  and_never : (x y : Bool) → (y ≡ true → x ≡ true) → false ≡ (y && not x)
-  and_never true true up = refl
-  and_never true false up = refl
-  and_never false true up = up refl
-  and_never false false up = refl
-
-  or_never : (x y : Bool) → false ≡ y → x ≡ (x || y)
-  or_never true y e = refl
-  or_never false y e = e
-
-  alike : (taking also : Bool) (t h : Bool) → false ≡ h → t ≡ cond taking (cond also (t || h) t) t
-  alike false also t h e = refl
-  alike true false t h e = refl
-  alike true true t h e = or_never t h e
-
-  pub joined_same : HasNext start now slots left taken near next
-      → HasNext start now slots left (taken_if taking taken a (λ v. may_lead (kept_system start left) near v a && not (next v))) near (λ v. next v || may_lead (kept_system start left) near v a)
-  joined_same h =
-      next_as start now slots left taken _ near next _ h
-      (λ b v l is. alike taking (b == a) (taken b v) (may_lead (kept_system start left) near v a && not (next v)) (and_never (next v) (may_lead (kept_system start left) near v a) (hit_among v is)))
-      (λ v is. or_same (next v) (may_lead (kept_system start left) near v a) (hit_among v is))

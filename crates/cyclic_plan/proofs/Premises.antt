@@ -90,11 +90,7 @@ hits_made start enc mid old half a to left taken near next l h first =
     let round = h.by_near.round in
     inl (hits_small start round.fit left near round.is_left h.is_near a l _ (hits_agree start enc mid old half a left taken near next l h first))
 
--- what is new of an action's pairs, and of its hits
-pub not_joined : (start : Start) (now : Encoded) (slots : List SetId) (left : SetOfVectors) (taken : Takings) → HasRound start now slots left taken → (a : ℕ) → a < action_count start.task → Fits start 6 (minus_of (set_at now.sets slots (7 + a)) (set_at now.sets slots 4))
-not_joined start now slots left taken h a within =
-    new_fits start h.fit _ _ (at_place start now slots left taken h (7 + a) (omega arith) (λ e. absurd (omega arith)) (λ e. absurd (omega arith))) (at_place start now slots left taken h 4 (omega arith) (λ e. absurd (omega arith)) (λ e. absurd (omega arith)))
-
+-- what is new of an action's hits
 pub new_made : (start : Start) (now : Encoded) (slots : List SetId) (left : SetOfVectors) (taken : Takings) → HasRound start now slots left taken → Fits start 6 (minus_of (set_at now.sets slots 5) (set_at now.sets slots 4))
 new_made start now slots left taken h =
     new_fits start h.fit _ _ (at_place start now slots left taken h 5 (omega arith) (λ e. absurd (omega arith)) (λ e. absurd (omega arith))) (at_place start now slots left taken h 4 (omega arith) (λ e. absurd (omega arith)) (λ e. absurd (omega arith)))

@@ -1,5 +1,6 @@
 -- Private: what the planner's parts answer.
-use Rattle.std.specs.Prelude.{◌≡◌, Bool, true, false, List, All, Result, Ok, Err}
+use Rattle.std.specs.Prelude.{◌≡◌, ℕ, Bool, true, false, List, All, Result, Ok, Err}
+use Rattle.std.specs.List.{list_all}
 use Rattle.task_core.specs.Solutions.{HasNoSolution, IsSolution}
 use Rattle.task_core.specs.Tables.{IsTable}
 use Rattle.task_core.specs.Tasks.{action_count, fluent_count, system_of}
@@ -19,7 +20,12 @@ use Rattle.slot_board.specs.Board.{At, HasNoRoom, Start}
 use Rattle.plan_theory.specs.LargestSets.{IsLargestSet}
 use Rattle.plan_theory.specs.Pairs.{Pairs}
 use Rattle.plan_theory.specs.CyclicPlans.{cyclic_rules}
+use Rattle.plan_theory.specs.PairRounds.{IsLastRound}
+use Rattle.plan_theory.specs.PairRounds.{round as round_of}
+use Rattle.cyclic_plan.specs.Stages.{HasRounds}
+use Rattle.cyclic_plan.specs.Steps.{Follows}
 use Rattle.cyclic_plan.specs.Takers.{HasTable}
+use Rattle.cyclic_plan.specs.declared.steps.Step.{Step}
 
 -- a plan for the task, and all that is said of it
 pub record IsPlanOf (task : Task) (plan : TablePlan) : Type 0 where
@@ -41,3 +47,14 @@ Ends start now slots (Ok true) = HasTable start now slots
 Ends start now slots (Ok false) =
     At start now slots × HasNoSolution Cyclic (system_of start.task)
 Ends start now slots (Err e) = At start now slots × (e ≡ Full → HasNoRoom start now)
+
+-- the rounds end with the last one, which leaves each initial state, and whose steps are kept, or no
+-- table is a solution
+abbrev pub RoundsEnd : Start → Encoded → List SetId → List Step → Result Bool SetErr → Type 0
+RoundsEnd start now slots steps (Ok true) = (r : ℕ) × IsLastRound (system_of start.task) r
+    × (list_all (round_of (system_of start.task) r) (system_of start.task).initial ≡ true)
+    × HasRounds start now slots r
+    × Follows start (round_of (system_of start.task) r) 0 0 steps
+RoundsEnd start now slots steps (Ok false) =
+    At start now slots × HasNoSolution Cyclic (system_of start.task)
+RoundsEnd start now slots steps (Err e) = At start now slots × (e ≡ Full → HasNoRoom start now)

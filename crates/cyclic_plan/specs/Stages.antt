@@ -160,12 +160,6 @@ AreTakersSmall start taking left =
     taking ≡ true → (k a : ℕ) → a < action_count start.task
     → IsSmallSet start (takers Weak (kept_system start left) k a)
 
--- k steps from the goal were made, and one more
-abbrev pub HasStep : Start → Encoded → List SetId → SetOfVectors → Bool → ℕ → Type 0
-HasStep start now slots left taking k = let sys = kept_system start left in
-    HasNext start now slots left (takers_within taking sys (suc k)) (layer Weak sys k)
-    (layer Weak sys (suc k))
-
 -- after a round, the states that it left stand at 3, and those of the round before at 1
 abbrev pub HasRounds : Start → Encoded → List SetId → ℕ → Type 0
 HasRounds start now slots r = let sys = system_of start.task in

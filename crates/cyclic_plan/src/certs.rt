@@ -23,6 +23,7 @@ ghost use Rattle.cyclic_plan.specs.WorkingSets.{IsWide};
 
 use crate::plan::{begin, places};
 use crate::rounds::{LEFT, NEAR, NEW, next_round, round};
+use crate::steps::Step;
 use dd_sets::{SetErr, SetId};
 use encode_task::Enc;
 use plan_certs::{Certificate, StateSet};
@@ -55,7 +56,13 @@ fn later_lost(enc: &mut Enc, board: &mut Board) -> Result<(), SetErr>
 }
 
 /// One round more, and the states that it loses.
-fn lose_more(enc: &mut Enc, board: &mut Board, actions: u32) -> Result<(), SetErr>
+fn lose_more(
+    alloc: Global,
+    enc: &mut Enc,
+    board: &mut Board,
+    steps: &mut Vec<Step>,
+    actions: u32,
+) -> Result<(), SetErr>
     requires ready { (start : Start) × (r : ℕ)
         × HasLost start enc.old board.old.slots.items r }
     requires actions { actions ≡ length enc.old.actions }
@@ -63,12 +70,19 @@ fn lose_more(enc: &mut Enc, board: &mut Board, actions: u32) -> Result<(), SetEr
         → Left start enc.new board.new.slots.items
         (HasLost start enc.new board.new.slots.items (suc r)) result }
 {
-    next_round(enc, board, actions)?;
+    next_round(alloc, enc, board, steps, actions)?;
     later_lost(enc, board)
 }
 
 /// The first round, and the states that it loses.
-fn lose_first(enc: &mut Enc, board: &mut Board, goal: SetId, actions: u32) -> Result<(), SetErr>
+fn lose_first(
+    alloc: Global,
+    enc: &mut Enc,
+    board: &mut Board,
+    steps: &mut Vec<Step>,
+    goal: SetId,
+    actions: u32,
+) -> Result<(), SetErr>
     requires ready { (start : Start) × HasNothing start enc.old board.old.slots.items }
     requires goal { enc.old.goal ≡ Some goal }
     requires actions { actions ≡ length enc.old.actions }
@@ -77,7 +91,7 @@ fn lose_first(enc: &mut Enc, board: &mut Board, goal: SetId, actions: u32) -> Re
         (HasLost start enc.new board.new.slots.items 0) result }
 {
     begin(enc, board, goal)?;
-    round(enc, board, actions)?;
+    round(alloc, enc, board, steps, actions)?;
     first_lost(enc, board)
 }
 
@@ -96,8 +110,10 @@ fn add_set(enc: &Enc, board: &Board, sets: &mut Vec<StateSet>) -> Result<(), All
 
 /// The sets of states that the rounds lose, until one loses none.
 fn all_sets(
+    alloc: Global,
     enc: &mut Enc,
     board: &mut Board,
+    steps: &mut Vec<Step>,
     actions: u32,
     sets: &mut Vec<StateSet>,
 ) -> Result<(), SetErr>
@@ -110,7 +126,7 @@ fn all_sets(
 {
     while !board.is_empty(enc, NEW) {
         add_set(enc, board, sets)?;
-        lose_more(enc, board, actions)?;
+        lose_more(alloc, enc, board, steps, actions)?;
     }
     Ok(())
 }
@@ -130,9 +146,10 @@ fn find_sets(
     ensures { (start : Start) → HasNothing start enc.old board.old.slots.items
         → CertificateEnds start enc.new board.new.slots.items result }
 {
-    lose_first(enc, board, goal, actions)?;
+    let mut steps = Vec::new(alloc);
+    lose_first(alloc, enc, board, &mut steps, goal, actions)?;
     let mut sets = Vec::new(alloc);
-    all_sets(enc, board, actions, &mut sets)?;
+    all_sets(alloc, enc, board, &mut steps, actions, &mut sets)?;
     if board.covers_initial(enc, NEAR)? {
         Ok(None)
     } else {

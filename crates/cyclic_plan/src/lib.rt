@@ -5,12 +5,14 @@
 //! `plan_theory`, whose laws of strong cyclic planning the planner rests on. `cyclic_takers` gives
 //! the same plan as sets of states, in slots (`Takers`), and `cert_cyclic` a certificate where there is
 //! none (`Certificates`). `WorkingSets` has the sets of which the nodes bound what the planner needs;
-//! `Stages`, `Rounds` and `Answers` have the words of the contracts inside.
+//! `Stages`, `Rounds`, `Steps` and `Answers` have the words of the contracts inside.
 #![tactic(auto)]
 
 mod certs;
 mod plan;
+mod retrace;
 mod rounds;
+mod steps;
 
 pub use certs::cert_cyclic;
 pub use plan::{cyclic_takers, plan_cyclic};

@@ -25,7 +25,8 @@ ghost use Rattle.cyclic_plan.specs.Stages.{HasRound, none_taken};
 ghost use Rattle.cyclic_plan.specs.Takers.{HasTable, start_of};
 ghost use Rattle.cyclic_plan.specs.WorkingSets.{IsWide};
 
-use crate::rounds::{GOAL, LEFT, last_round, spread, takers_of};
+use crate::retrace::retrace;
+use crate::rounds::{GOAL, LEFT, last_round, takers_of};
 use dd_sets::{SetErr, SetId};
 use encode_task::Enc;
 use plan_rules::{Class, Rule, TablePlan};
@@ -71,7 +72,13 @@ fn rules(alloc: Global, enc: &Enc, board: &Board, actions: u32) -> Result<Vec<Ru
 }
 
 /// Searches with the slots of a board, which stay: whether there is a plan.
-fn search(enc: &mut Enc, board: &mut Board, goal: SetId, actions: u32) -> Result<bool, SetErr>
+fn search(
+    alloc: Global,
+    enc: &mut Enc,
+    board: &mut Board,
+    goal: SetId,
+    actions: u32,
+) -> Result<bool, SetErr>
     requires ready { (start : Start) × HasNothing start enc.old board.old.slots.items }
     requires goal { enc.old.goal ≡ Some goal }
     requires actions { actions ≡ length enc.old.actions }
@@ -79,10 +86,11 @@ fn search(enc: &mut Enc, board: &mut Board, goal: SetId, actions: u32) -> Result
         → Ends start enc.new board.new.slots.items result }
 {
     begin(enc, board, goal)?;
-    if !last_round(enc, board, actions)? {
+    let mut steps = Vec::new(alloc);
+    if !last_round(alloc, enc, board, &mut steps, actions)? {
         return Ok(false);
     }
-    spread(enc, board, actions, true)?;
+    retrace(enc, board, actions, &steps)?;
     Ok(true)
 }
 
@@ -96,7 +104,9 @@ fn search(enc: &mut Enc, board: &mut Board, goal: SetId, actions: u32) -> Result
 /// Pistore, Roveri and Traverso 2003). Where the initial states are left, each state takes the
 /// least-numbered action of its kept pairs that makes a step towards the goal. The time grows with
 /// the rounds, their steps and the actions, and not with the number of states. A round that loses no
-/// pair makes no steps, and a step has no preimage for an action whose states are joined already.
+/// pair makes no steps, a step has no preimage for an action that led into the near states by all of
+/// its kept pairs in a step before, and what is taken is found by the steps of the last round that
+/// changed something alone.
 ///
 /// `takers_of` tells the place of an action's states. `Full` comes only where the table holds as many
 /// nodes as it may, and its limit is tight with at most three sets of the search's own for each
@@ -119,7 +129,7 @@ pub fn cyclic_takers(alloc: Global, task: &Task, enc: &mut Enc) -> Result<Option
     let goal = enc.goal().unwrap();
     let actions = task.actions.len() as u32;
     let mut board = Board::new(alloc, enc, places(actions))?;
-    match search(enc, &mut board, goal, actions) {
+    match search(alloc, enc, &mut board, goal, actions) {
         Ok(true) => Ok(Some(board)),
         Ok(false) => {
             board.close(enc);

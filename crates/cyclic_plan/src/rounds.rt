@@ -1,23 +1,24 @@
 //! The rounds of the search for the largest set of pairs, on sets of states.
 
-ghost use Rattle.std.specs.Prelude.{◌≡◌, ℕ, suc, ◌+◌, ◌<◌, ◌^◌, ◌&&◌, ◌||◌, not, length, false};
-ghost use Rattle.std.specs.Prelude.{IfOk, true};
+ghost use Rattle.std.specs.Prelude.{◌≡◌, ℕ, suc, ◌+◌, ◌<◌, ◌||◌, [], length, false, IfOk};
+ghost use Rattle.std.specs.Prelude.{slice_index_or, true};
 ghost use Rattle.task_core.specs.Cubes.{SetOfVectors};
-ghost use Rattle.task_core.specs.Tasks.{system_of, action_count, fluent_count};
+ghost use Rattle.task_core.specs.Tasks.{system_of, action_count};
 ghost use Rattle.plan_theory.specs.Layers.{may_lead};
 ghost use Rattle.slot_board.specs.Board.{Left, Start};
 ghost use Rattle.plan_theory.specs.PairRounds.{connected, kept, round as round_of};
-ghost use Rattle.cyclic_plan.specs.Rounds.{ArePairsAmong, HasDropped, HasMet, LosesNone, RoundsEnd};
-ghost use Rattle.cyclic_plan.specs.Stages.{AddsToSmall, AreTakersSmall, HasHits, HasNear};
-ghost use Rattle.cyclic_plan.specs.Stages.{HasNext, HasPairs, HasRounds, IsSmallSet, IsStep};
-ghost use Rattle.cyclic_plan.specs.Stages.{HasRound, HasStep, Takings, kept_system, next_by};
-ghost use Rattle.cyclic_plan.specs.Stages.{none_taken, taken_also, taken_by, taken_if};
-ghost use Rattle.cyclic_plan.specs.Stages.{takers_within};
+ghost use Rattle.cyclic_plan.specs.Rounds.{HasDropped, HasMet, LosesNone};
+ghost use Rattle.cyclic_plan.specs.Answers.{RoundsEnd};
+ghost use Rattle.cyclic_plan.specs.Stages.{HasHits, HasNear, HasNext, HasPairs, HasRound, HasRounds};
+ghost use Rattle.cyclic_plan.specs.Stages.{IsSmallSet, Takings, kept_system, none_taken};
+ghost use Rattle.cyclic_plan.specs.Steps.{BeginsStep, Follows, HasGrown, HasJoined};
 ghost use Rattle.cyclic_plan.specs.Takers.{takers_place};
 
+use crate::steps::{Step, is_spent, none_spent, note, note_spent};
 use dd_sets::SetErr;
 use encode_task::Enc;
 use slot_board::{Board, Operation, Outcomes};
+use std::alloc::Global;
 use task_core::ActionId;
 
 /// The goal states.
@@ -29,14 +30,14 @@ const OUTSIDE: usize = 2;
 /// The states near the goal.
 pub(crate) const NEAR: usize = 3;
 /// The states near the goal, with one step more.
-const NEXT: usize = 4;
+pub(crate) const NEXT: usize = 4;
 /// The states of kept pairs from which an action leads into the near states.
-const HITS: usize = 5;
+pub(crate) const HITS: usize = 5;
 /// Those of them that are new, and what else is made on the way to an action's set.
 pub(crate) const NEW: usize = 6;
 
 /// The place of the states of an action's kept pairs.
-fn pairs_of(a: ActionId) -> usize
+pub(crate) fn pairs_of(a: ActionId) -> usize
     ensures { result ≡ 7 + a.0 }
 {
     7 + a.0 as usize
@@ -65,7 +66,7 @@ fn keep(enc: &mut Enc, board: &mut Board, a: ActionId) -> Result<(), SetErr>
 }
 
 /// Finds where an action leads into the near states by its kept pairs.
-fn hit(enc: &mut Enc, board: &mut Board, a: ActionId) -> Result<(), SetErr>
+pub(crate) fn hit(enc: &mut Enc, board: &mut Board, a: ActionId) -> Result<(), SetErr>
     requires ready { (start : Start) × (left : SetOfVectors) × (taken : Takings)
         × (near : SetOfVectors) × (next : SetOfVectors)
         × HasNext start enc.old board.old.slots.items left taken near next }
@@ -99,212 +100,170 @@ fn keep_pairs(enc: &mut Enc, board: &mut Board, actions: u32) -> Result<(), SetE
     Ok(())
 }
 
-/// Has an action taken in the states from which it leads into the near ones, where they are new.
-fn take(enc: &mut Enc, board: &mut Board, actions: u32, a: ActionId) -> Result<(), SetErr>
-    requires ready { (start : Start) × (left : SetOfVectors) × (taken : Takings)
-        × (near : SetOfVectors) × (next : SetOfVectors) × (hits : SetOfVectors)
-        × HasHits start enc.old board.old.slots.items left taken near next hits }
-    requires actions { actions ≡ length enc.old.actions }
-    requires action { a.0 < length enc.old.actions }
-    ensures { (start : Start) (left : SetOfVectors) (taken : Takings)
-        (near : SetOfVectors) (next : SetOfVectors) (hits : SetOfVectors)
-        → HasHits start enc.old board.old.slots.items left taken near next hits
-        → IsSmallSet start (taken_also taken a.0 (λ v. hits v && not (next v)) a.0)
-        → Left start enc.new board.new.slots.items
-        (HasHits start enc.new board.new.slots.items left (taken_also taken a.0
-        (λ v. hits v && not (next v))) near next hits) result }
-{
-    let takers = takers_of(actions, a);
-    board.combine(enc, NEW, Operation::Minus, HITS, NEXT)?;
-    board.combine(enc, takers, Operation::Join, takers, NEW)
-}
-
-/// The same, where actions are to be taken.
-fn take_where(
-    enc: &mut Enc,
-    board: &mut Board,
-    actions: u32,
-    a: ActionId,
-    taking: bool,
-) -> Result<(), SetErr>
-    requires ready { (start : Start) × (left : SetOfVectors) × (taken : Takings)
-        × (near : SetOfVectors) × (next : SetOfVectors) × (hits : SetOfVectors)
-        × HasHits start enc.old board.old.slots.items left taken near next hits }
-    requires actions { actions ≡ length enc.old.actions }
-    requires action { a.0 < length enc.old.actions }
-    ensures { (start : Start) (left : SetOfVectors) (taken : Takings)
-        (near : SetOfVectors) (next : SetOfVectors) (hits : SetOfVectors)
-        → HasHits start enc.old board.old.slots.items left taken near next hits
-        → (taking ≡ true
-        → IsSmallSet start (taken_also taken a.0 (λ v. hits v && not (next v)) a.0))
-        → Left start enc.new board.new.slots.items
-        (HasHits start enc.new board.new.slots.items left (taken_if taking taken a.0
-        (λ v. hits v && not (next v))) near next hits) result }
-{
-    if taking {
-        take(enc, board, actions, a)
-    } else {
-        Ok(())
-    }
-}
-
-/// Whether the states of an action's kept pairs are all among the next ones already.
-fn is_joined(enc: &mut Enc, board: &mut Board, a: ActionId) -> Result<bool, SetErr>
-    requires ready { (start : Start) × (left : SetOfVectors) × (taken : Takings)
-        × (near : SetOfVectors) × (next : SetOfVectors)
-        × HasNext start enc.old board.old.slots.items left taken near next }
-    requires action { a.0 < length enc.old.actions }
-    ensures left { (start : Start) (left : SetOfVectors) (taken : Takings)
-        (near : SetOfVectors) (next : SetOfVectors)
-        → HasNext start enc.old board.old.slots.items left taken near next
-        → Left start enc.new board.new.slots.items
-        (HasNext start enc.new board.new.slots.items left taken near next) result }
-    ensures joined { (start : Start) (left : SetOfVectors) (taken : Takings)
-        (near : SetOfVectors) (next : SetOfVectors)
-        → HasNext start enc.old board.old.slots.items left taken near next
-        → IfOk result (λ joined. joined ≡ true
-        → ArePairsAmong (system_of start.task) left next a.0) }
-{
-    board.combine(enc, NEW, Operation::Minus, pairs_of(a), NEXT)?;
-    Ok(board.is_empty(enc, NEW))
-}
-
-/// Adds the states from which an action leads into the near ones by its kept pairs.
+/// Joins where an action leads into the near states to the next ones, and notes the step unless these
+/// had all of it already.
 fn join_hits(
     enc: &mut Enc,
     board: &mut Board,
-    actions: u32,
+    steps: &mut Vec<Step>,
     a: ActionId,
-    taking: bool,
 ) -> Result<(), SetErr>
-    requires ready { (start : Start) × (left : SetOfVectors) × (taken : Takings)
-        × (near : SetOfVectors) × (next : SetOfVectors)
-        × HasNext start enc.old board.old.slots.items left taken near next
-        × AddsToSmall start taking left taken near next a.0 }
-    requires actions { actions ≡ length enc.old.actions }
-    requires action { a.0 < length enc.old.actions }
-    ensures { (start : Start) (left : SetOfVectors) (taken : Takings)
-        (near : SetOfVectors) (next : SetOfVectors)
-        → HasNext start enc.old board.old.slots.items left taken near next
-        → AddsToSmall start taking left taken near next a.0
-        → Left start enc.new board.new.slots.items
-        (HasNext start enc.new board.new.slots.items left (taken_if taking taken a.0
-        (λ v. may_lead (kept_system start left) near v a.0 && not (next v))) near
-        (λ v. next v || may_lead (kept_system start left) near v a.0)) result }
+    requires ready { (start : Start) × (left : SetOfVectors) × (near : SetOfVectors)
+        × (next : SetOfVectors) × (hits : SetOfVectors)
+        × HasHits start enc.old board.old.slots.items left none_taken near next hits
+        × IsSmallSet start (λ v. next v || hits v) }
+    ensures { (start : Start) (left : SetOfVectors) (near : SetOfVectors)
+        (next : SetOfVectors) (hits : SetOfVectors)
+        → HasHits start enc.old board.old.slots.items left none_taken near next hits
+        → IsSmallSet start (λ v. next v || hits v)
+        → Left start enc.new board.new.slots.items (HasJoined start enc.new
+        board.new.slots.items left near next hits a steps.old.items steps.new.items) result }
 {
-    hit(enc, board, a)?;
-    take_where(enc, board, actions, a, taking)?;
-    board.combine(enc, NEXT, Operation::Join, NEXT, HITS)
-}
-
-/// The same, with no preimage where all states of the action's kept pairs are joined already.
-fn advance(
-    enc: &mut Enc,
-    board: &mut Board,
-    actions: u32,
-    a: ActionId,
-    taking: bool,
-) -> Result<(), SetErr>
-    requires ready { (start : Start) × (left : SetOfVectors) × (taken : Takings)
-        × (near : SetOfVectors) × (next : SetOfVectors)
-        × HasNext start enc.old board.old.slots.items left taken near next
-        × AddsToSmall start taking left taken near next a.0 }
-    requires actions { actions ≡ length enc.old.actions }
-    requires action { a.0 < length enc.old.actions }
-    ensures { (start : Start) (left : SetOfVectors) (taken : Takings)
-        (near : SetOfVectors) (next : SetOfVectors)
-        → HasNext start enc.old board.old.slots.items left taken near next
-        → AddsToSmall start taking left taken near next a.0
-        → Left start enc.new board.new.slots.items
-        (HasNext start enc.new board.new.slots.items left (taken_if taking taken a.0
-        (λ v. may_lead (kept_system start left) near v a.0 && not (next v))) near
-        (λ v. next v || may_lead (kept_system start left) near v a.0)) result }
-{
-    if is_joined(enc, board, a)? {
+    board.combine(enc, NEW, Operation::Join, NEXT, HITS)?;
+    if board.is_same(enc, NEW, NEXT) {
         return Ok(());
     }
-    join_hits(enc, board, actions, a, taking)
+    board.copy_of(enc, NEXT, NEW)?;
+    note(steps, Step::Grow(a))
+}
+
+/// Adds the states from which an action leads into the near ones by its kept pairs, unless it is
+/// spent. Where it leads into these by all of its kept pairs, it is spent from now on.
+fn grow_by(
+    enc: &mut Enc,
+    board: &mut Board,
+    steps: &mut Vec<Step>,
+    spent: &mut Vec<bool>,
+    a: ActionId,
+) -> Result<(), SetErr>
+    requires ready { (start : Start) × (left : SetOfVectors) × (k : ℕ)
+        × HasGrown start enc.old board.old.slots.items left k a.0 steps.old.items
+        spent.old.items }
+    requires action { a.0 < length enc.old.actions }
+    requires long { length spent.old.items ≡ length enc.old.actions }
+    ensures { (start : Start) (left : SetOfVectors) (k : ℕ)
+        → HasGrown start enc.old board.old.slots.items left k a.0 steps.old.items
+        spent.old.items → Left start enc.new board.new.slots.items (HasGrown start enc.new
+        board.new.slots.items left k (a.0 + 1) steps.new.items spent.new.items) result }
+{
+    if is_spent(spent, a) {
+        return Ok(());
+    }
+    hit(enc, board, a)?;
+    note_spent(spent, a, board.is_same(enc, HITS, pairs_of(a)));
+    join_hits(enc, board, steps, a)
 }
 
 /// Adds the states that are one step farther from the goal.
-fn grow(enc: &mut Enc, board: &mut Board, actions: u32, taking: bool) -> Result<(), SetErr>
-    requires ready { (start : Start) × (left : SetOfVectors) × (taken : Takings)
-        × (near : SetOfVectors) × HasNear start enc.old board.old.slots.items left taken near
-        × IsStep start taking left taken near }
+fn grow(
+    enc: &mut Enc,
+    board: &mut Board,
+    steps: &mut Vec<Step>,
+    spent: &mut Vec<bool>,
+    actions: u32,
+) -> Result<(), SetErr>
+    requires ready { (start : Start) × (left : SetOfVectors) × (k : ℕ)
+        × BeginsStep start enc.old board.old.slots.items left k steps.old.items spent.old.items }
     requires actions { actions ≡ length enc.old.actions }
-    ensures { (start : Start) (left : SetOfVectors) (taken : Takings) (near : SetOfVectors)
-        → HasNear start enc.old board.old.slots.items left taken near
-        → IsStep start taking left taken near
-        → Left start enc.new board.new.slots.items
-        (HasNext start enc.new board.new.slots.items left
-        (taken_by taking (kept_system start left) near taken (action_count start.task)) near
-        (next_by (kept_system start left) near (action_count start.task))) result }
+    ensures { (start : Start) (left : SetOfVectors) (k : ℕ)
+        → BeginsStep start enc.old board.old.slots.items left k steps.old.items spent.old.items
+        → Left start enc.new board.new.slots.items (HasGrown start enc.new
+        board.new.slots.items left k (action_count start.task) steps.new.items
+        spent.new.items) result }
 {
     board.copy_of(enc, NEXT, NEAR)?;
     for a in 0..actions {
-        advance(enc, board, actions, ActionId(a), taking)?;
+        grow_by(enc, board, steps, spent, ActionId(a))?;
     }
     Ok(())
 }
 
 /// The goal states, and the states that are one step from them.
-fn first_step(enc: &mut Enc, board: &mut Board, actions: u32, taking: bool) -> Result<(), SetErr>
+fn first_step(
+    enc: &mut Enc,
+    board: &mut Board,
+    steps: &mut Vec<Step>,
+    spent: &mut Vec<bool>,
+    actions: u32,
+) -> Result<(), SetErr>
     requires ready { (start : Start) × (left : SetOfVectors) × (near : SetOfVectors)
-        × HasNear start enc.old board.old.slots.items left none_taken near
-        × AreTakersSmall start taking left }
+        × HasNear start enc.old board.old.slots.items left none_taken near }
     requires actions { actions ≡ length enc.old.actions }
+    requires steps { steps.old.items ≡ [] }
+    requires long { length spent.old.items ≡ actions }
+    requires none { (a : ℕ) → a < actions → slice_index_or spent.old.items a false ≡ false }
     ensures { (start : Start) (left : SetOfVectors) (near : SetOfVectors)
         → HasNear start enc.old board.old.slots.items left none_taken near
-        → AreTakersSmall start taking left → Left start enc.new board.new.slots.items
-        (HasStep start enc.new board.new.slots.items left taking 0) result }
+        → Left start enc.new board.new.slots.items (HasGrown start enc.new
+        board.new.slots.items left 0 (action_count start.task) steps.new.items
+        spent.new.items) result }
 {
     board.copy_of(enc, NEAR, GOAL)?;
-    grow(enc, board, actions, taking)
+    grow(enc, board, steps, spent, actions)
 }
 
 /// One step more.
-fn next_step(enc: &mut Enc, board: &mut Board, actions: u32, taking: bool) -> Result<(), SetErr>
-    requires ready { (start : Start) × (left : SetOfVectors) × (k : ℕ)
-        × HasStep start enc.old board.old.slots.items left taking k
-        × AreTakersSmall start taking left }
-    requires actions { actions ≡ length enc.old.actions }
-    ensures { (start : Start) (left : SetOfVectors) (k : ℕ)
-        → HasStep start enc.old board.old.slots.items left taking k
-        → AreTakersSmall start taking left → Left start enc.new board.new.slots.items
-        (HasStep start enc.new board.new.slots.items left taking (suc k)) result }
-{
-    board.copy_of(enc, NEAR, NEXT)?;
-    grow(enc, board, actions, taking)
-}
-
-/// Finds the states from which the goal is reached by kept pairs, step by step.
-pub(crate) fn spread(
+fn next_step(
     enc: &mut Enc,
     board: &mut Board,
+    steps: &mut Vec<Step>,
+    spent: &mut Vec<bool>,
     actions: u32,
-    taking: bool,
+) -> Result<(), SetErr>
+    requires ready { (start : Start) × (left : SetOfVectors) × (k : ℕ)
+        × HasGrown start enc.old board.old.slots.items left k (action_count start.task)
+        steps.old.items spent.old.items }
+    requires actions { actions ≡ length enc.old.actions }
+    ensures { (start : Start) (left : SetOfVectors) (k : ℕ)
+        → HasGrown start enc.old board.old.slots.items left k (action_count start.task)
+        steps.old.items spent.old.items → Left start enc.new board.new.slots.items
+        (HasGrown start enc.new board.new.slots.items left (suc k) (action_count start.task)
+        steps.new.items spent.new.items) result }
+{
+    board.copy_of(enc, NEAR, NEXT)?;
+    note(steps, Step::Advance)?;
+    grow(enc, board, steps, spent, actions)
+}
+
+/// Finds the states from which the goal is reached by kept pairs, step by step, and keeps the steps
+/// that changed something.
+fn spread(
+    alloc: Global,
+    enc: &mut Enc,
+    board: &mut Board,
+    steps: &mut Vec<Step>,
+    actions: u32,
 ) -> Result<(), SetErr>
     requires ready { (start : Start) × (left : SetOfVectors) × (near : SetOfVectors)
-        × HasNear start enc.old board.old.slots.items left none_taken near
-        × AreTakersSmall start taking left }
+        × HasNear start enc.old board.old.slots.items left none_taken near }
     requires actions { actions ≡ length enc.old.actions }
     ensures { (start : Start) (left : SetOfVectors) (near : SetOfVectors)
         → HasNear start enc.old board.old.slots.items left none_taken near
-        → AreTakersSmall start taking left → Left start enc.new board.new.slots.items
-        (HasNear start enc.new board.new.slots.items left
-        (takers_within taking (kept_system start left) (2 ^ fluent_count start.task))
-        (connected (system_of start.task) (kept (system_of start.task) left))) result }
+        → Left start enc.new board.new.slots.items
+        (HasNear start enc.new board.new.slots.items left none_taken
+        (connected (system_of start.task) (kept (system_of start.task) left))
+        × Follows start left 0 0 steps.new.items) result }
 {
-    first_step(enc, board, actions, taking)?;
+    steps.clear();
+    let mut spent = none_spent(alloc, actions)?;
+    first_step(enc, board, steps, &mut spent, actions)?;
     while !board.is_same(enc, NEXT, NEAR) {
-        next_step(enc, board, actions, taking)?;
+        next_step(enc, board, steps, &mut spent, actions)?;
     }
-    Ok(())
+    note(steps, Step::Advance)
 }
 
 /// One round: the pairs that don't lead out of the states that are left, and the states from which
 /// these pairs reach the goal.
-pub(crate) fn round(enc: &mut Enc, board: &mut Board, actions: u32) -> Result<(), SetErr>
+///
+/// The steps that found them and changed something are kept.
+pub(crate) fn round(
+    alloc: Global,
+    enc: &mut Enc,
+    board: &mut Board,
+    steps: &mut Vec<Step>,
+    actions: u32,
+) -> Result<(), SetErr>
     requires ready { (start : Start) × (left : SetOfVectors)
         × HasRound start enc.old board.old.slots.items left none_taken }
     requires actions { actions ≡ length enc.old.actions }
@@ -312,10 +271,11 @@ pub(crate) fn round(enc: &mut Enc, board: &mut Board, actions: u32) -> Result<()
         → HasRound start enc.old board.old.slots.items left none_taken
         → Left start enc.new board.new.slots.items
         (HasNear start enc.new board.new.slots.items left none_taken
-        (connected (system_of start.task) (kept (system_of start.task) left))) result }
+        (connected (system_of start.task) (kept (system_of start.task) left))
+        × Follows start left 0 0 steps.new.items) result }
 {
     keep_pairs(enc, board, actions)?;
-    spread(enc, board, actions, false)
+    spread(alloc, enc, board, steps, actions)
 }
 
 /// Keeps of an action's pairs, of which there are some among the states that are left, those that
@@ -389,38 +349,52 @@ fn drop_pairs(enc: &mut Enc, board: &mut Board, actions: u32) -> Result<bool, Se
 }
 
 /// The next round, with the states that the last one left. Where these lose no pair, they are the
-/// states from which the goal is reached, and no step is made.
-pub(crate) fn next_round(enc: &mut Enc, board: &mut Board, actions: u32) -> Result<(), SetErr>
+/// states from which the goal is reached, no step is made, and the steps of the last one are kept.
+pub(crate) fn next_round(
+    alloc: Global,
+    enc: &mut Enc,
+    board: &mut Board,
+    steps: &mut Vec<Step>,
+    actions: u32,
+) -> Result<(), SetErr>
     requires ready { (start : Start) × (r : ℕ)
         × HasRounds start enc.old board.old.slots.items r }
     requires actions { actions ≡ length enc.old.actions }
     ensures { (start : Start) (r : ℕ) → HasRounds start enc.old board.old.slots.items r
         → Left start enc.new board.new.slots.items
-        (HasRounds start enc.new board.new.slots.items (suc r)) result }
+        (HasRounds start enc.new board.new.slots.items (suc r)
+        × (Follows start (round_of (system_of start.task) r) 0 0 steps.old.items
+        → Follows start (round_of (system_of start.task) (suc r)) 0 0 steps.new.items)) result }
 {
     board.copy_of(enc, LEFT, NEAR)?;
     if !drop_pairs(enc, board, actions)? {
         return Ok(());
     }
-    spread(enc, board, actions, false)
+    spread(alloc, enc, board, steps, actions)
 }
 
 /// Makes rounds until one leaves the same states as the one before, or not all initial states:
-/// whether all of these are left.
-pub(crate) fn last_round(enc: &mut Enc, board: &mut Board, actions: u32) -> Result<bool, SetErr>
+/// whether all of these are left. Then the steps are those of the last round.
+pub(crate) fn last_round(
+    alloc: Global,
+    enc: &mut Enc,
+    board: &mut Board,
+    steps: &mut Vec<Step>,
+    actions: u32,
+) -> Result<bool, SetErr>
     requires ready { (start : Start) × HasRound start enc.old board.old.slots.items
         (round_of (system_of start.task) 0) none_taken }
     requires actions { actions ≡ length enc.old.actions }
     ensures { (start : Start) → HasRound start enc.old board.old.slots.items
         (round_of (system_of start.task) 0) none_taken
-        → RoundsEnd start enc.new board.new.slots.items result }
+        → RoundsEnd start enc.new board.new.slots.items steps.new.items result }
 {
-    round(enc, board, actions)?;
+    round(alloc, enc, board, steps, actions)?;
     while !board.is_same(enc, NEAR, LEFT) {
         if !board.covers_initial(enc, NEAR)? {
             return Ok(false);
         }
-        next_round(enc, board, actions)?;
+        next_round(alloc, enc, board, steps, actions)?;
     }
     board.covers_initial(enc, LEFT)
 }

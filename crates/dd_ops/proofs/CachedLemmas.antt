@@ -6,10 +6,14 @@ use Rattle.dd_nodes.specs.declared.node.Ref.{Ref}
 use Rattle.dd_nodes.specs.Table.{NodeTable, IsNodeTable}
 use Rattle.dd_ops.specs.declared.question.Question.{Question}
 use Rattle.dd_ops.specs.Answers.{AreNumbers, IsAnswer, IsCofactor, IsReplaced, Keeps}
-use Rattle.dd_ops.specs.Cached.{key_of_question, key_of_cofactor, key_of_subst, IsQuestion, IsFixed, IsOfCall, MayAdd, Remembers, RemembersCofactors, RemembersReplaced, AreCallsBelow, AddsPairs, AddsPair, IsCacheOf}
+use Rattle.dd_ops.specs.Cached.{key_of_question, key_of_cofactor, key_of_subst, IsQuestion, IsFixed, IsOfCall, MayAdd, Remembers, RemembersCofactors, RemembersReplaced, AddsPairs, AddsPair}
+use Rattle.dd_ops.specs.Known.{AreKnown, AreEmpty, IsKnownAs, IsCacheOf}
+use Rattle.dd_ops.specs.declared.known.KnownList.{KnownList}
+use Rattle.std.proofs.Common.{drop, take, ◌∙◌, ◌≤◌}
+use Rattle.std.proofs.lemmas.Option.{none-some}
 use Rattle.dd_ops.proofs.QuestionLemmas.{answer_extends}
 use Rattle.dd_ops.proofs.CofactorLemmas.{cofactor_extends}
-use Rattle.dd_ops.proofs.SubstLemmas.{is_replaced_extends}
+use Rattle.dd_ops.proofs.SubstLemmas.{is_replaced_extends, numbers_extend}
 
 -- the keys tell their questions apart
 question_from_key : (p q : Question) → key_of_question p ≡ key_of_question q → p ≡ q
@@ -59,27 +63,6 @@ module _ (before after : List (Key × ℕ)) where
   same_pairs IsNew same key value has = inl (subst (λ (pairs : List (Key × ℕ)). Contains pairs (key, value)) same has)
 
   -- pairs of another kind
-  pub calls_beside_questions : (next : ℕ) → AddsPairs IsQuestion before after → AreCallsBelow next before → AreCallsBelow next after
-  calls_beside_questions next adds below call f r has = ⊎_elim
-      (λ (was : Contains before (key_of_subst call f, r)). below call f r was)
-      (λ (new : 2 ≡ 0). absurd (omega (arith, new)))
-      (adds (key_of_subst call f) r has)
-
-  pub calls_beside_fixed : (next : ℕ) → AddsPairs IsFixed before after → AreCallsBelow next before → AreCallsBelow next after
-  calls_beside_fixed next adds below call f r has = ⊎_elim
-      (λ (was : Contains before (key_of_subst call f, r)). below call f r was)
-      (λ (new : 2 ≡ 1). absurd (omega (arith, new)))
-      (adds (key_of_subst call f) r has)
-
-  pub calls_after : (own : ℕ) → AddsPairs (MayAdd own) before after → AreCallsBelow own before → AreCallsBelow (own + 1) after
-  calls_after own adds below call f r has = ⊎_elim
-      (λ (was : Contains before (key_of_subst call f, r)).
-      let is : call < own = below call f r was in omega (arith, is))
-      (⊎_elim
-      (λ (question : 2 ≡ 0). absurd (omega (arith, question)))
-      (λ (mine : (◌≡◌ {A = ℕ} 2 2) × (call ≡ own)). let is : call ≡ own = mine.1 in omega (arith, is)))
-      (adds (key_of_subst call f) r has)
-
   module _ (nodes : List Node) where
     pub cofactors_beside_questions : AddsPairs IsQuestion before after → RemembersCofactors nodes before → RemembersCofactors nodes after
     cofactors_beside_questions adds remembers f v b r has = ⊎_elim
@@ -127,27 +110,35 @@ adds_more IsNew a b c first second key value has = ⊎_elim
     (λ (new : IsNew key). inr new)
     (second key value has)
 
--- a call has put in nothing that no earlier call has put in
-pub none_of_call : (nodes : List Node) (map : List (ℕ × Ref)) (call : ℕ) (pairs : List (Key × ℕ)) → AreCallsBelow call pairs → RemembersReplaced nodes map call pairs
-none_of_call nodes map call pairs below f r has =
-    let less : call < call = below call f r has in absurd (omega (arith, less))
-
 -- an empty cache holds nothing
 no_pair : (pairs : List (Key × ℕ)) → pairs ≡ [] → (key : Key) (value : ℕ) → Contains pairs (key, value) → ◌≡◌ {A = ℕ} 0 1
 no_pair pairs none key value has =
     let nowhere : Contains [] (key, value) = subst (λ (ps : List (Key × ℕ)). Contains ps (key, value)) none has in
     absurd (omega (arith, nowhere.1))
 
-pub no_calls : (next : ℕ) (pairs : List (Key × ℕ)) → pairs ≡ [] → AreCallsBelow next pairs
-no_calls next pairs none call f r has = absurd (omega (arith, no_pair pairs none (key_of_subst call f) r has))
+-- so no list has a number
+pub none_known : (nodes : List Node) (places : List KnownList) (entries : List (ℕ × Ref)) (pairs : List (Key × ℕ)) (next : ℕ) → AreEmpty places → pairs ≡ [] → 0 < next → AreKnown nodes places entries pairs next
+none_known nodes places entries pairs next empty none some = record {
+  meaning = λ _. [];
+  some = some;
+  numbers = λ number v g is. absurd (none-some g is);
+  placed = λ k list at. let is = empty k list at in
+      (omega (arith, is.0, some), omega (arith, is.2), sym (ap (λ n. drop list.start (take n entries)) is.2 ∙ ap (λ n. drop n (take 0 entries)) is.1));
+  replaced = λ number f r has. absurd (omega (arith, no_pair pairs none (key_of_subst number f) r has));
+}
 
-pub empty_cache : (t : NodeTable) (pairs : List (Key × ℕ)) (next : ℕ) → IsNodeTable t → pairs ≡ [] → IsCacheOf t pairs next
-empty_cache t pairs next table none = record {
+pub empty_cache : (t : NodeTable) (places : List KnownList) (entries : List (ℕ × Ref)) (pairs : List (Key × ℕ)) (next : ℕ) → IsNodeTable t → AreEmpty places → pairs ≡ [] → 0 < next → IsCacheOf t places entries pairs next
+empty_cache t places entries pairs next table empty none some = record {
   table = table;
   questions = λ q r has. absurd (omega (arith, no_pair pairs none (key_of_question q) r has));
   cofactors = λ f v b r has. absurd (omega (arith, no_pair pairs none (key_of_cofactor f v b) r has));
-  calls = no_calls next pairs none;
+  known = none_known t.nodes places entries pairs next empty none some;
 }
+
+-- what a list's number has is what the list has
+pub known_memo : (nodes : List Node) (places : List KnownList) (entries : List (ℕ × Ref)) (pairs : List (Key × ℕ)) (next : ℕ) (map : List (ℕ × Ref)) (number : ℕ)
+    → IsKnownAs nodes places entries pairs next map number → RemembersReplaced nodes map number pairs
+known_memo nodes places entries pairs next map number is f r has = subst (λ (m : List (ℕ × Ref)). IsReplaced nodes m f r) is.means (is.known.replaced number f r has).1
 
 -- what is remembered stays right where the table grows
 module _ (t0 t1 : NodeTable) (kept : Keeps t0 t1) (table : IsNodeTable t0) where
@@ -160,38 +151,75 @@ module _ (t0 t1 : NodeTable) (kept : Keeps t0 t1) (table : IsNodeTable t0) where
   pub replaced_extend : (map : List (ℕ × Ref)) → AreNumbers t0.nodes map → (call : ℕ) (pairs : List (Key × ℕ)) → RemembersReplaced t0.nodes map call pairs → RemembersReplaced t1.nodes map call pairs
   replaced_extend map numbers call pairs remembers f r has = is_replaced_extends t0.nodes t1.nodes kept.nodes t0.vars table.reduced map numbers f r (remembers f r has)
 
+  -- so do the lists with numbers, where the cache has no more of them
+  known_extend : (places : List KnownList) (entries : List (ℕ × Ref)) (before after : List (Key × ℕ)) (next : ℕ) → AreKnown t0.nodes places entries before next
+      → ((number f r : ℕ) → Contains after (key_of_subst number f, r) → Contains before (key_of_subst number f, r)) → AreKnown t1.nodes places entries after next
+  known_extend places entries before after next known fewer = record {
+    meaning = known.meaning;
+    some = known.some;
+    numbers = λ number. numbers_extend t0.nodes t1.nodes kept.nodes t0.vars table.reduced (known.meaning number) (known.numbers number);
+    placed = known.placed;
+    replaced = λ number f r has. let was = known.replaced number f r (fewer number f r has) in
+        (was.0, is_replaced_extends t0.nodes t1.nodes kept.nodes t0.vars table.reduced (known.meaning number) (known.numbers number) f r was.1);
+  }
+
+  -- and where it has more of one list
+  known_more : (places : List KnownList) (entries : List (ℕ × Ref)) (within after : List (Key × ℕ)) (next : ℕ) (map : List (ℕ × Ref)) (own : ℕ) → IsKnownAs t0.nodes places entries within next map own
+      → RemembersReplaced t1.nodes map own after → AddsPairs (MayAdd own) within after → AreKnown t1.nodes places entries after next
+  known_more places entries within after next map own is memo adds = record {
+    meaning = is.known.meaning;
+    some = is.known.some;
+    numbers = λ number. numbers_extend t0.nodes t1.nodes kept.nodes t0.vars table.reduced (is.known.meaning number) (is.known.numbers number);
+    placed = is.known.placed;
+    replaced = λ number f r has. ⊎_elim
+        (λ (was : Contains within (key_of_subst number f, r)). let old = is.known.replaced number f r was in
+        (old.0, is_replaced_extends t0.nodes t1.nodes kept.nodes t0.vars table.reduced (is.known.meaning number) (is.known.numbers number) f r old.1))
+        (⊎_elim
+        (λ (question : 2 ≡ 0). absurd (omega (arith, question)))
+        (λ (mine : (◌≡◌ {A = ℕ} 2 2) × (number ≡ own)). let same : number ≡ own = mine.1 in
+        (omega (arith, same, is.below), subst (λ (m : List (ℕ × Ref)). IsReplaced t1.nodes m f r) (sym (ap is.known.meaning same ∙ is.means)) (memo f r (subst (λ n. Contains after (key_of_subst n f, r)) same has)))))
+        (adds (key_of_subst number f) r has);
+  }
+
   -- the cache of an `Ops` after each operation
-  module _ (before after : List (Key × ℕ)) (next : ℕ) (cache : IsCacheOf t0 before next) (table1 : IsNodeTable t1) where
-    pub cache_after_answer : Remembers t1.nodes after → AddsPairs IsQuestion before after → IsCacheOf t1 after next
+  module _ (places : List KnownList) (entries : List (ℕ × Ref)) (before after : List (Key × ℕ)) (next : ℕ) (cache : IsCacheOf t0 places entries before next) (table1 : IsNodeTable t1) where
+    pub cache_after_answer : Remembers t1.nodes after → AddsPairs IsQuestion before after → IsCacheOf t1 places entries after next
     cache_after_answer questions adds = record {
       table = table1;
       questions = questions;
       cofactors = cofactors_beside_questions before after t1.nodes adds (cofactors_extend before cache.cofactors);
-      calls = calls_beside_questions before after next adds cache.calls;
+      known = known_extend places entries before after next cache.known (λ number f r has. ⊎_elim
+          (λ (was : Contains before (key_of_subst number f, r)). was)
+          (λ (new : 2 ≡ 0). absurd (omega (arith, new)))
+          (adds (key_of_subst number f) r has));
     }
 
-    pub cache_after_cofactor : RemembersCofactors t1.nodes after → AddsPairs IsFixed before after → IsCacheOf t1 after next
+    pub cache_after_cofactor : RemembersCofactors t1.nodes after → AddsPairs IsFixed before after → IsCacheOf t1 places entries after next
     cache_after_cofactor cofactors adds = record {
       table = table1;
       questions = questions_beside_fixed before after t1.nodes adds (questions_extend before cache.questions);
       cofactors = cofactors;
-      calls = calls_beside_fixed before after next adds cache.calls;
+      known = known_extend places entries before after next cache.known (λ number f r has. ⊎_elim
+          (λ (was : Contains before (key_of_subst number f, r)). was)
+          (λ (new : 2 ≡ 1). absurd (omega (arith, new)))
+          (adds (key_of_subst number f) r has));
     }
 
-  pub cache_after_subst : (before within after : List (Key × ℕ)) (old call next : ℕ) → IsCacheOf t0 before old → IsNodeTable t1
-      → ((key : Key) (value : ℕ) → Contains within (key, value) → Contains before (key, value)) → AreCallsBelow call within → next ≡ call + 1
-      → Remembers t1.nodes after → AddsPairs (MayAdd call) within after → IsCacheOf t1 after next
-  cache_after_subst before within after old call next cache table1 fewer below is questions adds = record {
+  pub cache_after_subst : (places : List KnownList) (entries : List (ℕ × Ref)) (old_places : List KnownList) (old_entries : List (ℕ × Ref)) (before within after : List (Key × ℕ)) (old next : ℕ) (map : List (ℕ × Ref)) (own : ℕ)
+      → IsCacheOf t0 old_places old_entries before old → IsNodeTable t1
+      → ((key : Key) (value : ℕ) → Contains within (key, value) → Contains before (key, value)) → IsKnownAs t0.nodes places entries within next map own
+      → Remembers t1.nodes after → RemembersReplaced t1.nodes map own after → AddsPairs (MayAdd own) within after → IsCacheOf t1 places entries after next
+  cache_after_subst places entries old_places old_entries before within after old next map own cache table1 fewer known questions memo adds = record {
     table = table1;
     questions = questions;
-    cofactors = cofactors_beside_call within after t1.nodes call adds (cofactors_extend within (λ f v b r has. cache.cofactors f v b r (fewer (key_of_cofactor f v b) r has)));
-    calls = subst (λ n. AreCallsBelow n after) (sym is) (calls_after within after call adds below);
+    cofactors = cofactors_beside_call within after t1.nodes own adds (cofactors_extend within (λ f v b r has. cache.cofactors f v b r (fewer (key_of_cofactor f v b) r has)));
+    known = known_more places entries within after next map own known memo adds;
   }
 
-  pub cache_after_node : (pairs : List (Key × ℕ)) (next : ℕ) → IsCacheOf t0 pairs next → IsNodeTable t1 → IsCacheOf t1 pairs next
-  cache_after_node pairs next cache table1 = record {
+  pub cache_after_node : (places : List KnownList) (entries : List (ℕ × Ref)) (pairs : List (Key × ℕ)) (next : ℕ) → IsCacheOf t0 places entries pairs next → IsNodeTable t1 → IsCacheOf t1 places entries pairs next
+  cache_after_node places entries pairs next cache table1 = record {
     table = table1;
     questions = questions_extend pairs cache.questions;
     cofactors = cofactors_extend pairs cache.cofactors;
-    calls = cache.calls;
+    known = known_extend places entries pairs pairs next cache.known (λ number f r has. has);
   }

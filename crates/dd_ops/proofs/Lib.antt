@@ -16,6 +16,7 @@ pub mod GrowthSubst
 pub mod GrowthSubstSteps
 pub mod GrowthTables
 pub mod HalvesLemmas
+pub mod KnownLemmas
 pub mod QuestionLemmas
 pub mod ReplacedLemmas
 pub mod Restated

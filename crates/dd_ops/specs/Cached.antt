@@ -1,10 +1,9 @@
 -- Private: what the cache of an `Ops` holds, by the pairs of its map.
-use Rattle.std.specs.Prelude.{◌≡◌, ℕ, ◌<◌, Bool, List, ◌⊎◌, if◌then◌else◌}
+use Rattle.std.specs.Prelude.{◌≡◌, ℕ, Bool, List, ◌⊎◌, if◌then◌else◌}
 use Rattle.std.specs.List.{Contains}
 use Rattle.dd_cache.specs.declared.key.Key.{Key}
 use Rattle.dd_nodes.specs.declared.node.Node.{Node}
 use Rattle.dd_nodes.specs.declared.node.Ref.{Ref}
-use Rattle.dd_nodes.specs.Table.{NodeTable, IsNodeTable}
 use Rattle.dd_ops.specs.Answers.{IsAnswer, IsCofactor, IsReplaced}
 use Rattle.dd_ops.specs.declared.question.Question.{Question}
 
@@ -50,11 +49,6 @@ abbrev pub RemembersReplaced : List Node → List (ℕ × Ref) → ℕ → List 
 RemembersReplaced nodes map call pairs =
     (f r : ℕ) → Contains pairs (key_of_subst call f, r) → IsReplaced nodes map f r
 
--- the numbers of the calls that have put in a pair are below this one
-abbrev pub AreCallsBelow : ℕ → List (Key × ℕ) → Type 0
-AreCallsBelow next pairs =
-    (call f r : ℕ) → Contains pairs (key_of_subst call f, r) → call < next
-
 -- each pair after was there before, or is of a kind
 abbrev pub AddsPairs : (Key → Type 0) → List (Key × ℕ) → List (Key × ℕ) → Type 0
 AddsPairs IsNew before after =
@@ -66,10 +60,3 @@ abbrev pub AddsPair : Key → ℕ → List (Key × ℕ) → List (Key × ℕ) �
 AddsPair key value before after =
     (k : Key) (v : ℕ) → Contains after (k, v)
     → Contains before (k, v) ⊎ ((k ≡ key) × (v ≡ value))
-
--- each pair means what it says in the table, and no call from this number on has put one in
-pub record IsCacheOf (dd : NodeTable) (pairs : List (Key × ℕ)) (next : ℕ) : Type 0 where
-  pub table : IsNodeTable dd
-  pub questions : Remembers dd.nodes pairs
-  pub cofactors : RemembersCofactors dd.nodes pairs
-  pub calls : AreCallsBelow next pairs

@@ -3,4 +3,5 @@ pub mod Cached
 pub mod Calls
 pub mod Growth
 pub mod GrowthLaws
+pub mod Known
 pub mod Operations

@@ -10,6 +10,7 @@
 mod cofactor;
 mod growth_laws;
 mod ite;
+mod known;
 mod make;
 mod memo;
 mod ops;

@@ -1,13 +1,11 @@
 //! What the operations remember.
 ghost use Rattle.std.specs.Prelude.{◌≡◌, ℕ, ◌+◌, List, IfSome, Contains};
-ghost use Rattle.dd_cache.specs.declared.key.Key.{Key as Asked};
 ghost use Rattle.dd_nodes.specs.declared.node.Node.{Node};
 ghost use Rattle.dd_nodes.specs.declared.node.Ref.{Ref as Number};
 ghost use Rattle.dd_ops.specs.Answers.{IsAnswer, IsCofactor, IsReplaced};
 ghost use Rattle.dd_ops.specs.Cached.{key_of_question, key_of_cofactor, key_of_subst};
 ghost use Rattle.dd_ops.specs.Cached.{IsQuestion, IsFixed, IsOfCall, AddsPair, AddsPairs};
 ghost use Rattle.dd_ops.specs.Cached.{Remembers, RemembersCofactors, RemembersReplaced};
-ghost use Rattle.dd_ops.specs.Cached.{AreCallsBelow};
 
 use crate::question::Question;
 use dd_cache::{Cache, Key};
@@ -49,7 +47,7 @@ pub fn remember_cofactor(cache: &mut Cache, f: Ref, v: u32, value: bool, r: Ref)
     remember(cache, cofactor_key(f, v, value), r);
 }
 
-/// The number of `f` with the variables replaced that a call lists, if the call remembers it.
+/// The remembered number of `f` with the variables replaced that the list with a number has.
 pub fn recall_replaced(cache: &mut Cache, call: u64, f: Ref) -> Option<Ref>
     ensures answer { IfSome result (λ r. (nodes : List Node) (map : List (ℕ × Number))
         → RemembersReplaced nodes map call cache.old.pairs → IsReplaced nodes map f.0 r.0) }
@@ -58,7 +56,7 @@ pub fn recall_replaced(cache: &mut Cache, call: u64, f: Ref) -> Option<Ref>
     recall(cache, subst_key(call, f))
 }
 
-/// Remembers the number of `f` with the variables replaced that a call lists.
+/// Remembers the number of `f` with the variables replaced that the list with a number has.
 pub fn remember_replaced(cache: &mut Cache, call: u64, f: Ref, r: Ref)
     ensures kept { (nodes : List Node) (map : List (ℕ × Number))
         → RemembersReplaced nodes map call cache.old.pairs → IsReplaced nodes map f.0 r.0
@@ -66,25 +64,6 @@ pub fn remember_replaced(cache: &mut Cache, call: u64, f: Ref, r: Ref)
     ensures others { AddsPairs (IsOfCall call) cache.old.pairs cache.new.pairs }
 {
     remember(cache, subst_key(call, f), r);
-}
-
-/// The number of a new call. Where the numbers are used up, the cache forgets what it has, and they
-/// begin again at 1.
-pub fn next_call(cache: &mut Cache, next: &mut u64) -> u64
-    requires calls { AreCallsBelow next.old cache.old.pairs }
-    ensures calls { AreCallsBelow result cache.new.pairs }
-    ensures next { next.new ≡ result + 1 }
-    ensures within { (key : Asked) (value : ℕ) → Contains cache.new.pairs (key, value)
-        → Contains cache.old.pairs (key, value) }
-{
-    if *next == u64::MAX {
-        cache.forget();
-        *next = 2;
-        return 1;
-    }
-    let call = *next;
-    *next = call + 1;
-    call
 }
 
 /// The key of a question.
@@ -113,7 +92,7 @@ fn cofactor_key(f: Ref, v: u32, value: bool) -> Key
     }
 }
 
-/// The key of `f` with the variables replaced that a call lists.
+/// The key of `f` with the variables replaced that the list with a number has.
 fn subst_key(call: u64, f: Ref) -> Key
     ensures { result ≡ key_of_subst call f.0 }
 {

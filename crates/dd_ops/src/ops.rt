@@ -11,7 +11,7 @@ ghost use Rattle.dd_ops.specs.Operations.{cofactor_of, subst_of};
 
 use crate::cofactor::fix;
 use crate::ite::answer;
-use crate::memo::next_call;
+use crate::known::{KnownLists, number_of};
 use crate::question::Question;
 use crate::subst::substitute;
 use dd_cache::Cache;
@@ -27,13 +27,15 @@ use std::marker::Model;
 /// takes all memory, and no other call wants any.
 ///
 /// A cache keeps what the operations have answered, for later calls too. What it has for an
-/// if-then-else or a cofactor is true in the table at any time; what it has for a substitution
-/// belongs to one call, which has a number of its own.
+/// if-then-else or a cofactor is true in the table at any time; what it has for a substitution belongs
+/// to a list of replacements, which has a number of its own, so that a later call with the same list
+/// finds it.
 #[derive(Drop)]
 pub struct Ops {
     dd: Dd,
     cache: Cache,
-    /// The number of the next substitution.
+    known: KnownLists,
+    /// The next number of a list of replacements.
     next: u64,
 }
 
@@ -42,11 +44,12 @@ impl Model for Ops {
 
     ghost Value = { NodeTable };
 
-    ghost use Rattle.dd_ops.specs.Cached.{IsCacheOf};
+    ghost use Rattle.dd_ops.specs.Known.{IsCacheOf};
 
     ghost view = { λ ops. ops.dd };
 
-    ghost invariant = { λ ops. IsCacheOf ops.dd ops.cache.pairs ops.next };
+    ghost invariant = { λ ops. IsCacheOf ops.dd ops.known.places.items
+        ops.known.entries.items ops.cache.pairs ops.next };
 }
 
 impl Ops {
@@ -63,6 +66,7 @@ impl Ops {
         Ok(Ops {
             dd: Dd::new(alloc, vars, limit)?,
             cache: Cache::new(alloc, limit)?,
+            known: KnownLists::new(alloc)?,
             next: 1,
         })
     }
@@ -83,7 +87,8 @@ impl Ops {
     }
 
     /// Keeps only the nodes that are reached from the roots, in their order, and gives each root its
-    /// new number. The cache forgets what it has, as its numbers are those of before.
+    /// new number. The cache and the lists of replacements are forgotten, as their
+    /// numbers are those of before.
     pub fn collect(&mut self, roots: &mut Vec<Ref>)
         requires roots { All (λ (r : Number). IsNumber self.old.nodes r.0) roots.old.items }
         ensures vars { self.new.vars ≡ self.old.vars }
@@ -92,6 +97,7 @@ impl Ops {
         ensures roots { Collected self.old.nodes self.new.nodes roots.old.items roots.new.items }
     {
         self.cache.forget();
+        self.known.forget();
         self.dd.collect(roots);
     }
 
@@ -195,7 +201,7 @@ impl Ops {
         ensures grows { Grows (pieces_of_subst self.old.vars self.old.nodes map.now f.0)
             self.old self.new result }
     {
-        let call = next_call(&mut self.cache, &mut self.next);
-        substitute(&mut self.dd, &mut self.cache, call, f, map)
+        let number = number_of(&mut self.known, &mut self.cache, &mut self.next, map);
+        substitute(&mut self.dd, &mut self.cache, number, f, map)
     }
 }

@@ -5,7 +5,7 @@ ghost use Rattle.dd_nodes.specs.NodeList.{Values, IsNumber, node_at, function, S
 ghost use Rattle.dd_nodes.specs.Table.{IsNodeTable};
 ghost use Rattle.dd_ops.specs.Answers.{Follows, IsIndexed, IsReplaced};
 ghost use Rattle.dd_ops.specs.Answers.{IsFullFor, pieces_of_variable, Keeps};
-ghost use Rattle.dd_ops.specs.Cached.{Remembers, RemembersReplaced, AreCallsBelow};
+ghost use Rattle.dd_ops.specs.Cached.{Remembers, RemembersReplaced};
 ghost use Rattle.dd_ops.specs.Cached.{IsQuestion, MayAdd, AddsPairs};
 ghost use Rattle.dd_ops.specs.Growth.{AddsParts, pieces_of_subst};
 ghost use Rattle.dd_ops.specs.Operations.{listed, replaced};
@@ -18,8 +18,8 @@ use crate::replacements::{Replacements, end_of, variable_of};
 use dd_cache::Cache;
 use dd_nodes::{Dd, DdErr, Node, Ref};
 
-/// The number of `f` with each variable of `map` replaced by its function. The call has a number
-/// from which on no call has put anything into the cache.
+/// The number of `f` with each variable of `map` replaced by its function. Under the number of the list
+/// the cache has what calls with the same list have replaced.
 pub fn substitute(
     dd: &mut Dd,
     cache: &mut Cache,
@@ -31,11 +31,12 @@ pub fn substitute(
     requires number { IsNumber dd.old.nodes f.0 }
     requires map { All (λ entry. IsNumber dd.old.nodes entry.1.0) map.now }
     requires questions { Remembers dd.old.nodes cache.old.pairs }
-    requires calls { AreCallsBelow call cache.old.pairs }
+    requires memo { RemembersReplaced dd.old.nodes map.now call cache.old.pairs }
     ensures answer { IfOk result (λ r. IsReplaced dd.new.nodes map.now f.0 r.0) }
     ensures kept { Keeps dd.old dd.new }
     ensures table { IsNodeTable dd.new }
     ensures questions { Remembers dd.new.nodes cache.new.pairs }
+    ensures memo { RemembersReplaced dd.new.nodes map.now call cache.new.pairs }
     ensures others { AddsPairs (MayAdd call) cache.old.pairs cache.new.pairs }
     ensures adds { AddsParts dd.old.vars (pieces_of_subst dd.old.vars dd.old.nodes map.now f.0)
         dd.old.nodes dd.new.nodes }
@@ -46,6 +47,9 @@ pub fn substitute(
     let end = end_of(dd, map);
     if end <= level(dd, f) {
         return Ok(f);
+    }
+    if let Some(r) = recall_replaced(cache, call, f) {
+        return Ok(r);
     }
     let images = Replacements::new(map, end);
     replace(dd, cache, call, f, &images)

@@ -144,7 +144,7 @@ impl Sets {
         requires { AllLive self.now map.now }
         ensures { IfOk result (λ numbers. AreRefs self.now map.now numbers.items) }
     {
-        let mut numbers = Vec::new(self.alloc);
+        let mut numbers = Vec::with_capacity(self.alloc, map.len())?;
         for entry in map {
             numbers.push((self.order.variable(entry.0.0), self.number(entry.1)))?;
         }

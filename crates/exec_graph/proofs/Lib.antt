@@ -9,9 +9,10 @@ pub mod Lengths
 pub mod DenotedPairs
 pub mod RuleMoves
 pub mod RuleLists
-pub mod Numbering
 pub mod Reaching
 pub mod Searching
+pub mod Listing
+pub mod Grown
 pub mod Visits
 pub mod Taken
 pub mod Skipped

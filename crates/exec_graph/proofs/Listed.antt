@@ -26,6 +26,9 @@ add_cases P xs x there new =
       | false ↦ λ e. new (λ c. true≢false (sym (list_any-from (same_configuration x) xs x c (same_configuration_refl x)) ∙ e))
     ] refl
 
+pub added_same : (xs : List Configuration) (x : Configuration) → Contains xs x → add_configuration xs x ≡ xs
+added_same xs x c = add_cases (λ ys. ys ≡ xs) xs x (λ _. refl) (λ new. absurd (new c))
+
 pub added_has : (xs : List Configuration) (x : Configuration) → Contains (add_configuration xs x) x
 added_has xs x = add_cases (λ ys. Contains ys x) xs x (λ c. c) (λ _. Contains-append_right xs (x ∷ []) x (Contains-head x []))
 

@@ -12,7 +12,7 @@ use Rattle.plan_rules.specs.Denoted.{can_execute}
 use Rattle.plan_rules.specs.Rules.{PlanRule, always}
 use Rattle.exec_graph.specs.Counting.{HasTaken, HaveTaken, Moved, add_configuration, advised_in_table, onward_to, with_outcome, with_rule, with_table_rule}
 use Rattle.exec_graph.proofs.Lists.{Contains-head, Contains-cons}
-use Rattle.exec_graph.proofs.Listed.{add_cases}
+use Rattle.exec_graph.proofs.Listed.{added_same}
 use Rattle.exec_graph.proofs.RuleMoves.{next_rule, or_false, rule_refused}
 
 in_first : Vector → Configuration
@@ -20,9 +20,6 @@ in_first t = record { state = t; context = first_context }
 
 abbrev advised : ℕ → Advised
 advised action = record { action = action; next = always first_context }
-
-added_same : (xs : List Configuration) (x : Configuration) → Contains xs x → add_configuration xs x ≡ xs
-added_same xs x c = add_cases (λ ys. ys ≡ xs) xs x (λ _. refl) (λ new. absurd (new c))
 
 one_same : (m : Moved) (t : Vector) → Contains m.next (record { state = t; context = first_context }) → with_outcome (always first_context) m t ≡ m
 one_same m t c =

@@ -1,6 +1,6 @@
 -- Private: a graph that is being made. The configurations that were found are numbered in the order
 -- in which they were found. The first of them were visited: their followers were found too.
-use Rattle.std.specs.Prelude.{◌≡◌, ◌≢◌, ◌↔◌, ◌≤◌, ◌<◌, ◌||◌, ℕ, Bool, IsTrue, List, [], ◌∷◌, ◌++◌}
+use Rattle.std.specs.Prelude.{◌≡◌, ◌≢◌, ◌↔◌, ◌≤◌, ◌<◌, ◌+◌, ◌||◌, ℕ, Bool, IsTrue, List, [], ◌∷◌, ◌++◌}
 use Rattle.std.specs.Prelude.{length, map, slice_get, Some}
 use Rattle.std.specs.List.{All, AllPairs, Contains, fold}
 use Rattle.task_core.specs.Vectors.{Vector}
@@ -11,8 +11,8 @@ use Rattle.task_core.specs.declared.states.State.{State}
 use Rattle.plan_rules.specs.Rules.{PlainPlan}
 use Rattle.exec_graph.specs.Counting.{add_configuration, moves_from}
 use Rattle.exec_graph.specs.Executions.{GoesTo, IsReachedBy, IsStuckAt, IsUnexecutableAt}
-use Rattle.exec_graph.specs.Moves.{IsPlaceWithin, configuration_of}
-use Rattle.exec_graph.specs.Rows.{rows_of}
+use Rattle.exec_graph.specs.Moves.{IsBeforeVisit, found_by}
+use Rattle.exec_graph.specs.Rows.{row_count, rows_of}
 use Rattle.exec_graph.specs.declared.exploration.Draft.{Draft}
 
 -- Private: a state in the first context
@@ -30,17 +30,17 @@ pub record PlainDraft : Type 0 where
   pub unexecutable : Bool
   pub stuck : Bool
 
--- Private: a draft over n fluents, and that no state in it has a true fluent from n on
+-- Private: a draft over n fluents, and what is known of it before the next visit
 abbrev pub draft_value : ℕ → Draft → PlainDraft
 draft_value n draft = record {
-  found = map (configuration_of n) draft.places.keys;
+  found = found_by n draft.moves;
   next = rows_of draft.next;
   unexecutable = draft.unexecutable;
   stuck = draft.stuck;
 }
 
 abbrev pub IsDraftWithin : ℕ → Draft → Type 0
-IsDraftWithin n draft = All (IsPlaceWithin n) draft.places.keys
+IsDraftWithin n draft = IsBeforeVisit n (row_count draft.next + 1) draft.moves
 
 -- Private: these places got these numbers in the list of those that were found, which has grown by
 -- them

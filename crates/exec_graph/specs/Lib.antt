@@ -6,4 +6,5 @@ pub mod Counting
 pub mod ByContext
 pub mod Moves
 pub mod Drafts
+pub mod Numbers
 pub mod Rows

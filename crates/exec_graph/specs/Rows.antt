@@ -3,6 +3,7 @@
 use Rattle.std.specs.Prelude.{◌≡◌, ◌<◌, ◌≤◌, ◌+◌, ◌-◌, ◌==◌, ℕ, zero, suc, List, [], ◌∷◌, ◌++◌}
 use Rattle.std.specs.Prelude.{length, map, take, drop, slice_index_or, sum}
 use Rattle.std.specs.List.{Contains, filter}
+use Rattle.exec_graph.specs.Numbers.{numbers_of}
 use Rattle.exec_graph.specs.declared.rows.Rows.{Rows}
 
 -- Private: the list of a place. `starts` says where each begins, and then where the last ends.
@@ -22,13 +23,13 @@ pub record IsRowed (starts numbers : List ℕ) : Type 0 where
 
 -- Private: the list of a place, and how many lists there are
 abbrev pub row_of : Rows → ℕ → List ℕ
-row_of rows = row_at rows.starts.items rows.numbers.items
+row_of rows = row_at rows.starts.items (numbers_of rows.numbers)
 
 abbrev pub row_count : Rows → ℕ
 row_count rows = length rows.starts.items - 1
 
 abbrev pub AreRows : Rows → Type 0
-AreRows rows = IsRowed rows.starts.items rows.numbers.items
+AreRows rows = IsRowed rows.starts.items (numbers_of rows.numbers)
 
 -- Private: no list has more numbers than there may be configurations
 abbrev pub HasShortRows : Rows → Type 0

@@ -5,6 +5,7 @@ ghost use Rattle.std.specs.Prelude.{
   ◌<◌,
   ◌≤◌,
   ◌+◌,
+  ◌^◌,
   ℕ,
   All,
   IfOk,
@@ -17,10 +18,8 @@ ghost use Rattle.std.specs.Prelude.{
   ◌||◌,
   length,
   map,
-  slice_get,
-  Some,
 };
-ghost use Rattle.std.specs.List.{fold};
+ghost use Rattle.std.specs.List.{Contains, fold};
 ghost use Rattle.task_core.specs.States.{IsWithin, vector};
 ghost use Rattle.task_core.specs.Tasks.{action_count, fluent_count, system_of};
 ghost use Rattle.plan_rules.specs.Plans.{IsPlanOf};
@@ -30,7 +29,6 @@ ghost use Rattle.exec_graph.specs.Counting.{add_configuration};
 ghost use Rattle.exec_graph.specs.Drafts.{
   HasTooMany,
   IsDraftWithin,
-  IsNumbered,
   IsSearched,
   IsVisit,
   beginnings,
@@ -39,12 +37,13 @@ ghost use Rattle.exec_graph.specs.Drafts.{
 ghost use Rattle.exec_graph.specs.Executions.{ReachesMoreThan};
 ghost use Rattle.exec_graph.specs.Graphs.{IsGraphOf};
 ghost use Rattle.exec_graph.specs.Initials.{HasTooManyInitial};
-ghost use Rattle.exec_graph.specs.Moves.{IsPlaceWithin, configuration_of};
+ghost use Rattle.exec_graph.specs.Moves.{IsBeforeVisit, IsPlaceWithin, configuration_of, found_by};
+ghost use Rattle.exec_graph.specs.Numbers.{numbers_of};
 ghost use Rattle.exec_graph.specs.Rows.{AreRows, HasShortRows, row_count, rows_of};
 ghost use Rattle.exec_graph.specs.Values.{IsWithinFluents, plain_graph};
 
 use crate::graphs::{Graph, Place};
-use crate::moves::{moves_of, number_of};
+use crate::moves::{Moves, number_of};
 use crate::rows::{Rows, turned};
 use crate::rules::{ByContext, RuleIndex, by_context, table_index};
 use cube_index::CubeIndex;
@@ -86,7 +85,7 @@ impl From<AllocError> for GraphErr {
 /// found, and for each of the first of them, which were visited, the numbers of those that follow.
 #[derive(Drop)]
 pub(crate) struct Draft {
-    pub(crate) places: IndexSet<Place>,
+    pub(crate) moves: Moves,
     pub(crate) next: Rows,
     pub(crate) unexecutable: bool,
     pub(crate) stuck: bool,
@@ -118,7 +117,7 @@ pub fn explore(alloc: Global, task: &Task, plan: &Plan) -> Result<Graph, GraphEr
     let states = initial_states(alloc, task)?;
     let index = index_of(alloc, task, plan)?;
     let mut draft = Draft {
-        places: first_places(alloc, &states)?,
+        moves: first_moves(alloc, task, &states)?,
         next: Rows::new(alloc)?,
         unexecutable: false,
         stuck: false,
@@ -141,20 +140,20 @@ impl Draft {
         requires index { IsRuleIndexOf plan.now index.now }
         requires rows { AreRows self.old.next }
         requires within { IsDraftWithin (fluent_count task.now) self.old }
-        requires few { length self.old.places.keys ≤ 262144 }
+        requires few { length self.old.moves.places.keys ≤ 262144 }
         requires searched { IsSearched (system_of task.now) (plain_of plan.now)
             (draft_value (fluent_count task.now) self.old) }
         ensures searched { OnOk result (IsSearched (system_of task.now) (plain_of plan.now)
             (draft_value (fluent_count task.now) self.new)) }
         ensures rows { OnOk result (AreRows self.new.next) }
-        ensures whole { OnOk result (row_count self.new.next ≡ length self.new.places.keys) }
+        ensures whole { OnOk result (row_count self.new.next ≡ length self.new.moves.places.keys) }
         ensures within { OnOk result (IsDraftWithin (fluent_count task.now) self.new) }
-        ensures few { OnOk result (length self.new.places.keys ≤ 262144) }
+        ensures few { OnOk result (length self.new.moves.places.keys ≤ 262144) }
         ensures too_large { IsErrOf result GraphErr.TooLarge
             → ReachesMoreThan (system_of task.now) (plain_of plan.now) 262144 }
         ensures not_initial { IsErrOf result GraphErr.Initial → ⊥ }
     {
-        while self.next.len() < self.places.len() {
+        while self.next.len() < self.moves.places.len() {
             self.visit_next(alloc, task, plan, index)?;
         }
         Ok(())
@@ -172,56 +171,61 @@ impl Draft {
         requires index { IsRuleIndexOf plan.now index.now }
         requires rows { AreRows self.old.next }
         requires within { IsDraftWithin (fluent_count task.now) self.old }
-        requires few { length self.old.places.keys ≤ 262144 }
-        requires left { row_count self.old.next < length self.old.places.keys }
+        requires few { length self.old.moves.places.keys ≤ 262144 }
+        requires left { row_count self.old.next < length self.old.moves.places.keys }
         ensures visit { let n = fluent_count task.now in OnOk result
             (IsVisit (system_of task.now) (plain_of plan.now)
             (draft_value n self.old) (draft_value n self.new)) }
         ensures count { OnOk result (row_count self.new.next ≡ row_count self.old.next + 1) }
         ensures rows { OnOk result (AreRows self.new.next) }
         ensures within { OnOk result (IsDraftWithin (fluent_count task.now) self.new) }
-        ensures few { OnOk result (length self.new.places.keys ≤ 262144) }
+        ensures few { OnOk result (length self.new.moves.places.keys ≤ 262144) }
         ensures too_large { IsErrOf result GraphErr.TooLarge
             → HasTooMany (system_of task.now) (plain_of plan.now) 262144
             (draft_value (fluent_count task.now) self.old) }
         ensures not_initial { IsErrOf result GraphErr.Initial → ⊥ }
     {
-        let place = self.places[self.next.len()];
-        let moves = moves_of(alloc, task, plan, index, &place)?;
-        let numbers = numbers_of(alloc, &mut self.places, moves.next.as_slice())?;
-        self.note(&numbers, moves.refused, moves.lost)?;
+        let number = self.next.len();
+        let place = self.moves.places[number];
+        self.moves
+            .visit(alloc, task, plan, index, &place, number + 1)?;
+        check_count(&self.moves.places)?;
+        self.note()?;
         Ok(())
     }
 
     /// Notes what was found of the configuration that is being visited.
-    fn note(&mut self, numbers: &[u32], refused: bool, lost: bool) -> Result<(), AllocError>
-        requires { AreRows self.old.next }
-        ensures places { OnOk result (self.new.places ≡ self.old.places) }
+    fn note(&mut self) -> Result<(), AllocError>
+        requires rows { AreRows self.old.next }
+        requires small { (k : ℕ) → Contains self.old.moves.numbers.items k → k < 2 ^ 32 }
+        ensures moves { OnOk result (self.new.moves ≡ self.old.moves) }
         ensures rows { OnOk result (AreRows self.new.next) }
-        ensures next { OnOk result
-            (rows_of self.new.next ≡ rows_of self.old.next ++ numbers.now ∷ []) }
+        ensures next { OnOk result (rows_of self.new.next
+            ≡ rows_of self.old.next ++ self.old.moves.numbers.items ∷ []) }
         ensures count { OnOk result (row_count self.new.next ≡ row_count self.old.next + 1) }
         ensures unexecutable { OnOk result
-            (self.new.unexecutable ≡ (self.old.unexecutable || refused)) }
-        ensures stuck { OnOk result (self.new.stuck ≡ (self.old.stuck || lost)) }
+            (self.new.unexecutable ≡ (self.old.unexecutable || self.old.moves.refused)) }
+        ensures stuck { OnOk result
+            (self.new.stuck ≡ (self.old.stuck || self.old.moves.lost)) }
     {
-        self.next.push(numbers)?;
-        self.unexecutable = self.unexecutable || refused;
-        self.stuck = self.stuck || lost;
+        self.next.push(&self.moves.numbers)?;
+        self.unexecutable = self.unexecutable || self.moves.refused;
+        self.stuck = self.stuck || self.moves.lost;
         Ok(())
     }
 
     /// The graph, of which so many configurations are initial.
     fn into_graph(self, prev: Rows, initials: usize) -> Graph
-        requires few { length self.places.keys ≤ 262144 }
+        requires few { length self.moves.places.keys ≤ 262144 }
         requires next { AreRows self.next }
-        requires each_has_next { row_count self.next ≡ length self.places.keys }
+        requires each_has_next { row_count self.next ≡ length self.moves.places.keys }
         requires next_short { HasShortRows self.next }
         requires prev { AreRows prev }
-        requires each_has_prev { row_count prev ≡ length self.places.keys }
+        requires each_has_prev { row_count prev ≡ length self.moves.places.keys }
         requires prev_short { HasShortRows prev }
-        requires even { length prev.numbers.items ≡ length self.next.numbers.items }
-        ensures places { result.places.keys ≡ self.places.keys }
+        requires even { length (numbers_of prev.numbers)
+            ≡ length (numbers_of self.next.numbers) }
+        ensures places { result.places.keys ≡ self.moves.places.keys }
         ensures initials { result.initials ≡ initials }
         ensures next { result.next ≡ self.next }
         ensures prev { result.prev ≡ prev }
@@ -229,11 +233,12 @@ impl Draft {
         ensures stuck { result.stuck ≡ self.stuck }
     {
         let Draft {
-            places,
+            moves,
             next,
             unexecutable,
             stuck,
         } = self;
+        let places = moves.into_places();
         Graph {
             places,
             initials,
@@ -282,6 +287,20 @@ fn index_of<'a>(alloc: Global, task: &Task, plan: &'a Plan) -> Result<RuleIndex<
     }
 }
 
+/// The configurations in which a plan may begin, before the first visit.
+fn first_moves(alloc: Global, task: &Task, states: &[State]) -> Result<Moves, AllocError>
+    requires { All (IsWithin (fluent_count task.now)) states.now }
+    ensures list { let n = fluent_count task.now in IfOk result (λ moves. found_by n moves
+        ≡ fold add_configuration [] (beginnings n states.now)) }
+    ensures before { IfOk result (IsBeforeVisit (fluent_count task.now) 1) }
+{
+    // The task is read for its bound on fluents alone.
+    let _bound = task.fluents.len();
+    let places = first_places(alloc, states)?;
+    let moves = Moves::new(alloc, places)?;
+    Ok(moves)
+}
+
 /// The configurations in which a plan may begin.
 fn first_places(alloc: Global, states: &[State]) -> Result<IndexSet<Place>, AllocError>
     ensures list { IfOk result (λ places. (n : ℕ) → All (IsWithin n) states.now
@@ -303,64 +322,14 @@ fn first_places(alloc: Global, states: &[State]) -> Result<IndexSet<Place>, Allo
     Ok(places)
 }
 
-/// The numbers of configurations among those that were found, to which they are added.
-fn numbers_of(
-    alloc: Global,
-    found: &mut IndexSet<Place>,
-    places: &[Place],
-) -> Result<Vec<u32>, GraphErr>
-    requires few { length found.old.keys ≤ 262144 }
-    ensures numbered { IfOk result (λ numbers. (n : ℕ) → All (IsPlaceWithin n) found.old.keys
-        → All (IsPlaceWithin n) places.now → IsNumbered (map (configuration_of n) found.old.keys)
-        (map (configuration_of n) places.now) (map (configuration_of n) found.new.keys)
-        numbers.items) }
-    ensures within { OnOk result ((n : ℕ) → All (IsPlaceWithin n) found.old.keys
-        → All (IsPlaceWithin n) places.now → All (IsPlaceWithin n) found.new.keys) }
-    ensures few { OnOk result (length found.new.keys ≤ 262144) }
-    ensures too_large { IsErrOf result GraphErr.TooLarge → (n : ℕ)
-        → All (IsPlaceWithin n) found.old.keys → All (IsPlaceWithin n) places.now
-        → 262144 < length (fold add_configuration (map (configuration_of n) found.old.keys)
-        (map (configuration_of n) places.now)) }
+/// Refuses more configurations than a graph may have.
+fn check_count(places: &IndexSet<Place>) -> Result<(), GraphErr>
+    ensures few { OnOk result (length places.now.keys ≤ 262144) }
+    ensures too_large { IsErrOf result GraphErr.TooLarge → 262144 < length places.now.keys }
     ensures not_initial { IsErrOf result GraphErr.Initial → ⊥ }
 {
-    let mut numbers = Vec::new(alloc);
-    for place in places {
-        let number = limited_number(found, *place)?;
-        push_number(&mut numbers, number)?;
-    }
-    Ok(numbers)
-}
-
-/// Adds a number to a list of them.
-fn push_number(numbers: &mut Vec<u32>, number: u32) -> Result<(), AllocError>
-    ensures { OnOk result (numbers.new.items ≡ numbers.old.items ++ number ∷ []) }
-{
-    numbers.push(number)?;
-    Ok(())
-}
-
-/// The number of a configuration among those that were found, to which it is added.
-fn limited_number(found: &mut IndexSet<Place>, place: Place) -> Result<u32, GraphErr>
-    requires few { length found.old.keys ≤ 262144 }
-    ensures added { OnOk result ((n : ℕ) → IsPlaceWithin n place
-        → All (IsPlaceWithin n) found.old.keys → map (configuration_of n) found.new.keys
-        ≡ add_configuration (map (configuration_of n) found.old.keys) (configuration_of n place)) }
-    ensures within { OnOk result ((n : ℕ) → IsPlaceWithin n place
-        → All (IsPlaceWithin n) found.old.keys → All (IsPlaceWithin n) found.new.keys) }
-    ensures number { IfOk result (λ i. (n : ℕ) → IsPlaceWithin n place
-        → All (IsPlaceWithin n) found.old.keys
-        → slice_get (map (configuration_of n) found.new.keys) i
-        ≡ Some (configuration_of n place)) }
-    ensures few { OnOk result (length found.new.keys ≤ 262144) }
-    ensures too_large { IsErrOf result GraphErr.TooLarge → (n : ℕ) → IsPlaceWithin n place
-        → All (IsPlaceWithin n) found.old.keys
-        → 262144 < length (add_configuration (map (configuration_of n) found.old.keys)
-        (configuration_of n place)) }
-    ensures not_initial { IsErrOf result GraphErr.Initial → ⊥ }
-{
-    let number = number_of(found, place)?;
-    if found.len() > MAX_CONFIGURATIONS {
+    if places.len() > MAX_CONFIGURATIONS {
         return Err(GraphErr::TooLarge);
     }
-    Ok(number as u32)
+    Ok(())
 }

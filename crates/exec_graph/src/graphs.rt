@@ -1,6 +1,7 @@
 //! Graphs of plans.
 
 ghost use Rattle.std.specs.Prelude.{◌≡◌, ◌<◌, ◌≤◌, ◌+◌, ℕ, IsTrue, length, slice_index};
+ghost use Rattle.exec_graph.specs.Numbers.{numbers_of};
 ghost use Rattle.exec_graph.specs.Rows.{HasShortRows, IsRowed};
 
 use crate::rows::Rows;
@@ -29,13 +30,13 @@ pub struct Graph {
     pub(crate) unexecutable: bool,
     pub(crate) stuck: bool,
     pub(crate) ghost few: { length places.keys ≤ 262144 },
-    pub(crate) ghost next_rows: { IsRowed next.starts.items next.numbers.items },
+    pub(crate) ghost next_rows: { IsRowed next.starts.items (numbers_of next.numbers) },
     pub(crate) ghost each_has_next: { length next.starts.items ≡ length places.keys + 1 },
     pub(crate) ghost next_short: { HasShortRows next },
-    pub(crate) ghost prev_rows: { IsRowed prev.starts.items prev.numbers.items },
+    pub(crate) ghost prev_rows: { IsRowed prev.starts.items (numbers_of prev.numbers) },
     pub(crate) ghost each_has_prev: { length prev.starts.items ≡ length places.keys + 1 },
     pub(crate) ghost prev_short: { HasShortRows prev },
-    pub(crate) ghost even: { length prev.numbers.items ≡ length next.numbers.items },
+    pub(crate) ghost even: { length (numbers_of prev.numbers) ≡ length (numbers_of next.numbers) },
 }
 
 impl Graph {
@@ -91,7 +92,7 @@ impl Graph {
         requires { i < graph_size self.now }
         ensures { result ≡ length (followers_at self.now i) }
     {
-        self.next.row(i as usize).len() as u32
+        self.next.row_len(i as usize) as u32
     }
 
     /// How many configurations the one of this number may follow: at most 262,144. To ask takes no
@@ -100,7 +101,7 @@ impl Graph {
         requires { i < graph_size self.now }
         ensures { result ≡ length (predecessors_at self.now i) }
     {
-        self.prev.row(i as usize).len() as u32
+        self.prev.row_len(i as usize) as u32
     }
 
     /// The number of the configuration at place `k` of those that may follow the one of this
@@ -112,7 +113,7 @@ impl Graph {
         ensures step { steps.new ≡ steps.old + 1 }
     {
         steps.tick();
-        self.next.row(i as usize)[k as usize]
+        self.next.number(i as usize, k as usize)
     }
 
     /// The number of the configuration at place `k` of those that the one of this number may
@@ -124,7 +125,7 @@ impl Graph {
         ensures step { steps.new ≡ steps.old + 1 }
     {
         steps.tick();
-        self.prev.row(i as usize)[k as usize]
+        self.prev.number(i as usize, k as usize)
     }
 
     /// How many edges there are: as many lead on from the configurations as lead to them.

@@ -10,6 +10,7 @@
 mod exploration;
 mod graphs;
 mod moves;
+mod numbers;
 mod rows;
 mod rules;
 mod steps;

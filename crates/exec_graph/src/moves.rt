@@ -1,9 +1,16 @@
-//! The moves from one configuration.
+//! The moves from one configuration to the next ones, among those that were found.
 
 ghost use Rattle.std.specs.Prelude.{
   ◌≡◌,
+  ◌≢◌,
   ◌<◌,
+  ◌≤◌,
+  ◌==◌,
   ◌||◌,
+  ◌++◌,
+  ◌∷◌,
+  if◌then◌else◌,
+  [],
   ℕ,
   All,
   false,
@@ -19,7 +26,7 @@ ghost use Rattle.std.specs.Prelude.{
   slice_index_or,
   Some,
 };
-ghost use Rattle.std.specs.List.{filter, fold};
+ghost use Rattle.std.specs.List.{AllPairs, filter, fold};
 ghost use Rattle.std.specs.Option.{option_map};
 ghost use Rattle.task_core.specs.States.{IsWithin, vector};
 ghost use Rattle.task_core.specs.Systems.{Exec};
@@ -37,9 +44,20 @@ ghost use Rattle.cube_index.specs.Index.{IsIndexOf};
 ghost use Rattle.exec_graph.specs.ByContext.{IsRuleIndexOf, cubes_of};
 ghost use Rattle.exec_graph.specs.Counting.{HaveTaken, add_configuration, moves_by, moves_from, moves_in_table, no_moves, with_if_state, with_outcome, with_rule, with_table_rule};
 ghost use Rattle.plan_rules.specs.Advices.{AreCasesOf, IsAdviceOf, advice_value, onward_value};
-ghost use Rattle.exec_graph.specs.Moves.{AreWithin, IsPlaceWithin, configuration_of, moves_value};
+ghost use Rattle.exec_graph.specs.Moves.{
+  AreMoves,
+  HasGrown,
+  IsBeforeVisit,
+  IsMarkedAt,
+  IsPlaceWithin,
+  configuration_of,
+  found_by,
+  moves_value,
+  with_configuration,
+};
 
 use crate::graphs::Place;
+use crate::rows::zeros;
 use crate::rules::{RuleIndex, next_rule};
 use cube_index::CubeIndex;
 use indexmap::IndexSet;
@@ -47,26 +65,170 @@ use plan_rules::{Advice, FIRST_CONTEXT, Onward, Plan, Rule, context_in, has_all}
 use std::alloc::{AllocError, Global};
 use task_core::{ActionId, State, Task, in_space, is_exec, step};
 
-/// The moves from a configuration: those that follow it, each once, whether a rule that counts has
-/// an action that can't be executed, and whether the plan doesn't go on.
+/// The configurations that were found, numbered in the order in which they were found, and the
+/// moves from the one that is being visited: the numbers of those that follow it, each once,
+/// whether a rule that counts has an action that can't be executed, and whether the plan doesn't go
+/// on.
 #[derive(Drop)]
 pub(crate) struct Moves {
-    pub(crate) next: IndexSet<Place>,
+    pub(crate) places: IndexSet<Place>,
+    // For each number the visit in which it was listed last; visits count from 1.
+    pub(crate) marks: Vec<usize>,
+    pub(crate) visit: usize,
+    pub(crate) numbers: Vec<usize>,
     pub(crate) refused: bool,
     pub(crate) lost: bool,
 }
 
 impl Moves {
-    /// No moves yet.
-    pub(crate) fn none(alloc: Global, lost: bool) -> Moves
-        ensures value { (n : ℕ) → moves_value n result ≡ no_moves lost }
-        ensures within { (n : ℕ) → AreWithin n result }
+    /// These configurations, none of which was visited.
+    pub(crate) fn new(alloc: Global, places: IndexSet<Place>) -> Result<Moves, AllocError>
+        ensures places { IfOk result (λ moves. moves.places ≡ places) }
+        ensures before { IfOk result (λ moves. (n : ℕ) → All (IsPlaceWithin n) places.keys
+            → AllPairs (λ x y. x ≢ y) (map (configuration_of n) places.keys)
+            → IsBeforeVisit n 1 moves) }
     {
-        Moves {
-            next: IndexSet::new(alloc),
+        let marks = zeros(alloc, places.len())?;
+        Ok(Moves {
+            places,
+            marks,
+            visit: 0,
+            numbers: Vec::new(alloc),
             refused: false,
-            lost,
+            lost: false,
+        })
+    }
+
+    /// The configurations that were found.
+    pub(crate) fn into_places(self) -> IndexSet<Place>
+        ensures { result ≡ self.places }
+    {
+        self.places
+    }
+
+    /// Begins a visit, with no moves yet.
+    fn begin(&mut self, visit: usize)
+        ensures places { self.new.places ≡ self.old.places }
+        ensures visit { self.new.visit ≡ visit }
+        ensures value { (n : ℕ) → moves_value n self.new ≡ no_moves false }
+        ensures moves { (n : ℕ) → IsBeforeVisit n visit self.old → AreMoves n self.new }
+    {
+        self.visit = visit;
+        self.numbers.clear();
+        self.refused = false;
+        self.lost = false;
+    }
+
+    /// Visits a configuration: the moves from it by a plan, whose rules stand in the index.
+    pub(crate) fn visit(
+        &mut self,
+        alloc: Global,
+        task: &Task,
+        plan: &Plan,
+        index: &RuleIndex<'_>,
+        place: &Place,
+        visit: usize,
+    ) -> Result<(), AllocError>
+        requires plan_of_task { IsPlanOf (fluent_count task.now) (action_count task.now) plan.now }
+        requires index { IsRuleIndexOf plan.now index.now }
+        requires within { IsPlaceWithin (fluent_count task.now) place.now }
+        requires before { IsBeforeVisit (fluent_count task.now) visit self.old }
+        ensures value { let n = fluent_count task.now in OnOk result (moves_value n self.new
+            ≡ moves_from (system_of task.now) (plain_of plan.now) (configuration_of n place.now)) }
+        ensures moves { OnOk result (AreMoves (fluent_count task.now) self.new) }
+        ensures visit { OnOk result (self.new.visit ≡ visit) }
+        ensures grown { let n = fluent_count task.now in OnOk result (found_by n self.new
+            ≡ fold add_configuration (found_by n self.old) (moves_value n self.new).next) }
+    {
+        self.begin(visit);
+        self.add_all(alloc, task, plan, index, place)?;
+        Ok(())
+    }
+
+    /// Adds the moves from a configuration by a plan.
+    fn add_all(
+        &mut self,
+        alloc: Global,
+        task: &Task,
+        plan: &Plan,
+        index: &RuleIndex<'_>,
+        place: &Place,
+    ) -> Result<(), AllocError>
+        requires plan_of_task { IsPlanOf (fluent_count task.now) (action_count task.now) plan.now }
+        requires index { IsRuleIndexOf plan.now index.now }
+        requires within { IsPlaceWithin (fluent_count task.now) place.now }
+        requires moves { AreMoves (fluent_count task.now) self.old }
+        requires none { moves_value (fluent_count task.now) self.old ≡ no_moves false }
+        ensures value { let n = fluent_count task.now in OnOk result (moves_value n self.new
+            ≡ moves_from (system_of task.now) (plain_of plan.now) (configuration_of n place.now)) }
+        ensures moves { OnOk result (AreMoves (fluent_count task.now) self.new) }
+        ensures grown { OnOk result (HasGrown (fluent_count task.now) self.old self.new) }
+    {
+        match plan {
+            Plan::Table(table) => {
+                self.add_table(alloc, task, &table.rules, &index.cubes, &place.state)
+            }
+            Plan::Auto(_) => {
+                let rule = index.contexts.rule_at(task, &place.state, place.context);
+                self.add_advised(task, &rule, &place.state)
+            }
         }
+    }
+
+    /// Adds the moves by the rule of an automaton that counts, where there is one.
+    fn add_advised(
+        &mut self,
+        task: &Task,
+        rule: &Option<Advice<'_>>,
+        state: &State,
+    ) -> Result<(), AllocError>
+        requires in_task { IfSome rule.now
+            (IsAdviceOf (fluent_count task.now) (action_count task.now)) }
+        requires within { IsWithin (fluent_count task.now) state.now }
+        requires moves { AreMoves (fluent_count task.now) self.old }
+        requires none { moves_value (fluent_count task.now) self.old ≡ no_moves false }
+        ensures value { let n = fluent_count task.now in OnOk result (moves_value n self.new
+            ≡ moves_by (system_of task.now) (vector n state.now)
+            (option_map advice_value rule.now)) }
+        ensures moves { OnOk result (AreMoves (fluent_count task.now) self.new) }
+        ensures grown { OnOk result (HasGrown (fluent_count task.now) self.old self.new) }
+    {
+        match rule {
+            None => {
+                self.lost = true;
+                Ok(())
+            }
+            Some(rule) => self.add_rule(task, state, rule),
+        }
+    }
+
+    /// Adds the moves by all rules of a table that match a state.
+    fn add_table(
+        &mut self,
+        alloc: Global,
+        task: &Task,
+        rules: &[Rule],
+        index: &CubeIndex,
+        state: &State,
+    ) -> Result<(), AllocError>
+        requires in_task { let n = fluent_count task.now in let m = action_count task.now in
+            All (λ rule. IsRuleOf n m (rule_of rule)) rules.now }
+        requires index { IsIndexOf index.now (cubes_of rules.now) }
+        requires within { IsWithin (fluent_count task.now) state.now }
+        requires moves { AreMoves (fluent_count task.now) self.old }
+        requires none { moves_value (fluent_count task.now) self.old ≡ no_moves false }
+        ensures value { let n = fluent_count task.now in OnOk result (moves_value n self.new
+            ≡ moves_in_table (system_of task.now) (vector n state.now) (map rule_of rules.now)) }
+        ensures moves { OnOk result (AreMoves (fluent_count task.now) self.new) }
+        ensures grown { OnOk result (HasGrown (fluent_count task.now) self.old self.new) }
+    {
+        let mut taken = no_actions(alloc, task)?;
+        let mut place = next_rule(task, rules, index, state, 0);
+        while place < rules.len() {
+            self.add_matching(task, state, &rules[place], &mut taken)?;
+            place = next_rule(task, rules, index, state, place + 1);
+        }
+        Ok(())
     }
 
     /// Adds the moves by a rule that counts in a state.
@@ -78,11 +240,12 @@ impl Moves {
     ) -> Result<(), AllocError>
         requires in_task { IsAdviceOf (fluent_count task.now) (action_count task.now) rule.now }
         requires within { IsWithin (fluent_count task.now) state.now }
-        requires next_within { AreWithin (fluent_count task.now) self.old }
+        requires moves { AreMoves (fluent_count task.now) self.old }
         ensures value { let n = fluent_count task.now in OnOk result (moves_value n self.new
             ≡ with_rule (system_of task.now) (vector n state.now) (moves_value n self.old)
             (advice_value rule.now)) }
-        ensures next_within { OnOk result (AreWithin (fluent_count task.now) self.new) }
+        ensures moves { OnOk result (AreMoves (fluent_count task.now) self.new) }
+        ensures grown { OnOk result (HasGrown (fluent_count task.now) self.old self.new) }
     {
         if is_executable(task, state, rule.action) {
             self.add_outcomes(task, state, rule)
@@ -104,14 +267,15 @@ impl Moves {
         requires in_task { let n = fluent_count task.now in let m = action_count task.now in
             IsRuleOf n m (rule_of rule.now) }
         requires within { IsWithin (fluent_count task.now) state.now }
-        requires next_within { AreWithin (fluent_count task.now) self.old }
+        requires moves { AreMoves (fluent_count task.now) self.old }
         requires count { length taken.old.items ≡ action_count task.now }
         requires taken { let n = fluent_count task.now in HaveTaken (system_of task.now)
             (vector n state.now) (moves_value n self.old) taken.old.items }
         ensures value { let n = fluent_count task.now in OnOk result (moves_value n self.new
             ≡ with_table_rule (system_of task.now) (vector n state.now) (moves_value n self.old)
             (rule_of rule.now)) }
-        ensures next_within { OnOk result (AreWithin (fluent_count task.now) self.new) }
+        ensures moves { OnOk result (AreMoves (fluent_count task.now) self.new) }
+        ensures grown { OnOk result (HasGrown (fluent_count task.now) self.old self.new) }
         ensures count { OnOk result (length taken.new.items ≡ action_count task.now) }
         ensures taken { let n = fluent_count task.now in OnOk result (HaveTaken
             (system_of task.now) (vector n state.now) (moves_value n self.new) taken.new.items) }
@@ -144,13 +308,14 @@ impl Moves {
     ) -> Result<(), AllocError>
         requires in_task { IsAdviceOf (fluent_count task.now) (action_count task.now) rule.now }
         requires within { IsWithin (fluent_count task.now) state.now }
-        requires next_within { AreWithin (fluent_count task.now) self.old }
+        requires moves { AreMoves (fluent_count task.now) self.old }
         requires executable { let n = fluent_count task.now in
             Exec (system_of task.now) (vector n state.now) rule.now.action.0 }
         ensures value { let n = fluent_count task.now in OnOk result (moves_value n self.new
             ≡ fold (with_outcome (onward_value rule.now.onward)) (moves_value n self.old)
             ((system_of task.now).next (vector n state.now) rule.now.action.0)) }
-        ensures next_within { OnOk result (AreWithin (fluent_count task.now) self.new) }
+        ensures moves { OnOk result (AreMoves (fluent_count task.now) self.new) }
+        ensures grown { OnOk result (HasGrown (fluent_count task.now) self.old self.new) }
     {
         for outcome in 0..outcome_count(task, rule.action) {
             let after = step(task, state, rule.action, outcome);
@@ -169,11 +334,12 @@ impl Moves {
     ) -> Result<(), AllocError>
         requires cases { AreCasesOf (fluent_count task.now) (onward_value onward.now) }
         requires within { IsWithin (fluent_count task.now) after }
-        requires next_within { AreWithin (fluent_count task.now) self.old }
+        requires moves { AreMoves (fluent_count task.now) self.old }
         ensures value { let n = fluent_count task.now in OnOk result (moves_value n self.new
             ≡ with_if_state (in_space task.now) (onward_value onward.now) (moves_value n self.old)
             (vector n after)) }
-        ensures next_within { OnOk result (AreWithin (fluent_count task.now) self.new) }
+        ensures moves { OnOk result (AreMoves (fluent_count task.now) self.new) }
+        ensures grown { OnOk result (HasGrown (fluent_count task.now) self.old self.new) }
     {
         if !in_space(task, &after) {
             return Ok(());
@@ -190,99 +356,73 @@ impl Moves {
     ) -> Result<(), AllocError>
         requires cases { AreCasesOf (fluent_count task.now) (onward_value onward.now) }
         requires within { IsWithin (fluent_count task.now) after }
-        requires next_within { AreWithin (fluent_count task.now) self.old }
+        requires moves { AreMoves (fluent_count task.now) self.old }
         ensures value { let n = fluent_count task.now in OnOk result (moves_value n self.new
             ≡ with_outcome (onward_value onward.now) (moves_value n self.old) (vector n after)) }
-        ensures next_within { OnOk result (AreWithin (fluent_count task.now) self.new) }
+        ensures moves { OnOk result (AreMoves (fluent_count task.now) self.new) }
+        ensures grown { OnOk result (HasGrown (fluent_count task.now) self.old self.new) }
     {
         match context_in(task, onward, &after) {
-            Some(context) => {
-                number_of(
-                    &mut self.next,
-                    Place {
-                        state: after,
-                        context,
-                    },
-                )?;
-            }
+            Some(context) => self.list(
+                task,
+                Place {
+                    state: after,
+                    context,
+                },
+            )?,
             None => self.lost = true,
         }
         Ok(())
     }
-}
 
-/// The moves from a configuration by a plan, whose rules stand in the index.
-pub(crate) fn moves_of(
-    alloc: Global,
-    task: &Task,
-    plan: &Plan,
-    index: &RuleIndex<'_>,
-    place: &Place,
-) -> Result<Moves, AllocError>
-    requires plan_of_task { IsPlanOf (fluent_count task.now) (action_count task.now) plan.now }
-    requires index { IsRuleIndexOf plan.now index.now }
-    requires within { IsPlaceWithin (fluent_count task.now) place.now }
-    ensures value { let n = fluent_count task.now in IfOk result (λ moves. moves_value n moves
-        ≡ moves_from (system_of task.now) (plain_of plan.now) (configuration_of n place.now)) }
-    ensures within { IfOk result (AreWithin (fluent_count task.now)) }
-{
-    match plan {
-        Plan::Table(table) => { table_moves(alloc, task, &table.rules, &index.cubes, &place.state) }
-        Plan::Auto(_) => {
-            let rule = index.contexts.rule_at(task, &place.state, place.context);
-            rule_moves(alloc, task, &rule, &place.state)
-        }
+    // Lists a configuration among those that follow, unless it was listed in this visit.
+    fn list(&mut self, task: &Task, place: Place) -> Result<(), AllocError>
+        requires within { IsPlaceWithin (fluent_count task.now) place }
+        requires moves { AreMoves (fluent_count task.now) self.old }
+        ensures value { let n = fluent_count task.now in OnOk result (moves_value n self.new
+            ≡ with_configuration (moves_value n self.old) (configuration_of n place)) }
+        ensures moves { OnOk result (AreMoves (fluent_count task.now) self.new) }
+        ensures grown { OnOk result (HasGrown (fluent_count task.now) self.old self.new) }
+    {
+        // The task is read for its bound on fluents alone.
+        let _bound = task.fluents.len();
+        let number = number_of(&mut self.places, place)?;
+        let fresh = mark(&mut self.marks, number, self.visit)?;
+        push_if(&mut self.numbers, number, fresh)?;
+        Ok(())
     }
 }
 
-/// The moves by the rule of an automaton that counts, where there is one.
-fn rule_moves(
-    alloc: Global,
-    task: &Task,
-    rule: &Option<Advice<'_>>,
-    state: &State,
-) -> Result<Moves, AllocError>
-    requires in_task { IfSome rule.now
-        (IsAdviceOf (fluent_count task.now) (action_count task.now)) }
-    requires within { IsWithin (fluent_count task.now) state.now }
-    ensures value { let n = fluent_count task.now in IfOk result (λ moves. moves_value n moves
-        ≡ moves_by (system_of task.now) (vector n state.now) (option_map advice_value rule.now)) }
-    ensures within { IfOk result (AreWithin (fluent_count task.now)) }
+/// Adds a number to a list, where it is to be added.
+fn push_if(numbers: &mut Vec<usize>, number: usize, fresh: bool) -> Result<(), AllocError>
+    ensures { OnOk result (numbers.new.items
+        ≡ (if fresh then numbers.old.items ++ number ∷ [] else numbers.old.items)) }
 {
-    match rule {
-        None => Ok(Moves::none(alloc, true)),
-        Some(rule) => {
-            let mut moves = Moves::none(alloc, false);
-            moves.add_rule(task, state, rule)?;
-            Ok(moves)
-        }
+    if !fresh {
+        return Ok(());
     }
+    numbers.push(number)?;
+    Ok(())
 }
 
-/// The moves by all rules of a table that match a state.
-fn table_moves(
-    alloc: Global,
-    task: &Task,
-    rules: &[Rule],
-    index: &CubeIndex,
-    state: &State,
-) -> Result<Moves, AllocError>
-    requires in_task { let n = fluent_count task.now in let m = action_count task.now in
-        All (λ rule. IsRuleOf n m (rule_of rule)) rules.now }
-    requires index { IsIndexOf index.now (cubes_of rules.now) }
-    requires within { IsWithin (fluent_count task.now) state.now }
-    ensures value { let n = fluent_count task.now in IfOk result (λ moves. moves_value n moves
-        ≡ moves_in_table (system_of task.now) (vector n state.now) (map rule_of rules.now)) }
-    ensures within { IfOk result (AreWithin (fluent_count task.now)) }
+/// Marks a number in a visit, where the next number is marked for the first time. Answers whether
+/// it had no mark of this visit.
+fn mark(marks: &mut Vec<usize>, number: usize, visit: usize) -> Result<bool, AllocError>
+    requires number { number ≤ length marks.old.items }
+    requires visit { 0 < visit }
+    ensures marked { OnOk result (IsMarkedAt number visit marks.old.items marks.new.items) }
+    ensures fresh { IfOk result (λ fresh.
+        fresh ≡ not (slice_index_or marks.old.items number 0 == visit)) }
 {
-    let mut moves = Moves::none(alloc, false);
-    let mut taken = no_actions(alloc, task)?;
-    let mut place = next_rule(task, rules, index, state, 0);
-    while place < rules.len() {
-        moves.add_matching(task, state, &rules[place], &mut taken)?;
-        place = next_rule(task, rules, index, state, place + 1);
+    if number == marks.len() {
+        marks.push(visit)?;
+        return Ok(true);
     }
-    Ok(moves)
+    if marks[number] == visit {
+        return Ok(false);
+    }
+    marks[number] = visit;
+    Ok(true)
 }
 
 /// A mark for each action, which it doesn't have yet.

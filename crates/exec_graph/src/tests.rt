@@ -9,14 +9,15 @@ use plan_rules::{Plan, read_plan};
 use std::alloc::{AllocError, Global};
 use std::fmt::Write;
 use std::marker::Brand;
+use std::rc::RcStr;
 use std::sync::ledger::{Blank, Ledger};
 use std::test::Fail;
 use task_core::{
     Alternative, Change, Cond, FluentId, GroundAction, InitSpec, Lit, Outcome, State, Task,
 };
 
-fn name(alloc: Global, word: &str) -> Result<Vec<String>, AllocError> {
-    Ok(vec![in alloc; String::from_str(alloc, word)?]?)
+fn name(alloc: Global, word: &str) -> Result<Vec<RcStr>, AllocError> {
+    Ok(vec![in alloc; RcStr::from_str(alloc, word)?]?)
 }
 
 // An outcome that makes a fluent true.

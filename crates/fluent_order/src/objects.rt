@@ -4,10 +4,11 @@ ghost use Rattle.std.specs.Prelude.{◌≡◌, IfOk, length};
 
 use indexmap::IndexSet;
 use std::alloc::{AllocError, Global};
+use std::rc::RcStr;
 
 /// For each name the number of its first object, counted from 1 in the order in which the names
 /// first have them; 0 for a name that has none. The object is the word after the first one.
-pub(crate) fn object_numbers(alloc: Global, names: &[Vec<String>]) -> Result<Vec<usize>, AllocError>
+pub(crate) fn object_numbers(alloc: Global, names: &[Vec<RcStr>]) -> Result<Vec<usize>, AllocError>
     ensures { IfOk result (λ numbers. length numbers.items ≡ length names.now) }
 {
     let mut objects = IndexSet::new(alloc);

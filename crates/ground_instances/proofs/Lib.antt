@@ -3,6 +3,8 @@ pub mod Numbered
 pub mod SameAtoms
 pub mod TreeValues
 pub mod SettledLemmas
+pub mod PartialLemmas
+pub mod UnderLemmas
 pub mod ValueLemmas
 pub mod KeptLemmas
 pub mod EnteringLemmas

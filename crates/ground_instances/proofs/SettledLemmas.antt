@@ -1,7 +1,7 @@
 -- What is settled of a formula is its value, whatever variables come after those that are bound.
-use Rattle.std.proofs.Common.{◌≡◌, ℕ, zero, suc, ◌<◌, Bool, true, false, ◌&&◌, List, [], ◌∷◌, ◌++◌, length, map, Option, Some, None, refl, ap, sym, ◌∙◌, cond, append_assoc, append-nil}
+use Rattle.std.proofs.Common.{◌≡◌, ℕ, Bool, true, false, not, ◌&&◌, ◌||◌, List, [], ◌∷◌, ◌++◌, length, map, Option, Some, None, refl, ap, sym, ◌∙◌, append_assoc, append-nil}
 use Rattle.std.specs.Prelude.{◌==◌, nat_lt, if◌then◌else◌}
-use Rattle.std.specs.List.{list_all}
+use Rattle.std.specs.List.{list_all, list_any}
 use Rattle.std.proofs.Math.Dec.{eqb-suc-zero}
 use Rattle.std.proofs.lemmas.Bool.{ltb-true}
 use Rattle.std.proofs.lemmas.List.{get_or_append_left}
@@ -12,7 +12,9 @@ use Rattle.pddl_system.specs.GroundAtoms.{atom_of}
 use Rattle.pddl_system.specs.Objects.{bindings, object_of}
 use Rattle.pddl_system.specs.Settings.{Setting}
 use Rattle.pddl_system.specs.Sizes.{binding_count}
-use Rattle.pddl_system.specs.ThreeValues.{Value as Known, value, values, value_and, value_or, value_not, value_of_all, value_of_any}
+use Rattle.pddl_system.specs.ThreeValues.{Value as Known, value_and, value_or, value_not, value_of_all, value_of_any}
+use Rattle.ground_instances.specs.declared.values.Free.{Free}
+use Rattle.ground_instances.specs.Partial.{has_free, is_free, partial_value, partial_values, value_of_equal}
 use Rattle.ground_instances.specs.Settled.{is_bound, settled, settled_values, settled_and, settled_or, settled_not, settled_all, settled_any, settled_each}
 use Rattle.ground_instances.proofs.Numbered.{length_bindings}
 
@@ -29,7 +31,7 @@ never w x e = cc
 tells_some : (a : Known) → Tells (Some a) a
 tells_some a w e = same a w e
 
-and_false : (x : Known) → value_and x (Some false) ≡ Some false
+pub and_false : (x : Known) → value_and x (Some false) ≡ Some false
 and_false (Some true) = refl
 and_false (Some false) = refl
 and_false None = refl
@@ -48,7 +50,7 @@ tells_not : (a : Option Known) (x : Known) → Tells a x → Tells (settled_not 
 tells_not None x ta w e = never w (value_not x) e
 tells_not (Some v) x ta w e = ap value_not (ta v refl) ∙ same (value_not v) w e
 
-or_is : (x y : Known) → value_or x y ≡ value_not (value_and (value_not x) (value_not y))
+pub or_is : (x y : Known) → value_or x y ≡ value_not (value_and (value_not x) (value_not y))
 or_is (Some true) y = refl
 or_is (Some false) (Some true) = refl
 or_is (Some false) (Some false) = refl
@@ -137,87 +139,108 @@ all_same f w (x ∷ xs) is =
     last None false = refl
 
 -- terms
-first_of : (a b : Bool) → (a && b) ≡ true → a ≡ true
+pub first_of : (a b : Bool) → (a && b) ≡ true → a ≡ true
 first_of true b e = refl
 first_of false b e = e
 
-second_of : (a b : Bool) → (a && b) ≡ true → b ≡ true
+pub second_of : (a b : Bool) → (a && b) ≡ true → b ≡ true
 second_of true b e = e
 second_of false b e = cc
 
-object_is : (scope more : List ℕ) (t : Term) → is_bound (length scope) t ≡ true → object_of (scope ++ more) t ≡ object_of scope t
-object_is scope more (Variable k) e = get_or_append_left scope more 0 k (ltb-true k (length scope) e)
-object_is scope more (Object o) e = refl
+false_of : (b : Bool) → not b ≡ true → b ≡ false
+false_of true e = let x : false ≡ true = e in cc
+false_of false e = refl
 
-objects_are : (scope more : List ℕ) (ts : List Term) → list_all (is_bound (length scope)) ts ≡ true → map (object_of (scope ++ more)) ts ≡ map (object_of scope) ts
-objects_are scope more [] e = refl
-objects_are scope more (t ∷ ts) e =
-    ap (λ o. o ∷ map (object_of (scope ++ more)) ts) (object_is scope more t (first_of (is_bound (length scope) t) (list_all (is_bound (length scope)) ts) e))
-    ∙ ap (λ l. object_of scope t ∷ l) (objects_are scope more ts (second_of (is_bound (length scope) t) (list_all (is_bound (length scope)) ts) e))
+object_is : (free : Free) (scope more : List ℕ) (t : Term) → is_bound free (length scope) t ≡ true → object_of (scope ++ more) t ≡ object_of scope t
+object_is free scope more (Variable k) e =
+    get_or_append_left scope more 0 k (ltb-true k (length scope) (first_of (nat_lt k (length scope)) (not (has_free free k)) e))
+object_is free scope more (Object o) e = refl
 
-atom_is : (scope more : List ℕ) (q : ℕ) (ts : List Term) → list_all (is_bound (length scope)) ts ≡ true → atom_of (scope ++ more) q ts ≡ atom_of scope q ts
-atom_is scope more q ts e = ap (λ l. let a : AtomTree = record { predicate = q; objects = l } in a) (objects_are scope more ts e)
+not_free : (free : Free) (n : ℕ) (t : Term) → is_bound free n t ≡ true → is_free free t ≡ false
+not_free free n (Variable k) e = false_of (has_free free k) (second_of (nat_lt k n) (not (has_free free k)) e)
+not_free free n (Object o) e = refl
+
+none_free : (free : Free) (n : ℕ) (ts : List Term) → list_all (is_bound free n) ts ≡ true → list_any (is_free free) ts ≡ false
+none_free free n [] e = refl
+none_free free n (t ∷ ts) e =
+    ap (λ b. b || list_any (is_free free) ts) (not_free free n t (first_of (is_bound free n t) (list_all (is_bound free n) ts) e))
+    ∙ none_free free n ts (second_of (is_bound free n t) (list_all (is_bound free n) ts) e)
+
+objects_are : (free : Free) (scope more : List ℕ) (ts : List Term) → list_all (is_bound free (length scope)) ts ≡ true → map (object_of (scope ++ more)) ts ≡ map (object_of scope) ts
+objects_are free scope more [] e = refl
+objects_are free scope more (t ∷ ts) e =
+    ap (λ o. o ∷ map (object_of (scope ++ more)) ts) (object_is free scope more t (first_of (is_bound free (length scope) t) (list_all (is_bound free (length scope)) ts) e))
+    ∙ ap (λ l. object_of scope t ∷ l) (objects_are free scope more ts (second_of (is_bound free (length scope) t) (list_all (is_bound free (length scope)) ts) e))
+
+atom_is : (free : Free) (scope more : List ℕ) (q : ℕ) (ts : List Term) → list_all (is_bound free (length scope)) ts ≡ true → atom_of (scope ++ more) q ts ≡ atom_of scope q ts
+atom_is free scope more q ts e = ap (λ l. let a : AtomTree = record { predicate = q; objects = l } in a) (objects_are free scope more ts e)
 
 mutual
-  pub tells_value : (at : Setting) (f : FormulaTree) (scope more : List ℕ) → Tells (settled at f scope) (value at f (scope ++ more))
-  tells_value at (atom q ts) scope more = rigid (at.is_rigid q)
+  pub tells_value : (at : Setting) (free : Free) (f : FormulaTree) (scope more : List ℕ) → Tells (settled at f scope free) (partial_value at f (scope ++ more) free)
+  tells_value at free (atom q ts) scope more = rigid (at.is_rigid q)
     where
-      bound : (b : Bool) → list_all (is_bound (length scope)) ts ≡ b
-          → Tells (if b then Some (Some (at.is_fact (atom_of scope q ts))) else None) (Some (at.is_fact (atom_of (scope ++ more) q ts)))
-      bound true e w is = ap (λ a. Some (at.is_fact a)) (atom_is scope more q ts e) ∙ same (Some (at.is_fact (atom_of scope q ts))) w is
-      bound false e w is = never w (Some (at.is_fact (atom_of (scope ++ more) q ts))) is
+      bound : (b : Bool) → list_all (is_bound free (length scope)) ts ≡ b
+          → Tells (if b then Some (Some (at.is_fact (atom_of scope q ts))) else None) (if list_any (is_free free) ts then None else Some (at.is_fact (atom_of (scope ++ more) q ts)))
+      bound true e w is =
+          ap (λ b. if b then None else Some (at.is_fact (atom_of (scope ++ more) q ts))) (none_free free (length scope) ts e)
+          ∙ ap (λ a. Some (at.is_fact a)) (atom_is free scope more q ts e) ∙ same (Some (at.is_fact (atom_of scope q ts))) w is
+      bound false e w is = never w (if list_any (is_free free) ts then None else Some (at.is_fact (atom_of (scope ++ more) q ts))) is
 
       rigid : (b : Bool)
-          → Tells (if b then (if list_all (is_bound (length scope)) ts then Some (Some (at.is_fact (atom_of scope q ts))) else None) else Some None)
-          (if b then Some (at.is_fact (atom_of (scope ++ more) q ts)) else None)
-      rigid true = bound (list_all (is_bound (length scope)) ts) refl
+          → Tells (if b then (if list_all (is_bound free (length scope)) ts then Some (Some (at.is_fact (atom_of scope q ts))) else None) else Some None)
+          (if b then (if list_any (is_free free) ts then None else Some (at.is_fact (atom_of (scope ++ more) q ts))) else None)
+      rigid true = bound (list_all (is_bound free (length scope)) ts) refl
       rigid false = tells_some None
-  tells_value at (equal left right) scope more = both (is_bound (length scope) left && is_bound (length scope) right) refl
+  tells_value at free (equal left right) scope more = both (is_bound free (length scope) left && is_bound free (length scope) right) refl
     where
-      both : (b : Bool) → (is_bound (length scope) left && is_bound (length scope) right) ≡ b
-          → Tells (if b then Some (Some (object_of scope left == object_of scope right)) else None) (Some (object_of (scope ++ more) left == object_of (scope ++ more) right))
+      both : (b : Bool) → (is_bound free (length scope) left && is_bound free (length scope) right) ≡ b
+          → Tells (if b then Some (Some (object_of scope left == object_of scope right)) else None) (value_of_equal left right (scope ++ more) free)
       both true e w is =
-          ap (λ o. Some (o == object_of (scope ++ more) right)) (object_is scope more left (first_of (is_bound (length scope) left) (is_bound (length scope) right) e))
-          ∙ ap (λ o. Some (object_of scope left == o)) (object_is scope more right (second_of (is_bound (length scope) left) (is_bound (length scope) right) e))
+          let l = first_of (is_bound free (length scope) left) (is_bound free (length scope) right) e in
+          let r = second_of (is_bound free (length scope) left) (is_bound free (length scope) right) e in
+          ap (λ b. if b || is_free free right then None else Some (object_of (scope ++ more) left == object_of (scope ++ more) right)) (not_free free (length scope) left l)
+          ∙ ap (λ b. if b then None else Some (object_of (scope ++ more) left == object_of (scope ++ more) right)) (not_free free (length scope) right r)
+          ∙ ap (λ o. Some (o == object_of (scope ++ more) right)) (object_is free scope more left l)
+          ∙ ap (λ o. Some (object_of scope left == o)) (object_is free scope more right r)
           ∙ same (Some (object_of scope left == object_of scope right)) w is
-      both false e w is = never w (Some (object_of (scope ++ more) left == object_of (scope ++ more) right)) is
-  tells_value at (all parts) scope more = tells_all at parts scope more
-  tells_value at (any parts) scope more = tells_any at parts scope more
-  tells_value at (negation part) scope more = tells_not (settled at part scope) (value at part (scope ++ more)) (tells_value at part scope more)
-  tells_value at (implication left right) scope more =
-      tells_or (settled_not (settled at left scope)) (settled at right scope) (value_not (value at left (scope ++ more))) (value at right (scope ++ more))
-      (tells_not (settled at left scope) (value at left (scope ++ more)) (tells_value at left scope more)) (tells_value at right scope more)
-  tells_value at (exists types part) scope more = go (settled at part scope) (λ objects. tells_value at part scope (more ++ objects))
+      both false e w is = never w (value_of_equal left right (scope ++ more) free) is
+  tells_value at free (all parts) scope more = tells_all at free parts scope more
+  tells_value at free (any parts) scope more = tells_any at free parts scope more
+  tells_value at free (negation part) scope more = tells_not (settled at part scope free) (partial_value at part (scope ++ more) free) (tells_value at free part scope more)
+  tells_value at free (implication left right) scope more =
+      tells_or (settled_not (settled at left scope free)) (settled at right scope free) (value_not (partial_value at left (scope ++ more) free)) (partial_value at right (scope ++ more) free)
+      (tells_not (settled at left scope free) (partial_value at left (scope ++ more) free) (tells_value at free left scope more)) (tells_value at free right scope more)
+  tells_value at free (exists types part) scope more = go (settled at part scope free) (λ objects. tells_value at free part scope (more ++ objects))
     where
-      go : (s : Option Known) → ((objects : List ℕ) → Tells s (value at part (scope ++ (more ++ objects))))
-          → Tells (settled_each (binding_count at.objects types) false s) (value_of_any (map (λ objects. value at part ((scope ++ more) ++ objects)) (bindings at.objects types)))
-      go None tells w is = never w (value_of_any (map (λ objects. value at part ((scope ++ more) ++ objects)) (bindings at.objects types))) is
+      go : (s : Option Known) → ((objects : List ℕ) → Tells s (partial_value at part (scope ++ (more ++ objects)) free))
+          → Tells (settled_each (binding_count at.objects types) false s) (value_of_any (map (λ objects. partial_value at part ((scope ++ more) ++ objects) free) (bindings at.objects types)))
+      go None tells w is = never w (value_of_any (map (λ objects. partial_value at part ((scope ++ more) ++ objects) free) (bindings at.objects types))) is
       go (Some v) tells w is =
-          any_same (λ objects. value at part ((scope ++ more) ++ objects)) v (bindings at.objects types) (λ objects. ap (value at part) (append_assoc scope more objects) ∙ tells objects v refl)
+          any_same (λ objects. partial_value at part ((scope ++ more) ++ objects) free) v (bindings at.objects types) (λ objects. ap (λ s. partial_value at part s free) (append_assoc scope more objects) ∙ tells objects v refl)
           ∙ ap (λ n. if n == 0 then Some false else v) (length_bindings at.objects types)
           ∙ same (if binding_count at.objects types == 0 then Some false else v) w is
-  tells_value at (forall types part) scope more = go (settled at part scope) (λ objects. tells_value at part scope (more ++ objects))
+  tells_value at free (forall types part) scope more = go (settled at part scope free) (λ objects. tells_value at free part scope (more ++ objects))
     where
-      go : (s : Option Known) → ((objects : List ℕ) → Tells s (value at part (scope ++ (more ++ objects))))
-          → Tells (settled_each (binding_count at.objects types) true s) (value_of_all (map (λ objects. value at part ((scope ++ more) ++ objects)) (bindings at.objects types)))
-      go None tells w is = never w (value_of_all (map (λ objects. value at part ((scope ++ more) ++ objects)) (bindings at.objects types))) is
+      go : (s : Option Known) → ((objects : List ℕ) → Tells s (partial_value at part (scope ++ (more ++ objects)) free))
+          → Tells (settled_each (binding_count at.objects types) true s) (value_of_all (map (λ objects. partial_value at part ((scope ++ more) ++ objects) free) (bindings at.objects types)))
+      go None tells w is = never w (value_of_all (map (λ objects. partial_value at part ((scope ++ more) ++ objects) free) (bindings at.objects types))) is
       go (Some v) tells w is =
-          all_same (λ objects. value at part ((scope ++ more) ++ objects)) v (bindings at.objects types) (λ objects. ap (value at part) (append_assoc scope more objects) ∙ tells objects v refl)
+          all_same (λ objects. partial_value at part ((scope ++ more) ++ objects) free) v (bindings at.objects types) (λ objects. ap (λ s. partial_value at part s free) (append_assoc scope more objects) ∙ tells objects v refl)
           ∙ ap (λ n. if n == 0 then Some true else v) (length_bindings at.objects types)
           ∙ same (if binding_count at.objects types == 0 then Some true else v) w is
 
-  tells_all : (at : Setting) (fs : FormulaTrees) (scope more : List ℕ) → Tells (settled_all (settled_values at fs scope)) (value_of_all (values at fs (scope ++ more)))
-  tells_all at no_formula scope more = tells_some (Some true)
-  tells_all at (formula_then f fs) scope more =
-      tells_and (settled at f scope) (settled_all (settled_values at fs scope)) (value at f (scope ++ more)) (value_of_all (values at fs (scope ++ more)))
-      (tells_value at f scope more) (tells_all at fs scope more)
+  tells_all : (at : Setting) (free : Free) (fs : FormulaTrees) (scope more : List ℕ) → Tells (settled_all (settled_values at fs scope free)) (value_of_all (partial_values at fs (scope ++ more) free))
+  tells_all at free no_formula scope more = tells_some (Some true)
+  tells_all at free (formula_then f fs) scope more =
+      tells_and (settled at f scope free) (settled_all (settled_values at fs scope free)) (partial_value at f (scope ++ more) free) (value_of_all (partial_values at fs (scope ++ more) free))
+      (tells_value at free f scope more) (tells_all at free fs scope more)
 
-  tells_any : (at : Setting) (fs : FormulaTrees) (scope more : List ℕ) → Tells (settled_any (settled_values at fs scope)) (value_of_any (values at fs (scope ++ more)))
-  tells_any at no_formula scope more = tells_some (Some false)
-  tells_any at (formula_then f fs) scope more =
-      tells_or (settled at f scope) (settled_any (settled_values at fs scope)) (value at f (scope ++ more)) (value_of_any (values at fs (scope ++ more)))
-      (tells_value at f scope more) (tells_any at fs scope more)
+  tells_any : (at : Setting) (free : Free) (fs : FormulaTrees) (scope more : List ℕ) → Tells (settled_any (settled_values at fs scope free)) (value_of_any (partial_values at fs (scope ++ more) free))
+  tells_any at free no_formula scope more = tells_some (Some false)
+  tells_any at free (formula_then f fs) scope more =
+      tells_or (settled at f scope free) (settled_any (settled_values at fs scope free)) (partial_value at f (scope ++ more) free) (value_of_any (partial_values at fs (scope ++ more) free))
+      (tells_value at free f scope more) (tells_any at free fs scope more)
 
--- what is settled of a formula is its value
-pub settled_is : (at : Setting) (f : FormulaTree) (scope : List ℕ) (v : Known) → Some v ≡ settled at f scope → v ≡ value at f scope
-settled_is at f scope v is = sym (ap (value at f) (sym (append-nil scope)) ∙ tells_value at f scope [] v (sym is))
+-- what is settled of a formula is what is known of it
+pub settled_is : (at : Setting) (free : Free) (f : FormulaTree) (scope : List ℕ) (v : Known) → Some v ≡ settled at f scope free → v ≡ partial_value at f scope free
+settled_is at free f scope v is = sym (ap (λ s. partial_value at f s free) (sym (append-nil scope)) ∙ tells_value at free f scope [] v (sym is))

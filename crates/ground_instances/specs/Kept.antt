@@ -1,5 +1,5 @@
 -- Kept instances by the numbers of their actions.
-use Rattle.std.specs.Prelude.{ℕ, List, slice_get, Option, Some, None}
+use Rattle.std.specs.Prelude.{ℕ, ◌≡◌, List, ◌++◌, drop, length, map, slice_get, Option, Some, None}
 use Rattle.std.specs.List.{filter, flat_map}
 use Rattle.std.specs.Option.{option_map}
 use Rattle.pddl_ast.specs.Trees.{SchemaTree, DomainTree}
@@ -41,3 +41,16 @@ with_number action objects = (action, objects)
 
 abbrev pub numbered : Instance → ℕ × List ℕ
 numbered i = with_number i.action i.objects.items
+
+-- Private: the bindings of variables of these types that begin with some objects.
+abbrev pub rows_under : Setting → List ℕ → List ℕ → List (List ℕ)
+rows_under at types first =
+    map (λ rest. first ++ rest) (bindings at.objects (drop (length first) types))
+
+-- Private: the objects of the kept instances of an action that begin with some objects.
+abbrev pub kept_under : Setting → SchemaTree → List ℕ → List (List ℕ)
+kept_under at schema first = kept_among at schema (rows_under at schema.parameters first)
+
+-- Private: a list begins with another.
+abbrev pub IsBegunBy : List ℕ → List ℕ → Type 0
+IsBegunBy first whole = (more : List ℕ) × (whole ≡ first ++ more)

@@ -1,6 +1,6 @@
 -- Private: what the variables that are bound already settle of the value of a formula, whatever
 -- variables come after them. `None` where they don't settle it.
-use Rattle.std.specs.Prelude.{ℕ, ◌==◌, nat_lt, Bool, true, false, ◌&&◌, List, [], ◌∷◌, length, Option}
+use Rattle.std.specs.Prelude.{ℕ, ◌==◌, nat_lt, Bool, true, false, not, ◌&&◌, List, [], ◌∷◌, length, Option}
 use Rattle.std.specs.Prelude.{Some, None, if◌then◌else◌}
 use Rattle.std.specs.List.{list_all}
 use Rattle.std.specs.Option.{option_map}
@@ -12,12 +12,14 @@ use Rattle.pddl_system.specs.GroundAtoms.{atom_of}
 use Rattle.pddl_system.specs.Objects.{object_of}
 use Rattle.pddl_system.specs.Settings.{Setting}
 use Rattle.pddl_system.specs.Sizes.{binding_count}
-use Rattle.pddl_system.specs.ThreeValues.{Value, value_and, value_or, value_not}
+use Rattle.ground_instances.specs.declared.values.Free.{Free}
+use Rattle.ground_instances.specs.Partial.{has_free}
+use Rattle.pddl_system.specs.ThreeValues.{Value, value_and, value_not}
 
--- whether a term is an object, or one of the first n variables
-abbrev pub is_bound : ℕ → Term → Bool
-is_bound n (Variable k) = nat_lt k n
-is_bound n (Object o) = true
+-- whether a term is an object, or one of the first n variables and not free
+abbrev pub is_bound : Free → ℕ → Term → Bool
+is_bound free n (Variable k) = nat_lt k n && not (has_free free k)
+is_bound free n (Object o) = true
 
 abbrev pub settled_and : Option Value → Option Value → Option Value
 settled_and None None = None
@@ -48,32 +50,32 @@ abbrev pub settled_each : ℕ → Bool → Option Value → Option Value
 settled_each n empty = option_map (λ v. if n == 0 then Some empty else v)
 
 -- of an equation
-abbrev pub settled_equal : Term → Term → List ℕ → Option Value
-settled_equal left right scope =
-    if is_bound (length scope) left && is_bound (length scope) right
+abbrev pub settled_equal : Term → Term → List ℕ → Free → Option Value
+settled_equal left right scope free =
+    if is_bound free (length scope) left && is_bound free (length scope) right
     then Some (Some (object_of scope left == object_of scope right))
     else None
 
 abbrev mutual
-  pub settled : Setting → FormulaTree → List ℕ → Option Value
-  settled at (atom predicate terms) scope =
+  pub settled : Setting → FormulaTree → List ℕ → Free → Option Value
+  settled at (atom predicate terms) scope free =
       if at.is_rigid predicate
-      then if list_all (is_bound (length scope)) terms
+      then if list_all (is_bound free (length scope)) terms
       then Some (Some (at.is_fact (atom_of scope predicate terms)))
       else None
       else Some None
-  settled at (equal left right) scope = settled_equal left right scope
-  settled at (all parts) scope = settled_all (settled_values at parts scope)
-  settled at (any parts) scope = settled_any (settled_values at parts scope)
-  settled at (negation part) scope = settled_not (settled at part scope)
-  settled at (implication left right) scope =
-      settled_or (settled_not (settled at left scope)) (settled at right scope)
-  settled at (exists types part) scope =
-      settled_each (binding_count at.objects types) false (settled at part scope)
-  settled at (forall types part) scope =
-      settled_each (binding_count at.objects types) true (settled at part scope)
+  settled at (equal left right) scope free = settled_equal left right scope free
+  settled at (all parts) scope free = settled_all (settled_values at parts scope free)
+  settled at (any parts) scope free = settled_any (settled_values at parts scope free)
+  settled at (negation part) scope free = settled_not (settled at part scope free)
+  settled at (implication left right) scope free =
+      settled_or (settled_not (settled at left scope free)) (settled at right scope free)
+  settled at (exists types part) scope free =
+      settled_each (binding_count at.objects types) false (settled at part scope free)
+  settled at (forall types part) scope free =
+      settled_each (binding_count at.objects types) true (settled at part scope free)
 
-  pub settled_values : Setting → FormulaTrees → List ℕ → List (Option Value)
-  settled_values at no_formula scope = []
-  settled_values at (formula_then f fs) scope =
-      settled at f scope ∷ settled_values at fs scope
+  pub settled_values : Setting → FormulaTrees → List ℕ → Free → List (Option Value)
+  settled_values at no_formula scope free = []
+  settled_values at (formula_then f fs) scope free =
+      settled at f scope free ∷ settled_values at fs scope free

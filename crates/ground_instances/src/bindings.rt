@@ -1,6 +1,7 @@
 //! Bindings of variables by their numbers.
 
-ghost use Rattle.std.specs.Prelude.{◌≡◌, ◌<◌, [], ◌++◌, ◌+◌, ◌*◌, ◌≤◌, ◌↔◌, slice_index_or, IfOk};
+ghost use Rattle.std.specs.Prelude.{◌≡◌, ◌<◌, [], ◌++◌, ◌+◌, ◌*◌, ◌/◌, ◌%◌, ◌≤◌, ◌↔◌, IfOk};
+ghost use Rattle.std.specs.Prelude.{slice_index_or};
 ghost use Rattle.std.specs.Prelude.{IsErr, OnOk};
 ghost use Rattle.ground_instances.specs.Counts.{shown};
 ghost use Rattle.ground_instances.specs.Tables.{setting_in};
@@ -28,6 +29,35 @@ pub fn product(first: usize, second: usize) -> usize
     ensures { result ≡ shown (first * second) }
 {
     first.saturating_mul(second).min(TOO_MANY)
+}
+
+/// A number divided by another, with no division where the quotient is 0 or the number itself.
+fn quotient(number: usize, divisor: usize) -> usize
+    requires { 0 < divisor }
+    ensures { result ≡ number / divisor }
+{
+    if divisor == 1 {
+        number
+    } else if number < divisor {
+        0
+    } else {
+        number / divisor
+    }
+}
+
+/// What is left of a number that is divided by another, with no division where it is 0 or the
+/// number itself.
+fn remainder(number: usize, divisor: usize) -> usize
+    requires { 0 < divisor }
+    ensures { result ≡ number % divisor }
+{
+    if divisor == 1 {
+        0
+    } else if number < divisor {
+        number
+    } else {
+        number % divisor
+    }
 }
 
 impl Setting {
@@ -62,9 +92,9 @@ impl Setting {
         let mut rest = number;
         for type_id in types {
             let objects = self.objects_of(*type_id);
-            below /= objects.len();
-            scope.push(objects[rest / below])?;
-            rest %= below;
+            below = quotient(below, objects.len());
+            scope.push(objects[quotient(rest, below)])?;
+            rest = remainder(rest, below);
         }
         Ok(())
     }

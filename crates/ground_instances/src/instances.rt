@@ -1,16 +1,17 @@
 //! The numbered list of kept instances.
 
 ghost use Rattle.std.specs.Prelude.{◌≡◌, ◌+◌, ◌≤◌, true, [], ◌∷◌, ◌++◌, Some, map, length, nat_le};
-ghost use Rattle.std.specs.Prelude.{is_some, IfOk, IfSome};
+ghost use Rattle.std.specs.Prelude.{is_some, IfOk, IfSome, OnOk};
 ghost use Rattle.ground_instances.specs.Kept.{instance_of, kept_by, all_of, kept_among};
-ghost use Rattle.ground_instances.specs.Kept.{kept_objects, numbered, with_number};
+ghost use Rattle.ground_instances.specs.Kept.{kept_objects, kept_under, numbered, rows_under};
+ghost use Rattle.ground_instances.specs.Kept.{with_number, IsBegunBy};
 ghost use Rattle.ground_instances.specs.Tables.{setting_in};
 ghost use Rattle.pddl_ast.specs.Values.{domain_value, schema_value};
 ghost use Rattle.pddl_system.specs.Sizes.{most_actions};
 
 use crate::setting::Setting;
-use crate::values::Value;
-use pddl_ast::{Domain, ObjectId, Objects, Schema};
+use crate::values::{Free, Value};
+use pddl_ast::{Domain, ObjectId, Objects, Schema, TypeId};
 use std::alloc::{AllocError, Global};
 
 /// The most kept instances.
@@ -71,20 +72,99 @@ impl Setting {
             ++ map (with_number action)
             (kept_objects (setting_in self.now) (schema_value schema.now))) }
     {
-        let count = self.few_bindings(&schema.parameters)?;
+        if self.few_bindings(&schema.parameters)? == 0 {
+            return Ok(true);
+        }
         let mut objects = Vec::new(alloc);
-        for number in 0..count {
-            objects.clear();
-            self.bind(&schema.parameters, count, number, &mut objects)?;
-            if !self.add_if_kept(alloc, action, schema, &mut objects, kept)? {
+        Ok(self.add_under(alloc, action, schema, &mut objects, kept)?)
+    }
+
+    /// Brings the next variables of these types into scope, as long as their types have one object,
+    /// with that object. Those in scope are the first variables.
+    fn bind_lone(&self, types: &[TypeId], scope: &mut Vec<ObjectId>) -> Result<(), AllocError>
+        requires { length scope.old.items ≤ length types.now }
+        ensures within { OnOk result (length scope.new.items ≤ length types.now) }
+        ensures kept { OnOk result (IsBegunBy scope.old.items scope.new.items) }
+        ensures rows { OnOk result
+            (rows_under (setting_in self.now) types.now scope.new.items
+            ≡ rows_under (setting_in self.now) types.now scope.old.items) }
+    {
+        for place in scope.len()..types.len() {
+            let objects = self.objects_of(types[place]);
+            if objects.len() != 1 {
+                return Ok(());
+            }
+            scope.push(objects[0])?;
+        }
+        Ok(())
+    }
+
+    /// Whether it is known that no instance of an action with these first objects is kept. The
+    /// objects are afterwards as they were before.
+    fn is_hopeless(
+        &self,
+        alloc: Global,
+        schema: &Schema,
+        objects: &mut Vec<ObjectId>,
+    ) -> Result<bool, AllocError>
+        requires { length objects.old.items ≤ length schema.now.parameters.items }
+        ensures none { IfOk result (λ hopeless. hopeless ≡ true
+            → kept_under (setting_in self.now) (schema_value schema.now) objects.old.items ≡ []) }
+        ensures objects { OnOk result (objects.new.items ≡ objects.old.items) }
+    {
+        let first = objects.len();
+        let end = schema.parameters.len();
+        objects.resize(end, 0)?;
+        let free = Free { first, end };
+        let value = self.partial_value(alloc, &schema.precondition, objects, free)?;
+        objects.truncate(first);
+        Ok(value == Value::No)
+    }
+
+    /// Appends the kept instances of an action that have these first objects; false where there are
+    /// then more than 16,384. Parameters are bound one after another, and where it is known already
+    /// that no instance is kept the rest are not. The objects are afterwards as they were before, and
+    /// maybe more.
+    fn add_under(
+        &self,
+        alloc: Global,
+        action: usize,
+        schema: &Schema,
+        objects: &mut Vec<ObjectId>,
+        kept: &mut Vec<Instance>,
+    ) -> Result<bool, AllocError>
+        requires few { length kept.old.items ≤ most_actions }
+        requires objects { length objects.old.items ≤ length schema.now.parameters.items }
+        ensures objects { IfOk result (λ fits. fits ≡ true
+            → IsBegunBy objects.old.items objects.new.items) }
+        ensures within { IfOk result (λ fits. fits ≡ nat_le (length kept.old.items
+            + length (kept_under (setting_in self.now) (schema_value schema.now)
+            objects.old.items)) most_actions) }
+        ensures added { IfOk result (λ fits. fits ≡ true
+            → map numbered kept.new.items ≡ map numbered kept.old.items
+            ++ map (with_number action) (kept_under (setting_in self.now)
+            (schema_value schema.now) objects.old.items)) }
+    {
+        self.bind_lone(&schema.parameters, objects)?;
+        let place = objects.len();
+        if place == schema.parameters.len() {
+            return self.add_if_kept(alloc, action, schema, objects, kept);
+        }
+        if self.is_hopeless(alloc, schema, objects)? {
+            return Ok(true);
+        }
+        for object in self.objects_of(schema.parameters[place]) {
+            objects.push(*object)?;
+            if !self.add_under(alloc, action, schema, objects, kept)? {
                 return Ok(false);
             }
+            objects.truncate(place);
         }
         Ok(true)
     }
 
     /// Appends the instance of an action with these objects if it is kept; false where there are
-    /// then more than 16,384.
+    /// then more than 16,384. The objects are afterwards as they were before.
     fn add_if_kept(
         &self,
         alloc: Global,
@@ -94,6 +174,7 @@ impl Setting {
         kept: &mut Vec<Instance>,
     ) -> Result<bool, AllocError>
         requires { length kept.old.items ≤ most_actions }
+        ensures objects { OnOk result (objects.new.items ≡ objects.old.items) }
         ensures within { IfOk result (λ fits. fits ≡ nat_le (length kept.old.items
             + length (kept_among (setting_in self.now) (schema_value schema.now)
             (objects.old.items ∷ []))) most_actions) }

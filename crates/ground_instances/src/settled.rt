@@ -11,26 +11,26 @@ ghost use Rattle.pddl_ast.specs.Values.{formula_value};
 
 use crate::atoms::{Atom, object_of};
 use crate::setting::Setting;
-use crate::values::{Value, both, certainly, opposite};
+use crate::values::{Free, Value, both, certainly, opposite};
 use pddl_ast::{Formula, ObjectId, PredicateId, Term};
 use std::alloc::{AllocError, Global};
 
-/// Whether a term is an object, or one of the first `count` variables.
-fn is_bound(count: usize, term: &Term) -> bool
-    ensures { result ≡ plain.is_bound count term.now }
+/// Whether a term is an object, or one of the first `count` variables and not free.
+fn is_bound(free: Free, count: usize, term: &Term) -> bool
+    ensures { result ≡ plain.is_bound free count term.now }
 {
     match term {
-        Term::Variable(number) => *number < count,
+        Term::Variable(number) => *number < count && !free.has(*number),
         Term::Object(_) => true,
     }
 }
 
-/// Whether each term is an object, or one of the first `count` variables.
-fn are_bound(count: usize, terms: &[Term]) -> bool
-    ensures { result ≡ list_all (plain.is_bound count) terms.now }
+/// Whether each term is an object, or one of the first `count` variables and not free.
+fn are_bound(free: Free, count: usize, terms: &[Term]) -> bool
+    ensures { result ≡ list_all (plain.is_bound free count) terms.now }
 {
     for term in terms {
-        if !is_bound(count, term) {
+        if !is_bound(free, count, term) {
             return false;
         }
     }
@@ -80,11 +80,11 @@ fn settled_each(count: usize, empty: bool, part: Option<Value>) -> Option<Value>
 }
 
 /// What is settled of an equation.
-fn settled_equal(left: &Term, right: &Term, scope: &[ObjectId]) -> Option<Value>
+fn settled_equal(left: &Term, right: &Term, scope: &[ObjectId], free: Free) -> Option<Value>
     ensures { option_map known_value result
-        ≡ plain.settled_equal left.now right.now scope.now }
+        ≡ plain.settled_equal left.now right.now scope.now free }
 {
-    if !is_bound(scope.len(), left) || !is_bound(scope.len(), right) {
+    if !is_bound(free, scope.len(), left) || !is_bound(free, scope.len(), right) {
         return None;
     }
     Some(certainly(object_of(scope, left) == object_of(scope, right)))
@@ -99,60 +99,64 @@ impl Setting {
         predicate: PredicateId,
         terms: &[Term],
         scope: &[ObjectId],
+        free: Free,
     ) -> Result<Option<Value>, AllocError>
         ensures { IfOk result (λ value. option_map known_value value
-            ≡ plain.settled (setting_in self.now) (atom predicate terms.now) scope.now) }
+            ≡ plain.settled (setting_in self.now) (atom predicate terms.now) scope.now free) }
     {
         if !self.is_rigid(predicate) {
             return Ok(Some(Value::Unknown));
         }
-        if !are_bound(scope.len(), terms) {
+        if !are_bound(free, scope.len(), terms) {
             return Ok(None);
         }
         let atom = Atom::of_terms(alloc, predicate, terms, scope)?;
         Ok(Some(certainly(self.is_fact(&atom))))
     }
 
-    /// What the variables in scope settle of the value of a formula, whatever variables come after
-    /// them. Fails only where memory runs out.
+    /// What the variables in scope that aren't free settle of the value of a formula, whatever
+    /// variables come after them. Fails only where memory runs out.
     pub(crate) fn settled(
         &self,
         alloc: Global,
         formula: &Formula,
         scope: &[ObjectId],
+        free: Free,
     ) -> Result<Option<Value>, AllocError>
         ensures { IfOk result (λ value. option_map known_value value
-            ≡ plain.settled (setting_in self.now) (formula_value formula.now) scope.now) }
+            ≡ plain.settled (setting_in self.now) (formula_value formula.now) scope.now free) }
     {
         match formula {
-            Formula::Atom(predicate, terms) => self.settled_atom(alloc, *predicate, terms, scope),
-            Formula::Equal(left, right) => Ok(settled_equal(left, right, scope)),
+            Formula::Atom(predicate, terms) => self.settled_atom(
+                alloc, *predicate, terms, scope, free,
+            ),
+            Formula::Equal(left, right) => Ok(settled_equal(left, right, scope, free)),
             Formula::All(parts) => {
                 let mut known = Some(Value::Yes);
                 for part in parts {
-                    known = settled_both(known, self.settled(alloc, part, scope)?);
+                    known = settled_both(known, self.settled(alloc, part, scope, free)?);
                 }
                 Ok(known)
             }
             Formula::Any(parts) => {
                 let mut known = Some(Value::No);
                 for part in parts {
-                    known = settled_either(known, self.settled(alloc, part, scope)?);
+                    known = settled_either(known, self.settled(alloc, part, scope, free)?);
                 }
                 Ok(known)
             }
-            Formula::Not(part) => Ok(settled_opposite(self.settled(alloc, part, scope)?)),
+            Formula::Not(part) => Ok(settled_opposite(self.settled(alloc, part, scope, free)?)),
             Formula::Imply(left, right) => {
-                let premise = self.settled(alloc, left, scope)?;
-                let conclusion = self.settled(alloc, right, scope)?;
+                let premise = self.settled(alloc, left, scope, free)?;
+                let conclusion = self.settled(alloc, right, scope, free)?;
                 Ok(settled_either(settled_opposite(premise), conclusion))
             }
             Formula::Exists(types, part) => {
-                let value = self.settled(alloc, part, scope)?;
+                let value = self.settled(alloc, part, scope, free)?;
                 Ok(settled_each(self.binding_count(types), false, value))
             }
             Formula::Forall(types, part) => {
-                let value = self.settled(alloc, part, scope)?;
+                let value = self.settled(alloc, part, scope, free)?;
                 Ok(settled_each(self.binding_count(types), true, value))
             }
         }

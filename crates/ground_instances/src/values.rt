@@ -1,6 +1,8 @@
 //! The value of a formula as far as the setting alone decides it.
 
 ghost use Rattle.std.specs.Prelude.{◌≡◌, Some, IfOk, OnOk};
+ghost use Rattle.std.specs.List.{list_any};
+ghost use Rattle.ground_instances.specs.Partial.{has_free, is_free, partial_value, value_of_equal};
 ghost use Rattle.ground_instances.specs.Values.{known_value};
 ghost use Rattle.ground_instances.specs.Tables.{setting_in};
 ghost use Rattle.pddl_ast.specs.Trees.{atom};
@@ -57,19 +59,70 @@ pub(crate) fn opposite(value: Value) -> Value
     }
 }
 
+/// Variables that stand for no object yet: those from the number `first` on, and before the number
+/// `end`.
+#[derive(Clone, Copy)]
+pub(crate) struct Free {
+    pub first: usize,
+    pub end: usize,
+}
+
+impl Free {
+    /// Whether the variable with a number is one of them.
+    pub(crate) fn has(self, number: usize) -> bool
+        ensures { result ≡ has_free self number }
+    {
+        self.first <= number && number < self.end
+    }
+
+    /// Whether a term is one of them.
+    fn has_term(self, term: &Term) -> bool
+        ensures { result ≡ is_free self term.now }
+    {
+        match term {
+            Term::Variable(number) => self.has(*number),
+            Term::Object(_) => false,
+        }
+    }
+
+    /// Whether one of some terms is one of them.
+    fn has_one_of(self, terms: &[Term]) -> bool
+        ensures { result ≡ list_any (is_free self) terms.now }
+    {
+        for term in terms {
+            if self.has_term(term) {
+                return true;
+            }
+        }
+        false
+    }
+}
+
+/// The value of an equation, which is unknown where one of its terms is free.
+fn value_of_equation(left: &Term, right: &Term, scope: &[ObjectId], free: Free) -> Value
+    ensures { known_value result ≡ value_of_equal left.now right.now scope.now free }
+{
+    if free.has_term(left) || free.has_term(right) {
+        return Value::Unknown;
+    }
+    certainly(object_of(scope, left) == object_of(scope, right))
+}
+
 impl Setting {
-    /// The value of an atom: its initial value where its predicate is rigid, else unknown.
+    /// The value of an atom: its initial value where its predicate is rigid and none of its terms is
+    /// free, else unknown.
     fn value_of_atom(
         &self,
         alloc: Global,
         predicate: PredicateId,
         terms: &[Term],
         scope: &[ObjectId],
+        free: Free,
     ) -> Result<Value, AllocError>
         ensures { IfOk result (λ v. known_value v
-            ≡ value (setting_in self.now) (atom predicate terms.now) scope.now) }
+            ≡ partial_value (setting_in self.now) (atom predicate terms.now) scope.now free) }
     {
-        if !self.is_rigid(predicate) {
+        if !self.is_rigid(predicate) || free.has_one_of(terms) {
             return Ok(Value::Unknown);
         }
         let atom = Atom::of_terms(alloc, predicate, terms, scope)?;
@@ -90,15 +143,34 @@ impl Setting {
             ≡ value (setting_in self.now) (formula_value formula.now) scope.old.items) }
         ensures scope { OnOk result (scope.new.items ≡ scope.old.items) }
     {
+        let free = Free { first: 0, end: 0 };
+        Ok(self.partial_value(alloc, formula, scope, free)?)
+    }
+
+    /// What is known of a formula where the free variables stand for no object yet, and the others
+    /// in scope for these objects: no atom of a rigid predicate and no equation that names a free
+    /// variable has a known value. What is known to be true or false is so whatever objects the free
+    /// variables stand for. Otherwise as `value`.
+    pub(crate) fn partial_value(
+        &self,
+        alloc: Global,
+        formula: &Formula,
+        scope: &mut Vec<ObjectId>,
+        free: Free,
+    ) -> Result<Value, AllocError>
+        ensures value { IfOk result (λ v. known_value v
+            ≡ partial_value (setting_in self.now) (formula_value formula.now) scope.old.items free) }
+        ensures scope { OnOk result (scope.new.items ≡ scope.old.items) }
+    {
         match formula {
-            Formula::Atom(predicate, terms) => self.value_of_atom(alloc, *predicate, terms, scope),
-            Formula::Equal(left, right) => {
-                Ok(certainly(object_of(scope, left) == object_of(scope, right)))
+            Formula::Atom(predicate, terms) => {
+                self.value_of_atom(alloc, *predicate, terms, scope, free)
             }
+            Formula::Equal(left, right) => Ok(value_of_equation(left, right, scope, free)),
             Formula::All(parts) => {
                 let mut known = Value::Yes;
                 for part in parts {
-                    known = both(known, self.value(alloc, part, scope)?);
+                    known = both(known, self.partial_value(alloc, part, scope, free)?);
                     if known == Value::No {
                         return Ok(Value::No);
                     }
@@ -108,24 +180,24 @@ impl Setting {
             Formula::Any(parts) => {
                 let mut known = Value::No;
                 for part in parts {
-                    known = either(known, self.value(alloc, part, scope)?);
+                    known = either(known, self.partial_value(alloc, part, scope, free)?);
                     if known == Value::Yes {
                         return Ok(Value::Yes);
                     }
                 }
                 Ok(known)
             }
-            Formula::Not(part) => Ok(opposite(self.value(alloc, part, scope)?)),
+            Formula::Not(part) => Ok(opposite(self.partial_value(alloc, part, scope, free)?)),
             Formula::Imply(left, right) => {
-                let premise = self.value(alloc, left, scope)?;
+                let premise = self.partial_value(alloc, left, scope, free)?;
                 if premise == Value::No {
                     return Ok(Value::Yes);
                 }
-                let conclusion = self.value(alloc, right, scope)?;
+                let conclusion = self.partial_value(alloc, right, scope, free)?;
                 Ok(either(opposite(premise), conclusion))
             }
             Formula::Exists(types, part) => {
-                if let Some(known) = self.settled(alloc, formula, scope)? {
+                if let Some(known) = self.settled(alloc, formula, scope, free)? {
                     return Ok(known);
                 }
                 let count = self.few_bindings(types)?;
@@ -133,7 +205,7 @@ impl Setting {
                 let mut known = Value::No;
                 for number in 0..count {
                     self.bind(types, count, number, scope)?;
-                    known = either(known, self.value(alloc, part, scope)?);
+                    known = either(known, self.partial_value(alloc, part, scope, free)?);
                     scope.truncate(outer);
                     if known == Value::Yes {
                         return Ok(Value::Yes);
@@ -142,7 +214,7 @@ impl Setting {
                 Ok(known)
             }
             Formula::Forall(types, part) => {
-                if let Some(known) = self.settled(alloc, formula, scope)? {
+                if let Some(known) = self.settled(alloc, formula, scope, free)? {
                     return Ok(known);
                 }
                 let count = self.few_bindings(types)?;
@@ -150,7 +222,7 @@ impl Setting {
                 let mut known = Value::Yes;
                 for number in 0..count {
                     self.bind(types, count, number, scope)?;
-                    known = both(known, self.value(alloc, part, scope)?);
+                    known = both(known, self.partial_value(alloc, part, scope, free)?);
                     scope.truncate(outer);
                     if known == Value::No {
                         return Ok(Value::No);

@@ -1,11 +1,11 @@
 -- The parts that are built are those of the task of the domain and the problem.
 use Rattle.std.proofs.Common.{◌≡◌, ℕ, List, [], map, length, Option, None, sym, ap, subst, ◌∙◌}
-use Rattle.std.specs.Prelude.{String, Vec}
+use Rattle.std.specs.Prelude.{Vec}
 use Rattle.std.specs.declared.alloc.Global.{Global}
 use Rattle.std.specs.Option.{option_map}
 use Rattle.std.proofs.lemmas.List.{length-map}
 use Rattle.task_core.specs.Initial as initial
-use Rattle.task_core.specs.Names.{name_bytes}
+use Rattle.task_core.specs.Names.{Words, name_bytes}
 use Rattle.task_core.specs.Parts.{MakesTask}
 use Rattle.task_core.specs.States.{IsWithin, truth}
 use Rattle.task_core.specs.Vectors.{value_of}
@@ -31,7 +31,7 @@ use Rattle.ground_task.proofs.FactLemmas.{vector_is, within_is}
 
 -- what is known of the parts over the setting and the fluents that they are built from
 pub record AreBuilt (d : DomainTree) (p : ProblemTree) (at : Setting) (listed : List AtomTree)
-    (names : List (Vec (String Global) Global)) (actions : List GroundAction) (init : InitSpec) (goal : Option Cond) (invariant : Cond) : Type 0 where
+    (names : List Words) (actions : List GroundAction) (init : InitSpec) (goal : Option Cond) (invariant : Cond) : Type 0 where
   pub setting_is : at ≡ setting d p
   pub fluents_are : listed ≡ fluents d p
   pub named : map name_bytes names ≡ map (atom_name d p) listed
@@ -42,7 +42,7 @@ pub record AreBuilt (d : DomainTree) (p : ProblemTree) (at : Setting) (listed : 
   pub holding : condition_value invariant ≡ condition_of at listed d.invariant []
 
 module _ (d : DomainTree) (p : ProblemTree) (at : Setting) (listed : List AtomTree)
-    (names : List (Vec (String Global) Global)) (actions : List GroundAction) (init : InitSpec) (goal : Option Cond) (invariant : Cond) (built : AreBuilt d p at listed names actions init goal invariant) where
+    (names : List Words) (actions : List GroundAction) (init : InitSpec) (goal : Option Cond) (invariant : Cond) (built : AreBuilt d p at listed names actions init goal invariant) where
   count : length (systems.facts_of at listed) ≡ length names
   count = length-map listed at.is_fact ∙ sym (length-map listed (atom_name d p)) ∙ sym (ap length built.named) ∙ length-map names name_bytes
 
@@ -61,13 +61,13 @@ module _ (d : DomainTree) (p : ProblemTree) (at : Setting) (listed : List AtomTr
       parts_make_task d p names actions init goal invariant fits_d fits_p words within are_parts (subst (λ n. IsWithin n init.facts) count (within_is (systems.facts_of at listed) init.facts built.begins))
 
 -- the task with these parts
-pub task_is : (d : DomainTree) (p : ProblemTree) (task : Task) (names : Vec (Vec (String Global) Global) Global) (actions : Vec GroundAction Global) (init : InitSpec) (goal : Option Cond) (invariant : Cond)
+pub task_is : (d : DomainTree) (p : ProblemTree) (task : Task) (names : Vec Words Global) (actions : Vec GroundAction Global) (init : InitSpec) (goal : Option Cond) (invariant : Cond)
     → task.fluents ≡ names → task.actions ≡ actions → task.init ≡ init → task.goal ≡ goal → task.invariant ≡ invariant → ArePartsOf d p names.items actions.items init goal invariant → task_value task ≡ task_of d p
 task_is d p task names actions init goal invariant one two three four five parts =
-    let f : map name_bytes task.fluents.items ≡ (task_of d p).fluents = ap (λ (v : Vec (Vec (String Global) Global) Global). map name_bytes v.items) one ∙ parts.fluents_are in
+    let f : map name_bytes task.fluents.items ≡ (task_of d p).fluents = ap (λ (v : Vec Words Global). map name_bytes v.items) one ∙ parts.fluents_are in
     let a : map action_value task.actions.items ≡ (task_of d p).actions = ap (λ (v : Vec GroundAction Global). map action_value v.items) two ∙ parts.actions_are in
     let b : initial.facts_of (length task.fluents.items) task.init ≡ (task_of d p).facts =
-    ap (λ (v : Vec (Vec (String Global) Global) Global). initial.facts_of (length v.items) task.init) one ∙ ap (initial.facts_of (length names.items)) three ∙ parts.facts_are in
+    ap (λ (v : Vec Words Global). initial.facts_of (length v.items) task.init) one ∙ ap (initial.facts_of (length names.items)) three ∙ parts.facts_are in
     let e : initial.entries_of task.init ≡ (task_of d p).entries = ap initial.entries_of three ∙ parts.entries_are in
     let g : option_map condition_value task.goal ≡ (task_of d p).goal = ap (option_map condition_value) four ∙ parts.goal_is in
     let h : condition_value task.invariant ≡ (task_of d p).invariant = ap condition_value five ∙ parts.invariant_is in

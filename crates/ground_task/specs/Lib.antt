@@ -4,4 +4,5 @@ pub mod Capped
 pub mod Collecting
 pub mod Drafts
 pub mod Limits
+pub mod NameWords
 pub mod Numbered

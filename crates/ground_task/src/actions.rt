@@ -5,11 +5,10 @@ ghost use Rattle.ground_instances.specs.Kept.{instance_of, kept_by};
 ghost use Rattle.ground_instances.specs.Tables.{setting_in};
 ghost use Rattle.ground_task.specs.Actions.{action_in, action_over};
 ghost use Rattle.ground_task.specs.Drafts.{action_tree, draft_trees, drafted};
+ghost use Rattle.ground_task.specs.NameWords.{AreWordsOf, listed};
 ghost use Rattle.ground_task.specs.Numbered.{instance_with};
 ghost use Rattle.pddl_ast.specs.Values.{domain_value, problem_value, schema_value};
-ghost use Rattle.pddl_system.specs.Names.{NamesAreWords};
 ghost use Rattle.pddl_system.specs.Values.{action_value};
-ghost use Rattle.task_core.specs.Names.{IsWord};
 
 use crate::changes::drafted_outcomes;
 use crate::conditions::condition;
@@ -17,6 +16,7 @@ use crate::drafts::{ActionDraft, OutcomeDraft};
 use crate::fluents::Fluents;
 use crate::names::action_name;
 use crate::schemas::schema_of;
+use crate::words::NameWords;
 use ground_instances::{Instance, Setting};
 use pddl_ast::{Domain, Problem, Schema};
 use std::alloc::{AllocError, Global};
@@ -29,18 +29,20 @@ fn action(
     fluents: &Fluents,
     domain: &Domain,
     problem: &Problem,
+    words: &NameWords,
     schema: &Schema,
     instance: &Instance,
     outcomes: &[OutcomeDraft<'_>],
 ) -> Result<GroundAction, AllocError>
-    requires names { NamesAreWords (domain_value domain.now) (problem_value problem.now) }
-    requires word { IsWord (schema_value schema.now).name }
+    requires words { AreWordsOf (domain_value domain.now) (problem_value problem.now) words.now }
+    requires first { listed words.now.actions.items instance.now.action
+        ≡ (schema_value schema.now).name }
     ensures { IfOk result (λ action. action_value action
         ≡ action_over (setting_in setting.now) fluents.now (domain_value domain.now)
         (problem_value problem.now) (instance_with (schema_value schema.now) instance.now)
         (draft_trees outcomes.now)) }
 {
-    let name = action_name(alloc, domain, problem, schema, instance)?;
+    let name = action_name(alloc, domain, problem, words, schema, instance)?;
     let mut scope = Vec::from_slice(alloc, &instance.objects)?;
     let exec = condition(alloc, setting, fluents, &schema.precondition, &mut scope)?;
     let outcomes = drafted_outcomes(alloc, setting, fluents, outcomes)?;
@@ -58,9 +60,10 @@ pub(crate) fn actions(
     fluents: &Fluents,
     domain: &Domain,
     problem: &Problem,
+    words: &NameWords,
     drafts: &[ActionDraft<'_>],
 ) -> Result<Vec<GroundAction>, AllocError>
-    requires names { NamesAreWords (domain_value domain.now) (problem_value problem.now) }
+    requires words { AreWordsOf (domain_value domain.now) (problem_value problem.now) words.now }
     requires drafts { map (action_tree (domain_value domain.now)) drafts.now
         ≡ map (drafted (setting_in setting.now))
         (kept_by (setting_in setting.now) (domain_value domain.now)) }
@@ -77,6 +80,7 @@ pub(crate) fn actions(
             fluents,
             domain,
             problem,
+            words,
             schema,
             draft.instance,
             &draft.outcomes,

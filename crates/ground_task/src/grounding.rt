@@ -42,6 +42,7 @@ use crate::found::{Found, find_fluents};
 use crate::goals::ctl_goal;
 use crate::initial::{entries, facts};
 use crate::names::fluent_names;
+use crate::words::NameWords;
 use ctl_syntax::Ctl;
 use ground_instances::{Instance, Kept, Setting, has_few_objects, kept_instances};
 use pddl_ast::{Domain, Formula, Problem};
@@ -261,8 +262,9 @@ fn build(
     ensures { IfOk result (λ task. task_value task
         ≡ task_of (domain_value domain.now) (problem_value problem.now)) }
 {
-    let names = fluent_names(alloc, domain, problem, fluents)?;
-    let actions = actions(alloc, setting, fluents, domain, problem, drafts)?;
+    let words = NameWords::of_trees(alloc, domain, problem)?;
+    let names = fluent_names(alloc, domain, problem, &words, fluents)?;
+    let actions = actions(alloc, setting, fluents, domain, problem, &words, drafts)?;
     let entries = entries(alloc, fluents, &problem.entries)?;
     let goal = goal_condition(alloc, setting, fluents, &problem.goal)?;
     let invariant = invariant_condition(alloc, setting, fluents, domain)?;

@@ -20,5 +20,6 @@ mod outcomes;
 mod products;
 mod schemas;
 mod walk;
+mod words;
 
 pub use grounding::{GroundErr, Grounded, ground};

@@ -1,5 +1,5 @@
 -- Causes, command by command: the words say one command at most, and it has one answer at most.
-use Rattle.std.proofs.Common.{◌≡◌, ◌≢◌, ℕ, List, ◌⊎◌, inl, inr, refl, subst, sym, ◌∙◌, ap, arith, get_or, drop, length, [], decimal}
+use Rattle.std.proofs.Common.{◌≡◌, ◌≢◌, ℕ, List, ◌⊎◌, inl, inr, refl, subst, sym, ◌∙◌, ap, arith, get_or, drop, length, [], ◌∷◌, ◌++◌, codes, Bool, true, false, decimal}
 use Rattle.std.specs.Prelude.{if◌then◌else◌, ◌==◌}
 use Rattle.std.proofs.lemmas.Fmt.{decimal_injective}
 use Rattle.task_core.specs.declared.classes.Class.{Class}
@@ -12,7 +12,7 @@ use Rattle.mbp_top.specs.PlanCommand.{IsPlanAnswer}
 use Rattle.mbp_top.specs.RefuteCommand.{IsRefuteAnswer}
 use Rattle.mbp_top.specs.ReplayCommand.{Tallies}
 use Rattle.mbp_top.specs.Told.{AreFilesTold, IsDue, MayStandIn}
-use Rattle.mbp_top.specs.Words.{Bytes, Command, PlanKind, kind_word, of_class, with_contexts, plan, ground, check, replay, drill, PlanOptions, PlanWords, GroundWords, CheckWords, ReplayWords, DrillWords, DrillKind, corridors, roads, drill_word, IsNodeLimit, Says, SaysOptions, SaysPlan, SaysGround, SaysCheck, SaysReplay, SaysDrill, default_nodes, RefuteWords, refute, SaysRefute}
+use Rattle.mbp_top.specs.Words.{Bytes, Command, PlanKind, kind_word, of_class, with_contexts, plan, ground, check, replay, drill, PlanOptions, PlanWords, GroundWords, CheckWords, ReplayWords, DrillWords, DrillKind, corridors, roads, drill_word, IsNodeLimit, Says, SaysOptions, SaysPlan, SaysGround, SaysCheck, SaysReplay, SaysDrill, default_nodes, RefuteWords, refute, SaysRefute, cert_words}
 use Rattle.plan_rules.specs.Texts.{class_word}
 use Rattle.mbp_top.proofs.CheckDecides.{check_decides}
 use Rattle.mbp_top.proofs.DrillDecides.{drill_decides}
@@ -55,15 +55,28 @@ same_options words v w room room' (inr some) (inr some') =
     let nodes = decimal_injective v.nodes w.nodes (omega (arith, room.1)) (omega (arith, room'.1)) numerals in
     λ i. record { nodes = nodes i }
 
+-- what comes after the files: the word for a certificate, or none, and then the options
+not_option : (rest other : List Bytes) (w : PlanOptions) → SaysOptions other w → codes "--cert" ∷ rest ≡ other → ⊥
+not_option rest other w (inl (none, is)) same = omega (arith, ap (length {A = Bytes}) (same ∙ none))
+not_option rest other w (inr some) same = omega (arith, ap (λ (ws : List Bytes). get_or (get_or ws 0 []) 2 0) (same ∙ some))
+
+same_ends : (b c : Bool) (rest other : List Bytes) (v w : PlanOptions) → SaysOptions rest v → SaysOptions other w → cert_words b ++ rest ≡ cert_words c ++ other → (b ≡ c) × (rest ≡ other)
+same_ends true true rest other v w says says' same = (refl, ap (λ (ws : List Bytes). drop 1 ws) same)
+same_ends false false rest other v w says says' same = (refl, same)
+same_ends true false rest other v w says says' same = absurd (not_option rest other w says' same)
+same_ends false true rest other v w says says' same = absurd (not_option other rest v says (sym same))
+
 same_plan : (words : List Bytes) (v w : PlanWords) → SaysPlan words v → SaysPlan words w → v ≡ w
 same_plan words v w says says' =
     let both = sym says.written ∙ says'.written in
     let kinds = same_kind v.kind w.kind (ap (λ (ws : List Bytes). get_or ws 1 []) both) in
     let domains : v.domain ≡ w.domain = ap (λ (ws : List Bytes). get_or ws 2 []) both in
     let problems : v.problem ≡ w.problem = ap (λ (ws : List Bytes). get_or ws 3 []) both in
-    let rests : says.rest ≡ says'.rest = ap (λ (ws : List Bytes). drop 4 ws) both in
-    let options = same_options says'.rest v.options w.options says.room says'.room (subst (λ (ws : List Bytes). SaysOptions ws v.options) rests says.options) says'.options in
-    λ i. record { kind = kinds i; domain = domains i; problem = problems i; options = options i }
+    let ends : cert_words v.certified ++ says.rest ≡ cert_words w.certified ++ says'.rest = ap (λ (ws : List Bytes). drop 4 ws) both in
+    let parts = same_ends v.certified w.certified says.rest says'.rest v.options w.options says.options says'.options ends in
+    let certified : v.certified ≡ w.certified = parts.0 in
+    let options = same_options says'.rest v.options w.options says.room says'.room (subst (λ (ws : List Bytes). SaysOptions ws v.options) parts.1 says.options) says'.options in
+    λ i. record { kind = kinds i; domain = domains i; problem = problems i; options = options i; certified = certified i }
 
 same_ground : (words : List Bytes) (v w : GroundWords) → SaysGround words v → SaysGround words w → v ≡ w
 same_ground words v w says says' =

@@ -1,5 +1,5 @@
 -- The plan with contexts of a task is one for the domain and the problem that the task comes from.
-use Rattle.std.proofs.Common.{◌≡◌, ◌≢◌, ◌≤◌, ◌<◌, ℕ, List, [], length, inl, inr, refl, sym, subst, ap, ◌∙◌, None, Some, Option, true, false, All}
+use Rattle.std.proofs.Common.{◌≡◌, ◌≢◌, ◌≤◌, ◌<◌, ℕ, List, [], length, inl, inr, refl, sym, subst, ap, ◌∙◌, None, Some, Option, Bool, true, false, All}
 use Rattle.std.specs.Option.{option_and_then, option_map, option_map_or}
 use Rattle.std.specs.Prelude.{nat_le}
 use Rattle.std.proofs.lemmas.Bool.{le-leb}
@@ -43,7 +43,7 @@ use Rattle.mbp_top.specs.GoalSets.{GoalSets, HasNoGoalPlan, IsGoalPlan, contexts
 use Rattle.mbp_top.specs.Grounded.{IsTaskOf}
 use Rattle.mbp_top.specs.InitialStates.{empty_init}
 use Rattle.mbp_top.specs.Meets.{Meets, contextual}
-use Rattle.mbp_top.specs.PlanCommand.{IsPlanFound, IsPlanMissing, IsPlanResult, IsResultOf, MayBeTooFew, PlanThen, is_sought, text_for}
+use Rattle.mbp_top.specs.PlanCommand.{IsPlanFound, IsPlanMissing, IsPlanResult, IsResultOf, MayBeTooFew, PlanThen, is_sought, no_plan_text, text_for}
 use Rattle.mbp_top.specs.TemporalGoals.{HasGoal}
 use Rattle.mbp_top.specs.Words.{Bytes, PlanKind, PlanWords, with_contexts}
 use Rattle.mbp_top.specs.declared.context_goals.ContextGoal.{ContextGoal}
@@ -166,33 +166,35 @@ module _ (d : DomainTree) (p : ProblemTree) (goal : ContextGoal) (s : StandsForG
         );
       }
 
-  missing : (t : Task) (a : Answer) → IsTaskOf d p t → IsGoalMissing t (sets_of_goal goal) a → IsPlanMissing with_contexts d p a
-  missing t a of none = record {
+  missing : (certified : Bool) (t : Task) (a : Answer) → IsTaskOf d p t → IsGoalMissing t (sets_of_goal goal) a → IsPlanMissing certified with_contexts d p a
+  missing certified t a of none = record {
+    text = no_plan_text;
     shown = none.shown;
+    written = refl;
     none = no_contexts d p (λ plan m. subst (λ (y : System). HasNoGoalPlan y (sets_of_goal goal)) of.system_is none.none plan (met_back plan m));
   }
 
-  result : (t : Task) (a : Answer) → IsTaskOf d p t → IsGoalResult t (sets_of_goal goal) a → IsPlanResult with_contexts d p a
-  result t a of (inl shown) = inl (found t a of shown)
-  result t a of (inr none) = inr (missing t a of none)
+  result : (certified : Bool) (t : Task) (a : Answer) → IsTaskOf d p t → IsGoalResult t (sets_of_goal goal) a → IsPlanResult certified with_contexts d p a
+  result certified t a of (inl shown) = inl (found t a of shown)
+  result certified t a of (inr none) = inr (missing certified t a of none)
 
   few_parts : count_of goal ≤ most_of goal → part_count s.parts ≤ most_parts s.parts
   few_parts few = subst (λ n. part_count s.parts ≤ n) s.counts.most (subst (λ n. n ≤ most_of goal) s.counts.count few)
 
   -- the answer for the goal
-  pub goal_answer : (name : Bytes) (t : Task) (a : Answer) → IsTaskOf d p t → count_of goal ≤ most_of goal → initial_states t ≢ [] → IsGoalResult t (sets_of_goal goal) a
-      → IsResultOf with_contexts name d p a
-  goal_answer name t a of few some r =
-      inr (s.parts, s.is, inr (few_parts few, inr (λ none. some (ap (λ (y : System). y.initial) of.system_is ∙ none), result t a of r)))
+  pub goal_answer : (certified : Bool) (name : Bytes) (t : Task) (a : Answer) → IsTaskOf d p t → count_of goal ≤ most_of goal → initial_states t ≢ [] → IsGoalResult t (sets_of_goal goal) a
+      → IsResultOf certified with_contexts name d p a
+  goal_answer certified name t a of few some r =
+      inr (s.parts, s.is, inr (few_parts few, inr (λ none. some (ap (λ (y : System). y.initial) of.system_is ∙ none), result certified t a of r)))
 
   -- there is no initial state
-  pub goal_without_initial : (name : Bytes) (t : Task) (a : Answer) → IsTaskOf d p t → count_of goal ≤ most_of goal → initial_states t ≡ []
-      → a ≡ refused (empty_init name p) → IsResultOf with_contexts name d p a
-  goal_without_initial name t a of few none is =
+  pub goal_without_initial : (certified : Bool) (name : Bytes) (t : Task) (a : Answer) → IsTaskOf d p t → count_of goal ≤ most_of goal → initial_states t ≡ []
+      → a ≡ refused (empty_init name p) → IsResultOf certified with_contexts name d p a
+  goal_without_initial certified name t a of few none is =
       inr (s.parts, s.is, inr (few_parts few, inl (sym (ap (λ (y : System). y.initial) of.system_is) ∙ none, is)))
 
-  pub too_many_parts : (name : Bytes) (a : Answer) → most_of goal < count_of goal → a ≡ refused (over_limit (limit_of_goal goal)) → IsResultOf with_contexts name d p a
-  too_many_parts name a many is =
+  pub too_many_parts : (certified : Bool) (name : Bytes) (a : Answer) → most_of goal < count_of goal → a ≡ refused (over_limit (limit_of_goal goal)) → IsResultOf certified with_contexts name d p a
+  too_many_parts certified name a many is =
       inr (
         s.parts,
         s.is,
@@ -224,9 +226,9 @@ module _ (d : DomainTree) (p : ProblemTree) (goal : ContextGoal) (s : StandsForG
   }
 
 -- the goal is none of them
-pub refused_goal : (name : Bytes) (d : DomainTree) (p : ProblemTree) (a : Answer) → context_goal p ≡ None
-    → a ≡ refused (text_fault name (record { kind = NotChain; place = p.ctl_place })) → IsResultOf with_contexts name d p a
-refused_goal name d p a none is = inl (none, is)
+pub refused_goal : (certified : Bool) (name : Bytes) (d : DomainTree) (p : ProblemTree) (a : Answer) → context_goal p ≡ None
+    → a ≡ refused (text_fault name (record { kind = NotChain; place = p.ctl_place })) → IsResultOf certified with_contexts name d p a
+refused_goal certified name d p a none is = inl (none, is)
 
 -- the conditions of a goal are such as a search takes
 shallow_within : (cond : Cond) → depth cond ≤ 200 → is_shallow cond ≡ true
@@ -261,22 +263,22 @@ chain_over_task n chain few names deep = over_task n (Chain chain) few tt names 
 pub goal_then : (d : DomainTree) (p : ProblemTree) (goal : ContextGoal) (s : StandsForGoal d p goal) (asked : PlanWords) (t : Task) (a : Answer) → asked.kind ≡ with_contexts
     → IsTaskOf d p t → count_of goal ≤ most_of goal → initial_states t ≢ [] → IsGoalResult t (sets_of_goal goal) a → PlanThen asked d p a
 goal_then d p goal s asked t a kind of few some r =
-    subst (λ (k : PlanKind). IsResultOf k asked.problem d p a) (sym kind) (goal_answer d p goal s asked.problem t a of few some r)
+    subst (λ (k : PlanKind). IsResultOf asked.certified k asked.problem d p a) (sym kind) (goal_answer d p goal s asked.certified asked.problem t a of few some r)
 
 pub empty_then : (d : DomainTree) (p : ProblemTree) (goal : ContextGoal) (s : StandsForGoal d p goal) (asked : PlanWords) (t : Task) (a : Answer) → asked.kind ≡ with_contexts
     → IsTaskOf d p t → count_of goal ≤ most_of goal → initial_states t ≡ [] → a ≡ refused (empty_init asked.problem p) → PlanThen asked d p a
 empty_then d p goal s asked t a kind of few none is =
-    subst (λ (k : PlanKind). IsResultOf k asked.problem d p a) (sym kind) (goal_without_initial d p goal s asked.problem t a of few none is)
+    subst (λ (k : PlanKind). IsResultOf asked.certified k asked.problem d p a) (sym kind) (goal_without_initial d p goal s asked.certified asked.problem t a of few none is)
 
 pub too_many_then : (d : DomainTree) (p : ProblemTree) (goal : ContextGoal) (s : StandsForGoal d p goal) (asked : PlanWords) (a : Answer) → asked.kind ≡ with_contexts
     → most_of goal < count_of goal → a ≡ refused (over_limit (limit_of_goal goal)) → PlanThen asked d p a
 too_many_then d p goal s asked a kind many is =
-    subst (λ (k : PlanKind). IsResultOf k asked.problem d p a) (sym kind) (too_many_parts d p goal s asked.problem a many is)
+    subst (λ (k : PlanKind). IsResultOf asked.certified k asked.problem d p a) (sym kind) (too_many_parts d p goal s asked.certified asked.problem a many is)
 
 pub refused_then : (d : DomainTree) (p : ProblemTree) (asked : PlanWords) (a : Answer) → asked.kind ≡ with_contexts → context_goal p ≡ None
     → a ≡ refused (text_fault asked.problem (record { kind = NotChain; place = p.ctl_place })) → PlanThen asked d p a
 refused_then d p asked a kind none is =
-    subst (λ (k : PlanKind). IsResultOf k asked.problem d p a) (sym kind) (refused_goal asked.problem d p a none is)
+    subst (λ (k : PlanKind). IsResultOf asked.certified k asked.problem d p a) (sym kind) (refused_goal asked.certified asked.problem d p a none is)
 
 -- what a search found, with its text
 pub goal_is_result : (t : Task) (sets : GoalSets) (plan : AutoPlan) (text : Bytes) → IsPlanFor t sets plan

@@ -26,6 +26,8 @@ pub mod RefuteDecides
 pub mod RefuteSizes
 pub mod RefuteAnswers
 pub mod RefuteWritten
+pub mod CertificateFound
+pub mod CertificateWritten
 pub mod ByCommand
 pub mod Statuses
 pub mod Unread

@@ -1,5 +1,5 @@
 -- Plans that meet a problem, and problems that none meets.
-use Rattle.std.proofs.Common.{ℕ, List, [], ◌∷◌, inl, inr, refl, subst}
+use Rattle.std.proofs.Common.{ℕ, Bool, List, [], ◌∷◌, inl, inr, refl, subst}
 use Rattle.exec_graph.proofs.DenotedPairs.{can_execute-Exec, denoted-pair}
 use Rattle.pddl_ast.specs.Trees.{DomainTree, ProblemTree}
 use Rattle.pddl_system.specs.Systems.{action_names, fluent_names, system}
@@ -70,9 +70,9 @@ no_contexts d p none (pairs rows) never = never
 no_contexts d p none (contextual plan) meets = none plan meets
 
 -- the answer for a system is that for the domain and the problem whose system it is
-pub of_system : (class : Class) (d : DomainTree) (p : ProblemTree) (a : Answer) → IsTableResult class (system d p) (fluent_names d p) (action_names d p) a
-    → IsPlanResult (of_class class) d p a
-of_system class d p a (inl found) = inl (record {
+pub of_system : (certified : Bool) (class : Class) (d : DomainTree) (p : ProblemTree) (a : Answer) → IsTableResult certified class (system d p) (fluent_names d p) (action_names d p) a
+    → IsPlanResult certified (of_class class) d p a
+of_system certified class d p a (inl found) = inl (record {
   text = found.text;
   shown = found.shown;
   good = record {
@@ -85,4 +85,4 @@ of_system class d p a (inl found) = inl (record {
   short = record { rules = found.rules; spelled = found.spelled; shortest = found.shortest };
   printed = record { rules = found.rules; printed = found.printed; spelled = found.written };
 })
-of_system class d p a (inr none) = inr (record { shown = none.shown; none = no_table class d p none.none })
+of_system certified class d p a (inr none) = inr (record { text = none.text; shown = none.shown; none = no_table class d p none.none; written = none.written })

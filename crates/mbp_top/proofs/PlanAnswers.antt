@@ -1,6 +1,6 @@
 -- The answer for a plan that was found, for a system and names that are equal, and for what was
 -- read.
-use Rattle.std.proofs.Common.{◌≡◌, ◌≢◌, ◌⊎◌, ℕ, List, [], Contains, subst, sym, ap, ◌∙◌, inl, inr, refl, None, IsSome, All, true}
+use Rattle.std.proofs.Common.{◌≡◌, ◌≢◌, ◌⊎◌, ℕ, List, [], Contains, subst, sym, ap, ◌∙◌, inl, inr, refl, None, IsSome, All, Bool, true, false, ◌++◌}
 use Rattle.std.specs.Prelude.{IfOk, Result, Ok, Err}
 use Rattle.dd_sets.specs.declared.errors.SetErr.{SetErr}
 use Rattle.plan_theory.specs.Found.{IfNoPlan, IfPlan}
@@ -16,6 +16,10 @@ use Rattle.task_core.specs.Systems.{IsSystem, System}
 use Rattle.task_core.specs.Tables.{IsTable, Table}
 use Rattle.task_core.specs.Vectors.{Vector}
 use Rattle.task_core.specs.Solutions.{HasNoSolution, IsSolution, IsStrongSolution}
+use Rattle.plan_certs.specs.Named.{plain_of}
+use Rattle.plan_certs.specs.Readings.{SpellsPlain as SpellsCertificate}
+use Rattle.plan_certs.specs.Texts.{certificate_text}
+use Rattle.plan_certs.specs.declared.certificates.Certificate.{Certificate}
 use Rattle.plan_io.specs.Held.{Held}
 use Rattle.plan_rules.specs.Denoted.{denoted, IsExecutable}
 use Rattle.plan_rules.specs.Readings.{SpellsTable}
@@ -28,24 +32,24 @@ use Rattle.plan_rules.specs.declared.rules.TablePlan.{TablePlan}
 use Rattle.plan_theory.specs.Bounds.{PathsAreWithin, ReachesGoalWithin}
 use Rattle.plan_theory.specs.Layers.{IsLastLayer}
 use Rattle.plan_theory.specs.LayerPlans.{printed_rules}
-use Rattle.mbp_top.specs.Answers.{Answer, affirmed, full, no_memory, refused}
+use Rattle.mbp_top.specs.Answers.{Answer, affirmed, denied, full, no_memory, refused}
 use Rattle.mbp_top.specs.Enough.{IsTightForClass, IsTightLimit, IsTightPlan}
-use Rattle.mbp_top.specs.FoundPlans.{IsFoundPlan, IsSearched, IsTableResult}
+use Rattle.mbp_top.specs.FoundPlans.{IsFoundCertificate, IsFoundPlan, IsSearched, IsTableResult}
 use Rattle.mbp_top.specs.Grounded.{IsTaskOf}
 use Rattle.mbp_top.specs.Grounding.{has_goal_for}
 use Rattle.mbp_top.specs.InitialStates.{empty_init}
 use Rattle.mbp_top.specs.PddlTexts.{HoldBoth, ReadBoth}
-use Rattle.mbp_top.specs.PlanCommand.{ArePrintedRules, IsPlanAnswer, IsPlanned, IsResultOf, IsShortest, MayBeTooFew, PlanThen, is_sought}
+use Rattle.mbp_top.specs.PlanCommand.{ArePrintedRules, IsPlanAnswer, IsPlanned, IsResultOf, IsShortest, MayBeTooFew, PlanThen, is_sought, no_plan_text}
 use Rattle.mbp_top.specs.Words.{Bytes, PlanKind, PlanWords, of_class}
 use Rattle.mbp_top.proofs.Listings.{same_actions, same_fluents}
 use Rattle.mbp_top.proofs.Meetings.{followed, of_system}
 
 -- a plan that was found, with its text
-pub plan_is_result : (class : Class) (t : Task) → IsSystem (system_of t) → (p : TablePlan) (text : Bytes) → IsFoundPlan class t p
+pub plan_is_result : (certified : Bool) (class : Class) (t : Task) → IsSystem (system_of t) → (p : TablePlan) (text : Bytes) → IsFoundPlan class t p
     → SpellsTable (names_of_fluents t) (names_of_actions t) text p.class (rules_of p)
     → text ≡ table_text (names_of_fluents t) (names_of_actions t) p.class (rules_of p)
-    → IsTableResult class (system_of t) (names_of_fluents t) (names_of_actions t) (affirmed text)
-plan_is_result class t system p text found spelled is =
+    → IsTableResult certified class (system_of t) (names_of_fluents t) (names_of_actions t) (affirmed text)
+plan_is_result certified class t system p text found spelled is =
     let fluents = names_of_fluents t in
     let actions = names_of_actions t in
     inl (record {
@@ -62,22 +66,22 @@ plan_is_result class t system p text found spelled is =
       written = is ∙ ap (λ k. table_text fluents actions k (rules_of p)) found.of_class;
     })
 
-same_result : (class : Class) (sys sys' : System) (fluents fluents' actions actions' : List Name) (answer : Answer) → sys ≡ sys' → fluents ≡ fluents' → actions ≡ actions'
-    → IsTableResult class sys fluents actions answer → IsTableResult class sys' fluents' actions' answer
-same_result class sys sys' fluents fluents' actions actions' answer s f a h =
-    subst (λ (y : System). IsTableResult class y fluents' actions' answer) s
-    (subst (λ (y : List Name). IsTableResult class sys y actions' answer) f
-    (subst (λ (y : List Name). IsTableResult class sys fluents y answer) a h))
+same_result : (certified : Bool) (class : Class) (sys sys' : System) (fluents fluents' actions actions' : List Name) (answer : Answer) → sys ≡ sys' → fluents ≡ fluents' → actions ≡ actions'
+    → IsTableResult certified class sys fluents actions answer → IsTableResult certified class sys' fluents' actions' answer
+same_result certified class sys sys' fluents fluents' actions actions' answer s f a h =
+    subst (λ (y : System). IsTableResult certified class y fluents' actions' answer) s
+    (subst (λ (y : List Name). IsTableResult certified class sys y actions' answer) f
+    (subst (λ (y : List Name). IsTableResult certified class sys fluents y answer) a h))
 
 -- the answer for a task is that for the domain and the problem that it comes from
 pub planned_answer : (asked : PlanWords) (class : Class) (d : DomainTree) (p : ProblemTree) (t : Task) (a : Answer) → asked.kind ≡ of_class class → IsTaskOf d p t
-    → initial_states t ≢ [] → IsTableResult class (system_of t) (names_of_fluents t) (names_of_actions t) a → PlanThen asked d p a
+    → initial_states t ≢ [] → IsTableResult asked.certified class (system_of t) (names_of_fluents t) (names_of_actions t) a → PlanThen asked d p a
 planned_answer asked class d p t a kind of some result =
-    subst (λ (k : PlanKind). IsResultOf k asked.problem d p a) (sym kind)
+    subst (λ (k : PlanKind). IsResultOf asked.certified k asked.problem d p a) (sym kind)
     (inr (
       λ none. some (ap (λ (y : System). y.initial) of.system_is ∙ none),
-      of_system class d p a
-          (same_result class (system_of t) (system d p) (names_of_fluents t) (fluent_names d p) (names_of_actions t) (action_names d p) a
+      of_system asked.certified class d p a
+          (same_result asked.certified class (system_of t) (system d p) (names_of_fluents t) (fluent_names d p) (names_of_actions t) (action_names d p) a
           of.system_is (same_fluents d p t of.task_is) (same_actions d p t of.task_is) result),
     ))
 
@@ -85,7 +89,7 @@ planned_answer asked class d p t a kind of some result =
 pub without_initial : (asked : PlanWords) (class : Class) (d : DomainTree) (p : ProblemTree) (t : Task) (a : Answer) → asked.kind ≡ of_class class → IsTaskOf d p t
     → initial_states t ≡ [] → a ≡ refused (empty_init asked.problem p) → PlanThen asked d p a
 without_initial asked class d p t a kind of none is =
-    subst (λ (k : PlanKind). IsResultOf k asked.problem d p a) (sym kind) (inl (sym (ap (λ (y : System). y.initial) of.system_is) ∙ none, is))
+    subst (λ (k : PlanKind). IsResultOf asked.certified k asked.problem d p a) (sym kind) (inl (sym (ap (λ (y : System). y.initial) of.system_is) ∙ none, is))
 
 -- the nodes may be too few for the problem where they may be for its task
 pub tight_class : (class : Class) (nodes : ℕ) (d : DomainTree) (p : ProblemTree) (t : Task) → IsTaskOf d p t → IsTightForClass class nodes t → IsTightPlan (of_class class) nodes d p
@@ -113,6 +117,22 @@ pub shortest_strong : (sys : System) (K : ℕ) (rules : List PlanRule)
     → IsSystem sys → rules ≡ printed_rules Strong sys K → IsShortest Strong sys (denoted sys rules)
 shortest_strong sys K rules law is printed other s n of solves initial within =
     subst (λ (rs : List PlanRule). PathsAreWithin sys (denoted sys rs) s n) (sym printed) (law K other s n is of solves initial within)
+
+-- that there is no plan, with the certificate
+pub certificate_is_result : (class : Class) (t : Task) (certificate : Certificate) (text : Bytes) → IsFoundCertificate class t certificate
+    → SpellsCertificate (names_of_fluents t) (certificate_text (names_of_fluents t) (plain_of certificate)) (plain_of certificate)
+    → text ≡ no_plan_text ++ certificate_text (names_of_fluents t) (plain_of certificate)
+    → IsTableResult true class (system_of t) (names_of_fluents t) (names_of_actions t) (denied text)
+certificate_is_result class t certificate text found spelled is = inr (record {
+  text = text;
+  shown = refl;
+  none = found.none;
+  written = record { certificate = plain_of certificate; printed = found.printed; spelled = spelled; written = is };
+})
+
+-- or without it
+pub none_is_result : (class : Class) (t : Task) → HasNoSolution class (system_of t) → IsTableResult false class (system_of t) (names_of_fluents t) (names_of_actions t) (denied no_plan_text)
+none_is_result class t none = inr (record { text = no_plan_text; shown = refl; none = none; written = refl })
 
 -- after both files were read: the table of nodes is full, or what follows
 pub after_plan : (held : Bytes → Held) (failed : Bytes → Type 0) (asked : PlanWords) (d : DomainTree) (p : ProblemTree) (a : Answer)

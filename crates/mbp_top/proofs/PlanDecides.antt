@@ -1,10 +1,13 @@
 -- The two files and the class decide the answer of `plan`, unless the table of nodes is full.
-use Rattle.std.proofs.Common.{◌≡◌, ◌≢◌, ℕ, true, false, ◌<◌, ◌≤◌, List, inl, inr, sym, subst, ap, ◌∙◌, arith, Some}
+use Rattle.std.proofs.Common.{◌≡◌, ◌≢◌, ℕ, Bool, true, false, ◌<◌, ◌≤◌, ◌++◌, List, inl, inr, sym, subst, ap, ◌∙◌, arith, Some}
 use Rattle.pddl_ast.specs.Trees.{DomainTree, FormulaTree, ProblemTree}
 use Rattle.plan_io.specs.Held.{Held, Untold}
 use Rattle.pddl_system.specs.Systems.{system, fluent_names, action_names}
 use Rattle.pddl_system.proofs.States.{they_have_a_system}
 use Rattle.task_core.specs.Systems.{IsSystem, System}
+use Rattle.plan_certs.proofs.PrintedLemmas.{printed_one}
+use Rattle.plan_certs.specs.Certificates.{PlainCertificate}
+use Rattle.plan_certs.specs.Texts.{certificate_text}
 use Rattle.plan_rules.specs.Rules.{PlanRule}
 use Rattle.plan_rules.specs.Texts.{table_text}
 use Rattle.task_core.specs.Names.{Name}
@@ -12,13 +15,13 @@ use Rattle.task_core.specs.declared.classes.Class.{Class}
 use Rattle.task_core.specs.declared.classes.Class.TheVariants.{Weak, Strong, Cyclic}
 use Rattle.plan_theory.specs.Layers.{IsLastLayer}
 use Rattle.plan_theory.specs.LayerPlans.{printed_rules}
-use Rattle.mbp_top.specs.Answers.{Answer, affirmed, over_limit, refused}
+use Rattle.mbp_top.specs.Answers.{Answer, affirmed, denied, over_limit, refused}
 use Rattle.mbp_top.specs.ContextGoals.{ContextGoalThen, PlainGoal, most_parts, part_count, part_limit}
 use Rattle.mbp_top.specs.GoalSets.{goal_sets}
 use Rattle.mbp_top.specs.Grounding.{GroundThen}
 use Rattle.mbp_top.specs.PddlTexts.{ReadBoth}
 use Rattle.mbp_top.specs.InitialStates.{empty_init}
-use Rattle.mbp_top.specs.PlanCommand.{ArePrintedRules, AreRulesOfLayers, IsPrintedPlan, IsPrintedText, IsPlanResult, IsPlanned, IsResultFrom, IsResultOf, PlanThen, text_for}
+use Rattle.mbp_top.specs.PlanCommand.{ArePrintedRules, AreRulesOfLayers, IsPrintedPlan, IsPrintedText, IsNoTableText, IsPlanResult, IsPlanned, IsResultFrom, IsResultOf, PlanThen, no_plan_text, text_for}
 use Rattle.mbp_top.specs.Words.{Bytes, PlanKind, PlanWords, of_class, with_contexts}
 use Rattle.mbp_top.proofs.Deciding.{Decides}
 use Rattle.mbp_top.proofs.Initials.{initial_decides}
@@ -50,12 +53,21 @@ one_printed : (class : Class) (sys : System) → IsSystem sys → (fluents actio
 one_printed class sys ok fluents actions text other first second =
     first.spelled ∙ ap (table_text fluents actions class) (one_list class sys ok first.rules second.rules first.printed second.printed) ∙ sym second.spelled
 
-result_decides : (class : Class) (d : DomainTree) (p : ProblemTree) → Decides (IsPlanResult (of_class class) d p) (IsPlanResult (of_class class) d p)
-result_decides class d p a b (inl f) (inl g) =
+-- one text at most is shown where there is no table
+one_no_table : (certified : Bool) (class : Class) (sys : System) (fluents : List Name) (text other : Bytes) → IsNoTableText certified class sys fluents text → IsNoTableText certified class sys fluents other
+    → text ≡ other
+one_no_table false class sys fluents text other first second = first ∙ sym second
+one_no_table true class sys fluents text other first second =
+    first.written
+    ∙ (ap (λ (c : PlainCertificate). no_plan_text ++ certificate_text fluents c) (printed_one class sys first.certificate second.certificate first.printed second.printed) ∙ sym second.written)
+
+result_decides : (certified : Bool) (class : Class) (d : DomainTree) (p : ProblemTree) → Decides (IsPlanResult certified (of_class class) d p) (IsPlanResult certified (of_class class) d p)
+result_decides certified class d p a b (inl f) (inl g) =
     f.shown ∙ ap affirmed (one_printed class (system d p) (they_have_a_system d p) (fluent_names d p) (action_names d p) f.text g.text f.printed g.printed) ∙ sym g.shown
-result_decides class d p a b (inl f) (inr n) = absurd (n.none f.good.meets.0 f.good.meets.2)
-result_decides class d p a b (inr n) (inl f) = absurd (n.none f.good.meets.0 f.good.meets.2)
-result_decides class d p a b (inr m) (inr n) = m.shown ∙ sym n.shown
+result_decides certified class d p a b (inl f) (inr n) = absurd (n.none f.good.meets.0 f.good.meets.2)
+result_decides certified class d p a b (inr n) (inl f) = absurd (n.none f.good.meets.0 f.good.meets.2)
+result_decides certified class d p a b (inr m) (inr n) =
+    m.shown ∙ (ap denied (one_no_table certified class (system d p) (fluent_names d p) m.text n.text m.written n.written) ∙ sym n.shown)
 
 -- one goal at most
 one_goal : (c e : PlainGoal FormulaTree) → Some c ≡ Some e → c ≡ e
@@ -65,11 +77,11 @@ printed_once : (d : DomainTree) (p : ProblemTree) (text other : Bytes) → IsPri
 printed_once d p text other (c, is, spelled) (e, is', spelled') =
     spelled ∙ (ap (λ (x : PlainGoal FormulaTree). text_for d p (goal_sets d p x)) (one_goal c e (sym is ∙ is')) ∙ sym spelled')
 
-context_decides : (d : DomainTree) (p : ProblemTree) → Decides (IsPlanResult with_contexts d p) (IsPlanResult with_contexts d p)
-context_decides d p a b (inl f) (inl g) = f.shown ∙ (ap affirmed (printed_once d p f.text g.text f.printed g.printed) ∙ sym g.shown)
-context_decides d p a b (inl f) (inr n) = absurd (n.none f.good.meets.0 f.good.meets.2)
-context_decides d p a b (inr n) (inl f) = absurd (n.none f.good.meets.0 f.good.meets.2)
-context_decides d p a b (inr m) (inr n) = m.shown ∙ sym n.shown
+context_decides : (certified : Bool) (d : DomainTree) (p : ProblemTree) → Decides (IsPlanResult certified with_contexts d p) (IsPlanResult certified with_contexts d p)
+context_decides certified d p a b (inl f) (inl g) = f.shown ∙ (ap affirmed (printed_once d p f.text g.text f.printed g.printed) ∙ sym g.shown)
+context_decides certified d p a b (inl f) (inr n) = absurd (n.none f.good.meets.0 f.good.meets.2)
+context_decides certified d p a b (inr n) (inl f) = absurd (n.none f.good.meets.0 f.good.meets.2)
+context_decides certified d p a b (inr m) (inr n) = m.shown ∙ (ap denied (m.written ∙ sym n.written) ∙ sym n.shown)
 
 -- a goal of few stages or visits is no other of many
 not_many : (c e : PlainGoal FormulaTree) → Some c ≡ Some e → most_parts c < part_count c → part_count e ≤ most_parts e → ⊥
@@ -87,12 +99,12 @@ goal_parts_decide name p Then next a b (inr (c, some, inl (many, is))) (inr (e, 
 goal_parts_decide name p Then next a b (inr (c, some, inr (few, then))) (inr (e, some', inl (many, is))) = absurd (not_many e c (sym some' ∙ some) many few)
 goal_parts_decide name p Then next a b (inr (c, some, inr (few, then))) (inr (e, some', inr (few', then'))) = next a b then then'
 
-kind_decides : (kind : PlanKind) (name : Bytes) (d : DomainTree) (p : ProblemTree) → Decides (IsResultOf kind name d p) (IsResultOf kind name d p)
-kind_decides (of_class class) name d p =
-    initial_decides (empty_init name p) (system d p).initial (IsPlanResult (of_class class) d p) (result_decides class d p)
-kind_decides with_contexts name d p =
-    goal_parts_decide name p (IsResultFrom with_contexts name d p)
-    (initial_decides (empty_init name p) (system d p).initial (IsPlanResult with_contexts d p) (context_decides d p))
+kind_decides : (certified : Bool) (kind : PlanKind) (name : Bytes) (d : DomainTree) (p : ProblemTree) → Decides (IsResultOf certified kind name d p) (IsResultOf certified kind name d p)
+kind_decides certified (of_class class) name d p =
+    initial_decides (empty_init name p) (system d p).initial (IsPlanResult certified (of_class class) d p) (result_decides certified class d p)
+kind_decides certified with_contexts name d p =
+    goal_parts_decide name p (IsResultFrom certified with_contexts name d p)
+    (initial_decides (empty_init name p) (system d p).initial (IsPlanResult certified with_contexts d p) (context_decides certified d p))
 
 pub plan_decides : OneReading → (held : Bytes → Held) (failed failed' : Bytes → Type 0) (asked : PlanWords)
     → held asked.domain ≢ Untold → held asked.problem ≢ Untold → ((file : Bytes) → failed file → ⊥) → ((file : Bytes) → failed' file → ⊥)
@@ -101,4 +113,4 @@ plan_decides one held failed failed' asked told told' quiet quiet' =
     both_decides one held failed failed' asked.domain asked.problem (IsPlanned asked) (IsPlanned asked) told told' quiet quiet' (λ d p.
     goal_decides asked.kind asked.problem p (GroundThen d p (PlanThen asked d p)) (GroundThen d p (PlanThen asked d p))
     (ground_decides d p (PlanThen asked d p) (PlanThen asked d p)
-    (kind_decides asked.kind asked.problem d p)))
+    (kind_decides asked.certified asked.kind asked.problem d p)))

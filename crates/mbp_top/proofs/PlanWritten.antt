@@ -15,7 +15,7 @@ use Rattle.mbp_top.specs.Grounding.{GroundThen, has_goal_for}
 use Rattle.mbp_top.specs.Enough.{IsTightPlan}
 use Rattle.mbp_top.specs.InitialStates.{empty_init}
 use Rattle.mbp_top.specs.PddlTexts.{HoldBoth, IsFaultyDomain, IsFaultyProblem, ReadBoth}
-use Rattle.mbp_top.specs.PlanCommand.{HasNoPlan, IsGoodText, IsPlanAnswer, IsPlanFound, IsPlanMissing, IsPlanResult, IsPlanned, IsResultFrom, IsResultOf, IsShortText, IsTextPrinted, MayRunOut, PlanThen, is_sought, no_plan_text}
+use Rattle.mbp_top.specs.PlanCommand.{HasNoPlan, IsGoodText, IsNoPlanText, IsPlanAnswer, IsPlanFound, IsPlanMissing, IsPlanResult, IsPlanned, IsResultFrom, IsResultOf, IsShortText, IsTextPrinted, MayRunOut, PlanThen, is_sought}
 use Rattle.mbp_top.specs.ContextGoals.{ContextGoalThen, PlainGoal, context_goal, is_short_goal, most_parts, part_count, plain_goal}
 use Rattle.mbp_top.specs.Reading.{IsRefusedFile}
 use Rattle.mbp_top.specs.Told.{AreFilesTold, NoFault}
@@ -32,7 +32,7 @@ pub record PlanFor (held : Bytes → Held) (asked : PlanWords) (answer : Answer)
   pub domain : DomainTree
   pub problem : ProblemTree
   pub both : HoldBoth held asked.domain asked.problem domain problem
-  pub result : IsResultOf asked.kind asked.problem domain problem answer
+  pub result : IsResultOf asked.certified asked.kind asked.problem domain problem answer
 
 plan_for : (held : Bytes → Held) (asked : PlanWords) (a : Answer) → is_shown a ≡ true → ReadFor held asked.domain asked.problem (IsPlanned asked) a → PlanFor held asked a
 plan_for held asked a shown read = record {
@@ -54,20 +54,20 @@ shown_parts name p Then a shown (inl (none, is)) = absurd (not_refused _ a is sh
 shown_parts name p Then a shown (inr (c, some, inl (many, is))) = absurd (not_refused _ a is shown)
 shown_parts name p Then a shown (inr (c, some, inr (few, then))) = then
 
-of_result : (kind : PlanKind) (name : Bytes) (d : DomainTree) (p : ProblemTree) (a : Answer) → is_shown a ≡ true → IsResultOf kind name d p a → IsPlanResult kind d p a
-of_result (of_class class) name d p a shown r =
-    shown_initial (empty_init name p) (system d p).initial (IsPlanResult (of_class class) d p) a shown r
-of_result with_contexts name d p a shown r =
-    shown_initial (empty_init name p) (system d p).initial (IsPlanResult with_contexts d p) a shown
-    (shown_parts name p (IsResultFrom with_contexts name d p) a shown r)
+of_result : (certified : Bool) (kind : PlanKind) (name : Bytes) (d : DomainTree) (p : ProblemTree) (a : Answer) → is_shown a ≡ true → IsResultOf certified kind name d p a → IsPlanResult certified kind d p a
+of_result certified (of_class class) name d p a shown r =
+    shown_initial (empty_init name p) (system d p).initial (IsPlanResult certified (of_class class) d p) a shown r
+of_result certified with_contexts name d p a shown r =
+    shown_initial (empty_init name p) (system d p).initial (IsPlanResult certified with_contexts d p) a shown
+    (shown_parts name p (IsResultFrom certified with_contexts name d p) a shown r)
 
-plan_found : (kind : PlanKind) (d : DomainTree) (p : ProblemTree) (a : Answer) → IsPlanResult kind d p a → status_of a ≡ 0 → IsPlanFound kind d p a
-plan_found kind d p a (inl found) zero = found
-plan_found kind d p a (inr lacking) zero = absurd (let e : 0 ≡ 1 = sym zero ∙ ap status_of lacking.shown in omega arith)
+plan_found : (certified : Bool) (kind : PlanKind) (d : DomainTree) (p : ProblemTree) (a : Answer) → IsPlanResult certified kind d p a → status_of a ≡ 0 → IsPlanFound kind d p a
+plan_found certified kind d p a (inl found) zero = found
+plan_found certified kind d p a (inr lacking) zero = absurd (let e : 0 ≡ 1 = sym zero ∙ ap status_of lacking.shown in omega arith)
 
-plan_missing : (kind : PlanKind) (d : DomainTree) (p : ProblemTree) (a : Answer) → IsPlanResult kind d p a → status_of a ≡ 1 → IsPlanMissing kind d p a
-plan_missing kind d p a (inl found) one = absurd (let e : 1 ≡ 0 = sym one ∙ ap status_of found.shown in omega arith)
-plan_missing kind d p a (inr lacking) one = lacking
+plan_missing : (certified : Bool) (kind : PlanKind) (d : DomainTree) (p : ProblemTree) (a : Answer) → IsPlanResult certified kind d p a → status_of a ≡ 1 → IsPlanMissing certified kind d p a
+plan_missing certified kind d p a (inl found) one = absurd (let e : 1 ≡ 0 = sym one ∙ ap status_of found.shown in omega arith)
+plan_missing certified kind d p a (inr lacking) one = lacking
 
 -- what was written at status 0
 pub record PlanWritten (held : Bytes → Held) (asked : PlanWords) (out out' : Seen) : Type 0 where
@@ -87,7 +87,7 @@ plan_written held failed tallies words before after out out' err err' status a a
     let code : status_of a ≡ 0 = sym whole.0 ∙ zero in
     let shown = shown_at a (inl code) in
     let trees = shown_plan held failed asked a shown (of_command held failed tallies words (plan asked) a says d.cause) in
-    let found = plan_found asked.kind trees.domain trees.problem a (of_result asked.kind asked.problem trees.domain trees.problem a shown trees.result) code in
+    let found = plan_found asked.certified asked.kind trees.domain trees.problem a (of_result asked.certified asked.kind asked.problem trees.domain trees.problem a shown trees.result) code in
     record {
       domain = trees.domain;
       problem = trees.problem;
@@ -104,8 +104,10 @@ pub record NoPlanWritten (held : Bytes → Held) (asked : PlanWords) (out out' :
   pub domain : DomainTree
   pub problem : ProblemTree
   pub both : HoldBoth held asked.domain asked.problem domain problem
+  pub text : Bytes
   pub none : HasNoPlan asked.kind domain problem
-  pub written : out'.written ≡ append_known out.written no_plan_text
+  pub is_text : IsNoPlanText asked.certified asked.kind domain problem text
+  pub written : out'.written ≡ append_known out.written text
 
 pub no_plan_written : (held : Bytes → Held) (failed : Bytes → Type 0) (tallies : Tallies) (words : List Bytes) (before after : ℕ) (out out' err err' : Seen) (status : ℕ) (a : Answer) (asked : PlanWords)
     → Done held failed tallies words before after out out' err err' status a → SaysPlan words asked → status ≡ 1 → NoPlanWritten held asked out out'
@@ -114,19 +116,21 @@ no_plan_written held failed tallies words before after out out' err err' status 
     let code : status_of a ≡ 1 = sym whole.0 ∙ one in
     let shown = shown_at a (inr code) in
     let trees = shown_plan held failed asked a shown (of_command held failed tallies words (plan asked) a says d.cause) in
-    let missing = plan_missing asked.kind trees.domain trees.problem a (of_result asked.kind asked.problem trees.domain trees.problem a shown trees.result) code in
+    let missing = plan_missing asked.certified asked.kind trees.domain trees.problem a (of_result asked.certified asked.kind asked.problem trees.domain trees.problem a shown trees.result) code in
     record {
       domain = trees.domain;
       problem = trees.problem;
       both = trees.both;
+      text = missing.text;
       none = missing.none;
-      written = written_shown a no_plan_text out out' err err' whole.1 shown (ap text_of missing.shown);
+      is_text = missing.written;
+      written = written_shown a missing.text out out' err err' whole.1 shown (ap text_of missing.shown);
     }
 
 -- the status of what is looked for
-plan_code : (kind : PlanKind) (d : DomainTree) (p : ProblemTree) (a : Answer) (status : ℕ) → IsPlanResult kind d p a → status ≡ status_of a → (status ≡ 0) ⊎ (status ≡ 1) ⊎ (status ≡ 8)
-plan_code kind d p a status (inl found) code = inl (code ∙ ap status_of found.shown)
-plan_code kind d p a status (inr missing) code = inr (inl (code ∙ ap status_of missing.shown))
+plan_code : (certified : Bool) (kind : PlanKind) (d : DomainTree) (p : ProblemTree) (a : Answer) (status : ℕ) → IsPlanResult certified kind d p a → status ≡ status_of a → (status ≡ 0) ⊎ (status ≡ 1) ⊎ (status ≡ 8)
+plan_code certified kind d p a status (inl found) code = inl (code ∙ ap status_of found.shown)
+plan_code certified kind d p a status (inr missing) code = inr (inl (code ∙ ap status_of missing.shown))
 
 -- a short goal is neither refused nor too long
 abbrev is_short : Option (PlainGoal FormulaTree) → Bool
@@ -143,14 +147,14 @@ parts_sought name p Then a short (inl (none, is)) = absurd (never_short (context
 parts_sought name p Then a short (inr (c, some, inl (many, is))) = absurd (let few = few_of (context_goal p) c some short in omega (arith, many, few))
 parts_sought name p Then a short (inr (c, some, inr (few, then))) = then
 
-result_code : (kind : PlanKind) (name : Bytes) (d : DomainTree) (p : ProblemTree) (a : Answer) (status : ℕ) → is_sought kind p ≡ true → (system d p).initial ≢ []
-    → IsResultOf kind name d p a → status ≡ status_of a → (status ≡ 0) ⊎ (status ≡ 1) ⊎ (status ≡ 8)
-result_code (of_class class) name d p a status sought some r code =
-    plan_code (of_class class) d p a status (with_initial (empty_init name p) (system d p).initial (IsPlanResult (of_class class) d p) a some r) code
-result_code with_contexts name d p a status sought some r code =
-    plan_code with_contexts d p a status
-    (with_initial (empty_init name p) (system d p).initial (IsPlanResult with_contexts d p) a some
-    (parts_sought name p (IsResultFrom with_contexts name d p) a sought r)) code
+result_code : (certified : Bool) (kind : PlanKind) (name : Bytes) (d : DomainTree) (p : ProblemTree) (a : Answer) (status : ℕ) → is_sought kind p ≡ true → (system d p).initial ≢ []
+    → IsResultOf certified kind name d p a → status ≡ status_of a → (status ≡ 0) ⊎ (status ≡ 1) ⊎ (status ≡ 8)
+result_code certified (of_class class) name d p a status sought some r code =
+    plan_code certified (of_class class) d p a status (with_initial (empty_init name p) (system d p).initial (IsPlanResult certified (of_class class) d p) a some r) code
+result_code certified with_contexts name d p a status sought some r code =
+    plan_code certified with_contexts d p a status
+    (with_initial (empty_init name p) (system d p).initial (IsPlanResult certified with_contexts d p) a some
+    (parts_sought name p (IsResultFrom certified with_contexts name d p) a sought r)) code
 
 -- a plan that is looked for has a goal
 some_goal : (o : Option TemporalTree) → is_short (option_and_then (λ goal. plain_goal (ctl_tree goal)) o) ≡ true → is_some o ≡ true
@@ -169,17 +173,17 @@ refused_not_full held failed Wrong name r wrong (inr (inl (is, long))) five = om
 refused_not_full held failed Wrong name r wrong (inr (inr misspelled)) five = omega (arith, wrong misspelled.bytes misspelled.wrong, five)
 
 -- and so has what is looked for
-plan_not_full : (kind : PlanKind) (d : DomainTree) (p : ProblemTree) (a : Answer) → IsPlanResult kind d p a → status_of a ≢ 5
-plan_not_full kind d p a (inl found) five = omega (arith, ap status_of found.shown, five)
-plan_not_full kind d p a (inr missing) five = omega (arith, ap status_of missing.shown, five)
+plan_not_full : (certified : Bool) (kind : PlanKind) (d : DomainTree) (p : ProblemTree) (a : Answer) → IsPlanResult certified kind d p a → status_of a ≢ 5
+plan_not_full certified kind d p a (inl found) five = omega (arith, ap status_of found.shown, five)
+plan_not_full certified kind d p a (inr missing) five = omega (arith, ap status_of missing.shown, five)
 
-result_not_full : (kind : PlanKind) (name : Bytes) (d : DomainTree) (p : ProblemTree) (a : Answer) → IsResultOf kind name d p a → status_of a ≢ 5
-result_not_full (of_class class) name d p a (inl (none, is)) five = omega (arith, ap status_of is, five)
-result_not_full (of_class class) name d p a (inr (some, r)) five = plan_not_full (of_class class) d p a r five
-result_not_full with_contexts name d p a (inl (none, is)) five = omega (arith, ap status_of is, five)
-result_not_full with_contexts name d p a (inr (c, some, inl (many, is))) five = omega (arith, ap status_of is, five)
-result_not_full with_contexts name d p a (inr (c, some, inr (few, inl (none, is)))) five = omega (arith, ap status_of is, five)
-result_not_full with_contexts name d p a (inr (c, some, inr (few, inr (first, r)))) five = plan_not_full with_contexts d p a r five
+result_not_full : (certified : Bool) (kind : PlanKind) (name : Bytes) (d : DomainTree) (p : ProblemTree) (a : Answer) → IsResultOf certified kind name d p a → status_of a ≢ 5
+result_not_full certified (of_class class) name d p a (inl (none, is)) five = omega (arith, ap status_of is, five)
+result_not_full certified (of_class class) name d p a (inr (some, r)) five = plan_not_full certified (of_class class) d p a r five
+result_not_full certified with_contexts name d p a (inl (none, is)) five = omega (arith, ap status_of is, five)
+result_not_full certified with_contexts name d p a (inr (c, some, inl (many, is))) five = omega (arith, ap status_of is, five)
+result_not_full certified with_contexts name d p a (inr (c, some, inr (few, inl (none, is)))) five = omega (arith, ap status_of is, five)
+result_not_full certified with_contexts name d p a (inr (c, some, inr (few, inr (first, r)))) five = plan_not_full certified with_contexts d p a r five
 
 -- and so has whatever follows the reading of both files
 read_not_full : (held : Bytes → Held) (failed : Bytes → Type 0) (asked : PlanWords) (a : Answer)
@@ -190,7 +194,7 @@ read_not_full held failed asked a (inr (d, holds, inl (r, is, why))) five =
     refused_not_full held failed (IsFaultyProblem d) asked.problem r (λ bytes wrong. ap status_of_refusal wrong.2) why (sym (ap status_of is) ∙ five)
 read_not_full held failed asked a (inr (d, holds, inr (p, holds', inl (none, is)))) five = omega (arith, ap status_of is, five)
 read_not_full held failed asked a (inr (d, holds, inr (p, holds', inr (some, inl (l, passed, is))))) five = omega (arith, ap status_of is, five)
-read_not_full held failed asked a (inr (d, holds, inr (p, holds', inr (some, inr (within, then))))) five = result_not_full asked.kind asked.problem d p a then five
+read_not_full held failed asked a (inr (d, holds, inr (p, holds', inr (some, inr (within, then))))) five = result_not_full asked.certified asked.kind asked.problem d p a then five
 
 -- what was written at status 5
 pub record FullWritten (held : Bytes → Held) (asked : PlanWords) (err err' : Seen) : Type 0 where
@@ -243,7 +247,7 @@ plan_status one held failed tallies words before after out out' err err' status 
           absurd (room (tight_of one held failed asked domain problem a
           (told (plan asked) asked.domain says (0, omega arith, refl)) (told (plan asked) asked.problem says (1, omega arith, refl)) quiet both may))
       go (inr (inr is)) =
-          result_code asked.kind asked.problem domain problem a status goal some
+          result_code asked.certified asked.kind asked.problem domain problem a status goal some
           (within_limits domain problem (PlanThen asked domain problem) a kept
           (with_goal asked.kind asked.problem problem (GroundThen domain problem (PlanThen asked domain problem)) a (sought_has_goal asked.kind problem goal)
           (both_as one held failed asked.domain asked.problem (IsPlanned asked) domain problem a

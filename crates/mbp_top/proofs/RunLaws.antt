@@ -13,7 +13,7 @@ use Rattle.mbp_top.specs.Delivery.{IsDelivered}
 use Rattle.mbp_top.specs.Enough.{IsTightPlan}
 use Rattle.mbp_top.specs.Fetching.{FetchesFiles}
 use Rattle.mbp_top.specs.Grounding.{has_goal_for}
-use Rattle.mbp_top.specs.Laws.{AreQuietSinks, ComesToJudged, ComesToListing, ComesToReplay, HasStatus, IsAcceptance, IsFullRefutation, IsRejection, IsAnswered, IsCutOff, IsDrillOf, IsDueAnswer, IsDueStatus, IsFullAtLimit, IsFullDrill, IsListing, IsNo, IsQuietShelf, IsReplayOf, IsYes}
+use Rattle.mbp_top.specs.Laws.{AreQuietSinks, ComesToJudged, ComesToListing, ComesToReplay, HasStatus, IsAcceptance, IsFullRefutation, IsRejection, IsAnswered, IsCertified, IsCutOff, IsDrillOf, IsDueAnswer, IsDueStatus, IsFullAtLimit, IsFullDrill, IsListing, IsNo, IsQuietShelf, IsReplayOf, IsYes}
 use Rattle.mbp_top.specs.Meets.{PlanMeets}
 use Rattle.mbp_top.specs.OneReading.{OneReading}
 use Rattle.mbp_top.specs.PddlTexts.{HoldBoth}
@@ -23,6 +23,7 @@ use Rattle.mbp_top.specs.Runs.{FailedIn, HasRun, Run}
 use Rattle.mbp_top.specs.Told.{AreFilesTold, NoFault}
 use Rattle.mbp_top.specs.Words.{Bytes, CheckWords, Command, PlanWords, SayNothing, Says, SaysCheck, SaysPlan}
 use Rattle.mbp_top.proofs.ByCommand.{due_answer}
+use Rattle.mbp_top.proofs.CertificateWritten.{PrintedIsAccepted, certificate_written}
 use Rattle.mbp_top.proofs.CheckWritten.{YesSolves, check_no_written, check_status, check_yes_written}
 use Rattle.mbp_top.proofs.Fetched.{fetched_for_memory}
 use Rattle.mbp_top.proofs.DrillWritten.{drill_written, full_drill}
@@ -91,6 +92,11 @@ module _ {S : Type 0} (held : S → Bytes → Held) (faults : S → ℕ) (fetche
 
     pub no_plan_is_written : (asked : PlanWords) → SaysPlan run.words asked → run.status ≡ 1 → NoPlanWritten (held run.shelf) asked run.out run.out_after
     no_plan_is_written asked says one = no_plan_written _ _ _ _ _ _ _ _ _ _ _ _ asked it_is says one
+
+    pub is_certified : AcceptedMeansNone → PrintedIsAccepted → IsCertified held run
+    is_certified law accepted asked says wanted one =
+        let w = certificate_written law accepted _ _ _ _ _ _ _ _ _ _ _ _ asked it_is says wanted one in
+        (w.domain, w.problem, w.certificate, w.both, w.kind, w.spelled, w.accepted, w.none, w.written)
 
     pub is_full : IsFullAtLimit held run
     is_full asked says five = let w = full_written _ _ _ _ _ _ _ _ _ _ _ _ asked it_is says five in (w.may, w.written)

@@ -1,5 +1,5 @@
 -- Worked examples of commands, of reading files, and of what the words and the files alone decide.
-use Rattle.std.proofs.Common.{◌≡◌, List, [], ◌∷◌, ◌++◌, arith, codes, inl, inr, refl}
+use Rattle.std.proofs.Common.{◌≡◌, List, [], ◌∷◌, ◌++◌, arith, codes, false, true, inl, inr, refl}
 use Rattle.std.specs.Fmt.{digits}
 use Rattle.plan_io.specs.Held.{Held, Missing}
 use Rattle.plan_rules.specs.Texts.{line_feed}
@@ -22,6 +22,7 @@ coin_plan = record {
   domain = codes "coin-d";
   problem = codes "coin-p";
   options = record { nodes = 1048576 };
+  certified = false;
 }
 
 coin_said : Says coin_words (plan coin_plan)
@@ -30,6 +31,7 @@ coin_said = record {
   rest = [];
   written = refl;
   options = inl (refl, refl);
+  for_class = tt;
 }
 
 coin_files : files_of (plan coin_plan) ≡ codes "coin-d" ∷ codes "coin-p" ∷ []
@@ -37,13 +39,26 @@ coin_files = refl
 
 -- the words `plan strong coin-d coin-p --nodes 40`, and the command that they say
 few_said : Says (codes "plan" ∷ codes "strong" ∷ codes "coin-d" ∷ codes "coin-p" ∷ codes "--nodes" ∷ codes "40" ∷ [])
-    (plan (record { kind = of_class Strong; domain = codes "coin-d"; problem = codes "coin-p"; options = record { nodes = 40 } }))
+    (plan (record { kind = of_class Strong; domain = codes "coin-d"; problem = codes "coin-p"; options = record { nodes = 40 }; certified = false }))
 unfolding digits
 few_said = record {
   room = (omega arith, omega arith);
   rest = codes "--nodes" ∷ codes "40" ∷ [];
   written = refl;
   options = inr refl;
+  for_class = tt;
+}
+
+-- the words `plan strong coin-d coin-p --cert --nodes 40`, and the command that they say
+certified_said : Says (codes "plan" ∷ codes "strong" ∷ codes "coin-d" ∷ codes "coin-p" ∷ codes "--cert" ∷ codes "--nodes" ∷ codes "40" ∷ [])
+    (plan (record { kind = of_class Strong; domain = codes "coin-d"; problem = codes "coin-p"; options = record { nodes = 40 }; certified = true }))
+unfolding digits
+certified_said = record {
+  room = (omega arith, omega arith);
+  rest = codes "--nodes" ∷ codes "40" ∷ [];
+  written = refl;
+  options = inr refl;
+  for_class = tt;
 }
 
 -- the words `refute coin-d coin-p cert --nodes 40`, the command that they say, and its three files

@@ -1,5 +1,5 @@
 -- Status 6: which file of the command can't be read.
-use Rattle.std.proofs.Common.{◌≡◌, ◌≢◌, ◌<◌, ℕ, zero, suc, List, [], ◌∷◌, length, ◌⊎◌, inl, inr, refl, sym, arith, ◌∙◌, ap}
+use Rattle.std.proofs.Common.{◌≡◌, ◌≢◌, ◌<◌, Bool, ℕ, zero, suc, List, [], ◌∷◌, length, ◌⊎◌, inl, inr, refl, sym, arith, ◌∙◌, ap}
 use Rattle.std.specs.Prelude.{slice_index_or}
 use Rattle.std.specs.Io.KnownBytes.{append_known}
 use Rattle.pddl_ast.specs.Trees.{DomainTree, ProblemTree}
@@ -97,22 +97,22 @@ unread_both held failed dn pn files Then a (inr (d, holds, inr (p, holds', then)
     inr (record { domain = d; problem = p; domain_bytes = holds.bytes; problem_bytes = holds'.bytes; domain_file = holds.file; problem_file = holds'.file; then = then })
 
 -- what follows the reading of files has another status
-plan_has_other : (kind : PlanKind) (d : DomainTree) (p : ProblemTree) (a : Answer) → IsPlanResult kind d p a → status_of a ≢ 6
-plan_has_other kind d p a (inl found) six = omega (arith, ap status_of found.shown, six)
-plan_has_other kind d p a (inr missing) six = omega (arith, ap status_of missing.shown, six)
+plan_has_other : (certified : Bool) (kind : PlanKind) (d : DomainTree) (p : ProblemTree) (a : Answer) → IsPlanResult certified kind d p a → status_of a ≢ 6
+plan_has_other certified kind d p a (inl found) six = omega (arith, ap status_of found.shown, six)
+plan_has_other certified kind d p a (inr missing) six = omega (arith, ap status_of missing.shown, six)
 
-result_has_other : (kind : PlanKind) (name : Bytes) (d : DomainTree) (p : ProblemTree) (a : Answer) → IsResultOf kind name d p a → status_of a ≢ 6
-result_has_other (of_class class) name d p a (inl (none, is)) six = omega (arith, ap status_of is, six)
-result_has_other (of_class class) name d p a (inr (some, r)) six = plan_has_other (of_class class) d p a r six
-result_has_other with_contexts name d p a (inl (none, is)) six = omega (arith, ap status_of is, six)
-result_has_other with_contexts name d p a (inr (c, some, inl (many, is))) six = omega (arith, ap status_of is, six)
-result_has_other with_contexts name d p a (inr (c, some, inr (few, inl (none, is)))) six = omega (arith, ap status_of is, six)
-result_has_other with_contexts name d p a (inr (c, some, inr (few, inr (first, r)))) six = plan_has_other with_contexts d p a r six
+result_has_other : (certified : Bool) (kind : PlanKind) (name : Bytes) (d : DomainTree) (p : ProblemTree) (a : Answer) → IsResultOf certified kind name d p a → status_of a ≢ 6
+result_has_other certified (of_class class) name d p a (inl (none, is)) six = omega (arith, ap status_of is, six)
+result_has_other certified (of_class class) name d p a (inr (some, r)) six = plan_has_other certified (of_class class) d p a r six
+result_has_other certified with_contexts name d p a (inl (none, is)) six = omega (arith, ap status_of is, six)
+result_has_other certified with_contexts name d p a (inr (c, some, inl (many, is))) six = omega (arith, ap status_of is, six)
+result_has_other certified with_contexts name d p a (inr (c, some, inr (few, inl (none, is)))) six = omega (arith, ap status_of is, six)
+result_has_other certified with_contexts name d p a (inr (c, some, inr (few, inr (first, r)))) six = plan_has_other certified with_contexts d p a r six
 
 planned_has_other : (asked : PlanWords) (d : DomainTree) (p : ProblemTree) (a : Answer) → IsPlanned asked d p a → status_of a ≢ 6
 planned_has_other asked d p a (inl (none, is)) six = omega (arith, ap status_of is, six)
 planned_has_other asked d p a (inr (some, inl (l, passed, is))) six = omega (arith, ap status_of is, six)
-planned_has_other asked d p a (inr (some, inr (within, then))) six = result_has_other asked.kind asked.problem d p a then six
+planned_has_other asked d p a (inr (some, inr (within, then))) six = result_has_other asked.certified asked.kind asked.problem d p a then six
 
 listed_has_other : (d : DomainTree) (p : ProblemTree) (a : Answer) → IsListed d p a → status_of a ≢ 6
 listed_has_other d p a (inl (l, passed, is)) six = omega (arith, ap status_of is, six)

@@ -1,12 +1,15 @@
 -- What follows for every run that has its cause: statements of laws. `held`, `faults` and `fetched`
 -- are what the shelf tells.
-use Rattle.std.specs.Prelude.{◌≡◌, ◌≢◌, ◌<◌, ◌⊎◌, ℕ, [], ◌∷◌, Contains, List, None, Option}
+use Rattle.std.specs.Prelude.{◌≡◌, ◌≢◌, ◌<◌, ◌⊎◌, ℕ, [], ◌∷◌, ◌++◌, Contains, List, None}
+use Rattle.std.specs.Prelude.{Option}
 use Rattle.std.specs.Prelude.{length, slice_index_or, true}
 use Rattle.std.specs.Io.KnownBytes.{append_known}
 use Rattle.pddl_ast.specs.Trees.{DomainTree, ProblemTree}
 use Rattle.pddl_system.specs.Sizes.{first_passed}
 use Rattle.pddl_system.specs.Systems.{action_names, fluent_names, system}
 use Rattle.plan_certs.specs.Certificates.{IsAccepted, PlainCertificate}
+use Rattle.plan_certs.specs.Readings.{SpellsPlain as SpellsCertificate}
+use Rattle.plan_certs.specs.Texts.{certificate_text}
 use Rattle.plan_check.specs.declared.verdicts.Reason.{Reason}
 use Rattle.plan_check.specs.declared.verdicts.Verdict.TheVariants.{Yes, No}
 use Rattle.plan_io.specs.Fetches.{Fetches}
@@ -28,7 +31,7 @@ use Rattle.mbp_top.specs.DrillCommand.{IsClassLine, MayDrillRunOut, SpellBoth, d
 use Rattle.mbp_top.specs.GroundCommand.{listing_of}
 use Rattle.mbp_top.specs.Meets.{PlanMeets}
 use Rattle.mbp_top.specs.PddlTexts.{HoldBoth}
-use Rattle.mbp_top.specs.PlanCommand.{MayRunOut}
+use Rattle.mbp_top.specs.PlanCommand.{MayRunOut, no_plan_text}
 use Rattle.mbp_top.specs.PlanFiles.{HoldsPlan}
 use Rattle.mbp_top.specs.Reading.{IsFile}
 use Rattle.mbp_top.specs.Grounding.{for_tables, has_goal_for}
@@ -40,6 +43,7 @@ use Rattle.mbp_top.specs.Told.{IsDue, MayStandIn}
 use Rattle.mbp_top.specs.Words.{Bytes, CheckWords, GroundWords, PlanWords, ReplayWords, SaysCheck}
 use Rattle.mbp_top.specs.Words.{DrillWords, SaysDrill, SaysGround, SaysPlan, SaysReplay}
 use Rattle.mbp_top.specs.Words.{Command, RefuteWords, Says, SaysRefute, default_nodes, files_of}
+use Rattle.mbp_top.specs.Words.{of_class}
 
 -- of every run that has its cause
 abbrev pub OfRuns : {S : Type 0} → (S → Bytes → Held) → (S → ℕ) → (S → Bytes → S → Type 0)
@@ -79,6 +83,22 @@ IsFullAtLimit {S} held run =
     → MayRunOut (held run.shelf) asked
     × (run.err_after.written
     ≡ append_known run.err.written (text_of (refused (full asked.options.nodes))))
+
+-- `plan .. --cert`, status 1: what was written is `no plan`, a line feed and a text that spells a
+-- certificate of the class that was asked for. It is accepted for the problem that the two files
+-- spell, so that no table at all is a solution of the class
+abbrev pub IsCertified : {S : Type 0} → (S → Bytes → Held) → Run S → Type 0
+IsCertified {S} held run =
+    (asked : PlanWords) → SaysPlan run.words asked → asked.certified ≡ true → run.status ≡ 1
+    → (domain : DomainTree) × (problem : ProblemTree) × (certificate : PlainCertificate)
+    × HoldBoth (held run.shelf) asked.domain asked.problem domain problem
+    × (asked.kind ≡ of_class certificate.class)
+    × SpellsCertificate (fluent_names domain problem)
+    (certificate_text (fluent_names domain problem) certificate) certificate
+    × IsAccepted (system domain problem) certificate
+    × HasNoSolution certificate.class (system domain problem)
+    × (run.out_after.written ≡ append_known run.out.written
+    (no_plan_text ++ certificate_text (fluent_names domain problem) certificate))
 
 -- `ground`, status 0: the text that was written is the listing of the problem that the two files
 -- spell, which is within the limits

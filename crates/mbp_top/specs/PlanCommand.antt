@@ -2,10 +2,14 @@
 -- printed, when the table of nodes may be too small, and the answer of the command. The names are
 -- those of the system's fluents and actions, by their numbers.
 use Rattle.std.specs.Prelude.{◌≡◌, ℕ, ◌⊎◌, ⊤, List, Contains, ◌++◌, codes, None, Some, is_some}
-use Rattle.std.specs.Prelude.{Bool, true}
+use Rattle.std.specs.Prelude.{Bool, false, true}
 use Rattle.pddl_ast.specs.Trees.{DomainTree, FormulaTree, ProblemTree}
 use Rattle.pddl_system.specs.Sizes.{first_passed}
 use Rattle.pddl_system.specs.Systems.{system, fluent_names, action_names}
+use Rattle.plan_certs.specs.Certificates.{PlainCertificate}
+use Rattle.plan_certs.specs.Printed.{IsPrinted}
+use Rattle.plan_certs.specs.Readings.{SpellsPlain as SpellsCertificate}
+use Rattle.plan_certs.specs.Texts.{certificate_text}
 use Rattle.plan_io.specs.Held.{Held}
 use Rattle.plan_rules.specs.Denoted.{denoted, IsExecutable}
 use Rattle.plan_rules.specs.Readings.{SpellsPlain, SpellsTable}
@@ -105,6 +109,27 @@ pub record IsPrintedText (class : Class) (sys : System) (fluents actions : List 
 abbrev pub no_plan_text : Bytes
 no_plan_text = codes "no plan" ++ line_feed
 
+-- what is shown where the certificate of that is wanted, too: then comes the text of the one that is
+-- printed of the class, which spells it
+pub record IsCertifiedText (class : Class) (sys : System) (fluents : List Name) (text : Bytes)
+    : Type 0 where
+  pub certificate : PlainCertificate
+  pub printed : IsPrinted class sys certificate
+  pub spelled : SpellsCertificate fluents (certificate_text fluents certificate) certificate
+  pub written : text ≡ no_plan_text ++ certificate_text fluents certificate
+
+-- the text is the one that is shown where there is no table of the class, and the certificate of that
+-- is wanted or isn't
+abbrev pub IsNoTableText : Bool → Class → System → List Name → Bytes → Type 0
+IsNoTableText false class sys fluents text = text ≡ no_plan_text
+IsNoTableText true class sys fluents text = IsCertifiedText class sys fluents text
+
+-- the same by the kind: of plans with contexts there is no certificate
+abbrev pub IsNoPlanText : Bool → PlanKind → DomainTree → ProblemTree → Bytes → Type 0
+IsNoPlanText certified (of_class class) domain problem text =
+    IsNoTableText certified class (system domain problem) (fluent_names domain problem) text
+IsNoPlanText certified with_contexts domain problem text = text ≡ no_plan_text
+
 -- the text of the plan that is printed for a goal, as sets of states
 abbrev pub text_for : DomainTree → ProblemTree → GoalSets → Bytes
 text_for domain problem sets =
@@ -146,32 +171,36 @@ pub record IsPlanFound (kind : PlanKind) (domain : DomainTree) (problem : Proble
   pub short : IsShortText kind domain problem text
   pub printed : IsTextPrinted kind domain problem text
 
--- the answer is that there is no plan
-pub record IsPlanMissing (kind : PlanKind) (domain : DomainTree) (problem : ProblemTree)
-    (answer : Answer) : Type 0 where
-  pub shown : answer ≡ denied no_plan_text
+-- the answer is that there is no plan, with the certificate of that where it is wanted
+pub record IsPlanMissing (certified : Bool) (kind : PlanKind) (domain : DomainTree)
+    (problem : ProblemTree) (answer : Answer) : Type 0 where
+  pub text : Bytes
+  pub shown : answer ≡ denied text
   pub none : HasNoPlan kind domain problem
+  pub written : IsNoPlanText certified kind domain problem text
 
 -- the answer where a plan is looked for
-abbrev pub IsPlanResult : PlanKind → DomainTree → ProblemTree → Answer → Type 0
-IsPlanResult kind domain problem answer =
-    IsPlanFound kind domain problem answer ⊎ IsPlanMissing kind domain problem answer
+abbrev pub IsPlanResult : Bool → PlanKind → DomainTree → ProblemTree → Answer → Type 0
+IsPlanResult certified kind domain problem answer =
+    IsPlanFound kind domain problem answer ⊎ IsPlanMissing certified kind domain problem answer
 
 -- the answer where a plan is looked for from the initial states, of which there may be none
-abbrev pub IsResultFrom : PlanKind → Bytes → DomainTree → ProblemTree → Answer → Type 0
-IsResultFrom kind name domain problem =
+abbrev pub IsResultFrom : Bool → PlanKind → Bytes → DomainTree → ProblemTree → Answer → Type 0
+IsResultFrom certified kind name domain problem =
     InitialThen (empty_init name problem) (system domain problem).initial
-    (IsPlanResult kind domain problem)
+    (IsPlanResult certified kind domain problem)
 
 -- the answer for a domain and a problem: with contexts the goal is first to be a short chain,
 -- until-chain or patrol goal
-abbrev pub IsResultOf : PlanKind → Bytes → DomainTree → ProblemTree → Answer → Type 0
-IsResultOf (of_class class) name domain problem = IsResultFrom (of_class class) name domain problem
-IsResultOf with_contexts name domain problem =
-    ContextGoalThen name problem (λ goal. IsResultFrom with_contexts name domain problem)
+abbrev pub IsResultOf : Bool → PlanKind → Bytes → DomainTree → ProblemTree → Answer → Type 0
+IsResultOf certified (of_class class) name domain problem =
+    IsResultFrom certified (of_class class) name domain problem
+IsResultOf certified with_contexts name domain problem =
+    ContextGoalThen name problem (λ goal. IsResultFrom certified with_contexts name domain problem)
 
 abbrev pub PlanThen : PlanWords → DomainTree → ProblemTree → Answer → Type 0
-PlanThen asked domain problem = IsResultOf asked.kind asked.problem domain problem
+PlanThen asked domain problem =
+    IsResultOf asked.certified asked.kind asked.problem domain problem
 
 -- a plan of the kind is looked for: there is a goal for it, and a goal in computation tree logic is
 -- a chain, an until-chain or a patrol goal of no more stages or visits than may be

@@ -91,6 +91,7 @@ plan_words_of words = record {
   domain = words.domain.now;
   problem = words.problem.now;
   options = plan_options_of words.options;
+  certified = words.certified;
 }
 
 abbrev pub ground_words_of : CodeGroundWords → GroundWords

@@ -1,5 +1,6 @@
 -- The command words: which commands there are, and which words say them.
-use Rattle.std.specs.Prelude.{◌≡◌, ℕ, ◌≤◌, ◌⊎◌, List, [], ◌∷◌, codes, decimal}
+use Rattle.std.specs.Prelude.{◌≡◌, ℕ, ◌≤◌, ◌⊎◌, ⊤, Bool, true, false, List, [], ◌∷◌, ◌++◌, codes}
+use Rattle.std.specs.Prelude.{decimal}
 use Rattle.plan_rules.specs.Texts.{class_word}
 use Rattle.task_core.specs.declared.classes.Class.{Class}
 
@@ -22,12 +23,13 @@ kind_word (of_class class) = class_word class
 kind_word with_contexts = codes "ctl"
 
 -- what `plan` is asked: a plan of this kind, for the domain and the problem in the files of these
--- names, with these options
+-- names, with these options; and whether, where there is none, the certificate of that is wanted, too
 pub record PlanWords : Type 0 where
   pub kind : PlanKind
   pub domain : Bytes
   pub problem : Bytes
   pub options : PlanOptions
+  pub certified : Bool
 
 -- what `ground` is asked: a listing of the domain and the problem in the files of these names
 pub record GroundWords : Type 0 where
@@ -102,12 +104,25 @@ SaysOptions words options =
     ((words ≡ []) × (options.nodes ≡ default_nodes))
     ⊎ (words ≡ codes "--nodes" ∷ decimal options.nodes ∷ [])
 
--- `plan CLASS DOMAIN PROBLEM` or `plan ctl DOMAIN PROBLEM`, and then the options
+-- the word by which a certificate is asked for, or none
+abbrev pub cert_words : Bool → List Bytes
+cert_words true = codes "--cert" ∷ []
+cert_words false = []
+
+-- a certificate can be asked for where a plan of a class is; of plans with contexts there is none
+abbrev pub MayBeCertified : PlanKind → Bool → Type 0
+MayBeCertified (of_class class) certified = ⊤
+MayBeCertified with_contexts certified = certified ≡ false
+
+-- `plan CLASS DOMAIN PROBLEM`, with or without `--cert` after it, or `plan ctl DOMAIN PROBLEM`; and
+-- then the options
 pub record SaysPlan (words : List Bytes) (asked : PlanWords) : Type 0 where
   pub room : IsNodeLimit asked.options.nodes
   pub rest : List Bytes
-  pub written : words ≡ codes "plan" ∷ kind_word asked.kind ∷ asked.domain ∷ asked.problem ∷ rest
+  pub written : words ≡ codes "plan" ∷ kind_word asked.kind ∷ asked.domain ∷ asked.problem
+      ∷ (cert_words asked.certified ++ rest)
   pub options : SaysOptions rest asked.options
+  pub for_class : MayBeCertified asked.kind asked.certified
 
 -- `ground DOMAIN PROBLEM`
 abbrev pub SaysGround : List Bytes → GroundWords → Type 0

@@ -43,6 +43,7 @@ use pddl_ast::{Domain, Problem};
 use plan_io::Shelf;
 use plan_rules::push_name;
 use std::alloc::{AllocError, Global};
+use std::rc::RcStr;
 use task_core::{GroundAction, Task};
 
 /// The listing of what the domain and the problem in two files are grounded to.
@@ -105,7 +106,7 @@ pub(crate) fn push_count(out: &mut String, word: &str, count: usize) -> Result<(
 }
 
 /// Appends a line for each fluent.
-fn push_fluents(out: &mut String, fluents: &[Vec<String>]) -> Result<(), AllocError>
+fn push_fluents(out: &mut String, fluents: &[Vec<RcStr>]) -> Result<(), AllocError>
     ensures { OnOk result (string_bytes out.new
         ≡ string_bytes out.old ++ flat_map fluent_line (map name_bytes fluents.now)) }
 {

@@ -9,6 +9,7 @@ ghost use Rattle.mbp_top.specs.Laws.{
   HasStatus,
   IsAcceptance,
   IsAnswered,
+  IsCertified,
   IsCutOff,
   IsDrillOf,
   IsDueAnswer,
@@ -29,7 +30,9 @@ ghost use Rattle.mbp_top.specs.OneReading.{OneReading};
 
 use domain_read::domain_or_fault;
 use pddl_problem::one_answer;
-use plan_certs::{accepted_certificates_mean_no_plan, certificate_or_fault, one_certificate};
+use plan_certs::{
+    accepted_certificates_mean_no_plan, certificate_or_fault, one_certificate, printed_where_none,
+};
 use plan_check::{one_verdict, yes_is_solution};
 use plan_io::Shelf;
 use plan_rules::plan_or_fault;
@@ -68,6 +71,16 @@ pub fn answers_are_cut<S: Shelf>()
 pub fn full_tables_are_tight<S: Shelf>()
     ensures { OfRuns S.held S.faults S.fetched (IsFullAtLimit S.held) }
 {}
+
+/// Status 1 of `plan` with `--cert` comes with a certificate that is accepted: no table is a solution of
+/// the class.
+pub fn printed_certificates_are_accepted<S: Shelf>()
+    ensures { OfRuns S.held S.faults S.fetched (IsCertified S.held) }
+{
+    // These do nothing: all rests on what they promise.
+    accepted_certificates_mean_no_plan();
+    printed_where_none();
+}
 
 /// Status 0 of `ground` comes with the listing.
 pub fn listings_are_written<S: Shelf>()

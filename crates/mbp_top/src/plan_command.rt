@@ -7,13 +7,16 @@ ghost use Rattle.mbp_top.specs.Fetching.{FetchesFiles};
 ghost use Rattle.mbp_top.specs.FoundPlans.{IsTableResult};
 ghost use Rattle.mbp_top.specs.Grounded.{IsGroundedOf, IsTaskOf};
 ghost use Rattle.mbp_top.specs.PlanCommand.{IsPlanAnswer, IsPlanned, MayBeTooFew};
-ghost use Rattle.mbp_top.specs.PlanCommand.{PlanThen};
+ghost use Rattle.mbp_top.specs.PlanCommand.{PlanThen, no_plan_text};
 ghost use Rattle.mbp_top.specs.Grounding.{has_goal_for};
 ghost use Rattle.mbp_top.specs.Values.{answer_of, bytes_of, kind_of, plan_words_of, shown_of};
 ghost use Rattle.mbp_top.specs.Words.{Command, IsNodeLimit, of_class};
 ghost use Rattle.pddl_ast.specs.Fits.{FitsDomain, FitsProblem};
 ghost use Rattle.pddl_ast.specs.Values.{domain_value, problem_value};
 ghost use Rattle.pddl_system.specs.Names.{NamesAreWords};
+ghost use Rattle.plan_certs.specs.Named.{IsCertificateOf, plain_of};
+ghost use Rattle.plan_certs.specs.Readings.{SpellsPlain as SpellsCertificate};
+ghost use Rattle.plan_certs.specs.Texts.{certificate_text};
 ghost use Rattle.plan_io.specs.Fetches.{FailedLast};
 ghost use Rattle.plan_rules.specs.Plans.{IsPlanOf, plan_text};
 ghost use Rattle.plan_rules.specs.Readings.{SpellsPlan};
@@ -22,6 +25,7 @@ ghost use Rattle.std.specs.Prelude.{
   ◌≢◌,
   ◌≤◌,
   ◌⊎◌,
+  ◌++◌,
   [],
   IfOk,
   IfSome,
@@ -33,10 +37,16 @@ ghost use Rattle.std.specs.Prelude.{
   true,
   ℕ,
 };
-ghost use Rattle.task_core.specs.Tasks.{action_names, fluent_names, initial_states, system_of};
+ghost use Rattle.task_core.specs.Tasks.{
+  action_names,
+  fluent_count,
+  fluent_names,
+  initial_states,
+  system_of,
+};
 
 use crate::answers::{Refusal, Shown, Text};
-use crate::class_search::search_task;
+use crate::class_search::{Sought, search_task};
 use crate::context_command::plan_contexts;
 use crate::grounding::{check_goal, ground_both};
 use crate::initial_states::no_initial;
@@ -45,9 +55,9 @@ use crate::words::{PlanKind, PlanWords};
 use dd_sets::SetErr;
 use ground_task::Grounded;
 use pddl_ast::{Domain, Problem};
+use plan_certs::{Certificate, write_cert};
 use plan_io::Shelf;
 use plan_rules::{Class, Plan, write_plan};
-use plan_theory::Found;
 use std::alloc::{AllocError, Global};
 use task_core::{Task, tasks_have_systems};
 
@@ -140,7 +150,7 @@ fn plan_class(
         ⊎ PlanThen asked (domain_value domain.now) (problem_value problem.now)
         (answer_of result) }
 {
-    match plan_task(alloc, class, asked.options.nodes, task) {
+    match plan_task(alloc, class, asked.certified, asked.options.nodes, task) {
         Ok(Some(shown)) => Ok(shown),
         Ok(None) => Err(no_initial(alloc, asked.problem, problem)?),
         Err(SetErr::Full) => Err(Refusal::Full(asked.options.nodes)),
@@ -148,28 +158,53 @@ fn plan_class(
     }
 }
 
-/// The plan for a task, found in a table for so many nodes, or `None` where there is no initial
-/// state.
-fn plan_task(alloc: Global, class: Class, nodes: u32, task: &Task) -> Result<Option<Shown>, SetErr>
+/// The plan for a task, found in a table for so many nodes, or that there is none, with the certificate
+/// of that where it is wanted; or `None` where there is no initial state.
+fn plan_task(
+    alloc: Global,
+    class: Class,
+    certified: bool,
+    nodes: u32,
+    task: &Task,
+) -> Result<Option<Shown>, SetErr>
     requires room { IsNodeLimit nodes }
     requires goal { IsSome task.now.goal }
     ensures none { IfOk result (λ found. found ≡ None → initial_states task.now ≡ []) }
     ensures some { IfOk result (λ found. IfSome found (λ _. initial_states task.now ≢ [])) }
     ensures plan { IfOk result (λ found. IfSome found
-        (λ shown. IsTableResult class (system_of task.now) (fluent_names task.now)
+        (λ shown. IsTableResult certified class (system_of task.now) (fluent_names task.now)
         (action_names task.now) (shown_of shown))) }
     ensures full { IsErrOf result SetErr.Full → IsTightForClass class nodes task.now }
 {
     // This does nothing: that the rules can be followed rests on what it promises.
     tasks_have_systems(task);
-    match search_task(alloc, class, nodes, task)? {
-        Some(Found::Plan(table)) => {
+    match search_task(alloc, class, certified, nodes, task)? {
+        Some(Sought::Table(table)) => {
             let text = text_of_plan(alloc, &Plan::Table(table), task)?;
             Ok(Some(Shown::Affirmed(text)))
         }
-        Some(Found::NoPlan) => Ok(Some(Shown::Denied(Text::Fixed("no plan\n")))),
+        Some(Sought::Missing) => Ok(Some(Shown::Denied(Text::Fixed("no plan\n")))),
+        Some(Sought::Certified(certificate)) => {
+            let text = certified_text(alloc, &certificate, task)?;
+            Ok(Some(Shown::Denied(text)))
+        }
         None => Ok(None),
     }
+}
+
+/// What is shown where there is no plan, with the certificate of that.
+fn certified_text(alloc: Global, certificate: &Certificate, task: &Task) -> Result<Text, AllocError>
+    requires { IsCertificateOf (fluent_count task.now) certificate.now }
+    ensures text { IfOk result (λ text. bytes_of text ≡ no_plan_text
+        ++ certificate_text (fluent_names task.now) (plain_of certificate.now)) }
+    ensures spells { IfOk result (λ text. SpellsCertificate (fluent_names task.now)
+        (certificate_text (fluent_names task.now) (plain_of certificate.now))
+        (plain_of certificate.now)) }
+{
+    let written = write_cert(alloc, certificate, task)?;
+    let mut text = Vec::from_slice(alloc, b"no plan\n")?;
+    text.extend_from_slice(&written)?;
+    Ok(Text::Made(text))
 }
 
 /// The text of a plan.

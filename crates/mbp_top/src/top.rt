@@ -10,10 +10,10 @@ ghost use Rattle.mbp_top.specs.PddlTexts.{HoldBoth, ReadAsBoth};
 ghost use Rattle.mbp_top.specs.PlanCommand.{
   HasNoPlan,
   IsGoodText,
+  IsNoPlanText,
   IsShortText,
   IsTextPrinted,
   is_sought,
-  no_plan_text,
 };
 ghost use Rattle.mbp_top.specs.PlanFiles.{HoldsPlan, is_of_kind};
 ghost use Rattle.run_replay.specs.TraceTexts.{tallies_of};
@@ -38,16 +38,17 @@ use std::alloc::Global;
 ///
 /// The words after the program's name are one command, where DOMAIN and PROBLEM are names of files
 /// on the shelf, KIND is `weak`, `strong` or `cyclic`, the class of a table, or `ctl`, for a plan
-/// with contexts and a goal in computation tree logic: `plan KIND DOMAIN PROBLEM`, with or without
-/// the words `--nodes N` after it, N being the most nodes of a table of diagrams, 1 to 16,777,216
-/// and 1,048,576 where nothing is said; `ground DOMAIN PROBLEM`; `check KIND DOMAIN PROBLEM PLAN`,
-/// PLAN being the name of a plan's file; `replay DOMAIN PROBLEM PLAN RECORD`, RECORD being the name
-/// of a record's file; `drill corridor N` or `drill tyres N`, N being the size of a problem that is
-/// made, 2 to 120; or `refute DOMAIN PROBLEM CERTIFICATE`, CERTIFICATE being the name of the file of a
-/// certificate that there is no plan of a class, with or without `--nodes N` after it. The text of a
-/// plan, `no plan`, the listing of the fluents and actions, the verdict on the plan or the
-/// certificate, its run with what the monitors show of it, or the drill's lines go to `out`; every
-/// other answer is one line on `err`.
+/// with contexts and a goal in computation tree logic: `plan KIND DOMAIN PROBLEM`, for a class with or
+/// without the word `--cert` after it, which asks for a certificate where there is no plan, and then
+/// with or without the words `--nodes N`, N being the most nodes of a table of diagrams, 1 to
+/// 16,777,216 and 1,048,576 where nothing is said; `ground DOMAIN PROBLEM`; `check KIND DOMAIN
+/// PROBLEM PLAN`, PLAN being the name of a plan's file; `replay DOMAIN PROBLEM PLAN RECORD`, RECORD
+/// being the name of a record's file; `drill corridor N` or `drill tyres N`, N being the size of a
+/// problem that is made, 2 to 120; or `refute DOMAIN PROBLEM CERTIFICATE`, CERTIFICATE being the name of
+/// the file of a certificate that there is no plan of a class, with or without `--nodes N` after it. The
+/// text of a plan, `no plan`, perhaps with the text of a certificate of that, the listing of the fluents
+/// and actions, the verdict on the plan or the certificate, its run with what the monitors show of it,
+/// or the drill's lines go to `out`; every other answer is one line on `err`.
 ///
 /// `replay` hands the record's outcome numbers to the world, runs the plan with what the world then
 /// chooses, and tells the monitors of each step. No monitor has counted anything yet. The other
@@ -132,12 +133,15 @@ pub fn run<S: Shelf, O: Sink, E: Sink>(
         × (O.written out.new ≡ append_known (O.written out.old) text) }
 
     // `plan`, status 1: nothing that a plan can mean meets the problem that the two files read as:
-    // no table at all, and no plan with contexts, whatever its contexts are and however many.
+    // no table at all, and no plan with contexts, whatever its contexts are and however many. What
+    // was written is `no plan`; with `--cert` then comes the text of the printed certificate of that,
+    // which is accepted (`printed_certificates_are_accepted`).
     ensures no_plan { (asked : PlanWords) → SaysPlan (map string_bytes words.now) asked → result ≡ 1
-        → (domain : DomainTree) × (problem : ProblemTree)
+        → (domain : DomainTree) × (problem : ProblemTree) × (text : Bytes)
         × ReadAsBoth (S.held shelf.old) asked.domain asked.problem domain problem
         × HasNoPlan asked.kind domain problem
-        × (O.written out.new ≡ append_known (O.written out.old) no_plan_text) }
+        × IsNoPlanText asked.certified asked.kind domain problem text
+        × (O.written out.new ≡ append_known (O.written out.old) text) }
 
     // `plan` of two files that spell a problem within the limits, with an initial state, a goal of
     // the kind (a goal in computation tree logic being a chain, an until-chain or a patrol goal of few

@@ -42,12 +42,15 @@ ghost use Rattle.std.specs.Prelude.{
   [],
   ◌∷◌,
   ◌↔◌,
+  IfSome,
   IsTrue,
   MatchOption,
   codes,
   decimal,
+  false,
   map,
   string_bytes,
+  true,
   ℕ,
   ⊤,
 };
@@ -95,6 +98,9 @@ pub struct PlanWords<'a> {
     pub domain: &'a str,
     pub problem: &'a str,
     pub options: PlanOptions,
+    /// Whether, where there is no plan of the class, the certificate of that is wanted, too. There is
+    /// none for plans with contexts.
+    pub certified: bool,
 }
 
 /// The options of `plan`.
@@ -216,10 +222,24 @@ pub(crate) fn read_words<'a>(words: &'a [String]) -> Command<'a>
 }
 
 /// `plan`, and these words after it.
-pub fn plan_words<'a>(words: &'a [String]) -> Option<PlanWords<'a>>
+pub(crate) fn plan_words<'a>(words: &'a [String]) -> Option<PlanWords<'a>>
     ensures { let said = codes "plan" ∷ map string_bytes words.now in
         MatchOption result ((asked : AskedPlan) → SaysPlan said asked → ⊥)
         (λ asked. SaysPlan said (plan_words_of asked)) }
+{
+    match plain_plan_words(words) {
+        Some(asked) => Some(asked),
+        None => certified_plan_words(words),
+    }
+}
+
+/// `plan`, and these words after it, where no certificate is asked for.
+pub fn plain_plan_words<'a>(words: &'a [String]) -> Option<PlanWords<'a>>
+    ensures said { let said = codes "plan" ∷ map string_bytes words.now in
+        MatchOption result
+        ((asked : AskedPlan) → asked.certified ≡ false → SaysPlan said asked → ⊥)
+        (λ asked. SaysPlan said (plan_words_of asked)) }
+    ensures plain { IfSome result (λ asked. asked.certified ≡ false) }
 {
     let [kind, domain, problem, rest @ ..] = words else {
         return None;
@@ -229,6 +249,29 @@ pub fn plan_words<'a>(words: &'a [String]) -> Option<PlanWords<'a>>
         domain,
         problem,
         options: plan_options(rest)?,
+        certified: false,
+    })
+}
+
+/// `plan`, and these words after it, where a certificate is asked for.
+fn certified_plan_words<'a>(words: &'a [String]) -> Option<PlanWords<'a>>
+    ensures { let said = codes "plan" ∷ map string_bytes words.now in
+        MatchOption result
+        ((asked : AskedPlan) → asked.certified ≡ true → SaysPlan said asked → ⊥)
+        (λ asked. SaysPlan said (plan_words_of asked)) }
+{
+    let [class, domain, problem, option, rest @ ..] = words else {
+        return None;
+    };
+    if option.as_str() != "--cert" {
+        return None;
+    }
+    Some(PlanWords {
+        kind: PlanKind::Class(class_named(class)?),
+        domain,
+        problem,
+        options: plan_options(rest)?,
+        certified: true,
     })
 }
 

@@ -1,7 +1,6 @@
 -- The parts that stand for those of the task of a domain and a problem make a task.
 use Rattle.std.proofs.Common.{◌≡◌, ℕ, zero, suc, ◌+◌, ◌^◌, ◌<◌, ◌≤◌, Bool, true, false, not, ◌&&◌, cond, inl, inr, List, [], ◌∷◌, ◌++◌, map, length, Option, Some, None, refl, sym, ◌∙◌, ap, subst, arith}
-use Rattle.std.specs.Prelude.{max, nat_le, nat_lt, String, Vec, IfSome}
-use Rattle.std.specs.declared.alloc.Global.{Global}
+use Rattle.std.specs.Prelude.{max, nat_le, nat_lt, IfSome}
 use Rattle.std.specs.List.{find, list_all, list_any, position_or_len, range_with_len}
 use Rattle.std.specs.Option.{option_map}
 use Rattle.std.proofs.lemmas.Bool.{and_from, leb-true, le-leb, lt-ltb, or_left, or_right, true≢false}
@@ -11,7 +10,7 @@ use Rattle.std.proofs.Math.Nat.{max-le}
 use Rattle.task_core.specs.Actions.{action_is_shallow, action_within, change_is_shallow, change_within, goal_is_shallow, goal_within, outcome_is_shallow, outcome_within}
 use Rattle.task_core.specs.Conditions.{depth, ids_below, is_shallow}
 use Rattle.task_core.specs.Initial.{entries_within, entry_within, lit_within}
-use Rattle.task_core.specs.Names.{AreActionNames, AreFluentNames, name_bytes, name_of}
+use Rattle.task_core.specs.Names.{AreActionNames, AreFluentNames, Words, name_bytes, name_of}
 use Rattle.task_core.specs.Parts.{MakesTask}
 use Rattle.task_core.specs.States.{IsWithin}
 use Rattle.task_core.specs.declared.literals.Lit.{Lit}
@@ -314,7 +313,7 @@ module _ (d : DomainTree) (p : ProblemTree) (fits_d : FitsDomain d) (fits_p : Fi
 
   -- all parts
 
-  module _ (words : NamesAreWords d p) (all_kept : first_passed d p ≡ None) (fluent_list : List (Vec (String Global) Global)) (actions : List GroundAction) (init : InitSpec) (goal : Option Cond) (invariant : Cond) (parts : ArePartsOf d p fluent_list actions init goal invariant) (facts : IsWithin (length fluent_list) init.facts) where
+  module _ (words : NamesAreWords d p) (all_kept : first_passed d p ≡ None) (fluent_list : List Words) (actions : List GroundAction) (init : InitSpec) (goal : Option Cond) (invariant : Cond) (parts : ArePartsOf d p fluent_list actions init goal invariant) (facts : IsWithin (length fluent_list) init.facts) where
     kept_limit : (limit : Limit) → Among limit limits → keeps d p limit ≡ true
     kept_limit limit h = none_found (keeps d p) limits all_kept limit h
 

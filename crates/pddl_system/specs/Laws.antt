@@ -1,7 +1,6 @@
 -- What is true of every domain and problem: the statements of the laws.
 use Rattle.std.specs.Prelude.{◌≡◌, ◌≢◌, ℕ, ◌<◌, ◌≤◌, ◌↔◌, List, length, Bool, true, false, Option}
-use Rattle.std.specs.Prelude.{[], None, Some, String, Vec, slice_get, if◌then◌else◌}
-use Rattle.std.specs.declared.alloc.Global.{Global}
+use Rattle.std.specs.Prelude.{[], None, Some, slice_get, if◌then◌else◌}
 use Rattle.pddl_ast.specs.Fits.{FitsDomain, FitsEffect, FitsProblem}
 use Rattle.pddl_ast.specs.Known.{Known}
 use Rattle.pddl_ast.specs.Trees.{AtomTree, FormulaTree, all, no_formula, LiteralTree, EffectTree}
@@ -34,7 +33,7 @@ use Rattle.pddl_system.specs.ThreeValues.{value}
 use Rattle.ctl_syntax.specs.Conditions.{condition_value}
 use Rattle.pddl_system.specs.Values.{ArePartsOf, task_value}
 use Rattle.task_core.specs.ContextPlans.{Configuration, ContextPlan, Follows}
-use Rattle.task_core.specs.Names.{AreActionNames, AreFluentNames}
+use Rattle.task_core.specs.Names.{AreActionNames, AreFluentNames, Words}
 use Rattle.task_core.specs.Parts.{MakesTask}
 use Rattle.task_core.specs.States.{IsWithin}
 use Rattle.task_core.specs.Systems.{AreNumbered, Exec, IsSystem, System}
@@ -104,7 +103,7 @@ ActionNamesAreNames =
 -- has an outcome and each uncertain entry an alternative, and names are names
 abbrev pub PartsMakeTask : Type 0
 PartsMakeTask =
-    (d : DomainTree) (p : ProblemTree) (fluents : List (Vec (String Global) Global))
+    (d : DomainTree) (p : ProblemTree) (fluents : List Words)
     (actions : List GroundAction) (init : InitSpec) (goal : Option Cond) (invariant : Cond)
     → FitsDomain d → FitsProblem d p → NamesAreWords d p → first_passed d p ≡ None
     → ArePartsOf d p fluents actions init goal invariant → IsWithin (length fluents) init.facts

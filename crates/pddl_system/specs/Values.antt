@@ -1,10 +1,9 @@
 -- The plain trees that a task's types stand for.
-use Rattle.std.specs.Prelude.{◌≡◌, List, map, length, Option, String, Vec}
-use Rattle.std.specs.declared.alloc.Global.{Global}
+use Rattle.std.specs.Prelude.{◌≡◌, List, map, length, Option}
 use Rattle.std.specs.List.{flat_map}
 use Rattle.std.specs.Option.{option_map}
 use Rattle.task_core.specs.Initial.{entries_of, facts_of}
-use Rattle.task_core.specs.Names.{name_bytes, name_of}
+use Rattle.task_core.specs.Names.{Words, name_bytes, name_of}
 use Rattle.task_core.specs.Tasks.{fluent_names}
 use Rattle.task_core.specs.declared.literals.Lit.{Lit}
 use Rattle.task_core.specs.declared.conditions.Cond.{Cond}
@@ -45,7 +44,7 @@ task_value task = record {
 -- the parts of a task, as they are handed to `Task::new`, stand for those of the task of a domain
 -- and a problem
 pub record ArePartsOf (d : DomainTree) (p : ProblemTree)
-    (fluents : List (Vec (String Global) Global)) (actions : List GroundAction) (init : InitSpec)
+    (fluents : List Words) (actions : List GroundAction) (init : InitSpec)
     (goal : Option Cond) (invariant : Cond) : Type 0 where
   pub fluents_are : map name_bytes fluents ≡ (task_of d p).fluents
   pub actions_are : map action_value actions ≡ (task_of d p).actions

@@ -35,6 +35,7 @@ ghost use Rattle.std.specs.Prelude.{
   map,
   string_bytes,
 };
+ghost use Rattle.std.specs.Rc.{rc_str_bytes};
 ghost use Rattle.task_core.specs.Names.{name_bytes};
 ghost use Rattle.task_core.specs.States.{vector};
 ghost use Rattle.task_core.specs.Tasks.{action_names, fluent_count, fluent_names};
@@ -43,6 +44,7 @@ use itoa::Buffer;
 use plan_picture::{Node, Picture, Step};
 use plan_rules::{Plan, push_name};
 use std::alloc::{AllocError, Global};
+use std::rc::RcStr;
 use task_core::{ActionId, FluentId, State, Task};
 
 /// The text of a picture of the plan, in the DOT language: a line a node and a line a step, between
@@ -122,9 +124,9 @@ fn push_bytes(out: &mut Vec<u8>, bytes: &[u8]) -> Result<(), AllocError>
 }
 
 /// Appends a name within quotes.
-fn push_label(alloc: Global, out: &mut Vec<u8>, words: &[String]) -> Result<(), AllocError>
+fn push_label(alloc: Global, out: &mut Vec<u8>, words: &[RcStr]) -> Result<(), AllocError>
     ensures { OnOk result (out.new.items
-        ≡ out.old.items ++ quoted (atom_text (map string_bytes words.now))) }
+        ≡ out.old.items ++ quoted (atom_text (map rc_str_bytes words.now))) }
 {
     let mut name = String::new(alloc);
     push_name(&mut name, words)?;
@@ -135,11 +137,11 @@ fn push_label(alloc: Global, out: &mut Vec<u8>, words: &[String]) -> Result<(), 
 fn push_fluent(
     alloc: Global,
     out: &mut Vec<u8>,
-    words: &[String],
+    words: &[RcStr],
     is_true: bool,
 ) -> Result<(), AllocError>
     ensures { OnOk result (out.new.items
-        ≡ out.old.items ++ fluent_line (map string_bytes words.now) is_true) }
+        ≡ out.old.items ++ fluent_line (map rc_str_bytes words.now) is_true) }
 {
     if !is_true {
         return Ok(());
@@ -152,7 +154,7 @@ fn push_fluent(
 fn push_fluents(
     alloc: Global,
     out: &mut Vec<u8>,
-    fluents: &[Vec<String>],
+    fluents: &[Vec<RcStr>],
     state: &State,
 ) -> Result<(), AllocError>
     requires { length fluents.now ≤ 256 }
@@ -276,8 +278,8 @@ fn push_nodes(
 }
 
 /// The name of an action; the empty one past the last.
-fn action_name(task: &Task, action: ActionId) -> &[String]
-    ensures { map string_bytes result.now ≡ name_at (action_names task.now) action.0 }
+fn action_name(task: &Task, action: ActionId) -> &[RcStr]
+    ensures { map rc_str_bytes result.now ≡ name_at (action_names task.now) action.0 }
 {
     match task.actions.get(action.0 as usize) {
         Some(action) => &action.name,

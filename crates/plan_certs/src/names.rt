@@ -1,25 +1,27 @@
 //! The numbers of fluents, found by their names.
 
-ghost use Rattle.std.specs.Prelude.{◌≡◌, ◌<◌, ◌+◌, ◌^◌, length, ◌++◌, ◌∷◌, [], map, IfOk};
-ghost use Rattle.std.specs.Prelude.{OnOk, true, false};
-ghost use Rattle.std.specs.List.{list_any};
-ghost use Rattle.std.specs.Str.{bytes_eq};
+ghost use Rattle.std.specs.Prelude.{◌≡◌, ◌<◌, ◌+◌, ◌^◌, length, ◌++◌, ◌∷◌, [], map, IfOk, IfSome};
+ghost use Rattle.std.specs.Prelude.{OnOk, None, true, false};
+ghost use Rattle.std.specs.List.{list_all, list_any};
+ghost use Rattle.std.specs.Str.{bytes_eq, is_utf8};
 ghost use Rattle.std.specs.Cmp.Lexicographic.{pointwise};
-ghost use Rattle.std.specs.Prelude.{string_bytes};
+ghost use Rattle.std.specs.Rc.{rc_str_bytes};
 ghost use Rattle.sexpr_text.specs.Forest.{forest_of};
 ghost use Rattle.sexpr_text.specs.Parts.{are_words, texts_of};
 ghost use Rattle.plan_rules.specs.NameKeys.{key_of};
 ghost use Rattle.plan_rules.specs.Readings.{number_of_name};
 
 use indexmap::IndexSet;
-use sexpr_text::{Form, View};
+use sexpr_text::{Form, Text, View};
 use std::alloc::{AllocError, Global};
+use std::rc::RcStr;
+use std::str;
 
 /// Names that are all different, each found by its words in about the same time, however many there
 /// are.
 #[derive(Drop)]
 pub(crate) struct NameTable {
-    names: IndexSet<Vec<Vec<u8>>>,
+    names: IndexSet<Vec<RcStr>>,
     ghost few: { length names.keys < 2 ^ 32 },
 }
 
@@ -36,12 +38,12 @@ impl NameTable {
     }
 
     /// Adds a name that is not in the table.
-    pub(crate) fn add(&mut self, alloc: Global, name: &[String]) -> Result<(), AllocError>
+    pub(crate) fn add(&mut self, alloc: Global, name: &[RcStr]) -> Result<(), AllocError>
         requires room { length (names_in self.old) + 1 < 2 ^ 32 }
-        requires new { list_any (pointwise bytes_eq (map string_bytes name.now)) (names_in self.old)
+        requires new { list_any (pointwise bytes_eq (map rc_str_bytes name.now)) (names_in self.old)
             ≡ false }
         ensures { OnOk result
-            (names_in self.new ≡ names_in self.old ++ map string_bytes name.now ∷ []) }
+            (names_in self.new ≡ names_in self.old ++ map rc_str_bytes name.now ∷ []) }
     {
         self.names.insert_full(key_for(alloc, name)?)?;
         Ok(())
@@ -53,12 +55,14 @@ impl NameTable {
         ensures { IfOk result
             (λ number. number ≡ number_of_name (names_in self.now) (texts_of (forest_of row.now))) }
     {
-        let words = words_of(alloc, row)?;
-        Ok(self.place(&words))
+        match words_of(alloc, row)? {
+            Some(words) => Ok(self.place(&words)),
+            None => Ok(None),
+        }
     }
 
     // The number of the name with these words.
-    fn place(&self, words: &Vec<Vec<u8>>) -> Option<u32>
+    fn place(&self, words: &Vec<RcStr>) -> Option<u32>
         ensures { result ≡ number_of_name (names_in self.now) (key_of words.now) }
     {
         let place = self.names.get_index_of(words)?;
@@ -66,28 +70,46 @@ impl NameTable {
     }
 }
 
-// The words of a name.
-fn key_for(alloc: Global, name: &[String]) -> Result<Vec<Vec<u8>>, AllocError>
-    ensures { IfOk result (λ words. key_of words ≡ map string_bytes name.now) }
+// The words of a name, which the key shares with it.
+fn key_for(alloc: Global, name: &[RcStr]) -> Result<Vec<RcStr>, AllocError>
+    ensures { IfOk result (λ words. key_of words ≡ map rc_str_bytes name.now) }
 {
     let mut words = Vec::new(alloc);
     for word in name {
-        words.push(Vec::from_slice(alloc, word.as_bytes())?)?;
+        words.push(word.clone()?)?;
     }
     Ok(words)
 }
 
-// The texts of the words of a row.
-fn words_of(alloc: Global, row: &[Form]) -> Result<Vec<Vec<u8>>, AllocError>
-    ensures { IfOk result (λ words. key_of words ≡ texts_of (forest_of row.now)) }
+// The texts of the words of a row; `None` where one of them is in no name, since it isn't in UTF-8.
+fn words_of(alloc: Global, row: &[Form]) -> Result<Option<Vec<RcStr>>, AllocError>
+    ensures words { IfOk result (λ found. IfSome found (λ words.
+        key_of words ≡ texts_of (forest_of row.now))) }
+    ensures nowhere { IfOk result (λ found. found ≡ None
+        → list_all is_utf8 (texts_of (forest_of row.now)) ≡ false) }
 {
     let mut words = Vec::new(alloc);
     for form in row {
         if let View::Word(_, text) = form.view() {
-            words.push(Vec::from_slice(alloc, text.as_bytes())?)?;
+            match word_of(alloc, text)? {
+                Some(word) => words.push(word)?,
+                None => return Ok(None),
+            }
         }
     }
-    Ok(words)
+    Ok(Some(words))
+}
+
+// A word with this text; `None` where it isn't in UTF-8.
+fn word_of(alloc: Global, text: &Text) -> Result<Option<RcStr>, AllocError>
+    ensures words { IfOk result (λ found. IfSome found (λ word.
+        (rc_str_bytes word ≡ text.now))) }
+    ensures nowhere { IfOk result (λ found. found ≡ None → is_utf8 text.now ≡ false) }
+{
+    match str::from_utf8(text.as_bytes()) {
+        Ok(word) => Ok(Some(RcStr::from_str(alloc, word)?)),
+        Err(_) => Ok(None),
+    }
 }
 
 /// Whether the row has words alone.

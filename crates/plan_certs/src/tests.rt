@@ -5,14 +5,15 @@ use crate::{CertificateRead, is_no_way_out, read_cert, some_set_holds, write_cer
 use sexpr_text::{MAX_BYTES, ReadErr};
 use std::alloc::{AllocError, Global};
 use std::fmt::Write;
+use std::rc::RcStr;
 use std::test::Fail;
 use task_core::{Cond, FluentId, InitSpec, State, Task};
 
 // The words of a name, which are separated by one space.
-fn name(alloc: Global, words: &str) -> Result<Vec<String>, AllocError> {
+fn name(alloc: Global, words: &str) -> Result<Vec<RcStr>, AllocError> {
     let mut name = Vec::new(alloc);
     for word in words.split(' ') {
-        name.push(String::from_str(alloc, word)?)?;
+        name.push(RcStr::from_str(alloc, word)?)?;
     }
     Ok(name)
 }

@@ -20,6 +20,7 @@ ghost use Rattle.plan_certs.specs.Texts.{certificate_text, next_cube_text, set_t
 use crate::certificates::{Certificate, StateSet};
 use plan_rules::push_name;
 use std::alloc::{AllocError, Global};
+use std::rc::RcStr;
 use task_core::{Class, Lit, Task};
 
 // The word for a class in a certificate's text.
@@ -44,7 +45,7 @@ fn push_gap(out: &mut String, place: usize) -> Result<(), AllocError>
 }
 
 // A literal, as `(at a)` or `(not (at a))`.
-fn push_literal(out: &mut String, fluents: &[Vec<String>], lit: &Lit) -> Result<(), AllocError>
+fn push_literal(out: &mut String, fluents: &[Vec<RcStr>], lit: &Lit) -> Result<(), AllocError>
     requires { lit.now.fluent.0 < length fluents.now }
     ensures { OnOk result
         (string_bytes out.new
@@ -61,7 +62,7 @@ fn push_literal(out: &mut String, fluents: &[Vec<String>], lit: &Lit) -> Result<
     }
 }
 
-fn push_literals(out: &mut String, fluents: &[Vec<String>], cube: &[Lit]) -> Result<(), AllocError>
+fn push_literals(out: &mut String, fluents: &[Vec<RcStr>], cube: &[Lit]) -> Result<(), AllocError>
     requires { All (λ lit. lit.fluent.0 < length fluents.now) cube.now }
     ensures { OnOk result
         (string_bytes out.new
@@ -76,7 +77,7 @@ fn push_literals(out: &mut String, fluents: &[Vec<String>], cube: &[Lit]) -> Res
 }
 
 // The literals of a cube in parentheses, with a space between them.
-fn push_cube(out: &mut String, fluents: &[Vec<String>], cube: &[Lit]) -> Result<(), AllocError>
+fn push_cube(out: &mut String, fluents: &[Vec<RcStr>], cube: &[Lit]) -> Result<(), AllocError>
     requires { All (λ lit. lit.fluent.0 < length fluents.now) cube.now }
     ensures { OnOk result
         (string_bytes out.new
@@ -89,7 +90,7 @@ fn push_cube(out: &mut String, fluents: &[Vec<String>], cube: &[Lit]) -> Result<
 }
 
 // A cube after a space.
-fn push_next_cube(out: &mut String, fluents: &[Vec<String>], cube: &[Lit]) -> Result<(), AllocError>
+fn push_next_cube(out: &mut String, fluents: &[Vec<RcStr>], cube: &[Lit]) -> Result<(), AllocError>
     requires { All (λ lit. lit.fluent.0 < length fluents.now) cube.now }
     ensures { OnOk result
         (string_bytes out.new
@@ -102,7 +103,7 @@ fn push_next_cube(out: &mut String, fluents: &[Vec<String>], cube: &[Lit]) -> Re
 // The cubes of a set, each after a space.
 fn push_cubes(
     out: &mut String,
-    fluents: &[Vec<String>],
+    fluents: &[Vec<RcStr>],
     cubes: &[Vec<Lit>],
 ) -> Result<(), AllocError>
     requires { All (IsCubeOf (length fluents.now)) (map cube_of cubes.now) }
@@ -118,7 +119,7 @@ fn push_cubes(
 }
 
 // The line of a set.
-fn push_set(out: &mut String, fluents: &[Vec<String>], set: &StateSet) -> Result<(), AllocError>
+fn push_set(out: &mut String, fluents: &[Vec<RcStr>], set: &StateSet) -> Result<(), AllocError>
     requires { IsSetOf (length fluents.now) (set_of set.now) }
     ensures { OnOk result
         (string_bytes out.new
@@ -131,7 +132,7 @@ fn push_set(out: &mut String, fluents: &[Vec<String>], set: &StateSet) -> Result
 }
 
 // The lines of all sets.
-fn push_sets(out: &mut String, fluents: &[Vec<String>], sets: &[StateSet]) -> Result<(), AllocError>
+fn push_sets(out: &mut String, fluents: &[Vec<RcStr>], sets: &[StateSet]) -> Result<(), AllocError>
     requires { AreSetsOf (length fluents.now) (map set_of sets.now) }
     ensures { OnOk result
         (string_bytes out.new

@@ -9,6 +9,7 @@ use exec_graph::explore;
 use plan_rules::{Plan, read_plan};
 use sexpr_text::MAX_BYTES;
 use std::alloc::{AllocError, Global};
+use std::rc::RcStr;
 use std::test::Fail;
 use task_core::{
     Alternative, Change, Class, Cond, FluentId, GroundAction, InitSpec, Lit, Outcome, State, Task,
@@ -29,8 +30,8 @@ fn is(fluent: u32) -> Cond {
     Cond::Is(FluentId(fluent))
 }
 
-fn name(alloc: Global, word: &str) -> Result<Vec<String>, AllocError> {
-    Ok(vec![in alloc; String::from_str(alloc, word)?]?)
+fn name(alloc: Global, word: &str) -> Result<Vec<RcStr>, AllocError> {
+    Ok(vec![in alloc; RcStr::from_str(alloc, word)?]?)
 }
 
 /// The outcome that adds a fluent, or deletes it.

@@ -27,12 +27,13 @@ use crate::names::{name_text, name_value};
 use plan_rules::{AutoRule, Next, Rule};
 use serde_json::{Map, Value, put};
 use std::alloc::{AllocError, Global};
+use std::rc::RcStr;
 use task_core::{ActionId, GroundAction, Lit};
 
 /// The rules of a table.
 pub(crate) fn table_rules(
     alloc: Global,
-    fluents: &[Vec<String>],
+    fluents: &[Vec<RcStr>],
     actions: &[GroundAction],
     rules: &[Rule],
 ) -> Result<Value, AllocError>
@@ -51,7 +52,7 @@ pub(crate) fn table_rules(
 /// A rule of a table.
 fn table_rule(
     alloc: Global,
-    fluents: &[Vec<String>],
+    fluents: &[Vec<RcStr>],
     actions: &[GroundAction],
     rule: &Rule,
 ) -> Result<Value, AllocError>
@@ -69,7 +70,7 @@ fn table_rule(
 /// The rules of a plan with contexts.
 pub(crate) fn context_rules(
     alloc: Global,
-    fluents: &[Vec<String>],
+    fluents: &[Vec<RcStr>],
     actions: &[GroundAction],
     rules: &[AutoRule],
 ) -> Result<Value, AllocError>
@@ -89,7 +90,7 @@ pub(crate) fn context_rules(
 /// A rule of a plan with contexts.
 fn context_rule(
     alloc: Global,
-    fluents: &[Vec<String>],
+    fluents: &[Vec<RcStr>],
     actions: &[GroundAction],
     rule: &AutoRule,
 ) -> Result<Value, AllocError>
@@ -159,7 +160,7 @@ fn rule_object(
 }
 
 /// What is asked of a state: an object from the fluents that are named to their values.
-fn literal_object(alloc: Global, fluents: &[Vec<String>], cube: &[Lit]) -> Result<Value, AllocError>
+fn literal_object(alloc: Global, fluents: &[Vec<RcStr>], cube: &[Lit]) -> Result<Value, AllocError>
     requires { All (λ lit. lit.fluent.0 < length fluents.now) cube.now }
     ensures { IfOk result (λ value. view value
         ≡ cube_data (map name_bytes fluents.now) cube.now) }
@@ -175,7 +176,7 @@ fn literal_object(alloc: Global, fluents: &[Vec<String>], cube: &[Lit]) -> Resul
 fn put_literal(
     members: &mut Map<String, Value>,
     alloc: Global,
-    fluents: &[Vec<String>],
+    fluents: &[Vec<RcStr>],
     literal: &Lit,
 ) -> Result<(), AllocError>
     requires { literal.now.fluent.0 < length fluents.now }

@@ -13,7 +13,7 @@ use Rattle.std.proofs.lemmas.List.{get_or-take, get_or-map, length-take-le, leng
 use Rattle.task_core.specs.Names.{Name, AreDistinct}
 use Rattle.plan_rules.specs.Readings.{number_of_name}
 
-same_name : (v w : Name) → Decides (pointwise bytes_eq v w) (v ≡ w)
+pub same_name : (v w : Name) → Decides (pointwise bytes_eq v w) (v ≡ w)
 same_name v w = slice_eq-Decides bytes_eq-Decides v w (pointwise bytes_eq v w) refl
 
 pub differs : {P : Type 0} (b : Bool) → Decides b P → (P → ⊥) → b ≡ false

@@ -5,14 +5,15 @@ use crate::{PlanRead, read_plan, write_plan};
 use sexpr_text::{MAX_BYTES, ReadErr};
 use std::alloc::{AllocError, Global};
 use std::fmt::Write;
+use std::rc::RcStr;
 use std::test::Fail;
 use task_core::{Cond, GroundAction, InitSpec, Outcome, State, Task};
 
 // The words of a name, which are separated by one space.
-fn name(alloc: Global, words: &str) -> Result<Vec<String>, AllocError> {
+fn name(alloc: Global, words: &str) -> Result<Vec<RcStr>, AllocError> {
     let mut name = Vec::new(alloc);
     for word in words.split(' ') {
-        name.push(String::from_str(alloc, word)?)?;
+        name.push(RcStr::from_str(alloc, word)?)?;
     }
     Ok(name)
 }

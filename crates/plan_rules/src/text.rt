@@ -12,6 +12,7 @@ ghost use Rattle.std.specs.Prelude.{
   string_bytes,
   All,
 };
+ghost use Rattle.std.specs.Rc.{rc_str_bytes};
 ghost use Rattle.std.specs.List.{flat_map};
 ghost use Rattle.task_core.specs.Names.{name_bytes, name_of};
 ghost use Rattle.task_core.specs.Tasks.{action_count, action_names, fluent_count, fluent_names};
@@ -47,6 +48,7 @@ ghost use Rattle.plan_rules.specs.Texts.{
 use crate::rules::{AutoPlan, AutoRule, Case, Class, Next, Plan, Rule, TablePlan};
 use itoa::{Buffer, Integer};
 use std::alloc::{AllocError, Global};
+use std::rc::RcStr;
 use task_core::{GroundAction, Lit, Task};
 
 // The word for a class in a plan's text.
@@ -71,9 +73,9 @@ fn push_gap(out: &mut String, place: usize) -> Result<(), AllocError>
 }
 
 // The words of a name with one space between them.
-fn push_words(out: &mut String, words: &[String]) -> Result<(), AllocError>
+fn push_words(out: &mut String, words: &[RcStr]) -> Result<(), AllocError>
     ensures { OnOk result
-        (string_bytes out.new ≡ string_bytes out.old ++ spaced (map string_bytes words.now)) }
+        (string_bytes out.new ≡ string_bytes out.old ++ spaced (map rc_str_bytes words.now)) }
 {
     for (i, word) in words.iter().enumerate() {
         push_gap(out, i)?;
@@ -83,9 +85,9 @@ fn push_words(out: &mut String, words: &[String]) -> Result<(), AllocError>
 }
 
 /// Appends a name in parentheses, with one space between its words: as `(at a)`.
-pub fn push_name(out: &mut String, words: &[String]) -> Result<(), AllocError>
+pub fn push_name(out: &mut String, words: &[RcStr]) -> Result<(), AllocError>
     ensures { OnOk result
-        (string_bytes out.new ≡ string_bytes out.old ++ atom_text (map string_bytes words.now)) }
+        (string_bytes out.new ≡ string_bytes out.old ++ atom_text (map rc_str_bytes words.now)) }
 {
     out.push('(')?;
     push_words(out, words)?;
@@ -94,7 +96,7 @@ pub fn push_name(out: &mut String, words: &[String]) -> Result<(), AllocError>
 }
 
 // A literal, as `(at a)` or `(not (at a))`.
-fn push_literal(out: &mut String, fluents: &[Vec<String>], lit: &Lit) -> Result<(), AllocError>
+fn push_literal(out: &mut String, fluents: &[Vec<RcStr>], lit: &Lit) -> Result<(), AllocError>
     requires { lit.now.fluent.0 < length fluents.now }
     ensures { OnOk result
         (string_bytes out.new
@@ -112,7 +114,7 @@ fn push_literal(out: &mut String, fluents: &[Vec<String>], lit: &Lit) -> Result<
 }
 
 // The literals of a cube in parentheses, with a space between them.
-fn push_cube(out: &mut String, fluents: &[Vec<String>], cube: &[Lit]) -> Result<(), AllocError>
+fn push_cube(out: &mut String, fluents: &[Vec<RcStr>], cube: &[Lit]) -> Result<(), AllocError>
     requires { All (λ lit. lit.fluent.0 < length fluents.now) cube.now }
     ensures { OnOk result
         (string_bytes out.new
@@ -124,7 +126,7 @@ fn push_cube(out: &mut String, fluents: &[Vec<String>], cube: &[Lit]) -> Result<
     Ok(())
 }
 
-fn push_literals(out: &mut String, fluents: &[Vec<String>], cube: &[Lit]) -> Result<(), AllocError>
+fn push_literals(out: &mut String, fluents: &[Vec<RcStr>], cube: &[Lit]) -> Result<(), AllocError>
     requires { All (λ lit. lit.fluent.0 < length fluents.now) cube.now }
     ensures { OnOk result
         (string_bytes out.new
@@ -141,7 +143,7 @@ fn push_literals(out: &mut String, fluents: &[Vec<String>], cube: &[Lit]) -> Res
 // The line of a rule.
 fn push_rule(
     out: &mut String,
-    fluents: &[Vec<String>],
+    fluents: &[Vec<RcStr>],
     actions: &[GroundAction],
     rule: &Rule,
 ) -> Result<(), AllocError>
@@ -161,7 +163,7 @@ fn push_rule(
 // The lines of all rules.
 fn push_rules(
     out: &mut String,
-    fluents: &[Vec<String>],
+    fluents: &[Vec<RcStr>],
     actions: &[GroundAction],
     rules: &[Rule],
 ) -> Result<(), AllocError>
@@ -186,7 +188,7 @@ pub fn push_number<I: Integer>(out: &mut String, number: I) -> Result<(), AllocE
 }
 
 // A case, as `(((at a)) 3)`.
-fn push_case(out: &mut String, fluents: &[Vec<String>], case: &Case) -> Result<(), AllocError>
+fn push_case(out: &mut String, fluents: &[Vec<RcStr>], case: &Case) -> Result<(), AllocError>
     requires { IsCubeOf (length fluents.now) case.now.cube.items }
     ensures { OnOk result (string_bytes out.new
         ≡ string_bytes out.old ++ case_text (map name_bytes fluents.now) (case_of case.now)) }
@@ -200,7 +202,7 @@ fn push_case(out: &mut String, fluents: &[Vec<String>], case: &Case) -> Result<(
 }
 
 // Cases, with one space between them.
-fn push_cases(out: &mut String, fluents: &[Vec<String>], cases: &[Case]) -> Result<(), AllocError>
+fn push_cases(out: &mut String, fluents: &[Vec<RcStr>], cases: &[Case]) -> Result<(), AllocError>
     requires { NamesNext (length fluents.now) (by_cases (map case_of cases.now)) }
     ensures { OnOk result (string_bytes out.new
         ≡ string_bytes out.old
@@ -214,7 +216,7 @@ fn push_cases(out: &mut String, fluents: &[Vec<String>], cases: &[Case]) -> Resu
 }
 
 // The next context.
-fn push_next(out: &mut String, fluents: &[Vec<String>], next: &Next) -> Result<(), AllocError>
+fn push_next(out: &mut String, fluents: &[Vec<RcStr>], next: &Next) -> Result<(), AllocError>
     requires { NamesNext (length fluents.now) (next_of next.now) }
     ensures { OnOk result (string_bytes out.new
         ≡ string_bytes out.old ++ next_text (map name_bytes fluents.now) (next_of next.now)) }
@@ -233,7 +235,7 @@ fn push_next(out: &mut String, fluents: &[Vec<String>], next: &Next) -> Result<(
 // The line of an automaton's rule.
 fn push_context_rule(
     out: &mut String,
-    fluents: &[Vec<String>],
+    fluents: &[Vec<RcStr>],
     actions: &[GroundAction],
     rule: &AutoRule,
 ) -> Result<(), AllocError>
@@ -257,7 +259,7 @@ fn push_context_rule(
 // The lines of all of an automaton's rules.
 fn push_context_rules(
     out: &mut String,
-    fluents: &[Vec<String>],
+    fluents: &[Vec<RcStr>],
     actions: &[GroundAction],
     rules: &[AutoRule],
 ) -> Result<(), AllocError>

@@ -11,6 +11,7 @@ use dd_sets::SetErr;
 use encode_task::encode;
 use plan_rules::{AutoRule, Next};
 use std::alloc::{AllocError, Global};
+use std::rc::RcStr;
 use std::test::Fail;
 use task_core::{
     ActionId, Change, Cond, FluentId, GroundAction, InitSpec, Lit, Outcome, State, Task,
@@ -32,8 +33,8 @@ fn sets(alloc: Global, fluent: u32, positive: bool) -> Result<Outcome, AllocErro
 }
 
 /// A name of one word.
-fn name(alloc: Global, word: &str) -> Result<Vec<String>, AllocError> {
-    Ok(vec![in alloc; String::from_str(alloc, word)?]?)
+fn name(alloc: Global, word: &str) -> Result<Vec<RcStr>, AllocError> {
+    Ok(vec![in alloc; RcStr::from_str(alloc, word)?]?)
 }
 
 /// A task of one fluent, on, which is off at first; one action switches it on, one off.

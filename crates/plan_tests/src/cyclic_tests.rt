@@ -8,6 +8,7 @@ use encode_task::encode;
 use plan_rules::{Rule, TablePlan};
 use plan_theory::Found;
 use std::alloc::{AllocError, Global};
+use std::rc::RcStr;
 use std::test::Fail;
 use task_core::{
     ActionId, Change, Cond, FluentId, GroundAction, InitSpec, Lit, Outcome, State, Task,
@@ -41,8 +42,8 @@ fn nothing(alloc: Global) -> Outcome {
 }
 
 /// A name of one word.
-fn name(alloc: Global, word: &str) -> Result<Vec<String>, AllocError> {
-    Ok(vec![in alloc; String::from_str(alloc, word)?]?)
+fn name(alloc: Global, word: &str) -> Result<Vec<RcStr>, AllocError> {
+    Ok(vec![in alloc; RcStr::from_str(alloc, word)?]?)
 }
 
 /// An action that can be executed in states that aren't dead.

@@ -8,6 +8,7 @@ ghost use Rattle.encode_task.specs.Made.{MadeOf};
 use dd_sets::{SetErr, SetId, Sets};
 use encode_task::{Enc, encode};
 use std::alloc::{AllocError, Global};
+use std::rc::RcStr;
 use std::test::Fail;
 use task_core::{
     ActionId, Alternative, Change, Cond, FluentId, GroundAction, InitSpec, Lit, Outcome, State,
@@ -34,9 +35,9 @@ fn change(alloc: Global, lits: &[Lit]) -> Result<Change, AllocError> {
     })
 }
 
-fn name(alloc: Global, word: &str) -> Result<Vec<String>, AllocError> {
+fn name(alloc: Global, word: &str) -> Result<Vec<RcStr>, AllocError> {
     let mut words = Vec::new(alloc);
-    words.push(String::from_str(alloc, word)?)?;
+    words.push(RcStr::from_str(alloc, word)?)?;
     Ok(words)
 }
 

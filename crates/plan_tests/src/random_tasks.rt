@@ -3,6 +3,7 @@ ghost use Rattle.std.specs.Prelude.{◌<◌, ◌≤◌};
 ghost use Rattle.task_core.specs.States.{IsWithin};
 
 use std::alloc::{AllocError, Global};
+use std::rc::RcStr;
 use task_core::{
     Alternative, Change, Cond, FluentId, GroundAction, InitSpec, Lit, Outcome, State, Task,
 };
@@ -104,9 +105,9 @@ fn entry(alloc: Global, source: &mut Source) -> Result<Vec<Alternative>, AllocEr
     Ok(entry)
 }
 
-fn name(alloc: Global, word: &str) -> Result<Vec<String>, AllocError> {
+fn name(alloc: Global, word: &str) -> Result<Vec<RcStr>, AllocError> {
     let mut words = Vec::new(alloc);
-    words.push(String::from_str(alloc, word)?)?;
+    words.push(RcStr::from_str(alloc, word)?)?;
     Ok(words)
 }
 

@@ -9,6 +9,7 @@ use plan_rules::{Plan, write_plan};
 use plan_theory::Found;
 use reach_plan::{plan_strong, plan_weak};
 use std::alloc::{AllocError, Global};
+use std::rc::RcStr;
 use std::test::Fail;
 use task_core::{
     Alternative, Change, Cond, FluentId, GroundAction, InitSpec, Lit, Outcome, State, Task,
@@ -62,8 +63,8 @@ fn outcome(alloc: Global, lits: &[Lit]) -> Result<Outcome, AllocError> {
 }
 
 /// A name of one word.
-pub fn name(alloc: Global, word: &str) -> Result<Vec<String>, AllocError> {
-    Ok(vec![in alloc; String::from_str(alloc, word)?]?)
+pub fn name(alloc: Global, word: &str) -> Result<Vec<RcStr>, AllocError> {
+    Ok(vec![in alloc; RcStr::from_str(alloc, word)?]?)
 }
 
 /// The action of a condition and its outcomes.

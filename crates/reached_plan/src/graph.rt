@@ -13,10 +13,10 @@ use task_core::{
 };
 
 /// The most states that are gone through.
-const MOST_STATES: usize = 65_536;
+const MOST_STATES: usize = 262_144;
 
 /// How often it is tested at most whether an action can be executed in a state.
-const MOST_TESTS: usize = 4_194_304;
+const MOST_TESTS: usize = 16_777_216;
 
 /// The most outcomes of actions in states that are gone through.
 const MOST_OUTCOMES: usize = 4_194_304;

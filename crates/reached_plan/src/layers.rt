@@ -1,4 +1,5 @@
-//! The way back from the goal, layer by layer.
+//! The way back from the goal, layer by layer: of a state it is asked whether it is in the next one
+//! only where something has come about that may lead there.
 
 use crate::graph::{Graph, Move, Stop};
 use std::alloc::{AllocError, Global};
@@ -15,8 +16,16 @@ pub(crate) struct Layers {
     pub(crate) inside: Vec<bool>,
     /// What each takes; nothing in a state of the goal, and in one that isn't among them.
     pub(crate) taken: Vec<Option<ActionId>>,
-    /// The states that aren't among them.
+    /// The states that may be in the next layer: first all that aren't among them, and from then on
+    /// those of them in which some action may lead to a state of the last one.
     open: Vec<usize>,
+    /// The layer for which each state was last put there.
+    asked: Vec<usize>,
+    /// How many layers there were.
+    count: usize,
+    /// How many initial states there are, and how many of them aren't among these.
+    initial: usize,
+    missing: usize,
     looks: usize,
 }
 
@@ -32,17 +41,30 @@ impl Layers {
             inside: Vec::new(alloc),
             taken: Vec::new(alloc),
             open: Vec::new(alloc),
+            asked: Vec::new(alloc),
+            count: 0,
+            initial: graph.initial,
+            missing: 0,
             looks,
         };
         for (number, in_goal) in graph.goal.iter().enumerate() {
             let is_inside = *in_goal && is_in(stays, number);
             layers.inside.push(is_inside)?;
             layers.taken.push(None)?;
+            layers.asked.push(0)?;
             if !is_inside {
                 layers.open.push(number)?;
+                layers.miss(number);
             }
         }
         Ok(layers)
+    }
+
+    /// Notes that a state isn't among them.
+    fn miss(&mut self, number: usize) {
+        if number < self.initial {
+            self.missing = self.missing.saturating_add(1);
+        }
     }
 
     /// How often states were looked at.
@@ -51,29 +73,25 @@ impl Layers {
     }
 
     /// Whether all initial states are among them.
-    pub(crate) fn are_enough(&self, graph: &Graph) -> bool {
-        for number in 0..graph.initial {
-            if !is_in(&self.inside, number) {
-                return false;
-            }
-        }
-        true
+    pub(crate) fn are_enough(&self) -> bool {
+        self.missing == 0
     }
 
     /// Adds layers until there is no other or, where it isn't for a strong cyclic plan, all initial
-    /// states are among them.
+    /// states are among them. `before` says from which states one may come to each.
     pub(crate) fn grow(
         &mut self,
         alloc: Global,
         graph: &Graph,
+        before: &[Vec<usize>],
         class: Class,
         stays: &[bool],
     ) -> Result<(), Stop> {
         for _ in 0..graph.states.len() {
-            if class != Class::Cyclic && self.are_enough(graph) {
+            if class != Class::Cyclic && self.are_enough() {
                 return Ok(());
             }
-            if !self.add_layer(alloc, graph, class, stays)? {
+            if !self.add_layer(alloc, graph, before, class, stays)? {
                 return Ok(());
             }
         }
@@ -85,6 +103,7 @@ impl Layers {
         &mut self,
         alloc: Global,
         graph: &Graph,
+        before: &[Vec<usize>],
         class: Class,
         stays: &[bool],
     ) -> Result<bool, Stop> {
@@ -93,17 +112,46 @@ impl Layers {
             return Err(Stop::TooMany);
         }
         let mut fresh = Vec::new(alloc);
-        let mut open = Vec::new(alloc);
         for number in &self.open {
-            match self.action_at(graph, class, stays, *number) {
-                Some(action) => fresh.push((*number, action))?,
-                None => open.push(*number)?,
+            if let Some(action) = self.action_at(graph, class, stays, *number) {
+                fresh.push((*number, action))?;
             }
         }
-        let is_some = !fresh.is_empty();
-        self.open = open;
+        self.count = self.count.saturating_add(1);
         self.take_all(&fresh);
-        Ok(is_some)
+        self.open_before(alloc, before, &fresh)?;
+        Ok(!fresh.is_empty())
+    }
+
+    /// Makes those the next to be asked that aren't among them and from which one may come to one of
+    /// these states.
+    fn open_before(
+        &mut self,
+        alloc: Global,
+        before: &[Vec<usize>],
+        fresh: &[(usize, ActionId)],
+    ) -> Result<(), AllocError> {
+        self.open = Vec::new(alloc);
+        for (number, _) in fresh {
+            if let Some(states) = before.get(*number) {
+                for state in states {
+                    self.ask(*state)?;
+                }
+            }
+        }
+        Ok(())
+    }
+
+    /// Puts a state among the next to be asked, unless it is among them or was put there.
+    fn ask(&mut self, state: usize) -> Result<(), AllocError> {
+        if is_in(&self.inside, state) || state >= self.asked.len() {
+            return Ok(());
+        }
+        if self.asked[state] < self.count {
+            self.asked[state] = self.count;
+            self.open.push(state)?;
+        }
+        Ok(())
     }
 
     /// Adds states with the actions that they take.
@@ -120,6 +168,9 @@ impl Layers {
         }
         if number < self.taken.len() {
             self.taken[number] = Some(action);
+        }
+        if number < self.initial {
+            self.missing = self.missing.saturating_sub(1);
         }
     }
 

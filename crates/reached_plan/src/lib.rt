@@ -2,11 +2,12 @@
 //! Where these are few, a plan is found at once, however large the sets of states are that a planner
 //! over sets has to go through.
 //!
-//! `graph` goes through the states that can be reached, `layers` goes back from the goal among them,
-//! and `plans` puts both together. Nothing is promised of what is found: it is to be judged before it
+//! `graph` goes through the states that can be reached, `before` turns the steps between them round,
+//! `layers` goes back from the goal along these, and `plans` puts it all together. Nothing is promised of what is found: it is to be judged before it
 //! is used.
 #![tactic(auto)]
 
+mod before;
 mod graph;
 mod layers;
 mod plans;

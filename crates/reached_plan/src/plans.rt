@@ -3,6 +3,7 @@
 ghost use Rattle.std.specs.Prelude.{IsTrue};
 ghost use Rattle.task_core.specs.Conditions.{ids_below};
 
+use crate::before::before_each;
 use crate::graph::{Graph, Stop, explore};
 use crate::layers::Layers;
 use indexmap::IndexSet;
@@ -25,9 +26,10 @@ impl ReachedPlan {
 }
 
 /// A plan of a class for a task, found among the states that can be reached; `None` where none is
-/// found, or the states are too many: more than 65,536, or so many that an action is tried in a
-/// state more than 4,194,304 times. It takes in each state what the plan takes that `reach_plan` or
-/// `cyclic_plan` finds. That a task without a plan has none is not told so.
+/// found, or the states are too many: more than 262,144, or so many that an action is tried in a
+/// state more than 16,777,216 times, or with more than 4,194,304 outcomes of actions in them. It
+/// takes in each state what the plan takes that `reach_plan` or `cyclic_plan` finds. That a task
+/// without a plan has none is not told so.
 pub fn plan_reached(
     alloc: Global,
     task: &Task,
@@ -65,12 +67,13 @@ fn find(alloc: Global, task: &Task, goal: &Cond, class: Class) -> Result<Option<
 /// plan, states from which the goal can't be had, once all actions are left out by which it may be
 /// lost, are left out in turn, until all that are left have it.
 fn plan_in(alloc: Global, graph: &Graph, class: Class) -> Result<Option<Layers>, Stop> {
+    let before = before_each(alloc, graph)?;
     let mut stays = vec![in alloc; true; graph.states.len()]?;
     let mut looks = 0;
     for _ in 0..graph.states.len() {
         let mut layers = Layers::of_goal(alloc, graph, &stays, looks)?;
-        layers.grow(alloc, graph, class, &stays)?;
-        if !layers.are_enough(graph) {
+        layers.grow(alloc, graph, &before, class, &stays)?;
+        if !layers.are_enough() {
             return Ok(None);
         }
         if class != Class::Cyclic || layers.inside == stays {

@@ -17,7 +17,7 @@ use std::alloc::{AllocError, Global};
 use std::cell::Cell;
 use std::collections::VecDeque;
 use std::fmt::Write;
-use std::rc::Rc;
+use std::rc::{Rc, RcStr};
 use std::test::Fail;
 use task_core::{
     ActionId, Change, Cond, FluentId, GroundAction, InitSpec, Lit, Outcome, State, Task,
@@ -104,7 +104,7 @@ fn action(
     outcomes: Vec<Outcome>,
 ) -> Result<GroundAction, AllocError> {
     let mut name = Vec::new(alloc);
-    name.push(String::from_str(alloc, word)?)?;
+    name.push(RcStr::from_str(alloc, word)?)?;
     Ok(GroundAction {
         name,
         exec,
@@ -160,10 +160,10 @@ fn actions(alloc: Global) -> Result<Vec<GroundAction>, AllocError> {
 }
 
 /// The names of the two switches.
-fn fluents(alloc: Global) -> Result<Vec<Vec<String>>, AllocError> {
+fn fluents(alloc: Global) -> Result<Vec<Vec<RcStr>>, AllocError> {
     let mut fluents = Vec::new(alloc);
     for word in ["p", "q"] {
-        fluents.push(vec![in alloc; String::from_str(alloc, word)?]?)?;
+        fluents.push(vec![in alloc; RcStr::from_str(alloc, word)?]?)?;
     }
     Ok(fluents)
 }

@@ -1,7 +1,9 @@
 -- What the tests of names say.
 use Rattle.std.proofs.Common.{◌≡◌, ◌≢◌, ℕ, zero, suc, Bool, true, false, not, ◌&&◌, List, [], ◌∷◌, map, refl, sym, ◌∙◌, ap, arith}
-use Rattle.std.specs.Prelude.{codes, String, string_bytes, string_eq}
+use Rattle.std.specs.Prelude.{codes, nat_eq}
+use Rattle.std.specs.Rc.{rc_str_bytes}
 use Rattle.std.specs.declared.alloc.Global.{Global}
+use Rattle.std.specs.declared.rc.RcStr.{RcStr}
 use Rattle.std.specs.List.{All, list_all}
 use Rattle.std.specs.Str.{bytes_eq}
 use Rattle.std.specs.Cmp.Lexicographic.{pointwise}
@@ -10,12 +12,16 @@ use Rattle.std.proofs.lemmas.Slice.Eq.{slice_eq-Decides, bytes_eq-Decides}
 use Rattle.task_core.specs.Names.{AreActionNames, AreDistinct, AreFluentNames, IsName, IsWord, Name, first_word, is_name_byte}
 use Rattle.task_core.specs.Checks.{all_differ, fluent_name_passes, has_some, is_among, name_passes, same_name, says_not, word_passes}
 
+-- `==` of two texts
+abbrev same_text : RcStr Global → RcStr Global → Bool
+same_text x y = pointwise nat_eq (rc_str_bytes x) (rc_str_bytes y)
+
 -- `==` of two lists of texts is the test of their bytes
-pub same_bytes : (xs ys : List (String Global)) → pointwise string_eq xs ys ≡ pointwise bytes_eq (map string_bytes xs) (map string_bytes ys)
+pub same_bytes : (xs ys : List (RcStr Global)) → pointwise same_text xs ys ≡ pointwise bytes_eq (map rc_str_bytes xs) (map rc_str_bytes ys)
 same_bytes [] [] = refl
 same_bytes [] (y ∷ ys) = refl
 same_bytes (x ∷ xs) [] = refl
-same_bytes (x ∷ xs) (y ∷ ys) = ap (λ b. bytes_eq (string_bytes x) (string_bytes y) && b) (same_bytes xs ys)
+same_bytes (x ∷ xs) (y ∷ ys) = ap (λ b. bytes_eq (rc_str_bytes x) (rc_str_bytes y) && b) (same_bytes xs ys)
 
 -- the same names are equal, and the other way round
 same_equal : (v w : Name) → same_name v w ≡ true → v ≡ w

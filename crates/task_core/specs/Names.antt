@@ -1,8 +1,10 @@
 -- The names of fluents and actions: lists of words, as the texts of plans spell them.
 use Rattle.std.specs.Prelude.{◌≡◌, ◌≢◌, ℕ, ◌==◌, Bool, true, ◌&&◌, not, List, [], codes, map}
-use Rattle.std.specs.Prelude.{nat_le, slice_index_or, Vec, String, string_bytes}
+use Rattle.std.specs.Prelude.{nat_le, slice_index_or, Vec}
 use Rattle.std.specs.List.{All, AllPairs}
+use Rattle.std.specs.Rc.{rc_str_bytes}
 use Rattle.std.specs.declared.alloc.Global.{Global}
+use Rattle.std.specs.declared.rc.RcStr.{RcStr}
 use Rattle.task_core.specs.declared.actions.GroundAction.{GroundAction}
 
 -- a name is a list of words, and a word a list of bytes
@@ -45,9 +47,13 @@ pub record AreFluentNames (names : List Name) : Type 0 where
   pub no_not : All (λ name. first_word name ≢ codes "not") names
   pub distinct : AreDistinct names
 
+-- the words of a name as a task holds them: texts, which names may share
+abbrev pub Words : Type 0
+Words = Vec (RcStr Global) Global
+
 -- the words of a name, as bytes
-abbrev pub name_bytes : Vec (String Global) Global → Name
-name_bytes words = map string_bytes words.items
+abbrev pub name_bytes : Words → Name
+name_bytes words = map rc_str_bytes words.items
 
 abbrev pub name_of : GroundAction → Name
 name_of action = name_bytes action.name

@@ -1,12 +1,11 @@
 -- When fluents, actions, what is known of the initial states, a goal and an invariant make a task.
-use Rattle.std.specs.Prelude.{◌≡◌, ℕ, ◌≤◌, ◌<◌, ◌^◌, true, List, map, length, Option, Vec, String}
+use Rattle.std.specs.Prelude.{◌≡◌, ℕ, ◌≤◌, ◌<◌, ◌^◌, true, List, map, length, Option}
 use Rattle.std.specs.List.{list_all}
-use Rattle.std.specs.declared.alloc.Global.{Global}
 use Rattle.task_core.specs.States.{IsWithin}
 use Rattle.task_core.specs.Actions.{action_is_shallow, action_within, goal_is_shallow, goal_within}
 use Rattle.task_core.specs.Conditions.{ids_below, is_shallow}
 use Rattle.task_core.specs.Initial.{entries_within}
-use Rattle.task_core.specs.Names.{AreActionNames, AreFluentNames, name_bytes, name_of}
+use Rattle.task_core.specs.Names.{AreActionNames, AreFluentNames, Words, name_bytes, name_of}
 use Rattle.task_core.specs.declared.conditions.Cond.{Cond}
 use Rattle.task_core.specs.declared.actions.GroundAction.{GroundAction}
 use Rattle.task_core.specs.declared.actions.InitSpec.{InitSpec}
@@ -28,7 +27,7 @@ pub record PartsAreShallow (actions : List GroundAction) (goal : Option Cond)
   pub shallow_goal : goal_is_shallow goal ≡ true
   pub shallow_invariant : is_shallow invariant ≡ true
 
-pub record MakesTask (fluents : List (Vec (String Global) Global)) (actions : List GroundAction)
+pub record MakesTask (fluents : List Words) (actions : List GroundAction)
     (init : InitSpec) (goal : Option Cond) (invariant : Cond) : Type 0 where
   pub few_fluents : length fluents ≤ 256
   pub few_actions : length actions < 2 ^ 32

@@ -1,6 +1,7 @@
 //! Actions and what they may do.
 
 use crate::{Cond, Lit, State};
+use std::rc::RcStr;
 
 /// What one part of an outcome does: where `cond` holds in the old state, each of `lits` adds its
 /// fluent (makes it true) or deletes it (makes it false). The condition of a change without
@@ -19,10 +20,10 @@ pub struct Outcome {
 }
 
 /// An action without parameters: its name as a list of words, where it can be executed, and what it
-/// may do, outcomes numbered from 0.
+/// may do, outcomes numbered from 0. A word that many names have can be one text, which they share.
 #[derive(Debug, Drop)]
 pub struct GroundAction {
-    pub name: Vec<String>,
+    pub name: Vec<RcStr>,
     pub exec: Cond,
     pub outcomes: Vec<Outcome>,
 }

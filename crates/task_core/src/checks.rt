@@ -13,9 +13,9 @@ ghost use Rattle.std.specs.Prelude.{
   length,
   nat_le,
   true,
-  string_bytes,
 };
 ghost use Rattle.std.specs.List.{list_all, list_any};
+ghost use Rattle.std.specs.Rc.{rc_str_bytes};
 ghost use Rattle.task_core.specs.States.{IsWithin};
 ghost use Rattle.task_core.specs.Conditions.{depth, ids_below, is_shallow};
 ghost use Rattle.task_core.specs.Actions.{
@@ -53,6 +53,7 @@ ghost use Rattle.task_core.specs.Checks.{
 };
 
 use crate::{Alternative, Change, Cond, FluentId, GroundAction, InitSpec, Lit, Outcome, State};
+use std::rc::RcStr;
 
 /// Whether the byte may stand in a word of a name.
 fn is_name_byte(c: u8) -> bool
@@ -77,8 +78,8 @@ fn word_passes(text: &str) -> bool
 }
 
 /// Whether the words are a name.
-fn name_passes(words: &[String]) -> bool
-    ensures { result ≡ name_passes (map string_bytes words.now) }
+fn name_passes(words: &[RcStr]) -> bool
+    ensures { result ≡ name_passes (map rc_str_bytes words.now) }
 {
     if words.is_empty() {
         return false;
@@ -92,8 +93,8 @@ fn name_passes(words: &[String]) -> bool
 }
 
 /// Whether the first of the words is `not`.
-fn says_not(words: &[String]) -> bool
-    ensures { result ≡ says_not (map string_bytes words.now) }
+fn says_not(words: &[RcStr]) -> bool
+    ensures { result ≡ says_not (map rc_str_bytes words.now) }
 {
     match words.first() {
         Some(word) => word.as_str() == "not",
@@ -102,7 +103,7 @@ fn says_not(words: &[String]) -> bool
 }
 
 /// Whether each of the names may be a fluent's.
-fn fluent_names_pass(names: &[Vec<String>]) -> bool
+fn fluent_names_pass(names: &[Vec<RcStr>]) -> bool
     ensures { result ≡ list_all fluent_name_passes (map name_bytes names.now) }
 {
     for name in names {
@@ -126,14 +127,14 @@ fn action_names_pass(actions: &[GroundAction]) -> bool
 }
 
 /// Whether two names are the same.
-fn is_same_name(name: &Vec<String>, other: &Vec<String>) -> bool
+fn is_same_name(name: &Vec<RcStr>, other: &Vec<RcStr>) -> bool
     ensures { result ≡ same_name (name_bytes name.now) (name_bytes other.now) }
 {
     *name == *other
 }
 
 /// Whether one of the fluents has the name.
-fn is_fluent_named(fluents: &[Vec<String>], name: &Vec<String>) -> bool
+fn is_fluent_named(fluents: &[Vec<RcStr>], name: &Vec<RcStr>) -> bool
     ensures { result ≡ is_among (map name_bytes fluents.now) (name_bytes name.now) }
 {
     for fluent in fluents {
@@ -145,7 +146,7 @@ fn is_fluent_named(fluents: &[Vec<String>], name: &Vec<String>) -> bool
 }
 
 /// Whether one of the actions has the name.
-fn is_action_named(actions: &[GroundAction], name: &Vec<String>) -> bool
+fn is_action_named(actions: &[GroundAction], name: &Vec<RcStr>) -> bool
     ensures { result ≡ is_among (map name_of actions.now) (name_bytes name.now) }
 {
     for action in actions {
@@ -157,7 +158,7 @@ fn is_action_named(actions: &[GroundAction], name: &Vec<String>) -> bool
 }
 
 /// Whether no two fluents have one name.
-fn fluents_differ(fluents: &[Vec<String>]) -> bool
+fn fluents_differ(fluents: &[Vec<RcStr>]) -> bool
     ensures { result ≡ all_differ (map name_bytes fluents.now) }
 {
     for (i, name) in fluents.iter().enumerate() {
@@ -396,7 +397,7 @@ fn facts_fit(facts: &State, fluents: usize) -> bool
 }
 
 /// Whether the names may be those of a task's fluents.
-fn are_fluent_names(fluents: &[Vec<String>]) -> bool
+fn are_fluent_names(fluents: &[Vec<RcStr>]) -> bool
     ensures { IsTrue result ↔ AreFluentNames (map name_bytes fluents.now) }
 {
     fluent_names_pass(fluents) && fluents_differ(fluents)
@@ -436,7 +437,7 @@ fn are_shallow(actions: &[GroundAction], goal: &Option<Cond>, invariant: &Cond) 
 
 /// Whether these parts make a task.
 pub(crate) fn make_task(
-    fluents: &[Vec<String>],
+    fluents: &[Vec<RcStr>],
     actions: &[GroundAction],
     init: &InitSpec,
     goal: &Option<Cond>,

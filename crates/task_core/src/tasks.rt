@@ -17,6 +17,7 @@ ghost use Rattle.task_core.specs.Names.{AreActionNames, AreFluentNames, name_byt
 
 use crate::checks::make_task;
 use crate::{Cond, GroundAction, InitSpec};
+use std::rc::RcStr;
 
 /// A planning task: fluents and actions by their names, each a list of words and numbered from 0 by
 /// its place, what is known of the initial states, the goal where there is one, and the invariant:
@@ -31,7 +32,7 @@ use crate::{Cond, GroundAction, InitSpec};
 /// parts and a `Not` doesn't count.
 #[derive(Debug, Drop)]
 pub struct Task {
-    pub fluents: Vec<Vec<String>>,
+    pub fluents: Vec<Vec<RcStr>>,
     pub actions: Vec<GroundAction>,
     pub init: InitSpec,
     pub goal: Option<Cond>,
@@ -54,7 +55,7 @@ pub struct Task {
 impl Task {
     /// The task with these parts.
     pub fn new(
-        fluents: Vec<Vec<String>>,
+        fluents: Vec<Vec<RcStr>>,
         actions: Vec<GroundAction>,
         init: InitSpec,
         goal: Option<Cond>,
@@ -91,7 +92,7 @@ impl Task {
     /// conditions of `new`. Each two names are compared, so a caller with thousands of names should
     /// know them different and call `new`.
     pub fn try_new(
-        fluents: Vec<Vec<String>>,
+        fluents: Vec<Vec<RcStr>>,
         actions: Vec<GroundAction>,
         init: InitSpec,
         goal: Option<Cond>,

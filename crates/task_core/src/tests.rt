@@ -8,6 +8,7 @@ use crate::{
     State, Task, cond_holds, in_space, init_states, is_exec, step,
 };
 use std::alloc::{AllocError, Global};
+use std::rc::RcStr;
 use std::test::Fail;
 
 fn lit(fluent: u32, positive: bool) -> Lit {
@@ -18,13 +19,13 @@ fn lit(fluent: u32, positive: bool) -> Lit {
 }
 
 /// The name with this word alone.
-fn name(alloc: Global, word: &str) -> Result<Vec<String>, AllocError> {
+fn name(alloc: Global, word: &str) -> Result<Vec<RcStr>, AllocError> {
     let mut words = Vec::new(alloc);
-    words.push(String::from_str(alloc, word)?)?;
+    words.push(RcStr::from_str(alloc, word)?)?;
     Ok(words)
 }
 
-fn names(alloc: Global, words: &[&str]) -> Result<Vec<Vec<String>>, AllocError>
+fn names(alloc: Global, words: &[&str]) -> Result<Vec<Vec<RcStr>>, AllocError>
     ensures { IfOk result (λ names. length names.items ≡ length words.now) }
 {
     let mut names = Vec::new(alloc);

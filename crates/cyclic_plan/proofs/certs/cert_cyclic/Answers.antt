@@ -1,4 +1,4 @@
-use Rattle.std.proofs.Common.{◌≡◌, ◌+◌, ◌^◌, arith}
+use Rattle.std.proofs.Common.{◌+◌, ◌^◌, arith}
 use Rattle.task_core.specs.Tasks.{action_count, fluent_count}
 use Rattle.cyclic_plan.specs.Stages.{rough_places}
 use Rattle.cyclic_plan.specs.Takers.{start_of}

@@ -21,12 +21,12 @@ pub first_lost-requires : goal.first_lost-requires
 first_lost-requires c =
     let r = c.requires.ready in
     let b = went r.0 c.begin.new.enc c.begin.new.board.slots.items _ c.begin.result _ c.in_ok-begin.was (c.begin.ensures r.0 r.1) in
-    record { ready = (r.0, went r.0 c.round.new.enc c.round.new.board.slots.items _ c.round.result _ c.in_ok-round.was (c.round.ensures r.0 (round (system_of r.0.task) 0) b)) }
+    record { ready = (r.0, (went r.0 c.round.new.enc c.round.new.board.slots.items _ c.round.result _ c.in_ok-round.was (c.round.ensures r.0 (round (system_of r.0.task) 0) b)).0) }
 
 pub returns : goal.returns
 returns c start ready =
     let b = went start c.begin.new.enc c.begin.new.board.slots.items _ c.begin.result _ c.in_ok-begin.was (c.begin.ensures start ready) in
-    c.first_lost.ensures start (went start c.round.new.enc c.round.new.board.slots.items _ c.round.result _ c.in_ok-round.was (c.round.ensures start (round (system_of start.task) 0) b))
+    c.first_lost.ensures start (went start c.round.new.enc c.round.new.board.slots.items _ c.round.result _ c.in_ok-round.was (c.round.ensures start (round (system_of start.task) 0) b)).0
 
 pub returns-in_err-begin : goal.returns-in_err-begin
 returns-in_err-begin c start ready =

@@ -1,4 +1,3 @@
-use Rattle.std.proofs.Common.{suc}
 use Rattle.std.proofs.lemmas.Result.{err_from_is_err_and}
 use Rattle.slot_board.proofs.BoardSlots.{passed, went}
 use Rattle.cyclic_plan.proofs.certs.lose_more.Goals as goal
@@ -9,12 +8,12 @@ next_round-requires-clause-ready c = let r = c.requires.ready in (r.0, r.1, r.2.
 pub later_lost-requires : goal.later_lost-requires
 later_lost-requires c =
     let r = c.requires.ready in
-    record { ready = (r.0, r.1, went r.0 c.next_round.new.enc c.next_round.new.board.slots.items _ c.next_round.result _ c.in_ok-next_round.was (c.next_round.ensures r.0 r.1 r.2.rounds)) }
+    record { ready = (r.0, r.1, (went r.0 c.next_round.new.enc c.next_round.new.board.slots.items _ c.next_round.result _ c.in_ok-next_round.was (c.next_round.ensures r.0 r.1 r.2.rounds)).0) }
 
 pub returns : goal.returns
 returns c start r ready =
     c.later_lost.ensures start r
-    (went start c.next_round.new.enc c.next_round.new.board.slots.items _ c.next_round.result _ c.in_ok-next_round.was (c.next_round.ensures start r ready.rounds))
+    (went start c.next_round.new.enc c.next_round.new.board.slots.items _ c.next_round.result _ c.in_ok-next_round.was (c.next_round.ensures start r ready.rounds)).0
 
 pub returns-in_err-next_round : goal.returns-in_err-next_round
 returns-in_err-next_round c start r ready =

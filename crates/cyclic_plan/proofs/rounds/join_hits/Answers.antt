@@ -1,80 +1,93 @@
-use Rattle.std.proofs.Common.{◌≡◌, ◌+◌, arith, length, ◌∙◌}
+-- The join first, then its place.
+use Rattle.std.proofs.Common.{◌≡◌, ◌++◌, ◌+◌, [], ◌∷◌, ◌∙◌, arith, length, subst, sym}
 use Rattle.std.proofs.lemmas.Result.{err_from_is_err_and}
 use Rattle.task_core.specs.Tasks.{action_count}
-use Rattle.plan_theory.specs.Layers.{may_lead}
-use Rattle.cyclic_plan.specs.Stages.{kept_system}
-use Rattle.slot_board.proofs.BoardSlots.{left_with, passed, same_actions, went}
+use Rattle.slot_board.specs.Board.{Fits}
+use Rattle.slot_board.proofs.BoardSlots.{passed, went}
+use Rattle.cyclic_plan.specs.Stages.{none_taken}
+use Rattle.cyclic_plan.specs.declared.steps.Step.TheVariants.{Grow}
+use Rattle.cyclic_plan.proofs.Followed.{joined_new, joined_none, noted_then}
 use Rattle.cyclic_plan.proofs.Premises.{joined_fits}
-use Rattle.cyclic_plan.proofs.StageSteps.{next_joined}
 use Rattle.cyclic_plan.proofs.rounds.join_hits.Goals as goal
 
-pub returns-in_err-hit : goal.returns-in_err-hit
-returns-in_err-hit c start left taken near next ready small =
-    let p = err_from_is_err_and c.from_residual.result c.from_residual.ensures.1 in
-    passed start c.hit.new.enc c.hit.new.board.slots.items _ _ c.hit.result c.from_residual.result _ c.in_err-hit.was p (c.hit.ensures start left taken near next ready)
-
-pub take_where-requires-clause-ready : goal.take_where-requires-clause-ready
-take_where-requires-clause-ready c =
-    let r = c.requires.ready in (
-      r.0,
-      r.1,
-      r.2,
-      r.3,
-      r.4,
-      (λ v. may_lead (kept_system r.0 r.1) r.3 v c.args.a.0),
-      went r.0 c.hit.new.enc c.hit.new.board.slots.items _ c.hit.result _ c.in_ok-hit.was (c.hit.ensures r.0 r.1 r.2 r.3 r.4 r.5),
-    )
-
-pub take_where-requires-clause-actions : goal.take_where-requires-clause-actions
-take_where-requires-clause-actions c =
-    let r = c.requires.ready in
-    let h = went r.0 c.hit.new.enc c.hit.new.board.slots.items _ c.hit.result _ c.in_ok-hit.was (c.hit.ensures r.0 r.1 r.2 r.3 r.4 r.5) in
-    let e : length c.hit.new.enc.actions ≡ length c.args.enc.now.actions = same_actions r.0 c.args.enc.now c.hit.new.enc c.args.board.now.slots.items c.hit.new.board.slots.items r.5.by_near.round.at h.by_next.by_near.round.at in
-    omega (arith, c.requires.actions)
-
-pub take_where-requires-clause-action : goal.take_where-requires-clause-action
-take_where-requires-clause-action c =
-    let r = c.requires.ready in
-    let h = went r.0 c.hit.new.enc c.hit.new.board.slots.items _ c.hit.result _ c.in_ok-hit.was (c.hit.ensures r.0 r.1 r.2 r.3 r.4 r.5) in
-    let e : length c.hit.new.enc.actions ≡ length c.args.enc.now.actions = same_actions r.0 c.args.enc.now c.hit.new.enc c.args.board.now.slots.items c.hit.new.board.slots.items r.5.by_near.round.at h.by_next.by_near.round.at in
-    omega (arith, c.requires.action)
-
-pub returns-in_err-take_where : goal.returns-in_err-take_where
-returns-in_err-take_where c start left taken near next ready small =
-    let p = err_from_is_err_and c.from_residual-in_err-take_where.result c.from_residual-in_err-take_where.ensures.1 in
-    let h = went start c.hit.new.enc c.hit.new.board.slots.items _ c.hit.result _ c.in_ok-hit.was (c.hit.ensures start left taken near next ready) in
-    passed start c.take_where.new.enc c.take_where.new.board.slots.items _ _ c.take_where.result c.from_residual-in_err-take_where.result _ c.in_err-take_where.was p (c.take_where.ensures start left taken near next _ h small.1)
-
 pub combine-requires-clause-working : goal.combine-requires-clause-working
-combine-requires-clause-working c =
-    let r = c.requires.ready in
-    let h = went r.0 c.hit.new.enc c.hit.new.board.slots.items _ c.hit.result _ c.in_ok-hit.was (c.hit.ensures r.0 r.1 r.2 r.3 r.4 r.5) in
-    let t = went r.0 c.take_where.new.enc c.take_where.new.board.slots.items _ c.take_where.result _ c.in_ok-take_where.was (c.take_where.ensures r.0 r.1 r.2 r.3 r.4 _ h r.6.1) in
-    (r.0, t.by_next.by_near.round.at)
+combine-requires-clause-working c = let r = c.requires.ready in (r.0, r.5.by_next.by_near.round.at)
 
 pub combine-requires-clause-place : goal.combine-requires-clause-place
 combine-requires-clause-place c =
-    let r = c.requires.ready in
-    let h = went r.0 c.hit.new.enc c.hit.new.board.slots.items _ c.hit.result _ c.in_ok-hit.was (c.hit.ensures r.0 r.1 r.2 r.3 r.4 r.5) in
-    let t = went r.0 c.take_where.new.enc c.take_where.new.board.slots.items _ c.take_where.result _ c.in_ok-take_where.was (c.take_where.ensures r.0 r.1 r.2 r.3 r.4 _ h r.6.1) in
-    let e : length c.take_where.new.board.slots.items ≡ 7 + action_count r.0.task + action_count r.0.task = t.by_next.by_near.round.at.long ∙ t.by_next.by_near.round.places in
+    let h = c.requires.ready.5.by_next.by_near.round in
+    let e : length c.args.board.now.slots.items ≡ 7 + action_count c.requires.ready.0.task + action_count c.requires.ready.0.task = h.at.long ∙ h.places in
     omega arith
 
 pub combine-requires-clause-a : goal.combine-requires-clause-a
-combine-requires-clause-a c = combine-requires-clause-place c
+combine-requires-clause-a c =
+    let h = c.requires.ready.5.by_next.by_near.round in
+    let e : length c.args.board.now.slots.items ≡ 7 + action_count c.requires.ready.0.task + action_count c.requires.ready.0.task = h.at.long ∙ h.places in
+    omega arith
 
 pub combine-requires-clause-b : goal.combine-requires-clause-b
 combine-requires-clause-b c =
-    let r = c.requires.ready in
-    let h = went r.0 c.hit.new.enc c.hit.new.board.slots.items _ c.hit.result _ c.in_ok-hit.was (c.hit.ensures r.0 r.1 r.2 r.3 r.4 r.5) in
-    let t = went r.0 c.take_where.new.enc c.take_where.new.board.slots.items _ c.take_where.result _ c.in_ok-take_where.was (c.take_where.ensures r.0 r.1 r.2 r.3 r.4 _ h r.6.1) in
-    let e : length c.take_where.new.board.slots.items ≡ 7 + action_count r.0.task + action_count r.0.task = t.by_next.by_near.round.at.long ∙ t.by_next.by_near.round.places in
+    let h = c.requires.ready.5.by_next.by_near.round in
+    let e : length c.args.board.now.slots.items ≡ 7 + action_count c.requires.ready.0.task + action_count c.requires.ready.0.task = h.at.long ∙ h.places in
     omega arith
 
+pub returns-in_err-combine : goal.returns-in_err-combine
+returns-in_err-combine c start left near next hits ready small =
+    let p = err_from_is_err_and c.from_residual.result c.from_residual.ensures.1 in
+    passed start c.combine.new.enc c.combine.new.self.slots.items _ _ c.combine.result c.from_residual.result _ c.in_err-combine.was p (c.combine.ensures start ready.by_next.by_near.round.at (joined_fits start c.args.enc.now c.args.board.now.slots.items 6 left none_taken near next hits ready small))
+
+pub is_same-requires-clause-working : goal.is_same-requires-clause-working
+is_same-requires-clause-working c =
+    let r = c.requires.ready in
+    (r.0, (went r.0 c.combine.new.enc c.combine.new.self.slots.items _ c.combine.result _ c.in_ok-combine.was (c.combine.ensures r.0 r.5.by_next.by_near.round.at (joined_fits r.0 c.args.enc.now c.args.board.now.slots.items 6 r.1 none_taken r.2 r.3 r.4 r.5 r.6))).at)
+
+pub is_same-requires-clause-a : goal.is_same-requires-clause-a
+is_same-requires-clause-a c =
+    let r = c.requires.ready in
+    let m = went r.0 c.combine.new.enc c.combine.new.self.slots.items _ c.combine.result _ c.in_ok-combine.was (c.combine.ensures r.0 r.5.by_next.by_near.round.at (joined_fits r.0 c.args.enc.now c.args.board.now.slots.items 6 r.1 none_taken r.2 r.3 r.4 r.5 r.6)) in
+    let e : length c.combine.new.self.slots.items ≡ 7 + action_count r.0.task + action_count r.0.task = m.at.long ∙ r.5.by_next.by_near.round.places in
+    omega arith
+
+pub is_same-requires-clause-b : goal.is_same-requires-clause-b
+is_same-requires-clause-b c =
+    let r = c.requires.ready in
+    let m = went r.0 c.combine.new.enc c.combine.new.self.slots.items _ c.combine.result _ c.in_ok-combine.was (c.combine.ensures r.0 r.5.by_next.by_near.round.at (joined_fits r.0 c.args.enc.now c.args.board.now.slots.items 6 r.1 none_taken r.2 r.3 r.4 r.5 r.6)) in
+    let e : length c.combine.new.self.slots.items ≡ 7 + action_count r.0.task + action_count r.0.task = m.at.long ∙ r.5.by_next.by_near.round.places in
+    omega arith
+
+pub returns-then-is_same : goal.returns-then-is_same
+returns-then-is_same c start left near next hits ready small =
+    let m = went start c.combine.new.enc c.combine.new.self.slots.items _ c.combine.result _ c.in_ok-combine.was (c.combine.ensures start ready.by_next.by_near.round.at (joined_fits start c.args.enc.now c.args.board.now.slots.items 6 left none_taken near next hits ready small)) in
+    joined_none start c.args.enc.now c.combine.new.enc c.args.board.now.slots.items c.combine.new.self.slots.items left near next hits ready m c.args.a c.args.steps.now.items (c.is_same.ensures.0 c.if-is_same.true)
+
+pub copy_of-requires-clause-working : goal.copy_of-requires-clause-working
+copy_of-requires-clause-working c =
+    let r = c.requires.ready in
+    (r.0, (went r.0 c.combine.new.enc c.combine.new.self.slots.items _ c.combine.result _ c.in_ok-combine.was (c.combine.ensures r.0 r.5.by_next.by_near.round.at (joined_fits r.0 c.args.enc.now c.args.board.now.slots.items 6 r.1 none_taken r.2 r.3 r.4 r.5 r.6))).at)
+
+pub copy_of-requires-clause-place : goal.copy_of-requires-clause-place
+copy_of-requires-clause-place c =
+    let r = c.requires.ready in
+    let m = went r.0 c.combine.new.enc c.combine.new.self.slots.items _ c.combine.result _ c.in_ok-combine.was (c.combine.ensures r.0 r.5.by_next.by_near.round.at (joined_fits r.0 c.args.enc.now c.args.board.now.slots.items 6 r.1 none_taken r.2 r.3 r.4 r.5 r.6)) in
+    let e : length c.combine.new.self.slots.items ≡ 7 + action_count r.0.task + action_count r.0.task = m.at.long ∙ r.5.by_next.by_near.round.places in
+    omega arith
+
+pub copy_of-requires-clause-from : goal.copy_of-requires-clause-from
+copy_of-requires-clause-from c =
+    let r = c.requires.ready in
+    let m = went r.0 c.combine.new.enc c.combine.new.self.slots.items _ c.combine.result _ c.in_ok-combine.was (c.combine.ensures r.0 r.5.by_next.by_near.round.at (joined_fits r.0 c.args.enc.now c.args.board.now.slots.items 6 r.1 none_taken r.2 r.3 r.4 r.5 r.6)) in
+    let e : length c.combine.new.self.slots.items ≡ 7 + action_count r.0.task + action_count r.0.task = m.at.long ∙ r.5.by_next.by_near.round.places in
+    omega arith
+
+pub returns-in_err-copy_of : goal.returns-in_err-copy_of
+returns-in_err-copy_of c start left near next hits ready small =
+    let p = err_from_is_err_and c.from_residual-in_err-copy_of.result c.from_residual-in_err-copy_of.ensures.1 in
+    let m = went start c.combine.new.enc c.combine.new.self.slots.items _ c.combine.result _ c.in_ok-combine.was (c.combine.ensures start ready.by_next.by_near.round.at (joined_fits start c.args.enc.now c.args.board.now.slots.items 6 left none_taken near next hits ready small)) in
+    passed start c.copy_of.new.enc c.copy_of.new.self.slots.items _ _ c.copy_of.result c.from_residual-in_err-copy_of.result _ c.in_err-copy_of.was p (c.copy_of.ensures start m.at (subst (Fits start 4) (sym m.here) (joined_fits start c.args.enc.now c.args.board.now.slots.items 4 left none_taken near next hits ready small)))
+
 pub returns : goal.returns
-returns c start left taken near next ready small =
-    let h = went start c.hit.new.enc c.hit.new.board.slots.items _ c.hit.result _ c.in_ok-hit.was (c.hit.ensures start left taken near next ready) in
-    let t = went start c.take_where.new.enc c.take_where.new.board.slots.items _ c.take_where.result _ c.in_ok-take_where.was (c.take_where.ensures start left taken near next _ h small.1) in
-    left_with start c.combine.new.enc c.combine.new.self.slots.items _ _ c.combine.result
-    (λ m. next_joined start c.take_where.new.enc c.combine.new.enc c.take_where.new.board.slots.items c.combine.new.self.slots.items left _ near next _ t m)
-    (c.combine.ensures start t.by_next.by_near.round.at (joined_fits start c.take_where.new.enc c.take_where.new.board.slots.items 4 left _ near next _ t small.0))
+returns c start left near next hits ready small =
+    let m = went start c.combine.new.enc c.combine.new.self.slots.items _ c.combine.result _ c.in_ok-combine.was (c.combine.ensures start ready.by_next.by_near.round.at (joined_fits start c.args.enc.now c.args.board.now.slots.items 6 left none_taken near next hits ready small)) in
+    let w = went start c.copy_of.new.enc c.copy_of.new.self.slots.items _ c.copy_of.result _ c.in_ok-copy_of.was (c.copy_of.ensures start m.at (subst (Fits start 4) (sym m.here) (joined_fits start c.args.enc.now c.args.board.now.slots.items 4 left none_taken near next hits ready small))) in
+    noted_then start c.copy_of.new.enc c.copy_of.new.self.slots.items (c.note.new.steps.items ≡ c.args.steps.now.items ++ Grow c.args.a ∷ []) _ c.note.result c.note.ensures.never_full c.note.ensures.noted w.at
+    (λ done. joined_new start c.args.enc.now c.combine.new.enc c.args.board.now.slots.items c.combine.new.self.slots.items left near next hits ready m c.copy_of.new.enc c.copy_of.new.self.slots.items c.args.a c.args.steps.now.items c.note.new.steps.items w done)

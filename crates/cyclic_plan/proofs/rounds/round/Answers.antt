@@ -4,7 +4,6 @@ use Rattle.task_core.specs.Vectors.{value_of}
 use Rattle.slot_board.specs.Board.{set_at}
 use Rattle.cyclic_plan.specs.Stages.{none_taken}
 use Rattle.slot_board.proofs.BoardSlots.{passed, same_actions, went}
-use Rattle.cyclic_plan.proofs.Growth.{not_taking}
 use Rattle.cyclic_plan.proofs.RoundsMade.{some_near}
 use Rattle.cyclic_plan.proofs.rounds.round.Goals as goal
 
@@ -22,7 +21,7 @@ spread-requires-clause-ready c =
     let now = c.keep_pairs.new.enc in
     let slots = c.keep_pairs.new.board.slots.items in
     let h = went r.0 now slots _ c.keep_pairs.result _ c.in_ok-keep_pairs.was (c.keep_pairs.ensures r.0 r.1 none_taken r.2) in
-    (r.0, r.1, (λ v. set_at now.sets slots 3 (value_of v)), some_near r.0 now slots r.1 none_taken h, not_taking r.0 r.1)
+    (r.0, r.1, (λ v. set_at now.sets slots 3 (value_of v)), some_near r.0 now slots r.1 none_taken h)
 
 pub spread-requires-clause-actions : goal.spread-requires-clause-actions
 spread-requires-clause-actions c =
@@ -38,4 +37,4 @@ returns c start left ready =
     let mid = c.keep_pairs.new.enc in
     let slots = c.keep_pairs.new.board.slots.items in
     let h = went start mid slots _ c.keep_pairs.result _ c.in_ok-keep_pairs.was (c.keep_pairs.ensures start left none_taken ready) in
-    c.spread.ensures start left (λ v. set_at mid.sets slots 3 (value_of v)) (some_near start mid slots left none_taken h) (not_taking start left)
+    c.spread.ensures start left (λ v. set_at mid.sets slots 3 (value_of v)) (some_near start mid slots left none_taken h)

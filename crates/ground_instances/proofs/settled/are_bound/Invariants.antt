@@ -4,4 +4,4 @@ use Rattle.ground_instances.specs.Settled.{is_bound}
 use Rattle.ground_instances.proofs.settled.are_bound.Given as goal
 
 abbrev pub invariant-loop-term : goal.invariant-loop-term
-invariant-loop-term l = list_all (is_bound l.count) (drop l.term-index l.terms) ≡ list_all (is_bound l.count) l.terms
+invariant-loop-term l = list_all (is_bound l.free l.count) (drop l.term-index l.terms) ≡ list_all (is_bound l.free l.count) l.terms

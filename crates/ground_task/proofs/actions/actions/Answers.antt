@@ -1,15 +1,13 @@
-use Rattle.std.proofs.Common.{◌≡◌, ◌+◌, List, drop, ◌++◌, Option, Some, map, ap, sym, ◌∙◌, subst}
+use Rattle.std.proofs.Common.{◌≡◌, ◌+◌, List, drop, ◌++◌, Option, Some, map, ap, sym, ◌∙◌}
 use Rattle.std.specs.Option.{is_some}
 use Rattle.ground_instances.specs.Kept.{kept_by}
 use Rattle.ground_instances.specs.Tables.{setting_in}
-use Rattle.pddl_ast.specs.Trees.{SchemaTree}
 use Rattle.pddl_ast.specs.Values.{domain_value, problem_value, schema_value}
 use Rattle.pddl_system.specs.Instances.{Instance as InstanceTree}
 use Rattle.pddl_system.specs.Outcomes.{OutcomeTree, outcomes_of, possible_changes}
 use Rattle.pddl_system.specs.Tasks.{ActionTree, condition_of}
 use Rattle.pddl_system.specs.Systems.{instance_name}
 use Rattle.pddl_system.specs.Values.{action_value}
-use Rattle.task_core.specs.Names.{IsWord}
 use Rattle.ground_task.specs.Actions.{action_in, action_over}
 use Rattle.ground_task.specs.Drafts.{action_tree, draft_trees, drafted}
 use Rattle.ground_task.specs.Numbered.{instance_with}
@@ -17,6 +15,7 @@ use Rattle.ground_task.proofs.ListSteps.{map_turn}
 use Rattle.ground_task.proofs.NamingLemmas.{turn_by}
 use Rattle.ground_task.proofs.NumberedLemmas.{picked}
 use Rattle.ground_task.proofs.PartTrees.{possible_over}
+use Rattle.ground_task.proofs.WordLemmas.{action_word}
 use Rattle.ground_task.proofs.actions.actions.Goals as goal
 
 pub schema_of-schema-requires : goal.schema_of-schema-requires
@@ -26,13 +25,13 @@ schema_of-schema-requires c =
     let k = turn_by (action_tree d) (drafted at) c.args.drafts.now (kept_by at d) c.loop-draft.draft-index c.draft-item.result c.requires.drafts c.loop-draft-test.true c.draft-item.is in
     ap (λ (r : Option InstanceTree × List OutcomeTree). is_some r.0) k.1
 
-pub action-requires-clause-word : goal.action-requires-clause-word
-action-requires-clause-word c =
+pub action-requires-clause-first : goal.action-requires-clause-first
+action-requires-clause-first c =
     let d = domain_value c.args.domain.now in
     let s = schema_value c.schema_of-schema.result.now in
     let item = c.draft-item.result.instance.now in
     let there = picked item.objects.items d.actions item.action (instance_with s item) c.schema_of-schema.ensures in
-    subst (λ (t : SchemaTree). IsWord t.name) (sym there.1) (c.requires.names.actions item.action s there.0)
+    action_word d (problem_value c.args.problem.now) c.args.words.now c.requires.words item.action s there.0 there.1
 
 pub loop-draft-preserved : goal.loop-draft-preserved
 loop-draft-preserved c =

@@ -20,7 +20,7 @@ returns-clause-plan_printed g c asked says zero =
 pub returns-clause-no_plan : goal.returns-clause-no_plan
 returns-clause-no_plan g c asked says one =
     let w = no_plan_is_written g.S.Shelf.held g.S.Shelf.faults g.S.Shelf.fetched _ c.carry_out.ensures asked says one in
-    (w.domain, w.problem, as_read _ _ _ _ _ w.both, w.none, w.written)
+    (w.domain, w.problem, w.text, as_read _ _ _ _ _ w.both, w.none, w.is_text, w.written)
 
 pub returns-clause-plan_complete : goal.returns-clause-plan_complete
 returns-clause-plan_complete g c =

@@ -27,5 +27,5 @@ returns-clause-grows c =
     grows (fixed_pieces c.args.f.0 c.args.v c.args.value) c.self.inside.dd c.args.self.now c.fix.new.dd c.self.view_is c.self.invariant.table c.fix.ensures.adds c.fix.result c.fix.ensures.kept c.fix.ensures.full
 
 pub invariant_of-self : goal.invariant_of-self
-invariant_of-self c = cache_after_cofactor c.self.inside.dd c.fix.new.dd c.fix.ensures.kept c.self.invariant.table c.self.inside.cache.pairs c.fix.new.cache.pairs c.self.inside.next c.self.invariant
+invariant_of-self c = cache_after_cofactor c.self.inside.dd c.fix.new.dd c.fix.ensures.kept c.self.invariant.table c.self.inside.known.places.items c.self.inside.known.entries.items c.self.inside.cache.pairs c.fix.new.cache.pairs c.self.inside.next c.self.invariant
     c.fix.ensures.table c.fix.ensures.memo c.fix.ensures.others

@@ -30,5 +30,5 @@ returns-clause-grows c =
     grows (asked_pieces q) c.self.inside.dd c.args.self.now c.answer.new.dd c.self.view_is c.self.invariant.table c.answer.ensures.adds c.answer.result c.answer.ensures.kept c.answer.ensures.full
 
 pub invariant_of-self : goal.invariant_of-self
-invariant_of-self c = cache_after_answer c.self.inside.dd c.answer.new.dd c.answer.ensures.kept c.self.invariant.table c.self.inside.cache.pairs c.answer.new.cache.pairs c.self.inside.next c.self.invariant
+invariant_of-self c = cache_after_answer c.self.inside.dd c.answer.new.dd c.answer.ensures.kept c.self.invariant.table c.self.inside.known.places.items c.self.inside.known.entries.items c.self.inside.cache.pairs c.answer.new.cache.pairs c.self.inside.next c.self.invariant
     c.answer.ensures.table c.answer.ensures.memo c.answer.ensures.others

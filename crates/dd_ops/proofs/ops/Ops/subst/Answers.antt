@@ -7,7 +7,7 @@ use Rattle.dd_nodes.specs.Table.{NodeTable}
 use Rattle.dd_ops.specs.Growth.{pieces_of_subst}
 use Rattle.dd_ops.specs.Cached.{key_of_question}
 use Rattle.dd_ops.specs.Operations.{subst_of}
-use Rattle.dd_ops.proofs.CachedLemmas.{cache_after_subst}
+use Rattle.dd_ops.proofs.CachedLemmas.{cache_after_subst, known_memo}
 use Rattle.dd_ops.proofs.GrowthOps.{grows}
 use Rattle.dd_ops.proofs.SubstLemmas.{listed_numbers}
 use Rattle.dd_ops.proofs.ValueLemmas.{answers, ok_then, subst_function}
@@ -34,10 +34,19 @@ returns-clause-grows c =
 pub substitute-requires-clause-map : goal.substitute-requires-clause-map
 substitute-requires-clause-map c = subst (λ (t : NodeTable). All (λ (entry : ℕ × Ref). IsNumber t.nodes entry.1.0) c.args.map.now) (sym c.self.view_is) c.requires.map_in_table
 
+pub substitute-requires-clause-memo : goal.substitute-requires-clause-memo
+substitute-requires-clause-memo c = known_memo c.self.inside.dd.nodes c.number_of-number.new.lists.places.items c.number_of-number.new.lists.entries.items c.number_of-number.new.cache.pairs c.number_of-number.new.next c.args.map.now c.number_of-number.result
+    (c.number_of-number.ensures.known c.self.inside.dd.nodes c.self.invariant.known
+    (subst (λ (t : NodeTable). All (λ (entry : ℕ × Ref). IsNumber t.nodes entry.1.0) c.args.map.now) (sym c.self.view_is) c.requires.map_in_table))
+
 pub invariant_of-self : goal.invariant_of-self
 invariant_of-self c = cache_after_subst c.self.inside.dd c.substitute.new.dd c.substitute.ensures.kept c.self.invariant.table
-    c.self.inside.cache.pairs c.next_call-call.new.cache.pairs c.substitute.new.cache.pairs c.self.inside.next c.next_call-call.result c.next_call-call.new.next
-    c.self.invariant c.substitute.ensures.table c.next_call-call.ensures.within c.next_call-call.ensures.calls c.next_call-call.ensures.next c.substitute.ensures.questions c.substitute.ensures.others
+    c.number_of-number.new.lists.places.items c.number_of-number.new.lists.entries.items c.self.inside.known.places.items c.self.inside.known.entries.items
+    c.self.inside.cache.pairs c.number_of-number.new.cache.pairs c.substitute.new.cache.pairs c.self.inside.next c.number_of-number.new.next c.args.map.now c.number_of-number.result
+    c.self.invariant c.substitute.ensures.table c.number_of-number.ensures.within
+    (c.number_of-number.ensures.known c.self.inside.dd.nodes c.self.invariant.known
+    (subst (λ (t : NodeTable). All (λ (entry : ℕ × Ref). IsNumber t.nodes entry.1.0) c.args.map.now) (sym c.self.view_is) c.requires.map_in_table))
+    c.substitute.ensures.questions c.substitute.ensures.memo c.substitute.ensures.others
 
 pub substitute-requires-clause-questions : goal.substitute-requires-clause-questions
-substitute-requires-clause-questions c q r has = c.self.invariant.questions q r (c.next_call-call.ensures.within (key_of_question q) r has)
+substitute-requires-clause-questions c q r has = c.self.invariant.questions q r (c.number_of-number.ensures.within (key_of_question q) r has)

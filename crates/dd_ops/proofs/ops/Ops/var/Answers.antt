@@ -34,4 +34,4 @@ returns-clause-grows c =
 
 pub invariant_of-self : goal.invariant_of-self
 invariant_of-self c = cache_after_node c.self.inside.dd c.mk.new.self (record { vars = c.mk.ensures.vars; limit = c.mk.ensures.limit; nodes = c.mk.ensures.extends }) c.self.invariant.table
-    c.self.inside.cache.pairs c.self.inside.next c.self.invariant c.mk.ensures.table
+    c.self.inside.known.places.items c.self.inside.known.entries.items c.self.inside.cache.pairs c.self.inside.next c.self.invariant c.mk.ensures.table

@@ -33,4 +33,4 @@ pub returns-clause-whole : goal.returns-clause-whole
 returns-clause-whole c =
     let draft = c.loop-alloc.self in
     let fewer = c.loop-alloc.invariant.searched.fewer in
-    omega (arith, firsts_length (row_of draft.next) (row_count draft.next), length-map draft.places.keys (configuration_of (fluent_count c.args.task.now)), c.len.ensures, c.len-in-loop-alloc.ensures.len)
+    omega (arith, firsts_length (row_of draft.next) (row_count draft.next), length-map draft.moves.places.keys (configuration_of (fluent_count c.args.task.now)), c.len.ensures, c.len-in-loop-alloc.ensures.len)

@@ -11,7 +11,7 @@ invariant-loop-alloc l = record {
   rows : AreRows l.self.next;
   searched : IsSearched (system_of l.task) (plain_of l.plan) (draft_value (fluent_count l.task) l.self);
   within : IsDraftWithin (fluent_count l.task) l.self;
-  few : length l.self.places.keys ≤ 262144;
+  few : length l.self.moves.places.keys ≤ 262144;
 }
 
 abbrev pub decreases-loop-alloc : goal.decreases-loop-alloc

@@ -5,6 +5,7 @@ use Rattle.exec_graph.specs.Counting.{with_if_state}
 use Rattle.plan_rules.specs.Advices.{onward_value}
 use Rattle.exec_graph.specs.Moves.{moves_value}
 use Rattle.exec_graph.proofs.Executes.{fold_one, fold_all}
+use Rattle.exec_graph.proofs.Grown.{grown_on}
 use Rattle.exec_graph.proofs.moves.Moves.add_outcomes.Goals as goal
 
 pub loop-outcome-preserved : goal.loop-outcome-preserved
@@ -19,7 +20,8 @@ loop-outcome-preserved c =
       value = c.in_ok-add_if_state.ensures.value
           ∙ ap (λ m. f m (vector n c.step-after.result)) c.loop-outcome.invariant.value
           ∙ sym (fold_one f (moves_value n c.args.self.now) outcomes i (vector n c.step-after.result) c.step-after.ensures.after);
-      within = c.in_ok-add_if_state.ensures.next_within;
+      moves = c.in_ok-add_if_state.ensures.moves;
+      grown = grown_on n c.args.self.now c.loop-outcome.self c.add_if_state.new.self c.loop-outcome.invariant.grown c.in_ok-add_if_state.ensures.grown;
     }
 
 pub returns-clause-value : goal.returns-clause-value

@@ -5,7 +5,7 @@ use Rattle.task_core.specs.States.{vector}
 use Rattle.task_core.specs.Tasks.{fluent_count, in_space, states_after}
 use Rattle.exec_graph.specs.Counting.{with_if_state}
 use Rattle.plan_rules.specs.Advices.{onward_value}
-use Rattle.exec_graph.specs.Moves.{AreWithin, moves_value}
+use Rattle.exec_graph.specs.Moves.{AreMoves, HasGrown, moves_value}
 use Rattle.exec_graph.proofs.moves.Moves.add_outcomes.Given as goal
 
 abbrev pub invariant-loop-outcome : goal.invariant-loop-outcome
@@ -13,5 +13,6 @@ invariant-loop-outcome l = record {
   value : moves_value (fluent_count l.task) l.self
       ≡ fold (with_if_state (in_space l.task) (onward_value l.rule.onward)) (moves_value (fluent_count l.task) l.fn.self)
       (take l.outcome (states_after l.task (vector (fluent_count l.task) l.state) l.rule.action.0));
-  within : AreWithin (fluent_count l.task) l.self;
+  moves : AreMoves (fluent_count l.task) l.self;
+  grown : HasGrown (fluent_count l.task) l.fn.self l.self;
 }
