@@ -3,4 +3,3 @@ pub mod Printed
 pub mod Named
 pub mod Texts
 pub mod Readings
-pub mod NameTable

@@ -13,8 +13,6 @@ mod certificates;
 mod items;
 mod judging;
 mod laws;
-mod literals;
-mod names;
 mod reader;
 #[cfg(test)]
 mod tests;

@@ -7,7 +7,6 @@ ghost use Rattle.sexpr_text.specs.Passes.{IfFault};
 ghost use Rattle.task_core.specs.Tasks.{fluent_count, fluent_names};
 ghost use Rattle.plan_rules.specs.Readings.{cube_tree};
 ghost use Rattle.plan_certs.specs.Named.{IsCertificateOf, plain_of, set_of};
-ghost use Rattle.plan_certs.specs.NameTable.{names_in};
 ghost use Rattle.plan_certs.specs.Readings.{
   HasCertificateFault,
   SpellsCertificateAt,
@@ -20,9 +19,10 @@ ghost use Rattle.plan_certs.specs.Readings.{
 };
 
 use crate::certificates::{Certificate, CertificateRead, StateSet};
-use crate::items::{after_first, class_named, first_item, has_sets, span_of};
-use crate::literals::read_cube;
-use crate::names::NameTable;
+use crate::items::has_sets;
+use plan_rules::{
+    NameTable, after_first, class_named, first_item, fluent_table, read_cube, span_of,
+};
 use sexpr_text::{
     FaultKind, Form, GroupReader, InputFault, MAX_BYTES, Place, ReadErr, Span, after_word,
     fault_at, first_group, read_forms, read_groups,
@@ -51,26 +51,15 @@ pub fn read_cert(alloc: Global, bytes: &[u8], task: &Task) -> Result<Certificate
     read_text(alloc, &fluents, &forms)
 }
 
-// The names of a task's fluents.
-fn fluent_table(alloc: Global, task: &Task) -> Result<NameTable, AllocError>
-    ensures { IfOk result (λ table. names_in table ≡ fluent_names task.now) }
-{
-    let mut table = NameTable::new(alloc);
-    for name in &task.fluents {
-        table.add(alloc, name)?;
-    }
-    Ok(table)
-}
-
 // The certificate in the forms of a text.
 fn read_text(alloc: Global, fluents: &NameTable, forms: &[Form]) -> Result<CertificateRead, ReadErr>
     ensures sound { IfOk result (λ read.
-        text_flaws (names_in fluents.now) (forest_of forms.now) ≡ []) }
+        text_flaws fluents.now (forest_of forms.now) ≡ []) }
     ensures read { IfOk result (λ read.
-        certificate_read (names_in fluents.now) (forest_of forms.now)
+        certificate_read fluents.now (forest_of forms.now)
         ≡ Some (plain_of read.certificate, read.place)) }
     ensures fault { IfErr result (λ e. IfFault e (λ fault.
-        first_listed (text_flaws (names_in fluents.now) (forest_of forms.now)) ≡ Some fault)) }
+        first_listed (text_flaws fluents.now (forest_of forms.now)) ≡ Some fault)) }
 {
     match first_group(forms, b"certificate") {
         Some((span, parts)) => Ok(CertificateRead {
@@ -92,11 +81,11 @@ fn read_list(
     row: &[Form],
 ) -> Result<Certificate, ReadErr>
     ensures sound { IfOk result (λ certificate.
-        certificate_flaws (names_in fluents.now) span (forest_of row.now) ≡ []) }
+        certificate_flaws fluents.now span (forest_of row.now) ≡ []) }
     ensures read { IfOk result (λ certificate.
-        plain_of certificate ≡ certificate_tree (names_in fluents.now) (forest_of row.now)) }
+        plain_of certificate ≡ certificate_tree fluents.now (forest_of row.now)) }
     ensures fault { IfErr result (λ e. IfFault e (λ fault.
-        first_listed (certificate_flaws (names_in fluents.now) span (forest_of row.now))
+        first_listed (certificate_flaws fluents.now span (forest_of row.now))
         ≡ Some fault)) }
 {
     let Some((form, rest)) = first_item(row) else {
@@ -121,7 +110,6 @@ pub(crate) struct SetReader<'a> {
 impl GroupReader for SetReader<'_> {
     ghost use Rattle.plan_certs.specs.Certificates.{CubeSet};
     ghost use Rattle.plan_certs.specs.Named.{set_of};
-    ghost use Rattle.plan_certs.specs.NameTable.{names_in};
     ghost use Rattle.plan_certs.specs.Readings.{set_flaws, set_tree};
 
     type Item = StateSet;
@@ -130,9 +118,9 @@ impl GroupReader for SetReader<'_> {
 
     ghost plain = { set_of };
 
-    ghost tree = { λ self parts. set_tree (names_in self.fluents.now) parts };
+    ghost tree = { λ self parts. set_tree self.fluents.now parts };
 
-    ghost flaws = { λ self span parts. set_flaws (names_in self.fluents.now) span parts };
+    ghost flaws = { λ self span parts. set_flaws self.fluents.now span parts };
 
     fn read(&self, alloc: Global, span: Span, parts: &[Form]) -> Result<StateSet, ReadErr> {
         match after_word(parts, b"set") {
@@ -160,7 +148,6 @@ impl GroupReader for CubeReader<'_> {
     ghost use Rattle.task_core.specs.Cubes.{Cube};
     ghost use Rattle.plan_rules.specs.Readings.{cube_tree};
     ghost use Rattle.plan_certs.specs.Named.{cube_of};
-    ghost use Rattle.plan_certs.specs.NameTable.{names_in};
     ghost use Rattle.plan_certs.specs.Readings.{set_item_flaws};
 
     type Item = Vec<Lit>;
@@ -169,9 +156,9 @@ impl GroupReader for CubeReader<'_> {
 
     ghost plain = { cube_of };
 
-    ghost tree = { λ self parts. cube_tree (names_in self.fluents.now) parts };
+    ghost tree = { λ self parts. cube_tree self.fluents.now parts };
 
-    ghost flaws = { λ self span parts. set_item_flaws (names_in self.fluents.now) span parts };
+    ghost flaws = { λ self span parts. set_item_flaws self.fluents.now span parts };
 
     fn read(&self, alloc: Global, span: Span, parts: &[Form]) -> Result<Vec<Lit>, ReadErr> {
         read_cube(alloc, self.fluents, parts)

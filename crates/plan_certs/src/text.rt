@@ -18,76 +18,10 @@ ghost use Rattle.plan_certs.specs.Readings.{SpellsCertificate};
 ghost use Rattle.plan_certs.specs.Texts.{certificate_text, next_cube_text, set_text};
 
 use crate::certificates::{Certificate, StateSet};
-use plan_rules::push_name;
+use plan_rules::{push_cube, word_of};
 use std::alloc::{AllocError, Global};
 use std::rc::RcStr;
 use task_core::{Class, Lit, Task};
-
-// The word for a class in a certificate's text.
-fn word_of(class: Class) -> &'static str
-    ensures { result.now ≡ class_word class }
-{
-    match class {
-        Class::Weak => "weak",
-        Class::Strong => "strong",
-        Class::Cyclic => "cyclic",
-    }
-}
-
-// The space before a part, unless it is the first.
-fn push_gap(out: &mut String, place: usize) -> Result<(), AllocError>
-    ensures { OnOk result (string_bytes out.new ≡ string_bytes out.old ++ gap place) }
-{
-    if place > 0 {
-        out.push(' ')?;
-    }
-    Ok(())
-}
-
-// A literal, as `(at a)` or `(not (at a))`.
-fn push_literal(out: &mut String, fluents: &[Vec<RcStr>], lit: &Lit) -> Result<(), AllocError>
-    requires { lit.now.fluent.0 < length fluents.now }
-    ensures { OnOk result
-        (string_bytes out.new
-        ≡ string_bytes out.old ++ literal_text (map name_bytes fluents.now) lit.now) }
-{
-    let name = &fluents[lit.fluent.0 as usize];
-    if lit.positive {
-        push_name(out, name)
-    } else {
-        out.push_str("(not ")?;
-        push_name(out, name)?;
-        out.push(')')?;
-        Ok(())
-    }
-}
-
-fn push_literals(out: &mut String, fluents: &[Vec<RcStr>], cube: &[Lit]) -> Result<(), AllocError>
-    requires { All (λ lit. lit.fluent.0 < length fluents.now) cube.now }
-    ensures { OnOk result
-        (string_bytes out.new
-        ≡ string_bytes out.old
-        ++ spaced (map (literal_text (map name_bytes fluents.now)) cube.now)) }
-{
-    for (i, lit) in cube.iter().enumerate() {
-        push_gap(out, i)?;
-        push_literal(out, fluents, lit)?;
-    }
-    Ok(())
-}
-
-// The literals of a cube in parentheses, with a space between them.
-fn push_cube(out: &mut String, fluents: &[Vec<RcStr>], cube: &[Lit]) -> Result<(), AllocError>
-    requires { All (λ lit. lit.fluent.0 < length fluents.now) cube.now }
-    ensures { OnOk result
-        (string_bytes out.new
-        ≡ string_bytes out.old ++ cube_text (map name_bytes fluents.now) cube.now) }
-{
-    out.push('(')?;
-    push_literals(out, fluents, cube)?;
-    out.push(')')?;
-    Ok(())
-}
 
 // A cube after a space.
 fn push_next_cube(out: &mut String, fluents: &[Vec<RcStr>], cube: &[Lit]) -> Result<(), AllocError>

@@ -6,7 +6,6 @@ pub mod Plans
 pub mod Items
 pub mod Readings
 pub mod NameKeys
-pub mod NameTable
 pub mod PartsViews
 pub mod Kinds
 pub mod Named

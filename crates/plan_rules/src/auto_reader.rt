@@ -7,7 +7,6 @@ ghost use Rattle.sexpr_text.specs.Forest.{forest_of};
 ghost use Rattle.sexpr_text.specs.Parts.{each_group, flaws_of_groups};
 ghost use Rattle.sexpr_text.specs.Passes.{IfFault};
 ghost use Rattle.plan_rules.specs.Items.{item_of};
-ghost use Rattle.plan_rules.specs.NameTable.{names_in};
 ghost use Rattle.plan_rules.specs.PartsViews.{context_rule_view};
 ghost use Rattle.plan_rules.specs.Readings.{
   automaton_flaws,
@@ -45,7 +44,6 @@ pub(crate) struct CaseReader<'a> {
 }
 
 impl GroupReader for CaseReader<'_> {
-    ghost use Rattle.plan_rules.specs.NameTable.{names_in};
     ghost use Rattle.plan_rules.specs.Readings.{case_flaws, case_tree};
     ghost use Rattle.plan_rules.specs.Rules.{PlanCase, case_of};
 
@@ -55,9 +53,9 @@ impl GroupReader for CaseReader<'_> {
 
     ghost plain = { case_of };
 
-    ghost tree = { λ self parts. case_tree (names_in self.fluents.now) self.contexts parts };
+    ghost tree = { λ self parts. case_tree self.fluents.now self.contexts parts };
 
-    ghost flaws = { λ self span parts. case_flaws (names_in self.fluents.now) self.contexts span
+    ghost flaws = { λ self span parts. case_flaws self.fluents.now self.contexts span
         parts };
 
     fn read(&self, alloc: Global, span: Span, parts: &[Form]) -> Result<Case, ReadErr> {
@@ -93,11 +91,11 @@ fn read_next(
     form: View<'_>,
 ) -> Result<Next, ReadErr>
     ensures sound { IfOk result
-        (λ next. next_flaws (names_in fluents.now) contexts (item_of form.entry) ≡ []) }
+        (λ next. next_flaws fluents.now contexts (item_of form.entry) ≡ []) }
     ensures read { IfOk result (λ next.
-        next_of next ≡ next_tree (names_in fluents.now) contexts (item_of form.entry)) }
+        next_of next ≡ next_tree fluents.now contexts (item_of form.entry)) }
     ensures fault { IfErr result (λ e. IfFault e (λ fault.
-        first_listed (next_flaws (names_in fluents.now) contexts (item_of form.entry))
+        first_listed (next_flaws fluents.now contexts (item_of form.entry))
         ≡ Some fault)) }
 {
     match form {
@@ -114,12 +112,12 @@ fn read_cases(
     row: &[Form],
 ) -> Result<Vec<Case>, ReadErr>
     ensures sound { IfOk result (λ cases.
-        flaws_of_groups (case_flaws (names_in fluents.now) contexts) (forest_of row.now) ≡ []) }
+        flaws_of_groups (case_flaws fluents.now contexts) (forest_of row.now) ≡ []) }
     ensures read { IfOk result (λ cases.
         map case_of cases.items
-        ≡ each_group (case_tree (names_in fluents.now) contexts) (forest_of row.now)) }
+        ≡ each_group (case_tree fluents.now contexts) (forest_of row.now)) }
     ensures fault { IfErr result (λ e. IfFault e (λ fault.
-        first_listed (flaws_of_groups (case_flaws (names_in fluents.now) contexts)
+        first_listed (flaws_of_groups (case_flaws fluents.now contexts)
         (forest_of row.now)) ≡ Some fault)) }
 {
     read_groups(alloc, &CaseReader { fluents, contexts }, row)
@@ -134,7 +132,6 @@ pub(crate) struct ContextRuleReader<'a> {
 }
 
 impl GroupReader for ContextRuleReader<'_> {
-    ghost use Rattle.plan_rules.specs.NameTable.{names_in};
     ghost use Rattle.plan_rules.specs.Readings.{context_rule_flaws, context_rule_tree};
     ghost use Rattle.plan_rules.specs.Rules.{ContextRule, context_rule_of};
 
@@ -145,11 +142,11 @@ impl GroupReader for ContextRuleReader<'_> {
     ghost plain = { context_rule_of };
 
     ghost tree = { λ self parts.
-        context_rule_tree (names_in self.fluents.now) (names_in self.actions.now) self.contexts
+        context_rule_tree self.fluents.now self.actions.now self.contexts
         parts };
 
     ghost flaws = { λ self span parts.
-        context_rule_flaws (names_in self.fluents.now) (names_in self.actions.now) self.contexts
+        context_rule_flaws self.fluents.now self.actions.now self.contexts
         span parts };
 
     fn read(&self, alloc: Global, span: Span, parts: &[Form]) -> Result<AutoRule, ReadErr> {
@@ -195,13 +192,13 @@ pub(crate) fn read_automaton(
     row: &[Form],
 ) -> Result<Plan, ReadErr>
     ensures sound { IfOk result (λ plan.
-        automaton_flaws (names_in fluents.now) (names_in actions.now) span (forest_of row.now)
+        automaton_flaws fluents.now actions.now span (forest_of row.now)
         ≡ []) }
     ensures read { IfOk result (λ plan.
-        plain_of plan ≡ automaton_tree (names_in fluents.now) (names_in actions.now)
+        plain_of plan ≡ automaton_tree fluents.now actions.now
         (forest_of row.now)) }
     ensures fault { IfErr result (λ e. IfFault e (λ fault.
-        first_listed (automaton_flaws (names_in fluents.now) (names_in actions.now) span
+        first_listed (automaton_flaws fluents.now actions.now span
         (forest_of row.now)) ≡ Some fault)) }
 {
     match first_item(row) {
@@ -219,13 +216,13 @@ fn read_contexts(
     rest: &[Form],
 ) -> Result<Plan, ReadErr>
     ensures sound { IfOk result (λ plan.
-        contexts_flaws (names_in fluents.now) (names_in actions.now) (item_of form.entry)
+        contexts_flaws fluents.now actions.now (item_of form.entry)
         (forest_of rest.now) ≡ []) }
     ensures read { IfOk result (λ plan.
-        plain_of plan ≡ contexts_tree (names_in fluents.now) (names_in actions.now)
+        plain_of plan ≡ contexts_tree fluents.now actions.now
         (number_tree MAX_CONTEXTS (item_of form.entry)) (forest_of rest.now)) }
     ensures fault { IfErr result (λ e. IfFault e (λ fault.
-        first_listed (contexts_flaws (names_in fluents.now) (names_in actions.now)
+        first_listed (contexts_flaws fluents.now actions.now
         (item_of form.entry) (forest_of rest.now)) ≡ Some fault)) }
 {
     match form {

@@ -26,7 +26,7 @@ pub(crate) struct ContextRuleParts<'a> {
 }
 
 /// The span of a form.
-pub(crate) fn span_of(form: View<'_>) -> Span
+pub fn span_of(form: View<'_>) -> Span
     ensures { result ≡ item_span (item_of form.entry) }
 {
     match form {
@@ -36,7 +36,7 @@ pub(crate) fn span_of(form: View<'_>) -> Span
 }
 
 /// The first form of a row, and what follows it.
-pub(crate) fn first_item(row: &[Form]) -> Option<(View<'_>, &[Form])>
+pub fn first_item(row: &[Form]) -> Option<(View<'_>, &[Form])>
     ensures { option_map (λ p. (item_of p.0, forest_of p.1.now)) result
         ≡ first_item (forest_of row.now) }
 {

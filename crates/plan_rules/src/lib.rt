@@ -26,7 +26,11 @@ mod text;
 
 pub use auto_reader::MAX_CONTEXTS;
 pub use following::{Advice, FIRST_CONTEXT, Onward, context_in, has_all, onward_of};
+pub use items::{first_item, span_of};
 pub use laws::{one_plan, plan_or_fault, printed_spells};
-pub use reader::read_plan;
+pub use literals::read_cube;
+pub use names::NameTable;
+pub use reader::{after_first, fluent_table, read_plan};
 pub use rules::{AutoPlan, AutoRule, Case, Class, Next, Plan, PlanRead, Rule, TablePlan};
-pub use text::{push_name, push_number, write_plan};
+pub use table_reader::class_named;
+pub use text::{push_cube, push_name, push_number, word_of, write_plan};

@@ -7,7 +7,6 @@ ghost use Rattle.sexpr_text.specs.Flaws.{first_listed};
 ghost use Rattle.sexpr_text.specs.Forest.{forest_of};
 ghost use Rattle.sexpr_text.specs.Passes.{IfFault};
 ghost use Rattle.plan_rules.specs.Items.{item_of};
-ghost use Rattle.plan_rules.specs.NameTable.{names_in};
 ghost use Rattle.plan_rules.specs.Readings.{
   action_flaws,
   atom_flaws,
@@ -35,7 +34,6 @@ pub(crate) struct LiteralReader<'a> {
 
 impl GroupReader for LiteralReader<'_> {
     ghost use Rattle.task_core.specs.declared.literals.Lit.{Lit};
-    ghost use Rattle.plan_rules.specs.NameTable.{names_in};
     ghost use Rattle.plan_rules.specs.Readings.{literal_flaws, literal_tree};
 
     type Item = Lit;
@@ -44,9 +42,9 @@ impl GroupReader for LiteralReader<'_> {
 
     ghost plain = { λ lit. lit };
 
-    ghost tree = { λ self parts. literal_tree (names_in self.fluents.now) parts };
+    ghost tree = { λ self parts. literal_tree self.fluents.now parts };
 
-    ghost flaws = { λ self span parts. literal_flaws (names_in self.fluents.now) span parts };
+    ghost flaws = { λ self span parts. literal_flaws self.fluents.now span parts };
 
     fn read(&self, alloc: Global, span: Span, parts: &[Form]) -> Result<Lit, ReadErr> {
         match group_after(parts, b"not") {
@@ -71,11 +69,11 @@ fn read_atom(
     row: &[Form],
 ) -> Result<FluentId, ReadErr>
     ensures sound { IfOk result
-        (λ fluent. atom_flaws (names_in fluents.now) outer span (forest_of row.now) ≡ []) }
+        (λ fluent. atom_flaws fluents.now outer span (forest_of row.now) ≡ []) }
     ensures read { IfOk result
-        (λ fluent. fluent.0 ≡ number_of_words (names_in fluents.now) (forest_of row.now)) }
+        (λ fluent. fluent.0 ≡ number_of_words fluents.now (forest_of row.now)) }
     ensures fault { IfErr result (λ e. IfFault e (λ fault.
-        first_listed (atom_flaws (names_in fluents.now) outer span (forest_of row.now))
+        first_listed (atom_flaws fluents.now outer span (forest_of row.now))
         ≡ Some fault)) }
 {
     if !are_words(row) {
@@ -91,17 +89,13 @@ fn read_atom(
 }
 
 /// The literals of a cube.
-pub(crate) fn read_cube(
-    alloc: Global,
-    fluents: &NameTable,
-    row: &[Form],
-) -> Result<Vec<Lit>, ReadErr>
+pub fn read_cube(alloc: Global, fluents: &NameTable, row: &[Form]) -> Result<Vec<Lit>, ReadErr>
     ensures sound { IfOk result
-        (λ cube. cube_flaws (names_in fluents.now) (forest_of row.now) ≡ []) }
+        (λ cube. cube_flaws fluents.now (forest_of row.now) ≡ []) }
     ensures read { IfOk result
-        (λ cube. cube.items ≡ cube_tree (names_in fluents.now) (forest_of row.now)) }
+        (λ cube. cube.items ≡ cube_tree fluents.now (forest_of row.now)) }
     ensures fault { IfErr result (λ e. IfFault e (λ fault.
-        first_listed (cube_flaws (names_in fluents.now) (forest_of row.now)) ≡ Some fault)) }
+        first_listed (cube_flaws fluents.now (forest_of row.now)) ≡ Some fault)) }
 {
     read_groups(alloc, &LiteralReader { fluents }, row)
 }
@@ -114,11 +108,11 @@ pub(crate) fn read_action(
     row: &[Form],
 ) -> Result<ActionId, ReadErr>
     ensures sound { IfOk result
-        (λ action. action_flaws (names_in actions.now) span (forest_of row.now) ≡ []) }
+        (λ action. action_flaws actions.now span (forest_of row.now) ≡ []) }
     ensures read { IfOk result
-        (λ action. action.0 ≡ number_of_words (names_in actions.now) (forest_of row.now)) }
+        (λ action. action.0 ≡ number_of_words actions.now (forest_of row.now)) }
     ensures fault { IfErr result (λ e. IfFault e (λ fault.
-        first_listed (action_flaws (names_in actions.now) span (forest_of row.now)) ≡ Some fault)) }
+        first_listed (action_flaws actions.now span (forest_of row.now)) ≡ Some fault)) }
 {
     match actions.number(alloc, row)? {
         Some(number) => Ok(ActionId(number)),

@@ -15,23 +15,33 @@ ghost use Rattle.plan_rules.specs.Readings.{number_of_name};
 use indexmap::IndexSet;
 use sexpr_text::{Form, Text, View};
 use std::alloc::{AllocError, Global};
+use std::marker::Model;
 use std::rc::RcStr;
 use std::str;
 
 /// Names that are all different, each found by its words in about the same time, however many there
-/// are.
+/// are. A clause sees the list of the names.
 #[derive(Drop)]
-pub(crate) struct NameTable {
+pub struct NameTable {
     names: IndexSet<Vec<RcStr>>,
-    ghost few: { length names.keys < 2 ^ 32 },
+}
+
+impl Model for NameTable {
+    ghost use Rattle.std.specs.Prelude.{◌<◌, ◌^◌, List, length, map};
+    ghost use Rattle.task_core.specs.Names.{Name};
+    ghost use Rattle.plan_rules.specs.NameKeys.{key_of};
+
+    ghost Value = { List Name };
+
+    ghost view = { λ table. map key_of table.names.keys };
+
+    ghost invariant = { λ table. length table.names.keys < 2 ^ 32 };
 }
 
 impl NameTable {
-    ghost use Rattle.plan_rules.specs.NameTable.{names_in};
-
     /// A table without names.
-    pub(crate) fn new(alloc: Global) -> NameTable
-        ensures { names_in result ≡ [] }
+    pub fn new(alloc: Global) -> NameTable
+        ensures { result ≡ [] }
     {
         NameTable {
             names: IndexSet::new(alloc),
@@ -39,12 +49,12 @@ impl NameTable {
     }
 
     /// Adds a name that is not in the table.
-    pub(crate) fn add(&mut self, alloc: Global, name: &[RcStr]) -> Result<(), AllocError>
-        requires room { length (names_in self.old) + 1 < 2 ^ 32 }
-        requires new { list_any (pointwise bytes_eq (map rc_str_bytes name.now)) (names_in self.old)
+    pub fn add(&mut self, alloc: Global, name: &[RcStr]) -> Result<(), AllocError>
+        requires room { length self.old + 1 < 2 ^ 32 }
+        requires new { list_any (pointwise bytes_eq (map rc_str_bytes name.now)) self.old
             ≡ false }
         ensures { OnOk result
-            (names_in self.new ≡ names_in self.old ++ map rc_str_bytes name.now ∷ []) }
+            (self.new ≡ self.old ++ map rc_str_bytes name.now ∷ []) }
     {
         self.names.insert_full(key_for(alloc, name)?)?;
         Ok(())
@@ -52,10 +62,11 @@ impl NameTable {
 
     /// The number of the name with the words of this row, counted from 0 in the order in which
     /// names were added.
-    pub(crate) fn number(&self, alloc: Global, row: &[Form]) -> Result<Option<u32>, AllocError>
+    pub fn number(&self, alloc: Global, row: &[Form]) -> Result<Option<u32>, AllocError>
         ensures { IfOk result
-            (λ number. number ≡ number_of_name (names_in self.now) (texts_of (forest_of row.now))) }
+            (λ number. number ≡ number_of_name self.now (texts_of (forest_of row.now))) }
     {
+        let _ = &self.names; // What is known of its words is asked for.
         match words_of(alloc, row)? {
             Some(words) => Ok(self.place(&words)),
             None => Ok(None),
@@ -64,7 +75,7 @@ impl NameTable {
 
     // The number of the name with these words.
     fn place(&self, words: &Vec<RcStr>) -> Option<u32>
-        ensures { result ≡ number_of_name (names_in self.now) (key_of words.now) }
+        ensures { result ≡ number_of_name self.now (key_of words.now) }
     {
         let place = self.names.get_index_of(words)?;
         Some(place as u32)

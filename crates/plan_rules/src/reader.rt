@@ -8,7 +8,6 @@ ghost use Rattle.sexpr_text.specs.Parts.{after_first};
 ghost use Rattle.sexpr_text.specs.Passes.{IfFault};
 ghost use Rattle.task_core.specs.Tasks.{action_count, action_names, fluent_count, fluent_names};
 ghost use Rattle.plan_rules.specs.Items.{item_of};
-ghost use Rattle.plan_rules.specs.NameTable.{names_in};
 ghost use Rattle.plan_rules.specs.Plans.{IsPlanOf};
 ghost use Rattle.plan_rules.specs.Readings.{
   HasPlanFault,
@@ -56,9 +55,9 @@ pub fn read_plan(alloc: Global, bytes: &[u8], task: &Task) -> Result<PlanRead, R
     read_text(alloc, &fluents, &actions, &forms)
 }
 
-// The names of a task's fluents.
-fn fluent_table(alloc: Global, task: &Task) -> Result<NameTable, AllocError>
-    ensures { IfOk result (λ table. names_in table ≡ fluent_names task.now) }
+/// The names of a task's fluents.
+pub fn fluent_table(alloc: Global, task: &Task) -> Result<NameTable, AllocError>
+    ensures { IfOk result (λ table. table ≡ fluent_names task.now) }
 {
     let mut table = NameTable::new(alloc);
     for name in &task.fluents {
@@ -69,7 +68,7 @@ fn fluent_table(alloc: Global, task: &Task) -> Result<NameTable, AllocError>
 
 // The names of a task's actions.
 fn action_table(alloc: Global, task: &Task) -> Result<NameTable, AllocError>
-    ensures { IfOk result (λ table. names_in table ≡ action_names task.now) }
+    ensures { IfOk result (λ table. table ≡ action_names task.now) }
 {
     let mut table = NameTable::new(alloc);
     for action in &task.actions {
@@ -86,12 +85,12 @@ fn read_text(
     forms: &[Form],
 ) -> Result<PlanRead, ReadErr>
     ensures sound { IfOk result (λ read.
-        text_flaws (names_in fluents.now) (names_in actions.now) (forest_of forms.now) ≡ []) }
+        text_flaws fluents.now actions.now (forest_of forms.now) ≡ []) }
     ensures read { IfOk result (λ read.
-        plan_read (names_in fluents.now) (names_in actions.now) (forest_of forms.now)
+        plan_read fluents.now actions.now (forest_of forms.now)
         ≡ Some (plain_of read.plan, read.place)) }
     ensures fault { IfErr result (λ e. IfFault e (λ fault.
-        first_listed (text_flaws (names_in fluents.now) (names_in actions.now)
+        first_listed (text_flaws fluents.now actions.now
         (forest_of forms.now)) ≡ Some fault)) }
 {
     match first_group(forms, b"plan") {
@@ -106,8 +105,8 @@ fn read_text(
     }
 }
 
-// What follows the first form of a row.
-fn after_first(row: &[Form]) -> &[Form]
+/// What follows the first form of a row.
+pub fn after_first(row: &[Form]) -> &[Form]
     ensures { forest_of result.now ≡ after_first (forest_of row.now) }
 {
     match head_of(row) {
@@ -149,12 +148,12 @@ fn read_list(
     row: &[Form],
 ) -> Result<Plan, ReadErr>
     ensures sound { IfOk result (λ plan.
-        plan_flaws (names_in fluents.now) (names_in actions.now) span (forest_of row.now) ≡ []) }
+        plan_flaws fluents.now actions.now span (forest_of row.now) ≡ []) }
     ensures read { IfOk result (λ plan.
-        plain_of plan ≡ plan_tree (names_in fluents.now) (names_in actions.now)
+        plain_of plan ≡ plan_tree fluents.now actions.now
         (forest_of row.now)) }
     ensures fault { IfErr result (λ e. IfFault e (λ fault.
-        first_listed (plan_flaws (names_in fluents.now) (names_in actions.now) span
+        first_listed (plan_flaws fluents.now actions.now span
         (forest_of row.now)) ≡ Some fault)) }
 {
     let Some((form, rest)) = first_item(row) else {

@@ -6,7 +6,6 @@ ghost use Rattle.sexpr_text.specs.Flaws.{first_listed};
 ghost use Rattle.sexpr_text.specs.Forest.{forest_of};
 ghost use Rattle.sexpr_text.specs.Passes.{IfFault};
 ghost use Rattle.plan_rules.specs.Items.{first_item, item_of, split_group};
-ghost use Rattle.plan_rules.specs.NameTable.{names_in};
 ghost use Rattle.plan_rules.specs.PartsViews.{table_rule_view};
 ghost use Rattle.plan_rules.specs.Readings.{class_named, table_flaws, table_tree, table_rule_parts};
 ghost use Rattle.plan_rules.specs.Rules.{plain_of};
@@ -29,7 +28,6 @@ pub(crate) struct TableRuleReader<'a> {
 }
 
 impl GroupReader for TableRuleReader<'_> {
-    ghost use Rattle.plan_rules.specs.NameTable.{names_in};
     ghost use Rattle.plan_rules.specs.Readings.{table_rule_flaws, table_rule_tree};
     ghost use Rattle.plan_rules.specs.Rules.{PlanRule, rule_of};
 
@@ -39,11 +37,11 @@ impl GroupReader for TableRuleReader<'_> {
 
     ghost plain = { rule_of };
 
-    ghost tree = { λ self parts. table_rule_tree (names_in self.fluents.now)
-        (names_in self.actions.now) parts };
+    ghost tree = { λ self parts. table_rule_tree self.fluents.now
+        self.actions.now parts };
 
     ghost flaws = { λ self span parts.
-        table_rule_flaws (names_in self.fluents.now) (names_in self.actions.now) span parts };
+        table_rule_flaws self.fluents.now self.actions.now span parts };
 
     fn read(&self, alloc: Global, span: Span, parts: &[Form]) -> Result<Rule, ReadErr> {
         match rule_parts(parts) {
@@ -73,8 +71,8 @@ fn rule_parts(parts: &[Form]) -> Option<TableRuleParts<'_>>
     }
 }
 
-// The class that a form names.
-fn class_named(form: View<'_>) -> Option<Class>
+/// The class that a form names.
+pub fn class_named(form: View<'_>) -> Option<Class>
     ensures { result ≡ class_named (item_of form.entry) }
 {
     let View::Word(_, text) = form else {
@@ -100,12 +98,12 @@ pub(crate) fn read_table(
     row: &[Form],
 ) -> Result<Plan, ReadErr>
     ensures sound { IfOk result (λ plan.
-        table_flaws (names_in fluents.now) (names_in actions.now) span (forest_of row.now) ≡ []) }
+        table_flaws fluents.now actions.now span (forest_of row.now) ≡ []) }
     ensures read { IfOk result (λ plan.
-        plain_of plan ≡ table_tree (names_in fluents.now) (names_in actions.now)
+        plain_of plan ≡ table_tree fluents.now actions.now
         (forest_of row.now)) }
     ensures fault { IfErr result (λ e. IfFault e (λ fault.
-        first_listed (table_flaws (names_in fluents.now) (names_in actions.now) span
+        first_listed (table_flaws fluents.now actions.now span
         (forest_of row.now)) ≡ Some fault)) }
 {
     let Some((form, rest)) = first_item(row) else {

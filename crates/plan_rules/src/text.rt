@@ -51,8 +51,8 @@ use std::alloc::{AllocError, Global};
 use std::rc::RcStr;
 use task_core::{GroundAction, Lit, Task};
 
-// The word for a class in a plan's text.
-fn word_of(class: Class) -> &'static str
+/// The word for a class in a text.
+pub fn word_of(class: Class) -> &'static str
     ensures { result.now ≡ class_word class }
 {
     match class {
@@ -113,8 +113,8 @@ fn push_literal(out: &mut String, fluents: &[Vec<RcStr>], lit: &Lit) -> Result<(
     }
 }
 
-// The literals of a cube in parentheses, with a space between them.
-fn push_cube(out: &mut String, fluents: &[Vec<RcStr>], cube: &[Lit]) -> Result<(), AllocError>
+/// Appends the literals of a cube in parentheses, with a space between them.
+pub fn push_cube(out: &mut String, fluents: &[Vec<RcStr>], cube: &[Lit]) -> Result<(), AllocError>
     requires { All (λ lit. lit.fluent.0 < length fluents.now) cube.now }
     ensures { OnOk result
         (string_bytes out.new

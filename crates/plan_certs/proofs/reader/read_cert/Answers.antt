@@ -1,14 +1,13 @@
 use Rattle.std.proofs.Common.{length}
 use Rattle.sexpr_text.specs.Forest.{forest_of}
 use Rattle.task_core.specs.Tasks.{fluent_names}
-use Rattle.plan_certs.specs.NameTable.{names_in}
 use Rattle.plan_certs.proofs.Whole.{IsReadFrom, in_task, whole-fault, whole-read, with_names}
 use Rattle.plan_certs.proofs.reader.read_cert.Goals as goal
 use Rattle.plan_certs.proofs.reader.read_cert.Goals.{After-drop-forms-2}
 
 read_from : (c : After-drop-forms-2) → IsReadFrom (fluent_names c.args.task.now) (forest_of c.in_ok-forms.forms.items) c.read_text.result
 read_from c =
-    with_names (names_in c.in_ok-fluents.fluents) (fluent_names c.args.task.now)
+    with_names c.in_ok-fluents.fluents (fluent_names c.args.task.now)
     c.deref.result.now c.in_ok-forms.forms.items c.read_text.result c.in_ok-fluents.ensures c.deref.ensures.value
     (record { sound = c.read_text.ensures.sound; read = c.read_text.ensures.read; fault = c.read_text.ensures.fault })
 

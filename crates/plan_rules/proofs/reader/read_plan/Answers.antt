@@ -1,7 +1,6 @@
 use Rattle.std.proofs.Common.{length}
 use Rattle.sexpr_text.specs.Forest.{forest_of}
 use Rattle.task_core.specs.Tasks.{fluent_names, action_names}
-use Rattle.plan_rules.specs.NameTable.{names_in}
 use Rattle.plan_rules.proofs.Whole.{IsReadFrom, whole-read, whole-fault}
 use Rattle.plan_rules.proofs.FromForms.{with_names, in_task}
 use Rattle.plan_rules.proofs.reader.read_plan.Goals as goal
@@ -9,7 +8,7 @@ use Rattle.plan_rules.proofs.reader.read_plan.Goals.{After-drop-forms-2}
 
 read_from : (c : After-drop-forms-2) → IsReadFrom (fluent_names c.args.task.now) (action_names c.args.task.now) (forest_of c.in_ok-forms.forms.items) c.read_text.result
 read_from c =
-    with_names (names_in c.in_ok-fluents.fluents) (fluent_names c.args.task.now) (names_in c.in_ok-actions.actions) (action_names c.args.task.now)
+    with_names c.in_ok-fluents.fluents (fluent_names c.args.task.now) c.in_ok-actions.actions (action_names c.args.task.now)
     c.deref.result.now c.in_ok-forms.forms.items c.read_text.result c.in_ok-fluents.ensures c.in_ok-actions.ensures c.deref.ensures.value
     (record { sound = c.read_text.ensures.sound; read = c.read_text.ensures.read; fault = c.read_text.ensures.fault })
 

@@ -1,7 +1,0 @@
-use Rattle.std.proofs.Common.{◌≡◌, map, take}
-use Rattle.task_core.specs.Names.{name_bytes}
-use Rattle.plan_certs.specs.NameTable.{names_in}
-use Rattle.plan_certs.proofs.reader.fluent_table.Given as goal
-
-abbrev pub invariant-loop-name : goal.invariant-loop-name
-invariant-loop-name l = names_in l.table ≡ map name_bytes (take l.name-index l.task.fluents.items)
