@@ -1,16 +1,19 @@
 -- The objects of a type, as they are entered: along the parents of each object's type.
-use Rattle.std.proofs.Common.{◌≡◌, ℕ, zero, suc, ◌+◌, ◌-◌, ◌<◌, ◌≤◌, Bool, true, false, ◌||◌, cond, List, [], ◌∷◌, ◌++◌, length, get_or, drop, refl, ap, sym, subst, ◌∙◌, arith, add-zero, zero-add, add-one, append-nil, append_assoc, length-append, ◌⊎◌, inl, inr}
+use Rattle.std.proofs.Common.{◌≡◌, ℕ, zero, suc, ◌+◌, ◌-◌, ◌<◌, ◌≤◌, Bool, true, false, ◌||◌, cond, List, [], ◌∷◌, ◌++◌, length, map, get_or, drop, refl, ap, sym, subst, ◌∙◌, arith, add-zero, zero-add, add-one, append-nil, append_assoc, length-append, ◌⊎◌, inl, inr}
 use Rattle.std.specs.Prelude.{◌==◌, All, Vec, if◌then◌else◌, slice_set}
 use Rattle.std.specs.declared.alloc.Global.{Global}
 use Rattle.std.specs.List.{filter, list_any, range_with_len}
 use Rattle.std.proofs.lemmas.Bool.{eq-eqb, cases_eq, cases_lt, ne_eqb}
 use Rattle.std.proofs.lemmas.List.Folds.{list_any-append}
-use Rattle.std.proofs.lemmas.List.Elements.{All-append, All-get_or}
-use Rattle.std.proofs.Math.Seq.{drop-cons}
+use Rattle.std.proofs.lemmas.List.Elements.{All-append, All-get_or, All-map}
+use Rattle.std.proofs.lemmas.List.{drop_more, get_or_at, length-map}
 use Rattle.pddl_ast.specs.declared.trees.Named.{Named}
-use Rattle.pddl_ast.specs.Fits.{ancestor}
-use Rattle.pddl_system.specs.Objects.{is_kind_of, type_of, objects_of_type}
-use Rattle.ground_instances.specs.Entering.{AreBelow, entered, list_of}
+use Rattle.pddl_ast.specs.Fits.{ancestor, FitsDomain, FitsProblem}
+use Rattle.pddl_ast.specs.Trees.{DomainTree, ProblemTree}
+use Rattle.pddl_system.specs.Objects.{all_objects, is_kind_of, type_of, objects_of_type}
+use Rattle.ground_instances.specs.Entering.{AreBelow, entered, list_of, shared_lists, types_of}
+use Rattle.ground_instances.specs.Groups.{AreGroups}
+use Rattle.ground_instances.specs.Tables.{objects_at}
 
 -- whether one of the first k steps from type t comes to type u
 abbrev pub reaches : List ℕ → ℕ → ℕ → ℕ → Bool
@@ -54,11 +57,11 @@ or-twice false true = refl
 or-twice false false = refl
 
 -- from a type that is its own parent no step leads on
-ancestor-fixed : (parents : List ℕ) (m t : ℕ) → get_or parents t 0 ≡ t → ancestor parents m t ≡ t
+pub ancestor-fixed : (parents : List ℕ) (m t : ℕ) → get_or parents t 0 ≡ t → ancestor parents m t ≡ t
 ancestor-fixed parents zero t h = refl
 ancestor-fixed parents (suc m) t h = ap (ancestor parents m) h ∙ ancestor-fixed parents m t h
 
-ancestor-add : (parents : List ℕ) (k m t : ℕ) → ancestor parents (k + m) t ≡ ancestor parents m (ancestor parents k t)
+pub ancestor-add : (parents : List ℕ) (k m t : ℕ) → ancestor parents (k + m) t ≡ ancestor parents m (ancestor parents k t)
 ancestor-add parents zero m t = ap (λ n. ancestor parents n t) (zero-add m)
 ancestor-add parents (suc k) m t = ap (λ n. ancestor parents n t) (let e : suc k + m ≡ suc (k + m) = omega arith in e) ∙ ancestor-add parents k m (get_or parents t 0)
 
@@ -154,49 +157,41 @@ enter_below parents o kinds lists new counted below entered t = elim (cases_lt t
     one false = λ k d h. absurd (omega arith)
 
 -- one object more
-pub enter_next : (parents : List ℕ) (objects : List Named) (i number t : ℕ) (x : Named) (base new whole : List ℕ) → i < length objects → x ≡ get_or objects i x
-    → new ≡ base ++ if_so (is_kind_of parents x.type_id t) number
-    → base ++ entered parents (drop i objects) number t ≡ whole
-    → new ++ entered parents (drop (i + 1) objects) (number + 1) t ≡ whole
-enter_next parents objects i number t x base new whole within is put before =
-    ap (λ xs. xs ++ entered parents (drop (i + 1) objects) (number + 1) t) put
-    ∙ append_assoc base (if_so (is_kind_of parents x.type_id t) number) (entered parents (drop (i + 1) objects) (number + 1) t)
-    ∙ ap (λ n. base ++ (if_so (is_kind_of parents x.type_id t) number ++ entered parents (drop (i + 1) objects) n t)) (add-one number)
-    ∙ ap (λ n. base ++ (if_so (is_kind_of parents x.type_id t) number ++ entered parents (drop n objects) (suc number) t)) (add-one i)
-    ∙ ap (λ (y : Named). base ++ (if_so (is_kind_of parents y.type_id t) number ++ entered parents (drop (suc i) objects) (suc number) t)) is
-    ∙ ap (λ rest. base ++ entered parents rest number t) (sym (drop-cons objects i x within))
+pub enter_next : (parents types : List ℕ) (i t : ℕ) (base new whole : List ℕ) → i < length types
+    → new ≡ base ++ if_so (is_kind_of parents (get_or types i 0) t) i
+    → base ++ entered parents (drop i types) i t ≡ whole
+    → new ++ entered parents (drop (i + 1) types) (i + 1) t ≡ whole
+enter_next parents types i t base new whole within put before =
+    ap (λ xs. xs ++ entered parents (drop (i + 1) types) (i + 1) t) put
+    ∙ append_assoc base (if_so (is_kind_of parents (get_or types i 0) t) i) (entered parents (drop (i + 1) types) (i + 1) t)
+    ∙ ap (λ n. base ++ (if_so (is_kind_of parents (get_or types i 0) t) i ++ entered parents (drop (i + 1) types) n t)) (add-one i)
+    ∙ ap (λ rest. base ++ entered parents rest i t) (sym (drop_more types i 0 within))
     ∙ before
 
-pub entered_append : (parents : List ℕ) (xs ys : List Named) (f t : ℕ) → entered parents (xs ++ ys) f t ≡ entered parents xs f t ++ entered parents ys (f + length xs) t
-entered_append parents [] ys f t = ap (λ n. entered parents ys n t) (sym (add-zero f))
-entered_append parents (x ∷ xs) ys f t =
-    let e : suc f + length xs ≡ f + suc (length xs) = omega arith in
-    ap (λ rest. if_so (is_kind_of parents x.type_id t) f ++ rest) (entered_append parents xs ys (suc f) t ∙ ap (λ n. entered parents xs (suc f) t ++ entered parents ys n t) e)
-    ∙ sym (append_assoc (if_so (is_kind_of parents x.type_id t) f) (entered parents xs (suc f) t) (entered parents ys (f + suc (length xs)) t))
-
-type_of-at : (pre : List Named) (x : Named) (rest : List Named) → type_of (pre ++ x ∷ rest) (length pre) ≡ x.type_id
-type_of-at [] x rest = refl
-type_of-at (y ∷ pre) x rest = type_of-at pre x rest
-
 -- the objects of a type are those that are entered into its list
-entered_from : (parents : List ℕ) (pre objects : List Named) (t : ℕ)
-    → filter (λ o. is_kind_of parents (type_of (pre ++ objects) o) t) (range_with_len (length pre) (length objects)) ≡ entered parents objects (length pre) t
+entered_from : (parents pre types : List ℕ) (t : ℕ)
+    → filter (λ o. is_kind_of parents (get_or (pre ++ types) o 0) t) (range_with_len (length pre) (length types)) ≡ entered parents types (length pre) t
 entered_from parents pre [] t = refl
-entered_from parents pre (x ∷ objects) t =
-    let p : ℕ → Bool = λ o. is_kind_of parents (type_of (pre ++ x ∷ objects) o) t in
+entered_from parents pre (x ∷ types) t =
+    let p : ℕ → Bool = λ o. is_kind_of parents (get_or (pre ++ x ∷ types) o 0) t in
     let more : length (pre ++ x ∷ []) ≡ length pre + 1 = length-append pre (x ∷ []) in
-    let rest : filter p (range_with_len (length pre + 1) (length objects)) ≡ entered parents objects (suc (length pre)) t =
-    ap (λ n. filter p (range_with_len n (length objects))) (sym more)
-    ∙ ap (λ all. filter (λ o. is_kind_of parents (type_of all o) t) (range_with_len (length (pre ++ x ∷ [])) (length objects))) (sym (append_assoc pre (x ∷ []) objects))
-    ∙ entered_from parents (pre ++ x ∷ []) objects t
-    ∙ ap (λ n. entered parents objects n t) (more ∙ add-one (length pre)) in
-    split (p (length pre)) (length pre) (filter p (range_with_len (length pre + 1) (length objects)))
+    let rest : filter p (range_with_len (length pre + 1) (length types)) ≡ entered parents types (suc (length pre)) t =
+    ap (λ n. filter p (range_with_len n (length types))) (sym more)
+    ∙ ap (λ all. filter (λ o. is_kind_of parents (get_or all o 0) t) (range_with_len (length (pre ++ x ∷ [])) (length types))) (sym (append_assoc pre (x ∷ []) types))
+    ∙ entered_from parents (pre ++ x ∷ []) types t
+    ∙ ap (λ n. entered parents types n t) (more ∙ add-one (length pre)) in
+    split (p (length pre)) (length pre) (filter p (range_with_len (length pre + 1) (length types)))
     ∙ ap (λ xs. if_so (p (length pre)) (length pre) ++ xs) rest
-    ∙ ap (λ ty. if_so (is_kind_of parents ty t) (length pre) ++ entered parents objects (suc (length pre)) t) (type_of-at pre x objects)
+    ∙ ap (λ ty. if_so (is_kind_of parents ty t) (length pre) ++ entered parents types (suc (length pre)) t) (get_or_at pre x types 0 (length pre) refl)
   where
     split : (b : Bool) (n : ℕ) (xs : List ℕ) → cond b (n ∷ xs) xs ≡ if_so b n ++ xs
     split true n xs = refl
     split false n xs = refl
+
+entered_all : (parents : List ℕ) (objects : List Named) (t : ℕ) → entered parents (types_of objects) 0 t ≡ objects_of_type parents objects t
+entered_all parents objects t =
+    sym (entered_from parents [] (types_of objects) t)
+    ∙ ap (λ n. filter (λ o. is_kind_of parents (type_of objects o) t) (range_with_len 0 n)) (length-map objects (λ (n : Named). n.type_id))
 
 reaches-none : (parents : List ℕ) (ty t k : ℕ) → length parents ≤ t → All (λ p. p < length parents) parents → ty < length parents → reaches parents ty t k ≡ false
 reaches-none parents ty t zero past known h = refl
@@ -206,33 +201,53 @@ reaches-none parents ty t (suc k) past known h =
     ∙ ap (λ b. b || (ancestor parents k ty == t)) (reaches-none parents ty t k past known h)
     ∙ ne_eqb (ancestor parents k ty) t (λ e. let x : t < length parents = subst (λ n. n < length parents) e below in omega arith)
 
-entered-none : (parents : List ℕ) (objects : List Named) (f t : ℕ) → length parents ≤ t → All (λ p. p < length parents) parents
-    → All (λ (n : Named). n.type_id < length parents) objects → entered parents objects f t ≡ []
+entered-none : (parents types : List ℕ) (f t : ℕ) → length parents ≤ t → All (λ p. p < length parents) parents
+    → All (λ d. d < length parents) types → entered parents types f t ≡ []
 entered-none parents [] f t past known types = refl
-entered-none parents (x ∷ objects) f t past known types =
-    ap (λ b. if_so b f ++ entered parents objects (suc f) t) (reaches-none parents x.type_id t (suc (length parents)) past known (types 0 x (omega arith)))
-    ∙ entered-none parents objects (suc f) t past known (λ k d h. types (suc k) d (omega arith))
+entered-none parents (x ∷ rest) f t past known types =
+    ap (λ b. if_so b f ++ entered parents rest (suc f) t) (reaches-none parents x t (suc (length parents)) past known (types 0 x (omega arith)))
+    ∙ entered-none parents rest (suc f) t past known (λ k d h. types (suc k) d (omega arith))
 
--- what all lists have at the end
-pub all_entered : (parents : List ℕ) (constants objects : List Named) (first middle last : List (Vec ℕ Global)) (t : ℕ)
-    → All (λ p. p < length parents) parents → All (λ (n : Named). n.type_id < length parents) constants → All (λ (n : Named). n.type_id < length parents) objects
-    → length last ≡ length parents → ((u : ℕ) → list_of first u ≡ [])
-    → ((u : ℕ) → u < length parents → list_of middle u ≡ list_of first u ++ entered parents constants 0 u)
-    → ((u : ℕ) → u < length parents → list_of last u ≡ list_of middle u ++ entered parents objects (length constants) u)
-    → list_of last t ≡ objects_of_type parents (constants ++ objects) t
-all_entered parents constants objects first middle last t known types others counted empty one two =
-    let whole : entered parents (constants ++ objects) 0 t ≡ objects_of_type parents (constants ++ objects) t = sym (entered_from parents [] (constants ++ objects) t) in
-    let parts : entered parents (constants ++ objects) 0 t ≡ entered parents constants 0 t ++ entered parents objects (length constants) t =
-    entered_append parents constants objects 0 t ∙ ap (λ n. entered parents constants 0 t ++ entered parents objects n t) (zero-add (length constants)) in
+-- every object has a type
+pub types_known : (d : DomainTree) (p : ProblemTree) → FitsDomain d → FitsProblem d p → All (λ t. t < length d.parents) (types_of (all_objects d p))
+types_known d p fits_domain fits_problem = All-map (λ t. t < length d.parents) (λ (n : Named). n.type_id) (d.constants ++ p.objects)
+    (All-append (λ (n : Named). n.type_id < length d.parents) d.constants p.objects
+    (λ k e h. subst (λ n. (get_or d.constants k e).type_id < n) (sym fits_domain.one_parent) (fits_domain.constants k e h).1)
+    (λ k e h. subst (λ n. (get_or p.objects k e).type_id < n) (sym fits_domain.one_parent) (fits_problem.objects k e h).1))
+
+-- along the groups the same objects are entered
+entered_in_group : (parents above tops types : List ℕ) (f t : ℕ) → All (λ d. is_kind_of above (get_or tops d 0) (get_or tops t 0) ≡ is_kind_of parents d t) types
+    → entered above (map (λ d. get_or tops d 0) types) f (get_or tops t 0) ≡ entered parents types f t
+entered_in_group parents above tops [] f t same = refl
+entered_in_group parents above tops (x ∷ types) f t same =
+    ap (λ b. if_so b f ++ entered above (map (λ d. get_or tops d 0) types) (suc f) (get_or tops t 0)) (same 0 x (omega arith))
+    ∙ ap (λ xs. if_so (is_kind_of parents x t) f ++ xs) (entered_in_group parents above tops types (suc f) t (λ k d h. same (suc k) d (omega arith)))
+
+shared_at : (lists : List (Vec ℕ Global)) (places : List ℕ) (t : ℕ) → t < length places → objects_at (shared_lists places lists) t ≡ list_of lists (get_or places t 0)
+shared_at lists [] t h = absurd (omega arith)
+shared_at lists (p ∷ places) zero h = refl
+shared_at lists (p ∷ places) (suc t) h = shared_at lists places t (omega arith)
+
+shared_past : (lists : List (Vec ℕ Global)) (places : List ℕ) (t : ℕ) → length places ≤ t → objects_at (shared_lists places lists) t ≡ []
+shared_past lists [] t h = refl
+shared_past lists (p ∷ places) zero h = absurd (omega arith)
+shared_past lists (p ∷ places) (suc t) h = shared_past lists places t (omega arith)
+
+-- what the types have at the end
+pub all_entered : (parents tops above types : List ℕ) (objects : List Named) (lists : List (Vec ℕ Global)) (t : ℕ)
+    → types ≡ types_of objects → All (λ p. p < length parents) parents → All (λ d. d < length parents) types → AreGroups parents types tops above
+    → ((u : ℕ) → u < length above → list_of lists u ≡ entered above (map (λ d. get_or tops d 0) types) 0 u)
+    → objects_at (shared_lists tops lists) t ≡ objects_of_type parents objects t
+all_entered parents tops above types objects lists t is known types_known groups made =
+    let whole : entered parents types 0 t ≡ objects_of_type parents objects t = ap (λ ds. entered parents ds 0 t) is ∙ entered_all parents objects t in
     elim (cases_lt t (length parents)) [
-      | inl within ↦
-          two t within ∙ ap (λ xs. xs ++ entered parents objects (length constants) t) (one t within ∙ ap (λ xs. xs ++ entered parents constants 0 t) (empty t)) ∙ sym parts ∙ whole
+      | inl within ↦ (
+          let at : t < length tops = subst (λ n. t < n) (sym groups.all_tops) within in
+          let top : get_or tops t 0 < length above = subst (λ n. get_or tops t 0 < n) (sym groups.all_above) (groups.tops_known t 0 at) in
+          shared_at lists tops t at ∙ made (get_or tops t 0) top
+          ∙ entered_in_group parents above tops types 0 t (λ k d h. groups.same k d h t within) ∙ whole)
       | inr past ↦
-          list_of-past last t (subst (λ n. n ≤ t) (sym counted) past)
-          ∙ sym (entered-none parents constants 0 t past known types)
-          ∙ sym (append-nil (entered parents constants 0 t))
-          ∙ ap (λ xs. entered parents constants 0 t ++ xs) (sym (entered-none parents objects (length constants) t past known others))
-          ∙ sym parts ∙ whole
+          shared_past lists tops t (subst (λ n. n ≤ t) (sym groups.all_tops) past) ∙ sym (entered-none parents types 0 t past known types_known) ∙ whole
     ]
 
 -- a list of empty lists
@@ -241,6 +256,3 @@ still_empty [] v none empty zero = none
 still_empty [] v none empty (suc t) = refl
 still_empty (l ∷ lists) v none empty zero = empty 0
 still_empty (l ∷ lists) v none empty (suc t) = still_empty lists v none (λ u. empty (suc u)) t
-
-pub none_below : (lists : List (Vec ℕ Global)) (bound : ℕ) → ((t : ℕ) → list_of lists t ≡ []) → AreBelow bound lists
-none_below lists bound empty t = subst (λ xs. All (λ n. n < bound) xs) (sym (empty t)) (λ k d h. absurd (omega arith))

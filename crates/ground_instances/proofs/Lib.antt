@@ -8,3 +8,4 @@ pub mod UnderLemmas
 pub mod ValueLemmas
 pub mod KeptLemmas
 pub mod EnteringLemmas
+pub mod GroupLemmas

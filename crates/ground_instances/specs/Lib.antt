@@ -1,6 +1,7 @@
 pub mod Atoms
 pub mod Counts
 pub mod Entering
+pub mod Groups
 pub mod Kept
 pub mod Partial
 pub mod Settled

@@ -1,5 +1,5 @@
 -- Private: what is known of a formula where some variables, the free ones, stand for no object yet:
--- its value, but that no atom of a rigid predicate and no equation that names an free variable has a
+-- its value, but that no atom of a rigid predicate and no equation that names a free variable has a
 -- known one.
 use Rattle.std.specs.Prelude.{ℕ, ◌==◌, nat_le, nat_lt, Bool, false, ◌&&◌, ◌||◌, List, [], ◌∷◌, ◌++◌, map}
 use Rattle.std.specs.Prelude.{Some, None, if◌then◌else◌}
@@ -19,7 +19,7 @@ use Rattle.ground_instances.specs.declared.values.Free.{Free}
 abbrev pub has_free : Free → ℕ → Bool
 has_free free k = nat_le free.first k && nat_lt k free.end
 
--- whether a term is an free variable
+-- whether a term is a free variable
 abbrev pub is_free : Free → Term → Bool
 is_free free (Variable k) = has_free free k
 is_free free (Object o) = false

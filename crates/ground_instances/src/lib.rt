@@ -9,6 +9,7 @@
 mod atoms;
 mod bindings;
 mod changed;
+mod groups;
 mod instances;
 mod objects;
 mod setting;

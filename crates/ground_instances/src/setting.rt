@@ -10,7 +10,7 @@ ghost use Rattle.pddl_system.specs.Sizes.{keeps, object_limit};
 
 use crate::atoms::Atom;
 use crate::changed::{changed_predicates, fact_set};
-use crate::objects::objects_by_type;
+use crate::objects::{ObjectLists, objects_by_type};
 use indexmap::IndexSet;
 use pddl_ast::{Domain, ObjectId, PredicateId, Problem, TypeId};
 use std::alloc::{AllocError, Global};
@@ -21,7 +21,7 @@ use std::marker::Model;
 #[derive(Drop)]
 pub struct Setting {
     /// The objects of each type, in their order.
-    objects: Vec<Vec<ObjectId>>,
+    objects: ObjectLists,
     /// The predicates that an effect changes or that an uncertain entry names.
     changed: IndexSet<PredicateId>,
     /// The atoms that are initially true.
@@ -31,12 +31,13 @@ pub struct Setting {
 impl Model for Setting {
     ghost use Rattle.std.specs.Prelude.{map};
     ghost use Rattle.ground_instances.specs.Atoms.{atom_tree};
+    ghost use Rattle.ground_instances.specs.Entering.{shared_lists};
     ghost use Rattle.ground_instances.specs.Tables.{Tables};
 
     ghost Value = { Tables };
 
     ghost view = { λ s. record {
-      objects = map (λ v. v.items) s.objects.items;
+      objects = shared_lists s.objects.places.items s.objects.lists.items;
       changed = s.changed.keys;
       facts = map atom_tree s.facts.keys;
     } };
@@ -64,10 +65,7 @@ impl Setting {
     pub fn objects_of(&self, type_id: TypeId) -> &[ObjectId]
         ensures { result.now ≡ (setting_in self.now).objects type_id }
     {
-        match self.objects.get(type_id) {
-            Some(objects) => objects,
-            None => &[],
-        }
+        self.objects.of(type_id)
     }
 
     /// Whether a predicate is rigid: no effect changes it, and no uncertain entry names it.

@@ -1,42 +1,51 @@
-use Rattle.std.proofs.Common.{◌≡◌, ℕ, ◌+◌, ◌<◌, ◌++◌, [], ◌∷◌, List, length, length-append, get_or, ap, sym, subst, ◌∙◌, arith}
+use Rattle.std.proofs.Common.{◌≡◌, ◌∙◌, ◌<◌, ℕ, List, ap, get_or, length, map, subst, sym}
 use Rattle.std.specs.Prelude.{All}
-use Rattle.pddl_ast.specs.declared.trees.Named.{Named}
-use Rattle.pddl_system.specs.Objects.{objects_of_type}
+use Rattle.pddl_ast.specs.Values.{domain_value, problem_value}
+use Rattle.pddl_system.specs.Objects.{all_objects}
 use Rattle.ground_instances.specs.Entering.{entered, list_of}
-use Rattle.ground_instances.proofs.EnteringLemmas.{all_entered, still_empty}
+use Rattle.ground_instances.specs.Groups.{AreGroups}
+use Rattle.ground_instances.proofs.EnteringLemmas.{all_entered, types_known}
 use Rattle.ground_instances.proofs.objects.objects_by_type.Goals as goal
 
-pub loop-preserved : goal.loop-preserved
-loop-preserved c = record {
-  lists =
-      ap (λ xs. length xs) c.in_ok-push.ensures.items ∙ length-append c.loop.lists.items (c.new.result ∷ [])
-      ∙ ap (λ n. n + 1) c.loop.invariant.lists;
-  empty = λ t. ap (λ ls. list_of ls t) c.in_ok-push.ensures.items ∙ still_empty c.loop.lists.items c.new.result c.new.ensures.items c.loop.invariant.empty t;
-}
+pub groups_of-requires-clause-types : goal.groups_of-requires-clause-types
+groups_of-requires-clause-types c =
+    let types = c.in_ok-types.types.items in
+    let parents = c.as_slice.result.now in
+    let known : All (λ t. t < length c.args.domain.now.parents.items) types =
+    subst (λ (xs : List ℕ). All (λ t. t < length c.args.domain.now.parents.items) xs) (sym c.in_ok-types.ensures)
+    (types_known (domain_value c.args.domain.now) (problem_value c.args.problem.now) c.requires.fits_domain c.requires.fits_problem) in
+    subst (λ (xs : List ℕ). All (λ t. t < length parents) xs) (sym c.deref.ensures.value)
+    (subst (λ (ps : List ℕ). All (λ t. t < length ps) types) (sym c.as_slice.ensures.value) known)
+
+pub lists_by_top-requires-clause-types : goal.lists_by_top-requires-clause-types
+lists_by_top-requires-clause-types c =
+    let types = c.in_ok-types.types.items in
+    let above = c.deref-3.result.now in
+    let known : All (λ t. t < length c.args.domain.now.parents.items) types =
+    subst (λ (xs : List ℕ). All (λ t. t < length c.args.domain.now.parents.items) xs) (sym c.in_ok-types.ensures)
+    (types_known (domain_value c.args.domain.now) (problem_value c.args.problem.now) c.requires.fits_domain c.requires.fits_problem) in
+    let many : length c.args.domain.now.parents.items ≡ length above =
+    ap (λ xs. length xs) (sym c.as_slice.ensures.value) ∙ sym c.in_ok-groups.ensures.all_above ∙ ap (λ xs. length xs) (sym c.deref-3.ensures.value) in
+    subst (λ (xs : List ℕ). All (λ t. t < length above) xs) (sym c.deref-4.ensures.value) (subst (λ n. All (λ t. t < n) types) many known)
 
 pub returns : goal.returns
 returns c = λ t.
-    let parents = c.as_slice-parents.result.now in
-    let items = c.args.domain.now.parents.items in
-    let constants = c.deref.result.now in
-    let objects = c.deref-2.result.now in
-    let fits = c.requires.fits_domain in
-    let same : parents ≡ items = c.as_slice-parents.ensures.value in
-    let known : All (λ p. p < length parents) parents =
-    subst (λ (xs : List ℕ). All (λ p. p < length xs) xs) (sym same) (λ k d h. subst (λ n. get_or items k d < n) (sym fits.one_parent) (fits.parents k d h)) in
-    let types : length c.args.domain.now.type_names.items ≡ length parents = sym fits.one_parent ∙ sym (ap (λ xs. length xs) same) in
-    let first : All (λ (n : Named). n.type_id < length parents) constants =
-    subst (λ (xs : List Named). All (λ (n : Named). n.type_id < length parents) xs) (sym c.deref.ensures.value)
-    (λ k d h. subst (λ n. (get_or c.args.domain.now.constants.items k d).type_id < n) types (fits.constants k d h).1) in
-    let second : All (λ (n : Named). n.type_id < length parents) objects =
-    subst (λ (xs : List Named). All (λ (n : Named). n.type_id < length parents) xs) (sym c.deref-2.ensures.value)
-    (λ k d h. subst (λ n. (get_or c.args.problem.now.objects.items k d).type_id < n) types (c.requires.fits_problem.objects k d h).1) in
-    let counted : length c.loop.lists.items ≡ length parents = omega (arith, c.loop.invariant.lists) in
-    let many : c.len.result ≡ length constants = c.len.ensures ∙ c.args.domain.now.constants.ok.0 ∙ sym (ap (λ xs. length xs) c.deref.ensures.value) in
-    all_entered parents constants objects c.loop.lists.items c.enter_all.new.lists.items c.enter_all-2.new.lists.items t known first second
-    (c.in_ok-enter_all-2.ensures.lists ∙ c.in_ok-enter_all.ensures.lists ∙ counted)
-    c.loop.invariant.empty c.in_ok-enter_all.ensures.entered
-    (λ u within. c.in_ok-enter_all-2.ensures.entered u within ∙ ap (λ n. list_of c.enter_all.new.lists.items u ++ entered parents objects n u) many)
-    ∙ ap (λ (ps : List ℕ). objects_of_type ps (constants ++ objects) t) same
-    ∙ ap (λ (xs : List Named). objects_of_type items (xs ++ objects) t) c.deref.ensures.value
-    ∙ ap (λ (xs : List Named). objects_of_type items (c.args.domain.now.constants.items ++ xs) t) c.deref-2.ensures.value
+    let d = domain_value c.args.domain.now in
+    let p = problem_value c.args.problem.now in
+    let parents = c.args.domain.now.parents.items in
+    let types = c.in_ok-types.types.items in
+    let tops = c.in_ok-groups.groups.tops.items in
+    let above = c.in_ok-groups.groups.parents.items in
+    let lists = c.in_ok-lists.lists.items in
+    let made : (u : ℕ) → u < length above → list_of lists u ≡ entered above (map (λ k. get_or tops k 0) types) 0 u =
+    λ u h. c.in_ok-lists.ensures u (subst (λ (xs : List ℕ). u < length xs) (sym c.deref-3.ensures.value) h)
+    ∙ ap (λ (xs : List ℕ). entered xs (map (λ k. get_or c.deref-2.result.now k 0) c.deref-4.result.now) 0 u) c.deref-3.ensures.value
+    ∙ ap (λ (xs : List ℕ). entered above (map (λ k. get_or xs k 0) c.deref-4.result.now) 0 u) c.deref-2.ensures.value
+    ∙ ap (λ (xs : List ℕ). entered above (map (λ k. get_or tops k 0) xs) 0 u) c.deref-4.ensures.value in
+    let groups : AreGroups parents types tops above =
+    subst (λ (ps : List ℕ). AreGroups ps types tops above) c.as_slice.ensures.value
+    (subst (λ (xs : List ℕ). AreGroups c.as_slice.result.now xs tops above) c.deref.ensures.value c.in_ok-groups.ensures) in
+    all_entered parents tops above types (all_objects d p) lists t c.in_ok-types.ensures
+    (λ k e h. subst (λ n. get_or parents k e < n) (sym c.requires.fits_domain.one_parent) (c.requires.fits_domain.parents k e h))
+    (subst (λ (xs : List ℕ). All (λ u. u < length parents) xs) (sym c.in_ok-types.ensures) (types_known d p c.requires.fits_domain c.requires.fits_problem))
+    groups made

@@ -1,6 +1,6 @@
 use Rattle.std.proofs.Common.{◌≡◌, ℕ, [], length}
 use Rattle.ground_instances.specs.Entering.{list_of}
-use Rattle.ground_instances.proofs.objects.objects_by_type.Given as goal
+use Rattle.ground_instances.proofs.objects.lists_by_top.Given as goal
 
 abbrev pub invariant-loop : goal.invariant-loop
 invariant-loop l = record {
