@@ -19,7 +19,7 @@ pub struct Groups {
 }
 
 /// The groups of types where objects have these types. Takes `n log n` steps for `n` types, and one
-/// for each object, but not one for each object and type.
+/// for each object.
 pub fn groups_of(alloc: Global, parents: &[TypeId], types: &[TypeId]) -> Result<Groups, AllocError>
     requires parents { All (λ t. t < length parents.now) parents.now }
     requires rooted { (t : ℕ) → t < length parents.now

@@ -132,7 +132,7 @@ fn enter_all(
     Ok(())
 }
 
-/// Enters an object into the lists of its type and of all ancestors of it. All objects there have
+/// Enters an object into the lists of a type and of all its ancestors. All objects there have
 /// smaller numbers.
 fn enter(
     lists: &mut Vec<Vec<ObjectId>>,
