@@ -2,13 +2,12 @@
 use Rattle.std.proofs.Common.{◌≡◌, ℕ, ◌+◌, ◌*◌, suc, List, length, map, Result, Ok, Err, sym, ap, ◌∙◌}
 use Rattle.std.specs.Prelude.{IfOk, IsErrOf}
 use Rattle.std.proofs.lemmas.List.{length-map}
-use Rattle.plan_theory.specs.ChainPlans.{HasNoContextPlan}
-use Rattle.plan_theory.specs.Chains.{Chained}
 use Rattle.plan_theory.specs.PatrolPlans.{HasNoPatrolPlan}
 use Rattle.plan_theory.specs.UntilChains.{UntilSets}
 use Rattle.plan_theory.specs.UntilPlans.{HasNoUntilPlan}
 use Rattle.ctl_syntax.specs.ChainValues.{states_of}
 use Rattle.ctl_syntax.specs.FarValues.{stage_sets}
+use Rattle.ctl_syntax.specs.declared.far.Far.{Far}
 use Rattle.ctl_syntax.specs.declared.far.UntilChain.{UntilChain}
 use Rattle.dd_sets.specs.LiveSets.{LiveSets}
 use Rattle.dd_sets.specs.Rooms.{NoRoom}
@@ -31,8 +30,7 @@ use Rattle.task_core.specs.declared.tasks.Task.{Task}
 use Rattle.mbp_top.specs.Enough.{BoundsGoalSets}
 use Rattle.mbp_top.specs.FoundGoals.{IsGoalSearched}
 use Rattle.mbp_top.specs.GoalConditions.{count_of}
-use Rattle.mbp_top.specs.GoalSets.{GoalSets, HasNoGoalPlan, HasSets, contexts_for, of_chain, of_patrol, of_until, rules_for}
-use Rattle.mbp_top.specs.declared.context_goals.ContextGoal.{ContextGoal}
+use Rattle.mbp_top.specs.GoalSets.{GoalSets, HasNoGoalPlan, HasSets, contexts_for, of_patrol, of_until, rules_for}
 
 -- a plan is what is looked for, and that there is none
 found_goal : (task : Task) (sets : GoalSets) (count : ℕ) (None : Type 0) (result : Result FoundFar SetErr) → count ≡ contexts_for sets → (None → HasNoGoalPlan (system_of task) sets)
@@ -51,9 +49,6 @@ found_goal task sets count None (Ok (Plan plan)) same never contexts printed in_
 }
 found_goal task sets count None (Ok NoPlan) same never contexts printed in_task complete has none = never none
 found_goal task sets count None (Err e) same never contexts printed in_task complete has none = tt
-
-pub no_chain_plan : (sys : System) (chain : Chained) → HasNoContextPlan sys chain → HasNoGoalPlan sys (of_chain chain)
-no_chain_plan sys chain none plan is = none plan (record { complete = is.complete; has = is.has })
 
 no_until_plan : (sys : System) (chain : UntilSets) → HasNoUntilPlan sys chain → HasNoGoalPlan sys (of_until chain)
 no_until_plan sys chain none plan is = none plan (record { complete = is.complete; has = is.has })
@@ -86,7 +81,7 @@ found_patrol task visits result =
     (sym (length-map visits states_of)) (no_patrol_plan (system_of task) (visit_sets visits))
 
 -- why the table is full
-abbrev pub IsFullFor : Task → LiveSets → LiveSets → Result FoundFar SetErr → ContextGoal → Type 0
+abbrev pub IsFullFor : Task → LiveSets → LiveSets → Result FoundFar SetErr → Far → Type 0
 IsFullFor task before after result goal =
     IsErrOf result Full → (w : ℕ) → BoundsGoalSets goal task w
     → NoRoom w (action_count task * (count_of goal + 3) + 8 * count_of goal + 236) 16 before after

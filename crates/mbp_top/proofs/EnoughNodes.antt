@@ -3,7 +3,7 @@
 use Rattle.std.proofs.Common.{◌≡◌, ◌≤◌, ◌<◌, ◌+◌, ◌*◌, ◌^◌, ℕ, zero, suc, [], subst, sym, arith}
 use native.Mathlib.Nat.{pow-succ'}
 use Rattle.std.proofs.Math.Nat.{mul-le-mul_right}
-use Rattle.chain_plan.specs.WorkingSets.IsWorkingSet.{of_task as of_chain}
+use Rattle.ctl_syntax.specs.declared.far.Far.{Far}
 use Rattle.ctl_syntax.specs.declared.far.Far.TheVariants.{Patrol, Until}
 use Rattle.cyclic_plan.specs.WorkingSets.IsWorkingSet.{by_task as of_cyclic}
 use Rattle.dd_nodes.specs.Subfunctions.{nodes}
@@ -25,8 +25,6 @@ use Rattle.task_core.specs.declared.classes.Class.TheVariants.{Cyclic, Strong, W
 use Rattle.task_core.specs.declared.tasks.Task.{Task}
 use Rattle.mbp_top.specs.Enough.{BoundsGoalSets, BoundsSets, IsTightForClass, IsTightForGoal, IsTightLimit, enough, enough_by_sets}
 use Rattle.mbp_top.specs.GoalConditions.{count_of}
-use Rattle.mbp_top.specs.declared.context_goals.ContextGoal.{ContextGoal}
-use Rattle.mbp_top.specs.declared.context_goals.ContextGoal.TheVariants.{Chain, Far}
 
 -- so many slots have no more nodes than are enough, where there are no more slots
 few_slots : (slots most P Q : ℕ) → slots ≤ most → slots * P + Q ≤ 2 * Q + most * P
@@ -97,20 +95,17 @@ all_bounds Weak t = record { wide = more_lists (fluent_count t); each = λ set m
 all_bounds Strong t = record { wide = more_lists (fluent_count t); each = λ set made. every_small (fluent_count t) set }
 all_bounds Cyclic t = record { wide = more_lists (fluent_count t); each = λ set made. every_small (fluent_count t) set }
 
-pub all_goal_bounds : (goal : ContextGoal) (t : Task) → BoundsGoalSets goal t (2 ^ fluent_count t + 1)
-all_goal_bounds (Chain chain) t = record { fluents = more_lists (fluent_count t); small = λ set made. every_small (fluent_count t) set }
-all_goal_bounds (Far (Until chain)) t = record { fluents = more_lists (fluent_count t); small = λ set made. every_small (fluent_count t) set }
-all_goal_bounds (Far (Patrol visits)) t = record { fluents = more_lists (fluent_count t); small = λ set made. every_small (fluent_count t) set }
+pub all_goal_bounds : (goal : Far) (t : Task) → BoundsGoalSets goal t (2 ^ fluent_count t + 1)
+all_goal_bounds (Until chain) t = record { fluents = more_lists (fluent_count t); small = λ set made. every_small (fluent_count t) set }
+all_goal_bounds (Patrol visits) t = record { fluents = more_lists (fluent_count t); small = λ set made. every_small (fluent_count t) set }
 
-wide_of_goal : (goal : ContextGoal) (t : Task) (w : ℕ) → BoundsGoalSets goal t w → fluent_count t + 2 ≤ w
-wide_of_goal (Chain chain) t w bounds = bounds.fluents
-wide_of_goal (Far (Until chain)) t w bounds = bounds.fluents
-wide_of_goal (Far (Patrol visits)) t w bounds = bounds.fluents
+wide_of_goal : (goal : Far) (t : Task) (w : ℕ) → BoundsGoalSets goal t w → fluent_count t + 2 ≤ w
+wide_of_goal (Until chain) t w bounds = bounds.fluents
+wide_of_goal (Patrol visits) t w bounds = bounds.fluents
 
-small_of_goal : (goal : ContextGoal) (t : Task) (w : ℕ) → BoundsGoalSets goal t w → AreSmall (fluent_count t) w (IsMadeByEncode t)
-small_of_goal (Chain chain) t w bounds = λ set made. bounds.small set (of_chain set made)
-small_of_goal (Far (Until chain)) t w bounds = λ set made. bounds.small set (of_until set made)
-small_of_goal (Far (Patrol visits)) t w bounds = λ set made. bounds.small set (of_patrol set made)
+small_of_goal : (goal : Far) (t : Task) (w : ℕ) → BoundsGoalSets goal t w → AreSmall (fluent_count t) w (IsMadeByEncode t)
+small_of_goal (Until chain) t w bounds = λ set made. bounds.small set (of_until set made)
+small_of_goal (Patrol visits) t w bounds = λ set made. bounds.small set (of_patrol set made)
 
 -- while the sets of the task are made, few nodes are fewer than are enough by the sets
 few_for_sets : (t : Task) (n w limit : ℕ) → limit < kept_nodes t + 220 * w + 13 * (w * w) → limit < enough_by_sets n t w
@@ -128,7 +123,7 @@ module _ (monotone : TightIsMonotone) (t : Task) (limit : ℕ)
     by_sets = λ w bounds. few_for_sets t 0 w limit (by_sets w (wide_of class t w bounds) (task_small class t w bounds));
   }
 
-  pub goal_at_sets : (goal : ContextGoal) → IsTightForGoal goal limit t
+  pub goal_at_sets : (goal : Far) → IsTightForGoal goal limit t
   goal_at_sets goal =
       let n = count_of goal in
       record {
@@ -155,7 +150,7 @@ module _ (monotone : TightIsMonotone) (tight_law : NoRoomIsTight) (small_law : N
     by_sets = λ w bounds. few_by_sets 0 (3 * action_count t + 32) w (omega arith) (none w bounds);
   }
 
-  pub goal_at_search : (goal : ContextGoal)
+  pub goal_at_search : (goal : Far)
       → ((w : ℕ) → BoundsGoalSets goal t w
       → NoRoom w (action_count t * (count_of goal + 3) + 8 * count_of goal + 236) 16 sets after) → IsTightForGoal goal limit t
   goal_at_search goal none =

@@ -1,6 +1,8 @@
 -- Private: what is known of what a search for a plan with contexts of a task found.
 use Rattle.std.specs.Prelude.{◌≡◌, ◌≢◌, ◌↔◌, ◌⊎◌, ⊤, ℕ, List, [], Option, Some, None}
 use Rattle.std.specs.Prelude.{Result, Ok, Err}
+use Rattle.ctl_syntax.specs.FarGoals.{PlainFar}
+use Rattle.ctl_syntax.specs.declared.far.Far.{Far}
 use Rattle.dd_sets.specs.declared.errors.SetErr.{SetErr}
 use Rattle.patrol_plan.specs.declared.found.FoundFar.{FoundFar}
 use Rattle.patrol_plan.specs.declared.found.FoundFar.TheVariants.{NoPlan, Plan}
@@ -17,7 +19,7 @@ use Rattle.task_core.specs.Tasks.{action_count, action_names, fluent_count, flue
 use Rattle.task_core.specs.Tasks.{initial_states, system_of}
 use Rattle.task_core.specs.declared.tasks.Task.{Task}
 use Rattle.mbp_top.specs.Answers.{Answer, affirmed, denied}
-use Rattle.mbp_top.specs.ContextGoals.{PlainGoal, context_goal, most_parts, part_count, part_limit}
+use Rattle.mbp_top.specs.ContextGoals.{context_goal, most_parts, part_count, part_limit}
 use Rattle.mbp_top.specs.GoalConditions.{HasSomeVisit, IsGoalOf, count_of, limit_of_goal, most_of}
 use Rattle.mbp_top.specs.GoalConditions.{sets_of_goal}
 use Rattle.mbp_top.specs.GoalSets.{GoalSets, HasNoGoalPlan, HasSets, IsGoalPlan, contexts_for}
@@ -25,7 +27,6 @@ use Rattle.mbp_top.specs.GoalSets.{goal_sets, rules_for}
 use Rattle.mbp_top.specs.PlanCommand.{no_plan_text}
 use Rattle.mbp_top.specs.TemporalGoals.{HasGoal}
 use Rattle.mbp_top.specs.Words.{Bytes}
-use Rattle.mbp_top.specs.declared.context_goals.ContextGoal.{ContextGoal}
 
 -- Private: the plan is the one that is printed, and has the goal
 pub record IsPlanFor (task : Task) (sets : GoalSets) (plan : AutoPlan) : Type 0 where
@@ -69,7 +70,7 @@ IsGoalResult task sets answer = IsGoalShown task sets answer ⊎ IsGoalMissing t
 
 -- Private: the goal has as many stages or visits as these parts, and the same limit on them; and a
 -- patrol goal has a visit
-pub record CountsAs (goal : ContextGoal) (parts : PlainGoal FormulaTree) : Type 0 where
+pub record CountsAs (goal : Far) (parts : PlainFar FormulaTree) : Type 0 where
   pub count : count_of goal ≡ part_count parts
   pub most : most_of goal ≡ most_parts parts
   pub limit : limit_of_goal goal ≡ part_limit parts
@@ -78,8 +79,8 @@ pub record CountsAs (goal : ContextGoal) (parts : PlainGoal FormulaTree) : Type 
 -- Private: the goal stands for the one that the problem has: its conditions, and its sets, are those
 -- of that goal, and it is true wherever the problem's goal is
 pub record StandsForGoal (domain : DomainTree) (problem : ProblemTree)
-    (goal : ContextGoal) : Type 0 where
-  pub parts : PlainGoal FormulaTree
+    (goal : Far) : Type 0 where
+  pub parts : PlainFar FormulaTree
   pub is : context_goal problem ≡ Some parts
   pub conditions : IsGoalOf domain problem goal
   pub counts : CountsAs goal parts

@@ -1,10 +1,11 @@
 //! The command `plan ctl`.
 
+ghost use Rattle.ctl_syntax.specs.FarValues.{FarIsAtMostDeep, FarNamesBelow};
 ghost use Rattle.ctl_syntax.specs.Values.{IsAtMostDeep, NamesBelow, ctl_value};
 ghost use Rattle.mbp_top.specs.Answers.{full, no_memory, refused};
 ghost use Rattle.mbp_top.specs.Enough.{IsTightForGoal};
 ghost use Rattle.mbp_top.specs.FoundGoals.{IsGoalResult, StandsForGoal};
-ghost use Rattle.mbp_top.specs.GoalConditions.{GoalIsAtMostDeep, GoalNamesBelow, IsGoalOver, sets_of_goal};
+ghost use Rattle.mbp_top.specs.GoalConditions.{IsGoalOver, sets_of_goal};
 ghost use Rattle.mbp_top.specs.Grounded.{IsGroundedOf, IsTaskOf};
 ghost use Rattle.mbp_top.specs.PlanCommand.{MayBeTooFew, PlanThen};
 ghost use Rattle.mbp_top.specs.Values.{answer_of, kind_of, plan_words_of, shown_of};
@@ -16,13 +17,13 @@ ghost use Rattle.std.specs.Prelude.{length, ℕ};
 ghost use Rattle.task_core.specs.Tasks.{fluent_count, initial_states, system_of};
 
 use crate::answers::{Refusal, Shown, Text};
-use crate::context_goals::{ContextGoal, as_context_goal};
+use crate::context_goals::{most_parts, part_count, part_limit};
 use crate::context_search::search_goal;
 use crate::grounding::goal_in;
 use crate::initial_states::no_initial;
 use crate::plan_command::text_of_plan;
 use crate::words::PlanWords;
-use ctl_syntax::Ctl;
+use ctl_syntax::{Ctl, Far, as_far};
 use dd_sets::SetErr;
 use ground_task::Grounded;
 use patrol_plan::FoundFar;
@@ -90,7 +91,7 @@ fn plan_goal(
     // This does nothing: that the goal's sets are those of the problem's formulas rests on what it
     // promises.
     grounded_goals_are_true();
-    match as_context_goal(alloc, goal)? {
+    match as_far(alloc, goal)? {
         Some(goal) => plan_parts(alloc, asked, domain, problem, task, &goal),
         None => Err(Refusal::TextFault(
             String::from_str(alloc, asked.problem)?,
@@ -102,22 +103,21 @@ fn plan_goal(
     }
 }
 
-/// The plan with contexts for a chain, an until-chain or a patrol goal that stands for the problem's
-/// goal.
+/// The plan with contexts for an until-chain or a patrol goal that stands for the problem's goal.
 fn plan_parts(
     alloc: Global,
     asked: &PlanWords,
     domain: &Domain,
     problem: &Problem,
     task: &Task,
-    goal: &ContextGoal,
+    goal: &Far,
 ) -> Result<Shown, Refusal>
     requires room { IsNodeLimit asked.now.options.nodes }
     requires kind { kind_of asked.now.kind ≡ with_contexts }
     requires task { IsTaskOf (domain_value domain.now) (problem_value problem.now) task.now }
     requires goal { StandsForGoal (domain_value domain.now) (problem_value problem.now) goal.now }
-    requires names { GoalNamesBelow (fluent_count task.now) goal.now }
-    requires shallow { GoalIsAtMostDeep 200 goal.now }
+    requires names { FarNamesBelow (fluent_count task.now) goal.now }
+    requires shallow { FarIsAtMostDeep 200 goal.now }
     ensures { let asked = plan_words_of asked.now in
         (answer_of result ≡ refused no_memory)
         ⊎ (MayBeTooFew asked (domain_value domain.now) (problem_value problem.now)
@@ -125,8 +125,8 @@ fn plan_parts(
         ⊎ PlanThen asked (domain_value domain.now) (problem_value problem.now)
         (answer_of result) }
 {
-    if goal.parts() > goal.most_parts() {
-        return Err(Refusal::OverLimit(goal.limit()));
+    if part_count(goal) > most_parts(goal) {
+        return Err(Refusal::OverLimit(part_limit(goal)));
     }
     match plan_for_task(alloc, asked.options.nodes, task, goal) {
         Ok(Some(shown)) => Ok(shown),
@@ -142,7 +142,7 @@ fn plan_for_task(
     alloc: Global,
     nodes: u32,
     task: &Task,
-    goal: &ContextGoal,
+    goal: &Far,
 ) -> Result<Option<Shown>, SetErr>
     requires room { IsNodeLimit nodes }
     requires goal { IsGoalOver (fluent_count task.now) goal.now }

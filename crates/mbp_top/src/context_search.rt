@@ -1,13 +1,11 @@
 //! The search for the plan with contexts for a goal, in two tries.
 
-ghost use Rattle.chain_plan.specs.Chains.{IsChainOver, chain_sets};
-ghost use Rattle.chain_plan.specs.WorkingSets.{IsWide as BoundsChainSets};
 ghost use Rattle.dd_sets.specs.Rooms.{NoRoom};
 ghost use Rattle.encode_task.specs.Made.{MadeOf};
 ghost use Rattle.mbp_top.specs.Enough.{BoundsGoalSets, IsTightForGoal};
 ghost use Rattle.mbp_top.specs.FoundGoals.{IsGoalSearched, IsGoalSearchedFrom};
 ghost use Rattle.mbp_top.specs.GoalConditions.{IsGoalOver, count_of, sets_of_goal};
-ghost use Rattle.mbp_top.specs.GoalSets.{of_chain, of_patrol, of_until};
+ghost use Rattle.mbp_top.specs.GoalSets.{of_patrol, of_until};
 ghost use Rattle.mbp_top.specs.Words.{IsNodeLimit};
 ghost use Rattle.patrol_plan.specs.Chains.{IsPatrolOver, IsUntilOver, until_sets, visit_sets};
 ghost use Rattle.patrol_plan.specs.PatrolWorkingSets.{IsWide as BoundsPatrolSets};
@@ -15,11 +13,9 @@ ghost use Rattle.patrol_plan.specs.WorkingSets.{IsWide as BoundsUntilSets};
 ghost use Rattle.std.specs.Prelude.{◌+◌, ◌*◌, IsErrOf, length, ℕ};
 ghost use Rattle.task_core.specs.Tasks.{action_count, fluent_count};
 
-use crate::context_goals::ContextGoal;
 use crate::initial_states::has_no_initial;
 use crate::ordered_sets::encode_ordered;
-use chain_plan::{FoundAuto, plan_chain};
-use ctl_syntax::{Chain, Far, UntilChain};
+use ctl_syntax::{Far, UntilChain};
 use dd_sets::{SetErr, no_room_is_small, no_room_is_tight, tight_is_monotone};
 use encode_task::{Enc, encode, kept_sets_bound_nodes};
 use patrol_plan::{FoundFar, plan_patrol, plan_until};
@@ -34,7 +30,7 @@ pub(crate) fn search_goal(
     alloc: Global,
     nodes: u32,
     task: &Task,
-    goal: &ContextGoal,
+    goal: &Far,
 ) -> Result<Option<FoundFar>, SetErr>
     requires room { IsNodeLimit nodes }
     requires goal { IsGoalOver (fluent_count task.now) goal.now }
@@ -53,7 +49,7 @@ fn search_in_order(
     alloc: Global,
     nodes: u32,
     task: &Task,
-    goal: &ContextGoal,
+    goal: &Far,
 ) -> Result<Option<FoundFar>, SetErr>
     requires room { IsNodeLimit nodes }
     requires goal { IsGoalOver (fluent_count task.now) goal.now }
@@ -68,7 +64,7 @@ fn search_plainly(
     alloc: Global,
     nodes: u32,
     task: &Task,
-    goal: &ContextGoal,
+    goal: &Far,
 ) -> Result<Option<FoundFar>, SetErr>
     requires room { IsNodeLimit nodes }
     requires goal { IsGoalOver (fluent_count task.now) goal.now }
@@ -91,7 +87,7 @@ fn plan_from_initial(
     alloc: Global,
     task: &Task,
     enc: &mut Enc,
-    goal: &ContextGoal,
+    goal: &Far,
 ) -> Result<Option<FoundFar>, SetErr>
     requires made { MadeOf task.now enc.old }
     requires goal { IsGoalOver (fluent_count task.now) goal.now }
@@ -109,12 +105,7 @@ fn plan_from_initial(
 }
 
 /// The plan with contexts of a task for a goal, over the task's sets.
-fn find_contexts(
-    alloc: Global,
-    task: &Task,
-    enc: &mut Enc,
-    goal: &ContextGoal,
-) -> Result<FoundFar, SetErr>
+fn find_contexts(alloc: Global, task: &Task, enc: &mut Enc, goal: &Far) -> Result<FoundFar, SetErr>
     requires made { MadeOf task.now enc.old }
     requires goal { IsGoalOver (fluent_count task.now) goal.now }
     ensures found { IsGoalSearched task.now (sets_of_goal goal.now) result }
@@ -124,40 +115,8 @@ fn find_contexts(
         enc.old.sets enc.new.sets }
 {
     match goal {
-        ContextGoal::Chain(chain) => find_chain(alloc, task, enc, chain),
-        ContextGoal::Far(far) => find_far(alloc, task, enc, far),
-    }
-}
-
-/// The same for an until-chain or a patrol goal.
-fn find_far(alloc: Global, task: &Task, enc: &mut Enc, far: &Far) -> Result<FoundFar, SetErr>
-    requires made { MadeOf task.now enc.old }
-    requires goal { IsGoalOver (fluent_count task.now) (ContextGoal.Far far.now) }
-    ensures found { IsGoalSearched task.now (sets_of_goal (ContextGoal.Far far.now)) result }
-    ensures full { let parts = count_of (ContextGoal.Far far.now) in
-        IsErrOf result SetErr.Full → (w : ℕ) → BoundsGoalSets (ContextGoal.Far far.now) task.now w
-        → NoRoom w (action_count task.now * (parts + 3) + 8 * parts + 236) 16
-        enc.old.sets enc.new.sets }
-{
-    match far {
         Far::Until(chain) => find_until(alloc, task, enc, chain),
         Far::Patrol(visits) => find_patrol(alloc, task, enc, visits.as_slice()),
-    }
-}
-
-/// The same for a chain.
-fn find_chain(alloc: Global, task: &Task, enc: &mut Enc, chain: &Chain) -> Result<FoundFar, SetErr>
-    requires made { MadeOf task.now enc.old }
-    requires chain { IsChainOver (fluent_count task.now) chain.now }
-    ensures found { IsGoalSearched task.now (of_chain (chain_sets chain.now)) result }
-    ensures full { let parts = length chain.now.stages.items in
-        IsErrOf result SetErr.Full → (w : ℕ) → BoundsChainSets w task.now chain.now
-        → NoRoom w (action_count task.now * (parts + 3) + 8 * parts + 236) 16
-        enc.old.sets enc.new.sets }
-{
-    match plan_chain(alloc, task, enc, chain)? {
-        FoundAuto::Plan(plan) => Ok(FoundFar::Plan(plan)),
-        FoundAuto::NoPlan => Ok(FoundFar::NoPlan),
     }
 }
 

@@ -106,10 +106,10 @@ ends_refusal start x chain result e is ends = subst (Ends start x chain) is ends
 
 pub room_of : (start : Start) (now : Encoded) → HasNoRoom (board_of start) now → NoRoom start.width (action_count start.task * (start.stages + 3) + 8 * start.stages + 236) 16 start.enc.sets now.sets
 room_of start now full =
-    room_wider start.enc.sets (place_count (action_count start.task) start.stages + (2 * action_count start.task + 6 * start.stages + 218) + 8) (action_count start.task * (start.stages + 3) + 8 * start.stages + 236) (length rough_places + 4) 16
+    room_wider start.enc.sets (place_count (action_count start.task) start.stages + (action_count start.task + 6 * start.stages + 218) + 8) (action_count start.task * (start.stages + 3) + 8 * start.stages + 236) (length rough_places + 4) 16
     (room (action_count start.task) start.stages) (omega arith) full
   where
-    room : (a n : ℕ) → place_count a n + (2 * a + 6 * n + 218) + 8 ≤ a * (n + 3) + 8 * n + 236
+    room : (a n : ℕ) → place_count a n + (a + 6 * n + 218) + 8 ≤ a * (n + 3) + 8 * n + 236
     room a n = omega arith
 
 -- what a call leaves, whether or not it refuses
@@ -136,7 +136,7 @@ answer_no_plan task chain (Ok (Plan plan)) is = tt
 answer_no_plan task chain (Ok NoPlan) is = is
 answer_no_plan task chain (Err e) is = tt
 
-pub first_places : (task : Task) (enc now : Encoded) (made : MadeOf task enc) (n w places spare : ℕ) (wide : fluent_count task + 2 ≤ w) (slots : List _) → places ≡ place_count (action_count task) n → spare ≡ 2 * action_count task + 6 * n + 218
+pub first_places : (task : Task) (enc now : Encoded) (made : MadeOf task enc) (n w places spare : ℕ) (wide : fluent_count task + 2 ≤ w) (slots : List _) → places ≡ place_count (action_count task) n → spare ≡ action_count task + 6 * n + 218
     → board.HasNothing (record { task = task; enc = enc; made = made; places = places; spare = spare; width = w; wide = wide; rough = rough_places }) now slots → HasNothing (start_of task enc made n w wide) (now, slots)
 first_places task enc now made n w places spare wide slots e f h =
     subst (λ k. board.HasNothing (record { task = task; enc = enc; made = made; places = place_count (action_count task) n; spare = k; width = w; wide = wide; rough = rough_places }) now slots) f

@@ -35,10 +35,10 @@ takers_apart actions stages i j less =
     let step : suc i * actions ≡ i * actions + actions = omega arith in
     omega arith
 
-pub takers_within : (start : Start) (x : Scene) → IsAt start x → (i : ℕ) → i ≤ start.stages → takers_place (action_count start.task) start.stages i + action_count start.task ≤ length x.1
+pub takers_within : (start : Start) (x : Scene) → IsAt start x → (i : ℕ) → i ≤ suc start.stages → takers_place (action_count start.task) start.stages i + action_count start.task ≤ length x.1
 takers_within start x at i few =
-    let apart = takers_apart (action_count start.task) start.stages i (suc start.stages) (omega arith) in
-    let e : length x.1 ≡ takers_place (action_count start.task) start.stages (suc start.stages) = at.long in
+    let apart = takers_apart (action_count start.task) start.stages i (suc (suc start.stages)) (omega arith) in
+    let e : length x.1 ≡ takers_place (action_count start.task) start.stages (suc (suc start.stages)) = at.long in
     omega arith
 
 -- the places beside the guard stay while it is put

@@ -5,6 +5,7 @@ use Rattle.plan_theory.specs.UntilChains.{UntilSets}
 use Rattle.plan_theory.specs.Layers.{must_lead}
 use Rattle.plan_theory.specs.LayerPlans.{is_action}
 use Rattle.plan_theory.specs.StageSets.{near as near_within, stage_action}
+use Rattle.dd_nodes.specs.Subfunctions.{Function}
 use Rattle.dd_sets.specs.Rooms.{Rough}
 use Rattle.encode_task.specs.TaskSets.{exec_set, initial_set, space_set}
 use Rattle.preimage.specs.WorkingSets.{PreimageFits, first_every}
@@ -129,3 +130,7 @@ pub record SearchFits (start : Start) (chain : UntilChain) : Type 0 where
   pub keep : board.ConditionFits (board_of start) chain.keep
   pub stages : (stage : UntilStage) → Contains chain.stages.items stage
       → ConditionsFit start stage
+
+-- every set is small
+abbrev pub EverySetIsSmall : Start → Type 0
+EverySetIsSmall start = (set : Function) → board.IsSmall (board_of start) set
