@@ -1,7 +1,7 @@
 //! The search for a plan with contexts, which is then followed from the initial states.
 
 ghost use Rattle.controller_plan.specs.Followed.{AreReachedWithin, AreSlotsLive, IsTableThere};
-ghost use Rattle.ctl_syntax.specs.FarValues.{FarIsAtMostDeep, FarNamesBelow};
+ghost use Rattle.ctl_syntax.specs.GoalValues.{GoalIsAtMostDeep, GoalNamesBelow};
 ghost use Rattle.ctl_syntax.specs.Values.{IsAtMostDeep, NamesBelow, ctl_value};
 ghost use Rattle.encode_task.specs.Made.{MadeOf};
 ghost use Rattle.mbp_top.specs.GoalConditions.{HasSomeVisit, IsGoalOver, count_of, most_of};
@@ -15,12 +15,12 @@ ghost use Rattle.task_core.specs.Tasks.{action_count, fluent_count};
 
 use crate::followed::Followed;
 use crate::searches::{Stop, begun};
-use ctl_syntax::{Ctl, Far, UntilChain, as_far};
+use ctl_syntax::{Ctl, ContextGoal, UntilChain, as_context_goal};
 use dd_sets::SetErr;
 use encode_task::{Enc, encode};
 use ground_task::Grounded;
 use mbp_top::encode_ordered;
-use patrol_plan::{FoundFar, plan_patrol, rule_place, rule_sets, until_takers};
+use patrol_plan::{FoundAuto, plan_patrol, rule_place, rule_sets, until_takers};
 use plan_guide::Guide;
 use plan_rules::Plan;
 use slot_board::Board;
@@ -57,8 +57,8 @@ fn follow_goal(alloc: Global, nodes: u32, task: &Task, goal: &Ctl) -> Result<Opt
     requires names { NamesBelow (fluent_count task.now) (ctl_value goal.now) }
     requires shallow { IsAtMostDeep 199 (ctl_value goal.now) }
 {
-    match as_far(alloc, goal)? {
-        Some(far) => follow_far(alloc, nodes, task, &far),
+    match as_context_goal(alloc, goal)? {
+        Some(goal) => follow_parts(alloc, nodes, task, &goal),
         None => Ok(None),
     }
 }
@@ -66,28 +66,28 @@ fn follow_goal(alloc: Global, nodes: u32, task: &Task, goal: &Ctl) -> Result<Opt
 /// What the plan with contexts for an until-chain or a patrol goal reaches, if it has few stages or
 /// visits and there is one: over variables in an order that is chosen for the task, and where there
 /// is no room or no memory for that, once more from nothing, over the fluents in their own order.
-fn follow_far(alloc: Global, nodes: u32, task: &Task, far: &Far) -> Result<Option<Followed>, Stop>
+fn follow_parts(alloc: Global, nodes: u32, task: &Task, goal: &ContextGoal) -> Result<Option<Followed>, Stop>
     requires room { IsNodeLimit nodes }
-    requires names { FarNamesBelow (fluent_count task.now) far.now }
-    requires shallow { FarIsAtMostDeep 200 far.now }
+    requires names { GoalNamesBelow (fluent_count task.now) goal.now }
+    requires shallow { GoalIsAtMostDeep 200 goal.now }
 {
-    if !is_short(far) {
+    if !is_short(goal) {
         return Ok(None);
     }
-    match follow_in_order(alloc, nodes, task, far) {
-        Err(Stop::Full | Stop::Memory) => follow_plainly(alloc, nodes, task, far),
+    match follow_in_order(alloc, nodes, task, goal) {
+        Err(Stop::Full | Stop::Memory) => follow_plainly(alloc, nodes, task, goal),
         answer => answer,
     }
 }
 
 /// Whether it has few stages, or few visits and at least one.
-fn is_short(far: &Far) -> bool
-    ensures few { IsTrue result → count_of far.now ≤ most_of far.now }
-    ensures some { IsTrue result → HasSomeVisit far.now }
+fn is_short(goal: &ContextGoal) -> bool
+    ensures few { IsTrue result → count_of goal.now ≤ most_of goal.now }
+    ensures some { IsTrue result → HasSomeVisit goal.now }
 {
-    match far {
-        Far::Until(chain) => chain.stages.len() <= MOST_STAGES,
-        Far::Patrol(visits) => !visits.is_empty() && visits.len() <= MOST_VISITS,
+    match goal {
+        ContextGoal::Until(chain) => chain.stages.len() <= MOST_STAGES,
+        ContextGoal::Patrol(visits) => !visits.is_empty() && visits.len() <= MOST_VISITS,
     }
 }
 
@@ -96,13 +96,13 @@ fn follow_in_order(
     alloc: Global,
     nodes: u32,
     task: &Task,
-    far: &Far,
+    goal: &ContextGoal,
 ) -> Result<Option<Followed>, Stop>
     requires room { IsNodeLimit nodes }
-    requires goal { IsGoalOver (fluent_count task.now) far.now }
+    requires goal { IsGoalOver (fluent_count task.now) goal.now }
 {
     let mut enc = encode_ordered(alloc, task, nodes)?;
-    follow_parts(alloc, task, &mut enc, far)
+    follow_over_sets(alloc, task, &mut enc, goal)
 }
 
 /// The second try: over the fluents in their own order.
@@ -110,28 +110,28 @@ fn follow_plainly(
     alloc: Global,
     nodes: u32,
     task: &Task,
-    far: &Far,
+    goal: &ContextGoal,
 ) -> Result<Option<Followed>, Stop>
     requires room { IsNodeLimit nodes }
-    requires goal { IsGoalOver (fluent_count task.now) far.now }
+    requires goal { IsGoalOver (fluent_count task.now) goal.now }
 {
     let mut enc = encode(alloc, task, nodes)?;
-    follow_parts(alloc, task, &mut enc, far)
+    follow_over_sets(alloc, task, &mut enc, goal)
 }
 
 /// The same over the task's sets.
-fn follow_parts(
+fn follow_over_sets(
     alloc: Global,
     task: &Task,
     enc: &mut Enc,
-    far: &Far,
+    goal: &ContextGoal,
 ) -> Result<Option<Followed>, Stop>
     requires made { MadeOf task.now enc.old }
-    requires goal { IsGoalOver (fluent_count task.now) far.now }
+    requires goal { IsGoalOver (fluent_count task.now) goal.now }
 {
-    match far {
-        Far::Until(chain) => follow_stages(alloc, task, enc, chain),
-        Far::Patrol(visits) => follow_visits(alloc, task, enc, visits.as_slice()),
+    match goal {
+        ContextGoal::Until(chain) => follow_stages(alloc, task, enc, chain),
+        ContextGoal::Patrol(visits) => follow_visits(alloc, task, enc, visits.as_slice()),
     }
 }
 
@@ -263,17 +263,17 @@ fn follow_visits(
 }
 
 /// What the plan reaches that was found, if one was.
-fn follow_found(alloc: Global, task: &Task, found: FoundFar) -> Result<Option<Followed>, Stop>
+fn follow_found(alloc: Global, task: &Task, found: FoundAuto) -> Result<Option<Followed>, Stop>
     requires { IfPlan found (λ plan. IsAutomatonOf (fluent_count task.now) (action_count task.now)
         plan.contexts (context_rules_of plan)) }
 {
     match found {
-        FoundFar::Plan(plan) => {
+        FoundAuto::Plan(plan) => {
             let contexts = plan.contexts;
             let followed = follow_plan(alloc, task, &Plan::Auto(plan), contexts)?;
             Ok(Some(followed))
         }
-        FoundFar::NoPlan => Ok(None),
+        FoundAuto::NoPlan => Ok(None),
     }
 }
 

@@ -5,13 +5,13 @@ use Rattle.std.specs.Prelude.{nat_le}
 use Rattle.std.proofs.lemmas.Bool.{le-leb}
 use Rattle.std.proofs.lemmas.List.Elements.{All-weaker}
 use Rattle.ctl_syntax.specs.Conditions.{CondTree, condition_value}
-use Rattle.ctl_syntax.specs.FarGoals.{PlainFar, far_of, map_far}
-use Rattle.ctl_syntax.specs.FarValues.{EachInStage, EachInUntil, FarIsAtMostDeep, FarNamesBelow, FarTree, far_conditions, far_value}
+use Rattle.ctl_syntax.specs.ContextGoals.{PlainGoal, plain_goal, map_goal}
+use Rattle.ctl_syntax.specs.GoalValues.{EachInStage, EachInUntil, GoalIsAtMostDeep, GoalNamesBelow, GoalTree, goal_conditions, tree_of_goal}
 use Rattle.ctl_syntax.specs.Goals.{CtlTree}
 use Rattle.ctl_syntax.specs.Values.{ctl_value}
-use Rattle.ctl_syntax.specs.declared.far.Far.{Far}
-use Rattle.ctl_syntax.specs.declared.far.Far.TheVariants.{Patrol, Until}
-use Rattle.ctl_syntax.specs.declared.far.UntilStage.{UntilStage}
+use Rattle.ctl_syntax.specs.declared.context_goals.ContextGoal.{ContextGoal}
+use Rattle.ctl_syntax.specs.declared.context_goals.ContextGoal.TheVariants.{Patrol, Until}
+use Rattle.ctl_syntax.specs.declared.context_goals.UntilStage.{UntilStage}
 use Rattle.ctl_syntax.specs.declared.goals.Ctl.{Ctl}
 use Rattle.patrol_plan.specs.Chains.{IsPatrolOver, IsUntilOver}
 use Rattle.pddl_ast.specs.Trees.{DomainTree, FormulaTree, ProblemTree, TemporalTree}
@@ -37,7 +37,7 @@ use Rattle.mbp_top.specs.Answers.{Answer, affirmed, over_limit, refused, text_fa
 use Rattle.mbp_top.specs.ContextGoals.{context_goal, is_short_goal, most_parts, part_count, stage_count}
 use Rattle.mbp_top.specs.Enough.{IsTightForGoal, IsTightLimit, IsTightPlan}
 use Rattle.mbp_top.specs.FoundGoals.{IsGoalMissing, IsGoalResult, IsGoalShown, IsPlanFor, StandsForGoal}
-use Rattle.mbp_top.specs.GoalConditions.{HasSomeVisit, IsGoalOver, count_of, grounded_far, grounded_formula, limit_of_goal, most_of, sets_of_goal}
+use Rattle.mbp_top.specs.GoalConditions.{HasSomeVisit, IsGoalOver, count_of, grounded_parts, grounded_formula, limit_of_goal, most_of, sets_of_goal}
 use Rattle.mbp_top.specs.GoalSets.{GoalSets, HasNoGoalPlan, IsGoalPlan, contexts_for, rules_for}
 use Rattle.mbp_top.specs.Grounded.{IsTaskOf}
 use Rattle.mbp_top.specs.InitialStates.{empty_init}
@@ -46,69 +46,69 @@ use Rattle.mbp_top.specs.PlanCommand.{IsPlanFound, IsPlanMissing, IsPlanResult, 
 use Rattle.mbp_top.specs.TemporalGoals.{HasGoal}
 use Rattle.mbp_top.specs.Words.{Bytes, PlanKind, PlanWords, with_contexts}
 use Rattle.mbp_top.proofs.CheckAnswers.{goal_behind}
-use Rattle.ctl_syntax.proofs.FarMapped.{far_of_mapped}
+use Rattle.ctl_syntax.proofs.GoalMapped.{goal_of_mapped}
 use Rattle.mbp_top.proofs.GoalParts.{IsAlikeGoal, goal_alike, has_visit, same_tree}
 use Rattle.mbp_top.proofs.GoalSets.{same_counts, same_sets}
 use Rattle.mbp_top.proofs.Listings.{same_actions, same_fluents}
 use Rattle.mbp_top.proofs.Meetings.{contexts_meet, no_contexts}
 
 -- what the task's goal and that of the text have in common
-record Pair (d : DomainTree) (p : ProblemTree) (tree : FarTree) (theirs : Option (PlainFar FormulaTree)) : Type 0 where
-  parts : PlainFar FormulaTree
+record Pair (d : DomainTree) (p : ProblemTree) (tree : GoalTree) (theirs : Option (PlainGoal FormulaTree)) : Type 0 where
+  parts : PlainGoal FormulaTree
   of_text : theirs ≡ Some parts
-  same : tree ≡ grounded_far d p parts
+  same : tree ≡ grounded_parts d p parts
 
-one_tree : (s t : FarTree) → Some s ≡ Some t → s ≡ t
+one_tree : (s t : GoalTree) → Some s ≡ Some t → s ≡ t
 one_tree s t same = cc
 
-one_image : (s t : PlainFar CondTree) → Some s ≡ Some t → s ≡ t
+one_image : (s t : PlainGoal CondTree) → Some s ≡ Some t → s ≡ t
 one_image s t same = cc
 
-pair_of : (d : DomainTree) (p : ProblemTree) (tree : FarTree) (ours : Option (PlainFar Cond)) (theirs : Option (PlainFar FormulaTree)) → Some tree ≡ option_map far_conditions ours
-    → option_map (map_far condition_value) ours ≡ option_map (map_far (grounded_formula d p)) theirs → Pair d p tree theirs
+pair_of : (d : DomainTree) (p : ProblemTree) (tree : GoalTree) (ours : Option (PlainGoal Cond)) (theirs : Option (PlainGoal FormulaTree)) → Some tree ≡ option_map goal_conditions ours
+    → option_map (map_goal condition_value) ours ≡ option_map (map_goal (grounded_formula d p)) theirs → Pair d p tree theirs
 pair_of d p tree None theirs is same = absurd (cc is)
 pair_of d p tree (Some conds) None is same = absurd (cc same)
 pair_of d p tree (Some conds) (Some parts) is same = record {
   parts = parts;
   of_text = refl;
-  same = one_tree tree (far_conditions conds) is
-      ∙ same_tree d p conds parts (one_image (map_far condition_value conds) (map_far (grounded_formula d p) parts) same);
+  same = one_tree tree (goal_conditions conds) is
+      ∙ same_tree d p conds parts (one_image (map_goal condition_value conds) (map_goal (grounded_formula d p) parts) same);
 }
 
-neither : (d : DomainTree) (p : ProblemTree) (ours : Option (PlainFar Cond)) (theirs : Option (PlainFar FormulaTree)) → None ≡ option_map far_conditions ours
-    → option_map (map_far condition_value) ours ≡ option_map (map_far (grounded_formula d p)) theirs → theirs ≡ None
+neither : (d : DomainTree) (p : ProblemTree) (ours : Option (PlainGoal Cond)) (theirs : Option (PlainGoal FormulaTree)) → None ≡ option_map goal_conditions ours
+    → option_map (map_goal condition_value) ours ≡ option_map (map_goal (grounded_formula d p)) theirs → theirs ≡ None
 neither d p None None is same = refl
 neither d p None (Some parts) is same = absurd (cc same)
 neither d p (Some conds) theirs is same = absurd (cc is)
 
 -- the goals have the same parts, as trees of conditions
 same_goal : (d : DomainTree) (p : ProblemTree) (goal : Ctl) (g : TemporalTree) → goal_value goal ≡ grounded_goal (setting d p) (fluents d p) g
-    → option_map (map_far condition_value) (far_of (ctl_value goal)) ≡ option_map (map_far (grounded_formula d p)) (far_of (ctl_tree g))
+    → option_map (map_goal condition_value) (plain_goal (ctl_value goal)) ≡ option_map (map_goal (grounded_formula d p)) (plain_goal (ctl_tree g))
 same_goal d p goal g is =
-    sym (far_of_mapped condition_value (ctl_value goal))
-    ∙ (ap (λ (t : CtlTree CondTree). far_of t) is ∙ far_of_mapped (grounded_formula d p) (ctl_tree g))
+    sym (goal_of_mapped condition_value (ctl_value goal))
+    ∙ (ap (λ (t : CtlTree CondTree). plain_goal t) is ∙ goal_of_mapped (grounded_formula d p) (ctl_tree g))
 
-text_goal : (p : ProblemTree) (g : TemporalTree) → p.ctl ≡ Some g → context_goal p ≡ far_of (ctl_tree g)
-text_goal p g is = ap (λ (o : Option TemporalTree). option_and_then (λ goal. far_of (ctl_tree goal)) o) is
+text_goal : (p : ProblemTree) (g : TemporalTree) → p.ctl ≡ Some g → context_goal p ≡ plain_goal (ctl_tree g)
+text_goal p g is = ap (λ (o : Option TemporalTree). option_and_then (λ goal. plain_goal (ctl_tree goal)) o) is
 
 -- the goal is none that plans with contexts are looked for
-pub no_goal_found : (d : DomainTree) (p : ProblemTree) (goal : Ctl) → Some (goal_value goal) ≡ ctl_goal_of d p → None ≡ option_map far_conditions (far_of (ctl_value goal)) → context_goal p ≡ None
+pub no_goal_found : (d : DomainTree) (p : ProblemTree) (goal : Ctl) → Some (goal_value goal) ≡ ctl_goal_of d p → None ≡ option_map goal_conditions (plain_goal (ctl_value goal)) → context_goal p ≡ None
 no_goal_found d p goal stands none =
     let behind = goal_behind d p goal p.ctl stands in
-    text_goal p behind.0 behind.1 ∙ neither d p (far_of (ctl_value goal)) (far_of (ctl_tree behind.0)) none (same_goal d p goal behind.0 behind.2)
+    text_goal p behind.0 behind.1 ∙ neither d p (plain_goal (ctl_value goal)) (plain_goal (ctl_tree behind.0)) none (same_goal d p goal behind.0 behind.2)
 
 -- or one
-pub goal_stands : GroundedGoalsAreTrue → (d : DomainTree) (p : ProblemTree) (goal : Ctl) (found : Far) → Some (goal_value goal) ≡ ctl_goal_of d p
-    → Some (far_value found) ≡ option_map far_conditions (far_of (ctl_value goal)) → StandsForGoal d p found
+pub goal_stands : GroundedGoalsAreTrue → (d : DomainTree) (p : ProblemTree) (goal : Ctl) (found : ContextGoal) → Some (goal_value goal) ≡ ctl_goal_of d p
+    → Some (tree_of_goal found) ≡ option_map goal_conditions (plain_goal (ctl_value goal)) → StandsForGoal d p found
 goal_stands law d p goal found stands is =
     let behind = goal_behind d p goal p.ctl stands in
-    let pair = pair_of d p (far_value found) (far_of (ctl_value goal)) (far_of (ctl_tree behind.0)) is (same_goal d p goal behind.0 behind.2) in
+    let pair = pair_of d p (tree_of_goal found) (plain_goal (ctl_value goal)) (plain_goal (ctl_tree behind.0)) is (same_goal d p goal behind.0 behind.2) in
     let alike : IsAlikeGoal (ctl_value goal) found = goal_alike (ctl_value goal) found is in
     let of_text = text_goal p behind.0 behind.1 ∙ pair.of_text in
     record {
       parts = pair.parts;
       is = of_text;
-      conditions = ap Some pair.same ∙ sym (ap (λ (o : Option (PlainFar FormulaTree)). option_map (grounded_far d p) o) of_text);
+      conditions = ap Some pair.same ∙ sym (ap (λ (o : Option (PlainGoal FormulaTree)). option_map (grounded_parts d p) o) of_text);
       counts = same_counts d p found pair.parts pair.same (has_visit (ctl_tree behind.0) pair.parts pair.of_text);
       sets = same_sets d p found pair.parts pair.same;
       temporal = behind.0;
@@ -123,7 +123,7 @@ one_goal : (s t : TemporalTree) → Some s ≡ Some t → s ≡ t
 one_goal s t same = cc
 
 -- a plan that has the goal's sets meets the problem's goal, and the other way round
-module _ (d : DomainTree) (p : ProblemTree) (goal : Far) (s : StandsForGoal d p goal) where
+module _ (d : DomainTree) (p : ProblemTree) (goal : ContextGoal) (s : StandsForGoal d p goal) where
   meets : (plan : ContextPlan) → IsGoalPlan (system d p) (sets_of_goal goal) plan → Meets with_contexts d p (contextual plan)
   meets plan has = (s.temporal, s.temporal_is, record { complete = has.complete; has = λ x initial. (s.alike plan x).1 (has.has x initial) })
 
@@ -204,11 +204,11 @@ module _ (d : DomainTree) (p : ProblemTree) (goal : Far) (s : StandsForGoal d p 
 
   short : count_of goal ≤ most_of goal → is_short_goal p ≡ true
   short few =
-      ap (λ (o : Option (PlainFar FormulaTree)). option_map_or (λ g. nat_le (part_count g) (most_parts g)) o false) s.is
+      ap (λ (o : Option (PlainGoal FormulaTree)). option_map_or (λ g. nat_le (part_count g) (most_parts g)) o false) s.is
       ∙ le-leb (part_count s.parts) (most_parts s.parts) (few_parts few)
 
   counted : count_of goal ≡ stage_count p
-  counted = s.counts.count ∙ sym (ap (λ (o : Option (PlainFar FormulaTree)). option_map_or part_count o 0) s.is)
+  counted = s.counts.count ∙ sym (ap (λ (o : Option (PlainGoal FormulaTree)). option_map_or part_count o 0) s.is)
 
   -- the nodes may be too few
   pub few_nodes : (asked : PlanWords) (t : Task) → asked.kind ≡ with_contexts → IsTaskOf d p t → count_of goal ≤ most_of goal
@@ -238,7 +238,7 @@ all_shallow conds deep = All-weaker (λ (c : Cond). depth c ≤ 200) (λ (c : Co
 stage_shallow : (stage : UntilStage) → EachInStage (λ (c : Cond). depth c ≤ 200) stage → EachInStage (λ (c : Cond). is_shallow c ≡ true) stage
 stage_shallow stage deep = record { guard = shallow_within stage.guard deep.guard; target = shallow_within stage.target deep.target }
 
-pub over_task : (n : ℕ) (goal : Far) → count_of goal ≤ most_of goal → HasSomeVisit goal → FarNamesBelow n goal → FarIsAtMostDeep 200 goal → IsGoalOver n goal
+pub over_task : (n : ℕ) (goal : ContextGoal) → count_of goal ≤ most_of goal → HasSomeVisit goal → GoalNamesBelow n goal → GoalIsAtMostDeep 200 goal → IsGoalOver n goal
 over_task n (Until chain) few some names deep = record {
   few = few;
   names = names;
@@ -250,17 +250,17 @@ over_task n (Until chain) few some names deep = record {
 over_task n (Patrol visits) few some names deep = record { some = some; few = few; names = names; shallow = all_shallow visits.items deep }
 
 -- by the kind that is asked for
-pub goal_then : (d : DomainTree) (p : ProblemTree) (goal : Far) (s : StandsForGoal d p goal) (asked : PlanWords) (t : Task) (a : Answer) → asked.kind ≡ with_contexts
+pub goal_then : (d : DomainTree) (p : ProblemTree) (goal : ContextGoal) (s : StandsForGoal d p goal) (asked : PlanWords) (t : Task) (a : Answer) → asked.kind ≡ with_contexts
     → IsTaskOf d p t → count_of goal ≤ most_of goal → initial_states t ≢ [] → IsGoalResult t (sets_of_goal goal) a → PlanThen asked d p a
 goal_then d p goal s asked t a kind of few some r =
     subst (λ (k : PlanKind). IsResultOf asked.certified k asked.problem d p a) (sym kind) (goal_answer d p goal s asked.certified asked.problem t a of few some r)
 
-pub empty_then : (d : DomainTree) (p : ProblemTree) (goal : Far) (s : StandsForGoal d p goal) (asked : PlanWords) (t : Task) (a : Answer) → asked.kind ≡ with_contexts
+pub empty_then : (d : DomainTree) (p : ProblemTree) (goal : ContextGoal) (s : StandsForGoal d p goal) (asked : PlanWords) (t : Task) (a : Answer) → asked.kind ≡ with_contexts
     → IsTaskOf d p t → count_of goal ≤ most_of goal → initial_states t ≡ [] → a ≡ refused (empty_init asked.problem p) → PlanThen asked d p a
 empty_then d p goal s asked t a kind of few none is =
     subst (λ (k : PlanKind). IsResultOf asked.certified k asked.problem d p a) (sym kind) (goal_without_initial d p goal s asked.certified asked.problem t a of few none is)
 
-pub too_many_then : (d : DomainTree) (p : ProblemTree) (goal : Far) (s : StandsForGoal d p goal) (asked : PlanWords) (a : Answer) → asked.kind ≡ with_contexts
+pub too_many_then : (d : DomainTree) (p : ProblemTree) (goal : ContextGoal) (s : StandsForGoal d p goal) (asked : PlanWords) (a : Answer) → asked.kind ≡ with_contexts
     → most_of goal < count_of goal → a ≡ refused (over_limit (limit_of_goal goal)) → PlanThen asked d p a
 too_many_then d p goal s asked a kind many is =
     subst (λ (k : PlanKind). IsResultOf asked.certified k asked.problem d p a) (sym kind) (too_many_parts d p goal s asked.certified asked.problem a many is)

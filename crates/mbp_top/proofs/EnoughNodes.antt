@@ -3,8 +3,8 @@
 use Rattle.std.proofs.Common.{◌≡◌, ◌≤◌, ◌<◌, ◌+◌, ◌*◌, ◌^◌, ℕ, zero, suc, [], subst, sym, arith}
 use native.Mathlib.Nat.{pow-succ'}
 use Rattle.std.proofs.Math.Nat.{mul-le-mul_right}
-use Rattle.ctl_syntax.specs.declared.far.Far.{Far}
-use Rattle.ctl_syntax.specs.declared.far.Far.TheVariants.{Patrol, Until}
+use Rattle.ctl_syntax.specs.declared.context_goals.ContextGoal.{ContextGoal}
+use Rattle.ctl_syntax.specs.declared.context_goals.ContextGoal.TheVariants.{Patrol, Until}
 use Rattle.cyclic_plan.specs.WorkingSets.IsWorkingSet.{by_task as of_cyclic}
 use Rattle.dd_nodes.specs.Subfunctions.{nodes}
 use Rattle.dd_sets.proofs.SizeLemmas.{every_small}
@@ -95,15 +95,15 @@ all_bounds Weak t = record { wide = more_lists (fluent_count t); each = λ set m
 all_bounds Strong t = record { wide = more_lists (fluent_count t); each = λ set made. every_small (fluent_count t) set }
 all_bounds Cyclic t = record { wide = more_lists (fluent_count t); each = λ set made. every_small (fluent_count t) set }
 
-pub all_goal_bounds : (goal : Far) (t : Task) → BoundsGoalSets goal t (2 ^ fluent_count t + 1)
+pub all_goal_bounds : (goal : ContextGoal) (t : Task) → BoundsGoalSets goal t (2 ^ fluent_count t + 1)
 all_goal_bounds (Until chain) t = record { fluents = more_lists (fluent_count t); small = λ set made. every_small (fluent_count t) set }
 all_goal_bounds (Patrol visits) t = record { fluents = more_lists (fluent_count t); small = λ set made. every_small (fluent_count t) set }
 
-wide_of_goal : (goal : Far) (t : Task) (w : ℕ) → BoundsGoalSets goal t w → fluent_count t + 2 ≤ w
+wide_of_goal : (goal : ContextGoal) (t : Task) (w : ℕ) → BoundsGoalSets goal t w → fluent_count t + 2 ≤ w
 wide_of_goal (Until chain) t w bounds = bounds.fluents
 wide_of_goal (Patrol visits) t w bounds = bounds.fluents
 
-small_of_goal : (goal : Far) (t : Task) (w : ℕ) → BoundsGoalSets goal t w → AreSmall (fluent_count t) w (IsMadeByEncode t)
+small_of_goal : (goal : ContextGoal) (t : Task) (w : ℕ) → BoundsGoalSets goal t w → AreSmall (fluent_count t) w (IsMadeByEncode t)
 small_of_goal (Until chain) t w bounds = λ set made. bounds.small set (of_until set made)
 small_of_goal (Patrol visits) t w bounds = λ set made. bounds.small set (of_patrol set made)
 
@@ -123,7 +123,7 @@ module _ (monotone : TightIsMonotone) (t : Task) (limit : ℕ)
     by_sets = λ w bounds. few_for_sets t 0 w limit (by_sets w (wide_of class t w bounds) (task_small class t w bounds));
   }
 
-  pub goal_at_sets : (goal : Far) → IsTightForGoal goal limit t
+  pub goal_at_sets : (goal : ContextGoal) → IsTightForGoal goal limit t
   goal_at_sets goal =
       let n = count_of goal in
       record {
@@ -150,7 +150,7 @@ module _ (monotone : TightIsMonotone) (tight_law : NoRoomIsTight) (small_law : N
     by_sets = λ w bounds. few_by_sets 0 (3 * action_count t + 32) w (omega arith) (none w bounds);
   }
 
-  pub goal_at_search : (goal : Far)
+  pub goal_at_search : (goal : ContextGoal)
       → ((w : ℕ) → BoundsGoalSets goal t w
       → NoRoom w (action_count t * (count_of goal + 3) + 8 * count_of goal + 236) 16 sets after) → IsTightForGoal goal limit t
   goal_at_search goal none =

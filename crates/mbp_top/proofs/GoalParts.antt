@@ -3,22 +3,21 @@
 use Rattle.std.proofs.Common.{◌≡◌, ◌↔◌, ℕ, ◌≤◌, List, [], ◌∷◌, map, length, Option, Some, None, refl, sym, subst, ap, ◌∙◌, arith, true}
 use Rattle.std.specs.Prelude.{⊤}
 use Rattle.std.specs.Option.{option_map, option_map_or, option_or}
-use Rattle.ctl_syntax.specs.ChainValues.{states_of}
-use Rattle.ctl_syntax.specs.Conditions.{CondTree, all_of, condition_row, condition_value}
-use Rattle.ctl_syntax.specs.FarGoals.{PlainFar, far_of, map_far, plain_patrol, plain_until}
-use Rattle.ctl_syntax.specs.FarValues.{FarTree, far_conditions, far_value, patrol_goal, until_chain}
+use Rattle.ctl_syntax.specs.Conditions.{CondTree, all_of, condition_row, condition_value, states_of}
+use Rattle.ctl_syntax.specs.ContextGoals.{PlainGoal, plain_goal, map_goal, plain_patrol, plain_until}
+use Rattle.ctl_syntax.specs.GoalValues.{GoalTree, goal_conditions, tree_of_goal, patrol_goal, until_chain}
 use Rattle.ctl_syntax.specs.Goals.{CtlTree, CtlTrees, af, ag, all, goal_then, no_goal, plain}
 use Rattle.ctl_syntax.specs.Patrols.{patrol_of, visits_of}
 use Rattle.ctl_syntax.specs.Truth.{Satisfies}
 use Rattle.ctl_syntax.specs.UntilChains.{GuardedStage, PlainStage, PlainUntil, map_stage, until_of}
-use Rattle.ctl_syntax.specs.declared.far.Far.{Far}
-use Rattle.ctl_syntax.specs.declared.far.Far.TheVariants.{Patrol, Until}
-use Rattle.ctl_syntax.proofs.FarConditions.{true_alike}
+use Rattle.ctl_syntax.specs.declared.context_goals.ContextGoal.{ContextGoal}
+use Rattle.ctl_syntax.specs.declared.context_goals.ContextGoal.TheVariants.{Patrol, Until}
+use Rattle.ctl_syntax.proofs.GoalConditions.{true_alike}
 use Rattle.pddl_ast.specs.Trees.{DomainTree, FormulaTree, ProblemTree}
 use Rattle.task_core.specs.ContextPlans.{Configuration, ContextPlan, Follows}
 use Rattle.task_core.specs.Systems.{System}
 use Rattle.task_core.specs.declared.conditions.Cond.{Cond}
-use Rattle.mbp_top.specs.GoalConditions.{grounded_far, grounded_formula, sets_of_goal}
+use Rattle.mbp_top.specs.GoalConditions.{grounded_parts, grounded_formula, sets_of_goal}
 use Rattle.mbp_top.specs.GoalSets.{HasSets}
 
 pub map_map : {X Y Z : Type 0} (g : Y → Z) (h : X → Y) (xs : List X) → map g (map h xs) ≡ map (λ x. g (h x)) xs
@@ -35,7 +34,7 @@ conjunction trees = all_of (condition_row trees)
 
 -- the tree of a goal, with the tree of each proposition
 module _ {X : Type 0} (h : X → CondTree) where
-  abbrev tree_with : PlainFar X → FarTree
+  abbrev tree_with : PlainGoal X → GoalTree
   tree_with (plain_until c) = until_chain (record {
     stages = map (λ (s : PlainStage X). record { guard = option_map_or h s.guard (conjunction []); target = conjunction (map h s.targets) }) c.stages;
     keep = option_map_or h c.keep (conjunction []);
@@ -69,7 +68,7 @@ module _ {X : Type 0} (h : X → CondTree) where
       let target = stage_trees s.targets in
       λ i. record { guard = guard i; target = target i }
 
-  pub tree_of_mapped : (g : PlainFar X) → tree_with h g ≡ tree_with itself (map_far h g)
+  pub tree_of_mapped : (g : PlainGoal X) → tree_with h g ≡ tree_with itself (map_goal h g)
   tree_of_mapped (plain_until c) =
       let stages = map_same guarded_tree guarded_image c.stages guarded_same
       ∙ sym (map_map (λ (s : PlainStage CondTree). record { guard = option_map_or itself s.guard (conjunction []); target = conjunction (map itself s.targets) }) (map_stage h) c.stages) in
@@ -77,36 +76,36 @@ module _ {X : Type 0} (h : X → CondTree) where
       λ i. until_chain (record { stages = stages i; keep = keep i })
   tree_of_mapped (plain_patrol xs) = ap (λ (ts : List CondTree). patrol_goal ts) (sym (map_itself (map h xs)))
 
-conditions_tree : (g : PlainFar Cond) → far_conditions g ≡ tree_with condition_value g
+conditions_tree : (g : PlainGoal Cond) → goal_conditions g ≡ tree_with condition_value g
 conditions_tree (plain_until c) = refl
 conditions_tree (plain_patrol xs) = refl
 
-grounded_tree : (d : DomainTree) (p : ProblemTree) (g : PlainFar FormulaTree) → grounded_far d p g ≡ tree_with (grounded_formula d p) g
+grounded_tree : (d : DomainTree) (p : ProblemTree) (g : PlainGoal FormulaTree) → grounded_parts d p g ≡ tree_with (grounded_formula d p) g
 grounded_tree d p (plain_until c) = refl
 grounded_tree d p (plain_patrol xs) = refl
 
 -- one image, one tree
-pub same_tree : (d : DomainTree) (p : ProblemTree) (conds : PlainFar Cond) (parts : PlainFar FormulaTree)
-    → map_far condition_value conds ≡ map_far (grounded_formula d p) parts → far_conditions conds ≡ grounded_far d p parts
+pub same_tree : (d : DomainTree) (p : ProblemTree) (conds : PlainGoal Cond) (parts : PlainGoal FormulaTree)
+    → map_goal condition_value conds ≡ map_goal (grounded_formula d p) parts → goal_conditions conds ≡ grounded_parts d p parts
 same_tree d p conds parts same =
     conditions_tree conds
     ∙ (tree_of_mapped condition_value conds
-    ∙ (ap (λ (g : PlainFar CondTree). tree_with itself g) same
+    ∙ (ap (λ (g : PlainGoal CondTree). tree_with itself g) same
     ∙ (sym (tree_of_mapped (grounded_formula d p) parts)
     ∙ sym (grounded_tree d p parts))))
 
 -- the goal is true where its sets are met
-abbrev pub IsAlikeGoal : CtlTree Cond → Far → Type 0
+abbrev pub IsAlikeGoal : CtlTree Cond → ContextGoal → Type 0
 IsAlikeGoal goal found =
     (sys : System) (plan : ContextPlan) (x : Configuration)
     → Satisfies (Follows sys plan) (λ (cond : Cond) (y : Configuration). states_of cond y.state ≡ true) goal x ↔ HasSets sys plan (sets_of_goal found) x
 
-pub goal_alike : (goal : CtlTree Cond) (found : Far) → Some (far_value found) ≡ option_map far_conditions (far_of goal) → IsAlikeGoal goal found
+pub goal_alike : (goal : CtlTree Cond) (found : ContextGoal) → Some (tree_of_goal found) ≡ option_map goal_conditions (plain_goal goal) → IsAlikeGoal goal found
 goal_alike goal (Until chain) is = λ sys plan x. true_alike goal (Until chain) is sys plan x
 goal_alike goal (Patrol visits) is = λ sys plan x. true_alike goal (Patrol visits) is sys plan x
 
 -- a patrol goal has a visit
-abbrev pub HasVisit : {P : Type 0} → PlainFar P → Type 0
+abbrev pub HasVisit : {P : Type 0} → PlainGoal P → Type 0
 HasVisit (plain_until chain) = ⊤
 HasVisit (plain_patrol visits) = 1 ≤ length visits
 
@@ -129,7 +128,7 @@ module _ {P : Type 0} where
   some_patrol (ag (all gs)) = some_visits gs
   some_patrol g = tt
 
-  visit_among : (parts : PlainFar P) (u : Option (PlainUntil P)) (v : Option (List P)) → AreSome v → option_or (option_map plain_until u) (option_map plain_patrol v) ≡ Some parts → HasVisit parts
+  visit_among : (parts : PlainGoal P) (u : Option (PlainUntil P)) (v : Option (List P)) → AreSome v → option_or (option_map plain_until u) (option_map plain_patrol v) ≡ Some parts → HasVisit parts
   visit_among (plain_until c) u v some is = tt
   visit_among (plain_patrol ps) (Some c) v some is = absurd (let inner : plain_until c ≡ plain_patrol ps = cc in cc inner)
   visit_among (plain_patrol ps) None None some is = absurd (cc is)
@@ -138,5 +137,5 @@ module _ {P : Type 0} where
       let same : qs ≡ ps = cc in
       subst (λ (xs : List P). 1 ≤ length xs) same some
 
-  pub has_visit : (g : CtlTree P) (parts : PlainFar P) → far_of g ≡ Some parts → HasVisit parts
+  pub has_visit : (g : CtlTree P) (parts : PlainGoal P) → plain_goal g ≡ Some parts → HasVisit parts
   has_visit g parts is = visit_among parts (until_of g) (patrol_of g) (some_patrol g) is

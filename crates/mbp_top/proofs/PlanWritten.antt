@@ -16,7 +16,7 @@ use Rattle.mbp_top.specs.Enough.{IsTightPlan}
 use Rattle.mbp_top.specs.InitialStates.{empty_init}
 use Rattle.mbp_top.specs.PddlTexts.{HoldBoth, IsFaultyDomain, IsFaultyProblem, ReadBoth}
 use Rattle.mbp_top.specs.PlanCommand.{HasNoPlan, IsGoodText, IsNoPlanText, IsPlanAnswer, IsPlanFound, IsPlanMissing, IsPlanResult, IsPlanned, IsResultFrom, IsResultOf, IsShortText, IsTextPrinted, MayRunOut, PlanThen, is_sought}
-use Rattle.ctl_syntax.specs.FarGoals.{PlainFar, far_of}
+use Rattle.ctl_syntax.specs.ContextGoals.{PlainGoal, plain_goal}
 use Rattle.mbp_top.specs.ContextGoals.{ContextGoalThen, context_goal, is_short_goal, most_parts, part_count}
 use Rattle.mbp_top.specs.Reading.{IsRefusedFile}
 use Rattle.mbp_top.specs.Told.{AreFilesTold, NoFault}
@@ -134,14 +134,14 @@ plan_code certified kind d p a status (inl found) code = inl (code ∙ ap status
 plan_code certified kind d p a status (inr missing) code = inr (inl (code ∙ ap status_of missing.shown))
 
 -- a short goal is neither refused nor too long
-abbrev is_short : Option (PlainFar FormulaTree) → Bool
-is_short o = option_map_or (λ (g : PlainFar FormulaTree). nat_le (part_count g) (most_parts g)) o false
+abbrev is_short : Option (PlainGoal FormulaTree) → Bool
+is_short o = option_map_or (λ (g : PlainGoal FormulaTree). nat_le (part_count g) (most_parts g)) o false
 
-never_short : (o : Option (PlainFar FormulaTree)) → o ≡ None → is_short o ≡ true → ⊥
-never_short o none short = false≢true (sym (ap (λ (x : Option (PlainFar FormulaTree)). is_short x) none) ∙ short)
+never_short : (o : Option (PlainGoal FormulaTree)) → o ≡ None → is_short o ≡ true → ⊥
+never_short o none short = false≢true (sym (ap (λ (x : Option (PlainGoal FormulaTree)). is_short x) none) ∙ short)
 
-few_of : (o : Option (PlainFar FormulaTree)) (c : PlainFar FormulaTree) → o ≡ Some c → is_short o ≡ true → part_count c ≤ most_parts c
-few_of o c some short = leb-true (part_count c) (most_parts c) (sym (ap (λ (x : Option (PlainFar FormulaTree)). is_short x) some) ∙ short)
+few_of : (o : Option (PlainGoal FormulaTree)) (c : PlainGoal FormulaTree) → o ≡ Some c → is_short o ≡ true → part_count c ≤ most_parts c
+few_of o c some short = leb-true (part_count c) (most_parts c) (sym (ap (λ (x : Option (PlainGoal FormulaTree)). is_short x) some) ∙ short)
 
 parts_sought : (name : Bytes) (p : ProblemTree) (Then : Answer → Type 0) (a : Answer) → is_short_goal p ≡ true → ContextGoalThen name p (λ goal. Then) a → Then a
 parts_sought name p Then a short (inl (none, is)) = absurd (never_short (context_goal p) none short)
@@ -158,7 +158,7 @@ result_code certified with_contexts name d p a status sought some r code =
     (parts_sought name p (IsResultFrom certified with_contexts name d p) a sought r)) code
 
 -- a plan that is looked for has a goal
-some_goal : (o : Option TemporalTree) → is_short (option_and_then (λ goal. far_of (ctl_tree goal)) o) ≡ true → is_some o ≡ true
+some_goal : (o : Option TemporalTree) → is_short (option_and_then (λ goal. plain_goal (ctl_tree goal)) o) ≡ true → is_some o ≡ true
 some_goal None short = absurd (false≢true short)
 some_goal (Some g) short = refl
 

@@ -4,7 +4,7 @@
 use Rattle.std.specs.Prelude.{◌≡◌, ◌<◌, ◌≤◌, ◌⊎◌, ℕ, false, length, Option}
 use Rattle.std.specs.Prelude.{None, Some, codes, nat_le, Bool}
 use Rattle.std.specs.Option.{option_and_then, option_map_or}
-use Rattle.ctl_syntax.specs.FarGoals.{PlainFar, far_of, plain_patrol, plain_until}
+use Rattle.ctl_syntax.specs.ContextGoals.{PlainGoal, plain_goal, plain_patrol, plain_until}
 use Rattle.pddl_ast.specs.Trees.{FormulaTree, ProblemTree}
 use Rattle.pddl_system.specs.CtlGoals.{ctl_tree}
 use Rattle.sexpr_text.specs.declared.faults.FaultKind.TheVariants.{NotChain}
@@ -12,11 +12,11 @@ use Rattle.mbp_top.specs.Answers.{Answer, refused, over_limit, text_fault}
 use Rattle.mbp_top.specs.Words.{Bytes}
 
 -- the parts of the problem's goal, where plans with contexts are looked for it
-abbrev pub context_goal : ProblemTree → Option (PlainFar FormulaTree)
-context_goal problem = option_and_then (λ goal. far_of (ctl_tree goal)) problem.ctl
+abbrev pub context_goal : ProblemTree → Option (PlainGoal FormulaTree)
+context_goal problem = option_and_then (λ goal. plain_goal (ctl_tree goal)) problem.ctl
 
 -- how many stages a goal has, or how many visits
-abbrev pub part_count : {P : Type 0} → PlainFar P → ℕ
+abbrev pub part_count : {P : Type 0} → PlainGoal P → ℕ
 part_count (plain_until chain) = length chain.stages
 part_count (plain_patrol visits) = length visits
 
@@ -27,12 +27,12 @@ most_stages = 32
 abbrev pub most_visits : ℕ
 most_visits = 8
 
-abbrev pub most_parts : {P : Type 0} → PlainFar P → ℕ
+abbrev pub most_parts : {P : Type 0} → PlainGoal P → ℕ
 most_parts (plain_until chain) = most_stages
 most_parts (plain_patrol visits) = most_visits
 
 -- the name of that limit
-abbrev pub part_limit : {P : Type 0} → PlainFar P → Bytes
+abbrev pub part_limit : {P : Type 0} → PlainGoal P → Bytes
 part_limit (plain_until chain) = codes "stages"
 part_limit (plain_patrol visits) = codes "patrol"
 
@@ -49,11 +49,11 @@ is_short_goal problem =
 -- the goal of the problem in the file of this name is no until-chain and no patrol goal, which is a
 -- fault at its place; or it is one with too many stages or visits; or with fewer, and then comes what
 -- Then says of it
-abbrev pub ContextGoalThen : Bytes → ProblemTree → (PlainFar FormulaTree → Answer → Type 0)
+abbrev pub ContextGoalThen : Bytes → ProblemTree → (PlainGoal FormulaTree → Answer → Type 0)
     → Answer → Type 0
 ContextGoalThen name problem Then answer =
     ((context_goal problem ≡ None)
     × (answer ≡ refused (text_fault name (record { kind = NotChain; place = problem.ctl_place }))))
-    ⊎ ((goal : PlainFar FormulaTree) × (context_goal problem ≡ Some goal)
+    ⊎ ((goal : PlainGoal FormulaTree) × (context_goal problem ≡ Some goal)
     × (((most_parts goal < part_count goal) × (answer ≡ refused (over_limit (part_limit goal))))
     ⊎ ((part_count goal ≤ most_parts goal) × Then goal answer)))

@@ -2,8 +2,8 @@
 -- There are two numbers that are enough: one by the sizes of the problem alone, and one by the sizes
 -- of the sets that a search makes. A table may be too small where it is for both.
 use Rattle.std.specs.Prelude.{ℕ, ◌+◌, ◌*◌, ◌^◌, ◌<◌}
-use Rattle.ctl_syntax.specs.declared.far.Far.{Far}
-use Rattle.ctl_syntax.specs.declared.far.Far.TheVariants.{Patrol, Until}
+use Rattle.ctl_syntax.specs.declared.context_goals.ContextGoal.{ContextGoal}
+use Rattle.ctl_syntax.specs.declared.context_goals.ContextGoal.TheVariants.{Patrol, Until}
 use Rattle.cyclic_plan.specs.WorkingSets.{IsWide as BoundsCyclicSets}
 use Rattle.dd_sets.specs.Rooms.{Tight}
 use Rattle.encode_task.specs.KeptSets.{kept_nodes}
@@ -67,7 +67,7 @@ pub record IsTightTask (stages nodes : ℕ) (task : Task) (Bounds : ℕ → Type
   pub by_sets : IsTightBySets stages nodes task Bounds
 
 -- w bounds the sets that a search for a plan with contexts makes, for an until-chain or a patrol goal
-abbrev pub BoundsGoalSets : Far → Task → ℕ → Type 0
+abbrev pub BoundsGoalSets : ContextGoal → Task → ℕ → Type 0
 BoundsGoalSets (Until chain) task w = BoundsUntilSets w task chain
 BoundsGoalSets (Patrol visits) task w = BoundsPatrolSets w task visits.items
 
@@ -75,7 +75,7 @@ BoundsGoalSets (Patrol visits) task w = BoundsPatrolSets w task visits.items
 abbrev pub IsTightForClass : Class → ℕ → Task → Type 0
 IsTightForClass class nodes task = IsTightTask 0 nodes task (BoundsSets class task)
 
-abbrev pub IsTightForGoal : Far → ℕ → Task → Type 0
+abbrev pub IsTightForGoal : ContextGoal → ℕ → Task → Type 0
 IsTightForGoal goal nodes task =
     IsTightTask (count_of goal) nodes task (BoundsGoalSets goal task)
 
@@ -86,7 +86,7 @@ IsTightForKind (of_class class) nodes domain problem =
     (task : Task) × IsTaskOf domain problem task
     × IsTightBySets 0 nodes task (BoundsSets class task)
 IsTightForKind with_contexts nodes domain problem =
-    (task : Task) × (goal : Far) × IsTaskOf domain problem task
+    (task : Task) × (goal : ContextGoal) × IsTaskOf domain problem task
     × IsGoalOf domain problem goal
     × IsTightBySets (count_of goal) nodes task (BoundsGoalSets goal task)
 

@@ -1,11 +1,11 @@
 -- Private: what is known of what a search for a plan with contexts of a task found.
 use Rattle.std.specs.Prelude.{◌≡◌, ◌≢◌, ◌↔◌, ◌⊎◌, ⊤, ℕ, List, [], Option, Some, None}
 use Rattle.std.specs.Prelude.{Result, Ok, Err}
-use Rattle.ctl_syntax.specs.FarGoals.{PlainFar}
-use Rattle.ctl_syntax.specs.declared.far.Far.{Far}
+use Rattle.ctl_syntax.specs.ContextGoals.{PlainGoal}
+use Rattle.ctl_syntax.specs.declared.context_goals.ContextGoal.{ContextGoal}
 use Rattle.dd_sets.specs.declared.errors.SetErr.{SetErr}
-use Rattle.patrol_plan.specs.declared.found.FoundFar.{FoundFar}
-use Rattle.patrol_plan.specs.declared.found.FoundFar.TheVariants.{NoPlan, Plan}
+use Rattle.patrol_plan.specs.declared.found.FoundAuto.{FoundAuto}
+use Rattle.patrol_plan.specs.declared.found.FoundAuto.TheVariants.{NoPlan, Plan}
 use Rattle.pddl_ast.specs.Trees.{DomainTree, FormulaTree, ProblemTree, TemporalTree}
 use Rattle.pddl_system.specs.Systems.{system}
 use Rattle.plan_rules.specs.Denoted.{denoted_contexts}
@@ -37,13 +37,13 @@ pub record IsPlanFor (task : Task) (sets : GoalSets) (plan : AutoPlan) : Type 0 
   pub has : IsGoalPlan (system_of task) sets (denoted_contexts (context_rules_of plan))
 
 -- Private: what a search found: such a plan, or that there is none
-abbrev pub IsGoalSearched : Task → GoalSets → Result FoundFar SetErr → Type 0
+abbrev pub IsGoalSearched : Task → GoalSets → Result FoundAuto SetErr → Type 0
 IsGoalSearched task sets (Ok (Plan plan)) = IsPlanFor task sets plan
 IsGoalSearched task sets (Ok NoPlan) = HasNoGoalPlan (system_of task) sets
 IsGoalSearched task sets (Err e) = ⊤
 
 -- Private: what a search from the initial states found: that there is none, or what was looked for
-abbrev pub IsGoalSearchedFrom : Task → GoalSets → Result (Option FoundFar) SetErr → Type 0
+abbrev pub IsGoalSearchedFrom : Task → GoalSets → Result (Option FoundAuto) SetErr → Type 0
 IsGoalSearchedFrom task sets (Ok None) = initial_states task ≡ []
 IsGoalSearchedFrom task sets (Ok (Some found)) =
     (initial_states task ≢ []) × IsGoalSearched task sets (Ok found)
@@ -70,7 +70,7 @@ IsGoalResult task sets answer = IsGoalShown task sets answer ⊎ IsGoalMissing t
 
 -- Private: the goal has as many stages or visits as these parts, and the same limit on them; and a
 -- patrol goal has a visit
-pub record CountsAs (goal : Far) (parts : PlainFar FormulaTree) : Type 0 where
+pub record CountsAs (goal : ContextGoal) (parts : PlainGoal FormulaTree) : Type 0 where
   pub count : count_of goal ≡ part_count parts
   pub most : most_of goal ≡ most_parts parts
   pub limit : limit_of_goal goal ≡ part_limit parts
@@ -79,8 +79,8 @@ pub record CountsAs (goal : Far) (parts : PlainFar FormulaTree) : Type 0 where
 -- Private: the goal stands for the one that the problem has: its conditions, and its sets, are those
 -- of that goal, and it is true wherever the problem's goal is
 pub record StandsForGoal (domain : DomainTree) (problem : ProblemTree)
-    (goal : Far) : Type 0 where
-  pub parts : PlainFar FormulaTree
+    (goal : ContextGoal) : Type 0 where
+  pub parts : PlainGoal FormulaTree
   pub is : context_goal problem ≡ Some parts
   pub conditions : IsGoalOf domain problem goal
   pub counts : CountsAs goal parts

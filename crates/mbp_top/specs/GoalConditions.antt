@@ -3,11 +3,11 @@
 use Rattle.std.specs.Prelude.{◌≡◌, ℕ, ◌≤◌, List, [], length, map, Option, Some, codes, ⊤}
 use Rattle.std.specs.Option.{option_map, option_map_or}
 use Rattle.ctl_syntax.specs.Conditions.{CondTree, all_of, condition_row}
-use Rattle.ctl_syntax.specs.FarGoals.{PlainFar, plain_patrol, plain_until}
-use Rattle.ctl_syntax.specs.FarValues.{FarTree, UntilTree, far_value, patrol_goal, until_chain}
+use Rattle.ctl_syntax.specs.ContextGoals.{PlainGoal, plain_patrol, plain_until}
+use Rattle.ctl_syntax.specs.GoalValues.{GoalTree, UntilTree, tree_of_goal, patrol_goal, until_chain}
 use Rattle.ctl_syntax.specs.UntilChains.{GuardedStage, PlainStage, PlainUntil}
-use Rattle.ctl_syntax.specs.declared.far.Far.{Far}
-use Rattle.ctl_syntax.specs.declared.far.Far.TheVariants.{Patrol, Until}
+use Rattle.ctl_syntax.specs.declared.context_goals.ContextGoal.{ContextGoal}
+use Rattle.ctl_syntax.specs.declared.context_goals.ContextGoal.TheVariants.{Patrol, Until}
 use Rattle.patrol_plan.specs.Chains.{IsPatrolOver, IsUntilOver, until_sets, visit_sets}
 use Rattle.pddl_ast.specs.Trees.{DomainTree, FormulaTree, ProblemTree}
 use Rattle.pddl_system.specs.Fluents.{fluents}
@@ -44,41 +44,41 @@ grounded_until domain problem chain = record {
 }
 
 -- a goal
-abbrev pub grounded_far : DomainTree → ProblemTree → PlainFar FormulaTree → FarTree
-grounded_far domain problem (plain_until chain) = until_chain (grounded_until domain problem chain)
-grounded_far domain problem (plain_patrol visits) =
+abbrev pub grounded_parts : DomainTree → ProblemTree → PlainGoal FormulaTree → GoalTree
+grounded_parts domain problem (plain_until chain) = until_chain (grounded_until domain problem chain)
+grounded_parts domain problem (plain_patrol visits) =
     patrol_goal (map (grounded_formula domain problem) visits)
 
 -- the goal is the one of the problem, over the task's conditions
-abbrev pub IsGoalOf : DomainTree → ProblemTree → Far → Type 0
+abbrev pub IsGoalOf : DomainTree → ProblemTree → ContextGoal → Type 0
 IsGoalOf domain problem goal =
-    Some (far_value goal) ≡ option_map (grounded_far domain problem) (context_goal problem)
+    Some (tree_of_goal goal) ≡ option_map (grounded_parts domain problem) (context_goal problem)
 
 -- how many stages or visits it has
-abbrev pub count_of : Far → ℕ
+abbrev pub count_of : ContextGoal → ℕ
 count_of (Until chain) = length chain.stages.items
 count_of (Patrol visits) = length visits.items
 
 -- Private: how many it may have, and the name of that limit
-abbrev pub most_of : Far → ℕ
+abbrev pub most_of : ContextGoal → ℕ
 most_of (Until chain) = most_stages
 most_of (Patrol visits) = most_visits
 
-abbrev pub limit_of_goal : Far → Bytes
+abbrev pub limit_of_goal : ContextGoal → Bytes
 limit_of_goal (Until chain) = codes "stages"
 limit_of_goal (Patrol visits) = codes "patrol"
 
 -- Private: a patrol goal has a visit
-abbrev pub HasSomeVisit : Far → Type 0
+abbrev pub HasSomeVisit : ContextGoal → Type 0
 HasSomeVisit (Until chain) = ⊤
 HasSomeVisit (Patrol visits) = 1 ≤ length visits.items
 
 -- Private: its sets of states
-abbrev pub sets_of_goal : Far → GoalSets
+abbrev pub sets_of_goal : ContextGoal → GoalSets
 sets_of_goal (Until chain) = of_until (until_sets chain)
 sets_of_goal (Patrol visits) = of_patrol (visit_sets visits.items)
 
 -- Private: a search takes it
-abbrev pub IsGoalOver : ℕ → Far → Type 0
+abbrev pub IsGoalOver : ℕ → ContextGoal → Type 0
 IsGoalOver fluents (Until chain) = IsUntilOver fluents chain
 IsGoalOver fluents (Patrol visits) = IsPatrolOver fluents visits.items

@@ -6,7 +6,7 @@ use Rattle.plan_theory.specs.PatrolPrinted.{patrol_rules}
 use Rattle.plan_theory.specs.Patrols.{HasPatrol}
 use Rattle.plan_theory.specs.UntilChains.{HasUntil, SetStage, UntilSets, until_contexts}
 use Rattle.plan_theory.specs.UntilPrinted.{until_rules}
-use Rattle.ctl_syntax.specs.FarGoals.{PlainFar, plain_patrol, plain_until}
+use Rattle.ctl_syntax.specs.ContextGoals.{PlainGoal, plain_patrol, plain_until}
 use Rattle.ctl_syntax.specs.UntilChains.{PlainStage, PlainUntil}
 use Rattle.pddl_ast.specs.Trees.{DomainTree, FormulaTree, ProblemTree}
 use Rattle.pddl_system.specs.Fluents.{fluents}
@@ -70,6 +70,6 @@ until_chained domain problem chain = record {
 }
 
 -- a goal, as sets of states
-abbrev pub goal_sets : DomainTree → ProblemTree → PlainFar FormulaTree → GoalSets
+abbrev pub goal_sets : DomainTree → ProblemTree → PlainGoal FormulaTree → GoalSets
 goal_sets domain problem (plain_until chain) = of_until (until_chained domain problem chain)
 goal_sets domain problem (plain_patrol visits) = of_patrol (map (one_holds domain problem) visits)

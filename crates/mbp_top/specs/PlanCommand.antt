@@ -34,7 +34,7 @@ use Rattle.mbp_top.specs.Enough.{IsTightPlan}
 use Rattle.mbp_top.specs.InitialStates.{InitialThen, empty_init}
 use Rattle.mbp_top.specs.Meets.{Meaning, Meets, PlanMeets}
 use Rattle.mbp_top.specs.PddlTexts.{HoldBoth, ReadBoth}
-use Rattle.ctl_syntax.specs.FarGoals.{PlainFar}
+use Rattle.ctl_syntax.specs.ContextGoals.{PlainGoal}
 use Rattle.mbp_top.specs.ContextGoals.{ContextGoalThen, context_goal, is_short_goal}
 use Rattle.mbp_top.specs.GoalSets.{GoalSets, contexts_for, goal_sets, rules_for}
 use Rattle.mbp_top.specs.Words.{Bytes, PlanKind, PlanWords, of_class, with_contexts}
@@ -141,7 +141,7 @@ text_for domain problem sets =
 -- the action towards the first stage that isn't met, or towards the visit that is made next
 abbrev pub IsPrintedPlan : DomainTree → ProblemTree → Bytes → Type 0
 IsPrintedPlan domain problem text =
-    (goal : PlainFar FormulaTree) × (context_goal problem ≡ Some goal)
+    (goal : PlainGoal FormulaTree) × (context_goal problem ≡ Some goal)
     × (text ≡ text_for domain problem (goal_sets domain problem goal))
 
 -- the text's plan is as short as any; of plans with contexts nothing is said

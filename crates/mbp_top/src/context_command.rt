@@ -1,6 +1,6 @@
 //! The command `plan ctl`.
 
-ghost use Rattle.ctl_syntax.specs.FarValues.{FarIsAtMostDeep, FarNamesBelow};
+ghost use Rattle.ctl_syntax.specs.GoalValues.{GoalIsAtMostDeep, GoalNamesBelow};
 ghost use Rattle.ctl_syntax.specs.Values.{IsAtMostDeep, NamesBelow, ctl_value};
 ghost use Rattle.mbp_top.specs.Answers.{full, no_memory, refused};
 ghost use Rattle.mbp_top.specs.Enough.{IsTightForGoal};
@@ -23,10 +23,10 @@ use crate::grounding::goal_in;
 use crate::initial_states::no_initial;
 use crate::plan_command::text_of_plan;
 use crate::words::PlanWords;
-use ctl_syntax::{Ctl, Far, as_far};
+use ctl_syntax::{Ctl, ContextGoal, as_context_goal};
 use dd_sets::SetErr;
 use ground_task::Grounded;
-use patrol_plan::FoundFar;
+use patrol_plan::FoundAuto;
 use pddl_ast::{Domain, Problem};
 use pddl_system::grounded_goals_are_true;
 use plan_rules::Plan;
@@ -91,7 +91,7 @@ fn plan_goal(
     // This does nothing: that the goal's sets are those of the problem's formulas rests on what it
     // promises.
     grounded_goals_are_true();
-    match as_far(alloc, goal)? {
+    match as_context_goal(alloc, goal)? {
         Some(goal) => plan_parts(alloc, asked, domain, problem, task, &goal),
         None => Err(Refusal::TextFault(
             String::from_str(alloc, asked.problem)?,
@@ -110,14 +110,14 @@ fn plan_parts(
     domain: &Domain,
     problem: &Problem,
     task: &Task,
-    goal: &Far,
+    goal: &ContextGoal,
 ) -> Result<Shown, Refusal>
     requires room { IsNodeLimit asked.now.options.nodes }
     requires kind { kind_of asked.now.kind ≡ with_contexts }
     requires task { IsTaskOf (domain_value domain.now) (problem_value problem.now) task.now }
     requires goal { StandsForGoal (domain_value domain.now) (problem_value problem.now) goal.now }
-    requires names { FarNamesBelow (fluent_count task.now) goal.now }
-    requires shallow { FarIsAtMostDeep 200 goal.now }
+    requires names { GoalNamesBelow (fluent_count task.now) goal.now }
+    requires shallow { GoalIsAtMostDeep 200 goal.now }
     ensures { let asked = plan_words_of asked.now in
         (answer_of result ≡ refused no_memory)
         ⊎ (MayBeTooFew asked (domain_value domain.now) (problem_value problem.now)
@@ -142,7 +142,7 @@ fn plan_for_task(
     alloc: Global,
     nodes: u32,
     task: &Task,
-    goal: &Far,
+    goal: &ContextGoal,
 ) -> Result<Option<Shown>, SetErr>
     requires room { IsNodeLimit nodes }
     requires goal { IsGoalOver (fluent_count task.now) goal.now }
@@ -153,11 +153,11 @@ fn plan_for_task(
     ensures full { IsErrOf result SetErr.Full → IsTightForGoal goal.now nodes task.now }
 {
     match search_goal(alloc, nodes, task, goal)? {
-        Some(FoundFar::Plan(plan)) => {
+        Some(FoundAuto::Plan(plan)) => {
             let text = text_of_plan(alloc, &Plan::Auto(plan), task)?;
             Ok(Some(Shown::Affirmed(text)))
         }
-        Some(FoundFar::NoPlan) => Ok(Some(Shown::Denied(Text::Fixed("no plan\n")))),
+        Some(FoundAuto::NoPlan) => Ok(Some(Shown::Denied(Text::Fixed("no plan\n")))),
         None => Ok(None),
     }
 }

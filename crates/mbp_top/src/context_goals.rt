@@ -6,7 +6,7 @@ ghost use Rattle.mbp_top.specs.Values.{limit_of};
 ghost use Rattle.std.specs.Prelude.{◌≡◌};
 
 use crate::answers::Limit;
-use ctl_syntax::Far;
+use ctl_syntax::ContextGoal;
 
 /// The most stages of an until-chain.
 const MOST_STAGES: usize = 32;
@@ -14,31 +14,31 @@ const MOST_STAGES: usize = 32;
 const MOST_VISITS: usize = 8;
 
 /// How many stages a goal has, or how many visits.
-pub(crate) fn part_count(goal: &Far) -> usize
+pub(crate) fn part_count(goal: &ContextGoal) -> usize
     ensures { result ≡ count_of goal.now }
 {
     match goal {
-        Far::Until(chain) => chain.stages.len(),
-        Far::Patrol(visits) => visits.len(),
+        ContextGoal::Until(chain) => chain.stages.len(),
+        ContextGoal::Patrol(visits) => visits.len(),
     }
 }
 
 /// How many it may have.
-pub(crate) fn most_parts(goal: &Far) -> usize
+pub(crate) fn most_parts(goal: &ContextGoal) -> usize
     ensures { result ≡ most_of goal.now }
 {
     match goal {
-        Far::Until(_) => MOST_STAGES,
-        Far::Patrol(_) => MOST_VISITS,
+        ContextGoal::Until(_) => MOST_STAGES,
+        ContextGoal::Patrol(_) => MOST_VISITS,
     }
 }
 
 /// What must not be passed then.
-pub(crate) fn part_limit(goal: &Far) -> Limit
+pub(crate) fn part_limit(goal: &ContextGoal) -> Limit
     ensures { limit_of result ≡ limit_of_goal goal.now }
 {
     match goal {
-        Far::Until(_) => Limit::Stages,
-        Far::Patrol(_) => Limit::Patrol,
+        ContextGoal::Until(_) => Limit::Stages,
+        ContextGoal::Patrol(_) => Limit::Patrol,
     }
 }

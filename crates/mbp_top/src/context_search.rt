@@ -15,10 +15,10 @@ ghost use Rattle.task_core.specs.Tasks.{action_count, fluent_count};
 
 use crate::initial_states::has_no_initial;
 use crate::ordered_sets::encode_ordered;
-use ctl_syntax::{Far, UntilChain};
+use ctl_syntax::{ContextGoal, UntilChain};
 use dd_sets::{SetErr, no_room_is_small, no_room_is_tight, tight_is_monotone};
 use encode_task::{Enc, encode, kept_sets_bound_nodes};
-use patrol_plan::{FoundFar, plan_patrol, plan_until};
+use patrol_plan::{FoundAuto, plan_patrol, plan_until};
 use std::alloc::Global;
 use task_core::{Cond, Task};
 
@@ -30,8 +30,8 @@ pub(crate) fn search_goal(
     alloc: Global,
     nodes: u32,
     task: &Task,
-    goal: &Far,
-) -> Result<Option<FoundFar>, SetErr>
+    goal: &ContextGoal,
+) -> Result<Option<FoundAuto>, SetErr>
     requires room { IsNodeLimit nodes }
     requires goal { IsGoalOver (fluent_count task.now) goal.now }
     ensures found { IsGoalSearchedFrom task.now (sets_of_goal goal.now) result }
@@ -49,8 +49,8 @@ fn search_in_order(
     alloc: Global,
     nodes: u32,
     task: &Task,
-    goal: &Far,
-) -> Result<Option<FoundFar>, SetErr>
+    goal: &ContextGoal,
+) -> Result<Option<FoundAuto>, SetErr>
     requires room { IsNodeLimit nodes }
     requires goal { IsGoalOver (fluent_count task.now) goal.now }
     ensures found { IsGoalSearchedFrom task.now (sets_of_goal goal.now) result }
@@ -64,8 +64,8 @@ fn search_plainly(
     alloc: Global,
     nodes: u32,
     task: &Task,
-    goal: &Far,
-) -> Result<Option<FoundFar>, SetErr>
+    goal: &ContextGoal,
+) -> Result<Option<FoundAuto>, SetErr>
     requires room { IsNodeLimit nodes }
     requires goal { IsGoalOver (fluent_count task.now) goal.now }
     ensures found { IsGoalSearchedFrom task.now (sets_of_goal goal.now) result }
@@ -87,8 +87,8 @@ fn plan_from_initial(
     alloc: Global,
     task: &Task,
     enc: &mut Enc,
-    goal: &Far,
-) -> Result<Option<FoundFar>, SetErr>
+    goal: &ContextGoal,
+) -> Result<Option<FoundAuto>, SetErr>
     requires made { MadeOf task.now enc.old }
     requires goal { IsGoalOver (fluent_count task.now) goal.now }
     ensures found { IsGoalSearchedFrom task.now (sets_of_goal goal.now) result }
@@ -105,7 +105,7 @@ fn plan_from_initial(
 }
 
 /// The plan with contexts of a task for a goal, over the task's sets.
-fn find_contexts(alloc: Global, task: &Task, enc: &mut Enc, goal: &Far) -> Result<FoundFar, SetErr>
+fn find_contexts(alloc: Global, task: &Task, enc: &mut Enc, goal: &ContextGoal) -> Result<FoundAuto, SetErr>
     requires made { MadeOf task.now enc.old }
     requires goal { IsGoalOver (fluent_count task.now) goal.now }
     ensures found { IsGoalSearched task.now (sets_of_goal goal.now) result }
@@ -115,8 +115,8 @@ fn find_contexts(alloc: Global, task: &Task, enc: &mut Enc, goal: &Far) -> Resul
         enc.old.sets enc.new.sets }
 {
     match goal {
-        Far::Until(chain) => find_until(alloc, task, enc, chain),
-        Far::Patrol(visits) => find_patrol(alloc, task, enc, visits.as_slice()),
+        ContextGoal::Until(chain) => find_until(alloc, task, enc, chain),
+        ContextGoal::Patrol(visits) => find_patrol(alloc, task, enc, visits.as_slice()),
     }
 }
 
@@ -126,7 +126,7 @@ fn find_until(
     task: &Task,
     enc: &mut Enc,
     chain: &UntilChain,
-) -> Result<FoundFar, SetErr>
+) -> Result<FoundAuto, SetErr>
     requires made { MadeOf task.now enc.old }
     requires chain { IsUntilOver (fluent_count task.now) chain.now }
     ensures found { IsGoalSearched task.now (of_until (until_sets chain.now)) result }
@@ -144,7 +144,7 @@ fn find_patrol(
     task: &Task,
     enc: &mut Enc,
     visits: &[Cond],
-) -> Result<FoundFar, SetErr>
+) -> Result<FoundAuto, SetErr>
     requires made { MadeOf task.now enc.old }
     requires visits { IsPatrolOver (fluent_count task.now) visits.now }
     ensures found { IsGoalSearched task.now (of_patrol (visit_sets visits.now)) result }

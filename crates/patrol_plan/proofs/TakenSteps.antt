@@ -13,10 +13,10 @@ use Rattle.task_core.specs.Tasks.{action_count}
 use Rattle.patrol_plan.specs.Scenes.{Changed, ChangedIn, IsAt, Moved, SameStates, Scene, Start, guarded, met_place, states_at, sys_in, sys_of, takers_place, win_place}
 use Rattle.patrol_plan.specs.Chains.{until_sets}
 use Rattle.patrol_plan.specs.Guards.{anywhere}
-use Rattle.ctl_syntax.specs.ChainValues.{states_of}
-use Rattle.ctl_syntax.specs.FarValues.{stage_sets}
-use Rattle.ctl_syntax.specs.declared.far.UntilChain.{UntilChain}
-use Rattle.ctl_syntax.specs.declared.far.UntilStage.{UntilStage}
+use Rattle.ctl_syntax.specs.Conditions.{states_of}
+use Rattle.ctl_syntax.specs.GoalValues.{stage_sets}
+use Rattle.ctl_syntax.specs.declared.context_goals.UntilChain.{UntilChain}
+use Rattle.ctl_syntax.specs.declared.context_goals.UntilStage.{UntilStage}
 use Rattle.patrol_plan.specs.Sizes.{ClimbsFit, IsSmall, ShareFits, UntilFits}
 use Rattle.patrol_plan.specs.Steps.{Climbed, FirstTaken, HasTakers, HasWins, Won, takers_of}
 use Rattle.patrol_plan.specs.WorkingSets.{met_first}

@@ -17,8 +17,8 @@ use Rattle.task_core.specs.Systems.{IsVector, System}
 use Rattle.task_core.specs.Tasks.{action_count}
 use Rattle.task_core.specs.Vectors.{Vector}
 use Rattle.task_core.specs.declared.conditions.Cond.{Cond}
-use Rattle.ctl_syntax.specs.ChainValues.{states_of}
-use Rattle.ctl_syntax.specs.declared.far.UntilStage.{UntilStage}
+use Rattle.ctl_syntax.specs.Conditions.{states_of}
+use Rattle.ctl_syntax.specs.declared.context_goals.UntilStage.{UntilStage}
 use Rattle.patrol_plan.specs.Rounds.{first_lead, from_stage, hits_by, last_turn, turn, turn_by}
 use Rattle.patrol_plan.specs.Rounds.{turns}
 use Rattle.patrol_plan.specs.Scenes.{Changed, ChangedIn, IsGuarded, IsReady, SameStates, Scene}

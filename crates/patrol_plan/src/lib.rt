@@ -22,7 +22,7 @@ mod until;
 mod visits;
 mod wins;
 
-pub use found::FoundFar;
+pub use found::FoundAuto;
 pub use patrol::plan_patrol;
 pub use places::rule_place;
 pub use rule_states::rule_sets;

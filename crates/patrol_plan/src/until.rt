@@ -25,7 +25,7 @@ ghost use Rattle.patrol_plan.specs.Sizes.{SearchFits};
 ghost use Rattle.patrol_plan.specs.Tables.{HasTable, start_of};
 ghost use Rattle.patrol_plan.specs.WorkingSets.{IsWide};
 
-use crate::found::FoundFar;
+use crate::found::FoundAuto;
 use crate::places::{places, win_at};
 use crate::rules::list_all;
 use crate::takers::take_all;
@@ -186,7 +186,7 @@ fn find_until(
     task: &Task,
     enc: &mut Enc,
     chain: &UntilChain,
-) -> Result<FoundFar, SetErr>
+) -> Result<FoundAuto, SetErr>
     requires made { MadeOf task.now enc.old }
     requires chain { IsUntilOver (fluent_count task.now) chain.now }
     ensures answer { IfOk result (IsAnswer task.now (until_sets chain.now)) }
@@ -201,9 +201,9 @@ fn find_until(
     match until_takers(alloc, task, enc, chain)? {
         Some(board) => {
             let plan = close_as_plan(alloc, enc, board, actions, stages)?;
-            Ok(FoundFar::Plan(plan))
+            Ok(FoundAuto::Plan(plan))
         }
-        None => Ok(FoundFar::NoPlan),
+        None => Ok(FoundAuto::NoPlan),
     }
 }
 
@@ -219,7 +219,7 @@ pub fn plan_until(
     task: &Task,
     enc: &mut Enc,
     chain: &UntilChain,
-) -> Result<FoundFar, SetErr>
+) -> Result<FoundAuto, SetErr>
     requires made { MadeOf task.now enc.old }
     requires chain { IsUntilOver (fluent_count task.now) chain.now }
     ensures contexts { IfOk result (λ found. IfPlan found (λ plan. plan.contexts

@@ -1,7 +1,7 @@
 //! Small tasks, and the plans worked out for them by hand.
 
 ghost use Rattle.std.specs.Prelude.{◌≡◌, ◌≤◌, ◌<◌, All, IfOk, length, true};
-ghost use Rattle.ctl_syntax.specs.FarValues.{EachInStage};
+ghost use Rattle.ctl_syntax.specs.GoalValues.{EachInStage};
 ghost use Rattle.patrol_plan.specs.Chains.{IsConditionOver, IsUntilOver};
 ghost use Rattle.task_core.specs.Conditions.{ids_below, is_shallow};
 ghost use Rattle.task_core.specs.Tasks.{fluent_count};
@@ -9,7 +9,7 @@ ghost use Rattle.task_core.specs.Tasks.{fluent_count};
 use ctl_syntax::{UntilChain, UntilStage};
 use dd_sets::SetErr;
 use encode_task::encode;
-use patrol_plan::{FoundFar, plan_until};
+use patrol_plan::{FoundAuto, plan_until};
 use plan_rules::{AutoRule, Next};
 use std::alloc::{AllocError, Global};
 use std::rc::RcStr;
@@ -128,8 +128,8 @@ fn rules_found(
 {
     let mut enc = encode(alloc, task, limit)?;
     match plan_until(alloc, task, &mut enc, chain)? {
-        FoundFar::Plan(plan) => Ok(Some(plan.rules)),
-        FoundFar::NoPlan => Ok(None),
+        FoundAuto::Plan(plan) => Ok(Some(plan.rules)),
+        FoundAuto::NoPlan => Ok(None),
     }
 }
 

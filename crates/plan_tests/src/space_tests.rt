@@ -13,7 +13,7 @@ use ctl_syntax::{UntilChain, UntilStage};
 use cyclic_plan::plan_cyclic;
 use dd_sets::SetErr;
 use encode_task::{Enc, encode};
-use patrol_plan::{FoundFar, plan_until};
+use patrol_plan::{FoundAuto, plan_until};
 use plan_rules::{Plan, write_plan};
 use plan_theory::Found;
 use preimage::{strong_pre, weak_pre};
@@ -220,7 +220,7 @@ fn chain_text(alloc: Global, task: &Task, chain: &UntilChain) -> Result<String, 
 {
     let mut text = String::new(alloc);
     let mut enc = encode(alloc, task, MANY)?;
-    if let FoundFar::Plan(plan) = plan_until(alloc, task, &mut enc, chain)? {
+    if let FoundAuto::Plan(plan) = plan_until(alloc, task, &mut enc, chain)? {
         for byte in write_plan(alloc, &Plan::Auto(plan), task)? {
             text.push(char::from(byte))?;
         }

@@ -1,7 +1,7 @@
 //! Goals that are until-chains, with their stages and what they keep, or patrol goals, with their
 //! visits, and goals that are neither.
 
-use ctl_syntax::{Ctl, Far, UntilChain, as_far};
+use ctl_syntax::{Ctl, ContextGoal, UntilChain, as_context_goal};
 use std::alloc::Global;
 use std::test::Fail;
 use task_core::{Cond, FluentId};
@@ -79,11 +79,11 @@ fn show_stages(text: &mut String, chain: &UntilChain) -> Result<(), Fail> {
 }
 
 /// The conditions of an until-chain, or each visit of a patrol goal and a semicolon; `none`.
-fn shown(alloc: Global, far: &Option<Far>) -> Result<String, Fail> {
+fn shown(alloc: Global, found: &Option<ContextGoal>) -> Result<String, Fail> {
     let mut text = String::new(alloc);
-    match far {
-        Some(Far::Until(chain)) => show_stages(&mut text, chain)?,
-        Some(Far::Patrol(visits)) => {
+    match found {
+        Some(ContextGoal::Until(chain)) => show_stages(&mut text, chain)?,
+        Some(ContextGoal::Patrol(visits)) => {
             for visit in visits {
                 show(&mut text, visit, ';')?;
             }
@@ -114,8 +114,8 @@ fn tells_goals_apart(rt: HostRuntime) -> Result<(), Fail> {
         ("pqG&G", "none"),
     ];
     for (text, wanted) in goals {
-        let far = as_far(alloc, &goal(alloc, text)?)?;
-        assert_eq!(rt; shown(alloc, &far)?.as_str(), wanted, "of {text}");
+        let found = as_context_goal(alloc, &goal(alloc, text)?)?;
+        assert_eq!(rt; shown(alloc, &found)?.as_str(), wanted, "of {text}");
     }
     Ok(())
 }

@@ -1,5 +1,5 @@
 use Rattle.std.proofs.Common.{◌≡◌, All, length, true}
-use Rattle.ctl_syntax.specs.FarValues.{EachInStage}
+use Rattle.ctl_syntax.specs.GoalValues.{EachInStage}
 use Rattle.task_core.specs.Conditions.{ids_below, is_shallow}
 use Rattle.task_core.specs.declared.conditions.Cond.{Cond}
 use Rattle.plan_tests.proofs.chain_tests.by_turns.Given as goal
