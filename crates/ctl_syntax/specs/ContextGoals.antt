@@ -1,4 +1,4 @@
--- The goals beyond chains that plans are looked for: until-chains and patrol goals.
+-- The goals that plans with contexts are looked for: until-chains and patrol goals.
 use Rattle.std.specs.Prelude.{List, Option, map}
 use Rattle.std.specs.Option.{option_map, option_or}
 use Rattle.ctl_syntax.specs.Goals.{CtlTree}

@@ -23,7 +23,7 @@ use crate::grounding::goal_in;
 use crate::initial_states::no_initial;
 use crate::plan_command::text_of_plan;
 use crate::words::PlanWords;
-use ctl_syntax::{Ctl, ContextGoal, as_context_goal};
+use ctl_syntax::{ContextGoal, Ctl, as_context_goal};
 use dd_sets::SetErr;
 use ground_task::Grounded;
 use patrol_plan::FoundAuto;

@@ -105,7 +105,12 @@ fn plan_from_initial(
 }
 
 /// The plan with contexts of a task for a goal, over the task's sets.
-fn find_contexts(alloc: Global, task: &Task, enc: &mut Enc, goal: &ContextGoal) -> Result<FoundAuto, SetErr>
+fn find_contexts(
+    alloc: Global,
+    task: &Task,
+    enc: &mut Enc,
+    goal: &ContextGoal,
+) -> Result<FoundAuto, SetErr>
     requires made { MadeOf task.now enc.old }
     requires goal { IsGoalOver (fluent_count task.now) goal.now }
     ensures found { IsGoalSearched task.now (sets_of_goal goal.now) result }
