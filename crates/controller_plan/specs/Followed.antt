@@ -1,13 +1,13 @@
 -- Private: what the search for a controller rests on: that the slots which it asks hold sets, and
 -- that it steps from states of the task alone.
 use Rattle.std.specs.Prelude.{◌≡◌, ℕ, ◌<◌, List, All, length}
-use Rattle.chain_plan.specs.Scenes.{Start}
-use Rattle.chain_plan.specs.Sizes.{EverySetIsSmall}
-use Rattle.chain_plan.specs.Tables.{HasTable}
+use Rattle.patrol_plan.specs.Scenes.{Start}
+use Rattle.patrol_plan.specs.Sizes.{EverySetIsSmall}
+use Rattle.patrol_plan.specs.Tables.{HasTable}
 use Rattle.dd_sets.specs.LiveSets.{IsLive, LiveSets}
 use Rattle.dd_sets.specs.declared.slots.SetId.{SetId}
 use Rattle.encode_task.specs.Slots.{Encoded}
-use Rattle.plan_theory.specs.Chains.{Chained}
+use Rattle.plan_theory.specs.UntilChains.{UntilSets}
 use Rattle.slot_board.specs.Board.{slot_at}
 use Rattle.task_core.specs.States.{IsWithin}
 use Rattle.task_core.specs.declared.tasks.Task.{Task}
@@ -25,7 +25,7 @@ AreReachedWithin n places = All (λ place. IsWithin n place.state) places
 -- width is one by which every set is small, as it takes as many sets more as there are actions
 pub record IsTableThere (task : Task) (now : Encoded) (slots : List SetId) (stages : ℕ) : Type 0 where
   pub start : Start
-  pub chain : Chained
+  pub chain : UntilSets
   pub of_task : start.task ≡ task
   pub count : start.stages ≡ stages
   pub table : HasTable start (now, slots) chain

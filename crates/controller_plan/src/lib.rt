@@ -2,8 +2,8 @@
 //! rules, as a text that `mbp_top` reads, or as a JSON document.
 //!
 //! `control` finds the plan with the planners of `mbp_top`, as sets of states, follows it from the
-//! initial states (`followed`, `searches`), and makes rules of what it does there (`rules`,
-//! `rule_texts`). None of that is trusted: the text is read back and judged by the proved checker,
+//! initial states (`followed`, `searches`, `context_searches`), and makes rules of what it does there
+//! (`rules`, `rule_texts`). None of that is trusted: the text is read back and judged by the proved checker,
 //! and what isn't judged to be a plan of the kind that meets the problem isn't shown (`judged`). All
 //! other answers are those of `mbp_top::run`: that there is no plan, and each refusal.
 //!
@@ -12,7 +12,7 @@
 #![tactic(auto)]
 
 mod commands;
-mod far_searches;
+mod context_searches;
 mod followed;
 mod judged;
 mod laws;

@@ -1,14 +1,13 @@
 pub mod Carried
-pub mod ChainConditions
-pub mod ChainForms
-pub mod ChainTruth
+pub mod Alike
+pub mod Conjunctions
 pub mod ConditionTrees
 mod Examples
-pub mod FarConditions
-mod FarExamples
-pub mod FarForms
-pub mod FarMapped
-pub mod FarTruth
+pub mod GoalConditions
+mod GoalExamples
+pub mod GoalForms
+pub mod GoalMapped
+pub mod GoalTruth
 pub mod Meeting
 pub mod Parts
 pub mod Shapes

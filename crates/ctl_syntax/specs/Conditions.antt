@@ -1,5 +1,7 @@
 -- Conditions as plain trees: a `Vec` is the list of its items. Copies of a condition have one tree.
-use Rattle.std.specs.Prelude.{ℕ, List, [], ◌∷◌}
+use Rattle.std.specs.Prelude.{ℕ, Bool, List, [], ◌∷◌, map}
+use Rattle.task_core.specs.Conditions.{holds}
+use Rattle.task_core.specs.Vectors.{Vector, value_of}
 use Rattle.task_core.specs.declared.conditions.Cond.{Cond}
 use Rattle.task_core.specs.declared.conditions.Cond.TheOpen.{Cond-F, Yes, No, Is, Not, All, Any}
 use Rattle.task_core.specs.declared.conditions.Cond.TheFolds.{fold-Cond}
@@ -33,3 +35,11 @@ condition_step (Any parts) = any_of (condition_row parts.items)
 
 abbrev pub condition_value : Cond → CondTree
 condition_value = fold-Cond CondTree condition_step
+
+-- the conjunction of some conditions: the `All` of them in order, also of one
+abbrev pub all_conditions : List Cond → CondTree
+all_conditions conds = all_of (condition_row (map condition_value conds))
+
+-- the states in which a condition holds
+abbrev pub states_of : Cond → Vector → Bool
+states_of cond v = holds cond (value_of v)

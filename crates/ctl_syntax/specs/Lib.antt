@@ -1,10 +1,7 @@
-pub mod ChainSteps
-pub mod ChainValues
-pub mod Chains
 pub mod Conditions
-pub mod FarGoals
-pub mod FarSteps
-pub mod FarValues
+pub mod ContextGoals
+pub mod GoalSteps
+pub mod GoalValues
 pub mod Goals
 pub mod Paths
 pub mod Patrols

@@ -5,7 +5,7 @@
 --   (af (and p1 .. pk rest)) or (au g (and p1 .. pk rest)) with k at least 1, that p1 to pk come
 --   about at once, where the until-chain after them is true.
 -- The g, p and q are without operators. Until that comes about, g holds; `af` asks for nothing until
--- then.
+-- then. An until-chain without guards is a chain.
 use Rattle.std.specs.Prelude.{List, [], ◌∷◌, Option, None, Some, map}
 use Rattle.std.specs.Option.{option_map}
 use Rattle.ctl_syntax.specs.Goals.{CtlTree, CtlTrees, plain, all, af, ag, au, no_goal, goal_then}

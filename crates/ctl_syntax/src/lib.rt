@@ -7,14 +7,13 @@
 //! of a graph.
 #![tactic(auto)]
 
-mod chains;
+mod context_goals;
 mod copies;
-mod far;
 mod goals;
 mod laws;
+mod rows;
 
-pub use chains::{Chain, as_chain};
+pub use context_goals::{ContextGoal, UntilChain, UntilStage, as_context_goal};
 pub use copies::{copied_condition, copied_conditions};
-pub use far::{Far, UntilChain, UntilStage, as_far};
 pub use goals::Ctl;
-pub use laws::{chains_are_true, far_goals_are_true};
+pub use laws::context_goals_are_true;

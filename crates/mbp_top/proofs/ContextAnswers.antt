@@ -4,15 +4,14 @@ use Rattle.std.specs.Option.{option_and_then, option_map, option_map_or}
 use Rattle.std.specs.Prelude.{nat_le}
 use Rattle.std.proofs.lemmas.Bool.{le-leb}
 use Rattle.std.proofs.lemmas.List.Elements.{All-weaker}
-use Rattle.chain_plan.specs.Chains.{IsChainOver}
-use Rattle.ctl_syntax.specs.ChainValues.{ChainIsAtMostDeep, ChainNamesBelow}
 use Rattle.ctl_syntax.specs.Conditions.{CondTree, condition_value}
-use Rattle.ctl_syntax.specs.FarValues.{EachInStage, EachInUntil}
+use Rattle.ctl_syntax.specs.ContextGoals.{PlainGoal, plain_goal, map_goal}
+use Rattle.ctl_syntax.specs.GoalValues.{EachInStage, EachInUntil, GoalIsAtMostDeep, GoalNamesBelow, GoalTree, goal_conditions, tree_of_goal}
 use Rattle.ctl_syntax.specs.Goals.{CtlTree}
 use Rattle.ctl_syntax.specs.Values.{ctl_value}
-use Rattle.ctl_syntax.specs.declared.chains.Chain.{Chain as ChainOf}
-use Rattle.ctl_syntax.specs.declared.far.Far.TheVariants.{Patrol, Until}
-use Rattle.ctl_syntax.specs.declared.far.UntilStage.{UntilStage}
+use Rattle.ctl_syntax.specs.declared.context_goals.ContextGoal.{ContextGoal}
+use Rattle.ctl_syntax.specs.declared.context_goals.ContextGoal.TheVariants.{Patrol, Until}
+use Rattle.ctl_syntax.specs.declared.context_goals.UntilStage.{UntilStage}
 use Rattle.ctl_syntax.specs.declared.goals.Ctl.{Ctl}
 use Rattle.patrol_plan.specs.Chains.{IsPatrolOver, IsUntilOver}
 use Rattle.pddl_ast.specs.Trees.{DomainTree, FormulaTree, ProblemTree, TemporalTree}
@@ -35,10 +34,10 @@ use Rattle.task_core.specs.Tasks.{action_names as names_of_actions, fluent_names
 use Rattle.task_core.specs.declared.conditions.Cond.{Cond}
 use Rattle.task_core.specs.declared.tasks.Task.{Task}
 use Rattle.mbp_top.specs.Answers.{Answer, affirmed, over_limit, refused, text_fault}
-use Rattle.mbp_top.specs.ContextGoals.{PlainGoal, context_goal, is_short_goal, most_parts, most_stages, part_count, plain_goal, stage_count}
+use Rattle.mbp_top.specs.ContextGoals.{context_goal, is_short_goal, most_parts, part_count, stage_count}
 use Rattle.mbp_top.specs.Enough.{IsTightForGoal, IsTightLimit, IsTightPlan}
 use Rattle.mbp_top.specs.FoundGoals.{IsGoalMissing, IsGoalResult, IsGoalShown, IsPlanFor, StandsForGoal}
-use Rattle.mbp_top.specs.GoalConditions.{GoalIsAtMostDeep, GoalNamesBelow, GoalTree, HasSomeVisit, IsGoalOver, count_of, goal_conditions, grounded_formula, grounded_parts, limit_of_goal, most_of, sets_of_goal, tree_of_goal}
+use Rattle.mbp_top.specs.GoalConditions.{HasSomeVisit, IsGoalOver, count_of, grounded_parts, grounded_formula, limit_of_goal, most_of, sets_of_goal}
 use Rattle.mbp_top.specs.GoalSets.{GoalSets, HasNoGoalPlan, IsGoalPlan, contexts_for, rules_for}
 use Rattle.mbp_top.specs.Grounded.{IsTaskOf}
 use Rattle.mbp_top.specs.InitialStates.{empty_init}
@@ -46,10 +45,9 @@ use Rattle.mbp_top.specs.Meets.{Meets, contextual}
 use Rattle.mbp_top.specs.PlanCommand.{IsPlanFound, IsPlanMissing, IsPlanResult, IsResultOf, MayBeTooFew, PlanThen, is_sought, no_plan_text, text_for}
 use Rattle.mbp_top.specs.TemporalGoals.{HasGoal}
 use Rattle.mbp_top.specs.Words.{Bytes, PlanKind, PlanWords, with_contexts}
-use Rattle.mbp_top.specs.declared.context_goals.ContextGoal.{ContextGoal}
-use Rattle.mbp_top.specs.declared.context_goals.ContextGoal.TheVariants.{Chain, Far}
 use Rattle.mbp_top.proofs.CheckAnswers.{goal_behind}
-use Rattle.mbp_top.proofs.GoalParts.{IsAlikeGoal, goal_alike, goal_of_mapped, has_visit, map_goal, same_tree}
+use Rattle.ctl_syntax.proofs.GoalMapped.{goal_of_mapped}
+use Rattle.mbp_top.proofs.GoalParts.{IsAlikeGoal, goal_alike, has_visit, same_tree}
 use Rattle.mbp_top.proofs.GoalSets.{same_counts, same_sets}
 use Rattle.mbp_top.proofs.Listings.{same_actions, same_fluents}
 use Rattle.mbp_top.proofs.Meetings.{contexts_meet, no_contexts}
@@ -241,12 +239,7 @@ stage_shallow : (stage : UntilStage) → EachInStage (λ (c : Cond). depth c ≤
 stage_shallow stage deep = record { guard = shallow_within stage.guard deep.guard; target = shallow_within stage.target deep.target }
 
 pub over_task : (n : ℕ) (goal : ContextGoal) → count_of goal ≤ most_of goal → HasSomeVisit goal → GoalNamesBelow n goal → GoalIsAtMostDeep 200 goal → IsGoalOver n goal
-over_task n (Chain chain) few some names deep = record {
-  few = few;
-  names = names;
-  shallow = record { stages = all_shallow chain.stages.items deep.stages; keep = shallow_within chain.keep deep.keep };
-}
-over_task n (Far (Until chain)) few some names deep = record {
+over_task n (Until chain) few some names deep = record {
   few = few;
   names = names;
   shallow = record {
@@ -254,10 +247,7 @@ over_task n (Far (Until chain)) few some names deep = record {
     keep = shallow_within chain.keep deep.keep;
   };
 }
-over_task n (Far (Patrol visits)) few some names deep = record { some = some; few = few; names = names; shallow = all_shallow visits.items deep }
-
-pub chain_over_task : (n : ℕ) (chain : ChainOf) → length chain.stages.items ≤ most_stages → ChainNamesBelow n chain → ChainIsAtMostDeep 200 chain → IsChainOver n chain
-chain_over_task n chain few names deep = over_task n (Chain chain) few tt names deep
+over_task n (Patrol visits) few some names deep = record { some = some; few = few; names = names; shallow = all_shallow visits.items deep }
 
 -- by the kind that is asked for
 pub goal_then : (d : DomainTree) (p : ProblemTree) (goal : ContextGoal) (s : StandsForGoal d p goal) (asked : PlanWords) (t : Task) (a : Answer) → asked.kind ≡ with_contexts

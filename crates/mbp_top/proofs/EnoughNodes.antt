@@ -3,8 +3,8 @@
 use Rattle.std.proofs.Common.{◌≡◌, ◌≤◌, ◌<◌, ◌+◌, ◌*◌, ◌^◌, ℕ, zero, suc, [], subst, sym, arith}
 use native.Mathlib.Nat.{pow-succ'}
 use Rattle.std.proofs.Math.Nat.{mul-le-mul_right}
-use Rattle.chain_plan.specs.WorkingSets.IsWorkingSet.{of_task as of_chain}
-use Rattle.ctl_syntax.specs.declared.far.Far.TheVariants.{Patrol, Until}
+use Rattle.ctl_syntax.specs.declared.context_goals.ContextGoal.{ContextGoal}
+use Rattle.ctl_syntax.specs.declared.context_goals.ContextGoal.TheVariants.{Patrol, Until}
 use Rattle.cyclic_plan.specs.WorkingSets.IsWorkingSet.{by_task as of_cyclic}
 use Rattle.dd_nodes.specs.Subfunctions.{nodes}
 use Rattle.dd_sets.proofs.SizeLemmas.{every_small}
@@ -25,8 +25,6 @@ use Rattle.task_core.specs.declared.classes.Class.TheVariants.{Cyclic, Strong, W
 use Rattle.task_core.specs.declared.tasks.Task.{Task}
 use Rattle.mbp_top.specs.Enough.{BoundsGoalSets, BoundsSets, IsTightForClass, IsTightForGoal, IsTightLimit, enough, enough_by_sets}
 use Rattle.mbp_top.specs.GoalConditions.{count_of}
-use Rattle.mbp_top.specs.declared.context_goals.ContextGoal.{ContextGoal}
-use Rattle.mbp_top.specs.declared.context_goals.ContextGoal.TheVariants.{Chain, Far}
 
 -- so many slots have no more nodes than are enough, where there are no more slots
 few_slots : (slots most P Q : ℕ) → slots ≤ most → slots * P + Q ≤ 2 * Q + most * P
@@ -98,19 +96,16 @@ all_bounds Strong t = record { wide = more_lists (fluent_count t); each = λ set
 all_bounds Cyclic t = record { wide = more_lists (fluent_count t); each = λ set made. every_small (fluent_count t) set }
 
 pub all_goal_bounds : (goal : ContextGoal) (t : Task) → BoundsGoalSets goal t (2 ^ fluent_count t + 1)
-all_goal_bounds (Chain chain) t = record { fluents = more_lists (fluent_count t); small = λ set made. every_small (fluent_count t) set }
-all_goal_bounds (Far (Until chain)) t = record { fluents = more_lists (fluent_count t); small = λ set made. every_small (fluent_count t) set }
-all_goal_bounds (Far (Patrol visits)) t = record { fluents = more_lists (fluent_count t); small = λ set made. every_small (fluent_count t) set }
+all_goal_bounds (Until chain) t = record { fluents = more_lists (fluent_count t); small = λ set made. every_small (fluent_count t) set }
+all_goal_bounds (Patrol visits) t = record { fluents = more_lists (fluent_count t); small = λ set made. every_small (fluent_count t) set }
 
 wide_of_goal : (goal : ContextGoal) (t : Task) (w : ℕ) → BoundsGoalSets goal t w → fluent_count t + 2 ≤ w
-wide_of_goal (Chain chain) t w bounds = bounds.fluents
-wide_of_goal (Far (Until chain)) t w bounds = bounds.fluents
-wide_of_goal (Far (Patrol visits)) t w bounds = bounds.fluents
+wide_of_goal (Until chain) t w bounds = bounds.fluents
+wide_of_goal (Patrol visits) t w bounds = bounds.fluents
 
 small_of_goal : (goal : ContextGoal) (t : Task) (w : ℕ) → BoundsGoalSets goal t w → AreSmall (fluent_count t) w (IsMadeByEncode t)
-small_of_goal (Chain chain) t w bounds = λ set made. bounds.small set (of_chain set made)
-small_of_goal (Far (Until chain)) t w bounds = λ set made. bounds.small set (of_until set made)
-small_of_goal (Far (Patrol visits)) t w bounds = λ set made. bounds.small set (of_patrol set made)
+small_of_goal (Until chain) t w bounds = λ set made. bounds.small set (of_until set made)
+small_of_goal (Patrol visits) t w bounds = λ set made. bounds.small set (of_patrol set made)
 
 -- while the sets of the task are made, few nodes are fewer than are enough by the sets
 few_for_sets : (t : Task) (n w limit : ℕ) → limit < kept_nodes t + 220 * w + 13 * (w * w) → limit < enough_by_sets n t w

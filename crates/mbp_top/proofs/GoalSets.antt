@@ -5,13 +5,13 @@ use Rattle.std.specs.List.{list_all}
 use Rattle.std.specs.Option.{option_map, option_map_or}
 use Rattle.std.specs.Prelude.{option_to_list, ⊤}
 use Rattle.std.proofs.lemmas.List.{length-map}
-use Rattle.ctl_syntax.specs.ChainValues.{states_of}
-use Rattle.ctl_syntax.specs.Conditions.{CondTree, condition_value}
-use Rattle.ctl_syntax.specs.FarGoals.{plain_patrol, plain_until}
-use Rattle.ctl_syntax.specs.FarValues.{patrol_goal, stage_sets, stage_value, until_chain}
+use Rattle.ctl_syntax.specs.Conditions.{CondTree, condition_value, states_of}
+use Rattle.ctl_syntax.specs.ContextGoals.{PlainGoal, plain_patrol, plain_until}
+use Rattle.ctl_syntax.specs.GoalValues.{GoalTree, tree_of_goal, patrol_goal, stage_sets, stage_value, until_chain}
 use Rattle.ctl_syntax.specs.UntilChains.{GuardedStage, PlainStage}
-use Rattle.ctl_syntax.specs.declared.far.Far.TheVariants.{Patrol, Until}
-use Rattle.ctl_syntax.specs.declared.far.UntilStage.{UntilStage}
+use Rattle.ctl_syntax.specs.declared.context_goals.ContextGoal.{ContextGoal}
+use Rattle.ctl_syntax.specs.declared.context_goals.ContextGoal.TheVariants.{Patrol, Until}
+use Rattle.ctl_syntax.specs.declared.context_goals.UntilStage.{UntilStage}
 use Rattle.ctl_syntax.proofs.ConditionTrees.{holds_is, tree_holds}
 use Rattle.pddl_ast.specs.Trees.{DomainTree, FormulaTree, ProblemTree}
 use Rattle.pddl_system.specs.Fluents.{fluents}
@@ -22,13 +22,11 @@ use Rattle.plan_theory.specs.UntilChains.{SetStage}
 use Rattle.task_core.specs.Cubes.{SetOfVectors}
 use Rattle.task_core.specs.Vectors.{Vector, value_of}
 use Rattle.task_core.specs.declared.conditions.Cond.{Cond}
-use Rattle.mbp_top.specs.ContextGoals.{PlainGoal, most_parts, most_stages, most_visits, part_count, part_limit, plain_chain, plain_far}
+use Rattle.mbp_top.specs.ContextGoals.{most_parts, most_stages, most_visits, part_count, part_limit}
 use Rattle.mbp_top.specs.FoundGoals.{CountsAs}
-use Rattle.mbp_top.specs.GoalConditions.{GoalTree, HasSomeVisit, chain_goal, count_of, far_goal, grounded_formula, grounded_formulas, grounded_or_true, grounded_parts, grounded_stage, limit_of_goal, most_of, sets_of_goal, tree_of_goal}
-use Rattle.mbp_top.specs.GoalSets.{GoalSets, all_hold, goal_sets, guarded_stage, of_chain, of_patrol, of_until, one_holds}
+use Rattle.mbp_top.specs.GoalConditions.{HasSomeVisit, count_of, grounded_parts, grounded_formula, grounded_formulas, grounded_or_true, grounded_stage, limit_of_goal, most_of, sets_of_goal}
+use Rattle.mbp_top.specs.GoalSets.{GoalSets, all_hold, goal_sets, guarded_stage, of_patrol, of_until, one_holds}
 use Rattle.mbp_top.specs.Words.{Bytes}
-use Rattle.mbp_top.specs.declared.context_goals.ContextGoal.{ContextGoal}
-use Rattle.mbp_top.specs.declared.context_goals.ContextGoal.TheVariants.{Chain, Far}
 use Rattle.mbp_top.proofs.GoalParts.{HasVisit, map_map, map_same}
 
 all_same : {X : Type 0} (f g : X → Bool) (xs : List X) → ((x : X) → f x ≡ g x) → list_all f xs ≡ list_all g xs
@@ -44,9 +42,8 @@ stage_of_tree stage = record { guard = set_of_tree stage.guard; target = set_of_
 
 -- the sets of a tree
 abbrev sets_of_tree : GoalTree → GoalSets
-sets_of_tree (chain_goal tree) = of_chain (record { stages = map set_of_tree tree.stages; keep = set_of_tree tree.keep })
-sets_of_tree (far_goal (until_chain tree)) = of_until (record { stages = map stage_of_tree tree.stages; keep = set_of_tree tree.keep })
-sets_of_tree (far_goal (patrol_goal trees)) = of_patrol (map set_of_tree trees)
+sets_of_tree (until_chain tree) = of_until (record { stages = map stage_of_tree tree.stages; keep = set_of_tree tree.keep })
+sets_of_tree (patrol_goal trees) = of_patrol (map set_of_tree trees)
 
 of_condition : (c : Cond) → states_of c ≡ set_of_tree (condition_value c)
 of_condition c = λ i v. holds_is c (value_of v) i
@@ -61,15 +58,11 @@ of_stage s =
     λ i. record { guard = guard i; target = target i }
 
 sets_by_tree : (goal : ContextGoal) → sets_of_goal goal ≡ sets_of_tree (tree_of_goal goal)
-sets_by_tree (Chain chain) =
-    let stages = of_conditions chain.stages.items in
-    let keep = of_condition chain.keep in
-    λ i. of_chain (record { stages = stages i; keep = keep i })
-sets_by_tree (Far (Until chain)) =
+sets_by_tree (Until chain) =
     let stages = map_same stage_sets (λ s. stage_of_tree (stage_value s)) chain.stages.items of_stage ∙ sym (map_map stage_of_tree stage_value chain.stages.items) in
     let keep = of_condition chain.keep in
     λ i. of_until (record { stages = stages i; keep = keep i })
-sets_by_tree (Far (Patrol visits)) = ap of_patrol (of_conditions visits.items)
+sets_by_tree (Patrol visits) = ap of_patrol (of_conditions visits.items)
 
 module _ (d : DomainTree) (p : ProblemTree) where
   one_formula : (f : FormulaTree) (v : Vector) → tree_holds (grounded_formula d p f) (value_of v) ≡ formula_holds (setting d p) (fluents d p) v f []
@@ -105,15 +98,11 @@ module _ (d : DomainTree) (p : ProblemTree) where
       λ i. record { guard = guard i; target = target i }
 
   sets_of_parts : (parts : PlainGoal FormulaTree) → sets_of_tree (grounded_parts d p parts) ≡ goal_sets d p parts
-  sets_of_parts (plain_chain c) =
-      let stages = map_map set_of_tree (grounded_formulas d p) c.stages ∙ map_same (λ fs. set_of_tree (grounded_formulas d p fs)) (all_hold d p) c.stages set_of_formulas in
-      let keep = of_given c.keep in
-      λ i. of_chain (record { stages = stages i; keep = keep i })
-  sets_of_parts (plain_far (plain_until c)) =
+  sets_of_parts (plain_until c) =
       let stages = map_map stage_of_tree (grounded_stage d p) c.stages ∙ map_same (λ s. stage_of_tree (grounded_stage d p s)) (guarded_stage d p) c.stages of_guarded in
       let keep = of_given c.keep in
       λ i. of_until (record { stages = stages i; keep = keep i })
-  sets_of_parts (plain_far (plain_patrol fs)) =
+  sets_of_parts (plain_patrol fs) =
       ap of_patrol (map_map set_of_tree (grounded_formula d p) fs ∙ map_same (λ f. set_of_tree (grounded_formula d p f)) (one_holds d p) fs set_of_one)
 
   pub same_sets : (goal : ContextGoal) (parts : PlainGoal FormulaTree) → tree_of_goal goal ≡ grounded_parts d p parts → sets_of_goal goal ≡ goal_sets d p parts
@@ -121,65 +110,53 @@ module _ (d : DomainTree) (p : ProblemTree) where
 
 -- the number of stages or visits, and the limit on it, by the tree
 abbrev tree_count : GoalTree → ℕ
-tree_count (chain_goal tree) = length tree.stages
-tree_count (far_goal (until_chain tree)) = length tree.stages
-tree_count (far_goal (patrol_goal trees)) = length trees
+tree_count (until_chain tree) = length tree.stages
+tree_count (patrol_goal trees) = length trees
 
 abbrev tree_most : GoalTree → ℕ
-tree_most (chain_goal tree) = most_stages
-tree_most (far_goal (until_chain tree)) = most_stages
-tree_most (far_goal (patrol_goal trees)) = most_visits
+tree_most (until_chain tree) = most_stages
+tree_most (patrol_goal trees) = most_visits
 
 abbrev tree_limit : GoalTree → Bytes
-tree_limit (chain_goal tree) = codes "stages"
-tree_limit (far_goal (until_chain tree)) = codes "stages"
-tree_limit (far_goal (patrol_goal trees)) = codes "patrol"
+tree_limit (until_chain tree) = codes "stages"
+tree_limit (patrol_goal trees) = codes "patrol"
 
 abbrev TreeHasVisit : GoalTree → Type 0
-TreeHasVisit (chain_goal tree) = ⊤
-TreeHasVisit (far_goal (until_chain tree)) = ⊤
-TreeHasVisit (far_goal (patrol_goal trees)) = 1 ≤ length trees
+TreeHasVisit (until_chain tree) = ⊤
+TreeHasVisit (patrol_goal trees) = 1 ≤ length trees
 
 goal_count : (goal : ContextGoal) → count_of goal ≡ tree_count (tree_of_goal goal)
-goal_count (Chain chain) = sym (length-map chain.stages.items condition_value)
-goal_count (Far (Until chain)) = sym (length-map chain.stages.items stage_value)
-goal_count (Far (Patrol visits)) = sym (length-map visits.items condition_value)
+goal_count (Until chain) = sym (length-map chain.stages.items stage_value)
+goal_count (Patrol visits) = sym (length-map visits.items condition_value)
 
 goal_most : (goal : ContextGoal) → most_of goal ≡ tree_most (tree_of_goal goal)
-goal_most (Chain chain) = refl
-goal_most (Far (Until chain)) = refl
-goal_most (Far (Patrol visits)) = refl
+goal_most (Until chain) = refl
+goal_most (Patrol visits) = refl
 
 goal_limit : (goal : ContextGoal) → limit_of_goal goal ≡ tree_limit (tree_of_goal goal)
-goal_limit (Chain chain) = refl
-goal_limit (Far (Until chain)) = refl
-goal_limit (Far (Patrol visits)) = refl
+goal_limit (Until chain) = refl
+goal_limit (Patrol visits) = refl
 
 goal_visit : (goal : ContextGoal) → TreeHasVisit (tree_of_goal goal) → HasSomeVisit goal
-goal_visit (Chain chain) some = tt
-goal_visit (Far (Until chain)) some = tt
-goal_visit (Far (Patrol visits)) some = subst (λ n. 1 ≤ n) (length-map visits.items condition_value) some
+goal_visit (Until chain) some = tt
+goal_visit (Patrol visits) some = subst (λ n. 1 ≤ n) (length-map visits.items condition_value) some
 
 module _ (d : DomainTree) (p : ProblemTree) where
   parts_count : (parts : PlainGoal FormulaTree) → tree_count (grounded_parts d p parts) ≡ part_count parts
-  parts_count (plain_chain c) = length-map c.stages (grounded_formulas d p)
-  parts_count (plain_far (plain_until c)) = length-map c.stages (grounded_stage d p)
-  parts_count (plain_far (plain_patrol fs)) = length-map fs (grounded_formula d p)
+  parts_count (plain_until c) = length-map c.stages (grounded_stage d p)
+  parts_count (plain_patrol fs) = length-map fs (grounded_formula d p)
 
   parts_most : (parts : PlainGoal FormulaTree) → tree_most (grounded_parts d p parts) ≡ most_parts parts
-  parts_most (plain_chain c) = refl
-  parts_most (plain_far (plain_until c)) = refl
-  parts_most (plain_far (plain_patrol fs)) = refl
+  parts_most (plain_until c) = refl
+  parts_most (plain_patrol fs) = refl
 
   parts_limit : (parts : PlainGoal FormulaTree) → tree_limit (grounded_parts d p parts) ≡ part_limit parts
-  parts_limit (plain_chain c) = refl
-  parts_limit (plain_far (plain_until c)) = refl
-  parts_limit (plain_far (plain_patrol fs)) = refl
+  parts_limit (plain_until c) = refl
+  parts_limit (plain_patrol fs) = refl
 
   parts_visit : (parts : PlainGoal FormulaTree) → HasVisit parts → TreeHasVisit (grounded_parts d p parts)
-  parts_visit (plain_chain c) some = tt
-  parts_visit (plain_far (plain_until c)) some = tt
-  parts_visit (plain_far (plain_patrol fs)) some = subst (λ n. 1 ≤ n) (sym (length-map fs (grounded_formula d p))) some
+  parts_visit (plain_until c) some = tt
+  parts_visit (plain_patrol fs) some = subst (λ n. 1 ≤ n) (sym (length-map fs (grounded_formula d p))) some
 
   pub same_counts : (goal : ContextGoal) (parts : PlainGoal FormulaTree) → tree_of_goal goal ≡ grounded_parts d p parts → HasVisit parts → CountsAs goal parts
   same_counts goal parts is some = record {

@@ -16,7 +16,8 @@ use Rattle.task_core.specs.declared.classes.Class.TheVariants.{Weak, Strong, Cyc
 use Rattle.plan_theory.specs.Layers.{IsLastLayer}
 use Rattle.plan_theory.specs.LayerPlans.{printed_rules}
 use Rattle.mbp_top.specs.Answers.{Answer, affirmed, denied, over_limit, refused}
-use Rattle.mbp_top.specs.ContextGoals.{ContextGoalThen, PlainGoal, most_parts, part_count, part_limit}
+use Rattle.ctl_syntax.specs.ContextGoals.{PlainGoal}
+use Rattle.mbp_top.specs.ContextGoals.{ContextGoalThen, most_parts, part_count, part_limit}
 use Rattle.mbp_top.specs.GoalSets.{goal_sets}
 use Rattle.mbp_top.specs.Grounding.{GroundThen}
 use Rattle.mbp_top.specs.PddlTexts.{ReadBoth}

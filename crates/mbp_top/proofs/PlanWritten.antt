@@ -16,7 +16,8 @@ use Rattle.mbp_top.specs.Enough.{IsTightPlan}
 use Rattle.mbp_top.specs.InitialStates.{empty_init}
 use Rattle.mbp_top.specs.PddlTexts.{HoldBoth, IsFaultyDomain, IsFaultyProblem, ReadBoth}
 use Rattle.mbp_top.specs.PlanCommand.{HasNoPlan, IsGoodText, IsNoPlanText, IsPlanAnswer, IsPlanFound, IsPlanMissing, IsPlanResult, IsPlanned, IsResultFrom, IsResultOf, IsShortText, IsTextPrinted, MayRunOut, PlanThen, is_sought}
-use Rattle.mbp_top.specs.ContextGoals.{ContextGoalThen, PlainGoal, context_goal, is_short_goal, most_parts, part_count, plain_goal}
+use Rattle.ctl_syntax.specs.ContextGoals.{PlainGoal, plain_goal}
+use Rattle.mbp_top.specs.ContextGoals.{ContextGoalThen, context_goal, is_short_goal, most_parts, part_count}
 use Rattle.mbp_top.specs.Reading.{IsRefusedFile}
 use Rattle.mbp_top.specs.Told.{AreFilesTold, NoFault}
 use Rattle.mbp_top.specs.ReplayCommand.{Tallies}

@@ -2,8 +2,8 @@
 -- There are two numbers that are enough: one by the sizes of the problem alone, and one by the sizes
 -- of the sets that a search makes. A table may be too small where it is for both.
 use Rattle.std.specs.Prelude.{ℕ, ◌+◌, ◌*◌, ◌^◌, ◌<◌}
-use Rattle.ctl_syntax.specs.declared.far.Far.TheVariants.{Patrol, Until}
-use Rattle.chain_plan.specs.WorkingSets.{IsWide as BoundsChainSets}
+use Rattle.ctl_syntax.specs.declared.context_goals.ContextGoal.{ContextGoal}
+use Rattle.ctl_syntax.specs.declared.context_goals.ContextGoal.TheVariants.{Patrol, Until}
 use Rattle.cyclic_plan.specs.WorkingSets.{IsWide as BoundsCyclicSets}
 use Rattle.dd_sets.specs.Rooms.{Tight}
 use Rattle.encode_task.specs.KeptSets.{kept_nodes}
@@ -21,8 +21,6 @@ use Rattle.mbp_top.specs.ContextGoals.{stage_count}
 use Rattle.mbp_top.specs.GoalConditions.{IsGoalOf, count_of}
 use Rattle.mbp_top.specs.Grounded.{IsTaskOf}
 use Rattle.mbp_top.specs.Words.{PlanKind, of_class, with_contexts}
-use Rattle.mbp_top.specs.declared.context_goals.ContextGoal.{ContextGoal}
-use Rattle.mbp_top.specs.declared.context_goals.ContextGoal.TheVariants.{Chain, Far}
 
 -- nodes that are enough for all sets that are live at a time and for one operation, where a plan for
 -- so many stages or visits is looked for, or a plan of a class (no stages). Over F fluents a set has fewer
@@ -68,12 +66,10 @@ pub record IsTightTask (stages nodes : ℕ) (task : Task) (Bounds : ℕ → Type
   pub by_sizes : IsTightLimit stages nodes (system_of task)
   pub by_sets : IsTightBySets stages nodes task Bounds
 
--- w bounds the sets that a search for a plan with contexts makes, for a chain, an until-chain or a
--- patrol goal
+-- w bounds the sets that a search for a plan with contexts makes, for an until-chain or a patrol goal
 abbrev pub BoundsGoalSets : ContextGoal → Task → ℕ → Type 0
-BoundsGoalSets (Chain chain) task w = BoundsChainSets w task chain
-BoundsGoalSets (Far (Until chain)) task w = BoundsUntilSets w task chain
-BoundsGoalSets (Far (Patrol visits)) task w = BoundsPatrolSets w task visits.items
+BoundsGoalSets (Until chain) task w = BoundsUntilSets w task chain
+BoundsGoalSets (Patrol visits) task w = BoundsPatrolSets w task visits.items
 
 -- Private: for a plan of a class, or for a plan with contexts for a goal
 abbrev pub IsTightForClass : Class → ℕ → Task → Type 0

@@ -1,9 +1,11 @@
 -- Private: what is known of what a search for a plan with contexts of a task found.
 use Rattle.std.specs.Prelude.{◌≡◌, ◌≢◌, ◌↔◌, ◌⊎◌, ⊤, ℕ, List, [], Option, Some, None}
 use Rattle.std.specs.Prelude.{Result, Ok, Err}
+use Rattle.ctl_syntax.specs.ContextGoals.{PlainGoal}
+use Rattle.ctl_syntax.specs.declared.context_goals.ContextGoal.{ContextGoal}
 use Rattle.dd_sets.specs.declared.errors.SetErr.{SetErr}
-use Rattle.patrol_plan.specs.declared.found.FoundFar.{FoundFar}
-use Rattle.patrol_plan.specs.declared.found.FoundFar.TheVariants.{NoPlan, Plan}
+use Rattle.patrol_plan.specs.declared.found.FoundAuto.{FoundAuto}
+use Rattle.patrol_plan.specs.declared.found.FoundAuto.TheVariants.{NoPlan, Plan}
 use Rattle.pddl_ast.specs.Trees.{DomainTree, FormulaTree, ProblemTree, TemporalTree}
 use Rattle.pddl_system.specs.Systems.{system}
 use Rattle.plan_rules.specs.Denoted.{denoted_contexts}
@@ -17,7 +19,7 @@ use Rattle.task_core.specs.Tasks.{action_count, action_names, fluent_count, flue
 use Rattle.task_core.specs.Tasks.{initial_states, system_of}
 use Rattle.task_core.specs.declared.tasks.Task.{Task}
 use Rattle.mbp_top.specs.Answers.{Answer, affirmed, denied}
-use Rattle.mbp_top.specs.ContextGoals.{PlainGoal, context_goal, most_parts, part_count, part_limit}
+use Rattle.mbp_top.specs.ContextGoals.{context_goal, most_parts, part_count, part_limit}
 use Rattle.mbp_top.specs.GoalConditions.{HasSomeVisit, IsGoalOf, count_of, limit_of_goal, most_of}
 use Rattle.mbp_top.specs.GoalConditions.{sets_of_goal}
 use Rattle.mbp_top.specs.GoalSets.{GoalSets, HasNoGoalPlan, HasSets, IsGoalPlan, contexts_for}
@@ -25,7 +27,6 @@ use Rattle.mbp_top.specs.GoalSets.{goal_sets, rules_for}
 use Rattle.mbp_top.specs.PlanCommand.{no_plan_text}
 use Rattle.mbp_top.specs.TemporalGoals.{HasGoal}
 use Rattle.mbp_top.specs.Words.{Bytes}
-use Rattle.mbp_top.specs.declared.context_goals.ContextGoal.{ContextGoal}
 
 -- Private: the plan is the one that is printed, and has the goal
 pub record IsPlanFor (task : Task) (sets : GoalSets) (plan : AutoPlan) : Type 0 where
@@ -36,13 +37,13 @@ pub record IsPlanFor (task : Task) (sets : GoalSets) (plan : AutoPlan) : Type 0 
   pub has : IsGoalPlan (system_of task) sets (denoted_contexts (context_rules_of plan))
 
 -- Private: what a search found: such a plan, or that there is none
-abbrev pub IsGoalSearched : Task → GoalSets → Result FoundFar SetErr → Type 0
+abbrev pub IsGoalSearched : Task → GoalSets → Result FoundAuto SetErr → Type 0
 IsGoalSearched task sets (Ok (Plan plan)) = IsPlanFor task sets plan
 IsGoalSearched task sets (Ok NoPlan) = HasNoGoalPlan (system_of task) sets
 IsGoalSearched task sets (Err e) = ⊤
 
 -- Private: what a search from the initial states found: that there is none, or what was looked for
-abbrev pub IsGoalSearchedFrom : Task → GoalSets → Result (Option FoundFar) SetErr → Type 0
+abbrev pub IsGoalSearchedFrom : Task → GoalSets → Result (Option FoundAuto) SetErr → Type 0
 IsGoalSearchedFrom task sets (Ok None) = initial_states task ≡ []
 IsGoalSearchedFrom task sets (Ok (Some found)) =
     (initial_states task ≢ []) × IsGoalSearched task sets (Ok found)

@@ -2,14 +2,11 @@
 -- which plan is printed.
 use Rattle.std.specs.Prelude.{ℕ, List, [], ◌∷◌, length, map, option_to_list}
 use Rattle.std.specs.List.{list_all}
-use Rattle.plan_theory.specs.Chains.{Chained, HasChain, context_count}
-use Rattle.plan_theory.specs.ChainPrinted.{chain_rules}
 use Rattle.plan_theory.specs.PatrolPrinted.{patrol_rules}
 use Rattle.plan_theory.specs.Patrols.{HasPatrol}
 use Rattle.plan_theory.specs.UntilChains.{HasUntil, SetStage, UntilSets, until_contexts}
 use Rattle.plan_theory.specs.UntilPrinted.{until_rules}
-use Rattle.ctl_syntax.specs.Chains.{PlainChain}
-use Rattle.ctl_syntax.specs.FarGoals.{plain_patrol, plain_until}
+use Rattle.ctl_syntax.specs.ContextGoals.{PlainGoal, plain_patrol, plain_until}
 use Rattle.ctl_syntax.specs.UntilChains.{PlainStage, PlainUntil}
 use Rattle.pddl_ast.specs.Trees.{DomainTree, FormulaTree, ProblemTree}
 use Rattle.pddl_system.specs.Fluents.{fluents}
@@ -19,17 +16,14 @@ use Rattle.plan_rules.specs.Rules.{ContextRule}
 use Rattle.task_core.specs.ContextPlans.{Configuration, ContextPlan, IsComplete, IsInitial}
 use Rattle.task_core.specs.Cubes.{SetOfVectors}
 use Rattle.task_core.specs.Systems.{System}
-use Rattle.mbp_top.specs.ContextGoals.{PlainGoal, plain_chain, plain_far}
 
--- the sets of a chain, of an until-chain, or of the visits of a patrol goal
+-- the sets of an until-chain, or of the visits of a patrol goal
 pub data GoalSets : Type 0 where
-  of_chain : Chained → GoalSets
   of_until : UntilSets → GoalSets
   of_patrol : List SetOfVectors → GoalSets
 
 -- the goal is true at a configuration, along the paths of the plan
 abbrev pub HasSets : System → ContextPlan → GoalSets → Configuration → Type 0
-HasSets sys plan (of_chain chain) = HasChain sys plan chain
 HasSets sys plan (of_until chain) = HasUntil sys plan chain
 HasSets sys plan (of_patrol visits) = HasPatrol sys plan visits
 
@@ -45,13 +39,11 @@ HasNoGoalPlan sys sets = (plan : ContextPlan) → IsGoalPlan sys sets plan → �
 -- the contexts of the plan that is printed: one for each stage and one for the end, or one for each
 -- visit
 abbrev pub contexts_for : GoalSets → ℕ
-contexts_for (of_chain chain) = context_count chain
 contexts_for (of_until chain) = until_contexts chain
 contexts_for (of_patrol visits) = length visits
 
 -- its rules
 abbrev pub rules_for : System → GoalSets → List ContextRule
-rules_for sys (of_chain chain) = chain_rules sys chain
 rules_for sys (of_until chain) = until_rules sys chain
 rules_for sys (of_patrol visits) = patrol_rules sys visits
 
@@ -64,14 +56,7 @@ all_hold domain problem formulas v =
 abbrev pub one_holds : DomainTree → ProblemTree → FormulaTree → SetOfVectors
 one_holds domain problem formula = all_hold domain problem (formula ∷ [])
 
--- a chain, as sets of states
-abbrev pub chained_of : DomainTree → ProblemTree → PlainChain FormulaTree → Chained
-chained_of domain problem chain = record {
-  stages = map (all_hold domain problem) chain.stages;
-  keep = all_hold domain problem (option_to_list chain.keep);
-}
-
--- a stage with its guard, and an until-chain
+-- a stage with its guard, and an until-chain, as sets of states
 abbrev pub guarded_stage : DomainTree → ProblemTree → PlainStage FormulaTree → SetStage
 guarded_stage domain problem stage = record {
   guard = all_hold domain problem (option_to_list stage.guard);
@@ -86,8 +71,5 @@ until_chained domain problem chain = record {
 
 -- a goal, as sets of states
 abbrev pub goal_sets : DomainTree → ProblemTree → PlainGoal FormulaTree → GoalSets
-goal_sets domain problem (plain_chain chain) = of_chain (chained_of domain problem chain)
-goal_sets domain problem (plain_far (plain_until chain)) =
-    of_until (until_chained domain problem chain)
-goal_sets domain problem (plain_far (plain_patrol visits)) =
-    of_patrol (map (one_holds domain problem) visits)
+goal_sets domain problem (plain_until chain) = of_until (until_chained domain problem chain)
+goal_sets domain problem (plain_patrol visits) = of_patrol (map (one_holds domain problem) visits)

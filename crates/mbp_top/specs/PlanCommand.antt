@@ -34,7 +34,8 @@ use Rattle.mbp_top.specs.Enough.{IsTightPlan}
 use Rattle.mbp_top.specs.InitialStates.{InitialThen, empty_init}
 use Rattle.mbp_top.specs.Meets.{Meaning, Meets, PlanMeets}
 use Rattle.mbp_top.specs.PddlTexts.{HoldBoth, ReadBoth}
-use Rattle.mbp_top.specs.ContextGoals.{ContextGoalThen, PlainGoal, context_goal, is_short_goal}
+use Rattle.ctl_syntax.specs.ContextGoals.{PlainGoal}
+use Rattle.mbp_top.specs.ContextGoals.{ContextGoalThen, context_goal, is_short_goal}
 use Rattle.mbp_top.specs.GoalSets.{GoalSets, contexts_for, goal_sets, rules_for}
 use Rattle.mbp_top.specs.Words.{Bytes, PlanKind, PlanWords, of_class, with_contexts}
 
@@ -136,7 +137,7 @@ text_for domain problem sets =
     automaton_text (fluent_names domain problem) (action_names domain problem)
     (contexts_for sets) (rules_for (system domain problem) sets)
 
--- the text is the one that is printed for a chain, an until-chain or a patrol goal: in each context
+-- the text is the one that is printed for an until-chain or a patrol goal: in each context
 -- the action towards the first stage that isn't met, or towards the visit that is made next
 abbrev pub IsPrintedPlan : DomainTree → ProblemTree → Bytes → Type 0
 IsPrintedPlan domain problem text =
@@ -190,8 +191,8 @@ IsResultFrom certified kind name domain problem =
     InitialThen (empty_init name problem) (system domain problem).initial
     (IsPlanResult certified kind domain problem)
 
--- the answer for a domain and a problem: with contexts the goal is first to be a short chain,
--- until-chain or patrol goal
+-- the answer for a domain and a problem: with contexts the goal is first to be a short until-chain or
+-- patrol goal
 abbrev pub IsResultOf : Bool → PlanKind → Bytes → DomainTree → ProblemTree → Answer → Type 0
 IsResultOf certified (of_class class) name domain problem =
     IsResultFrom certified (of_class class) name domain problem
@@ -203,7 +204,7 @@ PlanThen asked domain problem =
     IsResultOf asked.certified asked.kind asked.problem domain problem
 
 -- a plan of the kind is looked for: there is a goal for it, and a goal in computation tree logic is
--- a chain, an until-chain or a patrol goal of no more stages or visits than may be
+-- an until-chain or a patrol goal of no more stages or visits than may be
 abbrev pub is_sought : PlanKind → ProblemTree → Bool
 is_sought (of_class class) problem = is_some problem.goal
 is_sought with_contexts problem = is_short_goal problem

@@ -1,10 +1,11 @@
 //! The command `plan ctl`.
 
+ghost use Rattle.ctl_syntax.specs.GoalValues.{GoalIsAtMostDeep, GoalNamesBelow};
 ghost use Rattle.ctl_syntax.specs.Values.{IsAtMostDeep, NamesBelow, ctl_value};
 ghost use Rattle.mbp_top.specs.Answers.{full, no_memory, refused};
 ghost use Rattle.mbp_top.specs.Enough.{IsTightForGoal};
 ghost use Rattle.mbp_top.specs.FoundGoals.{IsGoalResult, StandsForGoal};
-ghost use Rattle.mbp_top.specs.GoalConditions.{GoalIsAtMostDeep, GoalNamesBelow, IsGoalOver, sets_of_goal};
+ghost use Rattle.mbp_top.specs.GoalConditions.{IsGoalOver, sets_of_goal};
 ghost use Rattle.mbp_top.specs.Grounded.{IsGroundedOf, IsTaskOf};
 ghost use Rattle.mbp_top.specs.PlanCommand.{MayBeTooFew, PlanThen};
 ghost use Rattle.mbp_top.specs.Values.{answer_of, kind_of, plan_words_of, shown_of};
@@ -16,16 +17,16 @@ ghost use Rattle.std.specs.Prelude.{length, ℕ};
 ghost use Rattle.task_core.specs.Tasks.{fluent_count, initial_states, system_of};
 
 use crate::answers::{Refusal, Shown, Text};
-use crate::context_goals::{ContextGoal, as_context_goal};
+use crate::context_goals::{most_parts, part_count, part_limit};
 use crate::context_search::search_goal;
 use crate::grounding::goal_in;
 use crate::initial_states::no_initial;
 use crate::plan_command::text_of_plan;
 use crate::words::PlanWords;
-use ctl_syntax::Ctl;
+use ctl_syntax::{ContextGoal, Ctl, as_context_goal};
 use dd_sets::SetErr;
 use ground_task::Grounded;
-use patrol_plan::FoundFar;
+use patrol_plan::FoundAuto;
 use pddl_ast::{Domain, Problem};
 use pddl_system::grounded_goals_are_true;
 use plan_rules::Plan;
@@ -102,8 +103,7 @@ fn plan_goal(
     }
 }
 
-/// The plan with contexts for a chain, an until-chain or a patrol goal that stands for the problem's
-/// goal.
+/// The plan with contexts for an until-chain or a patrol goal that stands for the problem's goal.
 fn plan_parts(
     alloc: Global,
     asked: &PlanWords,
@@ -125,8 +125,8 @@ fn plan_parts(
         ⊎ PlanThen asked (domain_value domain.now) (problem_value problem.now)
         (answer_of result) }
 {
-    if goal.parts() > goal.most_parts() {
-        return Err(Refusal::OverLimit(goal.limit()));
+    if part_count(goal) > most_parts(goal) {
+        return Err(Refusal::OverLimit(part_limit(goal)));
     }
     match plan_for_task(alloc, asked.options.nodes, task, goal) {
         Ok(Some(shown)) => Ok(shown),
@@ -153,11 +153,11 @@ fn plan_for_task(
     ensures full { IsErrOf result SetErr.Full → IsTightForGoal goal.now nodes task.now }
 {
     match search_goal(alloc, nodes, task, goal)? {
-        Some(FoundFar::Plan(plan)) => {
+        Some(FoundAuto::Plan(plan)) => {
             let text = text_of_plan(alloc, &Plan::Auto(plan), task)?;
             Ok(Some(Shown::Affirmed(text)))
         }
-        Some(FoundFar::NoPlan) => Ok(Some(Shown::Denied(Text::Fixed("no plan\n")))),
+        Some(FoundAuto::NoPlan) => Ok(Some(Shown::Denied(Text::Fixed("no plan\n")))),
         None => Ok(None),
     }
 }

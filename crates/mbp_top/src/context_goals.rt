@@ -1,101 +1,44 @@
-//! The goals in computation tree logic that plans with contexts are looked for.
+//! How many stages or visits a goal has that plans with contexts are looked for, and how many it may
+//! have.
 
-ghost use Rattle.ctl_syntax.specs.ChainValues.{chain_conditions};
-ghost use Rattle.ctl_syntax.specs.Chains.{chain_of};
-ghost use Rattle.ctl_syntax.specs.Values.{IsAtMostDeep, NamesBelow, ctl_value};
-ghost use Rattle.mbp_top.specs.ContextGoals.{plain_goal};
-ghost use Rattle.mbp_top.specs.GoalConditions.{
-  GoalIsAtMostDeep,
-  GoalNamesBelow,
-  count_of,
-  goal_conditions,
-  limit_of_goal,
-  most_of,
-  tree_of_goal,
-};
+ghost use Rattle.mbp_top.specs.GoalConditions.{count_of, limit_of_goal, most_of};
 ghost use Rattle.mbp_top.specs.Values.{limit_of};
-ghost use Rattle.std.specs.Option.{option_map};
-ghost use Rattle.std.specs.Prelude.{◌≡◌, ◌+◌, ℕ, IfOk, IfSome, None};
+ghost use Rattle.std.specs.Prelude.{◌≡◌};
 
 use crate::answers::Limit;
-use ctl_syntax::{Chain, Ctl, Far, as_chain, as_far};
-use std::alloc::{AllocError, Global};
+use ctl_syntax::ContextGoal;
 
-/// The most stages of a chain or an until-chain.
+/// The most stages of an until-chain.
 const MOST_STAGES: usize = 32;
 /// The most visits of a patrol goal.
 const MOST_VISITS: usize = 8;
 
-/// A goal that plans with contexts are looked for.
-#[derive(Drop)]
-pub enum ContextGoal {
-    /// A chain.
-    Chain(Chain),
-    /// An until-chain, or a patrol goal.
-    Far(Far),
-}
-
-impl ContextGoal {
-    /// How many stages it has, or how many visits.
-    pub fn parts(&self) -> usize
-        ensures { result ≡ count_of self.now }
-    {
-        match self {
-            ContextGoal::Chain(chain) => chain.stages.len(),
-            ContextGoal::Far(Far::Until(chain)) => chain.stages.len(),
-            ContextGoal::Far(Far::Patrol(visits)) => visits.len(),
-        }
-    }
-
-    /// How many it may have.
-    pub fn most_parts(&self) -> usize
-        ensures { result ≡ most_of self.now }
-    {
-        match self {
-            ContextGoal::Chain(_) | ContextGoal::Far(Far::Until(_)) => MOST_STAGES,
-            ContextGoal::Far(Far::Patrol(_)) => MOST_VISITS,
-        }
-    }
-
-    /// What must not be passed then.
-    pub fn limit(&self) -> Limit
-        ensures { limit_of result ≡ limit_of_goal self.now }
-    {
-        match self {
-            ContextGoal::Chain(_) | ContextGoal::Far(Far::Until(_)) => Limit::Stages,
-            ContextGoal::Far(Far::Patrol(_)) => Limit::Patrol,
-        }
-    }
-}
-
-/// The chain, the until-chain or the patrol goal that a goal is; `None` exactly where it is none. Every
-/// chain is an until-chain, too, and it is taken for a chain.
-pub(crate) fn as_context_goal(alloc: Global, goal: &Ctl) -> Result<Option<ContextGoal>, AllocError>
-    ensures answer { IfOk result (λ found. option_map tree_of_goal found
-        ≡ option_map goal_conditions (plain_goal (ctl_value goal.now))) }
-    ensures names { (n : ℕ) → NamesBelow n (ctl_value goal.now)
-        → IfOk result (λ found. IfSome found (GoalNamesBelow n)) }
-    ensures shallow { (n : ℕ) → IsAtMostDeep n (ctl_value goal.now)
-        → IfOk result (λ found. IfSome found (GoalIsAtMostDeep (n + 1))) }
+/// How many stages a goal has, or how many visits.
+pub(crate) fn part_count(goal: &ContextGoal) -> usize
+    ensures { result ≡ count_of goal.now }
 {
-    match as_chain(alloc, goal)? {
-        Some(chain) => Ok(Some(ContextGoal::Chain(chain))),
-        None => beyond_chains(alloc, goal),
+    match goal {
+        ContextGoal::Until(chain) => chain.stages.len(),
+        ContextGoal::Patrol(visits) => visits.len(),
     }
 }
 
-/// The same of a goal that is no chain.
-fn beyond_chains(alloc: Global, goal: &Ctl) -> Result<Option<ContextGoal>, AllocError>
-    requires { None ≡ option_map chain_conditions (chain_of (ctl_value goal.now)) }
-    ensures answer { IfOk result (λ found. option_map tree_of_goal found
-        ≡ option_map goal_conditions (plain_goal (ctl_value goal.now))) }
-    ensures names { (n : ℕ) → NamesBelow n (ctl_value goal.now)
-        → IfOk result (λ found. IfSome found (GoalNamesBelow n)) }
-    ensures shallow { (n : ℕ) → IsAtMostDeep n (ctl_value goal.now)
-        → IfOk result (λ found. IfSome found (GoalIsAtMostDeep (n + 1))) }
+/// How many it may have.
+pub(crate) fn most_parts(goal: &ContextGoal) -> usize
+    ensures { result ≡ most_of goal.now }
 {
-    match as_far(alloc, goal)? {
-        Some(far) => Ok(Some(ContextGoal::Far(far))),
-        None => Ok(None),
+    match goal {
+        ContextGoal::Until(_) => MOST_STAGES,
+        ContextGoal::Patrol(_) => MOST_VISITS,
+    }
+}
+
+/// What must not be passed then.
+pub(crate) fn part_limit(goal: &ContextGoal) -> Limit
+    ensures { limit_of result ≡ limit_of_goal goal.now }
+{
+    match goal {
+        ContextGoal::Until(_) => Limit::Stages,
+        ContextGoal::Patrol(_) => Limit::Patrol,
     }
 }

@@ -1,13 +1,11 @@
 //! The search for the plan with contexts for a goal, in two tries.
 
-ghost use Rattle.chain_plan.specs.Chains.{IsChainOver, chain_sets};
-ghost use Rattle.chain_plan.specs.WorkingSets.{IsWide as BoundsChainSets};
 ghost use Rattle.dd_sets.specs.Rooms.{NoRoom};
 ghost use Rattle.encode_task.specs.Made.{MadeOf};
 ghost use Rattle.mbp_top.specs.Enough.{BoundsGoalSets, IsTightForGoal};
 ghost use Rattle.mbp_top.specs.FoundGoals.{IsGoalSearched, IsGoalSearchedFrom};
 ghost use Rattle.mbp_top.specs.GoalConditions.{IsGoalOver, count_of, sets_of_goal};
-ghost use Rattle.mbp_top.specs.GoalSets.{of_chain, of_patrol, of_until};
+ghost use Rattle.mbp_top.specs.GoalSets.{of_patrol, of_until};
 ghost use Rattle.mbp_top.specs.Words.{IsNodeLimit};
 ghost use Rattle.patrol_plan.specs.Chains.{IsPatrolOver, IsUntilOver, until_sets, visit_sets};
 ghost use Rattle.patrol_plan.specs.PatrolWorkingSets.{IsWide as BoundsPatrolSets};
@@ -15,14 +13,12 @@ ghost use Rattle.patrol_plan.specs.WorkingSets.{IsWide as BoundsUntilSets};
 ghost use Rattle.std.specs.Prelude.{◌+◌, ◌*◌, IsErrOf, length, ℕ};
 ghost use Rattle.task_core.specs.Tasks.{action_count, fluent_count};
 
-use crate::context_goals::ContextGoal;
 use crate::initial_states::has_no_initial;
 use crate::ordered_sets::encode_ordered;
-use chain_plan::{FoundAuto, plan_chain};
-use ctl_syntax::{Chain, Far, UntilChain};
+use ctl_syntax::{ContextGoal, UntilChain};
 use dd_sets::{SetErr, no_room_is_small, no_room_is_tight, tight_is_monotone};
 use encode_task::{Enc, encode, kept_sets_bound_nodes};
-use patrol_plan::{FoundFar, plan_patrol, plan_until};
+use patrol_plan::{FoundAuto, plan_patrol, plan_until};
 use std::alloc::Global;
 use task_core::{Cond, Task};
 
@@ -35,7 +31,7 @@ pub(crate) fn search_goal(
     nodes: u32,
     task: &Task,
     goal: &ContextGoal,
-) -> Result<Option<FoundFar>, SetErr>
+) -> Result<Option<FoundAuto>, SetErr>
     requires room { IsNodeLimit nodes }
     requires goal { IsGoalOver (fluent_count task.now) goal.now }
     ensures found { IsGoalSearchedFrom task.now (sets_of_goal goal.now) result }
@@ -54,7 +50,7 @@ fn search_in_order(
     nodes: u32,
     task: &Task,
     goal: &ContextGoal,
-) -> Result<Option<FoundFar>, SetErr>
+) -> Result<Option<FoundAuto>, SetErr>
     requires room { IsNodeLimit nodes }
     requires goal { IsGoalOver (fluent_count task.now) goal.now }
     ensures found { IsGoalSearchedFrom task.now (sets_of_goal goal.now) result }
@@ -69,7 +65,7 @@ fn search_plainly(
     nodes: u32,
     task: &Task,
     goal: &ContextGoal,
-) -> Result<Option<FoundFar>, SetErr>
+) -> Result<Option<FoundAuto>, SetErr>
     requires room { IsNodeLimit nodes }
     requires goal { IsGoalOver (fluent_count task.now) goal.now }
     ensures found { IsGoalSearchedFrom task.now (sets_of_goal goal.now) result }
@@ -92,7 +88,7 @@ fn plan_from_initial(
     task: &Task,
     enc: &mut Enc,
     goal: &ContextGoal,
-) -> Result<Option<FoundFar>, SetErr>
+) -> Result<Option<FoundAuto>, SetErr>
     requires made { MadeOf task.now enc.old }
     requires goal { IsGoalOver (fluent_count task.now) goal.now }
     ensures found { IsGoalSearchedFrom task.now (sets_of_goal goal.now) result }
@@ -114,7 +110,7 @@ fn find_contexts(
     task: &Task,
     enc: &mut Enc,
     goal: &ContextGoal,
-) -> Result<FoundFar, SetErr>
+) -> Result<FoundAuto, SetErr>
     requires made { MadeOf task.now enc.old }
     requires goal { IsGoalOver (fluent_count task.now) goal.now }
     ensures found { IsGoalSearched task.now (sets_of_goal goal.now) result }
@@ -124,40 +120,8 @@ fn find_contexts(
         enc.old.sets enc.new.sets }
 {
     match goal {
-        ContextGoal::Chain(chain) => find_chain(alloc, task, enc, chain),
-        ContextGoal::Far(far) => find_far(alloc, task, enc, far),
-    }
-}
-
-/// The same for an until-chain or a patrol goal.
-fn find_far(alloc: Global, task: &Task, enc: &mut Enc, far: &Far) -> Result<FoundFar, SetErr>
-    requires made { MadeOf task.now enc.old }
-    requires goal { IsGoalOver (fluent_count task.now) (ContextGoal.Far far.now) }
-    ensures found { IsGoalSearched task.now (sets_of_goal (ContextGoal.Far far.now)) result }
-    ensures full { let parts = count_of (ContextGoal.Far far.now) in
-        IsErrOf result SetErr.Full → (w : ℕ) → BoundsGoalSets (ContextGoal.Far far.now) task.now w
-        → NoRoom w (action_count task.now * (parts + 3) + 8 * parts + 236) 16
-        enc.old.sets enc.new.sets }
-{
-    match far {
-        Far::Until(chain) => find_until(alloc, task, enc, chain),
-        Far::Patrol(visits) => find_patrol(alloc, task, enc, visits.as_slice()),
-    }
-}
-
-/// The same for a chain.
-fn find_chain(alloc: Global, task: &Task, enc: &mut Enc, chain: &Chain) -> Result<FoundFar, SetErr>
-    requires made { MadeOf task.now enc.old }
-    requires chain { IsChainOver (fluent_count task.now) chain.now }
-    ensures found { IsGoalSearched task.now (of_chain (chain_sets chain.now)) result }
-    ensures full { let parts = length chain.now.stages.items in
-        IsErrOf result SetErr.Full → (w : ℕ) → BoundsChainSets w task.now chain.now
-        → NoRoom w (action_count task.now * (parts + 3) + 8 * parts + 236) 16
-        enc.old.sets enc.new.sets }
-{
-    match plan_chain(alloc, task, enc, chain)? {
-        FoundAuto::Plan(plan) => Ok(FoundFar::Plan(plan)),
-        FoundAuto::NoPlan => Ok(FoundFar::NoPlan),
+        ContextGoal::Until(chain) => find_until(alloc, task, enc, chain),
+        ContextGoal::Patrol(visits) => find_patrol(alloc, task, enc, visits.as_slice()),
     }
 }
 
@@ -167,7 +131,7 @@ fn find_until(
     task: &Task,
     enc: &mut Enc,
     chain: &UntilChain,
-) -> Result<FoundFar, SetErr>
+) -> Result<FoundAuto, SetErr>
     requires made { MadeOf task.now enc.old }
     requires chain { IsUntilOver (fluent_count task.now) chain.now }
     ensures found { IsGoalSearched task.now (of_until (until_sets chain.now)) result }
@@ -185,7 +149,7 @@ fn find_patrol(
     task: &Task,
     enc: &mut Enc,
     visits: &[Cond],
-) -> Result<FoundFar, SetErr>
+) -> Result<FoundAuto, SetErr>
     requires made { MadeOf task.now enc.old }
     requires visits { IsPatrolOver (fluent_count task.now) visits.now }
     ensures found { IsGoalSearched task.now (of_patrol (visit_sets visits.now)) result }

@@ -38,7 +38,6 @@ mod words;
 
 pub use answers::{Limit, NO_MEMORY, Refusal, Shown, Text};
 pub use check_command::judge;
-pub use context_goals::ContextGoal;
 pub use delivery::deliver;
 pub use grounding::{check_goal, ground_both};
 pub use laws::{

@@ -21,10 +21,10 @@ use Rattle.task_core.specs.Systems.{System}
 use Rattle.task_core.specs.Tasks.{action_count, fluent_count}
 use Rattle.task_core.specs.declared.tasks.Task.{Task}
 use Rattle.task_core.proofs.TaskSystem.{is_system}
-use Rattle.ctl_syntax.specs.ChainValues.{states_of}
-use Rattle.ctl_syntax.specs.FarValues.{stage_sets}
-use Rattle.ctl_syntax.specs.declared.far.UntilChain.{UntilChain}
-use Rattle.ctl_syntax.specs.declared.far.UntilStage.{UntilStage}
+use Rattle.ctl_syntax.specs.Conditions.{states_of}
+use Rattle.ctl_syntax.specs.GoalValues.{stage_sets}
+use Rattle.ctl_syntax.specs.declared.context_goals.UntilChain.{UntilChain}
+use Rattle.ctl_syntax.specs.declared.context_goals.UntilStage.{UntilStage}
 use Rattle.patrol_plan.specs.Chains.{until_sets}
 use Rattle.patrol_plan.specs.Guards.{anywhere}
 use Rattle.patrol_plan.specs.Rounds.{first_lead, from_stage, turning_at}

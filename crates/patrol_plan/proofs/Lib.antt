@@ -16,6 +16,7 @@ pub mod TakenSteps
 pub mod OverSteps
 pub mod StageOrder
 pub mod RuleSteps
+pub mod RuleStates
 pub mod RuleFits
 pub mod PlanSteps
 pub mod FitSteps

@@ -1,9 +1,9 @@
 -- Which fluents the conditions of an until-chain name.
 use Rattle.std.proofs.Common.{◌≡◌, ℕ, ◌<◌, true, All, List, get_or, length, slice_index_or, sym, subst, ◌∙◌, arith}
 use Rattle.std.proofs.lemmas.List.Elements.{All-get_or}
-use Rattle.ctl_syntax.specs.FarValues.{EachInStage}
-use Rattle.ctl_syntax.specs.declared.far.UntilChain.{UntilChain}
-use Rattle.ctl_syntax.specs.declared.far.UntilStage.{UntilStage}
+use Rattle.ctl_syntax.specs.GoalValues.{EachInStage}
+use Rattle.ctl_syntax.specs.declared.context_goals.UntilChain.{UntilChain}
+use Rattle.ctl_syntax.specs.declared.context_goals.UntilStage.{UntilStage}
 use Rattle.task_core.specs.Conditions.{ids_below, is_shallow}
 use Rattle.task_core.specs.declared.conditions.Cond.{Cond}
 use Rattle.patrol_plan.specs.Chains.{IsConditionOver, IsPatrolOver, IsUntilOver}

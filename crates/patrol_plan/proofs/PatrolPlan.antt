@@ -9,7 +9,7 @@ use Rattle.dd_sets.specs.declared.slots.SetId.{SetId}
 use Rattle.encode_task.specs.Slots.{Encoded}
 use Rattle.slot_board.specs.Board as board
 use Rattle.slot_board.specs.Board.{HasNoRoom, set_at}
-use Rattle.ctl_syntax.specs.ChainValues.{states_of}
+use Rattle.ctl_syntax.specs.Conditions.{states_of}
 use Rattle.plan_theory.proofs.PatrolRules.{acts_as_patrol, patrol_rules_within}
 use Rattle.plan_theory.proofs.PatrolSound.{plan_solves}
 use Rattle.plan_theory.proofs.WeakLists.{list_all-agree}
@@ -31,8 +31,8 @@ use Rattle.patrol_plan.specs.Found.{IfNoPlan, IfPlan}
 use Rattle.patrol_plan.specs.PatrolAnswers.{IsPatrolAnswer, IsPatrolPlanOf, PatrolEnds}
 use Rattle.patrol_plan.specs.PatrolSteps.{HasPatrol, HasPatrolTable, visit_place}
 use Rattle.patrol_plan.specs.Scenes.{IsAt, Left, Scene, Start, board_of, states_at, sys_of, takers_place}
-use Rattle.patrol_plan.specs.declared.found.FoundFar.{FoundFar}
-use Rattle.patrol_plan.specs.declared.found.FoundFar.TheVariants.{NoPlan, Plan}
+use Rattle.patrol_plan.specs.declared.found.FoundAuto.{FoundAuto}
+use Rattle.patrol_plan.specs.declared.found.FoundAuto.TheVariants.{NoPlan, Plan}
 use Rattle.patrol_plan.proofs.SizeSteps.{placed_small}
 use Rattle.patrol_plan.proofs.TakenSteps.{takers_within}
 use Rattle.patrol_plan.proofs.VisitSteps.{visit_low}
@@ -90,30 +90,30 @@ patrol_stayed start conds enc now slots n h stayed =
     }
 
 -- what a refused step leaves of the search
-pub patrol_ends_refused : {T : Type 0} (start : Start) (x : Scene) (visits : List SetOfVectors) (P : Type 0) (inner : Result T SetErr) (outer : Result FoundFar SetErr) (e : SetErr) → inner ≡ Err e → (f : SetErr) × (outer ≡ Err f) × (f ≡ e) → Left start x P inner → PatrolEnds start x visits outer
+pub patrol_ends_refused : {T : Type 0} (start : Start) (x : Scene) (visits : List SetOfVectors) (P : Type 0) (inner : Result T SetErr) (outer : Result FoundAuto SetErr) (e : SetErr) → inner ≡ Err e → (f : SetErr) × (outer ≡ Err f) × (f ≡ e) → Left start x P inner → PatrolEnds start x visits outer
 patrol_ends_refused start x visits P inner outer e was p left =
     subst (PatrolEnds start x visits) (sym p.1) (let kept = subst (Left start x P) was left in (kept.0, λ full. kept.1 (sym p.2 ∙ full)))
 
 -- what the end of a search says
-pub ends_at : (start : Start) (x : Scene) (visits : List SetOfVectors) (result : Result FoundFar SetErr) → PatrolEnds start x visits result → IsAt start x
+pub ends_at : (start : Start) (x : Scene) (visits : List SetOfVectors) (result : Result FoundAuto SetErr) → PatrolEnds start x visits result → IsAt start x
 ends_at start x visits (Ok found) ends = ends.0
 ends_at start x visits (Err e) ends = ends.0
 
-pub ends_answer : (start : Start) (x : Scene) (visits : List SetOfVectors) (result : Result FoundFar SetErr) → PatrolEnds start x visits result → IfOk result (IsPatrolAnswer start.task visits)
+pub ends_answer : (start : Start) (x : Scene) (visits : List SetOfVectors) (result : Result FoundAuto SetErr) → PatrolEnds start x visits result → IfOk result (IsPatrolAnswer start.task visits)
 ends_answer start x visits (Ok found) ends = ends.1
 ends_answer start x visits (Err e) ends = tt
 
-pub ends_full : (start : Start) (x : Scene) (visits : List SetOfVectors) (result : Result FoundFar SetErr) → PatrolEnds start x visits result → IsErrOf result Full → HasNoRoom (board_of start) x.0
+pub ends_full : (start : Start) (x : Scene) (visits : List SetOfVectors) (result : Result FoundAuto SetErr) → PatrolEnds start x visits result → IsErrOf result Full → HasNoRoom (board_of start) x.0
 ends_full start x visits (Ok found) ends full = absurd (let h : Ok found ≡ Err Full = full in cc)
 ends_full start x visits (Err e) ends full = ends.1 (let h : Err e ≡ Err Full = full in cc)
 
 -- what is said of an answer
-pub patrol_answer_plan : (task : Task) (visits : List SetOfVectors) (P : AutoPlan → Type 0) (result : Result FoundFar SetErr) → ((plan : AutoPlan) → IsPatrolPlanOf task visits plan → P plan) → IfOk result (IsPatrolAnswer task visits) → IfOk result (λ found. IfPlan found P)
+pub patrol_answer_plan : (task : Task) (visits : List SetOfVectors) (P : AutoPlan → Type 0) (result : Result FoundAuto SetErr) → ((plan : AutoPlan) → IsPatrolPlanOf task visits plan → P plan) → IfOk result (IsPatrolAnswer task visits) → IfOk result (λ found. IfPlan found P)
 patrol_answer_plan task visits P (Ok (Plan plan)) each is = each plan is
 patrol_answer_plan task visits P (Ok NoPlan) each is = tt
 patrol_answer_plan task visits P (Err e) each is = tt
 
-pub patrol_answer_none : (task : Task) (visits : List SetOfVectors) (result : Result FoundFar SetErr) → IfOk result (IsPatrolAnswer task visits) → IfOk result (λ found. IfNoPlan found (HasNoPatrolPlan (system_of task) visits))
+pub patrol_answer_none : (task : Task) (visits : List SetOfVectors) (result : Result FoundAuto SetErr) → IfOk result (IsPatrolAnswer task visits) → IfOk result (λ found. IfNoPlan found (HasNoPatrolPlan (system_of task) visits))
 patrol_answer_none task visits (Ok (Plan plan)) is = tt
 patrol_answer_none task visits (Ok NoPlan) is = is
 patrol_answer_none task visits (Err e) is = tt

@@ -17,8 +17,8 @@ use Rattle.plan_theory.specs.UntilPlans.{HasNoUntilPlan, IsUntilPlan}
 use Rattle.plan_theory.specs.UntilPrinted.{until_rules}
 use Rattle.plan_theory.proofs.UntilRules.{acts_as_until, until_rules_within}
 use Rattle.plan_theory.proofs.UntilSound.{plan_solves}
-use Rattle.ctl_syntax.specs.FarValues.{stage_sets}
-use Rattle.ctl_syntax.specs.declared.far.UntilChain.{UntilChain}
+use Rattle.ctl_syntax.specs.GoalValues.{stage_sets}
+use Rattle.ctl_syntax.specs.declared.context_goals.UntilChain.{UntilChain}
 use Rattle.plan_rules.specs.Denoted.{denoted_contexts}
 use Rattle.plan_rules.specs.Plans.{IsContextRuleOf}
 use Rattle.plan_rules.specs.Rules.{ContextRule, context_rules_of}
@@ -35,8 +35,8 @@ use Rattle.patrol_plan.specs.Found.{IfNoPlan, IfPlan}
 use Rattle.patrol_plan.specs.Scenes.{HasNothing, IsAt, Left, SameStates, Scene, Start, Worked, board_of, place_count, rough_places, states_at, sys_of, win_place}
 use Rattle.patrol_plan.specs.Steps.{HasTakers, Won}
 use Rattle.patrol_plan.specs.Tables.{HasTable, start_of}
-use Rattle.patrol_plan.specs.declared.found.FoundFar.{FoundFar}
-use Rattle.patrol_plan.specs.declared.found.FoundFar.TheVariants.{NoPlan, Plan}
+use Rattle.patrol_plan.specs.declared.found.FoundAuto.{FoundAuto}
+use Rattle.patrol_plan.specs.declared.found.FoundAuto.TheVariants.{NoPlan, Plan}
 
 -- the test of the initial states leaves all places
 pub stayed_worked : (start : Start) (enc now : Encoded) (slots : List SetId) → board.Stayed (board_of start) enc.sets now slots → Worked start (enc, slots) (now, slots)
@@ -106,10 +106,10 @@ ends_refusal start x chain result e is ends = subst (Ends start x chain) is ends
 
 pub room_of : (start : Start) (now : Encoded) → HasNoRoom (board_of start) now → NoRoom start.width (action_count start.task * (start.stages + 3) + 8 * start.stages + 236) 16 start.enc.sets now.sets
 room_of start now full =
-    room_wider start.enc.sets (place_count (action_count start.task) start.stages + (2 * action_count start.task + 6 * start.stages + 218) + 8) (action_count start.task * (start.stages + 3) + 8 * start.stages + 236) (length rough_places + 4) 16
+    room_wider start.enc.sets (place_count (action_count start.task) start.stages + (action_count start.task + 6 * start.stages + 218) + 8) (action_count start.task * (start.stages + 3) + 8 * start.stages + 236) (length rough_places + 4) 16
     (room (action_count start.task) start.stages) (omega arith) full
   where
-    room : (a n : ℕ) → place_count a n + (2 * a + 6 * n + 218) + 8 ≤ a * (n + 3) + 8 * n + 236
+    room : (a n : ℕ) → place_count a n + (a + 6 * n + 218) + 8 ≤ a * (n + 3) + 8 * n + 236
     room a n = omega arith
 
 -- what a call leaves, whether or not it refuses
@@ -126,17 +126,17 @@ pub some_has : {T : Type 0} (o : Option T) (P : T → Type 0) (x : T) → o ≡ 
 some_has o P x is has = subst (λ (p : _). IfSome p P) is has
 
 -- what is said of an answer
-pub answer_plan : (task : Task) (chain : UntilSets) (P : AutoPlan → Type 0) (result : Result FoundFar SetErr) → ((plan : AutoPlan) → IsPlanOf task chain plan → P plan) → IfOk result (IsAnswer task chain) → IfOk result (λ found. IfPlan found P)
+pub answer_plan : (task : Task) (chain : UntilSets) (P : AutoPlan → Type 0) (result : Result FoundAuto SetErr) → ((plan : AutoPlan) → IsPlanOf task chain plan → P plan) → IfOk result (IsAnswer task chain) → IfOk result (λ found. IfPlan found P)
 answer_plan task chain P (Ok (Plan plan)) each is = each plan is
 answer_plan task chain P (Ok NoPlan) each is = tt
 answer_plan task chain P (Err e) each is = tt
 
-pub answer_no_plan : (task : Task) (chain : UntilSets) (result : Result FoundFar SetErr) → IfOk result (IsAnswer task chain) → IfOk result (λ found. IfNoPlan found (HasNoUntilPlan (system_of task) chain))
+pub answer_no_plan : (task : Task) (chain : UntilSets) (result : Result FoundAuto SetErr) → IfOk result (IsAnswer task chain) → IfOk result (λ found. IfNoPlan found (HasNoUntilPlan (system_of task) chain))
 answer_no_plan task chain (Ok (Plan plan)) is = tt
 answer_no_plan task chain (Ok NoPlan) is = is
 answer_no_plan task chain (Err e) is = tt
 
-pub first_places : (task : Task) (enc now : Encoded) (made : MadeOf task enc) (n w places spare : ℕ) (wide : fluent_count task + 2 ≤ w) (slots : List _) → places ≡ place_count (action_count task) n → spare ≡ 2 * action_count task + 6 * n + 218
+pub first_places : (task : Task) (enc now : Encoded) (made : MadeOf task enc) (n w places spare : ℕ) (wide : fluent_count task + 2 ≤ w) (slots : List _) → places ≡ place_count (action_count task) n → spare ≡ action_count task + 6 * n + 218
     → board.HasNothing (record { task = task; enc = enc; made = made; places = places; spare = spare; width = w; wide = wide; rough = rough_places }) now slots → HasNothing (start_of task enc made n w wide) (now, slots)
 first_places task enc now made n w places spare wide slots e f h =
     subst (λ k. board.HasNothing (record { task = task; enc = enc; made = made; places = place_count (action_count task) n; spare = k; width = w; wide = wide; rough = rough_places }) now slots) f

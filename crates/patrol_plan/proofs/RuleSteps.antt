@@ -1,5 +1,5 @@
 -- The rules of a plan: of one action, one next context and one context more.
-use Rattle.std.proofs.Common.{◌≡◌, ℕ, suc, ◌+◌, ◌-◌, ◌*◌, ◌<◌, ◌≤◌, ◌==◌, Bool, true, false, not, ◌&&◌, List, [], ◌∷◌, ◌++◌, drop, length, map, IfErr, OnOk, Result, Ok, Err, refl, sym, ap, subst, ◌∙◌, ⊎_elim, arith}
+use Rattle.std.proofs.Common.{◌≡◌, ℕ, suc, ◌+◌, ◌-◌, ◌*◌, ◌<◌, ◌≤◌, ◌==◌, Bool, true, false, not, ◌&&◌, List, [], ◌∷◌, ◌++◌, drop, length, map, IfErr, OnOk, Result, Ok, Err, refl, sym, ap, subst, ◌∙◌, inl, ⊎_elim, arith}
 use Rattle.std.specs.Prelude.{nat_le}
 use Rattle.std.specs.List.{flat_map, range_with_len}
 use Rattle.std.proofs.lemmas.Bool.{cases_lt, eq-eqb, eqb-true, le-leb}
@@ -22,14 +22,14 @@ use Rattle.task_core.specs.Cubes.{SetOfVectors}
 use Rattle.task_core.specs.Systems.{System}
 use Rattle.task_core.specs.Tasks.{action_count, fluent_count}
 use Rattle.patrol_plan.specs.Listing.{Lists, ListsStages, ListsTurning, rule_for, rules_for}
-use Rattle.patrol_plan.specs.Scenes.{IsAt, Left, Moved, SameStates, Scene, Start, Worked, met_place, states_at, sys_of, takers_place, win_place}
+use Rattle.patrol_plan.specs.Scenes.{Changed, IsAt, Left, Moved, SameStates, Scene, Start, Worked, met_place, rules_place, states_at, sys_of, takers_place, win_place}
 use Rattle.patrol_plan.specs.Rounds.{from_stage, turning_at}
 use Rattle.patrol_plan.specs.Steps.{HasRest, HasTakers}
 use Rattle.patrol_plan.specs.WorkingSets.{met_first}
 use Rattle.patrol_plan.specs.Tables.{HasTable, HasTurning}
-use Rattle.patrol_plan.proofs.SceneSteps.{copied_states, long_enough, met_states, moved_low, moved_worked, rest_states}
+use Rattle.patrol_plan.proofs.SceneSteps.{copied_states, long_enough, met_states, moved_low, moved_worked, rest_states, worked_changed}
 use Rattle.patrol_plan.proofs.StageOrder.{at_this, from_next, won_this}
-use Rattle.patrol_plan.proofs.TakenSteps.{takers_within}
+use Rattle.patrol_plan.proofs.TakenSteps.{takers_apart, takers_within}
 use Rattle.patrol_plan.proofs.WinSteps.{drop_none}
 
 -- lists of rules
@@ -42,9 +42,10 @@ flat_more f a n =
     ∙ sym (flat_map-append f (range_with_len a n) ((a + n) ∷ []))
     ∙ ap (flat_map f) (sym (range_last a n))
 
--- all places but the working ones stay
-pub has_still : (start : Start) (x y : Scene) (chain : UntilSets) (i : ℕ) → HasTakers start x chain i → Worked start x y → HasTakers start y chain i
-has_still start x y chain i h w = record {
+-- what stands before the states of rules stays
+pub has_beside : (start : Start) (x y : Scene) (chain : UntilSets) (i : ℕ) → HasTakers start x chain i
+    → Changed start x y (rules_place (action_count start.task) start.stages) (rules_place (action_count start.task) start.stages + action_count start.task) → HasTakers start y chain i
+has_beside start x y chain i h w = record {
   ready = w.ready;
   fits = h.fits;
   won = record {
@@ -57,12 +58,23 @@ has_still start x y chain i h w = record {
 }
   where
     early : (k : ℕ) → 8 ≤ k → k < 10 + 2 * start.stages → states_at y k ≡ states_at x k
-    early k high less = w.kept k high (long_enough start y w.ready.at k less)
+    early k high less = w.kept k high (long_enough start y w.ready.at k less) (inl (early_place (suc start.stages * action_count start.task)))
+      where
+        early_place : (t : ℕ) → k < 10 + 2 * start.stages + t
+        early_place t = omega arith
 
     late : (j a : ℕ) → j ≤ start.stages → a < action_count start.task → states_at y (takers_place (action_count start.task) start.stages j + a) ≡ states_at x (takers_place (action_count start.task) start.stages j + a)
     late j a low below =
         let fits = takers_within start y w.ready.at j (omega arith) in
+        let apart = takers_apart (action_count start.task) start.stages j (suc start.stages) (omega arith) in
         w.kept (takers_place (action_count start.task) start.stages j + a) (omega arith) (omega arith)
+        (inl (let m : takers_place (action_count start.task) start.stages j + a < rules_place (action_count start.task) start.stages = omega arith in m))
+
+-- and so do all places but the working ones
+pub has_still : (start : Start) (x y : Scene) (chain : UntilSets) (i : ℕ) → HasTakers start x chain i → Worked start x y → HasTakers start y chain i
+has_still start x y chain i h w =
+    has_beside start x y chain i h
+    (worked_changed start x y (rules_place (action_count start.task) start.stages) (rules_place (action_count start.task) start.stages + action_count start.task) w)
 
 -- where a stage is met, and after the last one nowhere
 mets_all : (start : Start) (x : Scene) (chain : UntilSets) (j : ℕ) → length chain.stages ≡ start.stages → j ≤ start.stages → HasTakers start x chain (suc start.stages) → SameStates start (states_at x (met_place j)) (met_first (sys_of start) chain.keep (drop j chain.stages))

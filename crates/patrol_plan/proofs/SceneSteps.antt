@@ -23,7 +23,7 @@ pub same_length : (start : Start) (x y : Scene) → IsAt start x → IsAt start 
 same_length start x y first second = second.long ∙ sym first.long
 
 pub long_enough : (start : Start) (x : Scene) → IsAt start x → (k : ℕ) → k < 10 + 2 * start.stages → k < length x.1
-long_enough start x at k low = go (suc start.stages * action_count start.task) at.long
+long_enough start x at k low = go (suc (suc start.stages) * action_count start.task) at.long
   where
     go : (t : ℕ) → length x.1 ≡ 10 + 2 * start.stages + t → k < length x.1
     go t e = omega arith
@@ -32,7 +32,7 @@ pub low : (start : Start) (x : Scene) → IsAt start x → (k : ℕ) → k < 10 
 low start x at k less = long_enough start x at k (omega arith)
 
 -- what a condition may need
-pub spare_enough : (start : Start) → 196 ≤ 2 * action_count start.task + 6 * start.stages + 218
+pub spare_enough : (start : Start) → 196 ≤ action_count start.task + 6 * start.stages + 218
 spare_enough start = omega arith
 
 -- a set as its states

@@ -13,10 +13,10 @@ use Rattle.task_core.specs.Tasks.{action_count}
 use Rattle.patrol_plan.specs.Scenes.{Changed, ChangedIn, IsAt, Moved, SameStates, Scene, Start, guarded, met_place, states_at, sys_in, sys_of, takers_place, win_place}
 use Rattle.patrol_plan.specs.Chains.{until_sets}
 use Rattle.patrol_plan.specs.Guards.{anywhere}
-use Rattle.ctl_syntax.specs.ChainValues.{states_of}
-use Rattle.ctl_syntax.specs.FarValues.{stage_sets}
-use Rattle.ctl_syntax.specs.declared.far.UntilChain.{UntilChain}
-use Rattle.ctl_syntax.specs.declared.far.UntilStage.{UntilStage}
+use Rattle.ctl_syntax.specs.Conditions.{states_of}
+use Rattle.ctl_syntax.specs.GoalValues.{stage_sets}
+use Rattle.ctl_syntax.specs.declared.context_goals.UntilChain.{UntilChain}
+use Rattle.ctl_syntax.specs.declared.context_goals.UntilStage.{UntilStage}
 use Rattle.patrol_plan.specs.Sizes.{ClimbsFit, IsSmall, ShareFits, UntilFits}
 use Rattle.patrol_plan.specs.Steps.{Climbed, FirstTaken, HasTakers, HasWins, Won, takers_of}
 use Rattle.patrol_plan.specs.WorkingSets.{met_first}
@@ -35,10 +35,10 @@ takers_apart actions stages i j less =
     let step : suc i * actions ≡ i * actions + actions = omega arith in
     omega arith
 
-pub takers_within : (start : Start) (x : Scene) → IsAt start x → (i : ℕ) → i ≤ start.stages → takers_place (action_count start.task) start.stages i + action_count start.task ≤ length x.1
+pub takers_within : (start : Start) (x : Scene) → IsAt start x → (i : ℕ) → i ≤ suc start.stages → takers_place (action_count start.task) start.stages i + action_count start.task ≤ length x.1
 takers_within start x at i few =
-    let apart = takers_apart (action_count start.task) start.stages i (suc start.stages) (omega arith) in
-    let e : length x.1 ≡ takers_place (action_count start.task) start.stages (suc start.stages) = at.long in
+    let apart = takers_apart (action_count start.task) start.stages i (suc (suc start.stages)) (omega arith) in
+    let e : length x.1 ≡ takers_place (action_count start.task) start.stages (suc (suc start.stages)) = at.long in
     omega arith
 
 -- the places beside the guard stay while it is put

@@ -18,7 +18,7 @@ use Rattle.task_core.specs.Tasks.{action_count, fluent_count}
 use Rattle.task_core.specs.Vectors.{Vector}
 use Rattle.task_core.specs.declared.conditions.Cond.{Cond}
 use Rattle.task_core.proofs.TaskSystem.{is_system}
-use Rattle.ctl_syntax.specs.ChainValues.{states_of}
+use Rattle.ctl_syntax.specs.Conditions.{states_of}
 use Rattle.patrol_plan.specs.Chains.{visit_sets}
 use Rattle.patrol_plan.specs.Listing.{rule_for, rules_for}
 use Rattle.patrol_plan.specs.PatrolSteps.{GoesOn, HasPatrolTable, ListsPatrol, PutsPart, is_in, visit_place, visit_takers}

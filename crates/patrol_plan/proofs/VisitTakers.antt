@@ -24,7 +24,7 @@ use Rattle.task_core.specs.Tasks.{action_count, fluent_count}
 use Rattle.task_core.specs.Vectors.{Vector, value_of}
 use Rattle.task_core.specs.declared.conditions.Cond.{Cond}
 use Rattle.task_core.proofs.TaskSystem.{is_system}
-use Rattle.ctl_syntax.specs.ChainValues.{states_of}
+use Rattle.ctl_syntax.specs.Conditions.{states_of}
 use Rattle.patrol_plan.specs.Chains.{visit_sets}
 use Rattle.patrol_plan.specs.Guards.{guarded_system}
 use Rattle.patrol_plan.specs.PatrolSteps.{HasPatrol, made_at_last, visit_place, visit_takers}

@@ -11,7 +11,7 @@ use Rattle.slot_board.specs.Board.{set_at}
 use Rattle.task_core.specs.Conditions.{holds}
 use Rattle.task_core.specs.Cubes.{SetOfVectors}
 use Rattle.task_core.specs.declared.conditions.Cond.{Cond}
-use Rattle.ctl_syntax.specs.ChainValues.{states_of}
+use Rattle.ctl_syntax.specs.Conditions.{states_of}
 use Rattle.patrol_plan.specs.Scenes.{IsAt, IsReady, Moved, Scene, Start, board_of, guarded, sys_of}
 use Rattle.patrol_plan.specs.Guards.{anywhere}
 use Rattle.patrol_plan.specs.Sizes.{EndFits, IsSmall}

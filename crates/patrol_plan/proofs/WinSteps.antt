@@ -20,9 +20,9 @@ use Rattle.task_core.specs.Vectors.{Vector, value_of}
 use Rattle.task_core.specs.declared.tasks.Task.{Task}
 use Rattle.task_core.proofs.TaskSystem.{is_system}
 use Rattle.task_core.specs.declared.conditions.Cond.{Cond}
-use Rattle.ctl_syntax.specs.ChainValues.{states_of}
-use Rattle.ctl_syntax.specs.FarValues.{stage_sets}
-use Rattle.ctl_syntax.specs.declared.far.UntilStage.{UntilStage}
+use Rattle.ctl_syntax.specs.Conditions.{states_of}
+use Rattle.ctl_syntax.specs.GoalValues.{stage_sets}
+use Rattle.ctl_syntax.specs.declared.context_goals.UntilStage.{UntilStage}
 use Rattle.patrol_plan.specs.Scenes.{IsAt, IsReady, Moved, SameStates, Scene, Start, board_of, guarded, met_place, states_at, sys_of, win_place}
 use Rattle.patrol_plan.specs.Guards.{anywhere}
 use Rattle.patrol_plan.specs.Steps.{EndWon, HasKept, HasLast, HasWins, StageMet, StageWon, met_by}

@@ -14,8 +14,8 @@ use Rattle.task_core.specs.Tasks.{action_count, fluent_count, system_of}
 use Rattle.task_core.specs.declared.tasks.Task.{Task}
 use Rattle.patrol_plan.specs.Scenes.{IsAt, Scene, Start, board_of}
 use Rattle.patrol_plan.specs.Tables.{HasTable}
-use Rattle.patrol_plan.specs.declared.found.FoundFar.{FoundFar}
-use Rattle.patrol_plan.specs.declared.found.FoundFar.TheVariants.{NoPlan, Plan}
+use Rattle.patrol_plan.specs.declared.found.FoundAuto.{FoundAuto}
+use Rattle.patrol_plan.specs.declared.found.FoundAuto.TheVariants.{NoPlan, Plan}
 
 -- a plan for the task, and all that is said of it
 pub record IsPlanOf (task : Task) (chain : UntilSets) (plan : AutoPlan) : Type 0 where
@@ -25,7 +25,7 @@ pub record IsPlanOf (task : Task) (chain : UntilSets) (plan : AutoPlan) : Type 0
       (context_rules_of plan)
   pub solves : IsUntilPlan (system_of task) chain (denoted_contexts (context_rules_of plan))
 
-abbrev pub IsAnswer : Task → UntilSets → FoundFar → Type 0
+abbrev pub IsAnswer : Task → UntilSets → FoundAuto → Type 0
 IsAnswer task chain (Plan plan) = IsPlanOf task chain plan
 IsAnswer task chain NoPlan = HasNoUntilPlan (system_of task) chain
 

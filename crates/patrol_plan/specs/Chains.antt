@@ -2,9 +2,9 @@
 -- a search takes.
 use Rattle.std.specs.Prelude.{◌≡◌, ℕ, ◌≤◌, true, All, List, map, length}
 use Rattle.plan_theory.specs.UntilChains.{UntilSets}
-use Rattle.ctl_syntax.specs.ChainValues.{states_of}
-use Rattle.ctl_syntax.specs.FarValues.{EachInUntil, stage_sets}
-use Rattle.ctl_syntax.specs.declared.far.UntilChain.{UntilChain}
+use Rattle.ctl_syntax.specs.Conditions.{states_of}
+use Rattle.ctl_syntax.specs.GoalValues.{EachInUntil, stage_sets}
+use Rattle.ctl_syntax.specs.declared.context_goals.UntilChain.{UntilChain}
 use Rattle.task_core.specs.Conditions.{ids_below, is_shallow}
 use Rattle.task_core.specs.Cubes.{SetOfVectors}
 use Rattle.task_core.specs.declared.conditions.Cond.{Cond}

@@ -13,8 +13,8 @@ use Rattle.task_core.specs.Cubes.{SetOfVectors}
 use Rattle.task_core.specs.Tasks.{action_count, fluent_count, system_of}
 use Rattle.task_core.specs.declared.tasks.Task.{Task}
 use Rattle.patrol_plan.specs.Scenes.{IsAt, Scene, Start, board_of}
-use Rattle.patrol_plan.specs.declared.found.FoundFar.{FoundFar}
-use Rattle.patrol_plan.specs.declared.found.FoundFar.TheVariants.{NoPlan, Plan}
+use Rattle.patrol_plan.specs.declared.found.FoundAuto.{FoundAuto}
+use Rattle.patrol_plan.specs.declared.found.FoundAuto.TheVariants.{NoPlan, Plan}
 
 -- a plan for the task, and all that is said of it
 pub record IsPatrolPlanOf (task : Task) (visits : List SetOfVectors) (plan : AutoPlan)
@@ -25,11 +25,11 @@ pub record IsPatrolPlanOf (task : Task) (visits : List SetOfVectors) (plan : Aut
       (context_rules_of plan)
   pub solves : IsPatrolPlan (system_of task) visits (denoted_contexts (context_rules_of plan))
 
-abbrev pub IsPatrolAnswer : Task → List SetOfVectors → FoundFar → Type 0
+abbrev pub IsPatrolAnswer : Task → List SetOfVectors → FoundAuto → Type 0
 IsPatrolAnswer task visits (Plan plan) = IsPatrolPlanOf task visits plan
 IsPatrolAnswer task visits NoPlan = HasNoPatrolPlan (system_of task) visits
 
 -- what a search leaves: its answer, or a refusal
-abbrev pub PatrolEnds : Start → Scene → List SetOfVectors → Result FoundFar SetErr → Type 0
+abbrev pub PatrolEnds : Start → Scene → List SetOfVectors → Result FoundAuto SetErr → Type 0
 PatrolEnds start x visits (Ok found) = IsAt start x × IsPatrolAnswer start.task visits found
 PatrolEnds start x visits (Err e) = IsAt start x × (e ≡ Full → HasNoRoom (board_of start) x.0)

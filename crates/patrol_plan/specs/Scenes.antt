@@ -1,8 +1,9 @@
 -- The sets of states on the board of a search, and what a call leaves of them. There are eight
 -- working places, of which place 5 has the guard of the rounds that are made; then, for each stage
--- and the end after the last one, the states of its context and those where it is met; and then,
--- for each of these, the states that take each action. For a patrol goal the places before those of
--- actions have the states that are left, and where each visit is made.
+-- and the end after the last one, the states of its context and those where it is met; then, for
+-- each of these, the states that take each action; and then, for each action, the states of the rules
+-- for one context and one next context. For a patrol goal the places before those of actions have the
+-- states that are left, and where each visit is made.
 use Rattle.std.specs.Prelude.{◌≡◌, ℕ, suc, ◌+◌, ◌*◌, ◌<◌, ◌≤◌, ◌⊎◌, List, [], ◌∷◌}
 use Rattle.std.specs.Prelude.{Result, length}
 use Rattle.dd_nodes.specs.Subfunctions.{Function}
@@ -54,8 +55,12 @@ met_place i = 9 + 2 * i
 abbrev pub takers_place : ℕ → ℕ → ℕ → ℕ
 takers_place actions stages i = 10 + 2 * stages + i * actions
 
+-- the first place of those for the states of rules
+abbrev pub rules_place : ℕ → ℕ → ℕ
+rules_place actions stages = takers_place actions stages (suc stages)
+
 abbrev pub place_count : ℕ → ℕ → ℕ
-place_count actions stages = takers_place actions stages (suc stages)
+place_count actions stages = takers_place actions stages (suc (suc stages))
 
 -- the places that may hold rough sets
 abbrev pub rough_places : List ℕ
@@ -68,7 +73,7 @@ board_of start = record {
   enc = start.enc;
   made = start.made;
   places = place_count (action_count start.task) start.stages;
-  spare = 2 * action_count start.task + 6 * start.stages + 218;
+  spare = action_count start.task + 6 * start.stages + 218;
   width = start.width;
   wide = start.wide;
   rough = rough_places;

@@ -5,6 +5,7 @@ use Rattle.plan_theory.specs.UntilChains.{UntilSets}
 use Rattle.plan_theory.specs.Layers.{must_lead}
 use Rattle.plan_theory.specs.LayerPlans.{is_action}
 use Rattle.plan_theory.specs.StageSets.{near as near_within, stage_action}
+use Rattle.dd_nodes.specs.Subfunctions.{Function}
 use Rattle.dd_sets.specs.Rooms.{Rough}
 use Rattle.encode_task.specs.TaskSets.{exec_set, initial_set, space_set}
 use Rattle.preimage.specs.WorkingSets.{PreimageFits, first_every}
@@ -12,9 +13,9 @@ use Rattle.slot_board.specs.Board as board
 use Rattle.task_core.specs.Cubes.{SetOfVectors}
 use Rattle.task_core.specs.Tasks.{action_count, fluent_count}
 use Rattle.task_core.specs.declared.conditions.Cond.{Cond}
-use Rattle.ctl_syntax.specs.ChainValues.{states_of}
-use Rattle.ctl_syntax.specs.declared.far.UntilChain.{UntilChain}
-use Rattle.ctl_syntax.specs.declared.far.UntilStage.{UntilStage}
+use Rattle.ctl_syntax.specs.Conditions.{states_of}
+use Rattle.ctl_syntax.specs.declared.context_goals.UntilChain.{UntilChain}
+use Rattle.ctl_syntax.specs.declared.context_goals.UntilStage.{UntilStage}
 use Rattle.patrol_plan.specs.Chains.{until_sets}
 use Rattle.patrol_plan.specs.Guards.{anywhere}
 use Rattle.patrol_plan.specs.Rounds.{first_lead, from_stage, hits_by, turn_by, turning_at, turns}
@@ -129,3 +130,7 @@ pub record SearchFits (start : Start) (chain : UntilChain) : Type 0 where
   pub keep : board.ConditionFits (board_of start) chain.keep
   pub stages : (stage : UntilStage) → Contains chain.stages.items stage
       → ConditionsFit start stage
+
+-- every set is small
+abbrev pub EverySetIsSmall : Start → Type 0
+EverySetIsSmall start = (set : Function) → board.IsSmall (board_of start) set

@@ -17,8 +17,8 @@ use Rattle.task_core.specs.Systems.{IsVector, System}
 use Rattle.task_core.specs.Tasks.{action_count}
 use Rattle.task_core.specs.Vectors.{Vector}
 use Rattle.task_core.specs.declared.conditions.Cond.{Cond}
-use Rattle.ctl_syntax.specs.ChainValues.{states_of}
-use Rattle.ctl_syntax.specs.declared.far.UntilStage.{UntilStage}
+use Rattle.ctl_syntax.specs.Conditions.{states_of}
+use Rattle.ctl_syntax.specs.declared.context_goals.UntilStage.{UntilStage}
 use Rattle.patrol_plan.specs.Rounds.{first_lead, from_stage, hits_by, last_turn, turn, turn_by}
 use Rattle.patrol_plan.specs.Rounds.{turns}
 use Rattle.patrol_plan.specs.Scenes.{Changed, ChangedIn, IsGuarded, IsReady, SameStates, Scene}
@@ -212,3 +212,10 @@ pub record HasTakers (start : Start) (x : Scene) (chain : UntilSets) (i : ℕ) :
 pub record HasRest (start : Start) (x : Scene) (chain : UntilSets) (c j : ℕ) : Type 0 where
   pub has : HasTakers start x chain (suc start.stages)
   pub rest : SameStates start (states_at x 3) (from_stage (sys_of start) chain c j)
+
+-- for each of the first n actions, the states at 4 that take it were put at a place
+pub record Chooses (start : Start) (x y : Scene) (takers place n : ℕ) : Type 0 where
+  pub changed : Changed start x y place (place + action_count start.task)
+  pub chosen : states_at y 4 ≡ states_at x 4
+  pub sets : (a : ℕ) → a < action_count start.task → a < n
+      → states_at y (place + a) ≡ (λ v. states_at x 4 v && states_at x (takers + a) v)

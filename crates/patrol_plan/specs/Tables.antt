@@ -1,14 +1,15 @@
 -- The printed table on the board of a search: for each context, next context and action the states
 -- in which the action is taken.
-use Rattle.std.specs.Prelude.{◌≡◌, ℕ, suc, ◌+◌, ◌≤◌, length, true}
+use Rattle.std.specs.Prelude.{◌≡◌, ℕ, suc, ◌+◌, ◌<◌, ◌≤◌, length, true}
 use Rattle.plan_theory.specs.UntilChains.{UntilSets, covers_until}
+use Rattle.plan_theory.specs.UntilPrinted.{until_states}
 use Rattle.encode_task.specs.Made.{MadeOf}
 use Rattle.encode_task.specs.Slots.{Encoded}
-use Rattle.task_core.specs.Tasks.{fluent_count}
+use Rattle.task_core.specs.Tasks.{action_count, fluent_count}
 use Rattle.task_core.specs.declared.tasks.Task.{Task}
 use Rattle.patrol_plan.specs.Guards.{anywhere}
 use Rattle.patrol_plan.specs.Rounds.{turning_at}
-use Rattle.patrol_plan.specs.Scenes.{SameStates, Scene, Start, states_at, sys_of}
+use Rattle.patrol_plan.specs.Scenes.{SameStates, Scene, Start, rules_place, states_at, sys_of}
 use Rattle.patrol_plan.specs.Steps.{HasTakers}
 
 -- where a search for a task and so many stages began, with a width
@@ -38,3 +39,10 @@ pub record HasTurning (start : Start) (x : Scene) (chain : UntilSets) (c j : ℕ
   pub from : c ≤ j
   pub few : j ≤ start.stages
   pub turning : SameStates start (states_at x 4) (turning_at (sys_of start) chain c j)
+
+-- and the states in which each action is taken stand at its place, as the printed rules have it
+pub record HasRuleStates (start : Start) (x : Scene) (chain : UntilSets) (c j : ℕ) : Type 0 where
+  pub table : HasTable start x chain
+  pub sets : (a : ℕ) → a < action_count start.task
+      → SameStates start (states_at x (rules_place (action_count start.task) start.stages + a))
+      (until_states (sys_of start) chain (suc c) (suc j) a)

@@ -7,8 +7,8 @@ use Rattle.plan_theory.specs.LayerPlans.{is_action}
 use Rattle.plan_theory.specs.Safe.{safe_action, safe_round, safe_set}
 use Rattle.plan_theory.specs.UntilChains.{SetStage, UntilSets, until_advance, until_met}
 use Rattle.plan_theory.specs.UntilChains.{until_win_at}
-use Rattle.ctl_syntax.specs.declared.far.UntilChain.{UntilChain}
-use Rattle.ctl_syntax.specs.declared.far.UntilStage.{UntilStage}
+use Rattle.ctl_syntax.specs.declared.context_goals.UntilChain.{UntilChain}
+use Rattle.ctl_syntax.specs.declared.context_goals.UntilStage.{UntilStage}
 use Rattle.dd_nodes.specs.Subfunctions.{Function}
 use Rattle.dd_sets.specs.Rooms.{Small}
 use Rattle.encode_task.specs.TaskSets.{first_values, initial_set, space_set}

@@ -4,7 +4,7 @@ use plan_rules::AutoPlan;
 
 /// What a search for a plan with contexts found.
 #[derive(Debug, Drop)]
-pub enum FoundFar {
+pub enum FoundAuto {
     /// A plan.
     Plan(AutoPlan),
     /// That there is none.

@@ -25,7 +25,7 @@ ghost use Rattle.plan_theory.specs.Patrols.{covers_patrol};
 ghost use Rattle.patrol_plan.specs.Scenes.{sys_of};
 ghost use Rattle.std.specs.Prelude.{true};
 
-use crate::found::FoundFar;
+use crate::found::FoundAuto;
 use crate::patrol_rules::list_visits;
 use crate::places::places;
 use crate::visits::{LEFT, find_left, take_visits};
@@ -76,7 +76,7 @@ fn search_visits(
     actions: u32,
     visits: &[Cond],
     count: u32,
-) -> Result<FoundFar, SetErr>
+) -> Result<FoundAuto, SetErr>
     requires ready { (start : Start) × (start.stages ≡ length visits.now)
         × HasNothing start (enc.old, board.old.slots.items) × PatrolFits start visits.now }
     requires actions { actions ≡ length enc.old.actions }
@@ -88,10 +88,10 @@ fn search_visits(
 {
     find_left(enc, board, actions, visits)?;
     if !board.covers_initial(enc, LEFT)? {
-        return Ok(FoundFar::NoPlan);
+        return Ok(FoundAuto::NoPlan);
     }
     let plan = write_visits(alloc, enc, board, actions, count)?;
-    Ok(FoundFar::Plan(plan))
+    Ok(FoundAuto::Plan(plan))
 }
 
 /// How many visits there are.
@@ -108,7 +108,7 @@ fn find_patrol(
     task: &Task,
     enc: &mut Enc,
     visits: &[Cond],
-) -> Result<FoundFar, SetErr>
+) -> Result<FoundAuto, SetErr>
     requires made { MadeOf task.now enc.old }
     requires visits { IsPatrolOver (fluent_count task.now) visits.now }
     ensures answer { IfOk result (IsPatrolAnswer task.now (visit_sets visits.now)) }
@@ -150,7 +150,7 @@ pub fn plan_patrol(
     task: &Task,
     enc: &mut Enc,
     visits: &[Cond],
-) -> Result<FoundFar, SetErr>
+) -> Result<FoundAuto, SetErr>
     requires made { MadeOf task.now enc.old }
     requires visits { IsPatrolOver (fluent_count task.now) visits.now }
     ensures contexts { IfOk result (λ found. IfPlan found (λ plan. plan.contexts

@@ -1,9 +1,11 @@
 //! The places of a search's board.
 
-ghost use Rattle.std.specs.Prelude.{◌≡◌, ◌+◌, ◌≤◌};
+ghost use Rattle.std.specs.Prelude.{◌≡◌, ◌+◌, ◌<◌, ◌≤◌};
 ghost use Rattle.patrol_plan.specs.Chains.{most_stages};
-ghost use Rattle.patrol_plan.specs.Scenes.{met_place, place_count, takers_place};
+ghost use Rattle.patrol_plan.specs.Scenes.{met_place, place_count, rules_place, takers_place};
 ghost use Rattle.patrol_plan.specs.Scenes.{win_place};
+
+use task_core::ActionId;
 
 /// The states that a round begins with.
 pub(crate) const NEAR: usize = 0;
@@ -36,13 +38,22 @@ pub(crate) fn met_at(stage: u32) -> usize
 }
 
 /// The first of the places of the states that take actions towards a stage, of so many, or, after
-/// the last one, at the end.
+/// the last one, at the end; and after these, of those for the states of rules.
 pub(crate) fn takers_at(actions: u32, stages: u32, stage: u32) -> usize
     requires few { stages ≤ most_stages }
-    requires stage { stage ≤ stages }
+    requires stage { stage ≤ stages + 1 }
     ensures { result ≡ takers_place actions stages stage }
 {
     10 + 2 * stages as usize + stage as usize * actions as usize
+}
+
+/// The place for the states in which `rule_sets` has an action taken.
+pub fn rule_place(actions: u32, stages: u32, action: ActionId) -> usize
+    requires few { stages ≤ most_stages }
+    requires action { action.0 < actions }
+    ensures { result ≡ rules_place actions stages + action.0 }
+{
+    takers_at(actions, stages, stages + 1) + action.0 as usize
 }
 
 /// How many places there are.
@@ -50,5 +61,5 @@ pub(crate) fn places(actions: u32, stages: u32) -> usize
     requires { stages ≤ most_stages }
     ensures { result ≡ place_count actions stages }
 {
-    10 + 2 * stages as usize + (stages as usize + 1) * actions as usize
+    10 + 2 * stages as usize + (stages as usize + 2) * actions as usize
 }

@@ -100,7 +100,7 @@ fn rest_at(
 
 /// Finds the states of a context that turn to a next one: in which the stages before it are met, and
 /// its own isn't.
-fn turn_states(
+pub(crate) fn turn_states(
     enc: &mut Enc,
     board: &mut Board,
     stages: u32,

@@ -1,7 +1,7 @@
 //! Which states take which action, in each context.
 
 ghost use Rattle.std.specs.Prelude.{◌≡◌, suc, ◌≤◌, ◌+◌, ◌<◌, length};
-ghost use Rattle.ctl_syntax.specs.ChainValues.{states_of};
+ghost use Rattle.ctl_syntax.specs.Conditions.{states_of};
 ghost use Rattle.slot_board.specs.Board as board_specs;
 ghost use Rattle.task_core.specs.Tasks.{action_count};
 ghost use Rattle.patrol_plan.specs.Chains.{IsConditionOver, IsUntilOver, until_sets};

@@ -1,4 +1,4 @@
-//! The planner for chains.
+//! The planner for until-chains.
 
 ghost use Rattle.std.specs.Prelude.{◌≡◌, ℕ, suc, ◌+◌, ◌*◌, ◌<◌, ◌≤◌, [], length, IfNone, IfOk};
 ghost use Rattle.std.specs.Prelude.{IfSome, IsErrOf, OnErr};
@@ -25,7 +25,7 @@ ghost use Rattle.patrol_plan.specs.Sizes.{SearchFits};
 ghost use Rattle.patrol_plan.specs.Tables.{HasTable, start_of};
 ghost use Rattle.patrol_plan.specs.WorkingSets.{IsWide};
 
-use crate::found::FoundFar;
+use crate::found::FoundAuto;
 use crate::places::{places, win_at};
 use crate::rules::list_all;
 use crate::takers::take_all;
@@ -62,9 +62,30 @@ fn search(
 }
 
 /// The plan for an until-chain in sets of states: for each context its states, and those that take
-/// each action towards its stage, in slots at places of a board, which the caller closes. Or that
-/// there is no plan.
-fn until_takers(
+/// each action towards its stage, in slots at places of a board, which the caller closes. From these
+/// `rule_sets` makes, for a context and a next one, the states in which each action is taken: for
+/// all contexts at once they would be more slots than the rule for `Full` allows. Or that there is
+/// no plan: no plan with contexts, whatever its contexts are and however many, goes on wherever it
+/// leads and has the until-chain at each initial configuration.
+///
+/// It works on sets of states (Pistore and Traverso 2001). First it finds where the condition at
+/// the end can be kept for ever: a set that shrinks, round by round, to the states with an action
+/// all of whose outcomes stay in it. Then, from the last stage back, it finds where the stage is
+/// met and the rest can be had, and from where such a state is reached for certain, in states of
+/// the stage's guard until then: a set that grows, round by round, by the states of the guard with
+/// an action all of whose outcomes lie in it. Where the initial states are among those of the first
+/// stage, it makes these rounds once more, and each new state takes its least-numbered action. The
+/// plan has a context for each stage and one for the end; in each it turns to the first stage, from
+/// the context's own on, that isn't met. The time grows with the rounds, the stages and the actions,
+/// and not with the number of states.
+///
+/// An until-chain has at most 32 stages, and each of its conditions names the task's fluents alone
+/// and is at most 200 deep. `Full` comes only where the table holds as many nodes as it may, and its
+/// limit is tight with at most so many sets of the search's own: three for each action, one for each
+/// action and stage, eight for each stage and 236 more. By any width of the sets that it makes
+/// (`WorkingSets`) all of them are small, but for 16, which are the meet, join or difference of two
+/// small ones. Where no board is answered, all slots of the search are ended.
+pub fn until_takers(
     alloc: Global,
     task: &Task,
     enc: &mut Enc,
@@ -165,7 +186,7 @@ fn find_until(
     task: &Task,
     enc: &mut Enc,
     chain: &UntilChain,
-) -> Result<FoundFar, SetErr>
+) -> Result<FoundAuto, SetErr>
     requires made { MadeOf task.now enc.old }
     requires chain { IsUntilOver (fluent_count task.now) chain.now }
     ensures answer { IfOk result (IsAnswer task.now (until_sets chain.now)) }
@@ -180,9 +201,9 @@ fn find_until(
     match until_takers(alloc, task, enc, chain)? {
         Some(board) => {
             let plan = close_as_plan(alloc, enc, board, actions, stages)?;
-            Ok(FoundFar::Plan(plan))
+            Ok(FoundAuto::Plan(plan))
         }
-        None => Ok(FoundFar::NoPlan),
+        None => Ok(FoundAuto::NoPlan),
     }
 }
 
@@ -190,30 +211,15 @@ fn find_until(
 /// and however many, goes on wherever it leads and has the until-chain at each initial
 /// configuration.
 ///
-/// It works on sets of states (Pistore and Traverso 2001). First it finds where the condition at
-/// the end can be kept for ever: a set that shrinks, round by round, to the states with an action
-/// all of whose outcomes stay in it. Then, from the last stage back, it finds where the stage is
-/// met and the rest can be had, and from where such a state is reached for certain, in states of
-/// the stage's guard until then: a set that grows, round by round, by the states of the guard with
-/// an action all of whose outcomes lie in it. Where the initial states are among those of the first
-/// stage, it makes these rounds once more, and each new state takes its least-numbered action. The
-/// plan has a context for each stage and one for the end; in each it turns to the first stage, from
-/// the context's own on, that isn't met. Its rules are the cubes of these sets: contexts in rising
-/// number, for each its next contexts, and for each of these its actions. The time grows with the
-/// rounds, the stages and the actions, and not with the number of states.
-///
-/// An until-chain has at most 32 stages, and each of its conditions names the task's fluents alone
-/// and is at most 200 deep. `Full` comes only where the table holds as many nodes as it may, and its
-/// limit is tight with at most so many sets of the search's own: three for each action, one for each
-/// action and stage, eight for each stage and 236 more. By any width of the sets that it makes
-/// (`WorkingSets`) all of them are small, but for 16, which are the meet, join or difference of two
-/// small ones. All slots of the search are ended on every exit.
+/// Its rules are the cubes of the sets that `until_takers` and `rule_sets` find: contexts in rising
+/// number, for each its next contexts, and for each of these its actions. Of until-chains and of
+/// `Full` the same holds as there. All slots of the search are ended on every exit.
 pub fn plan_until(
     alloc: Global,
     task: &Task,
     enc: &mut Enc,
     chain: &UntilChain,
-) -> Result<FoundFar, SetErr>
+) -> Result<FoundAuto, SetErr>
     requires made { MadeOf task.now enc.old }
     requires chain { IsUntilOver (fluent_count task.now) chain.now }
     ensures contexts { IfOk result (λ found. IfPlan found (λ plan. plan.contexts

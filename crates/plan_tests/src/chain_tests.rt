@@ -1,14 +1,15 @@
 //! Small tasks, and the plans worked out for them by hand.
 
 ghost use Rattle.std.specs.Prelude.{◌≡◌, ◌≤◌, ◌<◌, All, IfOk, length, true};
-ghost use Rattle.chain_plan.specs.Chains.{IsChainOver, IsConditionOver};
+ghost use Rattle.ctl_syntax.specs.GoalValues.{EachInStage};
+ghost use Rattle.patrol_plan.specs.Chains.{IsConditionOver, IsUntilOver};
 ghost use Rattle.task_core.specs.Conditions.{ids_below, is_shallow};
 ghost use Rattle.task_core.specs.Tasks.{fluent_count};
 
-use chain_plan::{FoundAuto, plan_chain};
-use ctl_syntax::Chain;
+use ctl_syntax::{UntilChain, UntilStage};
 use dd_sets::SetErr;
 use encode_task::encode;
+use patrol_plan::{FoundAuto, plan_until};
 use plan_rules::{AutoRule, Next};
 use std::alloc::{AllocError, Global};
 use std::rc::RcStr;
@@ -76,45 +77,57 @@ fn lamp_is(alloc: Global, on: bool) -> Result<Cond, AllocError>
     }
 }
 
+/// A stage with the lamp on, or with the lamp off, and nothing asked until then.
+fn lamp_stage(alloc: Global, on: bool) -> Result<UntilStage, AllocError>
+    ensures names { IfOk result (EachInStage (λ cond. ids_below 1 cond ≡ true)) }
+    ensures shallow { IfOk result (EachInStage (λ cond. is_shallow cond ≡ true)) }
+{
+    let target = lamp_is(alloc, on)?;
+    Ok(UntilStage {
+        guard: Cond::Yes,
+        target,
+    })
+}
+
 /// So many stages, the lamp on in the first one, off in the next, and so on.
-fn by_turns(alloc: Global, count: u32) -> Result<Vec<Cond>, AllocError>
+fn by_turns(alloc: Global, count: u32) -> Result<Vec<UntilStage>, AllocError>
     ensures long { IfOk result (λ stages. length stages.items ≡ count) }
     ensures names { IfOk result
-        (λ stages. All (λ cond. ids_below 1 cond ≡ true) stages.items) }
+        (λ stages. All (EachInStage (λ cond. ids_below 1 cond ≡ true)) stages.items) }
     ensures shallow { IfOk result
-        (λ stages. All (λ cond. is_shallow cond ≡ true) stages.items) }
+        (λ stages. All (EachInStage (λ cond. is_shallow cond ≡ true)) stages.items) }
 {
     let mut stages = Vec::new(alloc);
     for i in 0..count {
-        stages.push(lamp_is(alloc, i % 2 == 0)?)?;
+        stages.push(lamp_stage(alloc, i % 2 == 0)?)?;
     }
     Ok(stages)
 }
 
 /// The chain of these stages, and of what is kept.
-fn chain_of(alloc: Global, count: u32, keep: Cond) -> Result<Chain, AllocError>
+fn chain_of(alloc: Global, count: u32, keep: Cond) -> Result<UntilChain, AllocError>
     requires few { count ≤ 32 }
     requires keep { IsConditionOver 1 keep }
-    ensures { IfOk result (IsChainOver 1) }
+    ensures { IfOk result (IsUntilOver 1) }
 {
     let stages = by_turns(alloc, count)?;
-    Ok(Chain { stages, keep })
+    Ok(UntilChain { stages, keep })
 }
 
 /// The rules of the plan that is found in a table of so many nodes; none where there is no plan.
 fn rules_found(
     alloc: Global,
     task: &Task,
-    chain: &Chain,
+    chain: &UntilChain,
     limit: u32,
 ) -> Result<Option<Vec<AutoRule>>, SetErr>
     requires one { fluent_count task.now ≡ 1 }
-    requires chain { IsChainOver 1 chain.now }
+    requires chain { IsUntilOver 1 chain.now }
     requires some_room { 0 < limit }
     requires small_limit { limit ≤ 16777216 }
 {
     let mut enc = encode(alloc, task, limit)?;
-    match plan_chain(alloc, task, &mut enc, chain)? {
+    match plan_until(alloc, task, &mut enc, chain)? {
         FoundAuto::Plan(plan) => Ok(Some(plan.rules)),
         FoundAuto::NoPlan => Ok(None),
     }

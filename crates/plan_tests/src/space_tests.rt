@@ -2,18 +2,18 @@
 //! preimages of all sets, the plans of each class, and a chain.
 
 ghost use Rattle.std.specs.Prelude.{◌≡◌, ◌<◌, IfOk, IsSome, true};
-ghost use Rattle.chain_plan.specs.Chains.{IsChainOver, IsConditionOver};
 ghost use Rattle.encode_task.specs.Made.{MadeOf};
+ghost use Rattle.patrol_plan.specs.Chains.{IsConditionOver, IsUntilOver};
 ghost use Rattle.task_core.specs.Conditions.{ids_below};
 ghost use Rattle.task_core.specs.Tasks.{action_count, fluent_count};
 
 use crate::encode_tests::table;
 use crate::reach_tests::{action, all_of, literals, name, text};
-use chain_plan::{FoundAuto, plan_chain};
-use ctl_syntax::Chain;
+use ctl_syntax::{UntilChain, UntilStage};
 use cyclic_plan::plan_cyclic;
 use dd_sets::SetErr;
 use encode_task::{Enc, encode};
+use patrol_plan::{FoundAuto, plan_until};
 use plan_rules::{Plan, write_plan};
 use plan_theory::Found;
 use preimage::{strong_pre, weak_pre};
@@ -200,24 +200,27 @@ fn not_p(alloc: Global) -> Result<Cond, AllocError>
 }
 
 /// That `p` is false at last.
-fn back(alloc: Global) -> Result<Chain, AllocError>
-    ensures { IfOk result (IsChainOver 2) }
+fn back(alloc: Global) -> Result<UntilChain, AllocError>
+    ensures { IfOk result (IsUntilOver 2) }
 {
-    let stages = vec![in alloc; not_p(alloc)?]?;
-    Ok(Chain {
-        stages,
+    let stage = UntilStage {
+        guard: Cond::Yes,
+        target: not_p(alloc)?,
+    };
+    Ok(UntilChain {
+        stages: vec![in alloc; stage]?,
         keep: Cond::Yes,
     })
 }
 
 /// The text of the plan for a chain; none where there is no plan.
-fn chain_text(alloc: Global, task: &Task, chain: &Chain) -> Result<String, SetErr>
+fn chain_text(alloc: Global, task: &Task, chain: &UntilChain) -> Result<String, SetErr>
     requires two { fluent_count task.now ≡ 2 }
-    requires chain { IsChainOver 2 chain.now }
+    requires chain { IsUntilOver 2 chain.now }
 {
     let mut text = String::new(alloc);
     let mut enc = encode(alloc, task, MANY)?;
-    if let FoundAuto::Plan(plan) = plan_chain(alloc, task, &mut enc, chain)? {
+    if let FoundAuto::Plan(plan) = plan_until(alloc, task, &mut enc, chain)? {
         for byte in write_plan(alloc, &Plan::Auto(plan), task)? {
             text.push(char::from(byte))?;
         }

@@ -1,12 +1,13 @@
-//! Goals that are chains, with their stages and what they keep, and goals that are none.
+//! Goals that are until-chains, with their stages and what they keep, or patrol goals, with their
+//! visits, and goals that are neither.
 
-use ctl_syntax::{Chain, Ctl, as_chain};
+use ctl_syntax::{Ctl, ContextGoal, UntilChain, as_context_goal};
 use std::alloc::Global;
 use std::test::Fail;
 use task_core::{Cond, FluentId};
 
 /// A goal, written after its parts: `p` and `q` are fluents, `G` stands for `ag`, `F` for `af`, `N`
-/// for `not`, and `&` takes the two goals before it together.
+/// for `not`, `U` for `au` of the two goals before it, and `&` takes these together.
 fn goal(alloc: Global, text: &str) -> Result<Ctl, Fail> {
     let mut parts = Vec::new(alloc);
     for letter in text.bytes() {
@@ -24,6 +25,11 @@ fn next_goal(alloc: Global, parts: &mut Vec<Ctl>, letter: u8) -> Result<Ctl, Fai
         b'G' => Ok(Ctl::Ag(Box::new(alloc, last(parts)?)?)),
         b'F' => Ok(Ctl::Af(Box::new(alloc, last(parts)?)?)),
         b'N' => Ok(Ctl::Not(Box::new(alloc, last(parts)?)?)),
+        b'U' => {
+            let right = Box::new(alloc, last(parts)?)?;
+            let left = Box::new(alloc, last(parts)?)?;
+            Ok(Ctl::Au(left, right))
+        }
         _ => {
             let right = last(parts)?;
             let left = last(parts)?;
@@ -59,15 +65,28 @@ fn show(text: &mut String, cond: &Cond, end: char) -> Result<(), Fail> {
     Ok(text.push(end)?)
 }
 
-/// The conditions of a chain: each stage and a comma, then what is kept and a full stop; `none`.
-fn shown(alloc: Global, chain: &Option<Chain>) -> Result<String, Fail> {
+/// Adds the conditions of an until-chain: each stage and a comma, before it its guard and a `>`, if it
+/// asks for anything; then what is kept and a full stop.
+fn show_stages(text: &mut String, chain: &UntilChain) -> Result<(), Fail> {
+    for stage in &chain.stages {
+        match &stage.guard {
+            Cond::All(_) => {}
+            guard => show(text, guard, '>')?,
+        }
+        show(text, &stage.target, ',')?;
+    }
+    show(text, &chain.keep, '.')
+}
+
+/// The conditions of an until-chain, or each visit of a patrol goal and a semicolon; `none`.
+fn shown(alloc: Global, found: &Option<ContextGoal>) -> Result<String, Fail> {
     let mut text = String::new(alloc);
-    match chain {
-        Some(chain) => {
-            for stage in &chain.stages {
-                show(&mut text, stage, ',')?;
+    match found {
+        Some(ContextGoal::Until(chain)) => show_stages(&mut text, chain)?,
+        Some(ContextGoal::Patrol(visits)) => {
+            for visit in visits {
+                show(&mut text, visit, ';')?;
             }
-            show(&mut text, &chain.keep, '.')?;
         }
         None => text.push_str("none")?,
     }
@@ -75,7 +94,7 @@ fn shown(alloc: Global, chain: &Option<Chain>) -> Result<String, Fail> {
 }
 
 #[test]
-fn tells_chains_from_other_goals(rt: HostRuntime) -> Result<(), Fail> {
+fn tells_goals_apart(rt: HostRuntime) -> Result<(), Fail> {
     let alloc = rt.alloc();
     let goals = [
         ("pG", "p."),
@@ -83,16 +102,20 @@ fn tells_chains_from_other_goals(rt: HostRuntime) -> Result<(), Fail> {
         ("pqF&F", "p,q,."),
         ("pqG&F", "p,q."),
         ("pqpG&F&F", "p,q,p."),
+        ("pqU", "p>q,."),
+        ("ppqG&U", "p>p,q."),
+        ("pFG", "p;"),
+        ("pFqF&G", "p;q;"),
         ("pq&F", "none"),
         ("pGqF&F", "none"),
         ("p", "none"),
-        ("pFG", "none"),
         ("pFN", "none"),
+        ("pFqU", "none"),
         ("pqG&G", "none"),
     ];
     for (text, wanted) in goals {
-        let chain = as_chain(alloc, &goal(alloc, text)?)?;
-        assert_eq!(rt; shown(alloc, &chain)?.as_str(), wanted, "of {text}");
+        let found = as_context_goal(alloc, &goal(alloc, text)?)?;
+        assert_eq!(rt; shown(alloc, &found)?.as_str(), wanted, "of {text}");
     }
     Ok(())
 }

@@ -20,14 +20,10 @@ pub mod Shrinking
 pub mod Leading
 pub mod SafeSets
 pub mod StageSets
-pub mod Towards
-pub mod RuleParts
 pub mod FiniteContexts
 pub mod PlanRuns
-pub mod Sound
-pub mod NoChain
 mod ChainExamples
-mod FarExamples
+mod ContextExamples
 pub mod GuardedSets
 pub mod PlanPaths
 pub mod UntilTowards
@@ -39,4 +35,3 @@ pub mod PatrolSets
 pub mod PatrolSound
 pub mod PatrolRules
 pub mod NoPatrol
-pub mod ChainsAsUntil

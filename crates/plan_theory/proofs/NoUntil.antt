@@ -10,8 +10,7 @@ use Rattle.task_core.specs.Paths.{IsPath}
 use Rattle.task_core.specs.Cubes.{SetOfVectors}
 use Rattle.task_core.specs.Systems.{System, IsSystem}
 use Rattle.plan_theory.proofs.WeakLists.{list_all-from}
-use Rattle.plan_theory.specs.Chains.{StateIsIn}
-use Rattle.plan_theory.specs.UntilChains.{SetStage, UntilSets, covers_until, until_met, until_tree, until_win, until_win_at}
+use Rattle.plan_theory.specs.UntilChains.{SetStage, StateIsIn, UntilSets, covers_until, until_met, until_tree, until_win, until_win_at}
 use Rattle.plan_theory.specs.UntilPlans.{HasNoUntilPlan}
 use Rattle.plan_theory.specs.Safe.{safe_round, some_must_lead}
 use Rattle.plan_theory.specs.GuardedSets.{guarded_near}

@@ -16,7 +16,7 @@ use Rattle.task_core.specs.Cubes.{SetOfVectors}
 use Rattle.task_core.specs.Systems.{System, HasOutcome, IsVector, IsSystem}
 use Rattle.task_core.specs.Vectors.{Vector}
 use Rattle.plan_theory.proofs.WeakLists.{Contains-cons, Contains-head, list_all-at}
-use Rattle.plan_theory.specs.Chains.{StateIsIn}
+use Rattle.plan_theory.specs.UntilChains.{StateIsIn}
 use Rattle.plan_theory.specs.Patrols.{HasPatrol, covers_patrol, patrol_set, visit_near}
 use Rattle.plan_theory.specs.PatrolPlans.{ActsAsPatrol, IsPatrolPlan}
 use Rattle.plan_theory.specs.PatrolPrinted.{context_after, patrol_next, visit_in}

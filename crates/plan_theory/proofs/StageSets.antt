@@ -12,7 +12,7 @@ use Rattle.plan_theory.specs.Layers.{action_numbers, must_lead}
 use Rattle.plan_theory.proofs.WeakLists.{Contains-range_with_len, Contains-range_with_len-below, find-None, find-Some, find-found, list_any-from, list_any-none}
 use Rattle.plan_theory.specs.Safe.{some_must_lead}
 use Rattle.plan_theory.specs.StageSets.{IsLastNear, IsLeastStageSet, IsStageSet, action_at_rank, near, stage_action, stage_rank, stage_set}
-use Rattle.plan_theory.proofs.Leading.{find-least, leads_more, some_leads_more}
+use Rattle.plan_theory.proofs.Leading.{find-least, some_leads_more}
 use Rattle.plan_theory.proofs.Shrinking.{same_truth, stands_still}
 
 same_not : (b c : Bool) → not b ≡ not c → b ≡ c
@@ -139,26 +139,3 @@ module _ (sys : System) (met : SetOfVectors) where
       (λ (l : suc k ≤ r.0). omega arith)
       (cases_lt r.0 (suc k)) in
       action_of v r.0 r.1 ∙ ap (action_at_rank sys met v) same
-
-  -- the action of a state in which the set isn't met yet leads one step nearer, whatever the number
-  -- of steps
-  pub record IsNearer (v : Vector) (a : ℕ) : Type 0 where
-    pub chosen : stage_action sys met v ≡ Some a
-    pub leads : (m : ℕ) → near sys met (suc m) v ≡ true → must_lead sys (near sys met m) v a ≡ true
-
-  nearer_at : (v : Vector) → met v ≡ false → (r : ℕ) → IsRanked v r → (a : ℕ) × IsNearer v a
-  nearer_at v unmet zero is = absurd (true≢false (sym is.inside ∙ unmet))
-  nearer_at v unmet (suc k) is =
-      let some : some_must_lead sys (near sys met k) v ≡ true = ⊎_elim (λ e. let l = is.least k e in absurd (omega arith)) (λ e. e) (or_cases (near sys met k v) _ is.inside) in
-      let first = find-Some (must_lead sys (near sys met k) v) (action_numbers sys) some in (
-        first.0,
-        record {
-          chosen = action_of v (suc k) is ∙ first.1;
-          leads = λ m e.
-              let l = is.least (suc m) e in
-              leads_more sys (near sys met k) (near sys met m) v first.0 (λ t o. near-grows t k m (omega arith)) (find-found (must_lead sys (near sys met k) v) (action_numbers sys) first.0 first.1).1;
-        },
-      )
-
-  pub stage_acts : (v : Vector) → stage_set sys met v ≡ true → met v ≡ false → (a : ℕ) × IsNearer v a
-  stage_acts v h unmet = let r = ranked v h in nearer_at v unmet r.0 r.1

@@ -7,12 +7,8 @@ pub mod Pairs
 pub mod LargestSets
 pub mod PairRounds
 pub mod CyclicPlans
-pub mod Chains
 pub mod Safe
 pub mod StageSets
-pub mod Wins
-pub mod ChainPrinted
-pub mod ChainPlans
 pub mod GuardedSets
 pub mod ContextRules
 pub mod UntilChains

@@ -9,9 +9,9 @@ use Rattle.task_core.specs.ContextPlans.{Configuration, ContextPlan, Follows}
 use Rattle.task_core.specs.Cubes.{SetOfVectors}
 use Rattle.task_core.specs.Systems.{System, IsVector}
 use Rattle.task_core.specs.Vectors.{Vector}
-use Rattle.plan_theory.specs.Chains.{StateIsIn}
 use Rattle.plan_theory.specs.GuardedSets.{guarded_near, guarded_set}
 use Rattle.plan_theory.specs.Safe.{some_must_lead}
+use Rattle.plan_theory.specs.UntilChains.{StateIsIn}
 
 -- each of the sets is met again and again from a configuration on, along the paths of the plan
 abbrev pub HasPatrol : System → ContextPlan → List SetOfVectors → Configuration → Type 0

@@ -1,7 +1,8 @@
 -- Until-chains as sets: each stage is to be met at last, in states of its guard until then, and once
--- all are met the states are to stay within a set for ever. And the states from which that can be
--- had, stage by stage, from the last one back.
-use Rattle.std.specs.Prelude.{ℕ, suc, ◌+◌, ◌-◌, Bool, ◌&&◌, List, [], ◌∷◌, drop, length}
+-- all are met the states are to stay within a set for ever (Pistore, Traverso 2001: extended goals, of
+-- the kinds "reach" and "maintain"). And the states from which that can be had, stage by stage, from
+-- the last one back.
+use Rattle.std.specs.Prelude.{◌≡◌, ℕ, suc, ◌+◌, ◌-◌, Bool, true, ◌&&◌, List, [], ◌∷◌, drop, length}
 use Rattle.std.specs.Prelude.{if◌then◌else◌}
 use Rattle.std.specs.List.{list_all}
 pub use Rattle.ctl_syntax.specs.UntilChains.{GuardedStage, until_tree}
@@ -10,9 +11,12 @@ use Rattle.task_core.specs.ContextPlans.{Configuration, ContextPlan, Follows}
 use Rattle.task_core.specs.Cubes.{SetOfVectors}
 use Rattle.task_core.specs.Systems.{System}
 use Rattle.task_core.specs.Vectors.{Vector}
-use Rattle.plan_theory.specs.Chains.{StateIsIn}
 use Rattle.plan_theory.specs.GuardedSets.{guarded_set}
 use Rattle.plan_theory.specs.Safe.{safe_set}
+
+-- the state of a configuration lies in the set
+abbrev pub StateIsIn : SetOfVectors → Configuration → Type 0
+StateIsIn set x = set x.state ≡ true
 
 -- a stage: the set to be met, and the guard
 abbrev pub SetStage : Type 0

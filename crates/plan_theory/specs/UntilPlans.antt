@@ -1,11 +1,9 @@
--- Plans for an until-chain, and a chain as one.
-use Rattle.std.specs.Prelude.{◌≡◌, ℕ, ◌≤◌, true, Some, map}
+-- Plans for an until-chain.
+use Rattle.std.specs.Prelude.{◌≡◌, ℕ, ◌≤◌, true, Some}
 use Rattle.task_core.specs.ContextPlans.{Configuration, ContextPlan, IsComplete, IsInitial}
-use Rattle.task_core.specs.Cubes.{SetOfVectors}
 use Rattle.task_core.specs.Systems.{System, IsVector}
 use Rattle.task_core.specs.Vectors.{Vector}
-use Rattle.plan_theory.specs.Chains.{Chained}
-use Rattle.plan_theory.specs.UntilChains.{HasUntil, SetStage, UntilSets, until_advance}
+use Rattle.plan_theory.specs.UntilChains.{HasUntil, UntilSets, until_advance}
 use Rattle.plan_theory.specs.UntilChains.{until_contexts, until_win_at}
 use Rattle.plan_theory.specs.UntilPrinted.{until_action}
 
@@ -27,11 +25,3 @@ pub record ActsAsUntil (sys : System) (chain : UntilSets) (plan : ContextPlan) :
   pub goes_on : (v : Vector) (c : ℕ) (t : Vector) → IsVector sys v → 1 ≤ c
       → c ≤ until_contexts chain → until_win_at sys chain c v ≡ true
       → plan.ctxt v c t ≡ Some (until_advance sys chain c v)
-
--- a stage to be met with nothing asked until then
-abbrev pub unguarded_stage : SetOfVectors → SetStage
-unguarded_stage set = record { guard = λ v. true; target = set }
-
--- a chain as an until-chain: its guards ask for nothing
-abbrev pub unguarded : Chained → UntilSets
-unguarded chain = record { stages = map unguarded_stage chain.stages; keep = chain.keep }

@@ -2,23 +2,20 @@
 //! a function that does nothing.
 
 ghost use Rattle.std.specs.List.{find};
-ghost use Rattle.std.specs.Prelude.{◌≡◌, ◌↔◌, ℕ, suc, ◌≤◌, ◌^◌, true, false, All, None, Some};
-ghost use Rattle.task_core.specs.ContextPlans.{Configuration, ContextPlan};
+ghost use Rattle.std.specs.Prelude.{◌≡◌, ℕ, suc, ◌≤◌, ◌^◌, true, false, All, None, Some};
+ghost use Rattle.task_core.specs.ContextPlans.{ContextPlan};
 ghost use Rattle.task_core.specs.Cubes.{SetOfVectors};
 ghost use Rattle.task_core.specs.Systems.{System, IsVector, IsSystem};
 ghost use Rattle.task_core.specs.Vectors.{Vector};
 ghost use Rattle.plan_rules.specs.Denoted.{denoted_contexts};
 ghost use Rattle.plan_rules.specs.Plans.{IsContextRuleOf};
-ghost use Rattle.plan_theory.specs.ChainPrinted.{chain_rules};
-ghost use Rattle.plan_theory.specs.Chains.{Chained, HasChain};
 ghost use Rattle.plan_theory.specs.GuardedSets.{IsLastGuarded, IsLeastGuardedSet, guarded_action};
 ghost use Rattle.plan_theory.specs.GuardedSets.{guarded_near, guarded_set};
 ghost use Rattle.plan_theory.specs.Layers.{action_numbers, must_lead};
-ghost use Rattle.plan_theory.specs.UntilChains.{HasUntil, UntilSets, covers_until, until_advance};
+ghost use Rattle.plan_theory.specs.UntilChains.{UntilSets, covers_until, until_advance};
 ghost use Rattle.plan_theory.specs.UntilChains.{until_contexts, until_win_at};
-ghost use Rattle.plan_theory.specs.UntilPlans.{ActsAsUntil, HasNoUntilPlan, IsUntilPlan, unguarded};
+ghost use Rattle.plan_theory.specs.UntilPlans.{ActsAsUntil, HasNoUntilPlan, IsUntilPlan};
 ghost use Rattle.plan_theory.specs.UntilPrinted.{until_action, until_rules};
-ghost use Rattle.plan_theory.specs.Wins.{covers_chain, win_at};
 
 /// The guarded set is the least set that has the states to be met and every state of the guard with
 /// an action that leads into it. The sets of states by numbers of steps grow, one that is the next
@@ -87,17 +84,4 @@ pub fn printed_until_rules_act()
     ensures in_task { (sys : System) (chain : UntilSets)
         → All (IsContextRuleOf sys.fluents sys.actions (until_contexts chain))
         (until_rules sys chain) }
-{}
-
-/// A chain is an until-chain whose guards ask for nothing: the printed rules, the states of each
-/// context and the initial states among them are the same, and so is where it is true.
-pub fn chains_are_until_chains()
-    ensures rules { (sys : System) (chain : Chained)
-        → until_rules sys (unguarded chain) ≡ chain_rules sys chain }
-    ensures wins { (sys : System) (chain : Chained) (c : ℕ)
-        → until_win_at sys (unguarded chain) c ≡ win_at sys chain c }
-    ensures covers { (sys : System) (chain : Chained)
-        → covers_until sys (unguarded chain) ≡ covers_chain sys chain }
-    ensures true_alike { (sys : System) (chain : Chained) (plan : ContextPlan) (x : Configuration)
-        → HasUntil sys plan (unguarded chain) x ↔ HasChain sys plan chain x }
 {}

@@ -1,9 +1,9 @@
 use Rattle.std.proofs.Common.{inr, ap, sym, ◌∙◌, rules, Option}
 use Rattle.std.specs.Option.{option_map}
 use Rattle.pddl_ast.specs.Values.{domain_value, problem_value}
-use Rattle.mbp_top.specs.GoalConditions.{tree_of_goal}
+use Rattle.ctl_syntax.specs.GoalValues.{tree_of_goal}
 use Rattle.mbp_top.specs.Values.{plan_words_of}
-use Rattle.mbp_top.specs.declared.context_goals.ContextGoal.{ContextGoal}
+use Rattle.ctl_syntax.specs.declared.context_goals.ContextGoal.{ContextGoal}
 use Rattle.mbp_top.proofs.ContextAnswers.{goal_stands, no_goal_found, refused_then}
 use Rattle.mbp_top.proofs.context_command.plan_goal.Goals as goal
 

@@ -1,22 +1,27 @@
-use Rattle.std.proofs.Common.{subst, sym}
+use Rattle.std.proofs.Common.{List, subst, sym}
+use Rattle.ctl_syntax.specs.declared.context_goals.ContextGoal.{ContextGoal}
+use Rattle.patrol_plan.specs.Chains.{visit_sets}
+use Rattle.task_core.specs.declared.conditions.Cond.{Cond}
 use Rattle.mbp_top.specs.FoundGoals.{IsGoalSearched}
 use Rattle.mbp_top.specs.GoalConditions.{sets_of_goal}
-use Rattle.mbp_top.specs.declared.context_goals.ContextGoal.{ContextGoal}
-use Rattle.mbp_top.proofs.ContextFound.{IsFullFor}
+use Rattle.mbp_top.specs.GoalSets.{of_patrol}
+use Rattle.mbp_top.proofs.ContextFound.{IsFullFor, IsPatrolFull}
 use Rattle.mbp_top.proofs.context_search.find_contexts.Goals as goal
 
-pub returns-in-Chain-clause-found : goal.returns-in-Chain-clause-found
-returns-in-Chain-clause-found c =
-    subst (λ (g : ContextGoal). IsGoalSearched c.args.task.now (sets_of_goal g) c.find_chain.result) (sym c.in-Chain.is) c.find_chain.ensures.found
+pub returns-in-Until-clause-found : goal.returns-in-Until-clause-found
+returns-in-Until-clause-found c =
+    subst (λ (g : ContextGoal). IsGoalSearched c.args.task.now (sets_of_goal g) c.find_until.result) (sym c.in-Until.is) c.find_until.ensures.found
 
-pub returns-in-Chain-clause-full : goal.returns-in-Chain-clause-full
-returns-in-Chain-clause-full c =
-    subst (λ (g : ContextGoal). IsFullFor c.args.task.now c.args.enc.now.sets c.find_chain.new.enc.sets c.find_chain.result g) (sym c.in-Chain.is) c.find_chain.ensures.full
+pub returns-in-Until-clause-full : goal.returns-in-Until-clause-full
+returns-in-Until-clause-full c =
+    subst (λ (g : ContextGoal). IsFullFor c.args.task.now c.args.enc.now.sets c.find_until.new.enc.sets c.find_until.result g) (sym c.in-Until.is) c.find_until.ensures.full
 
-pub returns-in-Far-clause-found : goal.returns-in-Far-clause-found
-returns-in-Far-clause-found c =
-    subst (λ (g : ContextGoal). IsGoalSearched c.args.task.now (sets_of_goal g) c.find_far.result) (sym c.in-Far.is) c.find_far.ensures.found
+pub returns-in-Patrol-clause-found : goal.returns-in-Patrol-clause-found
+returns-in-Patrol-clause-found c =
+    subst (λ (g : ContextGoal). IsGoalSearched c.args.task.now (sets_of_goal g) c.find_patrol.result) (sym c.in-Patrol.is)
+    (subst (λ (xs : List Cond). IsGoalSearched c.args.task.now (of_patrol (visit_sets xs)) c.find_patrol.result) c.as_slice.ensures.value c.find_patrol.ensures.found)
 
-pub returns-in-Far-clause-full : goal.returns-in-Far-clause-full
-returns-in-Far-clause-full c =
-    subst (λ (g : ContextGoal). IsFullFor c.args.task.now c.args.enc.now.sets c.find_far.new.enc.sets c.find_far.result g) (sym c.in-Far.is) c.find_far.ensures.full
+pub returns-in-Patrol-clause-full : goal.returns-in-Patrol-clause-full
+returns-in-Patrol-clause-full c =
+    subst (λ (g : ContextGoal). IsFullFor c.args.task.now c.args.enc.now.sets c.find_patrol.new.enc.sets c.find_patrol.result g) (sym c.in-Patrol.is)
+    (subst (IsPatrolFull c.args.task.now c.args.enc.now.sets c.find_patrol.new.enc.sets c.find_patrol.result) c.as_slice.ensures.value c.find_patrol.ensures.full)

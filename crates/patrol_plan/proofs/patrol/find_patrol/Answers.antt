@@ -14,13 +14,13 @@ search_visits-found-requires-clause-ready c =
     let wide = widest_patrol c.args.task.now c.args.visits.now in
     let start = start_of c.args.task.now c.args.enc.now c.requires.made (length c.args.visits.now) (2 ^ fluent_count c.args.task.now + 1) wide.fluents in
     let fits = patrol_fits start c.args.visits.now wide in
-    let places = first_places c.args.task.now c.args.enc.now c.new.new.enc c.requires.made (length c.args.visits.now) (2 ^ fluent_count c.args.task.now + 1) c.places.result _ wide.fluents _ (c.places.ensures ∙ ap (λ k. place_count k c.count_of-count.result) (let e : c.len-actions.result ≡ action_count c.args.task.now = omega (arith, c.len-actions.ensures) in e) ∙ ap (place_count (action_count c.args.task.now)) (let e : c.count_of-count.result ≡ length c.args.visits.now = c.count_of-count.ensures in e)) refl (c.in_ok-board.ensures.opened c.args.task.now c.requires.made (2 * action_count c.args.task.now + 6 * length c.args.visits.now + 218) (2 ^ fluent_count c.args.task.now + 1) wide.fluents rough_places) in
+    let places = first_places c.args.task.now c.args.enc.now c.new.new.enc c.requires.made (length c.args.visits.now) (2 ^ fluent_count c.args.task.now + 1) c.places.result _ wide.fluents _ (c.places.ensures ∙ ap (λ k. place_count k c.count_of-count.result) (let e : c.len-actions.result ≡ action_count c.args.task.now = omega (arith, c.len-actions.ensures) in e) ∙ ap (place_count (action_count c.args.task.now)) (let e : c.count_of-count.result ≡ length c.args.visits.now = c.count_of-count.ensures in e)) refl (c.in_ok-board.ensures.opened c.args.task.now c.requires.made (action_count c.args.task.now + 6 * length c.args.visits.now + 218) (2 ^ fluent_count c.args.task.now + 1) wide.fluents rough_places) in
     (start, refl, places, fits)
 
 pub search_visits-found-requires-clause-visits : goal.search_visits-found-requires-clause-visits
 search_visits-found-requires-clause-visits c =
     let wide = widest_patrol c.args.task.now c.args.visits.now in
-    let places = first_places c.args.task.now c.args.enc.now c.new.new.enc c.requires.made (length c.args.visits.now) (2 ^ fluent_count c.args.task.now + 1) c.places.result _ wide.fluents _ (c.places.ensures ∙ ap (λ k. place_count k c.count_of-count.result) (let e : c.len-actions.result ≡ action_count c.args.task.now = omega (arith, c.len-actions.ensures) in e) ∙ ap (place_count (action_count c.args.task.now)) (let e : c.count_of-count.result ≡ length c.args.visits.now = c.count_of-count.ensures in e)) refl (c.in_ok-board.ensures.opened c.args.task.now c.requires.made (2 * action_count c.args.task.now + 6 * length c.args.visits.now + 218) (2 ^ fluent_count c.args.task.now + 1) wide.fluents rough_places) in
+    let places = first_places c.args.task.now c.args.enc.now c.new.new.enc c.requires.made (length c.args.visits.now) (2 ^ fluent_count c.args.task.now + 1) c.places.result _ wide.fluents _ (c.places.ensures ∙ ap (λ k. place_count k c.count_of-count.result) (let e : c.len-actions.result ≡ action_count c.args.task.now = omega (arith, c.len-actions.ensures) in e) ∙ ap (place_count (action_count c.args.task.now)) (let e : c.count_of-count.result ≡ length c.args.visits.now = c.count_of-count.ensures in e)) refl (c.in_ok-board.ensures.opened c.args.task.now c.requires.made (action_count c.args.task.now + 6 * length c.args.visits.now + 218) (2 ^ fluent_count c.args.task.now + 1) wide.fluents rough_places) in
     subst (λ n. IsPatrolOver n c.args.visits.now) (sym (places.at.working.kept.vars ∙ c.requires.made.ready.vars ∙ c.requires.made.fluents)) c.requires.visits
 
 pub close-requires : goal.close-requires
@@ -28,7 +28,7 @@ close-requires c =
     let wide = widest_patrol c.args.task.now c.args.visits.now in
     let start = start_of c.args.task.now c.args.enc.now c.requires.made (length c.args.visits.now) (2 ^ fluent_count c.args.task.now + 1) wide.fluents in
     let fits = patrol_fits start c.args.visits.now wide in
-    let places = first_places c.args.task.now c.args.enc.now c.new.new.enc c.requires.made (length c.args.visits.now) (2 ^ fluent_count c.args.task.now + 1) c.places.result _ wide.fluents _ (c.places.ensures ∙ ap (λ k. place_count k c.count_of-count.result) (let e : c.len-actions.result ≡ action_count c.args.task.now = omega (arith, c.len-actions.ensures) in e) ∙ ap (place_count (action_count c.args.task.now)) (let e : c.count_of-count.result ≡ length c.args.visits.now = c.count_of-count.ensures in e)) refl (c.in_ok-board.ensures.opened c.args.task.now c.requires.made (2 * action_count c.args.task.now + 6 * length c.args.visits.now + 218) (2 ^ fluent_count c.args.task.now + 1) wide.fluents rough_places) in
+    let places = first_places c.args.task.now c.args.enc.now c.new.new.enc c.requires.made (length c.args.visits.now) (2 ^ fluent_count c.args.task.now + 1) c.places.result _ wide.fluents _ (c.places.ensures ∙ ap (λ k. place_count k c.count_of-count.result) (let e : c.len-actions.result ≡ action_count c.args.task.now = omega (arith, c.len-actions.ensures) in e) ∙ ap (place_count (action_count c.args.task.now)) (let e : c.count_of-count.result ≡ length c.args.visits.now = c.count_of-count.ensures in e)) refl (c.in_ok-board.ensures.opened c.args.task.now c.requires.made (action_count c.args.task.now + 6 * length c.args.visits.now + 218) (2 ^ fluent_count c.args.task.now + 1) wide.fluents rough_places) in
     let ends = c.search_visits-found.ensures start refl places fits in
     let at = ends_at start (c.search_visits-found.new.enc, c.search_visits-found.new.board.slots.items) (visit_sets c.args.visits.now) c.search_visits-found.result ends in
     (c.args.enc.now.sets, at.working)
@@ -38,7 +38,7 @@ returns-clause-answer c =
     let wide = widest_patrol c.args.task.now c.args.visits.now in
     let start = start_of c.args.task.now c.args.enc.now c.requires.made (length c.args.visits.now) (2 ^ fluent_count c.args.task.now + 1) wide.fluents in
     let fits = patrol_fits start c.args.visits.now wide in
-    let places = first_places c.args.task.now c.args.enc.now c.new.new.enc c.requires.made (length c.args.visits.now) (2 ^ fluent_count c.args.task.now + 1) c.places.result _ wide.fluents _ (c.places.ensures ∙ ap (λ k. place_count k c.count_of-count.result) (let e : c.len-actions.result ≡ action_count c.args.task.now = omega (arith, c.len-actions.ensures) in e) ∙ ap (place_count (action_count c.args.task.now)) (let e : c.count_of-count.result ≡ length c.args.visits.now = c.count_of-count.ensures in e)) refl (c.in_ok-board.ensures.opened c.args.task.now c.requires.made (2 * action_count c.args.task.now + 6 * length c.args.visits.now + 218) (2 ^ fluent_count c.args.task.now + 1) wide.fluents rough_places) in
+    let places = first_places c.args.task.now c.args.enc.now c.new.new.enc c.requires.made (length c.args.visits.now) (2 ^ fluent_count c.args.task.now + 1) c.places.result _ wide.fluents _ (c.places.ensures ∙ ap (λ k. place_count k c.count_of-count.result) (let e : c.len-actions.result ≡ action_count c.args.task.now = omega (arith, c.len-actions.ensures) in e) ∙ ap (place_count (action_count c.args.task.now)) (let e : c.count_of-count.result ≡ length c.args.visits.now = c.count_of-count.ensures in e)) refl (c.in_ok-board.ensures.opened c.args.task.now c.requires.made (action_count c.args.task.now + 6 * length c.args.visits.now + 218) (2 ^ fluent_count c.args.task.now + 1) wide.fluents rough_places) in
     let ends = c.search_visits-found.ensures start refl places fits in
     ends_answer start (c.search_visits-found.new.enc, c.search_visits-found.new.board.slots.items) (visit_sets c.args.visits.now) c.search_visits-found.result ends
 
@@ -47,7 +47,7 @@ returns-clause-slots c =
     let wide = widest_patrol c.args.task.now c.args.visits.now in
     let start = start_of c.args.task.now c.args.enc.now c.requires.made (length c.args.visits.now) (2 ^ fluent_count c.args.task.now + 1) wide.fluents in
     let fits = patrol_fits start c.args.visits.now wide in
-    let places = first_places c.args.task.now c.args.enc.now c.new.new.enc c.requires.made (length c.args.visits.now) (2 ^ fluent_count c.args.task.now + 1) c.places.result _ wide.fluents _ (c.places.ensures ∙ ap (λ k. place_count k c.count_of-count.result) (let e : c.len-actions.result ≡ action_count c.args.task.now = omega (arith, c.len-actions.ensures) in e) ∙ ap (place_count (action_count c.args.task.now)) (let e : c.count_of-count.result ≡ length c.args.visits.now = c.count_of-count.ensures in e)) refl (c.in_ok-board.ensures.opened c.args.task.now c.requires.made (2 * action_count c.args.task.now + 6 * length c.args.visits.now + 218) (2 ^ fluent_count c.args.task.now + 1) wide.fluents rough_places) in
+    let places = first_places c.args.task.now c.args.enc.now c.new.new.enc c.requires.made (length c.args.visits.now) (2 ^ fluent_count c.args.task.now + 1) c.places.result _ wide.fluents _ (c.places.ensures ∙ ap (λ k. place_count k c.count_of-count.result) (let e : c.len-actions.result ≡ action_count c.args.task.now = omega (arith, c.len-actions.ensures) in e) ∙ ap (place_count (action_count c.args.task.now)) (let e : c.count_of-count.result ≡ length c.args.visits.now = c.count_of-count.ensures in e)) refl (c.in_ok-board.ensures.opened c.args.task.now c.requires.made (action_count c.args.task.now + 6 * length c.args.visits.now + 218) (2 ^ fluent_count c.args.task.now + 1) wide.fluents rough_places) in
     let ends = c.search_visits-found.ensures start refl places fits in
     let at = ends_at start (c.search_visits-found.new.enc, c.search_visits-found.new.board.slots.items) (visit_sets c.args.visits.now) c.search_visits-found.result ends in
     c.close.ensures.frame c.args.enc.now.sets at.working
@@ -57,7 +57,7 @@ returns-clause-same_slots c =
     let wide = widest_patrol c.args.task.now c.args.visits.now in
     let start = start_of c.args.task.now c.args.enc.now c.requires.made (length c.args.visits.now) (2 ^ fluent_count c.args.task.now + 1) wide.fluents in
     let fits = patrol_fits start c.args.visits.now wide in
-    let places = first_places c.args.task.now c.args.enc.now c.new.new.enc c.requires.made (length c.args.visits.now) (2 ^ fluent_count c.args.task.now + 1) c.places.result _ wide.fluents _ (c.places.ensures ∙ ap (λ k. place_count k c.count_of-count.result) (let e : c.len-actions.result ≡ action_count c.args.task.now = omega (arith, c.len-actions.ensures) in e) ∙ ap (place_count (action_count c.args.task.now)) (let e : c.count_of-count.result ≡ length c.args.visits.now = c.count_of-count.ensures in e)) refl (c.in_ok-board.ensures.opened c.args.task.now c.requires.made (2 * action_count c.args.task.now + 6 * length c.args.visits.now + 218) (2 ^ fluent_count c.args.task.now + 1) wide.fluents rough_places) in
+    let places = first_places c.args.task.now c.args.enc.now c.new.new.enc c.requires.made (length c.args.visits.now) (2 ^ fluent_count c.args.task.now + 1) c.places.result _ wide.fluents _ (c.places.ensures ∙ ap (λ k. place_count k c.count_of-count.result) (let e : c.len-actions.result ≡ action_count c.args.task.now = omega (arith, c.len-actions.ensures) in e) ∙ ap (place_count (action_count c.args.task.now)) (let e : c.count_of-count.result ≡ length c.args.visits.now = c.count_of-count.ensures in e)) refl (c.in_ok-board.ensures.opened c.args.task.now c.requires.made (action_count c.args.task.now + 6 * length c.args.visits.now + 218) (2 ^ fluent_count c.args.task.now + 1) wide.fluents rough_places) in
     let ends = c.search_visits-found.ensures start refl places fits in
     let at = ends_at start (c.search_visits-found.new.enc, c.search_visits-found.new.board.slots.items) (visit_sets c.args.visits.now) c.search_visits-found.result ends in
     same_chain c.args.enc.now c.search_visits-found.new.enc c.close.new.enc at.same c.close.ensures.same_slots
@@ -66,6 +66,6 @@ pub returns-clause-full : goal.returns-clause-full
 returns-clause-full c full w wide =
     let start = start_of c.args.task.now c.args.enc.now c.requires.made (length c.args.visits.now) w wide.fluents in
     let fits = patrol_fits start c.args.visits.now wide in
-    let places = first_places c.args.task.now c.args.enc.now c.new.new.enc c.requires.made (length c.args.visits.now) w c.places.result _ wide.fluents _ (c.places.ensures ∙ ap (λ k. place_count k c.count_of-count.result) (let e : c.len-actions.result ≡ action_count c.args.task.now = omega (arith, c.len-actions.ensures) in e) ∙ ap (place_count (action_count c.args.task.now)) (let e : c.count_of-count.result ≡ length c.args.visits.now = c.count_of-count.ensures in e)) refl (c.in_ok-board.ensures.opened c.args.task.now c.requires.made (2 * action_count c.args.task.now + 6 * length c.args.visits.now + 218) w wide.fluents rough_places) in
+    let places = first_places c.args.task.now c.args.enc.now c.new.new.enc c.requires.made (length c.args.visits.now) w c.places.result _ wide.fluents _ (c.places.ensures ∙ ap (λ k. place_count k c.count_of-count.result) (let e : c.len-actions.result ≡ action_count c.args.task.now = omega (arith, c.len-actions.ensures) in e) ∙ ap (place_count (action_count c.args.task.now)) (let e : c.count_of-count.result ≡ length c.args.visits.now = c.count_of-count.ensures in e)) refl (c.in_ok-board.ensures.opened c.args.task.now c.requires.made (action_count c.args.task.now + 6 * length c.args.visits.now + 218) w wide.fluents rough_places) in
     let ends = c.search_visits-found.ensures start refl places fits in
     c.close.ensures.room c.args.enc.now.sets w (action_count c.args.task.now * (length c.args.visits.now + 3) + 8 * length c.args.visits.now + 236) 16 (room_of start c.search_visits-found.new.enc (ends_full start (c.search_visits-found.new.enc, c.search_visits-found.new.board.slots.items) (visit_sets c.args.visits.now) c.search_visits-found.result ends full))

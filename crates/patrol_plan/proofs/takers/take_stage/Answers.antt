@@ -1,5 +1,5 @@
 use Rattle.std.proofs.Common.{◌≡◌, arith, length}
-use Rattle.ctl_syntax.specs.ChainValues.{states_of}
+use Rattle.ctl_syntax.specs.Conditions.{states_of}
 use Rattle.task_core.specs.Conditions.{holds}
 use Rattle.patrol_plan.specs.Scenes.{board_of, guarded}
 use Rattle.patrol_plan.proofs.SceneSteps.{guard_put, low, same_length, spare_enough}

@@ -1,7 +1,7 @@
 use Rattle.patrol_plan.proofs.FitSteps.{end_fits, stage_fits_at}
 use Rattle.std.proofs.Common.{◌≡◌, ◌<◌, length, ◌-◌, ◌∙◌, ◌∷◌, arith, ap, drop, map, refl, slice_index_or, suc, sym}
-use Rattle.ctl_syntax.specs.FarValues.{stage_sets}
-use Rattle.ctl_syntax.specs.declared.far.UntilStage.{UntilStage}
+use Rattle.ctl_syntax.specs.GoalValues.{stage_sets}
+use Rattle.ctl_syntax.specs.declared.context_goals.UntilStage.{UntilStage}
 use Rattle.slot_board.proofs.BoardSlots.{passed, went}
 use Rattle.std.proofs.lemmas.Result.{err_from_is_err_and}
 use Rattle.patrol_plan.specs.Chains.{until_sets}

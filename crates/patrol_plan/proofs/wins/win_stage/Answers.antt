@@ -1,4 +1,4 @@
-use Rattle.ctl_syntax.specs.ChainValues.{states_of}
+use Rattle.ctl_syntax.specs.Conditions.{states_of}
 use Rattle.task_core.specs.Conditions.{holds}
 use Rattle.patrol_plan.specs.Scenes.{board_of, guarded}
 use Rattle.patrol_plan.specs.Sizes.{TurnsFit}

@@ -1,7 +1,0 @@
-use Rattle.chain_plan.specs.Scenes.{IsReady, Start, states_at}
-use Rattle.chain_plan.specs.Sizes.{RoundFits}
-use Rattle.chain_plan.specs.Steps.{Leads}
-use Rattle.chain_plan.proofs.rounds.lead_all.Given as goal
-
-abbrev pub invariant-loop-a : goal.invariant-loop-a
-invariant-loop-a l = (start : Start) → IsReady start (l.fn.enc, l.fn.board.slots.items) → RoundFits start (states_at (l.fn.enc, l.fn.board.slots.items) 0) → Leads l.fn.way start (l.fn.enc, l.fn.board.slots.items) (l.enc, l.board.slots.items) l.a

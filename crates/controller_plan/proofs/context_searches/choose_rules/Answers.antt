@@ -1,0 +1,6 @@
+use Rattle.controller_plan.proofs.Tables.{table_stays}
+use Rattle.controller_plan.proofs.context_searches.choose_rules.Goals as goal
+
+pub returns-clause-table : goal.returns-clause-table
+returns-clause-table c =
+    table_stays c.args.task.now _ _ _ _ c.args.stages c.args.context c.args.next c.rule_sets.result c.requires.table c.rule_sets.ensures

@@ -1,0 +1,288 @@
+//! The search for a plan with contexts, which is then followed from the initial states.
+
+ghost use Rattle.controller_plan.specs.Followed.{AreReachedWithin, AreSlotsLive, IsTableThere};
+ghost use Rattle.ctl_syntax.specs.GoalValues.{GoalIsAtMostDeep, GoalNamesBelow};
+ghost use Rattle.ctl_syntax.specs.Values.{IsAtMostDeep, NamesBelow, ctl_value};
+ghost use Rattle.encode_task.specs.Made.{MadeOf};
+ghost use Rattle.mbp_top.specs.GoalConditions.{HasSomeVisit, IsGoalOver, count_of, most_of};
+ghost use Rattle.mbp_top.specs.Words.{IsNodeLimit};
+ghost use Rattle.patrol_plan.specs.Chains.{IsPatrolOver, IsUntilOver};
+ghost use Rattle.patrol_plan.specs.Found.{IfPlan};
+ghost use Rattle.plan_rules.specs.Plans.{IsAutomatonOf, IsPlanOf};
+ghost use Rattle.plan_rules.specs.Rules.{context_rules_of};
+ghost use Rattle.std.specs.Prelude.{◌≡◌, ◌≤◌, IfSome, IsTrue, OnOk};
+ghost use Rattle.task_core.specs.Tasks.{action_count, fluent_count};
+
+use crate::followed::Followed;
+use crate::searches::{Stop, begun};
+use ctl_syntax::{Ctl, ContextGoal, UntilChain, as_context_goal};
+use dd_sets::SetErr;
+use encode_task::{Enc, encode};
+use ground_task::Grounded;
+use mbp_top::encode_ordered;
+use patrol_plan::{FoundAuto, plan_patrol, rule_place, rule_sets, until_takers};
+use plan_guide::Guide;
+use plan_rules::Plan;
+use slot_board::Board;
+use std::alloc::Global;
+use task_core::{ActionId, Cond, Task};
+
+/// The most stages of an until-chain.
+const MOST_STAGES: usize = 32;
+
+/// The most visits of a patrol goal.
+const MOST_VISITS: usize = 8;
+
+/// What a plan with contexts reaches, if there is one that is looked for.
+pub(crate) fn follow_contexts(
+    alloc: Global,
+    nodes: u32,
+    grounded: &Grounded,
+) -> Result<Option<Followed>, Stop>
+    requires room { IsNodeLimit nodes }
+    requires goal_names { IfSome grounded.now.ctl
+        (λ goal. NamesBelow (fluent_count grounded.now.task) (ctl_value goal)) }
+    requires shallow { IfSome grounded.now.ctl (λ goal. IsAtMostDeep 199 (ctl_value goal)) }
+{
+    match &grounded.ctl {
+        Some(goal) => follow_goal(alloc, nodes, &grounded.task, goal),
+        None => Ok(None),
+    }
+}
+
+/// What the plan with contexts for a goal reaches, if the goal is an until-chain or a patrol goal and
+/// there is one.
+fn follow_goal(alloc: Global, nodes: u32, task: &Task, goal: &Ctl) -> Result<Option<Followed>, Stop>
+    requires room { IsNodeLimit nodes }
+    requires names { NamesBelow (fluent_count task.now) (ctl_value goal.now) }
+    requires shallow { IsAtMostDeep 199 (ctl_value goal.now) }
+{
+    match as_context_goal(alloc, goal)? {
+        Some(goal) => follow_parts(alloc, nodes, task, &goal),
+        None => Ok(None),
+    }
+}
+
+/// What the plan with contexts for an until-chain or a patrol goal reaches, if it has few stages or
+/// visits and there is one: over variables in an order that is chosen for the task, and where there
+/// is no room or no memory for that, once more from nothing, over the fluents in their own order.
+fn follow_parts(alloc: Global, nodes: u32, task: &Task, goal: &ContextGoal) -> Result<Option<Followed>, Stop>
+    requires room { IsNodeLimit nodes }
+    requires names { GoalNamesBelow (fluent_count task.now) goal.now }
+    requires shallow { GoalIsAtMostDeep 200 goal.now }
+{
+    if !is_short(goal) {
+        return Ok(None);
+    }
+    match follow_in_order(alloc, nodes, task, goal) {
+        Err(Stop::Full | Stop::Memory) => follow_plainly(alloc, nodes, task, goal),
+        answer => answer,
+    }
+}
+
+/// Whether it has few stages, or few visits and at least one.
+fn is_short(goal: &ContextGoal) -> bool
+    ensures few { IsTrue result → count_of goal.now ≤ most_of goal.now }
+    ensures some { IsTrue result → HasSomeVisit goal.now }
+{
+    match goal {
+        ContextGoal::Until(chain) => chain.stages.len() <= MOST_STAGES,
+        ContextGoal::Patrol(visits) => !visits.is_empty() && visits.len() <= MOST_VISITS,
+    }
+}
+
+/// The first try: over variables in an order that is chosen for the task.
+fn follow_in_order(
+    alloc: Global,
+    nodes: u32,
+    task: &Task,
+    goal: &ContextGoal,
+) -> Result<Option<Followed>, Stop>
+    requires room { IsNodeLimit nodes }
+    requires goal { IsGoalOver (fluent_count task.now) goal.now }
+{
+    let mut enc = encode_ordered(alloc, task, nodes)?;
+    follow_over_sets(alloc, task, &mut enc, goal)
+}
+
+/// The second try: over the fluents in their own order.
+fn follow_plainly(
+    alloc: Global,
+    nodes: u32,
+    task: &Task,
+    goal: &ContextGoal,
+) -> Result<Option<Followed>, Stop>
+    requires room { IsNodeLimit nodes }
+    requires goal { IsGoalOver (fluent_count task.now) goal.now }
+{
+    let mut enc = encode(alloc, task, nodes)?;
+    follow_over_sets(alloc, task, &mut enc, goal)
+}
+
+/// The same over the task's sets.
+fn follow_over_sets(
+    alloc: Global,
+    task: &Task,
+    enc: &mut Enc,
+    goal: &ContextGoal,
+) -> Result<Option<Followed>, Stop>
+    requires made { MadeOf task.now enc.old }
+    requires goal { IsGoalOver (fluent_count task.now) goal.now }
+{
+    match goal {
+        ContextGoal::Until(chain) => follow_stages(alloc, task, enc, chain),
+        ContextGoal::Patrol(visits) => follow_visits(alloc, task, enc, visits.as_slice()),
+    }
+}
+
+/// The same for an until-chain.
+fn follow_stages(
+    alloc: Global,
+    task: &Task,
+    enc: &mut Enc,
+    chain: &UntilChain,
+) -> Result<Option<Followed>, Stop>
+    requires made { MadeOf task.now enc.old }
+    requires chain { IsUntilOver (fluent_count task.now) chain.now }
+{
+    match until_takers(alloc, task, enc, chain)? {
+        Some(mut board) => {
+            let stages = chain.stages.len() as u32;
+            let followed = follow_board(alloc, task, enc, &mut board, stages)?;
+            Ok(Some(followed))
+        }
+        None => Ok(None),
+    }
+}
+
+/// What the plan with contexts reaches whose sets are on the board of a search for so many stages.
+fn follow_board(
+    alloc: Global,
+    task: &Task,
+    enc: &mut Enc,
+    board: &mut Board,
+    stages: u32,
+) -> Result<Followed, Stop>
+    requires table { IsTableThere task.now enc.old board.old.slots.items stages }
+    requires few { stages ≤ 32 }
+{
+    let mut followed = begun(alloc, task, stages + 1)?;
+    for context in 0..stages + 1 {
+        follow_context(task, enc, board, stages, context, &mut followed)?;
+    }
+    Ok(followed)
+}
+
+/// Follows a plan with contexts from the configurations of a context, first as far as it stays in
+/// the context, and then into each later one.
+fn follow_context(
+    task: &Task,
+    enc: &mut Enc,
+    board: &mut Board,
+    stages: u32,
+    context: u32,
+    followed: &mut Followed,
+) -> Result<(), Stop>
+    requires table { IsTableThere task.now enc.old board.old.slots.items stages }
+    requires few { stages ≤ 32 }
+    requires context { context ≤ stages }
+    requires within { AreReachedWithin (fluent_count task.now) followed.old.places.items }
+    ensures table { OnOk result (IsTableThere task.now enc.new board.new.slots.items stages) }
+    ensures within { OnOk result
+        (AreReachedWithin (fluent_count task.now) followed.new.places.items) }
+{
+    for next in context..stages + 1 {
+        follow_pair(task, enc, board, stages, context, next, followed)?;
+    }
+    Ok(())
+}
+
+/// Follows a plan with contexts from the configurations of a context in which it goes on in a next
+/// one.
+fn follow_pair(
+    task: &Task,
+    enc: &mut Enc,
+    board: &mut Board,
+    stages: u32,
+    context: u32,
+    next: u32,
+    followed: &mut Followed,
+) -> Result<(), Stop>
+    requires table { IsTableThere task.now enc.old board.old.slots.items stages }
+    requires few { stages ≤ 32 }
+    requires context { context ≤ next }
+    requires next { next ≤ stages }
+    requires within { AreReachedWithin (fluent_count task.now) followed.old.places.items }
+    ensures table { OnOk result (IsTableThere task.now enc.new board.new.slots.items stages) }
+    ensures within { OnOk result
+        (AreReachedWithin (fluent_count task.now) followed.new.places.items) }
+{
+    let actions = task.actions.len() as u32;
+    if actions == 0 {
+        return Ok(());
+    }
+    choose_rules(task, enc, board, actions, stages, context, next)?;
+    let first = rule_place(actions, stages, ActionId(0));
+    followed.visit(task, enc, &board.slots, first, context, next)
+}
+
+/// Puts the sets in which the plan with contexts takes the actions at their places, for a context
+/// and a next one.
+fn choose_rules(
+    task: &Task,
+    enc: &mut Enc,
+    board: &mut Board,
+    actions: u32,
+    stages: u32,
+    context: u32,
+    next: u32,
+) -> Result<(), SetErr>
+    requires table { IsTableThere task.now enc.old board.old.slots.items stages }
+    requires actions { actions ≡ action_count task.now }
+    requires few { stages ≤ 32 }
+    requires context { context ≤ next }
+    requires next { next ≤ stages }
+    ensures table { OnOk result (IsTableThere task.now enc.new board.new.slots.items stages) }
+    ensures live { OnOk result (AreSlotsLive enc.new.sets board.new.slots.items) }
+{
+    rule_sets(enc, board, actions, stages, context, next)
+}
+
+/// What the plan with contexts for a patrol goal reaches, if there is one, over the task's sets.
+fn follow_visits(
+    alloc: Global,
+    task: &Task,
+    enc: &mut Enc,
+    visits: &[Cond],
+) -> Result<Option<Followed>, Stop>
+    requires made { MadeOf task.now enc.old }
+    requires visits { IsPatrolOver (fluent_count task.now) visits.now }
+{
+    let found = plan_patrol(alloc, task, enc, visits)?;
+    follow_found(alloc, task, found)
+}
+
+/// What the plan reaches that was found, if one was.
+fn follow_found(alloc: Global, task: &Task, found: FoundAuto) -> Result<Option<Followed>, Stop>
+    requires { IfPlan found (λ plan. IsAutomatonOf (fluent_count task.now) (action_count task.now)
+        plan.contexts (context_rules_of plan)) }
+{
+    match found {
+        FoundAuto::Plan(plan) => {
+            let contexts = plan.contexts;
+            let followed = follow_plan(alloc, task, &Plan::Auto(plan), contexts)?;
+            Ok(Some(followed))
+        }
+        FoundAuto::NoPlan => Ok(None),
+    }
+}
+
+/// What a plan with so many contexts reaches.
+fn follow_plan(alloc: Global, task: &Task, plan: &Plan, contexts: u32) -> Result<Followed, Stop>
+    requires { IsPlanOf (fluent_count task.now) (action_count task.now) plan.now }
+{
+    let guide = Guide::new(alloc, task, plan)?;
+    let mut followed = begun(alloc, task, contexts)?;
+    followed.visit_guided(task, &guide)?;
+    Ok(followed)
+}

@@ -1,9 +1,0 @@
-use Rattle.std.proofs.Common.{◌≡◌, drop, map}
-use Rattle.std.specs.List.{list_all}
-use Rattle.ctl_syntax.specs.ChainSteps.{is_plain}
-use Rattle.ctl_syntax.specs.Values.{ctl_value}
-use Rattle.ctl_syntax.proofs.chains.are_plain.Given as goal
-
-abbrev pub invariant-loop-goal : goal.invariant-loop-goal
-invariant-loop-goal l =
-    list_all is_plain (map ctl_value (drop l.goal-index l.goals)) ≡ list_all is_plain (map ctl_value l.goals)

@@ -1,5 +1,0 @@
-use Rattle.plan_theory.proofs.FiniteContexts.{finitely_many}
-use Rattle.plan_theory.proofs.chain_rules.rules_have_finitely_many_contexts.Goals as goal
-
-pub returns : goal.returns
-returns c = record { finite = λ rules. finitely_many rules }
