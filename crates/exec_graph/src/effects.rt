@@ -27,6 +27,7 @@ ghost use Rattle.exec_graph.specs.Effects.{
   value_after,
 };
 
+use plan_rules::Plan;
 use std::alloc::{AllocError, Global};
 use task_core::{ActionId, Cond, FluentId, Outcome, State, Task, step};
 
@@ -38,8 +39,8 @@ pub(crate) struct Effect {
     pub(crate) kept: State,
 }
 
-/// For each action what its outcomes do, in their order; `None` for one that may not do the same in
-/// every state.
+/// For each action that the plan names what its outcomes do, in their order; `None` for one that may
+/// not do the same in every state.
 #[derive(Drop)]
 pub(crate) struct Effects {
     pub(crate) lists: Vec<Vec<Option<Effect>>>,
@@ -81,16 +82,61 @@ pub(crate) fn known_effect(effects: &[Option<Effect>], outcome: u32) -> Option<&
     effects.get(outcome as usize)?.as_ref()
 }
 
-/// What the outcomes of a task's actions do.
-pub(crate) fn effects_of(alloc: Global, task: &Task) -> Result<Effects, AllocError>
+/// What the outcomes of the actions do that a plan names.
+pub(crate) fn effects_of(alloc: Global, task: &Task, plan: &Plan) -> Result<Effects, AllocError>
     ensures { IfOk result (AreEffectsOf task.now) }
 {
     let all = all_true(task);
+    let named = named_actions(alloc, task, plan)?;
     let mut lists = Vec::new(alloc);
     for action in 0..task.actions.len() {
-        lists.push(action_effects(alloc, task, &all, ActionId(action as u32))?)?;
+        lists.push(effects_if(alloc, task, &all, ActionId(action as u32), &named)?)?;
     }
     Ok(Effects { lists })
+}
+
+/// A mark for each action that a rule of a plan names.
+fn named_actions(alloc: Global, task: &Task, plan: &Plan) -> Result<Vec<bool>, AllocError> {
+    let mut named = vec![in alloc; false; task.actions.len()]?;
+    match plan {
+        Plan::Table(table) => {
+            for rule in &table.rules {
+                mark_named(&mut named, rule.action);
+            }
+        }
+        Plan::Auto(automaton) => {
+            for rule in &automaton.rules {
+                mark_named(&mut named, rule.action);
+            }
+        }
+    }
+    Ok(named)
+}
+
+/// Marks an action.
+fn mark_named(named: &mut Vec<bool>, action: ActionId) {
+    if (action.0 as usize) < named.len() {
+        named[action.0 as usize] = true;
+    }
+}
+
+/// What the outcomes of an action do, if it is marked.
+fn effects_if(
+    alloc: Global,
+    task: &Task,
+    all: &State,
+    action: ActionId,
+    named: &[bool],
+) -> Result<Vec<Option<Effect>>, AllocError>
+    requires action { action.0 < action_count task.now }
+    requires within { IsWithin (fluent_count task.now) all.now }
+    requires all { (f : ℕ) → f < fluent_count task.now → truth all.now f ≡ true }
+    ensures { IfOk result (λ effects. AreEffects task.now action.0 effects.items) }
+{
+    match named.get(action.0 as usize) {
+        Some(true) => action_effects(alloc, task, all, action),
+        _ => Ok(Vec::new(alloc)),
+    }
 }
 
 /// What the outcomes of an action do.

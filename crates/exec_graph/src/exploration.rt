@@ -271,7 +271,7 @@ fn initial_states(alloc: Global, task: &Task) -> Result<Vec<State>, GraphErr>
 }
 
 /// The rules of a plan as they are looked up: those of an automaton by their contexts, those of a
-/// table by what their cubes match; and what the outcomes of the task's actions do.
+/// table by what their cubes match; and what the outcomes of its actions do.
 fn index_of<'a>(alloc: Global, task: &Task, plan: &'a Plan) -> Result<RuleIndex<'a>, AllocError>
     requires { IsPlanOf (fluent_count task.now) (action_count task.now) plan.now }
     ensures rules { IfOk result (IsRuleIndexOf plan.now) }
@@ -281,7 +281,7 @@ fn index_of<'a>(alloc: Global, task: &Task, plan: &'a Plan) -> Result<RuleIndex<
         Plan::Table(table) => {
             let cubes = table_index(alloc, task, &table.rules)?;
             let contexts = ByContext::new(alloc, 0)?;
-            let effects = effects_of(alloc, task)?;
+            let effects = effects_of(alloc, task, plan)?;
             Ok(RuleIndex {
                 contexts,
                 cubes,
@@ -292,7 +292,7 @@ fn index_of<'a>(alloc: Global, task: &Task, plan: &'a Plan) -> Result<RuleIndex<
             let count = automaton.contexts as usize + 1;
             let contexts = by_context(alloc, &automaton.rules, count)?;
             let cubes = CubeIndex::new(alloc, &[])?;
-            let effects = effects_of(alloc, task)?;
+            let effects = effects_of(alloc, task, plan)?;
             Ok(RuleIndex {
                 contexts,
                 cubes,

@@ -20,7 +20,7 @@ use std::alloc::{AllocError, Global};
 use task_core::{Lit, State, Task};
 
 /// The rules of a plan, as they are looked up: those of an automaton by their contexts, those of a
-/// table by what their cubes match; and what the outcomes of the task's actions do.
+/// table by what their cubes match; and what the outcomes of its actions do.
 #[derive(Drop)]
 pub(crate) struct RuleIndex<'a> {
     pub(crate) contexts: ByContext<'a>,
