@@ -16,3 +16,6 @@ pub mod Grown
 pub mod Visits
 pub mod Taken
 pub mod Skipped
+pub mod WordBits
+pub mod KnownSteps
+pub mod KnownPlaces

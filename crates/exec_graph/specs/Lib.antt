@@ -8,3 +8,4 @@ pub mod Moves
 pub mod Drafts
 pub mod Numbers
 pub mod Rows
+pub mod Effects

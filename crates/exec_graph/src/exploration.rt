@@ -34,6 +34,7 @@ ghost use Rattle.exec_graph.specs.Drafts.{
   beginnings,
   draft_value,
 };
+ghost use Rattle.exec_graph.specs.Effects.{AreEffectsOf};
 ghost use Rattle.exec_graph.specs.Executions.{ReachesMoreThan};
 ghost use Rattle.exec_graph.specs.Graphs.{IsGraphOf};
 ghost use Rattle.exec_graph.specs.Initials.{HasTooManyInitial};
@@ -42,6 +43,7 @@ ghost use Rattle.exec_graph.specs.Numbers.{numbers_of};
 ghost use Rattle.exec_graph.specs.Rows.{AreRows, HasShortRows, row_count, rows_of};
 ghost use Rattle.exec_graph.specs.Values.{IsWithinFluents, plain_graph};
 
+use crate::effects::effects_of;
 use crate::graphs::{Graph, Place};
 use crate::moves::{Moves, number_of};
 use crate::rows::{Rows, turned};
@@ -138,6 +140,7 @@ impl Draft {
     ) -> Result<(), GraphErr>
         requires plan_of_task { IsPlanOf (fluent_count task.now) (action_count task.now) plan.now }
         requires index { IsRuleIndexOf plan.now index.now }
+        requires effects { AreEffectsOf task.now index.now.effects }
         requires rows { AreRows self.old.next }
         requires within { IsDraftWithin (fluent_count task.now) self.old }
         requires few { length self.old.moves.places.keys ≤ 262144 }
@@ -169,6 +172,7 @@ impl Draft {
     ) -> Result<(), GraphErr>
         requires plan_of_task { IsPlanOf (fluent_count task.now) (action_count task.now) plan.now }
         requires index { IsRuleIndexOf plan.now index.now }
+        requires effects { AreEffectsOf task.now index.now.effects }
         requires rows { AreRows self.old.next }
         requires within { IsDraftWithin (fluent_count task.now) self.old }
         requires few { length self.old.moves.places.keys ≤ 262144 }
@@ -267,22 +271,33 @@ fn initial_states(alloc: Global, task: &Task) -> Result<Vec<State>, GraphErr>
 }
 
 /// The rules of a plan as they are looked up: those of an automaton by their contexts, those of a
-/// table by what their cubes match.
+/// table by what their cubes match; and what the outcomes of its actions do.
 fn index_of<'a>(alloc: Global, task: &Task, plan: &'a Plan) -> Result<RuleIndex<'a>, AllocError>
     requires { IsPlanOf (fluent_count task.now) (action_count task.now) plan.now }
-    ensures { IfOk result (IsRuleIndexOf plan.now) }
+    ensures rules { IfOk result (IsRuleIndexOf plan.now) }
+    ensures effects { IfOk result (λ index. AreEffectsOf task.now index.effects) }
 {
     match plan {
         Plan::Table(table) => {
             let cubes = table_index(alloc, task, &table.rules)?;
             let contexts = ByContext::new(alloc, 0)?;
-            Ok(RuleIndex { contexts, cubes })
+            let effects = effects_of(alloc, task, plan)?;
+            Ok(RuleIndex {
+                contexts,
+                cubes,
+                effects,
+            })
         }
         Plan::Auto(automaton) => {
             let count = automaton.contexts as usize + 1;
             let contexts = by_context(alloc, &automaton.rules, count)?;
             let cubes = CubeIndex::new(alloc, &[])?;
-            Ok(RuleIndex { contexts, cubes })
+            let effects = effects_of(alloc, task, plan)?;
+            Ok(RuleIndex {
+                contexts,
+                cubes,
+                effects,
+            })
         }
     }
 }

@@ -7,8 +7,10 @@
 //! when a graph is the graph of a plan.
 #![tactic(auto)]
 
+mod effects;
 mod exploration;
 mod graphs;
+mod guesses;
 mod moves;
 mod numbers;
 mod rows;

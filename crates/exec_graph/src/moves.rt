@@ -35,6 +35,7 @@ ghost use Rattle.task_core.specs.Tasks.{
   fluent_count,
   in_space,
   outcomes_at,
+  states_after,
   system_of,
 };
 ghost use Rattle.plan_rules.specs.Denoted.{can_execute};
@@ -44,6 +45,7 @@ ghost use Rattle.cube_index.specs.Index.{IsIndexOf};
 ghost use Rattle.exec_graph.specs.ByContext.{IsRuleIndexOf, cubes_of};
 ghost use Rattle.exec_graph.specs.Counting.{HaveTaken, add_configuration, moves_by, moves_from, moves_in_table, no_moves, with_if_state, with_outcome, with_rule, with_table_rule};
 ghost use Rattle.plan_rules.specs.Advices.{AreCasesOf, IsAdviceOf, advice_value, onward_value};
+ghost use Rattle.exec_graph.specs.Effects.{AreEffects, AreEffectsOf, IsKnownAfter, StandsAt};
 ghost use Rattle.exec_graph.specs.Moves.{
   AreMoves,
   HasGrown,
@@ -53,13 +55,15 @@ ghost use Rattle.exec_graph.specs.Moves.{
   configuration_of,
   found_by,
   moves_value,
+  nowhere,
   with_configuration,
 };
 
+use crate::effects::{Effect, Effects, known_effect, outcome_count};
 use crate::graphs::Place;
+use crate::guesses::Guesses;
 use crate::rows::zeros;
 use crate::rules::{RuleIndex, next_rule};
-use cube_index::CubeIndex;
 use indexmap::IndexSet;
 use plan_rules::{Advice, FIRST_CONTEXT, Onward, Plan, Rule, context_in, has_all};
 use std::alloc::{AllocError, Global};
@@ -72,6 +76,7 @@ use task_core::{ActionId, State, Task, in_space, is_exec, step};
 #[derive(Drop)]
 pub(crate) struct Moves {
     pub(crate) places: IndexSet<Place>,
+    pub(crate) guesses: Guesses,
     // For each number the visit in which it was listed last; visits count from 1.
     pub(crate) marks: Vec<usize>,
     pub(crate) visit: usize,
@@ -91,6 +96,7 @@ impl Moves {
         let marks = zeros(alloc, places.len())?;
         Ok(Moves {
             places,
+            guesses: Guesses::new(alloc),
             marks,
             visit: 0,
             numbers: Vec::new(alloc),
@@ -131,6 +137,7 @@ impl Moves {
     ) -> Result<(), AllocError>
         requires plan_of_task { IsPlanOf (fluent_count task.now) (action_count task.now) plan.now }
         requires index { IsRuleIndexOf plan.now index.now }
+        requires effects { AreEffectsOf task.now index.now.effects }
         requires within { IsPlaceWithin (fluent_count task.now) place.now }
         requires before { IsBeforeVisit (fluent_count task.now) visit self.old }
         ensures value { let n = fluent_count task.now in OnOk result (moves_value n self.new
@@ -156,6 +163,7 @@ impl Moves {
     ) -> Result<(), AllocError>
         requires plan_of_task { IsPlanOf (fluent_count task.now) (action_count task.now) plan.now }
         requires index { IsRuleIndexOf plan.now index.now }
+        requires effects { AreEffectsOf task.now index.now.effects }
         requires within { IsPlaceWithin (fluent_count task.now) place.now }
         requires moves { AreMoves (fluent_count task.now) self.old }
         requires none { moves_value (fluent_count task.now) self.old ≡ no_moves false }
@@ -165,12 +173,10 @@ impl Moves {
         ensures grown { OnOk result (HasGrown (fluent_count task.now) self.old self.new) }
     {
         match plan {
-            Plan::Table(table) => {
-                self.add_table(alloc, task, &table.rules, &index.cubes, &place.state)
-            }
+            Plan::Table(table) => { self.add_table(alloc, task, &table.rules, index, &place.state) }
             Plan::Auto(_) => {
                 let rule = index.contexts.rule_at(task, &place.state, place.context);
-                self.add_advised(task, &rule, &place.state)
+                self.add_advised(task, &rule, &place.state, &index.effects)
             }
         }
     }
@@ -181,9 +187,11 @@ impl Moves {
         task: &Task,
         rule: &Option<Advice<'_>>,
         state: &State,
+        effects: &Effects,
     ) -> Result<(), AllocError>
         requires in_task { IfSome rule.now
             (IsAdviceOf (fluent_count task.now) (action_count task.now)) }
+        requires effects { AreEffectsOf task.now effects.now }
         requires within { IsWithin (fluent_count task.now) state.now }
         requires moves { AreMoves (fluent_count task.now) self.old }
         requires none { moves_value (fluent_count task.now) self.old ≡ no_moves false }
@@ -198,7 +206,7 @@ impl Moves {
                 self.lost = true;
                 Ok(())
             }
-            Some(rule) => self.add_rule(task, state, rule),
+            Some(rule) => self.add_rule(task, state, rule, effects),
         }
     }
 
@@ -208,12 +216,13 @@ impl Moves {
         alloc: Global,
         task: &Task,
         rules: &[Rule],
-        index: &CubeIndex,
+        index: &RuleIndex<'_>,
         state: &State,
     ) -> Result<(), AllocError>
         requires in_task { let n = fluent_count task.now in let m = action_count task.now in
             All (λ rule. IsRuleOf n m (rule_of rule)) rules.now }
-        requires index { IsIndexOf index.now (cubes_of rules.now) }
+        requires index { IsIndexOf index.now.cubes (cubes_of rules.now) }
+        requires effects { AreEffectsOf task.now index.now.effects }
         requires within { IsWithin (fluent_count task.now) state.now }
         requires moves { AreMoves (fluent_count task.now) self.old }
         requires none { moves_value (fluent_count task.now) self.old ≡ no_moves false }
@@ -223,10 +232,10 @@ impl Moves {
         ensures grown { OnOk result (HasGrown (fluent_count task.now) self.old self.new) }
     {
         let mut taken = no_actions(alloc, task)?;
-        let mut place = next_rule(task, rules, index, state, 0);
+        let mut place = next_rule(task, rules, &index.cubes, state, 0);
         while place < rules.len() {
-            self.add_matching(task, state, &rules[place], &mut taken)?;
-            place = next_rule(task, rules, index, state, place + 1);
+            self.add_matching(task, state, &rules[place], &index.effects, &mut taken)?;
+            place = next_rule(task, rules, &index.cubes, state, place + 1);
         }
         Ok(())
     }
@@ -237,8 +246,10 @@ impl Moves {
         task: &Task,
         state: &State,
         rule: &Advice<'_>,
+        effects: &Effects,
     ) -> Result<(), AllocError>
         requires in_task { IsAdviceOf (fluent_count task.now) (action_count task.now) rule.now }
+        requires effects { AreEffectsOf task.now effects.now }
         requires within { IsWithin (fluent_count task.now) state.now }
         requires moves { AreMoves (fluent_count task.now) self.old }
         ensures value { let n = fluent_count task.now in OnOk result (moves_value n self.new
@@ -248,7 +259,7 @@ impl Moves {
         ensures grown { OnOk result (HasGrown (fluent_count task.now) self.old self.new) }
     {
         if is_executable(task, state, rule.action) {
-            self.add_outcomes(task, state, rule)
+            self.add_outcomes(task, state, rule, effects)
         } else {
             self.refused = true;
             Ok(())
@@ -262,10 +273,12 @@ impl Moves {
         task: &Task,
         state: &State,
         rule: &Rule,
+        effects: &Effects,
         taken: &mut Vec<bool>,
     ) -> Result<(), AllocError>
         requires in_task { let n = fluent_count task.now in let m = action_count task.now in
             IsRuleOf n m (rule_of rule.now) }
+        requires effects { AreEffectsOf task.now effects.now }
         requires within { IsWithin (fluent_count task.now) state.now }
         requires moves { AreMoves (fluent_count task.now) self.old }
         requires count { length taken.old.items ≡ action_count task.now }
@@ -295,6 +308,7 @@ impl Moves {
                 action: rule.action,
                 onward: Onward::Always(FIRST_CONTEXT),
             },
+            effects,
         )?;
         Ok(())
     }
@@ -305,8 +319,10 @@ impl Moves {
         task: &Task,
         state: &State,
         rule: &Advice<'_>,
+        effects: &Effects,
     ) -> Result<(), AllocError>
         requires in_task { IsAdviceOf (fluent_count task.now) (action_count task.now) rule.now }
+        requires effects { AreEffectsOf task.now effects.now }
         requires within { IsWithin (fluent_count task.now) state.now }
         requires moves { AreMoves (fluent_count task.now) self.old }
         requires executable { let n = fluent_count task.now in
@@ -317,11 +333,93 @@ impl Moves {
         ensures moves { OnOk result (AreMoves (fluent_count task.now) self.new) }
         ensures grown { OnOk result (HasGrown (fluent_count task.now) self.old self.new) }
     {
+        let effects = effects.of(rule.action);
         for outcome in 0..outcome_count(task, rule.action) {
-            let after = step(task, state, rule.action, outcome);
-            self.add_if_state(task, after, &rule.onward)?;
+            self.add_after(task, state, rule, effects, outcome)?;
         }
         Ok(())
+    }
+
+    // Adds the move by one outcome of a rule's action, if it leads to a state.
+    fn add_after(
+        &mut self,
+        task: &Task,
+        state: &State,
+        rule: &Advice<'_>,
+        effects: &[Option<Effect>],
+        outcome: u32,
+    ) -> Result<(), AllocError>
+        requires in_task { IsAdviceOf (fluent_count task.now) (action_count task.now) rule.now }
+        requires within { IsWithin (fluent_count task.now) state.now }
+        requires moves { AreMoves (fluent_count task.now) self.old }
+        requires effects { AreEffects task.now rule.now.action.0 effects.now }
+        requires outcome { outcome < length (outcomes_at task.now rule.now.action.0) }
+        ensures value { let n = fluent_count task.now in OnOk result (moves_value n self.new
+            ≡ with_if_state (in_space task.now) (onward_value rule.now.onward)
+            (moves_value n self.old) (slice_index_or
+            (states_after task.now (vector n state.now) rule.now.action.0) outcome [])) }
+        ensures moves { OnOk result (AreMoves (fluent_count task.now) self.new) }
+        ensures grown { OnOk result (HasGrown (fluent_count task.now) self.old self.new) }
+    {
+        match self.known_after(state, &rule.onward, effects, outcome) {
+            Some(number) => self.add_known(task, number),
+            None => {
+                let after = step(task, state, rule.action, outcome);
+                self.add_if_state(task, after, &rule.onward)
+            }
+        }
+    }
+
+    // The number of the configuration to which an outcome leads, where its effect is known and the
+    // guess is right.
+    fn known_after(
+        &self,
+        state: &State,
+        onward: &Onward<'_>,
+        effects: &[Option<Effect>],
+        outcome: u32,
+    ) -> Option<usize>
+        ensures { IfSome result (IsKnownAfter self.now.places.keys state.now
+            (onward_value onward.now) effects.now outcome) }
+    {
+        match (onward, known_effect(effects, outcome)) {
+            (Onward::Always(context), Some(effect)) => {
+                self.guessed(&effect.words_from(state), *context)
+            }
+            _ => None,
+        }
+    }
+
+    // The number of the configuration with these words and this context, where the guess at it is
+    // right.
+    fn guessed(&self, words: &[u64; 4], context: u32) -> Option<usize>
+        ensures { IfSome result (StandsAt self.now.places.keys words.now context) }
+    {
+        let number = self.guesses.guess(words, context);
+        let place = self.places.get_index(number)?;
+        if *place.state.bits() == *words && place.context == context {
+            Some(number)
+        } else {
+            None
+        }
+    }
+
+    // Adds the move to a configuration that was found already, if the vector there is a state.
+    fn add_known(&mut self, task: &Task, number: usize) -> Result<(), AllocError>
+        requires number { number < length self.old.places.keys }
+        requires moves { AreMoves (fluent_count task.now) self.old }
+        ensures value { let n = fluent_count task.now in
+            let here = slice_index_or (found_by n self.old) number nowhere in
+            OnOk result (moves_value n self.new ≡ (if in_space task.now here.state
+            then with_configuration (moves_value n self.old) here else moves_value n self.old)) }
+        ensures moves { OnOk result (AreMoves (fluent_count task.now) self.new) }
+        ensures grown { OnOk result (HasGrown (fluent_count task.now) self.old self.new) }
+    {
+        if in_space(task, &self.places[number].state) {
+            self.list_known(task, number)
+        } else {
+            Ok(())
+        }
     }
 
     // Adds the move to the vector after an outcome, if it is a state: an outcome that leads to no
@@ -387,6 +485,24 @@ impl Moves {
         // The task is read for its bound on fluents alone.
         let _bound = task.fluents.len();
         let number = number_of(&mut self.places, place)?;
+        self.guesses.take(place.state.bits(), place.context, number, self.places.len());
+        let fresh = mark(&mut self.marks, number, self.visit)?;
+        push_if(&mut self.numbers, number, fresh)?;
+        Ok(())
+    }
+
+    // Lists a configuration that was found already, unless it was listed in this visit.
+    fn list_known(&mut self, task: &Task, number: usize) -> Result<(), AllocError>
+        requires number { number < length self.old.places.keys }
+        requires moves { AreMoves (fluent_count task.now) self.old }
+        ensures value { let n = fluent_count task.now in OnOk result (moves_value n self.new
+            ≡ with_configuration (moves_value n self.old)
+            (slice_index_or (found_by n self.old) number nowhere)) }
+        ensures moves { OnOk result (AreMoves (fluent_count task.now) self.new) }
+        ensures grown { OnOk result (HasGrown (fluent_count task.now) self.old self.new) }
+    {
+        // The task is read for its bound on fluents alone.
+        let _bound = task.fluents.len();
         let fresh = mark(&mut self.marks, number, self.visit)?;
         push_if(&mut self.numbers, number, fresh)?;
         Ok(())
@@ -461,12 +577,4 @@ fn is_executable(task: &Task, state: &State, action: ActionId) -> bool
         ↔ Exec (system_of task.now) (vector (fluent_count task.now) state.now) action.0 }
 {
     is_exec(task, state, action)
-}
-
-/// How many outcomes an action has.
-fn outcome_count(task: &Task, action: ActionId) -> u32
-    requires { action.0 < action_count task.now }
-    ensures { result ≡ length (outcomes_at task.now action.0) }
-{
-    task.actions[action.0 as usize].outcomes.len() as u32
 }

@@ -13,17 +13,19 @@ ghost use Rattle.plan_rules.specs.Advices.{IsAdviceOf, advice_value, advised_by}
 ghost use Rattle.task_core.specs.States.{vector};
 ghost use Rattle.task_core.specs.Tasks.{action_count, fluent_count};
 
+use crate::effects::Effects;
 use cube_index::CubeIndex;
 use plan_rules::{Advice, AutoRule, Rule, has_all, onward_of};
 use std::alloc::{AllocError, Global};
 use task_core::{Lit, State, Task};
 
 /// The rules of a plan, as they are looked up: those of an automaton by their contexts, those of a
-/// table by what their cubes match.
+/// table by what their cubes match; and what the outcomes of its actions do.
 #[derive(Drop)]
 pub(crate) struct RuleIndex<'a> {
     pub(crate) contexts: ByContext<'a>,
     pub(crate) cubes: CubeIndex,
+    pub(crate) effects: Effects,
 }
 
 /// The rules of an automaton, those of each context in a list of their own, in their order. The

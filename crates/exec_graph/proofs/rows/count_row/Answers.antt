@@ -1,4 +1,4 @@
-use Rattle.std.proofs.Common.{◌≡◌, ◌<◌, ◌≤◌, ◌+◌, ◌^◌, length, slice_index_or, slice_set, refl, sym, ◌∙◌, subst, arith}
+use Rattle.std.proofs.Common.{◌≡◌, ◌<◌, ◌+◌, ◌^◌, length, slice_index_or, slice_set, refl, sym, subst, arith}
 use Rattle.exec_graph.specs.Numbers.{numbers_of}
 use Rattle.exec_graph.specs.Rows.{IsCounted, row_count, row_of}
 use Rattle.exec_graph.proofs.RowFacts.{counted_small, counted_step, item_inside, row_begun, row_done}

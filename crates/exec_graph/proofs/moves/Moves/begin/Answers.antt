@@ -8,6 +8,7 @@ returns-clause-moves c = λ n h.
     let before = c.args.self.now in
     let after : Moves = record {
       places = before.places;
+      guesses = before.guesses;
       marks = before.marks;
       visit = c.args.visit;
       numbers = c.clear.new.self;
