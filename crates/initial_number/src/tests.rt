@@ -65,44 +65,39 @@ fn task(alloc: Global, text: &str, invariant: Cond) -> Result<Task, Fail> {
 fn named(states: &[State], number: usize) -> Numbered {
     match states.get(number) {
         Some(state) => Numbered::Found(*state),
-        None if states.is_empty() => Numbered::NoInitial,
-        None => Numbered::Beyond,
+        None => {
+            if states.is_empty() {
+                Numbered::NoInitial
+            } else {
+                Numbered::Beyond
+            }
+        }
     }
 }
 
 /// Each number names what it names in the list.
-fn agrees(rt: &impl Abort, alloc: Global, task: &Task) -> Result<(), Fail> {
+fn agrees(rt: &impl Abort, alloc: Global, text: &str, invariant: Cond) -> Result<(), Fail> {
+    let task = task(alloc, text, invariant)?;
+    let listed = init_states(alloc, &task, MOST);
     for number in 0..MOST + 2 {
-        let found = numbered_initial(alloc, task, number, MOST);
-        match init_states(alloc, task, MOST) {
-            Ok(states) => assert_eq!(rt; found, Ok(named(&states, number))),
-            Err(err) => assert_eq!(rt; found, Err(err)),
-        }
+        let expected = match &listed {
+            Ok(states) => Ok(named(states, number)),
+            Err(err) => Err(*err),
+        };
+        let found = numbered_initial(alloc, &task, number, MOST);
+        assert_eq!(rt; found, expected, "{text} {number}");
     }
     Ok(())
 }
 
 #[test]
 fn agrees_with_the_list(rt: HostRuntime) -> Result<(), Fail> {
-    let alloc = rt.alloc();
-    for text in [
-        "",
-        "A|a",
-        "b|B",
-        "B|C|",
-        "A|a;B|b;C|c",
-        "C|c;B|b;A|a",
-        "AB|a;C|D|E;F|f",
-        "Aa|a",
-        "A|A",
-        "A|Aa",
-        "B|C;D|b",
-        "A|a;A|B",
-        "B|C|D;E|F|G;A|a",
-        "A|a;B|b;C|c;D|d;E|e",
-        "B|C;BC|bc|Bc",
-    ] {
-        agrees(&rt, alloc, &task(alloc, text, Cond::Yes)?)?;
+    let independent = "A|a b|B B|C| A|a;B|b;C|c C|c;B|b;A|a AB|a;C|D|E;F|f Aa|a B|C|D;E|F|G;A|a";
+    let dependent = "A|A A|Aa B|C;D|b A|a;A|B A|a;B|b;C|c;D|d;E|e B|C;BC|bc|Bc";
+    for texts in [independent, dependent] {
+        for text in texts.split(' ') {
+            agrees(&rt, rt.alloc(), text, Cond::Yes)?;
+        }
     }
     Ok(())
 }
@@ -110,17 +105,9 @@ fn agrees_with_the_list(rt: HostRuntime) -> Result<(), Fail> {
 #[test]
 fn agrees_where_an_invariant_leaves_some(rt: HostRuntime) -> Result<(), Fail> {
     let alloc = rt.alloc();
-    agrees(
-        &rt,
-        alloc,
-        &task(alloc, "A|a;B|b;C|c", Cond::Is(FluentId(2)))?,
-    )?;
-    agrees(&rt, alloc, &task(alloc, "A|a", Cond::No)?)?;
-    agrees(
-        &rt,
-        alloc,
-        &task(alloc, "A|a;B|b", Cond::All(Vec::new(alloc)))?,
-    )
+    agrees(&rt, alloc, "A|a;B|b;C|c", Cond::Is(FluentId(2)))?;
+    agrees(&rt, alloc, "A|a", Cond::No)?;
+    agrees(&rt, alloc, "A|a;B|b", Cond::All(Vec::new(alloc)))
 }
 
 /// Which tasks need no list, and how many choices they have.
