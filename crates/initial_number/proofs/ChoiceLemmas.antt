@@ -1,5 +1,5 @@
 -- The choices of alternatives entry by entry, and the one with a number.
-use Rattle.std.proofs.Common.{◌≡◌, ℕ, zero, suc, ◌+◌, ◌*◌, ◌/◌, ◌%◌, ◌<◌, ◌≤◌, Bool, true, false, ◌||◌, cond, ltb, List, [], ◌∷◌, ◌++◌, map, length, take, drop, get_or, refl, sym, ◌∙◌, ap, subst, ⊎_elim, arith, take_all}
+use Rattle.std.proofs.Common.{◌≡◌, ℕ, zero, suc, ◌+◌, ◌*◌, ◌/◌, ◌%◌, ◌<◌, ◌≤◌, Bool, true, false, ◌||◌, ltb, List, [], ◌∷◌, ◌++◌, length, take, drop, get_or, refl, sym, ◌∙◌, ap, subst, ⊎_elim, arith, take_all}
 use Rattle.std.specs.Prelude.{All, Vec}
 use Rattle.std.specs.declared.alloc.Global.{Global}
 use Rattle.std.specs.List.{list_all}
@@ -9,7 +9,6 @@ use Rattle.std.proofs.lemmas.Bool.{and_parts, cases_lt, ltb-true, or_parts}
 use Rattle.std.proofs.lemmas.List.{drop_all, get_or_default, get_or_past, take_more}
 use Rattle.std.proofs.lemmas.List.Elements.{Contains-get_or}
 use Rattle.std.proofs.lemmas.List.FromFn.{length-map-range_with_len}
-use Rattle.task_core.specs.Cubes.{Cube}
 use Rattle.task_core.specs.Initial.{Entry, after_entries, after_entry, applied, applied_value, entries_of, entry_of, entry_within, facts_of, lit_within}
 use Rattle.task_core.specs.States.{IsWithin, truth, vector}
 use Rattle.task_core.specs.Tasks.{fluent_count, initial_vectors, states_after_entries}

@@ -1,12 +1,11 @@
 -- Marks at the fluents that literals name.
 use Rattle.std.proofs.Common.{◌≡◌, ℕ, ◌+◌, ◌<◌, Bool, true, false, ◌||◌, eqb, List, [], ◌∷◌, length, take, get_or, refl, sym, ◌∙◌, ap, ⊎_elim}
 use Rattle.std.specs.List.{list_any}
-use Rattle.std.proofs.lemmas.Bool.{and_left, cases_eq, eq-eqb, eqb-true, false≢true, ne_eqb, or_parts, or_cases}
+use Rattle.std.proofs.lemmas.Bool.{and_left, eqb-true, false≢true, or_parts, or_cases}
 use Rattle.std.proofs.lemmas.List.Folds.{list_any_more}
 use Rattle.task_core.specs.Cubes.{Cube}
 use Rattle.task_core.specs.Initial.{Entry, names_it}
 use Rattle.task_core.specs.Vectors.{same_value}
-use Rattle.task_core.specs.declared.literals.Lit.{Lit}
 use Rattle.initial_number.specs.Fluents.{entry_names, entry_names_one, lits_name, lits_name_one}
 
 -- one element more of what is marked so far

@@ -1,8 +1,21 @@
 //! The initial state with a number.
 
-ghost use Rattle.std.specs.Prelude.{◌≡◌, ℕ, ◌<◌, ◌≤◌, IfOk, IfSome, IsErrOf, IsTrue, List, OnOk, OnSome, length};
-ghost use Rattle.task_core.specs.States.{ShowsVectors};
+ghost use Rattle.std.specs.Prelude.{
+  ◌≡◌,
+  ℕ,
+  ◌<◌,
+  ◌≤◌,
+  List,
+  length,
+  IfOk,
+  IfSome,
+  IsErrOf,
+  IsTrue,
+  OnOk,
+  OnSome,
+};
 ghost use Rattle.task_core.specs.Vectors.{Vector};
+ghost use Rattle.task_core.specs.States.{ShowsVectors};
 ghost use Rattle.task_core.specs.Conditions.{AlwaysHolds};
 ghost use Rattle.task_core.specs.Initial.{entries_of};
 ghost use Rattle.task_core.specs.Tasks.{

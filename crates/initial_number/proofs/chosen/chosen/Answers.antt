@@ -1,9 +1,7 @@
-use Rattle.std.proofs.Common.{◌≡◌, ◌+◌, ◌/◌, ◌%◌, ◌<◌, ℕ, [], arith, ap, get_or, length, subst, sym, true, ◌∙◌, ltb}
-use Rattle.std.specs.List.{list_all}
+use Rattle.std.proofs.Common.{◌≡◌, ◌+◌, ◌/◌, ◌%◌, ◌<◌, [], arith, ap, get_or, length, subst, sym, ◌∙◌}
 use Rattle.std.proofs.Math.Nat.{mod-lt}
-use Rattle.std.proofs.lemmas.Bool.{and_parts, ltb-true}
 use Rattle.std.proofs.lemmas.List.{get_or_default}
-use Rattle.task_core.specs.Initial.{applied_value, entry_of, lit_within}
+use Rattle.task_core.specs.Initial.{applied_value, entry_of}
 use Rattle.task_core.specs.States.{truth}
 use Rattle.task_core.proofs.StateLists.{length-entry_of, lits_within}
 use Rattle.initial_number.proofs.ChoiceLemmas.{IsChosen, digit_lits, entry_in_loop, entry_some, first_chosen, fits_in_state, next_chosen}

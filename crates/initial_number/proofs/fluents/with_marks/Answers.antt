@@ -1,4 +1,4 @@
-use Rattle.std.proofs.Common.{◌≡◌, ◌||◌, ap, sym, ◌∙◌, subst, length, ◌<◌}
+use Rattle.std.proofs.Common.{◌||◌, ap, sym, ◌∙◌, subst, length, ◌<◌}
 use Rattle.task_core.specs.Initial.{entry_of}
 use Rattle.task_core.specs.States.{truth}
 use Rattle.task_core.proofs.StateLists.{alternative_at, length-entry_of, lits_within}
