@@ -70,13 +70,14 @@ use crate::pddl_texts::read_both;
 use crate::plan_files::read_plan_file;
 use crate::record_files::read_record_file;
 use crate::words::ReplayWords;
+use initial_number::{Numbered, numbered_initial};
 use pddl_ast::{Domain, Problem};
 use plan_io::Shelf;
 use plan_rules::Plan;
 use run_replay::{Monitor, Recorded, RunErr, World, execute, write_trace};
 use sexpr_text::{FaultKind, InputFault};
 use std::alloc::{AllocError, Global};
-use task_core::{InitErr, State, Task, init_states};
+use task_core::{InitErr, State, Task};
 
 /// How many initial states a record may choose from.
 const MOST_INITIAL: usize = 262_144;
@@ -257,22 +258,16 @@ fn first_state(
         asked.now.recorded.now (record_value recorded.now) (λ first answer. ⊥)
         (refused (refusal_of refusal))) }
 {
-    match init_states(alloc, task, MOST_INITIAL) {
-        Ok(states) => {
-            if states.is_empty() {
-                return Err(no_initial(alloc, asked.problem, problem)?);
-            }
-            match states.get(recorded.first as usize) {
-                Some(state) => Ok(*state),
-                None => Err(Refusal::TextFault(
-                    String::from_str(alloc, asked.recorded)?,
-                    InputFault {
-                        kind: FaultKind::BadNumber,
-                        place: recorded.first_place,
-                    },
-                )),
-            }
-        }
+    match numbered_initial(alloc, task, recorded.first as usize, MOST_INITIAL) {
+        Ok(Numbered::Found(state)) => Ok(state),
+        Ok(Numbered::Beyond) => Err(Refusal::TextFault(
+            String::from_str(alloc, asked.recorded)?,
+            InputFault {
+                kind: FaultKind::BadNumber,
+                place: recorded.first_place,
+            },
+        )),
+        Ok(Numbered::NoInitial) => Err(no_initial(alloc, asked.problem, problem)?),
         Err(InitErr::TooMany) => Err(Refusal::OverLimit(Limit::Initial)),
         Err(InitErr::Memory) => Err(Refusal::NoMemory),
     }

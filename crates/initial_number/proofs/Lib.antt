@@ -1,0 +1,5 @@
+pub mod MarkLemmas
+pub mod KeptAll
+pub mod EachApplied
+pub mod Apart
+pub mod ChoiceLemmas
