@@ -15,7 +15,7 @@ ghost use Rattle.task_core.specs.Tasks.{action_count, fluent_count};
 
 use crate::followed::Followed;
 use crate::searches::{Stop, begun};
-use ctl_syntax::{Ctl, ContextGoal, UntilChain, as_context_goal};
+use ctl_syntax::{ContextGoal, Ctl, UntilChain, as_context_goal};
 use dd_sets::SetErr;
 use encode_task::{Enc, encode};
 use ground_task::Grounded;
@@ -66,7 +66,12 @@ fn follow_goal(alloc: Global, nodes: u32, task: &Task, goal: &Ctl) -> Result<Opt
 /// What the plan with contexts for an until-chain or a patrol goal reaches, if it has few stages or
 /// visits and there is one: over variables in an order that is chosen for the task, and where there
 /// is no room or no memory for that, once more from nothing, over the fluents in their own order.
-fn follow_parts(alloc: Global, nodes: u32, task: &Task, goal: &ContextGoal) -> Result<Option<Followed>, Stop>
+fn follow_parts(
+    alloc: Global,
+    nodes: u32,
+    task: &Task,
+    goal: &ContextGoal,
+) -> Result<Option<Followed>, Stop>
     requires room { IsNodeLimit nodes }
     requires names { GoalNamesBelow (fluent_count task.now) goal.now }
     requires shallow { GoalIsAtMostDeep 200 goal.now }

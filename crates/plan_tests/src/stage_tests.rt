@@ -1,7 +1,7 @@
 //! Goals that are until-chains, with their stages and what they keep, or patrol goals, with their
 //! visits, and goals that are neither.
 
-use ctl_syntax::{Ctl, ContextGoal, UntilChain, as_context_goal};
+use ctl_syntax::{ContextGoal, Ctl, UntilChain, as_context_goal};
 use std::alloc::Global;
 use std::test::Fail;
 use task_core::{Cond, FluentId};
