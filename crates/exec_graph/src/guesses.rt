@@ -8,11 +8,15 @@ const MOST: usize = 1_048_576;
 /// How many are kept at first.
 const FIRST: usize = 1_024;
 
-/// Guesses at the numbers of configurations, each in a place that follows from the words of its
-/// state and from its context. Several may have one place, so who asks looks whether the guess is
-/// right.
+/// How many places a guess may have: those that differ in the lowest bits alone.
+pub(crate) const WAYS: usize = 4;
+
+/// Guesses at the numbers of configurations, each at one of a few places that follow from the words
+/// of its state and from its context. Several may want one place, so who asks looks whether a guess
+/// is right.
 #[derive(Drop)]
 pub(crate) struct Guesses {
+    // Each number plus 1; 0 where there is none.
     numbers: Vec<u32>,
 }
 
@@ -24,27 +28,37 @@ impl Guesses {
         }
     }
 
-    /// The guess at the number of a configuration.
-    pub(crate) fn guess(&self, words: &[u64; 4], context: u32) -> usize {
-        match self.numbers.get(self.place(words, context)) {
-            Some(number) => *number as usize,
-            None => 0,
-        }
+    /// One of the guesses at the number of a configuration whose first place this is. Where there is
+    /// none, there are none at the places after it.
+    pub(crate) fn guess(&self, place: usize, way: usize) -> Option<usize> {
+        let after = self.numbers.get(place ^ way)?;
+        (*after as usize).checked_sub(1)
     }
 
-    /// Takes a number as the guess at that of its configuration, one of so many. With no memory for
-    /// more guesses there are as many as before.
+    /// Takes a number as a guess at that of its configuration, one of so many. With no memory for
+    /// more guesses there are none.
     pub(crate) fn take(&mut self, words: &[u64; 4], context: u32, number: usize, count: usize) {
         if count > self.numbers.len() / 8 && self.numbers.len() < MOST {
             self.widen();
         }
         let place = self.place(words, context);
+        let place = place ^ self.free_way(place);
         if place < self.numbers.len() && number < MOST {
-            self.numbers[place] = number as u32;
+            self.numbers[place] = number as u32 + 1;
         }
     }
 
-    /// Makes room for four times as many guesses. Those that were there stand at places of others.
+    /// The first of the places of a guess that has none; the first of all, where each has one.
+    fn free_way(&self, place: usize) -> usize {
+        for way in 0..WAYS {
+            if self.guess(place, way).is_none() {
+                return way;
+            }
+        }
+        0
+    }
+
+    /// Makes room for four times as many guesses, and forgets those that were there.
     fn widen(&mut self) {
         let len = self.numbers.len();
         let wider = if len < FIRST {
@@ -52,12 +66,13 @@ impl Guesses {
         } else {
             len.saturating_mul(4)
         };
+        self.numbers.clear();
         let _ = self.numbers.resize(wider, 0);
     }
 
-    /// The place of a guess; past the last one where there are none. The second product brings the
-    /// high bits of the first ones down.
-    fn place(&self, words: &[u64; 4], context: u32) -> usize {
+    /// The first place of a guess; any number where there are no places. The second product brings
+    /// the high bits of the first ones down.
+    pub(crate) fn place(&self, words: &[u64; 4], context: u32) -> usize {
         let sum = words[0]
             .wrapping_mul(0x9e37_79b9_7f4a_7c15)
             .wrapping_add(words[1].wrapping_mul(0xc2b2_ae3d_27d4_eb4f))

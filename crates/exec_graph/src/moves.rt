@@ -61,7 +61,7 @@ ghost use Rattle.exec_graph.specs.Moves.{
 
 use crate::effects::{Effect, Effects, known_effect, outcome_count};
 use crate::graphs::Place;
-use crate::guesses::Guesses;
+use crate::guesses::{Guesses, WAYS};
 use crate::rows::zeros;
 use crate::rules::{RuleIndex, next_rule};
 use indexmap::IndexSet;
@@ -370,7 +370,7 @@ impl Moves {
         }
     }
 
-    // The number of the configuration to which an outcome leads, where its effect is known and the
+    // The number of the configuration to which an outcome leads, where its effect is known and a
     // guess is right.
     fn known_after(
         &self,
@@ -390,12 +390,26 @@ impl Moves {
         }
     }
 
-    // The number of the configuration with these words and this context, where the guess at it is
-    // right.
+    // The number of the configuration with these words and this context, where one of the guesses at
+    // it is right.
     fn guessed(&self, words: &[u64; 4], context: u32) -> Option<usize>
         ensures { IfSome result (StandsAt self.now.places.keys words.now context) }
     {
-        let number = self.guesses.guess(words, context);
+        let place = self.guesses.place(words, context);
+        for way in 0..WAYS {
+            let number = self.guesses.guess(place, way)?;
+            let right = self.if_right(number, words, context);
+            if right.is_some() {
+                return right;
+            }
+        }
+        None
+    }
+
+    // The number, if the configuration that has it is that with these words and this context.
+    fn if_right(&self, number: usize, words: &[u64; 4], context: u32) -> Option<usize>
+        ensures { IfSome result (StandsAt self.now.places.keys words.now context) }
+    {
         let place = self.places.get_index(number)?;
         if *place.state.bits() == *words && place.context == context {
             Some(number)

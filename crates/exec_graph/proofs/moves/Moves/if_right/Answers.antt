@@ -1,6 +1,6 @@
 use Rattle.std.proofs.Common.{◌≡◌, sym, ◌∙◌}
 use Rattle.std.specs.Cmp.Lexicographic.{bytes_decides}
-use Rattle.exec_graph.proofs.moves.Moves.guessed.Goals as goal
+use Rattle.exec_graph.proofs.moves.Moves.if_right.Goals as goal
 
 pub returns-then-place-context : goal.returns-then-place-context
 returns-then-place-context c =
