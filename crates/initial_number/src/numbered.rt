@@ -100,7 +100,7 @@ fn numbered_of(states: &[State], number: usize) -> Numbered
 
 // What the number names, where each choice of alternatives gives an initial state of its own;
 // `None` where it isn't seen that they do.
-fn by_choice(
+pub(crate) fn by_choice(
     alloc: Global,
     task: &Task,
     number: usize,

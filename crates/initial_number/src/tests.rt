@@ -1,7 +1,6 @@
 //! The state with each number against the list of all states, and which tasks need no list.
 
-use crate::choices::count_choices;
-use crate::{Numbered, numbered_initial};
+use crate::numbered::{Numbered, by_choice, numbered_initial};
 use std::alloc::{AllocError, Global};
 use std::process::Abort;
 use std::rc::RcStr;
@@ -110,22 +109,23 @@ fn agrees_where_an_invariant_leaves_some(rt: HostRuntime) -> Result<(), Fail> {
     agrees(&rt, alloc, "A|a;B|b", Cond::All(Vec::new(alloc)))
 }
 
-/// Which tasks need no list, and how many choices they have.
+/// For which entries the state is made alone.
 #[test]
-fn counts_choices(rt: HostRuntime) -> Result<(), Fail> {
+fn needs_no_list(rt: HostRuntime) -> Result<(), Fail> {
     let alloc = rt.alloc();
-    for (text, count) in [
-        ("", Ok(Some(1))),
-        ("B|C|", Ok(Some(3))),
-        ("AB|a;C|D|E;F|f", Ok(Some(12))),
-        ("A|A", Ok(None)),
-        ("A|Aa", Ok(None)),
-        ("B|C;D|b", Ok(None)),
-        ("B|C|D;E|F|G;A|a", Ok(Some(18))),
+    for (text, alone) in [
+        ("", Ok(true)),
+        ("B|C|", Ok(true)),
+        ("AB|a;C|D|E;F|f", Ok(true)),
+        ("A|A", Ok(false)),
+        ("A|Aa", Ok(false)),
+        ("B|C;D|b", Ok(false)),
+        ("B|C|D;E|F|G;A|a", Ok(true)),
         ("A|a;B|b;C|c;D|d;E|e", Err(InitErr::TooMany)),
     ] {
         let task = task(alloc, text, Cond::Yes)?;
-        assert_eq!(rt; count_choices(alloc, &task, MOST), count, "{text}");
+        let found = by_choice(alloc, &task, 0, MOST);
+        assert_eq!(rt; found.map(|found| found.is_some()), alone, "{text}");
     }
     Ok(())
 }
