@@ -127,102 +127,76 @@ same_refute words v w says says' =
     let options = same_options says'.rest v.options w.options says.room says'.room (subst (λ (ws : List Bytes). SaysOptions ws v.options) rests says.options) says'.options in
     λ i. record { domain = domains i; problem = problems i; certificate = certificates i; options = options i }
 
--- the commands without what they are asked
-data Form : Type 0 where
-  planning : Form
-  grounding : Form
-  checking : Form
-  replaying : Form
-  drilling : Form
-  refuting : Form
-
-abbrev WordsOf : Form → Type 0
-WordsOf planning = PlanWords
-WordsOf grounding = GroundWords
-WordsOf checking = CheckWords
-WordsOf replaying = ReplayWords
-WordsOf drilling = DrillWords
-WordsOf refuting = RefuteWords
-
-abbrev form_of : Command → Form
-form_of (plan v) = planning
-form_of (ground v) = grounding
-form_of (check v) = checking
-form_of (replay v) = replaying
-form_of (drill v) = drilling
-form_of (refute v) = refuting
-
-abbrev asked_of : (c : Command) → WordsOf (form_of c)
-asked_of (plan v) = v
-asked_of (ground v) = v
-asked_of (check v) = v
-asked_of (replay v) = v
-asked_of (drill v) = v
-asked_of (refute v) = v
-
-abbrev made : (f : Form) → WordsOf f → Command
-made planning v = plan v
-made grounding v = ground v
-made checking v = check v
-made replaying v = replay v
-made drilling v = drill v
-made refuting v = refute v
-
-made_of : (c : Command) → made (form_of c) (asked_of c) ≡ c
-made_of (plan v) = refl
-made_of (ground v) = refl
-made_of (check v) = refl
-made_of (replay v) = refl
-made_of (drill v) = refl
-made_of (refute v) = refl
-
--- the third letter of the first word, and the form that it stands for
-abbrev letter : Form → ℕ
-letter planning = 97
-letter grounding = 111
-letter checking = 101
-letter replaying = 112
-letter drilling = 105
-letter refuting = 102
-
-abbrev form_at : ℕ → Form
-form_at n =
-    if n == 97 then planning else if n == 111 then grounding else if n == 101 then checking else if n == 112 then replaying else if n == 105 then drilling else refuting
-
-form_at-letter : (f : Form) → form_at (letter f) ≡ f
-form_at-letter planning = refl
-form_at-letter grounding = refl
-form_at-letter checking = refl
-form_at-letter replaying = refl
-form_at-letter drilling = refl
-form_at-letter refuting = refl
-
+-- the third letter of the first word
 abbrev third_letter : List Bytes → ℕ
 third_letter words = get_or (get_or words 0 []) 2 0
 
-letter_is : (words : List Bytes) (c : Command) → Says words c → third_letter words ≡ letter (form_of c)
-letter_is words (plan v) says = ap third_letter says.written
-letter_is words (ground v) says = ap third_letter says
-letter_is words (check v) says = ap third_letter says
-letter_is words (replay v) says = ap third_letter says
-letter_is words (drill v) says = ap third_letter says.written
-letter_is words (refute v) says = ap third_letter says.written
+-- a form of the command: what it is asked, the third letter of its first word, and that words say it
+-- of one thing that is asked at most
+record Form : Type 1 where
+  Asked : Type 0
+  made : Asked → Command
+  letter : ℕ
+  begins : (words : List Bytes) (asked : Asked) → Says words (made asked) → third_letter words ≡ letter
+  same : (words : List Bytes) (v w : Asked) → Says words (made v) → Says words (made w) → v ≡ w
 
-same_asked : (words : List Bytes) (f : Form) (v w : WordsOf f) → Says words (made f v) → Says words (made f w) → v ≡ w
-same_asked words planning v w says says' = same_plan words v w says says'
-same_asked words grounding v w says says' = same_ground words v w says says'
-same_asked words checking v w says says' = same_check words v w says says'
-same_asked words replaying v w says says' = same_replay words v w says says'
-same_asked words drilling v w says says' = same_drill words v w says says'
-same_asked words refuting v w says says' = same_refute words v w says says'
+abbrev planning : Form
+planning = record { Asked = PlanWords; made = plan; letter = 97; begins = λ words asked says. ap third_letter says.written; same = same_plan }
+
+abbrev grounding : Form
+grounding = record { Asked = GroundWords; made = ground; letter = 111; begins = λ words asked says. ap third_letter says; same = same_ground }
+
+abbrev checking : Form
+checking = record { Asked = CheckWords; made = check; letter = 101; begins = λ words asked says. ap third_letter says; same = same_check }
+
+abbrev replaying : Form
+replaying = record { Asked = ReplayWords; made = replay; letter = 112; begins = λ words asked says. ap third_letter says; same = same_replay }
+
+abbrev drilling : Form
+drilling = record { Asked = DrillWords; made = drill; letter = 105; begins = λ words asked says. ap third_letter says.written; same = same_drill }
+
+abbrev refuting : Form
+refuting = record { Asked = RefuteWords; made = refute; letter = 102; begins = λ words asked says. ap third_letter says.written; same = same_refute }
+
+-- the form that a letter stands for
+abbrev choose : Bool → Form → Form → Form
+choose true f g = f
+choose false f g = g
+
+abbrev form_at : ℕ → Form
+form_at n =
+    choose (n == 97) planning (choose (n == 111) grounding (choose (n == 101) checking (choose (n == 112) replaying (choose (n == 105) drilling refuting))))
+
+-- a command of a form, for which its letter stands
+record IsOf (form : Form) (command : Command) : Type 1 where
+  asked : form.Asked
+  is : form.made asked ≡ command
+  stands : form_at form.letter ≡ form
+
+of_a_form : (command : Command) → (form : Form) × IsOf form command
+of_a_form (plan asked) = (planning, record { asked = asked; is = refl; stands = refl })
+of_a_form (ground asked) = (grounding, record { asked = asked; is = refl; stands = refl })
+of_a_form (check asked) = (checking, record { asked = asked; is = refl; stands = refl })
+of_a_form (replay asked) = (replaying, record { asked = asked; is = refl; stands = refl })
+of_a_form (drill asked) = (drilling, record { asked = asked; is = refl; stands = refl })
+of_a_form (refute asked) = (refuting, record { asked = asked; is = refl; stands = refl })
+
+-- words that say two commands of one form say one command
+one_of_form : (words : List Bytes) (f g : Form) → f ≡ g → (v : f.Asked) (w : g.Asked) → Says words (f.made v) → Says words (g.made w) → f.made v ≡ g.made w
+one_of_form words f g forms v w says says' =
+    subst (λ (h : Form). (u : h.Asked) → Says words (h.made u) → f.made v ≡ h.made u) forms (λ u other. ap f.made (f.same words v u says other)) w says'
 
 -- the words say one command at most: the first decides its form
 pub one_command : (words : List Bytes) (c d : Command) → Says words c → Says words d → c ≡ d
 one_command words c d says says' =
-    let forms : form_of c ≡ form_of d = sym (form_at-letter (form_of c)) ∙ (ap form_at (sym (letter_is words c says) ∙ letter_is words d says') ∙ form_at-letter (form_of d)) in
-    let of_form = subst (λ (f : Form). (w : WordsOf f) → Says words (made f w) → made (form_of c) (asked_of c) ≡ made f w) forms
-    (λ w other. ap (made (form_of c)) (same_asked words (form_of c) (asked_of c) w (subst (Says words) (sym (made_of c)) says) other)) in
-    sym (made_of c) ∙ (of_form (asked_of d) (subst (Says words) (sym (made_of d)) says') ∙ made_of d)
+    let f = (of_a_form c).0 in
+    let g = (of_a_form d).0 in
+    let one = (of_a_form c).1 in
+    let other = (of_a_form d).1 in
+    let said = subst (Says words) (sym one.is) says in
+    let said' = subst (Says words) (sym other.is) says' in
+    let forms : f ≡ g = sym one.stands ∙ (ap form_at (sym (f.begins words one.asked said) ∙ g.begins words other.asked said') ∙ other.stands) in
+    sym one.is ∙ (one_of_form words f g forms one.asked other.asked said said' ∙ other.is)
 
 -- the two files decide the answer of `plan`, unless the table of nodes is full
 one_plan_answer : OneReading → (held : Bytes → Held) (failed failed' : Bytes → Type 0) (words : List Bytes) (asked : PlanWords)
