@@ -40,7 +40,7 @@ impl Model for NameTable {
 
 impl NameTable {
     /// A table without names.
-    pub fn new(alloc: Global) -> NameTable
+    pub(crate) fn new(alloc: Global) -> NameTable
         ensures { result ≡ [] }
     {
         NameTable {
@@ -49,7 +49,7 @@ impl NameTable {
     }
 
     /// Adds a name that is not in the table.
-    pub fn add(&mut self, alloc: Global, name: &[RcStr]) -> Result<(), AllocError>
+    pub(crate) fn add(&mut self, alloc: Global, name: &[RcStr]) -> Result<(), AllocError>
         requires room { length self.old + 1 < 2 ^ 32 }
         requires new { list_any (pointwise bytes_eq (map rc_str_bytes name.now)) self.old
             ≡ false }
@@ -62,7 +62,7 @@ impl NameTable {
 
     /// The number of the name with the words of this row, counted from 0 in the order in which
     /// names were added.
-    pub fn number(&self, alloc: Global, row: &[Form]) -> Result<Option<u32>, AllocError>
+    pub(crate) fn number(&self, alloc: Global, row: &[Form]) -> Result<Option<u32>, AllocError>
         ensures { IfOk result
             (λ number. number ≡ number_of_name self.now (texts_of (forest_of row.now))) }
     {
