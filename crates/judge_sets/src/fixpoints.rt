@@ -33,10 +33,11 @@ fn find_rest(enc: &mut Enc, board: &mut Board, a: ActionId) -> Result<bool, SetE
         → Ends scene.start enc.new board.new.slots.items
         (HasRest scene outcomes enc.new board.new.slots.items set a.0) result }
 {
+    let taken = taken_at(a);
     make_all(
         enc,
         board,
-        &[Step::Combine(CUBE, Operation::Minus, taken_at(a), GOOD)],
+        &[Step::Combine(CUBE, Operation::Minus, taken, GOOD)],
     )?;
     Ok(!board.is_empty(enc, CUBE))
 }
@@ -165,10 +166,11 @@ fn find_here(enc: &mut Enc, board: &mut Board, a: ActionId) -> Result<bool, SetE
         → Ends scene.start enc.new board.new.slots.items
         (HasHere scene enc.new board.new.slots.items from set a.0) result }
 {
+    let taken = taken_at(a);
     make_all(
         enc,
         board,
-        &[Step::Combine(CUBE, Operation::Meet, taken_at(a), STAYS)],
+        &[Step::Combine(CUBE, Operation::Meet, taken, STAYS)],
     )?;
     Ok(!board.is_empty(enc, CUBE))
 }

@@ -41,12 +41,13 @@ fn put_literal(enc: &mut Enc, board: &mut Board, lit: Lit) -> Result<(), SetErr>
         → Left scene.start enc.new board.new.slots.items
         (HasCube scene enc.new board.new.slots.items before (done ++ lit ∷ [])) result }
 {
+    let sign = sign_of(lit.positive);
     make_all(
         enc,
         board,
         &[
             Step::Fluent(PART, lit.fluent),
-            Step::Combine(CUBE, sign_of(lit.positive), CUBE, PART),
+            Step::Combine(CUBE, sign, CUBE, PART),
         ],
     )
 }
@@ -80,12 +81,13 @@ fn add_differ(enc: &mut Enc, board: &mut Board, a: ActionId) -> Result<(), SetEr
         → Left scene.start enc.new board.new.slots.items
         (HasTold scene enc.new board.new.slots.items before rule) result }
 {
+    let taken = taken_at(a);
     make_all(
         enc,
         board,
         &[
             Step::Combine(PART, Operation::Meet, CUBE, MATCHED),
-            Step::Combine(PART, Operation::Minus, PART, taken_at(a)),
+            Step::Combine(PART, Operation::Minus, PART, taken),
             Step::Combine(DIFFER, Operation::Join, DIFFER, PART),
         ],
     )
@@ -102,12 +104,13 @@ fn add_taken(enc: &mut Enc, board: &mut Board, a: ActionId) -> Result<(), SetErr
         → Left scene.start enc.new board.new.slots.items
         (HasJoined scene enc.new board.new.slots.items before rule) result }
 {
+    let taken = taken_at(a);
     make_all(
         enc,
         board,
         &[
             Step::Combine(PART, Operation::Minus, CUBE, MATCHED),
-            Step::Combine(taken_at(a), Operation::Join, taken_at(a), PART),
+            Step::Combine(taken, Operation::Join, taken, PART),
             Step::Combine(MATCHED, Operation::Join, MATCHED, CUBE),
         ],
     )

@@ -43,14 +43,15 @@ fn split(enc: &mut Enc, board: &mut Board, a: ActionId) -> Result<(), SetErr>
         (HasPart scene enc.new board.new.slots.items (a.0 + 1)) result }
 {
     let exec = enc.exec(a);
+    let taken = taken_at(a);
     make_all(
         enc,
         board,
         &[
             Step::Kept(CUBE, exec),
-            Step::Combine(PART, Operation::Minus, taken_at(a), CUBE),
+            Step::Combine(PART, Operation::Minus, taken, CUBE),
             Step::Combine(FOLLOWED, Operation::Minus, FOLLOWED, PART),
-            Step::Combine(taken_at(a), Operation::Meet, taken_at(a), CUBE),
+            Step::Combine(taken, Operation::Meet, taken, CUBE),
         ],
     )
 }
