@@ -275,9 +275,9 @@ module _ (task : Task) (rules : List PlanRule) where
 
   -- where all rules that match have one action
   differ_at : (s : Vector) (rule : PlanRule) → first_rule rules s ≡ Some rule
-      → differ_set rules (value_of s) ≡ list_any (λ (other : PlanRule). matches other.cube s && not (other.action == rule.action)) rules
+      → differ_set rules (value_of s) ≡ list_any (λ (other : PlanRule). matches other.cube s && not (rule.action == other.action)) rules
   differ_at s rule is =
-      ap (λ (o : Option PlanRule). option_map_or (λ (first : PlanRule). list_any (λ (other : PlanRule). matches other.cube s && not (other.action == first.action)) rules) o false) is
+      ap (λ (o : Option PlanRule). option_map_or (λ (first : PlanRule). list_any (λ (other : PlanRule). matches other.cube s && not (first.action == other.action)) rules) o false) is
 
   same_action : (matched : Bool) (a b : ℕ) → matched ≡ true → (matched && not (a == b)) ≡ false → a ≡ b
   same_action true a b m none = eqb-true a b (true_of (a == b) none)
@@ -293,19 +293,19 @@ module _ (task : Task) (rules : List PlanRule) where
 
   pub agree_of : ((s : Vector) → Reached s → minus_of everything (differ_set rules) (value_of s) ≡ true) → RulesAgree (system_of task) rules
   agree_of held s rule other reached is has matched =
-      same_action (matches other.cube s) other.action rule.action matched
-      (list_any-false (λ (r : PlanRule). matches r.cube s && not (r.action == rule.action)) rules other
-      (sym (differ_at s rule is) ∙ not_true (differ_set rules (value_of s)) (held s reached)) has)
+      sym (same_action (matches other.cube s) rule.action other.action matched
+      (list_any-false (λ (r : PlanRule). matches r.cube s && not (rule.action == r.action)) rules other
+      (sym (differ_at s rule is) ∙ not_true (differ_set rules (value_of s)) (held s reached)) has))
 
   pub agree_to : RulesAgree (system_of task) rules → (s : Vector) → Reached s → minus_of everything (differ_set rules) (value_of s) ≡ true
   agree_to agree s reached = go (first_rule rules s) refl
     where
       go : (o : Option PlanRule) → first_rule rules s ≡ o → not (differ_set rules (value_of s)) ≡ true
-      go None e = ap (λ (o : Option PlanRule). not (option_map_or (λ (first : PlanRule). list_any (λ (other : PlanRule). matches other.cube s && not (other.action == first.action)) rules) o false)) e
+      go None e = ap (λ (o : Option PlanRule). not (option_map_or (λ (first : PlanRule). list_any (λ (other : PlanRule). matches other.cube s && not (first.action == other.action)) rules) o false)) e
       go (Some rule) e =
           not_false (differ_set rules (value_of s)) (differ_at s rule e
-          ∙ list_any-none (λ (r : PlanRule). matches r.cube s && not (r.action == rule.action)) rules
-          (λ other has. no_difference (matches other.cube s) other.action rule.action (λ matched. agree s rule other reached e has matched)))
+          ∙ list_any-none (λ (r : PlanRule). matches r.cube s && not (rule.action == r.action)) rules
+          (λ other has. no_difference (matches other.cube s) rule.action other.action (λ matched. sym (agree s rule other reached e has matched))))
 
   -- the verdicts
   module _ (set : Function) (only : DependsOnly 0 (fluent_count task) set) where

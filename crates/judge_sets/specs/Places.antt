@@ -26,7 +26,7 @@ use Rattle.judge_sets.specs.Fixpoints.{here_of, hits_of, lost_of, rest_of}
 use Rattle.judge_sets.specs.FirstMatch.{EachRuleCounts, RulesAgree, SolvesAsRun, first_table}
 use Rattle.judge_sets.specs.declared.verdict.TableVerdict.{TableVerdict}
 use Rattle.judge_sets.specs.TableSets.{cube_set, differ_set, end_set, followed_by, matched_set, step_set, taken_set}
-use Rattle.judge_sets.specs.WorkingSets.{IsWide}
+use Rattle.judge_sets.specs.WorkingSets.{BoundsTableSets}
 
 -- the places
 abbrev pub place_count : ℕ → ℕ
@@ -36,7 +36,7 @@ place_count actions = 7 + actions
 pub record Scene : Type 0 where
   pub start : Start
   pub rules : List PlanRule
-  pub wide : IsWide start.width start.task rules
+  pub wide : BoundsTableSets start.width start.task rules
   pub places : start.places ≡ 7 + action_count start.task
   pub in_task : All (IsRuleOf (fluent_count start.task) (action_count start.task)) rules
   pub goal : IsSome start.task.goal

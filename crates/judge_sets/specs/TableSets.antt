@@ -33,7 +33,7 @@ taken_set rules a values =
 abbrev pub differ_set : List PlanRule → Function
 differ_set rules values =
     option_map_or (λ (first : PlanRule). list_any (λ (rule : PlanRule).
-    cube_set rule.cube values && not (rule.action == first.action)) rules) (rule_at rules values)
+    cube_set rule.cube values && not (first.action == rule.action)) rules) (rule_at rules values)
     false
 
 -- the goal states of a task

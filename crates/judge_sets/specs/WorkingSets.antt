@@ -83,6 +83,6 @@ pub data IsWorkingSet (task : Task) (rules : List PlanRule) : Function → Type 
       → IsMadeBack task rules outcomes round a set → IsWorkingSet task rules set
 
 -- each working set is small by a width, which is more than the fluents by two at least
-pub record IsWide (width : ℕ) (task : Task) (rules : List PlanRule) : Type 0 where
+pub record BoundsTableSets (width : ℕ) (task : Task) (rules : List PlanRule) : Type 0 where
   pub wide : fluent_count task + 2 ≤ width
   pub each : (set : Function) → IsWorkingSet task rules set → Small (fluent_count task) width set

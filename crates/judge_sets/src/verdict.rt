@@ -14,7 +14,7 @@ ghost use Rattle.judge_sets.specs.FirstMatch.{EachRuleCounts, RulesAgree, Solves
 ghost use Rattle.judge_sets.specs.Fixpoints.{IsBegin, outcomes_of};
 ghost use Rattle.judge_sets.specs.Places.{HasAllGrown, HasPart, HasRead, HasSteps, HoldsAsReached};
 ghost use Rattle.judge_sets.specs.Places.{IsJudged, Scene, has_initial};
-ghost use Rattle.judge_sets.specs.WorkingSets.{IsWide};
+ghost use Rattle.judge_sets.specs.WorkingSets.{BoundsTableSets};
 
 use crate::fixpoints::{grow, shrink};
 use crate::places::{DIFFER, FOLLOWED, GOOD, PART, STAYS, places};
@@ -192,7 +192,7 @@ pub fn judge_table(
     ensures each_counts { IfOk result (λ verdict. IsTrue verdict.each_counts
         ↔ EachRuleCounts (system_of task.now) (map rule_of rules.now)) }
     ensures full { IsErrOf result SetErr.Full → (width : ℕ)
-        → IsWide width task.now (map rule_of rules.now)
+        → BoundsTableSets width task.now (map rule_of rules.now)
         → NoRoom width (action_count task.now + 15) 4 enc.old.sets enc.new.sets }
     ensures slots { Owns enc.old.sets enc.new.sets [] }
     ensures same_slots { enc.new ≡ record enc.old { sets = enc.new.sets } }
