@@ -2,8 +2,9 @@
 -- at 1 where they differ, at 4 what grows from where the rules are at their end, at 5 where no rule
 -- counts that can't be followed, and at 6 what shrinks; 2 and 3 are for what is made on the way. From
 -- 7 on there is, for each action, where it is taken.
-use Rattle.std.specs.Prelude.{◌≡◌, ◌≢◌, ◌↔◌, ℕ, ◌+◌, ◌<◌, ◌≤◌, Bool, true, false, not, List, [], ◌∷◌, ◌++◌, All, IsSome, IsTrue}
-use Rattle.std.specs.List.{count_by, list_all}
+use Rattle.std.specs.Prelude.{◌≡◌, ◌≢◌, ◌↔◌, ℕ, ◌+◌, ◌<◌, ◌≤◌, Bool, true, false, List, [], ◌∷◌, ◌++◌, All, IsSome, IsTrue, length}
+use Rattle.std.specs.List.{list_all}
+use Rattle.dd_nodes.specs.NodeList.{Values}
 use Rattle.dd_nodes.specs.Subfunctions.{Function}
 use Rattle.dd_ops.specs.Operations.{minus_of}
 use Rattle.dd_sets.specs.LiveSets.{IsSets, nothing}
@@ -17,7 +18,7 @@ use Rattle.task_core.specs.Cubes.{Cube}
 use Rattle.task_core.specs.Solutions.{IsReached}
 use Rattle.task_core.specs.Systems.{System}
 use Rattle.task_core.specs.Tasks.{action_count, fluent_count, initial_states, system_of}
-use Rattle.task_core.specs.Vectors.{Vector, all_vectors, value_of}
+use Rattle.task_core.specs.Vectors.{Vector, value_of}
 use Rattle.task_core.specs.declared.classes.Class.{Class}
 use Rattle.plan_rules.specs.Plans.{IsRuleOf}
 use Rattle.plan_rules.specs.Rules.{PlanRule}
@@ -96,14 +97,13 @@ pub record HasShrunk (scene : Scene) (now : Encoded) (slots : List SetId) (from 
   pub begin : IsBegin scene.start.task scene.rules from
   pub shrunk : IsShrunk scene.start.task scene.rules from set
 
--- how many vectors a set has, and how many it lacks
-abbrev pub held_in : Scene → Function → ℕ
-held_in scene set =
-    count_by (λ v. set (value_of v)) (all_vectors (fluent_count scene.start.task))
-
-abbrev pub lacked_in : Scene → Function → ℕ
-lacked_in scene set =
-    count_by (λ v. not (set (value_of v))) (all_vectors (fluent_count scene.start.task))
+-- a set has all that another has over n fluents, and a vector more
+pub record HasMore (n : ℕ) (before after : Function) : Type 0 where
+  pub part : (values : Values) → before values ≡ true → after values ≡ true
+  pub vector : Vector
+  pub long : length vector ≡ n
+  pub has : after (value_of vector) ≡ true
+  pub lacks : before (value_of vector) ≡ false
 
 -- by no action among the first n has a set anything to gain, and to lose
 abbrev pub GainsNone : Outcomes → Scene → Function → ℕ → Type 0
@@ -120,14 +120,14 @@ pub record HasGained (scene : Scene) (outcomes : Outcomes) (now : Encoded) (slot
     (before : Function) (n : ℕ) (gained : Bool) : Type 0 where
   pub set : Function
   pub has : HasGrown scene outcomes now slots set
-  pub more : gained ≡ true → lacked_in scene set < lacked_in scene before
+  pub more : gained ≡ true → HasMore (fluent_count scene.start.task) before set
   pub same : gained ≡ false → (set ≡ before) × GainsNone outcomes scene set n
 
 pub record HasLost (scene : Scene) (now : Encoded) (slots : List SetId) (from before : Function)
     (n : ℕ) (lost : Bool) : Type 0 where
   pub set : Function
   pub has : HasShrunk scene now slots from set
-  pub fewer : lost ≡ true → held_in scene set < held_in scene before
+  pub fewer : lost ≡ true → HasMore (fluent_count scene.start.task) set before
   pub same : lost ≡ false → (set ≡ before) × LosesNone scene set n
 
 -- how a literal is met with a set
@@ -192,7 +192,7 @@ pub record IsGainBy (scene : Scene) (outcomes : Outcomes) (now : Encoded) (slots
     (before : Function) (a : ℕ) (gained : Bool) : Type 0 where
   pub set : Function
   pub has : HasGrown scene outcomes now slots set
-  pub more : gained ≡ true → lacked_in scene set < lacked_in scene before
+  pub more : gained ≡ true → HasMore (fluent_count scene.start.task) before set
   pub same : gained ≡ false
       → (set ≡ before) × (hits_of outcomes scene.start.task scene.rules set a ≡ nothing)
 
@@ -200,7 +200,7 @@ pub record IsLossBy (scene : Scene) (now : Encoded) (slots : List SetId) (from b
     (a : ℕ) (lost : Bool) : Type 0 where
   pub set : Function
   pub has : HasShrunk scene now slots from set
-  pub fewer : lost ≡ true → held_in scene set < held_in scene before
+  pub fewer : lost ≡ true → HasMore (fluent_count scene.start.task) set before
   pub same : lost ≡ false
       → (set ≡ before) × (lost_of scene.start.task scene.rules set a ≡ nothing)
 
