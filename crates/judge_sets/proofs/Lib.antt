@@ -5,3 +5,5 @@ pub mod StepFacts
 pub mod ReadSteps
 pub mod ReadLoop
 pub mod SettleSteps
+pub mod GrowSteps
+pub mod ShrinkSteps

@@ -1,7 +1,7 @@
 //! Reads rules: where each action is taken, the first rule that matches counting.
 
 ghost use Rattle.std.specs.Prelude.{◌≡◌, ◌↔◌, ◌++◌, ◌<◌, ◌&&◌, [], ◌∷◌, IsTrue, List, map};
-ghost use Rattle.slot_board.specs.Board.{Ends, IsSmall, Left};
+ghost use Rattle.slot_board.specs.Board.{Ends, HasNothing, IsSmall, Left};
 ghost use Rattle.task_core.specs.Cubes.{Cube};
 ghost use Rattle.task_core.specs.Tasks.{fluent_count, system_of};
 ghost use Rattle.plan_rules.specs.Rules.{PlanRule, rule_of};
@@ -26,6 +26,16 @@ fn sign_of(positive: bool) -> Operation
     } else {
         Operation::Minus
     }
+}
+
+/// Begins with no rule read.
+pub(crate) fn read_none(enc: &mut Enc, board: &mut Board) -> Result<(), SetErr>
+    requires { (scene : Scene) × HasNothing scene.start enc.old board.old.slots.items }
+    ensures { (scene : Scene) → HasNothing scene.start enc.old board.old.slots.items
+        → Left scene.start enc.new board.new.slots.items
+        (HasRead scene enc.new board.new.slots.items []) result }
+{
+    board.whole(enc, CUBE)
 }
 
 /// Adds a literal to a cube.

@@ -1,24 +1,24 @@
 //! The verdict on rules as they are run.
 
-ghost use Rattle.std.specs.Prelude.{◌≡◌, ◌↔◌, ℕ, ◌+◌, ◌<◌, [], All, IfOk, IsErrOf, IsSome, IsTrue, length, map};
+ghost use Rattle.std.specs.Prelude.{◌≡◌, ◌↔◌, ℕ, ◌+◌, ◌<◌, [], All, IfOk, IsErrOf, IsSome, IsTrue, length, map, true};
 ghost use Rattle.dd_nodes.specs.Subfunctions.{Function};
 ghost use Rattle.dd_sets.specs.Frames.{Owns};
 ghost use Rattle.dd_sets.specs.Rooms.{NoRoom};
 ghost use Rattle.encode_task.specs.Made.{MadeOf};
-ghost use Rattle.slot_board.specs.Board.{Ends, set_at};
+ghost use Rattle.slot_board.specs.Board.{Ends, HasNothing, set_at};
 ghost use Rattle.task_core.specs.Tasks.{action_count, fluent_count, system_of};
 ghost use Rattle.task_core.specs.declared.tasks.Task.{Task as TaskOf};
 ghost use Rattle.plan_rules.specs.Plans.{IsRuleOf};
 ghost use Rattle.plan_rules.specs.Rules.{rule_of};
 ghost use Rattle.judge_sets.specs.FirstMatch.{EachRuleCounts, RulesAgree, SolvesAsRun};
 ghost use Rattle.judge_sets.specs.Fixpoints.{IsBegin, outcomes_of};
-ghost use Rattle.judge_sets.specs.Places.{HasAllGrown, HasPart, HasRead, HasSteps, HoldsAsReached};
+ghost use Rattle.judge_sets.specs.Places.{HasAllGrown, HasPart, HasSteps, HoldsAsReached};
 ghost use Rattle.judge_sets.specs.Places.{IsJudged, Scene, has_initial};
 ghost use Rattle.judge_sets.specs.WorkingSets.{BoundsTableSets};
 
 use crate::fixpoints::{grow, shrink};
 use crate::places::{DIFFER, FOLLOWED, GOOD, PART, STAYS, places};
-use crate::reading::read_rules;
+use crate::reading::{read_none, read_rules};
 use crate::settling::settle;
 use board_steps::{Step, make_all};
 use dd_sets::SetErr;
@@ -89,6 +89,32 @@ fn stays_in(enc: &mut Enc, board: &mut Board, place: usize, actions: u32) -> Res
     board.covers_initial(enc, STAYS)
 }
 
+/// Whether the rules can be followed and are a solution of a class, where following them is good from
+/// each initial state.
+fn keeps_on(
+    enc: &mut Enc,
+    board: &mut Board,
+    class: Class,
+    actions: u32,
+) -> Result<bool, SetErr>
+    requires ready { (scene : Scene)
+        × (grown : HasAllGrown scene (outcomes_of class) enc.old board.old.slots.items)
+        × (has_initial scene grown.set ≡ true) }
+    requires actions { actions ≡ length enc.old.actions }
+    ensures { (scene : Scene)
+        (grown : HasAllGrown scene (outcomes_of class) enc.old board.old.slots.items)
+        → has_initial scene grown.set ≡ true
+        → Ends scene.start enc.new board.new.slots.items
+        (λ solves. HasSteps scene enc.new board.new.slots.items
+        × (IsTrue solves ↔ SolvesAsRun class (system_of scene.start.task) scene.rules)) result }
+{
+    match class {
+        Class::Weak => stays_in(enc, board, FOLLOWED, actions),
+        Class::Strong => Ok(true),
+        Class::Cyclic => stays_in(enc, board, GOOD, actions),
+    }
+}
+
 /// Whether the rules can be followed and are a solution of a class.
 fn solves(enc: &mut Enc, board: &mut Board, class: Class, actions: u32) -> Result<bool, SetErr>
     requires ready { (scene : Scene) × HasPart scene enc.old board.old.slots.items
@@ -99,14 +125,11 @@ fn solves(enc: &mut Enc, board: &mut Board, class: Class, actions: u32) -> Resul
         (λ solves. HasSteps scene enc.new board.new.slots.items
         × (IsTrue solves ↔ SolvesAsRun class (system_of scene.start.task) scene.rules)) result }
 {
-    if !leads_to_end(enc, board, outcomes_of(class), actions)? {
+    let outcomes = outcomes_of(class);
+    if !leads_to_end(enc, board, outcomes, actions)? {
         return Ok(false);
     }
-    match class {
-        Class::Weak => stays_in(enc, board, FOLLOWED, actions),
-        Class::Strong => Ok(true),
-        Class::Cyclic => stays_in(enc, board, GOOD, actions),
-    }
+    keeps_on(enc, board, class, actions)
 }
 
 /// Whether all rules that match have one action, in each state that may be reached.
@@ -137,16 +160,17 @@ fn judge(
     rules: &[Rule],
     actions: u32,
 ) -> Result<TableVerdict, SetErr>
-    requires ready { (scene : Scene) × HasRead scene enc.old board.old.slots.items []
+    requires ready { (scene : Scene) × HasNothing scene.start enc.old board.old.slots.items
         × (scene.rules ≡ map rule_of rules.now) }
     requires goal { IsSome enc.old.goal }
     requires actions { actions ≡ length enc.old.actions }
-    ensures { (scene : Scene) → HasRead scene enc.old board.old.slots.items []
+    ensures { (scene : Scene) → HasNothing scene.start enc.old board.old.slots.items
         → scene.rules ≡ map rule_of rules.now
         → Ends scene.start enc.new board.new.slots.items
         (λ verdict. HasSteps scene enc.new board.new.slots.items
         × IsJudged class (system_of scene.start.task) scene.rules verdict) result }
 {
+    read_none(enc, board)?;
     let each_counts = read_rules(enc, board, rules)?;
     settle(enc, board, actions)?;
     let solves = solves(enc, board, class, actions)?;
