@@ -181,10 +181,10 @@ module _ (scene : Scene) (outcomes : Outcomes) (set : Function) (a : ℕ) (enc :
   join_made now new shows = record {
     set = or_of set (hits_of outcomes scene.start.task scene.rules set a);
     has = record {
-        by_steps = steps_kept scene enc now old new join_steps by.has.by_steps shows ((λ e. absurd (omega arith)), tt) ((λ e. absurd (omega arith)), tt) (λ b. ((λ e. absurd (omega arith)), tt));
-        good = shows.sets 4 (place_in scene 4 (omega arith)) ∙ join_is;
-        grown = next_grown;
-      };
+      by_steps = steps_kept scene enc now old new join_steps by.has.by_steps shows ((λ e. absurd (omega arith)), tt) ((λ e. absurd (omega arith)), tt) (λ b. ((λ e. absurd (omega arith)), tt));
+      good = shows.sets 4 (place_in scene 4 (omega arith)) ∙ join_is;
+      grown = next_grown;
+    };
     more = λ e. more_there;
     same = λ e. absurd (true≢false e);
   }
@@ -264,11 +264,11 @@ grow_less scene outcomes enc now old new before n k grew gained same_count grows
         → held (λ v. not (set_at now.sets new 4 (value_of v))) (all_vectors k) + cond b 1 0 < held (λ v. not (set_at enc.sets old 4 (value_of v))) (all_vectors k) + 1
     by_gain true m s =
         let l : held (λ v. not (set_at now.sets new 4 (value_of v))) (all_vectors k) < held (λ v. not (set_at enc.sets old 4 (value_of v))) (all_vectors k) =
-            fewer_lacks k (set_at enc.sets old 4) (set_at now.sets new 4)
-            (subst (λ j. HasMore j (set_at enc.sets old 4) (set_at now.sets new 4)) (sym same_count)
-            (subst (λ (f : Function). HasMore (fluent_count scene.start.task) f (set_at now.sets new 4)) (sym has.good) (subst (HasMore (fluent_count scene.start.task) before) (sym after.has.good) (m refl)))) in
+        fewer_lacks k (set_at enc.sets old 4) (set_at now.sets new 4)
+        (subst (λ j. HasMore j (set_at enc.sets old 4) (set_at now.sets new 4)) (sym same_count)
+        (subst (λ (f : Function). HasMore (fluent_count scene.start.task) f (set_at now.sets new 4)) (sym has.good) (subst (HasMore (fluent_count scene.start.task) before) (sym after.has.good) (m refl)))) in
         omega arith
     by_gain false m s =
         let e : held (λ v. not (set_at now.sets new 4 (value_of v))) (all_vectors k) ≡ held (λ v. not (set_at enc.sets old 4 (value_of v))) (all_vectors k) =
-            ap (λ (f : Function). held (λ v. not (f (value_of v))) (all_vectors k)) (after.has.good ∙ (s refl).0 ∙ sym has.good) in
+        ap (λ (f : Function). held (λ v. not (f (value_of v))) (all_vectors k)) (after.has.good ∙ (s refl).0 ∙ sym has.good) in
         omega arith

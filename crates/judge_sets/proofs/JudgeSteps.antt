@@ -97,6 +97,7 @@ pub grown_told : (scene : Scene) (outcomes : Outcomes) (enc now : Encoded) (slot
     → Left scene.start now slots (Stayed scene.start enc.sets now slots) result
     → IfOk result (λ covered. covered ≡ list_all (λ state. set_at enc.sets slots 4 (value_of state)) (initial_states scene.start.task))
     → Ends scene.start now slots (λ told. (grown : HasAllGrown scene outcomes now slots) × (told ≡ has_initial scene grown.set)) result
+unfolding grown_stayed
 grown_told scene outcomes enc now slots all (Ok b) left answer =
     (grown_stayed scene outcomes enc now slots all left, answer ∙ ap (λ (f : Function). list_all (λ s. f (value_of s)) (initial_states scene.start.task)) all.has.good)
 grown_told scene outcomes enc now slots all (Err e) left answer = left
@@ -258,3 +259,42 @@ ok_with start now slots P Q (Err e) f ends = tt
 
 pub room_of : (task : Task) (before after : LiveSets) (width places : ℕ) → places ≡ 7 + action_count task → NoRoom width (places + 0 + 8) (0 + 4) before after → NoRoom width (action_count task + 15) 4 before after
 room_of task before after width places are none = room_wider before (places + 0 + 8) (action_count task + 15) 4 4 (omega arith) (omega arith) none
+
+-- what was told of the outcomes of a class
+pub record Told (scene : Scene) (class : Class) (now : Encoded) (slots : List SetId) (b : Bool) : Type 0 where
+  pub grown : HasAllGrown scene (outcomes_of class) now slots
+  pub is : b ≡ has_initial scene grown.set
+
+pub told_of : (scene : Scene) (class : Class) (outcomes : Outcomes) → outcomes ≡ outcomes_of class → (now : Encoded) (slots : List SetId) (b : Bool)
+    → ((grown : HasAllGrown scene outcomes now slots) × (b ≡ has_initial scene grown.set)) → Told scene class now slots b
+told_of scene class outcomes same now slots b found =
+    let at : (grown : HasAllGrown scene (outcomes_of class) now slots) × (b ≡ has_initial scene grown.set) =
+    subst (λ (o : Outcomes). (grown : HasAllGrown scene o now slots) × (b ≡ has_initial scene grown.set)) same found in
+    record { grown = at.0; is = at.1 }
+
+-- the verdicts, class by class
+module _ (scene : Scene) (class : Class) (enc : Encoded) (slots : List SetId) where
+  pub weak_kept : class ≡ Weak → (grown : HasAllGrown scene (outcomes_of class) enc slots) → has_initial scene grown.set ≡ true → (b : Bool)
+      → (IsTrue b ↔ HoldsAsReached scene (followed_by scene.start.task scene.rules (action_count scene.start.task))) → IsTrue b ↔ SolvesAsRun class (system_of scene.start.task) scene.rules
+  weak_kept is =
+      subst (λ (k : Class). (grown : HasAllGrown scene (outcomes_of k) enc slots) → has_initial scene grown.set ≡ true → (b : Bool)
+      → (IsTrue b ↔ HoldsAsReached scene (followed_by scene.start.task scene.rules (action_count scene.start.task))) → IsTrue b ↔ SolvesAsRun k (system_of scene.start.task) scene.rules) (sym is)
+      (weak_told scene enc slots)
+
+  pub strong_kept : class ≡ Strong → (grown : HasAllGrown scene (outcomes_of class) enc slots) → has_initial scene grown.set ≡ true → IsTrue true ↔ SolvesAsRun class (system_of scene.start.task) scene.rules
+  strong_kept is =
+      subst (λ (k : Class). (grown : HasAllGrown scene (outcomes_of k) enc slots) → has_initial scene grown.set ≡ true → IsTrue true ↔ SolvesAsRun k (system_of scene.start.task) scene.rules) (sym is)
+      (strong_told scene enc slots)
+
+  pub cyclic_kept : class ≡ Cyclic → (grown : HasAllGrown scene (outcomes_of class) enc slots) → (b : Bool) → (IsTrue b ↔ HoldsAsReached scene grown.set) → IsTrue b ↔ SolvesAsRun class (system_of scene.start.task) scene.rules
+  cyclic_kept is =
+      subst (λ (k : Class). (grown : HasAllGrown scene (outcomes_of k) enc slots) → (b : Bool) → (IsTrue b ↔ HoldsAsReached scene grown.set) → IsTrue b ↔ SolvesAsRun k (system_of scene.start.task) scene.rules) (sym is)
+      (cyclic_told scene enc slots)
+
+  pub cyclic_begin : class ≡ Cyclic → (grown : HasAllGrown scene (outcomes_of class) enc slots) → IsBegin scene.start.task scene.rules grown.set
+  cyclic_begin is =
+      subst (λ (k : Class). (grown : HasAllGrown scene (outcomes_of k) enc slots) → IsBegin scene.start.task scene.rules grown.set) (sym is)
+      (λ (grown : HasAllGrown scene Outcomes.Some enc slots). good grown.set grown.has.grown)
+
+pub same_goal : (start : Start) (enc now : Encoded) (old new : List SetId) → At start enc old → At start now new → now.goal ≡ enc.goal
+same_goal start enc now old new one two = ap (λ (e : Encoded). e.goal) two.same ∙ sym (ap (λ (e : Encoded). e.goal) one.same)

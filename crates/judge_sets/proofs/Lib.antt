@@ -7,3 +7,4 @@ pub mod ReadLoop
 pub mod SettleSteps
 pub mod GrowSteps
 pub mod ShrinkSteps
+pub mod JudgeSteps

@@ -66,14 +66,14 @@ pub counts_more : (sys : System) (before : List PlanRule) (rule : PlanRule) (eac
     → (IsTrue each ↔ EachRuleCounts sys before) → (IsTrue counts ↔ CountsBehind sys before rule) → IsTrue both ↔ EachRuleCounts sys (before ++ rule ∷ [])
 counts_more sys before rule each counts both is all one = (
   (λ h front x after e.
-  let parts = and_parts each counts (sym is ∙ h) in
-  ⊎_elim
-  (λ (here : (before ≡ front) × (rule ≡ x)).
-  subst (λ (f : List PlanRule). CountsBehind sys f x) here.0 (subst (CountsBehind sys before) here.1 (one.0 parts.1)))
-  (λ (there : (more : List PlanRule) × (before ≡ front ++ x ∷ more)). all.0 parts.0 front x there.0 there.1)
-  (split_behind before rule front x after e)),
+      let parts = and_parts each counts (sym is ∙ h) in
+      ⊎_elim
+      (λ (here : (before ≡ front) × (rule ≡ x)).
+      subst (λ (f : List PlanRule). CountsBehind sys f x) here.0 (subst (CountsBehind sys before) here.1 (one.0 parts.1)))
+      (λ (there : (more : List PlanRule) × (before ≡ front ++ x ∷ more)). all.0 parts.0 front x there.0 there.1)
+      (split_behind before rule front x after e)),
   (λ w.
-  is
-  ∙ and_from each counts (all.1 (λ front x after e. w front x (after ++ rule ∷ []) (ap (λ (xs : List PlanRule). xs ++ rule ∷ []) e ∙ append_more front x after rule)))
-  (one.1 (w before rule [] refl))),
+      is
+      ∙ and_from each counts (all.1 (λ front x after e. w front x (after ++ rule ∷ []) (ap (λ (xs : List PlanRule). xs ++ rule ∷ []) e ∙ append_more front x after rule)))
+      (one.1 (w before rule [] refl))),
 )

@@ -60,14 +60,14 @@ module _ (scene : Scene) (before : List PlanRule) (done : Cube) (lit : Lit) (sig
   pub literal_made : (now : Encoded) (new : List SetId) → Shows scene.start now new (after_steps scene.start (set_at enc.sets slots) (literal_steps lit sign)) → HasCube scene now new before (done ++ lit ∷ [])
   literal_made now new shows = record {
     read = record {
-        there = record { at = shows.at; sound = shows.sound };
-        matched = shows.sets 0 (place_in scene 0 (omega arith)) ∙ has.read.matched;
-        differ = shows.sets 1 (place_in scene 1 (omega arith)) ∙ has.read.differ;
-        taken = λ a low.
-            shows.sets (7 + a) (taken_in scene a low)
-            ∙ untouched scene.start (set_at enc.sets slots) (literal_steps lit sign) (7 + a) ((λ e. absurd (omega arith)), ((λ e. absurd (omega arith)), tt))
-            ∙ has.read.taken a low;
-      };
+      there = record { at = shows.at; sound = shows.sound };
+      matched = shows.sets 0 (place_in scene 0 (omega arith)) ∙ has.read.matched;
+      differ = shows.sets 1 (place_in scene 1 (omega arith)) ∙ has.read.differ;
+      taken = λ a low.
+          shows.sets (7 + a) (taken_in scene a low)
+          ∙ untouched scene.start (set_at enc.sets slots) (literal_steps lit sign) (7 + a) ((λ e. absurd (omega arith)), ((λ e. absurd (omega arith)), tt))
+          ∙ has.read.taken a low;
+    };
     cube = shows.sets 2 (place_in scene 2 (omega arith)) ∙ literal_made_is;
   }
 
@@ -79,14 +79,14 @@ module _ (scene : Scene) (before : List PlanRule) (enc : Encoded) (slots : List 
   pub whole_made : (now : Encoded) (new : List SetId) → Shows scene.start now new (after_steps scene.start (set_at enc.sets slots) (Whole 2 ∷ [])) → HasCube scene now new before []
   whole_made now new shows = record {
     read = record {
-        there = record { at = shows.at; sound = shows.sound };
-        matched = shows.sets 0 (place_in scene 0 (omega arith)) ∙ has.matched;
-        differ = shows.sets 1 (place_in scene 1 (omega arith)) ∙ has.differ;
-        taken = λ a low.
-            shows.sets (7 + a) (taken_in scene a low)
-            ∙ untouched scene.start (set_at enc.sets slots) (Whole 2 ∷ []) (7 + a) ((λ e. absurd (omega arith)), tt)
-            ∙ has.taken a low;
-      };
+      there = record { at = shows.at; sound = shows.sound };
+      matched = shows.sets 0 (place_in scene 0 (omega arith)) ∙ has.matched;
+      differ = shows.sets 1 (place_in scene 1 (omega arith)) ∙ has.differ;
+      taken = λ a low.
+          shows.sets (7 + a) (taken_in scene a low)
+          ∙ untouched scene.start (set_at enc.sets slots) (Whole 2 ∷ []) (7 + a) ((λ e. absurd (omega arith)), tt)
+          ∙ has.taken a low;
+    };
     cube = shows.sets 2 (place_in scene 2 (omega arith));
   }
 
@@ -207,11 +207,11 @@ module _ (scene : Scene) (before : List PlanRule) (rule : PlanRule) (a t : ℕ) 
   pub taken_made : (now : Encoded) (new : List SetId) → Shows scene.start now new (after_steps scene.start (set_at enc.sets slots) (taken_steps t)) → HasJoined scene now new before rule
   taken_made now new shows = record {
     read = record {
-        there = record { at = shows.at; sound = shows.sound };
-        matched = shows.sets 0 (place_in scene 0 (omega arith)) ∙ matched_more _;
-        differ = shows.sets 1 (place_in scene 1 (omega arith)) ∙ with_other q1 t (or_of (q1 t) (q1 3)) 1 (λ e. absurd (omega arith)) ∙ has.differ;
-        taken = λ b low. shows.sets (7 + b) (taken_in scene b low) ∙ each_taken b low (cases_eq b a);
-      };
+      there = record { at = shows.at; sound = shows.sound };
+      matched = shows.sets 0 (place_in scene 0 (omega arith)) ∙ matched_more _;
+      differ = shows.sets 1 (place_in scene 1 (omega arith)) ∙ with_other q1 t (or_of (q1 t) (q1 3)) 1 (λ e. absurd (omega arith)) ∙ has.differ;
+      taken = λ b low. shows.sets (7 + b) (taken_in scene b low) ∙ each_taken b low (cases_eq b a);
+    };
     own = shows.sets 3 (place_in scene 3 (omega arith)) ∙ with_other q1 t (or_of (q1 t) (q1 3)) 3 (λ e. absurd (omega arith)) ∙ own;
   }
 

@@ -262,7 +262,7 @@ module _ (sys : System) (ok : IsSystem sys) (rules : List PlanRule) (X : Vector 
           let reached : IsReached sys (first_table sys rules) x = record { start = s; initial = initial; path = record { rest = rest; path = path; ends = ends } } in
           let vector = reached_vector sys ok rules x reached in
           let next : (t : Vector) → Leads sys (first_table sys rules) x t → X t ≡ true =
-              λ t lead. go fuel t (rest ++ t ∷ []) (path_onward (Leads sys (first_table sys rules)) s rest t path (subst (λ v. Leads sys (first_table sys rules) v t) (sym ends) lead)) (last_onward s rest t) (let e = length-append rest (t ∷ []) in omega arith) in
+          λ t lead. go fuel t (rest ++ t ∷ []) (path_onward (Leads sys (first_table sys rules)) s rest t path (subst (λ v. Leads sys (first_table sys rules) v t) (sym ends) lead)) (last_onward s rest t) (let e = length-append rest (t ∷ []) in omega arith) in
           by_rule x reached vector next (first_rule rules x) refl
         where
           by_rule : (x : Vector) → IsReached sys (first_table sys rules) x → IsVector sys x → ((t : Vector) → Leads sys (first_table sys rules) x t → X t ≡ true) → (o : Option PlanRule) → first_rule rules x ≡ o → X x ≡ true

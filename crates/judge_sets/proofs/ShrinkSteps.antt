@@ -137,11 +137,11 @@ module _ (scene : Scene) (from set : Function) (a : ℕ) (enc : Encoded) (old : 
   drop_made now new shows = record {
     set = minus_of set (lost_of scene.start.task scene.rules set a);
     has = record {
-        by_steps = steps_kept scene enc now old new drop_steps by.has.by_steps shows ((λ e. absurd (omega arith)), tt) ((λ e. absurd (omega arith)), tt) (λ b. ((λ e. absurd (omega arith)), tt));
-        stays = shows.sets 6 (place_in scene 6 (omega arith)) ∙ drop_is;
-        begin = by.has.begin;
-        shrunk = next_shrunk;
-      };
+      by_steps = steps_kept scene enc now old new drop_steps by.has.by_steps shows ((λ e. absurd (omega arith)), tt) ((λ e. absurd (omega arith)), tt) (λ b. ((λ e. absurd (omega arith)), tt));
+      stays = shows.sets 6 (place_in scene 6 (omega arith)) ∙ drop_is;
+      begin = by.has.begin;
+      shrunk = next_shrunk;
+    };
     fewer = λ e. less_there;
     same = λ e. absurd (true≢false e);
   }
@@ -189,11 +189,11 @@ shrink_less scene enc now old new from before n k shrank lost same_count on has 
         → held (λ v. set_at now.sets new 6 (value_of v)) (all_vectors k) + cond b 1 0 < held (λ v. set_at enc.sets old 6 (value_of v)) (all_vectors k) + 1
     by_loss true m s =
         let l : held (λ v. set_at now.sets new 6 (value_of v)) (all_vectors k) < held (λ v. set_at enc.sets old 6 (value_of v)) (all_vectors k) =
-            fewer_held k (set_at enc.sets old 6) (set_at now.sets new 6)
-            (subst (λ j. HasMore j (set_at now.sets new 6) (set_at enc.sets old 6)) (sym same_count)
-            (subst (HasMore (fluent_count scene.start.task) (set_at now.sets new 6)) (sym has.stays) (subst (λ (f : Function). HasMore (fluent_count scene.start.task) f before) (sym after.has.stays) (m refl)))) in
+        fewer_held k (set_at enc.sets old 6) (set_at now.sets new 6)
+        (subst (λ j. HasMore j (set_at now.sets new 6) (set_at enc.sets old 6)) (sym same_count)
+        (subst (HasMore (fluent_count scene.start.task) (set_at now.sets new 6)) (sym has.stays) (subst (λ (f : Function). HasMore (fluent_count scene.start.task) f before) (sym after.has.stays) (m refl)))) in
         omega arith
     by_loss false m s =
         let e : held (λ v. set_at now.sets new 6 (value_of v)) (all_vectors k) ≡ held (λ v. set_at enc.sets old 6 (value_of v)) (all_vectors k) =
-            ap (λ (f : Function). held (λ v. f (value_of v)) (all_vectors k)) (after.has.stays ∙ (s refl).0 ∙ sym has.stays) in
+        ap (λ (f : Function). held (λ v. f (value_of v)) (all_vectors k)) (after.has.stays ∙ (s refl).0 ∙ sym has.stays) in
         omega arith

@@ -22,7 +22,7 @@ use crate::reading::{read_none, read_rules};
 use crate::settling::settle;
 use board_steps::{Step, make_all};
 use dd_sets::SetErr;
-use encode_task::{Enc, made_is_kept};
+use encode_task::Enc;
 use plan_rules::Rule;
 use slot_board::{Board, Operation, Outcomes};
 use std::alloc::Global;
@@ -91,12 +91,7 @@ fn stays_in(enc: &mut Enc, board: &mut Board, place: usize, actions: u32) -> Res
 
 /// Whether the rules can be followed and are a solution of a class, where following them is good from
 /// each initial state.
-fn keeps_on(
-    enc: &mut Enc,
-    board: &mut Board,
-    class: Class,
-    actions: u32,
-) -> Result<bool, SetErr>
+fn keeps_on(enc: &mut Enc, board: &mut Board, class: Class, actions: u32) -> Result<bool, SetErr>
     requires ready { (scene : Scene)
         × (grown : HasAllGrown scene (outcomes_of class) enc.old board.old.slots.items)
         × (has_initial scene grown.set ≡ true) }
@@ -222,7 +217,6 @@ pub fn judge_table(
     ensures same_slots { enc.new ≡ record enc.old { sets = enc.new.sets } }
     ensures made { (task : TaskOf) → MadeOf task enc.old → MadeOf task enc.new }
 {
-    made_is_kept();
     let actions = task.actions.len() as u32;
     let mut board = Board::new(alloc, enc, places(actions))?;
     let judged = judge(enc, &mut board, class, rules, actions);

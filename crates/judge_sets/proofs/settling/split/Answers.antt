@@ -8,8 +8,7 @@ pub make_all-requires : goal.make_all-requires
 make_all-requires c =
     let r = c.requires.ready in
     let enc = c.args.enc.now in
-    let slots = c.args.board.now.slots.items in
-    (
+    let slots = c.args.board.now.slots.items in (
       r.0.start,
       set_at enc.sets slots,
       shown r.0 enc slots r.1.there,
