@@ -1,42 +1,34 @@
 -- What grows and what shrinks: what the steps ask and make, and that a pass that changes something
 -- leaves more, or less.
-use Rattle.std.proofs.Common.{◌≡◌, ◌≢◌, ◌⊎◌, ◌↔◌, IsTrue, ℕ, zero, suc, ◌+◌, ◌<◌, ◌≤◌, Bool, true, false, not, ◌&&◌, ◌||◌, cond, List, [], ◌∷◌, length, map, refl, sym, ap, subst, ◌∙◌, ⊎_elim, arith}
-use Rattle.std.specs.List.{Contains}
+use Rattle.std.proofs.Common.{◌≡◌, ◌≢◌, ◌↔◌, IsTrue, ℕ, ◌+◌, ◌<◌, Bool, true, false, not, ◌&&◌, ◌||◌, cond, List, [], ◌∷◌, refl, sym, ap, subst, ◌∙◌, ⊎_elim, arith}
 use Rattle.std.proofs.Math.Path.{fun_ext}
-use Rattle.std.proofs.lemmas.Bool.{and_parts, cases_eq, cases_lt, false≢true, true≢false, or_left, or_right}
-use Rattle.dd_nodes.specs.NodeList.{Values}
-use Rattle.dd_nodes.specs.Subfunctions.{DependsOnly, Function, IsSubfunction}
+use Rattle.std.proofs.lemmas.Bool.{and_parts, cases_eq, false≢true, true≢false, or_left, or_right}
+use Rattle.dd_nodes.specs.Subfunctions.{Function}
 use Rattle.dd_ops.specs.Operations.{and_of, minus_of, or_of}
 use Rattle.dd_sets.specs.LiveSets.{nothing}
-use Rattle.dd_sets.specs.Rooms.{Small}
 use Rattle.dd_sets.specs.declared.slots.SetId.{SetId}
 use Rattle.encode_task.specs.Slots.{Encoded}
 use Rattle.preimage.specs.WorkingSets.{PreimageFits}
 use Rattle.slot_board.specs.Board.{LeadFits, first_of, led, set_at}
 use Rattle.slot_board.specs.declared.board.Operation.{Operation}
-use Rattle.slot_board.specs.declared.board.Operation.TheVariants as Operation
 use Rattle.slot_board.specs.declared.board.Outcomes.{Outcomes}
-use Rattle.slot_board.specs.declared.board.Outcomes.TheVariants as HowMany
-use Rattle.task_core.specs.Cubes.{SetOfVectors}
 use Rattle.task_core.specs.Tasks.{action_count, fluent_count}
-use Rattle.task_core.specs.Vectors.{Vector, all_vectors, value_of}
+use Rattle.task_core.specs.Vectors.{all_vectors, value_of}
 use Rattle.task_core.specs.declared.literals.ActionId.{ActionId}
 use Rattle.task_core.proofs.Vectors.{all_vectors_has}
-use Rattle.plan_rules.specs.Rules.{PlanRule}
 use Rattle.plan_theory.proofs.RoundSteps.{held, holds_fewer}
 use Rattle.plan_theory.proofs.WeakLists.{map-agree}
-use Rattle.board_steps.specs.Steps.{CanMakeAll, Placed, Shows, after_steps, with_set}
+use Rattle.board_steps.specs.Steps.{CanMakeAll, Shows, after_steps}
 use Rattle.board_steps.specs.declared.steps.Step.{Step}
 use Rattle.board_steps.specs.declared.steps.Step.TheVariants.{Combine, Lead}
-use Rattle.judge_sets.specs.Fixpoints.{IsBegin, IsGrown, IsShrunk, here_of, hits_of, lost_of, rest_of}
-use Rattle.judge_sets.specs.Fixpoints.IsGrown.{begun, grown}
-use Rattle.judge_sets.specs.Fixpoints.IsShrunk.{whole, shrunk}
-use Rattle.judge_sets.specs.Places.{GainsNone, HasAllGrown, HasAllShrunk, HasGained, HasGrown, HasHere, HasHits, HasLost, HasMore, HasOut, HasRest, HasShrunk, HasSteps, IsGainBy, IsLossBy, IsThere, LosesNone, Scene}
+use Rattle.judge_sets.specs.Fixpoints.{IsGrown, hits_of, rest_of}
+use Rattle.judge_sets.specs.Fixpoints.IsGrown.{grown}
+use Rattle.judge_sets.specs.Places.{GainsNone, HasGained, HasGrown, HasHits, HasMore, HasRest, HasSteps, IsGainBy, Scene}
 use Rattle.judge_sets.specs.TableSets.{step_set}
 use Rattle.judge_sets.specs.WorkingSets.{IsRoundSet}
-use Rattle.judge_sets.specs.WorkingSets.IsMadeBack.{first_led, here, hits, lost, rest}
+use Rattle.judge_sets.specs.WorkingSets.IsMadeBack.{first_led, hits, rest}
 use Rattle.judge_sets.specs.WorkingSets.IsMadeBack.{led as led_part}
-use Rattle.judge_sets.specs.WorkingSets.IsRoundSet.{grows, shrinks}
+use Rattle.judge_sets.specs.WorkingSets.IsRoundSet.{grows}
 use Rattle.judge_sets.specs.WorkingSets.IsTaskSet.{exec, lands}
 use Rattle.judge_sets.specs.WorkingSets.IsWorkingSet.{by_round, by_task, round}
 use Rattle.judge_sets.proofs.ReadSteps.{some_there}

@@ -1,11 +1,11 @@
 -- What a verdict reads off its sets.
-use Rattle.std.proofs.Common.{◌≡◌, ◌↔◌, IsTrue, ℕ, zero, suc, ◌+◌, ◌<◌, ◌≤◌, ◌^◌, Bool, true, false, not, ◌&&◌, List, [], ◌∷◌, length, map, Option, Some, None, Result, Ok, Err, refl, sym, ap, subst, ◌∙◌, inl, arith}
+use Rattle.std.proofs.Common.{◌≡◌, ◌↔◌, IsTrue, ℕ, zero, suc, ◌+◌, ◌<◌, ◌≤◌, ◌^◌, Bool, true, false, List, [], ◌∷◌, length, Option, Some, None, Result, Ok, Err, refl, sym, ap, subst, ◌∙◌, arith}
 use Rattle.std.specs.Prelude.{All, IfOk, IsErrOf, IsSome}
 use Rattle.std.specs.List.{Contains, list_all}
 use Rattle.std.proofs.lemmas.Bool.{false≢true, true≢false}
 use Rattle.dd_nodes.specs.Subfunctions.{DependsOnly, Function}
 use Rattle.dd_ops.specs.Operations.{minus_of}
-use Rattle.dd_sets.specs.LiveSets.{LiveSets, everything, nothing}
+use Rattle.dd_sets.specs.LiveSets.{LiveSets, everything}
 use Rattle.dd_sets.specs.Rooms.{NoRoom}
 use Rattle.dd_sets.specs.declared.errors.SetErr.{SetErr}
 use Rattle.dd_sets.specs.declared.errors.SetErr.TheVariants.{Full}
@@ -16,9 +16,7 @@ use Rattle.encode_task.specs.Made.{HoldsGoal, MadeOf}
 use Rattle.encode_task.specs.Slots.{Encoded}
 use Rattle.slot_board.specs.Board.{At, Ends, HasNoRoom, HasNothing, IsSmall, Left, Moved, Start, Stayed, TestFits, set_at}
 use Rattle.slot_board.specs.declared.board.Operation.{Operation}
-use Rattle.slot_board.specs.declared.board.Operation.TheVariants as Operation
 use Rattle.slot_board.specs.declared.board.Outcomes.{Outcomes}
-use Rattle.task_core.specs.Solutions.{IsReached}
 use Rattle.task_core.specs.Tasks.{action_count, fluent_count, initial_states, system_of}
 use Rattle.task_core.specs.Vectors.{Vector, value_of}
 use Rattle.task_core.specs.declared.classes.Class.{Class}
@@ -32,11 +30,11 @@ use Rattle.board_steps.specs.Steps.{CanMakeAll, Shows, after_steps}
 use Rattle.board_steps.specs.declared.steps.Step.{Step}
 use Rattle.board_steps.specs.declared.steps.Step.TheVariants.{Combine, Copy, Whole}
 use Rattle.judge_sets.specs.FirstMatch.{RulesAgree, SolvesAsRun}
-use Rattle.judge_sets.specs.Fixpoints.{IsBegin, IsGrown, IsShrunk, outcomes_of}
+use Rattle.judge_sets.specs.Fixpoints.{IsBegin, outcomes_of}
 use Rattle.judge_sets.specs.Fixpoints.IsBegin.{agreeing, followed, good}
 use Rattle.judge_sets.specs.Fixpoints.IsGrown.{begun}
 use Rattle.judge_sets.specs.Fixpoints.IsShrunk.{whole}
-use Rattle.judge_sets.specs.Places.{HasAllGrown, HasAllShrunk, HasGrown, HasPart, HasRead, HasShrunk, HasSteps, HoldsAsReached, IsThere, Scene, has_initial}
+use Rattle.judge_sets.specs.Places.{HasAllGrown, HasAllShrunk, HasGrown, HasPart, HasRead, HasShrunk, HasSteps, HoldsAsReached, Scene, has_initial}
 use Rattle.judge_sets.specs.TableSets.{differ_set, end_set, followed_by}
 use Rattle.judge_sets.specs.WorkingSets.{BoundsTableSets, IsWorkingSet}
 use Rattle.judge_sets.specs.WorkingSets.IsRoundSet.{grows, shrinks}
@@ -46,7 +44,7 @@ use Rattle.judge_sets.specs.WorkingSets.IsWorkingSet.{by_table, by_task, round}
 use Rattle.judge_sets.proofs.GrowSteps.{steps_kept}
 use Rattle.judge_sets.proofs.SetTheory.{agree_of, agree_to, cyclic_holds, cyclic_solves, first_held, follow_to, shrunk_keeps, shrunk_part, shrunk_stays, strong_in, strong_solves, weak_covers, weak_solves}
 use Rattle.judge_sets.proofs.SettleSteps.{steps_all}
-use Rattle.judge_sets.proofs.StepFacts.{fits, only_fluents, op_same, place_in, taken_in}
+use Rattle.judge_sets.proofs.StepFacts.{fits, only_fluents, place_in}
 
 -- no rule is read
 pub none_read : (scene : Scene) (enc now : Encoded) (old new : List SetId) → HasNothing scene.start enc old → Moved scene.start enc.sets old now new 2 everything → HasRead scene now new []

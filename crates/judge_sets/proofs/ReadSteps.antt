@@ -9,14 +9,13 @@ use Rattle.std.proofs.lemmas.List.FromFn.{length-range_with_len}
 use Rattle.dd_nodes.specs.NodeList.{Values}
 use Rattle.dd_nodes.specs.Subfunctions.{DependsOnly, Function}
 use Rattle.dd_ops.specs.Operations.{and_of, minus_of, or_of, variable}
-use Rattle.dd_sets.specs.LiveSets.{IsLive, everything, nothing, set_of}
+use Rattle.dd_sets.specs.LiveSets.{IsLive, nothing, set_of}
 use Rattle.dd_sets.specs.declared.slots.SetId.{SetId}
 use Rattle.encode_task.specs.Slots.{Encoded}
 use Rattle.encode_task.specs.TaskSets.{first_values, space_set}
 use Rattle.encode_task.proofs.ShownLemmas.{value_computed}
 use Rattle.slot_board.specs.Board.{IsSmall, combined, set_at}
 use Rattle.slot_board.specs.declared.board.Operation.{Operation}
-use Rattle.slot_board.specs.declared.board.Operation.TheVariants as Operation
 use Rattle.task_core.specs.Cubes.{Cube, matches}
 use Rattle.task_core.specs.Tasks.{action_count, fluent_count, in_space, system_of}
 use Rattle.task_core.specs.Vectors.{Vector, all_vectors, value_of}
@@ -28,8 +27,8 @@ use Rattle.board_steps.specs.Steps.{CanMakeAll, Placed, Shows, after_steps, with
 use Rattle.board_steps.specs.declared.steps.Step.{Step}
 use Rattle.board_steps.specs.declared.steps.Step.TheVariants.{Combine, Fluent, Kept, Whole}
 use Rattle.board_steps.proofs.StepLemmas.{with_here, with_other}
-use Rattle.judge_sets.specs.FirstMatch.{CountsBehind, first_rule}
-use Rattle.judge_sets.specs.Places.{HasCube, HasJoined, HasRead, HasTold, IsNextRule, IsThere, Scene, sign_of}
+use Rattle.judge_sets.specs.FirstMatch.{CountsBehind}
+use Rattle.judge_sets.specs.Places.{HasCube, HasJoined, HasRead, HasTold, IsNextRule, Scene, sign_of}
 use Rattle.judge_sets.specs.TableSets.{cube_set, differ_set, matched_set, taken_set}
 use Rattle.judge_sets.specs.WorkingSets.IsRuleSet.{counts, counts_in_states, differs, first_literals, other_counts}
 use Rattle.judge_sets.specs.WorkingSets.IsTableSet.{differ, matched, taken}

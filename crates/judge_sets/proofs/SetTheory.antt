@@ -1,10 +1,10 @@
 -- The sets of a verdict in the system of the task: what their states may do, and that the last ones
 -- have all states that may.
-use Rattle.std.proofs.Common.{◌≡◌, ◌↔◌, IsTrue, ℕ, zero, suc, ◌+◌, ◌<◌, ◌≤◌, Bool, true, false, not, ◌&&◌, ◌||◌, ◌==◌, List, [], ◌∷◌, Option, Some, None, find, refl, sym, ap, ◌∙◌, subst, ⊎_elim, arith, option_map, unwrap_or}
+use Rattle.std.proofs.Common.{◌≡◌, ℕ, zero, suc, ◌<◌, ◌≤◌, Bool, true, false, not, ◌&&◌, ◌||◌, ◌==◌, List, [], ◌∷◌, Option, Some, None, refl, sym, ap, ◌∙◌, subst, ⊎_elim, arith, option_map, unwrap_or}
 use Rattle.std.specs.Prelude.{All}
 use Rattle.std.specs.List.{Contains, list_all, list_any}
 use Rattle.std.specs.Option.{option_map_or}
-use Rattle.std.proofs.lemmas.Bool.{and_from, and_parts, cases_lt, eq-eqb, eqb-true, false≢true, true≢false, or_cases, or_left, or_right}
+use Rattle.std.proofs.lemmas.Bool.{and_from, and_parts, cases_lt, eq-eqb, eqb-true, false≢true, true≢false, or_cases, or_left}
 use Rattle.std.proofs.lemmas.List.Elements.{All-head, All-tail}
 use Rattle.dd_nodes.specs.NodeList.{Values}
 use Rattle.dd_nodes.specs.Subfunctions.{DependsOnly, Function}
@@ -18,7 +18,7 @@ use Rattle.task_core.specs.Actions.{after_value}
 use Rattle.task_core.specs.Conditions.{holds}
 use Rattle.task_core.specs.Cubes.{matches}
 use Rattle.task_core.specs.Solutions.{IsReached}
-use Rattle.task_core.specs.Systems.{System, Exec, HasOutcome, IsSystem, IsVector, goal_states}
+use Rattle.task_core.specs.Systems.{System, Exec, IsSystem, IsVector, goal_states}
 use Rattle.task_core.specs.Tasks.{action_count, fluent_count, in_space, initial_states, is_executable, next_states, outcomes_at, states_where, system_of}
 use Rattle.task_core.specs.Vectors.{Vector, value_of}
 use Rattle.task_core.specs.declared.actions.Outcome.{Outcome}
@@ -30,11 +30,11 @@ use Rattle.plan_rules.specs.Plans.{IsRuleOf}
 use Rattle.plan_rules.specs.Rules.{PlanRule}
 use Rattle.plan_theory.proofs.WeakLists.{Contains-cases, Contains-nil, find-None, find-Some, find-found, list_all-agree, list_all-at, list_all-from, list_any-false, list_any-from, list_any-none, list_any-witness}
 use Rattle.judge_sets.specs.FirstMatch.{CanFollowFirst, RulesAgree, SolvesAsRun, first_rule, first_table}
-use Rattle.judge_sets.specs.Fixpoints.{IsGrown, IsShrunk, here_of, hits_of, lost_of, rest_of}
+use Rattle.judge_sets.specs.Fixpoints.{IsGrown, IsShrunk, hits_of, lost_of, rest_of}
 use Rattle.judge_sets.specs.Fixpoints.IsGrown.{begun, grown}
 use Rattle.judge_sets.specs.Fixpoints.IsShrunk.{whole, shrunk}
 use Rattle.judge_sets.specs.TableSets.{differ_set, end_set, followed_by, goal_states_set, matched_set, step_set, taken_set}
-use Rattle.judge_sets.proofs.RunTheory.{AllInto, IsClosed, IsPair, MayStop, SomeInto, SureToStop, advised_from, advised_parts, cyclic_from, cyclic_to, goes, pair_in, pair_of, reached_first, reached_keeps, reached_more, reached_vector, rule_pair, stop_here, stop_in, stop_later, stops, strong_from, sure_in, weak_from, weak_to}
+use Rattle.judge_sets.proofs.RunTheory.{AllInto, IsClosed, MayStop, SomeInto, SureToStop, advised_from, advised_parts, cyclic_from, cyclic_to, goes, pair_in, pair_of, reached_first, reached_keeps, reached_more, reached_vector, stop_here, stop_in, stop_later, stops, strong_from, sure_in, weak_from, weak_to}
 
 not_true : (b : Bool) → not b ≡ true → b ≡ false
 not_true true h = absurd (false≢true h)

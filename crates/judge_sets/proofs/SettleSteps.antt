@@ -1,27 +1,25 @@
 -- What the steps that settle a table ask, and what they make.
-use Rattle.std.proofs.Common.{◌≡◌, ◌≢◌, ◌⊎◌, ℕ, zero, suc, ◌+◌, ◌<◌, ◌≤◌, List, [], ◌∷◌, Option, Some, None, length, refl, sym, ap, subst, ◌∙◌, ⊎_elim, arith, take_all}
+use Rattle.std.proofs.Common.{◌≡◌, ◌≢◌, ◌⊎◌, ℕ, suc, ◌+◌, ◌<◌, List, [], ◌∷◌, Option, Some, None, sym, ap, subst, ◌∙◌, ⊎_elim, arith}
 use Rattle.std.specs.Option.{option_map_or}
 use Rattle.std.proofs.lemmas.Bool.{cases_eq}
 use Rattle.dd_nodes.specs.Subfunctions.{Function}
 use Rattle.dd_ops.specs.Operations.{and_of, minus_of}
-use Rattle.dd_sets.specs.LiveSets.{LiveSets, IsLive, everything, nothing, set_of}
+use Rattle.dd_sets.specs.LiveSets.{LiveSets, IsLive, nothing, set_of}
 use Rattle.dd_sets.specs.declared.slots.SetId.{SetId}
 use Rattle.encode_task.specs.Made.{HoldsGoal}
 use Rattle.encode_task.specs.Slots.{Encoded, exec_slot}
 use Rattle.encode_task.specs.TaskSets.{exec_set, goal_set}
 use Rattle.slot_board.specs.Board.{set_at}
 use Rattle.slot_board.specs.declared.board.Operation.{Operation}
-use Rattle.slot_board.specs.declared.board.Operation.TheVariants as Operation
 use Rattle.task_core.specs.Tasks.{action_count}
 use Rattle.task_core.specs.declared.conditions.Cond.{Cond}
 use Rattle.task_core.specs.declared.tasks.Task.{Task}
-use Rattle.plan_rules.specs.Rules.{PlanRule}
 use Rattle.board_steps.specs.Steps.{CanMakeAll, Placed, Shows, after_steps, with_set}
 use Rattle.board_steps.specs.declared.steps.Step.{Step}
 use Rattle.board_steps.specs.declared.steps.Step.TheVariants.{Combine, Kept, Whole}
 use Rattle.board_steps.proofs.StepLemmas.{with_here, with_other}
 use Rattle.judge_sets.specs.Places.{HasPart, HasRead, HasSteps, Scene}
-use Rattle.judge_sets.specs.TableSets.{end_set, followed_by, goal_states_set, matched_set, step_set, taken_set}
+use Rattle.judge_sets.specs.TableSets.{end_set, followed_by, goal_states_set, step_set, taken_set}
 use Rattle.judge_sets.specs.WorkingSets.IsTableSet.{ends, fails, followed, steps}
 use Rattle.judge_sets.specs.WorkingSets.IsTaskSet.{exec, goal}
 use Rattle.judge_sets.specs.WorkingSets.IsWorkingSet.{by_table, by_task}

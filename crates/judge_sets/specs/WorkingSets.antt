@@ -1,6 +1,5 @@
 -- The working sets of a verdict on a table, of which the nodes bound what it needs.
 use Rattle.std.specs.Prelude.{◌≡◌, ℕ, ◌+◌, ◌<◌, ◌≤◌, List, ◌∷◌, ◌++◌, length, take}
-use Rattle.std.specs.List.{Contains}
 use Rattle.dd_nodes.specs.Subfunctions.{Function, IsSubfunction}
 use Rattle.dd_ops.specs.Operations.{and_of, minus_of, variable}
 use Rattle.dd_sets.specs.LiveSets.{everything}

@@ -1,4 +1,4 @@
-use Rattle.std.proofs.Common.{◌≡◌, arith, false, length, refl, subst, true}
+use Rattle.std.proofs.Common.{◌≡◌, arith, length, subst}
 use Rattle.std.proofs.lemmas.Result.{err_from_is_err_and}
 use Rattle.slot_board.proofs.BoardSlots.{same_actions, went}
 use Rattle.board_steps.proofs.StepLemmas.{found_of, passed_on}

@@ -1,4 +1,4 @@
-use Rattle.std.proofs.Common.{[], ◌∷◌, arith, subst, take, take_all}
+use Rattle.std.proofs.Common.{arith, subst, take, take_all}
 use Rattle.std.proofs.lemmas.Result.{err_from_is_err_and}
 use Rattle.slot_board.specs.Board.{set_at}
 use Rattle.slot_board.proofs.BoardSlots.{passed, went}

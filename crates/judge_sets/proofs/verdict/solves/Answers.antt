@@ -1,11 +1,8 @@
-use Rattle.std.proofs.Common.{◌≡◌, ◌∙◌, arith, false, length, subst, sym, true}
+use Rattle.std.proofs.Common.{◌≡◌, ◌∙◌, arith, length, sym}
 use Rattle.std.proofs.lemmas.Result.{err_from_is_err_and}
-use Rattle.slot_board.specs.declared.board.Outcomes.{Outcomes}
 use Rattle.slot_board.proofs.BoardSlots.{same_actions}
 use Rattle.board_steps.proofs.StepLemmas.{found_of, passed_on}
-use Rattle.judge_sets.specs.Fixpoints.{outcomes_of}
-use Rattle.judge_sets.specs.Places.{HasAllGrown, has_initial}
-use Rattle.judge_sets.proofs.JudgeSteps.{Told, not_told, told_of}
+use Rattle.judge_sets.proofs.JudgeSteps.{not_told, told_of}
 use Rattle.judge_sets.proofs.verdict.solves.Goals as goal
 
 pub leads_to_end-requires-clause-ready : goal.leads_to_end-requires-clause-ready
