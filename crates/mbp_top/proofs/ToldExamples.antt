@@ -6,11 +6,11 @@ use Rattle.plan_rules.specs.Texts.{line_feed}
 use Rattle.refute_cert.specs.declared.verdict.Flaw.TheVariants.{Goal}
 use Rattle.refute_cert.specs.declared.verdict.Judged.TheVariants.{Accepted, Rejected}
 use Rattle.task_core.specs.declared.classes.Class.TheVariants.{Weak, Strong}
-use Rattle.mbp_top.specs.Answers.{full, no_command, over_limit, read_fault, refused, status_of, text_of}
-use Rattle.mbp_top.specs.RefuteCommand.{judged_answer}
-use Rattle.mbp_top.specs.ReplayCommand.{Tallies}
+use Rattle.command_base.specs.Answers.{full, no_command, over_limit, read_fault, refused, status_of, text_of}
+use Rattle.refute_command.specs.RefuteCommand.{judged_answer}
+use Rattle.replay_command.specs.ReplayCommand.{Tallies}
 use Rattle.mbp_top.specs.Told.{AreFilesTold, IsDue}
-use Rattle.mbp_top.specs.Words.{Bytes, Command, PlanWords, of_class, plan, ground, check, refute, replay, drill, Says, files_of}
+use Rattle.command_base.specs.Words.{Bytes, Command, PlanWords, of_class, plan, ground, check, refute, replay, drill, Says, files_of}
 
 -- the words `plan weak coin-d coin-p`, the command that they say, and the two files that it names
 abbrev coin_words : List Bytes
@@ -40,7 +40,9 @@ coin_files = refl
 -- the words `plan strong coin-d coin-p --nodes 40`, and the command that they say
 few_said : Says (codes "plan" ∷ codes "strong" ∷ codes "coin-d" ∷ codes "coin-p" ∷ codes "--nodes" ∷ codes "40" ∷ [])
     (plan (record { kind = of_class Strong; domain = codes "coin-d"; problem = codes "coin-p"; options = record { nodes = 40 }; certified = false }))
+
 unfolding digits
+
 few_said = record {
   room = (omega arith, omega arith);
   rest = codes "--nodes" ∷ codes "40" ∷ [];
@@ -52,7 +54,9 @@ few_said = record {
 -- the words `plan strong coin-d coin-p --cert --nodes 40`, and the command that they say
 certified_said : Says (codes "plan" ∷ codes "strong" ∷ codes "coin-d" ∷ codes "coin-p" ∷ codes "--cert" ∷ codes "--nodes" ∷ codes "40" ∷ [])
     (plan (record { kind = of_class Strong; domain = codes "coin-d"; problem = codes "coin-p"; options = record { nodes = 40 }; certified = true }))
+
 unfolding digits
+
 certified_said = record {
   room = (omega arith, omega arith);
   rest = codes "--nodes" ∷ codes "40" ∷ [];
@@ -64,7 +68,9 @@ certified_said = record {
 -- the words `refute coin-d coin-p cert --nodes 40`, the command that they say, and its three files
 refute_said : Says (codes "refute" ∷ codes "coin-d" ∷ codes "coin-p" ∷ codes "cert" ∷ codes "--nodes" ∷ codes "40" ∷ [])
     (refute (record { domain = codes "coin-d"; problem = codes "coin-p"; certificate = codes "cert"; options = record { nodes = 40 } }))
+
 unfolding digits
+
 refute_said = record {
   room = (omega arith, omega arith);
   rest = codes "--nodes" ∷ codes "40" ∷ [];
