@@ -1,21 +1,33 @@
 //! The command `check`.
 
+ghost use Rattle.check_command.specs.CheckCommand.{
+  ExploreThen,
+  IsCheckAnswer,
+  IsChecked,
+  ShowsVerdict,
+  verdict_answer,
+  FetchesToCheck,
+};
+ghost use Rattle.check_command.specs.Judged.{HasGoalIn, IsTaskVerdict};
+ghost use Rattle.command_base.specs.Answers.{no_memory, refused};
+ghost use Rattle.command_base.specs.Faults.{IsQuietAt};
+ghost use Rattle.command_base.specs.Fetching.{Stops};
+ghost use Rattle.command_base.specs.Following.{most_followed};
+ghost use Rattle.command_base.specs.Grounding.{GoalThen, GroundThen, has_goal_for};
+ghost use Rattle.command_base.specs.InitialStates.{InitialThen, empty_init};
+ghost use Rattle.command_base.specs.PlanFiles.{KindThen, is_of_kind};
+ghost use Rattle.command_base.specs.Values.{
+  answer_of,
+  check_words_of,
+  kind_of,
+  placed_of,
+  shown_of,
+};
+ghost use Rattle.command_base.specs.Words.{with_contexts};
 ghost use Rattle.ctl_syntax.specs.Values.{NamesBelow, ctl_value};
 ghost use Rattle.exec_graph.specs.Graphs.{IsGraphOf};
 ghost use Rattle.exec_graph.specs.Initials.{HasTooManyInitial};
 ghost use Rattle.exec_graph.specs.Values.{plain_graph};
-ghost use Rattle.command_base.specs.Answers.{no_memory, refused};
-ghost use Rattle.command_base.specs.Faults.{IsQuietAt};
-ghost use Rattle.check_command.specs.CheckCommand.{ExploreThen, IsCheckAnswer, IsChecked, ShowsVerdict, verdict_answer};
-ghost use Rattle.command_base.specs.Following.{most_followed};
-ghost use Rattle.check_command.specs.CheckCommand.{FetchesToCheck};
-ghost use Rattle.command_base.specs.Fetching.{Stops};
-ghost use Rattle.command_base.specs.Grounding.{GoalThen, GroundThen, has_goal_for};
-ghost use Rattle.command_base.specs.InitialStates.{InitialThen, empty_init};
-ghost use Rattle.check_command.specs.Judged.{HasGoalIn, IsTaskVerdict};
-ghost use Rattle.command_base.specs.PlanFiles.{KindThen, is_of_kind};
-ghost use Rattle.command_base.specs.Values.{answer_of, check_words_of, kind_of, placed_of, shown_of};
-ghost use Rattle.command_base.specs.Words.{with_contexts};
 ghost use Rattle.pddl_ast.specs.Fits.{FitsDomain, FitsProblem};
 ghost use Rattle.pddl_ast.specs.Values.{domain_value, problem_value};
 ghost use Rattle.pddl_system.specs.Names.{NamesAreWords};

@@ -1,6 +1,7 @@
 -- What is written of an answer, and the status that comes of it. Of a sink we know its count of
 -- faults and, where it tells, the bytes written to it.
-use Rattle.std.specs.Prelude.{◌≡◌, ℕ, ◌<◌, ◌⊎◌, true, false, Option, List, length, take, codes, ◌++◌}
+use Rattle.std.specs.Prelude.{◌≡◌, ℕ, ◌<◌, ◌⊎◌, true, false, Option, List, length, take, codes}
+use Rattle.std.specs.Prelude.{◌++◌}
 use Rattle.std.specs.Io.KnownBytes.{append_known}
 use Rattle.plan_io.specs.Counts.{Rose}
 use Rattle.plan_rules.specs.Texts.{line_feed}

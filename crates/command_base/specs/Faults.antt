@@ -1,6 +1,8 @@
 -- Faults of the shelf: when its count rose, and at which answers it may have risen.
 use Rattle.std.specs.Prelude.{◌≡◌, ℕ, ◌⊎◌, ⊤}
-use Rattle.command_base.specs.Answers.{Answer, affirmed, denied, refused, Refusal, no_command, text_fault, over_limit, read_fault, no_memory, full, stray_outcome, unexecutable}
+use Rattle.command_base.specs.Answers.{Answer, affirmed, denied, refused, Refusal, no_command}
+use Rattle.command_base.specs.Answers.{text_fault, over_limit, read_fault, no_memory, full}
+use Rattle.command_base.specs.Answers.{stray_outcome, unexecutable}
 use Rattle.plan_io.specs.Counts.{Rose}
 
 -- the answers at which the shelf's count of faults may have risen: that a file can't be read, and

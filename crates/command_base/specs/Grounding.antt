@@ -2,7 +2,8 @@
 -- wanted, and whether all that is counted is within its limits.
 use Rattle.std.specs.Prelude.{◌≡◌, ◌⊎◌, Bool, true, false, Some, None, codes, is_some}
 use Rattle.pddl_ast.specs.Trees.{DomainTree, ProblemTree}
-use Rattle.pddl_system.specs.Sizes.{Limit, object_limit, size_limit, instance_limit, action_limit, outcome_limit, fluent_limit, first_passed}
+use Rattle.pddl_system.specs.Sizes.{Limit, object_limit, size_limit, instance_limit, action_limit}
+use Rattle.pddl_system.specs.Sizes.{outcome_limit, fluent_limit, first_passed}
 use Rattle.sexpr_text.specs.declared.faults.FaultKind.TheVariants.{WrongGoalKind}
 use Rattle.command_base.specs.Answers.{Answer, refused, over_limit, text_fault}
 use Rattle.task_core.specs.declared.classes.Class.TheVariants.{Weak}

@@ -1,24 +1,36 @@
 -- Private: the answers and commands that the code's own types stand for.
 use Rattle.std.specs.Prelude.{ℕ, List, Result, Ok, Err, string_bytes, codes}
-use Rattle.command_base.specs.Answers.{Answer, affirmed, denied, refused, Refusal, no_command, text_fault, over_limit, read_fault, no_memory, full, stray_outcome, unexecutable}
-use Rattle.pddl_system.specs.Sizes.{object_limit, size_limit, instance_limit, action_limit, outcome_limit, fluent_limit}
+use Rattle.command_base.specs.Answers.{Answer, affirmed, denied, refused, Refusal, no_command}
+use Rattle.command_base.specs.Answers.{text_fault, over_limit, read_fault, no_memory, full}
+use Rattle.command_base.specs.Answers.{stray_outcome, unexecutable}
+use Rattle.pddl_system.specs.Sizes.{object_limit, size_limit, instance_limit, action_limit}
+use Rattle.pddl_system.specs.Sizes.{outcome_limit, fluent_limit}
 use Rattle.plan_rules.specs.Rules.{plain_of}
 use Rattle.plan_rules.specs.declared.rules.PlanRead.{PlanRead}
 use Rattle.command_base.specs.Grounding.{limit_name}
 use Rattle.command_base.specs.PlanFiles.{PlacedPlan}
-use Rattle.command_base.specs.Words.{Bytes, PlanKind, PlanOptions, PlanWords, GroundWords, CheckWords, of_class, plan, with_contexts, ReplayWords, ground, check, replay, Says, SayNothing, DrillKind, DrillWords, corridors, roads, drill, RefuteWords, refute}
+use Rattle.command_base.specs.Words.{Bytes, PlanKind, PlanOptions, PlanWords, GroundWords}
+use Rattle.command_base.specs.Words.{CheckWords, of_class, plan, with_contexts, ReplayWords, ground}
+use Rattle.command_base.specs.Words.{check, replay, Says, SayNothing, DrillKind, DrillWords}
+use Rattle.command_base.specs.Words.{corridors, roads, drill, RefuteWords, refute}
 use Rattle.sexpr_text.specs.declared.faults.ReadErr.{ReadErr}
 use Rattle.sexpr_text.specs.declared.faults.ReadErr.TheVariants.{Fault, Memory}
 use Rattle.command_base.specs.declared.answers.Limit.{Limit}
-use Rattle.command_base.specs.declared.answers.Limit.TheVariants.{File, Objects, Size, Instances, Actions, Outcomes, Fluents, Initial, Configurations, Patrol, Stages}
+use Rattle.command_base.specs.declared.answers.Limit.TheVariants.{File, Objects, Size, Instances}
+use Rattle.command_base.specs.declared.answers.Limit.TheVariants.{Actions, Outcomes, Fluents}
+use Rattle.command_base.specs.declared.answers.Limit.TheVariants.{Initial, Configurations, Patrol}
+use Rattle.command_base.specs.declared.answers.Limit.TheVariants.{Stages}
 use Rattle.command_base.specs.declared.answers.Refusal.{Refusal as CodeRefusal}
-use Rattle.command_base.specs.declared.answers.Refusal.TheVariants.{NoCommand, TextFault, OverLimit, ReadFault, NoMemory, Full, StrayOutcome, Unexecutable}
+use Rattle.command_base.specs.declared.answers.Refusal.TheVariants.{NoCommand, TextFault, OverLimit}
+use Rattle.command_base.specs.declared.answers.Refusal.TheVariants.{ReadFault, NoMemory, Full}
+use Rattle.command_base.specs.declared.answers.Refusal.TheVariants.{StrayOutcome, Unexecutable}
 use Rattle.command_base.specs.declared.answers.Shown.{Shown}
 use Rattle.command_base.specs.declared.answers.Shown.TheVariants.{Affirmed, Denied}
 use Rattle.command_base.specs.declared.answers.Text.{Text}
 use Rattle.command_base.specs.declared.answers.Text.TheVariants.{Fixed, Made}
 use Rattle.command_base.specs.declared.words.Command.{Command as CodeCommand}
-use Rattle.command_base.specs.declared.words.Command.TheVariants.{Plan, Ground, Check, Replay, Drill, Nothing, Refute}
+use Rattle.command_base.specs.declared.words.Command.TheVariants.{Plan, Ground, Check, Replay}
+use Rattle.command_base.specs.declared.words.Command.TheVariants.{Drill, Nothing, Refute}
 use Rattle.command_base.specs.declared.words.DrillKind.{DrillKind as CodeDrillKind}
 use Rattle.command_base.specs.declared.words.DrillKind.TheVariants.{Corridor, Tyres}
 use Rattle.command_base.specs.declared.words.DrillWords.{DrillWords as CodeDrillWords}

@@ -1,5 +1,6 @@
 -- The command words: which commands there are, and which words say them.
-use Rattle.std.specs.Prelude.{◌≡◌, ℕ, ◌≤◌, ◌⊎◌, ⊤, Bool, true, false, List, [], ◌∷◌, ◌++◌, codes, decimal}
+use Rattle.std.specs.Prelude.{◌≡◌, ℕ, ◌≤◌, ◌⊎◌, ⊤, Bool, true, false, List, [], ◌∷◌, ◌++◌, codes}
+use Rattle.std.specs.Prelude.{decimal}
 use Rattle.plan_rules.specs.Texts.{class_word}
 use Rattle.task_core.specs.declared.classes.Class.{Class}
 

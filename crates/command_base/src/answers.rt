@@ -1,6 +1,15 @@
 //! Answers: what a command shows, or a refusal; each with its exit status and its text.
 
-ghost use Rattle.command_base.specs.Answers.{fault_line as fault_text, line_of, no_command, no_memory, status_of, status_of_refusal, stray_outcome, text_of};
+ghost use Rattle.command_base.specs.Answers.{
+  fault_line as fault_text,
+  line_of,
+  no_command,
+  no_memory,
+  status_of,
+  status_of_refusal,
+  stray_outcome,
+  text_of,
+};
 ghost use Rattle.command_base.specs.Values.{bytes_of, limit_of, refusal_of, shown_of};
 ghost use Rattle.plan_rules.specs.Texts.{line_feed};
 ghost use Rattle.std.specs.Option.{option_copied, option_map_or};

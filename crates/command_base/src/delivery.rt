@@ -1,7 +1,22 @@
 //! Writing an answer out.
 
-ghost use Rattle.command_base.specs.Answers.{Answer, is_shown, no_command, no_memory, refused, status_of, text_of};
-ghost use Rattle.command_base.specs.Delivery.{IsDelivered, Seen, Takes, TakesPart, seen, write_fault_line};
+ghost use Rattle.command_base.specs.Answers.{
+  Answer,
+  is_shown,
+  no_command,
+  no_memory,
+  refused,
+  status_of,
+  text_of,
+};
+ghost use Rattle.command_base.specs.Delivery.{
+  IsDelivered,
+  Seen,
+  Takes,
+  TakesPart,
+  seen,
+  write_fault_line,
+};
 ghost use Rattle.command_base.specs.Values.{answer_of};
 ghost use Rattle.std.specs.Prelude.{◌≡◌, ◌≢◌, ◌⊎◌, false, true};
 

@@ -1,9 +1,9 @@
 //! Grounding a domain and a problem, with the refusals of a limit, and of a goal of another kind.
 
 ghost use Rattle.command_base.specs.Answers.{no_memory, over_limit, text_fault};
-ghost use Rattle.ctl_syntax.specs.Values.{IsAtMostDeep, NamesBelow, ctl_value};
 ghost use Rattle.command_base.specs.Grounding.{has_goal_for, limit_name};
 ghost use Rattle.command_base.specs.Values.{kind_of, refusal_of};
+ghost use Rattle.ctl_syntax.specs.Values.{IsAtMostDeep, NamesBelow, ctl_value};
 ghost use Rattle.pddl_ast.specs.Fits.{FitsDomain, FitsProblem};
 ghost use Rattle.pddl_ast.specs.Values.{domain_value, problem_value};
 ghost use Rattle.pddl_system.specs.CtlGoals.{ctl_goal_of, goal_value};
@@ -13,8 +13,21 @@ ghost use Rattle.pddl_system.specs.Systems.{system};
 ghost use Rattle.pddl_system.specs.Tasks.{task_of};
 ghost use Rattle.pddl_system.specs.Values.{task_value};
 ghost use Rattle.std.specs.Option.{option_map};
-ghost use Rattle.std.specs.Prelude.{◌≡◌, ◌⊎◌, ◌↔◌, IfErr, IfOk, IfSome, IsSome, IsTrue, None, OnOk};
-ghost use Rattle.std.specs.Prelude.{Some, false, true};
+ghost use Rattle.std.specs.Prelude.{
+  ◌≡◌,
+  ◌⊎◌,
+  ◌↔◌,
+  IfErr,
+  IfOk,
+  IfSome,
+  IsSome,
+  IsTrue,
+  None,
+  OnOk,
+  Some,
+  false,
+  true,
+};
 ghost use Rattle.task_core.specs.Tasks.{fluent_count, system_of};
 
 use crate::answers::{Limit, Refusal};

@@ -3,15 +3,20 @@
 ghost use Rattle.command_base.specs.Answers.{no_memory, refused};
 ghost use Rattle.command_base.specs.Faults.{IsQuietAt};
 ghost use Rattle.command_base.specs.Fetching.{FetchDomain, FetchesBoth, RefusesBoth};
-ghost use Rattle.command_base.specs.PddlTexts.{HoldBoth, IsFaultyDomain, IsFaultyProblem, SpellsProblemOf};
+ghost use Rattle.command_base.specs.PddlTexts.{
+  HoldBoth,
+  IsFaultyDomain,
+  IsFaultyProblem,
+  SpellsProblemOf,
+};
 ghost use Rattle.command_base.specs.Reading.{Holds, IsFile, IsRefusedFile, file_limit};
 ghost use Rattle.command_base.specs.Values.{refusal_for, refusal_of};
+ghost use Rattle.domain_read.specs.Domains.{SpellsDomain};
 ghost use Rattle.pddl_ast.specs.Fits.{FitsDomain, FitsProblem};
 ghost use Rattle.pddl_ast.specs.Values.{domain_value, problem_value};
-ghost use Rattle.pddl_system.specs.Names.{NamesAreWords};
-ghost use Rattle.domain_read.specs.Domains.{SpellsDomain};
 ghost use Rattle.pddl_domain.specs.WordNames.{HasWordNames};
 ghost use Rattle.pddl_problem.specs.WordNames.{HasWordObjects};
+ghost use Rattle.pddl_system.specs.Names.{NamesAreWords};
 ghost use Rattle.plan_io.specs.Fetches.{FailedLast, Fetches, FetchesNothing};
 ghost use Rattle.std.specs.Prelude.{◌≡◌, ◌≤◌, ◌⊎◌, [], ◌∷◌, IfErr, IfOk, List, OnOk, length, ℕ};
 

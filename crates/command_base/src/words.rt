@@ -1,7 +1,40 @@
 //! The command words.
 
-ghost use Rattle.command_base.specs.Values.{IsSaid, check_words_of, drill_kind_of, drill_words_of, ground_words_of, kind_of, plan_options_of, plan_words_of, refute_words_of, replay_words_of};
-ghost use Rattle.command_base.specs.Words.{CheckWords as AskedCheck, DrillKind as AskedProblems, DrillWords as AskedDrill, GroundWords as AskedGround, IsDrillSize, IsNodeLimit, PlanKind as AskedKind, PlanOptions as AskedOptions, PlanWords as AskedPlan, RefuteWords as AskedRefute, ReplayWords as AskedReplay, SaysCheck, SaysDrill, SaysGround, SaysOptions, SaysPlan, SaysRefute, SaysReplay, drill_word, kind_word, most_nodes};
+ghost use Rattle.command_base.specs.Values.{
+  IsSaid,
+  check_words_of,
+  drill_kind_of,
+  drill_words_of,
+  ground_words_of,
+  kind_of,
+  plan_options_of,
+  plan_words_of,
+  refute_words_of,
+  replay_words_of,
+};
+ghost use Rattle.command_base.specs.Words.{
+  CheckWords as AskedCheck,
+  DrillKind as AskedProblems,
+  DrillWords as AskedDrill,
+  GroundWords as AskedGround,
+  IsDrillSize,
+  IsNodeLimit,
+  PlanKind as AskedKind,
+  PlanOptions as AskedOptions,
+  PlanWords as AskedPlan,
+  RefuteWords as AskedRefute,
+  ReplayWords as AskedReplay,
+  SaysCheck,
+  SaysDrill,
+  SaysGround,
+  SaysOptions,
+  SaysPlan,
+  SaysRefute,
+  SaysReplay,
+  drill_word,
+  kind_word,
+  most_nodes,
+};
 ghost use Rattle.plan_rules.specs.Texts.{class_word};
 ghost use Rattle.std.specs.Prelude.{
   ◌≡◌,

@@ -26,7 +26,8 @@ use Rattle.command_base.specs.CountLines.{count_line}
 use Rattle.command_base.specs.Grounding.{GoalThen, GroundThen, has_goal_for}
 use Rattle.command_base.specs.PddlTexts.{IsFaultyDomain, IsFaultyProblem, SpellsProblemOf}
 use Rattle.plan_command.specs.PlanCommand.{ArePrintedRules}
-use Rattle.command_base.specs.Words.{Bytes, DrillKind, DrillWords, corridors, default_nodes, drill_word, of_class, roads}
+use Rattle.command_base.specs.Words.{Bytes, DrillKind, DrillWords, corridors, default_nodes}
+use Rattle.command_base.specs.Words.{drill_word, of_class, roads}
 
 -- the texts of the domain and of the problem of a size
 abbrev pub drill_domain : DrillKind → Bytes

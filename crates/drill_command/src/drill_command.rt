@@ -1,22 +1,39 @@
 //! The command `drill`.
 
+ghost use Rattle.check_command.specs.CheckCommand.{ExploreThen};
+ghost use Rattle.command_base.specs.Answers.{full, no_memory, refused};
+ghost use Rattle.command_base.specs.Following.{most_followed};
+ghost use Rattle.command_base.specs.Values.{answer_of, drill_kind_of, drill_words_of, refusal_of};
+ghost use Rattle.command_base.specs.Words.{IsDrillSize, default_nodes};
 ghost use Rattle.dd_sets.specs.Rooms.{NoRoom};
+ghost use Rattle.drill_command.specs.DrillCommand.{
+  DrillThen,
+  IsClassLine,
+  IsDrillAnswer,
+  IsDrilled,
+  IsJudgedLine,
+  IsNotFollowed,
+  IsTightDrill,
+  SpellBoth,
+  TextsThen,
+  asked_text,
+  count_lines,
+  drill_domain,
+  drill_head,
+  drill_problem,
+  no_plan_line,
+  rules_line,
+};
 ghost use Rattle.encode_task.specs.Made.{MadeOf};
 ghost use Rattle.exec_graph.specs.Graphs.{IsGraphOf};
 ghost use Rattle.exec_graph.specs.Initials.{HasTooManyInitial};
 ghost use Rattle.exec_graph.specs.Values.{plain_graph};
-ghost use Rattle.command_base.specs.Answers.{full, no_memory, refused};
-ghost use Rattle.check_command.specs.CheckCommand.{ExploreThen};
-ghost use Rattle.command_base.specs.Following.{most_followed};
-ghost use Rattle.drill_command.specs.DrillCommand.{DrillThen, IsClassLine, IsDrillAnswer, IsDrilled, IsJudgedLine, IsNotFollowed, IsTightDrill, SpellBoth, TextsThen, asked_text, count_lines, drill_domain, drill_head, drill_problem, no_plan_line, rules_line};
-ghost use Rattle.plan_command.specs.Enough.{BoundsSets, IsTightForClass};
-ghost use Rattle.plan_command.specs.FoundPlans.{IsFoundPlan, IsSearched};
-ghost use Rattle.command_base.specs.Values.{answer_of, drill_kind_of, drill_words_of, refusal_of};
-ghost use Rattle.command_base.specs.Words.{IsDrillSize, default_nodes};
 ghost use Rattle.pddl_ast.specs.Fits.{FitsDomain, FitsProblem};
 ghost use Rattle.pddl_ast.specs.Values.{domain_value, problem_value};
 ghost use Rattle.pddl_system.specs.Names.{NamesAreWords};
 ghost use Rattle.plan_check.specs.Verdicts.{IsVerdict};
+ghost use Rattle.plan_command.specs.Enough.{BoundsSets, IsTightForClass};
+ghost use Rattle.plan_command.specs.FoundPlans.{IsFoundPlan, IsSearched};
 ghost use Rattle.plan_rules.specs.Rules.{PlainPlan, PlanRule, rules_of};
 ghost use Rattle.std.specs.Prelude.{
   ◌≡◌,
@@ -36,19 +53,18 @@ ghost use Rattle.std.specs.Prelude.{
 };
 ghost use Rattle.task_core.specs.Tasks.{action_count, fluent_count, system_of};
 
-use command_base::{Limit, Refusal, Shown, Text};
 use check_command::show_verdict;
-use plan_command::find_plan;
-use command_base::push_count;
-use command_base::{check_goal, grounded};
-use command_base::{domain_in, problem_in};
-use command_base::{DEFAULT_NODES, DrillKind, DrillWords, PlanKind, class_name};
+use command_base::{
+    DEFAULT_NODES, DrillKind, DrillWords, Limit, PlanKind, Refusal, Shown, Text, check_goal,
+    class_name, domain_in, grounded, problem_in, push_count,
+};
 use dd_sets::{SetErr, no_room_is_small, no_room_is_tight, tight_is_monotone};
 use encode_task::{Enc, encode, kept_sets_bound_nodes};
 use exec_graph::{Graph, GraphErr, explore};
 use pddl_ast::{Domain, Problem};
 use pddl_system::read_names_are_words;
 use plan_check::{Verdict, judge_class};
+use plan_command::find_plan;
 use plan_rules::{Class, Plan, TablePlan};
 use plan_theory::Found;
 use std::alloc::{AllocError, Global};

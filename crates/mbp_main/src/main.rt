@@ -6,8 +6,8 @@ use command_base::{NO_MEMORY, command_words};
 use mbp_top::run;
 use plan_io::{DiskShelf, StdSink};
 use run_replay::{ChangeMonitor, Monitor, RecordWorld, StepMonitor, World};
-use std::process::ExitCode;
 use std::io;
+use std::process::ExitCode;
 
 fn main(rt: HostRuntime) -> ExitCode {
     match run_words(&rt) {

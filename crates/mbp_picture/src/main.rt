@@ -5,8 +5,8 @@
 use command_base::{NO_MEMORY, command_words};
 use picture_plan::picture;
 use plan_io::{DiskShelf, StdSink};
-use std::process::ExitCode;
 use std::io;
+use std::process::ExitCode;
 
 fn main(rt: HostRuntime) -> ExitCode {
     match picture_words(&rt) {

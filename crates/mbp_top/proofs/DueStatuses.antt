@@ -1,7 +1,7 @@
 -- From an answer and its cause to the status that is due.
-use Rattle.std.proofs.Common.{◌≡◌, ◌≢◌, ℕ, List, ◌⊎◌, inl, inr, subst, sym, ◌∙◌, ap}
+use Rattle.std.proofs.Common.{◌≡◌, ℕ, List, ◌⊎◌, inl, inr, ◌∙◌, ap}
 use Rattle.plan_io.specs.Held.{Held}
-use Rattle.command_base.specs.Answers.{Answer, refused, no_command, no_memory, full, status_of}
+use Rattle.command_base.specs.Answers.{Answer, status_of}
 use Rattle.mbp_top.specs.Causes.{HasCause}
 use Rattle.command_base.specs.Faults.{IsQuietAt, NoFault}
 use Rattle.command_base.specs.Delivery.{Seen, IsDelivered}

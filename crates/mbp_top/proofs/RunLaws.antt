@@ -1,12 +1,12 @@
 -- What follows for a run that has its cause.
-use Rattle.std.proofs.Common.{◌≡◌, ◌≢◌, ◌≤◌, ◌⊎◌, ℕ, [], None, true, inl, inr, subst, sym}
+use Rattle.std.proofs.Common.{◌≡◌, ◌≢◌, ◌≤◌, ◌⊎◌, ℕ, [], None, true}
 use Rattle.exec_graph.specs.Executions.{ReachesMoreThan}
 use Rattle.pddl_ast.specs.Trees.{DomainTree, ProblemTree}
 use Rattle.pddl_system.specs.Sizes.{first_passed}
 use Rattle.pddl_system.specs.Systems.{action_names, fluent_names, system}
 use Rattle.plan_io.specs.Held.{Held}
 use Rattle.plan_rules.specs.Rules.{PlainPlan}
-use Rattle.command_base.specs.Answers.{Answer, no_command, no_memory, refused}
+use Rattle.command_base.specs.Answers.{Answer}
 use Rattle.mbp_top.specs.Causes.{HasCause, IsAnswerOf}
 use Rattle.command_base.specs.Faults.{IsQuietAt, NoFault}
 use Rattle.command_base.specs.Following.{HasTooManyStates, most_followed}

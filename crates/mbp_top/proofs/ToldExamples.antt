@@ -40,9 +40,7 @@ coin_files = refl
 -- the words `plan strong coin-d coin-p --nodes 40`, and the command that they say
 few_said : Says (codes "plan" ∷ codes "strong" ∷ codes "coin-d" ∷ codes "coin-p" ∷ codes "--nodes" ∷ codes "40" ∷ [])
     (plan (record { kind = of_class Strong; domain = codes "coin-d"; problem = codes "coin-p"; options = record { nodes = 40 }; certified = false }))
-
 unfolding digits
-
 few_said = record {
   room = (omega arith, omega arith);
   rest = codes "--nodes" ∷ codes "40" ∷ [];
@@ -54,9 +52,7 @@ few_said = record {
 -- the words `plan strong coin-d coin-p --cert --nodes 40`, and the command that they say
 certified_said : Says (codes "plan" ∷ codes "strong" ∷ codes "coin-d" ∷ codes "coin-p" ∷ codes "--cert" ∷ codes "--nodes" ∷ codes "40" ∷ [])
     (plan (record { kind = of_class Strong; domain = codes "coin-d"; problem = codes "coin-p"; options = record { nodes = 40 }; certified = true }))
-
 unfolding digits
-
 certified_said = record {
   room = (omega arith, omega arith);
   rest = codes "--nodes" ∷ codes "40" ∷ [];
@@ -68,9 +64,7 @@ certified_said = record {
 -- the words `refute coin-d coin-p cert --nodes 40`, the command that they say, and its three files
 refute_said : Says (codes "refute" ∷ codes "coin-d" ∷ codes "coin-p" ∷ codes "cert" ∷ codes "--nodes" ∷ codes "40" ∷ [])
     (refute (record { domain = codes "coin-d"; problem = codes "coin-p"; certificate = codes "cert"; options = record { nodes = 40 } }))
-
 unfolding digits
-
 refute_said = record {
   room = (omega arith, omega arith);
   rest = codes "--nodes" ∷ codes "40" ∷ [];

@@ -11,7 +11,8 @@ use Rattle.plan_command.specs.PlanCommand.{IsPlanAnswer}
 use Rattle.refute_command.specs.RefuteCommand.{IsRefuteAnswer}
 use Rattle.replay_command.specs.ReplayCommand.{IsReplayAnswer, Tallies}
 use Rattle.command_base.specs.Frame.{HasCauseOf}
-use Rattle.command_base.specs.Words.{Bytes, Command, plan, ground, check, replay, drill, Says, refute}
+use Rattle.command_base.specs.Words.{Bytes, Command, plan, ground, check, replay, drill, Says}
+use Rattle.command_base.specs.Words.{refute}
 
 -- the answer of a command
 abbrev pub IsAnswerOf : (Bytes → Held) → (Bytes → Type 0) → Tallies → Command → Answer → Type 0

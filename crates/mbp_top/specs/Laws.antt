@@ -1,6 +1,7 @@
 -- What follows for every run that has its cause: statements of laws. `held`, `faults` and `fetched`
 -- are what the shelf tells.
-use Rattle.std.specs.Prelude.{◌≡◌, ◌≢◌, ◌<◌, ◌⊎◌, ℕ, [], ◌∷◌, ◌++◌, Contains, List, None, Option, length, slice_index_or, true}
+use Rattle.std.specs.Prelude.{◌≡◌, ◌≢◌, ◌<◌, ◌⊎◌, ℕ, [], ◌∷◌, ◌++◌, Contains, List, None, Option}
+use Rattle.std.specs.Prelude.{length, slice_index_or, true}
 use Rattle.std.specs.Io.KnownBytes.{append_known}
 use Rattle.pddl_ast.specs.Trees.{DomainTree, ProblemTree}
 use Rattle.pddl_system.specs.Sizes.{first_passed}
@@ -35,12 +36,17 @@ use Rattle.plan_command.specs.PlanCommand.{MayRunOut, no_plan_text}
 use Rattle.command_base.specs.PlanFiles.{HoldsPlan}
 use Rattle.command_base.specs.Reading.{IsFile}
 use Rattle.command_base.specs.Grounding.{for_tables, has_goal_for}
-use Rattle.refute_command.specs.RefuteCommand.{HoldsCertificate, IsTightVerdict, MayRefuteRunOut, judged_answer}
-use Rattle.replay_command.specs.ReplayCommand.{AreToldAs, HoldRun, ended_status, replay_text, trace_under}
+use Rattle.refute_command.specs.RefuteCommand.{HoldsCertificate, IsTightVerdict, MayRefuteRunOut}
+use Rattle.refute_command.specs.RefuteCommand.{judged_answer}
+use Rattle.replay_command.specs.ReplayCommand.{AreToldAs, HoldRun, ended_status, replay_text}
+use Rattle.replay_command.specs.ReplayCommand.{trace_under}
 use Rattle.mbp_top.specs.Runs.{HasRun, IsTold, IsUndisturbed, Run}
 use Rattle.command_base.specs.Frame.{FailedIn}
 use Rattle.mbp_top.specs.Told.{IsDue, MayStandIn}
-use Rattle.command_base.specs.Words.{Bytes, CheckWords, GroundWords, PlanWords, ReplayWords, SaysCheck, DrillWords, SaysDrill, SaysGround, SaysPlan, SaysReplay, Command, RefuteWords, Says, SaysRefute, default_nodes, files_of, of_class}
+use Rattle.command_base.specs.Words.{Bytes, CheckWords, GroundWords, PlanWords, ReplayWords}
+use Rattle.command_base.specs.Words.{SaysCheck, DrillWords, SaysDrill, SaysGround, SaysPlan}
+use Rattle.command_base.specs.Words.{SaysReplay, Command, RefuteWords, Says, SaysRefute}
+use Rattle.command_base.specs.Words.{default_nodes, files_of, of_class}
 
 -- of every run that has its cause
 abbrev pub OfRuns : {S : Type 0} → (S → Bytes → Held) → (S → ℕ) → (S → Bytes → S → Type 0)

@@ -7,7 +7,8 @@ use Rattle.drill_command.specs.DrillCommand.{MayDrillRunOut}
 use Rattle.plan_command.specs.PlanCommand.{MayRunOut}
 use Rattle.refute_command.specs.RefuteCommand.{MayRefuteRunOut}
 use Rattle.replay_command.specs.ReplayCommand.{Tallies}
-use Rattle.command_base.specs.Words.{Bytes, Command, DrillWords, PlanWords, Says, SaysDrill, SaysPlan, RefuteWords, SaysRefute, default_nodes, files_of}
+use Rattle.command_base.specs.Words.{Bytes, Command, DrillWords, PlanWords, Says, SaysDrill}
+use Rattle.command_base.specs.Words.{SaysPlan, RefuteWords, SaysRefute, default_nodes, files_of}
 
 -- of each file that the words name, the shelf tells its bytes, or that there is none
 abbrev pub AreFilesTold : (Bytes → Held) → List Bytes → Type 0

@@ -1,6 +1,31 @@
 //! Laws on runs: what follows wherever an answer that has its cause was delivered, as `run` says it.
 
-ghost use Rattle.mbp_top.specs.Laws.{AreAllFetched, AreQuietSinks, ComesToJudged, ComesToListing, ComesToReplay, HasStatus, IsAcceptance, IsAnswered, IsCertified, IsCutOff, IsDrillOf, IsDueAnswer, IsDueStatus, IsFullAtLimit, IsFullDrill, IsFullRefutation, IsListing, IsNo, IsQuietShelf, IsRejection, IsReplayOf, IsUnread, IsYes, OfRuns};
+ghost use Rattle.mbp_top.specs.Laws.{
+  AreAllFetched,
+  AreQuietSinks,
+  ComesToJudged,
+  ComesToListing,
+  ComesToReplay,
+  HasStatus,
+  IsAcceptance,
+  IsAnswered,
+  IsCertified,
+  IsCutOff,
+  IsDrillOf,
+  IsDueAnswer,
+  IsDueStatus,
+  IsFullAtLimit,
+  IsFullDrill,
+  IsFullRefutation,
+  IsListing,
+  IsNo,
+  IsQuietShelf,
+  IsRejection,
+  IsReplayOf,
+  IsUnread,
+  IsYes,
+  OfRuns,
+};
 
 use command_base::texts_are_read_one_way;
 use plan_certs::{accepted_certificates_mean_no_plan, printed_where_none};

@@ -1,8 +1,8 @@
 //! A run: from the words to what is written.
 
 ghost use Rattle.command_base.specs.Delivery.{seen};
-ghost use Rattle.run_replay.specs.TraceTexts.{tallies_of};
 ghost use Rattle.mbp_top.specs.Runs.{HasRun};
+ghost use Rattle.run_replay.specs.TraceTexts.{tallies_of};
 ghost use Rattle.std.specs.Prelude.{◌≡◌, All, map, string_bytes};
 
 use crate::commands::answer;

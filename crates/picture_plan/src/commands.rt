@@ -1,27 +1,22 @@
 //! From the words to the answer.
 
-ghost use Rattle.exec_graph.specs.Initials.{HasTooManyInitial};
 ghost use Rattle.command_base.specs.Answers.{no_memory, refused};
 ghost use Rattle.command_base.specs.Faults.{IsQuietAt};
+ghost use Rattle.command_base.specs.Fetching.{Stops};
 ghost use Rattle.command_base.specs.Following.{most_followed};
+ghost use Rattle.command_base.specs.Grounding.{GroundThen};
 ghost use Rattle.command_base.specs.InitialStates.{InitialThen, empty_init};
 ghost use Rattle.command_base.specs.Values.{answer_of};
+ghost use Rattle.exec_graph.specs.Initials.{HasTooManyInitial};
 ghost use Rattle.pddl_ast.specs.Fits.{FitsDomain, FitsProblem};
 ghost use Rattle.pddl_ast.specs.Values.{domain_value, problem_value};
 ghost use Rattle.pddl_system.specs.Names.{NamesAreWords};
-ghost use Rattle.picture_plan.specs.Pictures.{
-  DrawThen,
-  IsPictureAnswer,
-  IsPictured,
-  ShowsPicture,
-};
+ghost use Rattle.pddl_system.specs.Sizes.{first_passed};
+ghost use Rattle.picture_plan.specs.Fetching.{FetchesToPicture};
+ghost use Rattle.picture_plan.specs.Pictures.{DrawThen, IsPictureAnswer, IsPictured, ShowsPicture};
 ghost use Rattle.picture_plan.specs.Runs.{HasPictureCause};
 ghost use Rattle.picture_plan.specs.Values.{picture_words_of};
 ghost use Rattle.picture_plan.specs.Words.{AskNothing, PictureWords as AskedPicture, SaysPicture};
-ghost use Rattle.picture_plan.specs.Fetching.{FetchesToPicture};
-ghost use Rattle.command_base.specs.Fetching.{Stops};
-ghost use Rattle.command_base.specs.Grounding.{GroundThen};
-ghost use Rattle.pddl_system.specs.Sizes.{first_passed};
 ghost use Rattle.plan_io.specs.Fetches.{FailedLast, Fetches};
 ghost use Rattle.plan_rules.specs.Plans.{IsPlanOf};
 ghost use Rattle.plan_rules.specs.Rules.{plain_of};

@@ -24,7 +24,6 @@ use Rattle.task_core.specs.declared.classes.Class.{Class}
 use Rattle.task_core.specs.declared.classes.Class.TheVariants.{Cyclic, Strong, Weak}
 use Rattle.task_core.specs.declared.tasks.Task.{Task}
 use Rattle.plan_command.specs.Enough.{BoundsGoalSets, BoundsSets, IsTightForClass, IsTightForGoal, enough_by_sets}
-use Rattle.task_sets.specs.NodeRoom.{enough}
 use Rattle.plan_command.specs.GoalConditions.{count_of}
 use Rattle.task_sets.proofs.NodeRooms.{tight_for_sets, tight_for_live}
 

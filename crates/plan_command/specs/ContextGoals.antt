@@ -1,7 +1,8 @@
 -- Goals in computation tree logic that plans with contexts are looked for (Pistore, Traverso 2001:
 -- extended goals): chains of stages, each to be met at last, one after another, with or without a
 -- guard until it is met, and then a condition to keep; and patrols, visits to be made again and again.
-use Rattle.std.specs.Prelude.{◌≡◌, ◌<◌, ◌≤◌, ◌⊎◌, ℕ, false, length, Option, None, Some, codes, nat_le, Bool}
+use Rattle.std.specs.Prelude.{◌≡◌, ◌<◌, ◌≤◌, ◌⊎◌, ℕ, false, length, Option, None, Some, codes}
+use Rattle.std.specs.Prelude.{nat_le, Bool}
 use Rattle.std.specs.Option.{option_and_then, option_map_or}
 use Rattle.ctl_syntax.specs.ContextGoals.{PlainGoal, plain_goal, plain_patrol, plain_until}
 use Rattle.pddl_ast.specs.Trees.{FormulaTree, ProblemTree}

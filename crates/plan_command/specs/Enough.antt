@@ -19,7 +19,7 @@ use Rattle.plan_command.specs.ContextGoals.{stage_count}
 use Rattle.plan_command.specs.GoalConditions.{IsGoalOf, count_of}
 use Rattle.command_base.specs.Grounded.{IsTaskOf}
 use Rattle.command_base.specs.Words.{PlanKind, of_class, with_contexts}
-use Rattle.task_sets.specs.NodeRoom.{enough, IsTightLimit}
+use Rattle.task_sets.specs.NodeRoom.{IsTightLimit}
 
 -- nodes that are enough where each set that the search makes has at most w of them, the constants
 -- included, however many fluents there are: those of the sets that are kept for the task, of the

@@ -1,5 +1,6 @@
 -- Private: what is known of what a search for a plan with contexts of a task found.
-use Rattle.std.specs.Prelude.{◌≡◌, ◌≢◌, ◌↔◌, ◌⊎◌, ⊤, ℕ, List, [], Option, Some, None, Result, Ok, Err}
+use Rattle.std.specs.Prelude.{◌≡◌, ◌≢◌, ◌↔◌, ◌⊎◌, ⊤, ℕ, List, [], Option, Some, None, Result, Ok}
+use Rattle.std.specs.Prelude.{Err}
 use Rattle.ctl_syntax.specs.ContextGoals.{PlainGoal}
 use Rattle.ctl_syntax.specs.declared.context_goals.ContextGoal.{ContextGoal}
 use Rattle.dd_sets.specs.declared.errors.SetErr.{SetErr}
@@ -14,12 +15,15 @@ use Rattle.plan_rules.specs.Rules.{ContextRule, automaton, context_rules_of}
 use Rattle.plan_rules.specs.Texts.{automaton_text}
 use Rattle.plan_rules.specs.declared.rules.AutoPlan.{AutoPlan}
 use Rattle.task_core.specs.ContextPlans.{Configuration, ContextPlan}
-use Rattle.task_core.specs.Tasks.{action_count, action_names, fluent_count, fluent_names, initial_states, system_of}
+use Rattle.task_core.specs.Tasks.{action_count, action_names, fluent_count, fluent_names}
+use Rattle.task_core.specs.Tasks.{initial_states, system_of}
 use Rattle.task_core.specs.declared.tasks.Task.{Task}
 use Rattle.command_base.specs.Answers.{Answer, affirmed, denied}
 use Rattle.plan_command.specs.ContextGoals.{context_goal, most_parts, part_count, part_limit}
-use Rattle.plan_command.specs.GoalConditions.{HasSomeVisit, IsGoalOf, count_of, limit_of_goal, most_of, sets_of_goal}
-use Rattle.plan_command.specs.GoalSets.{GoalSets, HasNoGoalPlan, HasSets, IsGoalPlan, contexts_for, goal_sets, rules_for}
+use Rattle.plan_command.specs.GoalConditions.{HasSomeVisit, IsGoalOf, count_of, limit_of_goal}
+use Rattle.plan_command.specs.GoalConditions.{most_of, sets_of_goal}
+use Rattle.plan_command.specs.GoalSets.{GoalSets, HasNoGoalPlan, HasSets, IsGoalPlan, contexts_for}
+use Rattle.plan_command.specs.GoalSets.{goal_sets, rules_for}
 use Rattle.plan_command.specs.PlanCommand.{no_plan_text}
 use Rattle.plan_meets.specs.TemporalGoals.{HasGoal}
 use Rattle.command_base.specs.Words.{Bytes}

@@ -1,5 +1,6 @@
 -- Private: what is known of what a search for a plan of a task found.
-use Rattle.std.specs.Prelude.{◌≡◌, ◌≢◌, ◌⊎◌, ⊤, All, Bool, true, false, List, [], Option, Some, None, Result, Ok, Err}
+use Rattle.std.specs.Prelude.{◌≡◌, ◌≢◌, ◌⊎◌, ⊤, All, Bool, true, false, List, [], Option, Some}
+use Rattle.std.specs.Prelude.{None, Result, Ok, Err}
 use Rattle.dd_sets.specs.declared.errors.SetErr.{SetErr}
 use Rattle.plan_certs.specs.Named.{IsCertificateOf, plain_of}
 use Rattle.plan_certs.specs.Printed.{IsPrinted}
@@ -24,7 +25,8 @@ use Rattle.command_base.specs.Answers.{Answer, affirmed, denied}
 use Rattle.plan_command.specs.PlanCommand.{ArePrintedRules, IsNoTableText, IsShortest}
 use Rattle.command_base.specs.Words.{Bytes}
 use Rattle.plan_command.specs.declared.class_search.Sought.{Sought}
-use Rattle.plan_command.specs.declared.class_search.Sought.TheVariants.{Certified, Missing, Table as FoundTable}
+use Rattle.plan_command.specs.declared.class_search.Sought.TheVariants.{Certified, Missing}
+use Rattle.plan_command.specs.declared.class_search.Sought.TheVariants.{Table as FoundTable}
 
 -- the plan is the one that is printed, and a solution; a weak or a strong one is a shortest
 pub record IsFoundPlan (class : Class) (task : Task) (plan : TablePlan) : Type 0 where

@@ -1,11 +1,17 @@
 //! The search for the plan of a class, or for the certificate that there is none, in two tries.
 
+ghost use Rattle.command_base.specs.Words.{IsNodeLimit};
 ghost use Rattle.dd_sets.specs.Frames.{Owns};
 ghost use Rattle.dd_sets.specs.Rooms.{NoRoom};
 ghost use Rattle.encode_task.specs.Made.{MadeOf};
 ghost use Rattle.plan_command.specs.Enough.{BoundsSets, IsTightForClass};
-ghost use Rattle.plan_command.specs.FoundPlans.{HasSolution, IsCertified, IsSearched, IsSought, IsSoughtFrom};
-ghost use Rattle.command_base.specs.Words.{IsNodeLimit};
+ghost use Rattle.plan_command.specs.FoundPlans.{
+  HasSolution,
+  IsCertified,
+  IsSearched,
+  IsSought,
+  IsSoughtFrom,
+};
 ghost use Rattle.std.specs.Prelude.{◌+◌, ◌*◌, [], IsErrOf, IsSome, false, true, ℕ};
 ghost use Rattle.task_core.specs.Tasks.{action_count, system_of};
 

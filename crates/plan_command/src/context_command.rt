@@ -1,19 +1,31 @@
 //! The command `plan ctl`.
 
+ghost use Rattle.command_base.specs.Answers.{full, no_memory, refused};
+ghost use Rattle.command_base.specs.Grounded.{IsGroundedOf, IsTaskOf};
+ghost use Rattle.command_base.specs.Values.{answer_of, kind_of, plan_words_of, shown_of};
+ghost use Rattle.command_base.specs.Words.{IsNodeLimit, with_contexts};
 ghost use Rattle.ctl_syntax.specs.GoalValues.{GoalIsAtMostDeep, GoalNamesBelow};
 ghost use Rattle.ctl_syntax.specs.Values.{IsAtMostDeep, NamesBelow, ctl_value};
-ghost use Rattle.command_base.specs.Answers.{full, no_memory, refused};
+ghost use Rattle.pddl_ast.specs.Values.{domain_value, problem_value};
+ghost use Rattle.pddl_system.specs.CtlGoals.{ctl_goal_of, goal_value};
 ghost use Rattle.plan_command.specs.Enough.{IsTightForGoal};
 ghost use Rattle.plan_command.specs.FoundGoals.{IsGoalResult, StandsForGoal};
 ghost use Rattle.plan_command.specs.GoalConditions.{IsGoalOver, sets_of_goal};
-ghost use Rattle.command_base.specs.Grounded.{IsGroundedOf, IsTaskOf};
 ghost use Rattle.plan_command.specs.PlanCommand.{MayBeTooFew, PlanThen};
-ghost use Rattle.command_base.specs.Values.{answer_of, kind_of, plan_words_of, shown_of};
-ghost use Rattle.command_base.specs.Words.{IsNodeLimit, with_contexts};
-ghost use Rattle.pddl_ast.specs.Values.{domain_value, problem_value};
-ghost use Rattle.pddl_system.specs.CtlGoals.{ctl_goal_of, goal_value};
-ghost use Rattle.std.specs.Prelude.{◌≡◌, ◌≢◌, ◌⊎◌, [], IfOk, IfSome, IsErrOf, IsSome, None, Some};
-ghost use Rattle.std.specs.Prelude.{length, ℕ};
+ghost use Rattle.std.specs.Prelude.{
+  ◌≡◌,
+  ◌≢◌,
+  ◌⊎◌,
+  [],
+  IfOk,
+  IfSome,
+  IsErrOf,
+  IsSome,
+  None,
+  Some,
+  length,
+  ℕ,
+};
 ghost use Rattle.task_core.specs.Tasks.{fluent_count, initial_states, system_of};
 
 use crate::context_goals::{most_parts, part_count, part_limit};

@@ -1,8 +1,8 @@
 //! How many stages or visits a goal has that plans with contexts are looked for, and how many it may
 //! have.
 
-ghost use Rattle.plan_command.specs.GoalConditions.{count_of, limit_of_goal, most_of};
 ghost use Rattle.command_base.specs.Values.{limit_of};
+ghost use Rattle.plan_command.specs.GoalConditions.{count_of, limit_of_goal, most_of};
 ghost use Rattle.std.specs.Prelude.{◌≡◌};
 
 use command_base::Limit;

@@ -1,15 +1,15 @@
 //! The search for the plan with contexts for a goal, in two tries.
 
+ghost use Rattle.command_base.specs.Words.{IsNodeLimit};
 ghost use Rattle.dd_sets.specs.Rooms.{NoRoom};
 ghost use Rattle.encode_task.specs.Made.{MadeOf};
+ghost use Rattle.patrol_plan.specs.Chains.{IsPatrolOver, IsUntilOver, until_sets, visit_sets};
+ghost use Rattle.patrol_plan.specs.PatrolWorkingSets.{IsWide as BoundsPatrolSets};
+ghost use Rattle.patrol_plan.specs.WorkingSets.{IsWide as BoundsUntilSets};
 ghost use Rattle.plan_command.specs.Enough.{BoundsGoalSets, IsTightForGoal};
 ghost use Rattle.plan_command.specs.FoundGoals.{IsGoalSearched, IsGoalSearchedFrom};
 ghost use Rattle.plan_command.specs.GoalConditions.{IsGoalOver, count_of, sets_of_goal};
 ghost use Rattle.plan_command.specs.GoalSets.{of_patrol, of_until};
-ghost use Rattle.command_base.specs.Words.{IsNodeLimit};
-ghost use Rattle.patrol_plan.specs.Chains.{IsPatrolOver, IsUntilOver, until_sets, visit_sets};
-ghost use Rattle.patrol_plan.specs.PatrolWorkingSets.{IsWide as BoundsPatrolSets};
-ghost use Rattle.patrol_plan.specs.WorkingSets.{IsWide as BoundsUntilSets};
 ghost use Rattle.std.specs.Prelude.{◌+◌, ◌*◌, IsErrOf, length, ℕ};
 ghost use Rattle.task_core.specs.Tasks.{action_count, fluent_count};
 

@@ -2,12 +2,7 @@
 
 ghost use Rattle.command_base.specs.Answers.{full, no_memory, refused};
 ghost use Rattle.command_base.specs.Faults.{IsQuietAt};
-ghost use Rattle.plan_command.specs.Enough.{IsTightForClass};
-ghost use Rattle.plan_command.specs.PlanCommand.{FetchesToPlan};
-ghost use Rattle.plan_command.specs.FoundPlans.{IsTableResult};
 ghost use Rattle.command_base.specs.Grounded.{IsGroundedOf, IsTaskOf};
-ghost use Rattle.plan_command.specs.PlanCommand.{IsPlanAnswer, IsPlanned, MayBeTooFew};
-ghost use Rattle.plan_command.specs.PlanCommand.{PlanThen, no_plan_text};
 ghost use Rattle.command_base.specs.Grounding.{has_goal_for};
 ghost use Rattle.command_base.specs.Values.{answer_of, bytes_of, kind_of, plan_words_of, shown_of};
 ghost use Rattle.command_base.specs.Words.{IsNodeLimit, of_class};
@@ -17,6 +12,16 @@ ghost use Rattle.pddl_system.specs.Names.{NamesAreWords};
 ghost use Rattle.plan_certs.specs.Named.{IsCertificateOf, plain_of};
 ghost use Rattle.plan_certs.specs.Readings.{SpellsPlain as SpellsCertificate};
 ghost use Rattle.plan_certs.specs.Texts.{certificate_text};
+ghost use Rattle.plan_command.specs.Enough.{IsTightForClass};
+ghost use Rattle.plan_command.specs.FoundPlans.{IsTableResult};
+ghost use Rattle.plan_command.specs.PlanCommand.{
+  FetchesToPlan,
+  IsPlanAnswer,
+  IsPlanned,
+  MayBeTooFew,
+  PlanThen,
+  no_plan_text,
+};
 ghost use Rattle.plan_io.specs.Fetches.{FailedLast};
 ghost use Rattle.plan_rules.specs.Plans.{IsPlanOf, plan_text};
 ghost use Rattle.plan_rules.specs.Readings.{SpellsPlan};

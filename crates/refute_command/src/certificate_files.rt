@@ -3,10 +3,10 @@
 ghost use Rattle.command_base.specs.Answers.{no_memory, refused};
 ghost use Rattle.command_base.specs.Faults.{IsQuietAt};
 ghost use Rattle.command_base.specs.Reading.{IsRefusedFile};
-ghost use Rattle.refute_command.specs.RefuteCommand.{HoldsCertificate, IsFaultyCertificate};
 ghost use Rattle.command_base.specs.Values.{refusal_of};
 ghost use Rattle.plan_certs.specs.Named.{IsCertificateOf, plain_of};
 ghost use Rattle.plan_io.specs.Fetches.{FailedLast};
+ghost use Rattle.refute_command.specs.RefuteCommand.{HoldsCertificate, IsFaultyCertificate};
 ghost use Rattle.std.specs.Prelude.{◌≡◌, ◌≤◌, ◌⊎◌, IfErr, IfOk, List, OnOk, ℕ};
 ghost use Rattle.task_core.specs.Tasks.{fluent_count, fluent_names};
 

@@ -1,20 +1,16 @@
 //! The command `refute`.
 
+ghost use Rattle.command_base.specs.Answers.{full, no_memory, refused};
+ghost use Rattle.command_base.specs.Faults.{IsQuietAt};
+ghost use Rattle.command_base.specs.Fetching.{Stops};
+ghost use Rattle.command_base.specs.Grounding.{GoalThen, GroundThen, for_tables, has_goal_for};
+ghost use Rattle.command_base.specs.InitialStates.{InitialThen, empty_init};
+ghost use Rattle.command_base.specs.Values.{answer_of, refute_words_of, shown_of};
+ghost use Rattle.command_base.specs.Words.{IsNodeLimit};
 ghost use Rattle.dd_nodes.specs.Subfunctions.{nodes as node_count};
 ghost use Rattle.dd_sets.specs.LiveSets.{live_sets};
 ghost use Rattle.dd_sets.specs.Rooms.{IsTightFor};
 ghost use Rattle.encode_task.specs.Made.{MadeOf};
-ghost use Rattle.command_base.specs.Answers.{full, no_memory, refused};
-ghost use Rattle.command_base.specs.Faults.{IsQuietAt};
-ghost use Rattle.refute_command.specs.RefuteFetches.{FetchesToRefute};
-ghost use Rattle.command_base.specs.Fetching.{Stops};
-ghost use Rattle.refute_command.specs.FoundVerdicts.{IsJudgedFrom, IsRefutedOrFull};
-ghost use Rattle.command_base.specs.Grounding.{GoalThen, GroundThen, for_tables, has_goal_for};
-ghost use Rattle.command_base.specs.InitialStates.{InitialThen, empty_init};
-ghost use Rattle.refute_command.specs.RefuteCommand.{IsRefuteAnswer, IsTightToJudge, ShowsJudged};
-ghost use Rattle.refute_command.specs.RefuteCommand.{judged_answer};
-ghost use Rattle.command_base.specs.Values.{answer_of, refute_words_of, shown_of};
-ghost use Rattle.command_base.specs.Words.{IsNodeLimit};
 ghost use Rattle.pddl_ast.specs.Fits.{FitsDomain, FitsProblem};
 ghost use Rattle.pddl_ast.specs.Values.{domain_value, problem_value};
 ghost use Rattle.pddl_system.specs.Names.{NamesAreWords};
@@ -22,6 +18,14 @@ ghost use Rattle.pddl_system.specs.Sizes.{first_passed};
 ghost use Rattle.plan_certs.specs.Named.{AreSetsOf, IsCertificateOf, plain_of};
 ghost use Rattle.plan_io.specs.Fetches.{FailedLast, Fetches};
 ghost use Rattle.refute_cert.specs.Sizes.{IsWide};
+ghost use Rattle.refute_command.specs.FoundVerdicts.{IsJudgedFrom, IsRefutedOrFull};
+ghost use Rattle.refute_command.specs.RefuteCommand.{
+  IsRefuteAnswer,
+  IsTightToJudge,
+  ShowsJudged,
+  judged_answer,
+};
+ghost use Rattle.refute_command.specs.RefuteFetches.{FetchesToRefute};
 ghost use Rattle.std.specs.Prelude.{
   ◌≡◌,
   ◌<◌,

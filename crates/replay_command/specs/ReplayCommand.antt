@@ -8,7 +8,8 @@ use Rattle.plan_io.specs.Held.{Held}
 use Rattle.plan_rules.specs.Rules.{PlainPlan}
 use Rattle.run_replay.specs.Records.{HasRecordFault, RecordTree, SpellsRecord}
 use Rattle.run_replay.specs.Runs.{IsStepOf, steps_value}
-use Rattle.run_replay.specs.Traces.{Ending, Terminal, Ended, Capped, Stray, Unexecutable, Trace, TraceStep, run_plan, trace_of}
+use Rattle.run_replay.specs.Traces.{Ending, Terminal, Ended, Capped, Stray, Unexecutable, Trace}
+use Rattle.run_replay.specs.Traces.{TraceStep, run_plan, trace_of}
 use Rattle.run_replay.specs.TraceTexts.{trace_text}
 use Rattle.run_replay.specs.declared.worlds.Step.{Step}
 use Rattle.sexpr_text.specs.declared.faults.FaultKind.TheVariants.{BadNumber}
@@ -16,7 +17,8 @@ use Rattle.sexpr_text.specs.declared.faults.InputFault.{InputFault}
 use Rattle.task_core.specs.Names.{Name}
 use Rattle.task_core.specs.Systems.{System}
 use Rattle.task_core.specs.Vectors.{Vector}
-use Rattle.command_base.specs.Answers.{Answer, affirmed, refused, Refusal, over_limit, text_fault, stray_outcome, unexecutable}
+use Rattle.command_base.specs.Answers.{Answer, affirmed, refused, Refusal, over_limit, text_fault}
+use Rattle.command_base.specs.Answers.{stray_outcome, unexecutable}
 use Rattle.command_base.specs.Following.{HasTooManyStates}
 use Rattle.command_base.specs.Grounding.{GroundThen}
 use Rattle.command_base.specs.InitialStates.{InitialThen, empty_init}

@@ -3,9 +3,9 @@
 ghost use Rattle.command_base.specs.Answers.{no_memory, refused};
 ghost use Rattle.command_base.specs.Faults.{IsQuietAt};
 ghost use Rattle.command_base.specs.Reading.{Holds, IsRefusedFile};
-ghost use Rattle.replay_command.specs.ReplayCommand.{IsFaultyRecord};
 ghost use Rattle.command_base.specs.Values.{refusal_of};
 ghost use Rattle.plan_io.specs.Fetches.{FailedLast};
+ghost use Rattle.replay_command.specs.ReplayCommand.{IsFaultyRecord};
 ghost use Rattle.run_replay.specs.Records.{SpellsRecord, record_value};
 ghost use Rattle.std.specs.Prelude.{◌≡◌, ◌≤◌, ◌⊎◌, IfErr, IfOk, List, OnOk, ℕ};
 

@@ -1,16 +1,13 @@
 //! The command `replay`.
 
-ghost use Rattle.exec_graph.specs.Initials.{HasTooManyInitial};
 ghost use Rattle.command_base.specs.Answers.{no_memory, refused};
 ghost use Rattle.command_base.specs.Faults.{IsQuietAt};
-ghost use Rattle.command_base.specs.Following.{most_followed};
-ghost use Rattle.replay_command.specs.RunFetches.{FetchRecord};
-ghost use Rattle.replay_command.specs.RunFetches.{FetchesToReplay};
 ghost use Rattle.command_base.specs.Fetching.{HoldsSomePlan, RefusesPlan, Stops};
+ghost use Rattle.command_base.specs.Following.{most_followed};
 ghost use Rattle.command_base.specs.Grounding.{GroundThen};
 ghost use Rattle.command_base.specs.InitialStates.{empty_init};
-ghost use Rattle.replay_command.specs.ReplayCommand.{FirstThen, IsFirstState, IsReplay, IsReplayAnswer, IsReplayed, RecordThen, ReplayThen, trace_under};
 ghost use Rattle.command_base.specs.Values.{answer_of, refusal_of, replay_words_of};
+ghost use Rattle.exec_graph.specs.Initials.{HasTooManyInitial};
 ghost use Rattle.pddl_ast.specs.Fits.{FitsDomain, FitsProblem};
 ghost use Rattle.pddl_ast.specs.Values.{domain_value, problem_value};
 ghost use Rattle.pddl_system.specs.Names.{NamesAreWords};
@@ -22,6 +19,17 @@ ghost use Rattle.pddl_system.specs.Systems.{
 ghost use Rattle.plan_io.specs.Fetches.{FailedLast, Fetches};
 ghost use Rattle.plan_rules.specs.Plans.{IsPlanOf};
 ghost use Rattle.plan_rules.specs.Rules.{plain_of};
+ghost use Rattle.replay_command.specs.ReplayCommand.{
+  FirstThen,
+  IsFirstState,
+  IsReplay,
+  IsReplayAnswer,
+  IsReplayed,
+  RecordThen,
+  ReplayThen,
+  trace_under,
+};
+ghost use Rattle.replay_command.specs.RunFetches.{FetchRecord, FetchesToReplay};
 ghost use Rattle.run_replay.specs.Records.{record_value};
 ghost use Rattle.run_replay.specs.TraceTexts.{tallies_of};
 ghost use Rattle.std.specs.Prelude.{

@@ -1,7 +1,7 @@
 //! The sets of a task over variables in an order of their own.
 
-ghost use Rattle.encode_task.specs.Made.{MadeOf};
 ghost use Rattle.command_base.specs.Words.{IsNodeLimit};
+ghost use Rattle.encode_task.specs.Made.{MadeOf};
 ghost use Rattle.std.specs.Prelude.{IfOk};
 
 use dd_sets::{Order, SetErr};
