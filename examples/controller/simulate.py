@@ -17,15 +17,22 @@ NODE = re.compile(r'^  n(\d+) \[shape=(\w+)(?: (peripheries=2|style=dashed))? la
 STEP = re.compile(r'^  n(\d+) -> n(\d+) \[label="(.*) (\d+)"\];$')
 
 
+def pick(chance, items):
+    """One of the items. Every version of Python draws alike by random()."""
+    return items[int(chance.random() * len(items))]
+
+
 class World:
     """The states that a plan may reach, and the steps between them."""
 
     def __init__(self, picture):
-        self.initial, self.goal, self.steps = [], set(), {}
+        self.initial, self.goal, self.steps, self.states = [], set(), {}, {}
         for line in picture.splitlines():
             node, step = NODE.match(line), STEP.match(line)
             if node:
                 self.steps[int(node[1])] = {}
+                lines = re.sub(r"\\(.)", lambda escaped: "\n" if escaped[1] == "n" else escaped[1], node[4]).split("\n")
+                self.states[int(node[1])] = {line for line in lines if line.startswith("(")}
                 self.initial += [int(node[1])] if node[2] == "box" else []
                 self.goal |= {int(node[1])} if node[3] == "peripheries=2" else set()
             elif step:
@@ -33,10 +40,10 @@ class World:
 
     def run(self, chance, most):
         """The steps of a run, as pairs of an action and an outcome, and whether it ended in the goal."""
-        state, taken = chance.choice(self.initial), []
+        state, taken = pick(chance, self.initial), []
         while self.steps[state] and len(taken) < most:
-            action = chance.choice(sorted(self.steps[state]))
-            outcome = chance.choice(sorted(self.steps[state][action]))
+            action = pick(chance, sorted(self.steps[state]))
+            outcome = pick(chance, sorted(self.steps[state][action]))
             taken.append((action, outcome))
             state = self.steps[state][action][outcome]
         return taken, not self.steps[state] and state in self.goal
