@@ -8,7 +8,7 @@ use Rattle.task_core.specs.Systems.{System, IsVector, Exec, HasOutcome}
 use Rattle.task_core.proofs.Vectors.{all_vectors_length, all_vectors_has}
 use Rattle.plan_rules.specs.Rules.{PlanRule}
 use Rattle.plan_rules.specs.Denoted.{can_execute, advises, denoted_at, denoted}
-use Rattle.exec_graph.proofs.Lists.{Contains-map, Contains-map-witness, Contains-filter, Contains-filter-witness, Contains-flat_map, Contains-flat_map-witness, Contains-range_with_len, Contains-range_with_len-below, list_any-from}
+use Rattle.list_laws.proofs.Elements.{Contains-filter, Contains-filter-witness, Contains-flat_map, Contains-flat_map-witness, Contains-map, Contains-map-witness, Contains-range_with_len, Contains-range_with_len-below, list_any-from}
 
 pub can_execute-Exec : (sys : System) (s : Vector) (a : ℕ) → can_execute sys s a ≡ true → Exec sys s a
 can_execute-Exec sys s a h e = false≢true (ap (λ ts. list_any (λ (t : Vector). true) ts) (sym e) ∙ h)

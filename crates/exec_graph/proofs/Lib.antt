@@ -1,8 +1,6 @@
-pub mod PlanCubes
 pub mod Places
 pub mod Executes
 pub mod ListWrites
-pub mod Lists
 pub mod Listed
 pub mod RowFacts
 pub mod Lengths

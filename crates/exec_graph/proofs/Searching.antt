@@ -17,13 +17,13 @@ use Rattle.exec_graph.specs.Counting.{add_configuration, moves_from, same_config
 use Rattle.exec_graph.specs.Drafts.{HasTooMany, IsFollowed, IsNumbered, IsSearched, IsVisit, PlainDraft, SomeOfFirst, in_first}
 use Rattle.exec_graph.specs.Executions.{GoesTo, IsReachedBy, IsStuckAt, IsUnexecutableAt, ReachesMoreThan}
 use Rattle.exec_graph.specs.Graphs.{IsGraphOf, PlainGraph}
-use Rattle.exec_graph.proofs.Lists.{Contains-head, Contains-cons, Contains-nil, Contains-cases, Contains-map-witness}
 use Rattle.exec_graph.proofs.Listed.{AreDifferent, All-number, Contains-number, all_added_all, all_added_differ, all_added_get, all_added_length, first_differs, get-front, number-Contains, one_number, rest_differ}
 use Rattle.exec_graph.proofs.Places.{same_configuration_equal, same_configuration_refl}
 use Rattle.exec_graph.proofs.Reaching.{goes_to_state, reached_first, reached_keeps, reached_next}
 use Rattle.exec_graph.specs.Rows.{edges_of, sources}
 use Rattle.exec_graph.proofs.RowFacts.{source_from, source_means, sources_once}
 use Rattle.exec_graph.proofs.RuleMoves.{goes_next, lost_means, next_differ, next_goes, refused_means}
+use Rattle.list_laws.proofs.Elements.{Contains-cases, Contains-cons, Contains-head, Contains-map-witness, Contains-nil}
 
 -- `same_configuration` decides whether two configurations are the same
 same_decides : (x y : Configuration) → Decides (same_configuration x y) (x ≡ y)

@@ -36,11 +36,6 @@ pub list_all-same : {X : Type 0} (p q : X → Bool) → ((x : X) → p x ≡ q x
 list_all-same p q same [] = refl
 list_all-same p q same (x ∷ xs) = ap (λ b. b && list_all p xs) (same x) ∙ ap (λ b. q x && b) (list_all-same p q same xs)
 
--- some element of an image
-pub list_any-map : {X Y : Type 0} (p : Y → Bool) (f : X → Y) (xs : List X) → list_any p (map f xs) ≡ list_any (λ x. p (f x)) xs
-list_any-map p f [] = refl
-list_any-map p f (x ∷ xs) = ap (λ b. p (f x) || b) (list_any-map p f xs)
-
 -- a part of a test that doesn't look at the element
 or_around : (a b c d : Bool) → (a || b || (c || d || b)) ≡ (a || (c || d) || b)
 or_around true b c d = refl
@@ -130,11 +125,3 @@ zip_all f g p (x ∷ xs) (y ∷ ys) passes h =
     let head : f x ≡ g y = cc in
     let tail : map f xs ≡ map g ys = cc in
     and_from (p x) (list_all p xs) (passes x y (inl refl) head) (zip_all f g p xs ys (λ z w k e. passes z w (inr k) e) tail)
-
--- a list by its places
-pub map-range : {X Y : Type 0} (f : ℕ → Y) (g : X → Y) (xs : List X) (a : ℕ) → ((k : ℕ) (x : X) → slice_get xs k ≡ Some x → f (a + k) ≡ g x) → map f (range_with_len a (length xs)) ≡ map g xs
-map-range f g [] a same = refl
-map-range f g (x ∷ xs) a same =
-    let here : f a ≡ g x = ap f (omega arith) ∙ same 0 x refl in
-    let rest = map-range f g xs (a + 1) (λ k y e. ap f (omega arith) ∙ same (suc k) y e) in
-    ap (λ w. w ∷ map f (range_with_len (a + 1) (length xs))) here ∙ ap (λ ws. g x ∷ ws) rest

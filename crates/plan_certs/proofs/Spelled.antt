@@ -84,7 +84,7 @@ sets-when : (b : Bool) (flaws others : List Flaw) → b ≡ true → flaws ≡ [
 sets-when true flaws others e h = h
 sets-when false flaws others e h = absurd (let none : ⊥ = cc in none)
 
-abbrev sets_of : Class → List CubeSet → PlainCertificate
+abbrev pub sets_of : Class → List CubeSet → PlainCertificate
 sets_of class sets = record { class = class; sets = sets }
 
 -- the row of a certificate's list after the word `certificate`

@@ -32,23 +32,11 @@ use Rattle.plan_certs.specs.Readings.{HasCertificateFault, SpellsCertificateAt, 
 use Rattle.plan_certs.specs.declared.certificates.CertificateRead.{CertificateRead}
 use Rattle.plan_certs.proofs.CubeForms.{cube-in_task}
 use Rattle.plan_certs.proofs.InOrder.{text_flaws-in_order}
-
-nil-first : (xs ys : List Flaw) → xs ++ ys ≡ [] → xs ≡ []
-nil-first [] ys e = refl
-nil-first (x ∷ xs) ys e = cc
-
-nil-second : (xs ys : List Flaw) → xs ++ ys ≡ [] → ys ≡ []
-nil-second [] ys e = e
-nil-second (x ∷ xs) ys e = cc
+use Rattle.list_laws.proofs.Options.{nil-first, nil-second, in_option}
+use Rattle.plan_rules.proofs.InTask.{a_flaw}
+use Rattle.plan_certs.proofs.Spelled.{sets_of}
 
 -- what is read where there are no flaws, along an option
-in_option : {X Y : Type 0} (P : Y → Type 0) (f : X → List Flaw) (g : X → Y) (d : List Flaw) (e : Y) (o : Option X)
-    → ((x : X) → f x ≡ [] → P (g x)) → (d ≡ [] → P e) → option_map_or f o d ≡ [] → P (option_map_or g o e)
-in_option P f g d e None each none h = none h
-in_option P f g d e (Some x) each none h = each x h
-
-a_flaw : {P : Type 0} (f : Flaw) → f ∷ [] ≡ [] → P
-a_flaw f e = absurd (let none : ⊥ = cc in none)
 
 in_groups : {X : Type 0} (P : X → Type 0) (flaws : Span → Forest → List Flaw) (tree : Forest → X)
     → ((span : Span) (parts : Forest) → flaws span parts ≡ [] → P (tree parts)) → (row : Forest) → flaws_of_groups flaws row ≡ [] → All P (each_group tree row)
@@ -84,9 +72,6 @@ number flaws tree class row none enough = by_class class row none enough
     by_class Cyclic nothing none enough = absurd (let none : ⊥ = cc in none)
     by_class Cyclic (word span text rest) none enough = absurd (let none : ⊥ = cc in none)
     by_class Cyclic (group span parts rest) none enough = omega arith
-
-abbrev sets_of : Class → List CubeSet → PlainCertificate
-sets_of class sets = record { class = class; sets = sets }
 
 sets : (fluents : List Name) (span : Span) (class : Class) (row : Forest) → sets_flaws fluents span class row ≡ [] → IsPlainCertificateOf (length fluents) (sets_of class (each_group (set_tree fluents) row))
 sets fluents span class row h = by_test (has_sets class row) refl h

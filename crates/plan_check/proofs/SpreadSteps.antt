@@ -15,7 +15,6 @@ use Rattle.exec_graph.specs.Graphs.{IsGraphOf}
 use Rattle.exec_graph.specs.Values.{followers_at, graph_size, lengths_below, plain_graph, predecessors_at}
 use Rattle.exec_graph.specs.declared.graphs.Graph.{Graph}
 use Rattle.exec_graph.specs.Rows.{Edge, edge}
-use Rattle.exec_graph.proofs.Lists.{Contains-head, Contains-cons, Contains-nil, Contains-cases, Contains-flat_map, Contains-flat_map-witness, Contains-map, Contains-map-witness, list_any-from, list_any-witness}
 use Rattle.plan_check.specs.Labels.{HasFollowers, IsLeast, in_round, is_led, mark_at}
 use Rattle.plan_check.specs.Marks.{ListsMarked, unmarked}
 use Rattle.plan_check.specs.Plain.{HasPredecessors, IsTurned}
@@ -24,8 +23,10 @@ use Rattle.plan_check.specs.Walks.{IsMarked, LeadsToMarked, StaysBelow}
 use Rattle.plan_check.specs.declared.spreading.Need.{Need}
 use Rattle.plan_check.specs.declared.spreading.Need.TheVariants.{One, Each}
 use Rattle.plan_check.proofs.LabelFacts.{and_left, and_right, and_true, decided, each_from, each_of, led_weaker, not_true, one_from, one_of, or_cases, or_left, or_right, within_more}
-use Rattle.plan_check.proofs.EdgeCounts.{edges_even, edges_most, first_once, rest_once}
+use Rattle.plan_check.proofs.EdgeCounts.{edges_even, edges_most}
 use Rattle.plan_check.proofs.MarkFacts.{closed_leads, fewer_unmarked, leads_before, marked_below, marked_cases, marked_more, marked_same}
+use Rattle.list_laws.proofs.Elements.{Contains-cases, Contains-cons, Contains-flat_map, Contains-flat_map-witness, Contains-head, Contains-map, Contains-map-witness, Contains-nil, list_any-from, list_any-witness}
+use Rattle.list_laws.proofs.Distinct.{first_once, rest_once}
 
 not_before : (xs : List ℕ) (k x : ℕ) → AllPairs (λ i j. i ≢ j) xs → k < length xs → get_or xs k 0 ≡ x → Contains (take k xs) x → ⊥
 not_before xs k x once l is c =

@@ -8,11 +8,10 @@ use Rattle.std.proofs.lemmas.Option.{none-some, slice_get_within}
 use Rattle.std.proofs.lemmas.List.FromFn.{length-map-range_with_len, get_or-map-range_with_len}
 use Rattle.exec_graph.specs.Executions.{IsReachedBy, ReachesMoreThan}
 use Rattle.exec_graph.specs.Graphs.{IsGraphOf, PlainGraph}
-use Rattle.exec_graph.proofs.Lists.{Contains-nil}
 use Rattle.plan_picture.proofs.Shown.{IsNumberedSystem}
 use Rattle.plan_rules.specs.Rules.{PlainPlan}
 use Rattle.task_core.proofs.Agreement.{ids_below_widen, holds_agree}
-use Rattle.task_core.proofs.TaskSystem.{are_numbered, is_system, length-vector, states_where_has, states_where_holds, value_of-vector}
+use Rattle.task_core.proofs.TaskSystem.{goal_states_of, are_numbered, is_system, length-vector, states_where_has, states_where_holds, value_of-vector}
 use Rattle.task_core.specs.Actions.{after, goal_within}
 use Rattle.task_core.specs.Conditions.{holds, holds_in, ids_below}
 use Rattle.task_core.specs.ContextPlans.{Configuration}
@@ -23,15 +22,13 @@ use Rattle.task_core.specs.Vectors.{Vector, value_of}
 use Rattle.task_core.specs.declared.conditions.Cond.{Cond}
 use Rattle.task_core.specs.declared.states.State.{State}
 use Rattle.task_core.specs.declared.tasks.Task.{Task}
+use Rattle.list_laws.proofs.Elements.{Contains-nil}
 
 goal_inside : (task : Task) (goal : Cond) → task.goal ≡ Some goal → ids_below (fluent_count task) goal ≡ true
 goal_inside task goal e = ap (goal_within (fluent_count task)) (sym e) ∙ task.goal_within
 
 pub goal_below : (task : Task) (goal : Cond) → task.goal ≡ Some goal → IsTrue (ids_below 256 goal)
 goal_below task goal e = ids_below_widen goal (fluent_count task) 256 task.few_fluents (goal_inside task goal e)
-
-goal_states_of : (task : Task) (goal : Cond) → task.goal ≡ Some goal → goal_states (system_of task) ≡ states_where task goal
-goal_states_of task goal e = ap (λ (o : Option Cond). unwrap_or (option_map (states_where task) o) []) e
 
 goal_value : (task : Task) (goal : Cond) (s : State) → task.goal ≡ Some goal → holds_in goal s ≡ holds goal (value_of (vector (fluent_count task) s))
 goal_value task goal s e =

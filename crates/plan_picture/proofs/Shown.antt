@@ -7,7 +7,6 @@ use Rattle.std.proofs.lemmas.Option.{none-some, same_Some, slice_get-map, slice_
 use Rattle.exec_graph.specs.Executions.{IsReachedBy}
 use Rattle.exec_graph.specs.Graphs.{IsGraphOf, PlainGraph}
 use Rattle.exec_graph.proofs.Listed.{Contains-number, number-Contains}
-use Rattle.exec_graph.proofs.Lists.{Contains-nil}
 use Rattle.task_core.specs.Vectors.{Vector}
 use Rattle.task_core.specs.Systems.{AreNumbered, IsSystem, System, goal_states}
 use Rattle.task_core.specs.ContextPlans.{Configuration, IsInitial}
@@ -18,6 +17,7 @@ use Rattle.plan_picture.specs.Pictures.{HasAction, IsBefore, IsNode, IsPictureOf
 use Rattle.plan_picture.specs.Places.{ShowEach, Shows, advised_in_table, outcomes_from, place_after, place_from, plan_steps, steps_if}
 use Rattle.plan_picture.proofs.Found.{AreDistinct, found, finds, pushed_cases}
 use Rattle.plan_picture.proofs.Stepped.{IsOutcome, leads_somewhere, none_ordered, outcome_after, outcome_at, outcomes_has, outcomes_only, outcomes_ordered, table_has, table_only, table_ordered}
+use Rattle.list_laws.proofs.Elements.{Contains-nil}
 
 -- where an outcome leads
 record IsAfter (places : List Configuration) (next : PlanNext) (t : Vector) (i : ℕ) : Type 0 where

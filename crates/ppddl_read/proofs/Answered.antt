@@ -19,37 +19,10 @@ use Rattle.ppddl_read.specs.Edits.{plain_text}
 use Rattle.ppddl_read.specs.Faults.{text_flaws}
 use Rattle.ppddl_read.specs.Plain.{definition_flaws, plain_passes, IsPlainOf, HasPlainFault}
 use Rattle.ppddl_read.proofs.Walk.{plain_spelled}
-
-gap_level : (b : List ℕ) (lo hi : ℕ) → IsGap b lo hi → depth_at b hi ≡ depth_at b lo
-gap_level b lo hi g =
-    depth_at-upto b lo hi g.ordered (λ i l u. (blank-no_open b i (g.blank i l u), blank-no_close b i (g.blank i l u)))
-
-word_level : (b : List ℕ) (s : Span) (text : List ℕ) → IsWordAt b s text → depth_at b s.end ≡ depth_at b s.start
-word_level b s text g =
-    depth_at-upto b s.start s.end (omega (arith, g.nonempty))
-    (λ i l u. (word-no_open b i (g.within i l u), word-no_close b i (g.within i l u)))
-
-le_or_lt : (x y : ℕ) → (x ≤ y) ⊎ (y < x)
-le_or_lt x y = grind arith
+use Rattle.list_laws.proofs.Numbers.{le_or_lt}
+use Rattle.sexpr_text.proofs.Shapes.{gap_level, word_level, nesting_bounded}
 
 -- no more groups stand in one another than may be open
-nesting_bounded : (b : List ℕ) (lo hi d : ℕ) (t : Forest) → HasNoFaultAt b → d ≤ depth_at b lo → d ≤ most_open → IsBetween b lo hi t → d + nesting_of t ≤ most_open
-nesting_bounded b lo hi d nothing sound at below g = omega arith
-nesting_bounded b lo hi d (word s text rest) sound at below g =
-    nesting_bounded b s.end hi d rest sound (omega (arith, gap_level b lo s.start g.0, word_level b s text g.1)) below g.2
-nesting_bounded b lo hi d (group s parts rest) sound at below g =
-    let level : depth_at b s.start ≡ depth_at b lo = gap_level b lo s.start g.0 in
-    let room : depth_at b s.start < most_open = has_room (le_or_lt most_open (depth_at b s.start)) in
-    let deeper : depth_at b s.start < depth_at b (s.start + 1) = g.1.first (s.start + 1) (omega arith) (omega (arith, g.1.nonempty)) in
-    let within : d + 1 + nesting_of parts ≤ most_open =
-    nesting_bounded b (s.start + 1) (s.end - 1) (d + 1) parts sound (omega arith) (omega arith) g.2 in
-    let after : d + nesting_of rest ≤ most_open =
-    nesting_bounded b s.end hi d rest sound (omega (arith, g.1.back)) below g.3 in
-    omega arith
-  where
-    has_room : (most_open ≤ depth_at b s.start) ⊎ (depth_at b s.start < most_open) → depth_at b s.start < most_open
-    has_room (inl full) = absurd (sound s.start TooDeep (record { opens = g.1.opened; full = full }))
-    has_room (inr w) = w
 
 some_fault : (f : Flaw) (fs : List Flaw) (passes : List (List Flaw)) → fault_of_passes ((f ∷ fs) ∷ passes) ≡ None → ⊥
 unfolding fault_of_passes first_of

@@ -17,16 +17,12 @@ use Rattle.ppddl_read.specs.Meant.{choice_head, oneof_span, empty_span}
 use Rattle.ppddl_read.proofs.Twins.{AreTwins, same_places, both_at, later_place, read_spaces}
 use Rattle.ppddl_read.proofs.Replaced.{byte_of_text, byte_after_text}
 use Rattle.ppddl_read.proofs.Mild.{blank_no_word}
+use Rattle.sexpr_text.proofs.Forests.{join-assoc}
 
 pub join-nothing : (s : Forest) → join s nothing ≡ s
 join-nothing nothing = refl
 join-nothing (word span text rest) = ap (word span text) (join-nothing rest)
 join-nothing (group span parts rest) = ap (group span parts) (join-nothing rest)
-
-pub join-assoc : (s t u : Forest) → join (join s t) u ≡ join s (join t u)
-join-assoc nothing t u = refl
-join-assoc (word span text rest) t u = ap (word span text) (join-assoc rest t u)
-join-assoc (group span parts rest) t u = ap (group span parts) (join-assoc rest t u)
 
 pub blank_is_space : (x : ℕ) → is_space (blank x) ≡ true
 blank_is_space x = by_test (x == 10)

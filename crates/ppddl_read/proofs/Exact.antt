@@ -9,27 +9,9 @@ use Rattle.std.proofs.lemmas.Nat.Gcd.{dvd_trans, dvd_of_mod-eq-zero, mod-eq-zero
 use Rattle.std.proofs.Math.Nat.{one-dvd, zero-div, div-mul_cancel, dvd-mul_left, dvd-mul_right, mul_assoc, mul_comm}
 use Rattle.ppddl_read.specs.declared.weights.Fraction.{Fraction}
 use Rattle.ppddl_read.specs.Weights.{greatest, gcd, lcm, most_under, common_with, common_of, shares}
-
-apart : (b : Bool) → b ≡ true → b ≡ false → ⊥
-apart b t f = cc
-
-and_first : (x y : Bool) → (x && y) ≡ true → x ≡ true
-and_first true y e = refl
-and_first false y e = e
-
-and_second : (x y : Bool) → (x && y) ≡ true → y ≡ true
-and_second true y e = e
-and_second false y e = cc
-
-both_true : (x y : Bool) → x ≡ true → y ≡ true → (x && y) ≡ true
-both_true true y e f = f
-both_true false y e f = e
-
-zero_test : (n : ℕ) → n ≡ 0 → (n == 0) ≡ true
-zero_test n e = grind (arith, nat_tests)
-
-is_zero : (n : ℕ) → (n == 0) ≡ true → n ≡ 0
-is_zero n e = grind (arith, nat_tests)
+use Rattle.list_laws.proofs.Booleans.{and_first, and_second, true_and_false}
+use Rattle.list_laws.proofs.Numbers.{is_zero, zero_test}
+use Rattle.std.proofs.lemmas.Bool.{and_from}
 
 -- where 1 passes, the greatest number that does passes
 greatest_passes : (p : ℕ → Bool) (n : ℕ) → p 1 ≡ true → p (greatest p (suc n)) ≡ true
@@ -37,7 +19,7 @@ greatest_passes p zero h = by_test (p 1) refl
   where
     by_test : (v : Bool) → p 1 ≡ v → p (if v then 1 else 0) ≡ true
     by_test true e = h
-    by_test false e = absurd (apart (p 1) h e)
+    by_test false e = absurd (true_and_false (p 1) h e)
 greatest_passes p (suc n) h = by_test (p (suc (suc n))) refl (greatest_passes p n h)
   where
     by_test : (v : Bool) → p (suc (suc n)) ≡ v → p (greatest p (suc n)) ≡ true → p (if v then suc (suc n) else greatest p (suc n)) ≡ true
@@ -49,7 +31,7 @@ unfolding gcd
 gcd_divides a b =
     let p : ℕ → Bool = λ d. suc a % d == 0 && b % d == 0 in
     let g : ℕ = greatest p (suc a) in
-    let one : p 1 ≡ true = both_true (suc a % 1 == 0) (b % 1 == 0) (zero_test (suc a % 1) (mod-eq-zero_of_dvd 1 (one-dvd (suc a)))) (zero_test (b % 1) (mod-eq-zero_of_dvd 1 (one-dvd b))) in
+    let one : p 1 ≡ true = and_from (suc a % 1 == 0) (b % 1 == 0) (zero_test (suc a % 1) (mod-eq-zero_of_dvd 1 (one-dvd (suc a)))) (zero_test (b % 1) (mod-eq-zero_of_dvd 1 (one-dvd b))) in
     let passes : p g ≡ true = greatest_passes p a one in (
       dvd_of_mod-eq-zero g (is_zero (suc a % g) (and_first (suc a % g == 0) (b % g == 0) passes)),
       dvd_of_mod-eq-zero g (is_zero (b % g) (and_second (suc a % g == 0) (b % g == 0) passes)),

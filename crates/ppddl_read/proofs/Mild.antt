@@ -19,6 +19,8 @@ use Rattle.ppddl_read.specs.Roles.{after_word, after_group, inner_role, is_left_
 use Rattle.ppddl_read.specs.Edits.{Edit, blank, byte_within, written, edit_to, new_text, word_edits, edits, group_edits}
 use Rattle.ppddl_read.proofs.Replaced.{all_written, all_written_append, written_outside, written_inside, byte_of_text, byte_after_text}
 use Rattle.ppddl_read.proofs.Twins.{AreTwins, word_sign}
+use Rattle.list_laws.proofs.Booleans.{and_first, and_second}
+use Rattle.std.proofs.lemmas.Bool.{cases_lt}
 
 -- a span is left alone by edits of it where the offset is outside
 pub edit_to_outside : (span : Span) (o : Option (List ℕ)) (k x : ℕ) → (k < span.start) ⊎ (span.end ≤ k) → all_written (edit_to span o) k x ≡ x
@@ -68,14 +70,6 @@ AreMild b (e ∷ es) = IsMild b e × AreMild b es
 mild_append : (b : List ℕ) (es fs : List Edit) → AreMild b es → AreMild b fs → AreMild b (es ++ fs)
 mild_append b [] fs h g = g
 mild_append b (e ∷ es) fs h g = (h.0, mild_append b es fs h.1 g)
-
-and_first : (x y : Bool) → (x && y) ≡ true → x ≡ true
-and_first true y e = refl
-and_first false y e = e
-
-and_second : (x y : Bool) → (x && y) ≡ true → y ≡ true
-and_second true y e = e
-and_second false y e = cc
 
 not_feed : (x : ℕ) → not (is_line_feed x) ≡ true → is_line_feed x ≡ false
 not_feed x h = by_test (is_line_feed x) refl h
@@ -142,9 +136,6 @@ IsPlaced e k =
     ((k < e.span.start) ⊎ (e.span.end ≤ k))
     ⊎ ((e.span.start ≤ k) × (k < e.span.end) × (k - e.span.start < length e.text))
     ⊎ ((e.span.start ≤ k) × (k < e.span.end) × (length e.text ≤ k - e.span.start))
-
-cases_lt : (x y : ℕ) → (x < y) ⊎ (y ≤ x)
-cases_lt x y = grind arith
 
 placed : (e : Edit) (k : ℕ) → IsPlaced e k
 placed e k = by_start (cases_lt k e.span.start)

@@ -12,9 +12,9 @@ use Rattle.sexpr_text.specs.Numerals.{is_numeral}
 use Rattle.sexpr_text.proofs.Digits.{number_so_far}
 use Rattle.std.proofs.Math.Nat.{mul-pos, one-le-pow, pow-le-pow_right}
 use Rattle.ppddl_read.specs.Weights.{greatest, gcd}
-
-apart : (b : Bool) → b ≡ true → b ≡ false → ⊥
-apart b t f = cc
+use Rattle.list_laws.proofs.Booleans.{and_first, and_second, true_and_false}
+use Rattle.list_laws.proofs.Numbers.{is_zero, zero_test}
+use Rattle.std.proofs.lemmas.Bool.{and_from}
 
 lt_or_eq : (g n : ℕ) → g ≤ n → (g < n) ⊎ (g ≡ n)
 lt_or_eq g n le = grind arith
@@ -24,36 +24,18 @@ greatest_step : (p : ℕ → Bool) (n g : ℕ) (b : Bool) → p (suc n) ≡ b �
 greatest_step p n g true e le good bad below = rw e (by_place (lt_or_eq g (suc n) le))
   where
     by_place : (g < suc n) ⊎ (g ≡ suc n) → suc n ≡ g
-    by_place (inl lt) = absurd (apart (p (suc n)) e (bad (suc n) lt (omega arith)))
+    by_place (inl lt) = absurd (true_and_false (p (suc n)) e (bad (suc n) lt (omega arith)))
     by_place (inr same) = sym same
 greatest_step p n g false e le good bad below = rw e (by_place (lt_or_eq g (suc n) le))
   where
     by_place : (g < suc n) ⊎ (g ≡ suc n) → greatest p n ≡ g
     by_place (inl lt) = below (omega arith)
-    by_place (inr same) = absurd (apart (p (suc n)) (subst (λ d. p d ≡ true) same good) e)
+    by_place (inr same) = absurd (true_and_false (p (suc n)) (subst (λ d. p d ≡ true) same good) e)
 
 greatest_is : (p : ℕ → Bool) (n g : ℕ) → g ≤ n → p g ≡ true → ((d : ℕ) → g < d → d ≤ n → p d ≡ false) → 0 < g → greatest p n ≡ g
 greatest_is p zero g le good bad some = omega arith
 greatest_is p (suc n) g le good bad some =
     greatest_step p n g (p (suc n)) refl le good bad (λ lower. greatest_is p n g lower good (λ d l u. bad d l (omega arith)) some)
-
-zero_is : (n : ℕ) → n ≡ 0 → (n == 0) ≡ true
-zero_is n e = grind (arith, nat_tests)
-
-is_zero : (n : ℕ) → (n == 0) ≡ true → n ≡ 0
-is_zero n e = grind (arith, nat_tests)
-
-both_true : (x y : Bool) → x ≡ true → y ≡ true → (x && y) ≡ true
-both_true true y e f = f
-both_true false y e f = e
-
-first_true : (x y : Bool) → (x && y) ≡ true → x ≡ true
-first_true true y e = refl
-first_true false y e = e
-
-second_true : (x y : Bool) → (x && y) ≡ true → y ≡ true
-second_true true y e = e
-second_true false y e = cc
 
 not_true : (x : Bool) → (x ≡ true → ⊥) → x ≡ false
 not_true true never = absurd (never refl)
@@ -64,10 +46,10 @@ pub gcd_is : (a b g : ℕ) → 0 < a → 0 < g → IsGcd a b g → gcd a b ≡ g
 unfolding gcd
 gcd_is a b g some positive h =
     greatest_is (λ d. a % d == 0 && b % d == 0) a g (le_of_dvd some h.0)
-    (both_true (a % g == 0) (b % g == 0) (zero_is (a % g) (mod-eq-zero_of_dvd g h.0)) (zero_is (b % g) (mod-eq-zero_of_dvd g h.1)))
+    (and_from (a % g == 0) (b % g == 0) (zero_test (a % g) (mod-eq-zero_of_dvd g h.0)) (zero_test (b % g) (mod-eq-zero_of_dvd g h.1)))
     (λ d l u. not_true (a % d == 0 && b % d == 0) (λ both.
-    let e : d ∣ a = dvd_of_mod-eq-zero d (is_zero (a % d) (first_true (a % d == 0) (b % d == 0) both)) in
-    let f : d ∣ b = dvd_of_mod-eq-zero d (is_zero (b % d) (second_true (a % d == 0) (b % d == 0) both)) in
+    let e : d ∣ a = dvd_of_mod-eq-zero d (is_zero (a % d) (and_first (a % d == 0) (b % d == 0) both)) in
+    let f : d ∣ b = dvd_of_mod-eq-zero d (is_zero (b % d) (and_second (a % d == 0) (b % d == 0) both)) in
     let w : d ≤ g = le_from_IsGcd a b g d h positive e f in
     omega arith))
     positive

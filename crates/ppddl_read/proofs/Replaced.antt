@@ -3,6 +3,7 @@ use Rattle.std.proofs.Common.{◌≡◌, ◌≢◌, ℕ, zero, suc, ◌+◌, ◌
 use Rattle.std.proofs.lemmas.Bool.Decides.{nat_tests}
 use Rattle.std.proofs.lemmas.List.{ext_get_or, get_or-set_same, get_or-set_other, length-set}
 use Rattle.ppddl_read.specs.Edits.{Edit, replaced, blank, byte_within, written, edited, all_edited}
+use Rattle.std.proofs.lemmas.Bool.{cases_lt}
 
 pub length-replaced : (f : ℕ → ℕ → ℕ) (k : ℕ) (xs : List ℕ) → length (replaced f k xs) ≡ length xs
 length-replaced f k [] = refl
@@ -72,9 +73,6 @@ byte_of_text text place x h = let e : nat_lt place (length text) ≡ true = grin
 
 pub byte_after_text : (text : List ℕ) (place x : ℕ) → length text ≤ place → byte_within text place x ≡ blank x
 byte_after_text text place x h = let e : nat_lt place (length text) ≡ false = grind (arith, nat_tests) in rw e refl
-
-cases_lt : (x y : ℕ) → (x < y) ⊎ (y ≤ x)
-cases_lt x y = grind arith
 
 -- one step of a loop that writes an edit, byte by byte
 pub record IsWrittenUpTo (e : Edit) (before now : List ℕ) (place : ℕ) : Type 0 where

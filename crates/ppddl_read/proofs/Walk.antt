@@ -38,10 +38,9 @@ use Rattle.ppddl_read.specs.Meant.{meant, meant_word, choice_head}
 use Rattle.ppddl_read.proofs.Replaced.{all_written, all_written_append, written_inside, byte_after_text, all_edited_at, length-all_edited}
 use Rattle.ppddl_read.proofs.Twins.{AreTwins, IsSame, IsClosed, same_places, word_sign, open_sign, close_sign, closed_before, closed_after, read_gap, read_spaces, read_word}
 use Rattle.ppddl_read.proofs.Mild.{edit_to_outside, group_outside, edits_outside, twins}
-use Rattle.ppddl_read.proofs.Choices.{join-nothing, join-assoc, blank_is_space, IsHeadAt, read_choice}
-
-contrary : (v : Bool) → v ≡ true → v ≡ false → ⊥
-contrary v t f = cc
+use Rattle.ppddl_read.proofs.Choices.{join-nothing, blank_is_space, IsHeadAt, read_choice}
+use Rattle.list_laws.proofs.Booleans.{true_and_false}
+use Rattle.sexpr_text.proofs.Forests.{join-assoc}
 
 abbrev pub is_choice : Role → Bool
 is_choice Text = false
@@ -378,7 +377,7 @@ walk (word span text rest) b c lo hi role room m ps s t g le edited headed level
     split_edits b c we re k (edited k (omega arith) (omega arith)) ∙ edits_outside rest (after_word role text) b span.end hi k (all_written we k (get_or b k 0)) g.2 (inl u) in
     let later : IsEdited b c re span.end hi = λ k l u.
     split_edits b c we re k (edited k (omega arith) u) ∙ ap (all_written re k) (edit_to_outside span (new_text role) k (get_or b k 0) (inr l)) in
-    let plain : IsHeaded (after_word role text) room rest = λ e. absurd (contrary (is_choice (after_word role text)) e (after_word_plain role text)) in
+    let plain : IsHeaded (after_word role text) room rest = λ e. absurd (true_and_false (is_choice (after_word role text)) e (after_word_plain role text)) in
     let flawless : choice_flaws room (multiple_after m role text) (after_word role text) rest ≡ [] = (append_nil (word_flaws m role span text) (choice_flaws room (multiple_after m role text) (after_word role text) rest) sound).1 in
     word_then b c ps s t hi role span text (meant (after_word role text) rest) g.1 (omega arith) here
     (λ e. ((headed e).0, (let one : 1 ≤ room = (headed e).1 in omega arith)))
@@ -410,7 +409,7 @@ walk (group span parts rest) b c lo hi role room m ps s t g le edited headed lev
     ∙ ap (all_written re k) (group_outside role span parts k (get_or b k 0) (inr l) (edits_outside parts inner b (span.start + 1) (span.end - 1) k (get_or b k 0) g.2 (inr (omega arith)))) in
     let inside : is_left_out role ≡ false → IsEdited b c (edits inner parts) span.start span.end = λ e k l u.
     here k l u ∙ ap (λ es. all_written es k (get_or b k 0)) (kept_edits role span parts e) in
-    let plain : IsHeaded (after_group role parts) room rest = λ e. absurd (contrary (is_choice (after_group role parts)) e (after_group_plain role parts)) in
+    let plain : IsHeaded (after_group role parts) room rest = λ e. absurd (true_and_false (is_choice (after_group role parts)) e (after_group_plain role parts)) in
     let flawless : choice_flaws room m (after_group role parts) rest ≡ [] = (append_nil _ _ sound).1 in
     let kept : is_left_out role ≡ false → IsSoundList room inner parts = group_sound span room m role parts rest sound in
     group_then b c ps s t hi (is_left_out role) span (edits inner parts) (meant inner parts) (meant (after_group role parts) rest) g.1 (omega arith) here (omega arith)
@@ -441,4 +440,4 @@ plain_spelled b c trees spelled deep sound is =
     let t : AreTwins b c = twins trees role b c 0 (length b) spelled.whole long each in
     found-spelling c (length b) [] (meant role trees) (omega arith) refl
     (walk trees b c 0 (length b) role most_open 1 [] nothing t spelled.whole (omega arith) (λ k l u. each k u)
-    (λ e. absurd (contrary (is_choice role) e (text_role_plain trees))) refl (omega arith) sound (is_comment_open-start b) (inl refl) (read-start c))
+    (λ e. absurd (true_and_false (is_choice role) e (text_role_plain trees))) refl (omega arith) sound (is_comment_open-start b) (inl refl) (read-start c))
