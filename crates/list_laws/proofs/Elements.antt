@@ -53,6 +53,11 @@ pub list_all-from : {X : Type 0} (p : X → Bool) (xs : List X) → ((x : X) →
 list_all-from p [] h = refl
 list_all-from p (y ∷ ys) h = and_from (p y) (list_all p ys) (h y (Contains-head y ys)) (list_all-from p ys (λ x c. h x (Contains-cons y ys x c)))
 
+-- and one element more that passes
+pub list_all-more : {X : Type 0} (p : X → Bool) (xs : List X) (x : X) → list_all p xs ≡ true → p x ≡ true → list_all p (xs ++ x ∷ []) ≡ true
+list_all-more p [] x h e = and_from (p x) true e refl
+list_all-more p (y ∷ ys) x h e = let b = and_parts (p y) (list_all p ys) h in and_from (p y) (list_all p (ys ++ x ∷ [])) b.0 (list_all-more p ys x b.1 e)
+
 -- two tests that agree at each element
 pub list_any-agree : {X : Type 0} (p q : X → Bool) (xs : List X) → ((x : X) → Contains xs x → p x ≡ q x) → list_any p xs ≡ list_any q xs
 list_any-agree p q [] h = refl
