@@ -8,6 +8,7 @@ pub mod DenotedPairs
 pub mod RuleMoves
 pub mod RuleLists
 pub mod Reaching
+pub mod Ordered
 pub mod Searching
 pub mod Listing
 pub mod Grown

@@ -74,6 +74,15 @@ reaches_more sys plan graph limit is more =
       more = omega (arith, more, long);
     }
 
+-- more than many are more than few
+pub reaches_fewer : (sys : System) (plan : PlainPlan) (few many : ℕ) → few ≤ many → ReachesMoreThan sys plan many → ReachesMoreThan sys plan few
+reaches_fewer sys plan few many le more = record {
+  places = more.places;
+  different = more.different;
+  reached = more.reached;
+  more = (let over = more.more in omega arith);
+}
+
 -- only an outcome that an action has leads anywhere
 some_led : {X : Type 0} (b : Bool) (f : Vector → Option X) (ts : List Vector) (k : ℕ) (x : X) → cond b (option_and_then f (slice_get ts k)) None ≡ Some x → k < length ts
 some_led false f ts k x e = absurd (none-some x e)

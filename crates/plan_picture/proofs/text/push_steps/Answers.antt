@@ -1,9 +1,9 @@
 use Rattle.std.proofs.Common.{append_assoc, arith}
 use Rattle.task_core.specs.Tasks.{action_names, fluent_count}
 use Rattle.plan_picture.specs.Values.{node_value}
-use Rattle.picture_text.specs.Texts.{step_lines}
-use Rattle.picture_text.proofs.Numbered.{numbered_more}
-use Rattle.picture_text.proofs.text.push_steps.Goals as goal
+use Rattle.plan_picture.specs.Texts.{step_lines}
+use Rattle.plan_picture.proofs.Numbered.{numbered_more}
+use Rattle.plan_picture.proofs.text.push_steps.Goals as goal
 
 pub loop-i-preserved : goal.loop-i-preserved
 loop-i-preserved c =

@@ -1,7 +1,7 @@
 -- What is printed of numbered elements, one element more.
 use Rattle.std.proofs.Common.{◌≡◌, ℕ, zero, suc, ◌+◌, ◌<◌, List, [], ◌∷◌, ◌++◌, map, length, get_or, take, refl, ap, sym, ◌∙◌, append_assoc, arith}
 use Rattle.std.proofs.lemmas.List.{append-nil}
-use Rattle.picture_text.specs.Texts.{numbered}
+use Rattle.plan_picture.specs.Texts.{numbered}
 
 more_from : {X Y : Type 0} (part : ℕ → Y → List ℕ) (f : X → Y) (k : ℕ) (xs : List X) (i : ℕ) (d : X) → i < length xs
     → numbered part k (map f (take (suc i) xs)) ≡ numbered part k (map f (take i xs)) ++ part (k + i) (f (get_or xs i d))

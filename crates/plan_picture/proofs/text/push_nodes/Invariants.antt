@@ -1,8 +1,8 @@
 use Rattle.std.proofs.Common.{◌≡◌, ◌++◌, map, take}
 use Rattle.task_core.specs.Tasks.{fluent_count, fluent_names}
 use Rattle.plan_picture.specs.Values.{node_value}
-use Rattle.picture_text.specs.Texts.{node_line, numbered}
-use Rattle.picture_text.proofs.text.push_nodes.Given as goal
+use Rattle.plan_picture.specs.Texts.{node_line, numbered}
+use Rattle.plan_picture.proofs.text.push_nodes.Given as goal
 
 abbrev pub invariant-loop-i : goal.invariant-loop-i
 invariant-loop-i l =

@@ -2,8 +2,8 @@ use Rattle.std.proofs.Common.{◌≡◌, ◌++◌, length, map, take}
 use Rattle.task_core.specs.Names.{name_bytes}
 use Rattle.task_core.specs.States.{vector}
 use Rattle.task_core.specs.Vectors.{value_of}
-use Rattle.picture_text.specs.Texts.{fluent_line, numbered}
-use Rattle.picture_text.proofs.text.push_fluents.Given as goal
+use Rattle.plan_picture.specs.Texts.{fluent_line, numbered}
+use Rattle.plan_picture.proofs.text.push_fluents.Given as goal
 
 abbrev pub invariant-loop-i : goal.invariant-loop-i
 invariant-loop-i l =

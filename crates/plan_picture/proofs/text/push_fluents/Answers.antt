@@ -3,9 +3,9 @@ use Rattle.task_core.specs.Names.{Name, name_bytes}
 use Rattle.task_core.specs.States.{truth, vector}
 use Rattle.task_core.specs.Vectors.{value_of}
 use Rattle.task_core.proofs.TaskSystem.{value_of-vector}
-use Rattle.picture_text.specs.Texts.{fluent_line}
-use Rattle.picture_text.proofs.Numbered.{numbered_more}
-use Rattle.picture_text.proofs.text.push_fluents.Goals as goal
+use Rattle.plan_picture.specs.Texts.{fluent_line}
+use Rattle.plan_picture.proofs.Numbered.{numbered_more}
+use Rattle.plan_picture.proofs.text.push_fluents.Goals as goal
 
 pub loop-i-preserved : goal.loop-i-preserved
 loop-i-preserved c =

@@ -1,6 +1,6 @@
 //! The text of a picture, in the DOT language.
 
-ghost use Rattle.picture_text.specs.Texts.{
+ghost use Rattle.plan_picture.specs.Texts.{
   border_words as words_of_border,
   context_line,
   fluent_line,
@@ -40,8 +40,8 @@ ghost use Rattle.task_core.specs.Names.{name_bytes};
 ghost use Rattle.task_core.specs.States.{vector};
 ghost use Rattle.task_core.specs.Tasks.{action_names, fluent_count, fluent_names};
 
+use crate::pictures::{Node, Picture, Step};
 use itoa::Buffer;
-use plan_picture::{Node, Picture, Step};
 use plan_rules::{Plan, push_name};
 use std::alloc::{AllocError, Global};
 use std::rc::RcStr;
@@ -55,7 +55,7 @@ pub fn dot_text(
     plan: &Plan,
     picture: &Picture,
 ) -> Result<Vec<u8>, AllocError>
-    requires few { length picture.now.nodes.items ≤ 400 }
+    requires few { length picture.now.nodes.items ≤ 262144 }
     ensures { IfOk result (λ text. text.items
         ≡ picture_text (fluent_names task.now) (action_names task.now) (plain_of plan.now)
         (nodes_of (fluent_count task.now) picture.now)) }
@@ -266,7 +266,7 @@ fn push_nodes(
     is_told: bool,
     nodes: &[Node],
 ) -> Result<(), AllocError>
-    requires few { length nodes.now ≤ 400 }
+    requires few { length nodes.now ≤ 262144 }
     ensures { OnOk result (out.new.items ≡ out.old.items
         ++ numbered (node_line is_told (fluent_names task.now)) 0
         (map (node_value (fluent_count task.now)) nodes.now)) }
@@ -333,7 +333,7 @@ fn push_steps(
     task: &Task,
     nodes: &[Node],
 ) -> Result<(), AllocError>
-    requires few { length nodes.now ≤ 400 }
+    requires few { length nodes.now ≤ 262144 }
     ensures { OnOk result (out.new.items ≡ out.old.items
         ++ numbered (step_lines (action_names task.now)) 0
         (map (node_value (fluent_count task.now)) nodes.now)) }

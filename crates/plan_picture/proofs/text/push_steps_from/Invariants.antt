@@ -2,8 +2,8 @@ use Rattle.std.proofs.Common.{◌≡◌, ◌++◌, map, take}
 use Rattle.std.specs.List.{flat_map}
 use Rattle.task_core.specs.Tasks.{action_names}
 use Rattle.plan_picture.specs.Values.{step_value}
-use Rattle.picture_text.specs.Texts.{step_line}
-use Rattle.picture_text.proofs.text.push_steps_from.Given as goal
+use Rattle.plan_picture.specs.Texts.{step_line}
+use Rattle.plan_picture.proofs.text.push_steps_from.Given as goal
 
 abbrev pub invariant-loop-step : goal.invariant-loop-step
 invariant-loop-step l =

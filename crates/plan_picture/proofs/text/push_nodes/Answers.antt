@@ -1,8 +1,8 @@
 use Rattle.task_core.specs.Tasks.{fluent_count, fluent_names}
 use Rattle.plan_picture.specs.Values.{node_value}
-use Rattle.picture_text.specs.Texts.{node_line}
-use Rattle.picture_text.proofs.Numbered.{pushed_more}
-use Rattle.picture_text.proofs.text.push_nodes.Goals as goal
+use Rattle.plan_picture.specs.Texts.{node_line}
+use Rattle.plan_picture.proofs.Numbered.{pushed_more}
+use Rattle.plan_picture.proofs.text.push_nodes.Goals as goal
 
 pub loop-i-preserved : goal.loop-i-preserved
 loop-i-preserved c =
