@@ -34,7 +34,7 @@ fn check_definition(forms: &[Form]) -> Result<(), ReadErr>
 }
 
 // The plain text of bytes with these forms, or the first flaw of the forms.
-fn plain_of(alloc: Global, bytes: &[u8], forms: &[Form]) -> Result<Vec<u8>, ReadErr>
+fn edited_text(alloc: Global, bytes: &[u8], forms: &[Form]) -> Result<Vec<u8>, ReadErr>
     ensures sound { IfOk result
         (λ _. plain.definition_flaws (forest_of forms.now) ++ faults.text_flaws
         (forest_of forms.now) ≡ []) }
@@ -64,7 +64,7 @@ pub fn plain(alloc: Global, bytes: &[u8]) -> Result<Vec<u8>, ReadErr>
     ensures fault { IfErr result (λ e. IfFault e (λ f. HasPlainFault bytes.now f)) }
 {
     match read_forms(alloc, bytes) {
-        Ok(forms) => plain_of(alloc, bytes, &forms),
+        Ok(forms) => edited_text(alloc, bytes, &forms),
         Err(error) => Err(error),
     }
 }

@@ -27,7 +27,7 @@ use Rattle.plan_rules.specs.Items.{Item, first_item, item_span}
 use Rattle.plan_rules.specs.Plans.{IsCubeOf}
 use Rattle.plan_rules.specs.Readings.{class_named, cube_tree}
 use Rattle.plan_certs.specs.Certificates.{CubeSet, PlainCertificate}
-use Rattle.plan_certs.specs.Named.{IsCertificateOf, IsPlainCertificateOf, IsSetOf, MayHave, plain_of}
+use Rattle.plan_certs.specs.Named.{IsCertificateOf, IsPlainCertificateOf, IsSetOf, MayHave, plain_certificate}
 use Rattle.plan_certs.specs.Readings.{HasCertificateFault, SpellsCertificateAt, certificate_flaws, certificate_list, certificate_read, certificate_tree, has_sets, no_certificate, no_list, set_flaws, set_item_flaws, set_tree, sets_flaws, text_flaws}
 use Rattle.plan_certs.specs.declared.certificates.CertificateRead.{CertificateRead}
 use Rattle.plan_certs.proofs.CubeForms.{cube-in_task}
@@ -112,19 +112,19 @@ read-in_task fluents trees p place h e = by_list (certificate_list trees) h e
 -- what the readers of forms say
 pub record IsReadFrom (fluents : List Name) (trees : Forest) (r : Result CertificateRead ReadErr) : Type 0 where
   pub sound : IfOk r (λ _. text_flaws fluents trees ≡ [])
-  pub read : IfOk r (λ x. certificate_read fluents trees ≡ Some (plain_of x.certificate, x.place))
+  pub read : IfOk r (λ x. certificate_read fluents trees ≡ Some (plain_certificate x.certificate, x.place))
   pub fault : IfErr r (λ e. IfFault e (λ f. first_listed (text_flaws fluents trees) ≡ Some f))
 
 pub whole-read : (fluents : List Name) (bytes : List ℕ) (trees : Forest) (r : Result CertificateRead ReadErr) → SpellsTrees bytes trees → IsReadFrom fluents trees r
-    → IfOk r (λ x. SpellsCertificateAt fluents bytes (plain_of x.certificate) x.place)
+    → IfOk r (λ x. SpellsCertificateAt fluents bytes (plain_certificate x.certificate) x.place)
 whole-read fluents bytes trees (Err e) s h = tt
 whole-read fluents bytes trees (Ok x) s h =
     (trees, s, ap (λ flaws. fault_of_passes (flaws ∷ [])) h.sound ∙ (passes-none [] ∙ passes-end), h.read)
 
 whole-in_task : (fluents : List Name) (trees : Forest) (r : Result CertificateRead ReadErr) → IsReadFrom fluents trees r
-    → IfOk r (λ x. IsPlainCertificateOf (length fluents) (plain_of x.certificate))
+    → IfOk r (λ x. IsPlainCertificateOf (length fluents) (plain_certificate x.certificate))
 whole-in_task fluents trees (Err e) h = tt
-whole-in_task fluents trees (Ok x) h = read-in_task fluents trees (plain_of x.certificate) x.place h.sound h.read
+whole-in_task fluents trees (Ok x) h = read-in_task fluents trees (plain_certificate x.certificate) x.place h.sound h.read
 
 pub whole-fault : (fluents : List Name) (bytes : List ℕ) (size : ℕ) (trees : Forest) (r : Result CertificateRead ReadErr) → SpellsTrees bytes trees → IsRising 0 size trees → IsReadFrom fluents trees r
     → IfErr r (λ e. IfFault e (HasCertificateFault fluents bytes))

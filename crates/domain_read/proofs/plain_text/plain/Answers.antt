@@ -4,12 +4,12 @@ use Rattle.domain_read.proofs.Ordered.{plain_answer, length_answer, fault_answer
 use Rattle.domain_read.proofs.plain_text.plain.Goals as goal
 
 pub returns-in-Ok-clause-length : goal.returns-in-Ok-clause-length
-returns-in-Ok-clause-length c = length_answer c.args.bytes.now c.deref.result.now c.plain_of.result c.plain_of.ensures.exact
+returns-in-Ok-clause-length c = length_answer c.args.bytes.now c.deref.result.now c.edited_text.result c.edited_text.ensures.exact
 
 pub returns-in-Ok-clause-plain : goal.returns-in-Ok-clause-plain
 returns-in-Ok-clause-plain c =
-    plain_answer c.args.bytes.now c.deref.result.now (length c.args.bytes.now) c.plain_of.result (rw c.deref.ensures.value c.in-Ok.ensures.forms) (rw c.deref.ensures.value c.in-Ok.ensures.formed) c.plain_of.ensures.sound c.plain_of.ensures.exact
+    plain_answer c.args.bytes.now c.deref.result.now (length c.args.bytes.now) c.edited_text.result (rw c.deref.ensures.value c.in-Ok.ensures.forms) (rw c.deref.ensures.value c.in-Ok.ensures.formed) c.edited_text.ensures.sound c.edited_text.ensures.exact
 
 pub returns-in-Ok-clause-fault : goal.returns-in-Ok-clause-fault
 returns-in-Ok-clause-fault c =
-    fault_answer c.args.bytes.now c.deref.result.now (length c.args.bytes.now) c.plain_of.result (rw c.deref.ensures.value c.in-Ok.ensures.forms) (rw c.deref.ensures.value c.in-Ok.ensures.formed) c.plain_of.ensures.fault
+    fault_answer c.args.bytes.now c.deref.result.now (length c.args.bytes.now) c.edited_text.result (rw c.deref.ensures.value c.in-Ok.ensures.forms) (rw c.deref.ensures.value c.in-Ok.ensures.formed) c.edited_text.ensures.fault
