@@ -4,7 +4,6 @@ pub mod ListWrites
 pub mod Listed
 pub mod RowFacts
 pub mod Lengths
-pub mod DenotedPairs
 pub mod RuleMoves
 pub mod RuleLists
 pub mod Reaching
