@@ -28,7 +28,6 @@ not_no No e = cc
 not_no Unknown e = refl
 not_no Yes e = refl
 
-
 -- a kept instance is appended
 pub append_kept : (action : ℕ) (objects : List ℕ) (old new : List Instance) (i : Instance) (b : Bool) → b ≡ true → new ≡ old ++ i ∷ []
     → i.action ≡ action → i.objects.items ≡ objects

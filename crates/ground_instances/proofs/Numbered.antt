@@ -9,7 +9,6 @@ use Rattle.std.proofs.Math.Seq.{drop-cons}
 use Rattle.pddl_system.specs.Objects.{bindings}
 use Rattle.pddl_system.specs.Sizes.{binding_count}
 
-
 -- pieces of one length
 length-pieces : {Y : Type 0} (f : ℕ → List Y) (m : ℕ) → ((o : ℕ) → length (f o) ≡ m) → (xs : List ℕ) → length (flat_map f xs) ≡ length xs * m
 length-pieces f m same [] = omega arith

@@ -159,7 +159,6 @@ added_next action old new all here rest whole split added before =
     ∙ ap (λ xs. map numbered old ++ map (with_number action) xs) (sym split)
     ∙ before
 
-
 totals : (action : ℕ) (xs : List Instance) (rows : List (List ℕ)) → length (map numbered xs ++ map (with_number action) rows) ≡ length xs + length rows
 totals action xs rows =
     length-append (map numbered xs) (map (with_number action) rows)

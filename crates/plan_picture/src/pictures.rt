@@ -89,12 +89,7 @@ impl From<AllocError> for PictureErr {
 /// `Initial` comes only where there are more than 262,144 vectors after some of the uncertain
 /// initial entries. Where there aren't, `Configurations` comes only where the plan may reach
 /// more configurations than `most`. Both yield to want of memory.
-pub fn picture_of(
-    alloc: Global,
-    task: &Task,
-    plan: &Plan,
-    most: u32,
-) -> Result<Picture, PictureErr>
+pub fn picture_of(alloc: Global, task: &Task, plan: &Plan, most: u32) -> Result<Picture, PictureErr>
     requires plan_of_task { IsPlanOf (fluent_count task.now) (action_count task.now) plan.now }
     requires most { most ≤ 262144 }
     ensures picture { IfOk result (λ picture.

@@ -34,4 +34,3 @@ pub turn_is : (sys : System) (rules : List ContextRule) (full : Bool) (number : 
     → turn sys (denoted_contexts rules) full number s (Some c) words ≡ turn_by sys full number s words a
 turn_is sys rules full number s c words a e =
     acting_is sys rules full number s c words (rule_at rules s c) refl ∙ ap (turn_by sys full number s words) (sym e)
-
