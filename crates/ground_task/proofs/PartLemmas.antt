@@ -1,9 +1,10 @@
 -- The parts that are built are those of the task of the domain and the problem.
-use Rattle.std.proofs.Common.{◌≡◌, ℕ, List, [], map, length, Option, None, sym, ap, subst, ◌∙◌}
+use Rattle.std.proofs.Common.{◌≡◌, true, ℕ, List, [], map, length, Option, None, sym, ap, subst, ◌∙◌}
 use Rattle.std.specs.Prelude.{Vec}
 use Rattle.std.specs.declared.alloc.Global.{Global}
 use Rattle.std.specs.Option.{option_map}
 use Rattle.std.proofs.lemmas.List.{length-map}
+use Rattle.std.specs.List.{list_all}
 use Rattle.task_core.specs.Initial as initial
 use Rattle.task_core.specs.Names.{Words, name_bytes}
 use Rattle.task_core.specs.Parts.{MakesTask}

@@ -1,6 +1,6 @@
 -- The goal states of a task, and graphs that are too large to be shown.
-use Rattle.std.proofs.Common.{◌≡◌, ◌↔◌, ℕ, ◌<◌, Bool, true, false, cond, ◌&&◌, IsTrue, List, Option, [], length, map, get_or, Some, None, slice_get, refl, sym, ap, ◌∙◌, subst, arith}
-use Rattle.std.specs.List.{Contains, range_with_len}
+use Rattle.std.proofs.Common.{◌≡◌, ◌≢◌, ◌↔◌, ℕ, ◌<◌, ◌≤◌, Bool, true, false, cond, ◌&&◌, IsTrue, List, Option, [], ◌∷◌, length, map, get_or, Some, None, slice_get, refl, sym, ap, ◌∙◌, subst, arith}
+use Rattle.std.specs.List.{AllPairs, Contains, range_with_len}
 use Rattle.std.specs.Option.{option_and_then, option_map, unwrap_or}
 use Rattle.std.proofs.lemmas.Bool.{and_from, and_parts, false≢true}
 use Rattle.std.proofs.lemmas.List.{length-map}
@@ -22,7 +22,8 @@ use Rattle.task_core.specs.Vectors.{Vector, value_of}
 use Rattle.task_core.specs.declared.conditions.Cond.{Cond}
 use Rattle.task_core.specs.declared.states.State.{State}
 use Rattle.task_core.specs.declared.tasks.Task.{Task}
-use Rattle.list_laws.proofs.Elements.{Contains-nil}
+use Rattle.list_laws.proofs.Elements.{Contains-map, Contains-nil, Contains-range_with_len}
+use Rattle.list_laws.proofs.Distinct.{Apart, Apart-few, first_once, rest_once}
 
 goal_inside : (task : Task) (goal : Cond) → task.goal ≡ Some goal → ids_below (fluent_count task) goal ≡ true
 goal_inside task goal e = ap (goal_within (fluent_count task)) (sym e) ∙ task.goal_within
@@ -73,6 +74,24 @@ reaches_more sys plan graph limit is more =
       reached = λ i d l. subst (IsReachedBy sys plan) (sym (at i d l)) (is.reached i (omega (arith, l, long)));
       more = omega (arith, more, long);
     }
+
+-- and one of few configurations: the plan reaches no more
+apart : (xs : List Configuration) → AllPairs (λ x y. x ≢ y) xs → Apart xs
+apart [] h = tt
+apart (x ∷ xs) h = (λ c. first_once x xs h c, apart xs (rest_once x xs h))
+
+pub reaches_no_more : (sys : System) (plan : PlainPlan) (graph : PlainGraph) (limit : ℕ) → IsGraphOf sys plan graph → graph.size ≤ limit → ReachesMoreThan sys plan limit → ⊥
+reaches_no_more sys plan graph limit is few more =
+    let numbers = range_with_len 0 graph.size in
+    let places = map graph.configuration numbers in
+    let long : length places ≡ graph.size = length-map-range_with_len graph.configuration 0 graph.size in
+    let there : (x : Configuration) → Contains more.places x → Contains places x =
+    λ x c.
+    let node = is.listed x (subst (IsReachedBy sys plan) c.2 (more.reached c.0 x c.1)) in
+    subst (Contains places) node.is (Contains-map graph.configuration numbers node.number (Contains-range_with_len graph.size node.number node.below)) in
+    let fewer = Apart-few more.places places (apart more.places more.different) there in
+    let over = more.more in
+    omega arith
 
 -- more than many are more than few
 pub reaches_fewer : (sys : System) (plan : PlainPlan) (few many : ℕ) → few ≤ many → ReachesMoreThan sys plan many → ReachesMoreThan sys plan few

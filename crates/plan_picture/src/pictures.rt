@@ -15,7 +15,7 @@ ghost use Rattle.plan_picture.specs.Places.{
 ghost use Rattle.plan_picture.specs.Values.{node_value, nodes_of};
 ghost use Rattle.plan_rules.specs.Plans.{IsPlanOf};
 ghost use Rattle.plan_rules.specs.Rules.{plain_of};
-ghost use Rattle.std.specs.Prelude.{◌≡◌, ◌≤◌, ◌<◌, ◌↔◌, ◌&&◌, IfOk, IsErrOf, IsTrue, length, map};
+ghost use Rattle.std.specs.Prelude.{◌≡◌, ◌≤◌, ◌<◌, ◌↔◌, ◌&&◌, IfOk, IsErrOf, IsTrue, OnOk, length, map};
 ghost use Rattle.std.specs.List.{Contains};
 ghost use Rattle.task_core.specs.Conditions.{holds_in, ids_below};
 ghost use Rattle.task_core.specs.States.{IsWithin, vector};
@@ -86,8 +86,8 @@ impl From<AllocError> for PictureErr {
 
 /// The picture of the plan in the task, with no more nodes than `most`.
 ///
-/// `Initial` comes only where there are more than 262,144 vectors after some of the uncertain
-/// initial entries. Where there aren't, `Configurations` comes only where the plan may reach
+/// `Initial` comes exactly where there are more than 262,144 vectors after some of the uncertain
+/// initial entries. Where there aren't, `Configurations` comes exactly where the plan may reach
 /// more configurations than `most`. Both yield to want of memory.
 pub fn picture_of(alloc: Global, task: &Task, plan: &Plan, most: u32) -> Result<Picture, PictureErr>
     requires plan_of_task { IsPlanOf (fluent_count task.now) (action_count task.now) plan.now }
@@ -101,6 +101,9 @@ pub fn picture_of(alloc: Global, task: &Task, plan: &Plan, most: u32) -> Result<
         → ReachesMoreThan (system_of task.now) (plain_of plan.now) most }
     ensures not_initial { IsErrOf result PictureErr.Configurations
         → HasTooManyInitial task.now 262144 → ⊥ }
+    ensures few_initial { OnOk result (HasTooManyInitial task.now 262144 → ⊥) }
+    ensures not_more { OnOk result
+        (ReachesMoreThan (system_of task.now) (plain_of plan.now) most → ⊥) }
 {
     let graph = graph_of(alloc, task, plan, most)?;
     let places = places_of(alloc, &graph)?;
@@ -148,6 +151,9 @@ fn graph_of(alloc: Global, task: &Task, plan: &Plan, most: u32) -> Result<Graph,
         → ReachesMoreThan (system_of task.now) (plain_of plan.now) most }
     ensures not_initial { IsErrOf result PictureErr.Configurations
         → HasTooManyInitial task.now 262144 → ⊥ }
+    ensures few_initial { OnOk result (HasTooManyInitial task.now 262144 → ⊥) }
+    ensures not_more { OnOk result
+        (ReachesMoreThan (system_of task.now) (plain_of plan.now) most → ⊥) }
 {
     match explore(alloc, task, plan) {
         Ok(graph) => {

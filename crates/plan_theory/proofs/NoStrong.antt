@@ -106,7 +106,6 @@ module _ (sys : System) (ok : IsSystem sys) (k : ℕ) (stable : (v : Vector) →
   cycle s t out lead back = solves.no_cycle s t back.rest out.reached (lead, back.path) back.ends
 
   walks : (fuel : ℕ) (seen : List Vector) (s : Vector) → fuel + length seen ≡ suc (2 ^ sys.fluents) → IsWalk seen s → ⊥
-  unfolding Apart
   walks zero seen s count walk =
       let few = Apart-few seen (all_vectors sys.fluents) walk.apart (λ x h. all_vectors-holds sys.fluents x (walk.states x h)) in
       let all = length-all_vectors sys.fluents in
@@ -127,7 +126,6 @@ module _ (sys : System) (ok : IsSystem sys) (k : ℕ) (stable : (v : Vector) →
       })
 
   no_strong_from : (s : Vector) → Contains sys.initial s → layer Strong sys k s ≡ false → ⊥
-  unfolding Apart
   no_strong_from s initial out =
       let start : IsOutside s = record { state = (ok.initial s initial).vector; reached = record { start = s; initial = initial; path = here sys table s }; outside = out } in
       walks (2 ^ sys.fluents) (s ∷ []) s (omega arith) (record {
@@ -153,7 +151,6 @@ module _ (sys : System) (ok : IsSystem sys) (table : Table) (solves : IsStrongSo
       (Contains-cases t (u ∷ rest) x h)
 
   never_twice : (s : Vector) (rest : List Vector) → IsReached sys table s → IsPath (Leads sys table) s rest → Apart (s ∷ rest)
-  unfolding Apart
   never_twice s [] reached path = ((λ h. Contains-nil s h), tt)
   never_twice s (t ∷ rest) reached path = (
     (λ h. let r = reach_from s t rest path.1 h in solves.no_cycle s t r.rest reached (path.0, r.path) r.ends),

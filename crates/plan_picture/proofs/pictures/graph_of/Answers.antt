@@ -1,7 +1,7 @@
 use Rattle.exec_graph.specs.Values.{plain_graph}
 use Rattle.plan_rules.specs.Rules.{plain_of}
 use Rattle.task_core.specs.Tasks.{fluent_count, system_of}
-use Rattle.plan_picture.proofs.Goals.{reaches_more}
+use Rattle.plan_picture.proofs.Goals.{reaches_fewer, reaches_more, reaches_no_more}
 use Rattle.plan_picture.proofs.pictures.graph_of.Goals as goal
 
 pub returns-then-is_large-clause-configurations : goal.returns-then-is_large-clause-configurations
