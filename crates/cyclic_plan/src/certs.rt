@@ -7,7 +7,7 @@ ghost use Rattle.dd_sets.specs.Rooms.{NoRoom};
 ghost use Rattle.dd_sets.specs.declared.slots.SetId.{SetId as SlotId};
 ghost use Rattle.encode_task.specs.Made.{MadeOf};
 ghost use Rattle.encode_task.specs.Slots.{Encoded};
-ghost use Rattle.plan_certs.specs.Named.{plain_of, set_of};
+ghost use Rattle.plan_certs.specs.Named.{plain_certificate, set_of};
 ghost use Rattle.plan_theory.specs.PairRounds.{round as round_of};
 ghost use Rattle.slot_board.specs.Board.{Left, Start};
 ghost use Rattle.task_core.specs.Cubes.{cubes_of};
@@ -183,7 +183,7 @@ pub fn cert_cyclic(alloc: Global, task: &Task, enc: &mut Enc) -> Result<Option<C
     requires made { MadeOf task.now enc.old }
     requires goal { IsSome task.now.goal }
     ensures printed { IfOk result (λ found. IfSome found (λ certificate.
-        IsPrinted Cyclic (system_of task.now) (plain_of certificate))) }
+        IsPrinted Cyclic (system_of task.now) (plain_certificate certificate))) }
     ensures no_plan { IfOk result (λ found. IfSome found (λ certificate.
         HasNoSolution Cyclic (system_of task.now))) }
     ensures plan { IfOk result (λ found. IfNone found (HasSolution (system_of task.now))) }

@@ -1,6 +1,6 @@
 -- Plans that meet a problem, and problems that none meets.
 use Rattle.std.proofs.Common.{ℕ, Bool, List, [], ◌∷◌, inl, inr, refl, subst}
-use Rattle.exec_graph.proofs.DenotedPairs.{can_execute-Exec, denoted-pair}
+use Rattle.plan_rules.proofs.DenotedPairs.{can_execute-Exec, denoted-pair}
 use Rattle.pddl_ast.specs.Trees.{DomainTree, ProblemTree}
 use Rattle.pddl_system.specs.Systems.{action_names, fluent_names, system}
 use Rattle.pddl_system.proofs.States.{they_have_a_system}
