@@ -212,7 +212,7 @@ within_more : (p : Step → Bool) (steps : List Step) (step : Step) → list_all
 within_more p steps step all is = list_all-append p steps (step ∷ []) ∙ ap (λ b. b && (p step && true)) all ∙ ap (λ b. b && true) is
 
 -- and where it leads is within a round
-along_more : (class : Class) (task : Task) (steps : List Step) (step : Step) → ((i : ℕ) → IsWithinRound class task top (after_steps class task (at_goal task) (take i steps))) → IsWithinRound class task top (after_steps class task (at_goal task) (steps ++ step ∷ []))
+along_more : {top : ℕ} (class : Class) (task : Task) (steps : List Step) (step : Step) → ((i : ℕ) → IsWithinRound class task top (after_steps class task (at_goal task) (take i steps))) → IsWithinRound class task top (after_steps class task (at_goal task) (steps ++ step ∷ []))
     → (i : ℕ) → IsWithinRound class task top (after_steps class task (at_goal task) (take i (steps ++ step ∷ [])))
 along_more {top} class task steps step along last i = ⊎_elim
     (λ (low : i < length steps + 1). subst (λ (front : List Step). IsWithinRound class task top (after_steps class task (at_goal task) front)) (sym (take-append-le i steps (step ∷ []) (omega arith))) (along i))
