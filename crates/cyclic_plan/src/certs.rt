@@ -1,7 +1,7 @@
 //! Certificates that there is no strong cyclic plan.
 
 ghost use Rattle.std.specs.Prelude.{◌≡◌, ℕ, List, suc, ◌+◌, ◌*◌, ◌++◌, [], ◌∷◌, map, length, Some};
-ghost use Rattle.std.specs.Prelude.{IsErrOf, IsSome, IfNone, IfOk, IfSome, OnOk};
+ghost use Rattle.std.specs.Prelude.{IsErrOf, IsSome, IfErr, IfNone, IfOk, IfSome, OnOk};
 ghost use Rattle.dd_sets.specs.Frames.{Owns};
 ghost use Rattle.dd_sets.specs.Rooms.{NoRoom};
 ghost use Rattle.dd_sets.specs.declared.slots.SetId.{SetId as SlotId};
@@ -104,8 +104,19 @@ fn add_set(enc: &Enc, board: &Board, sets: &mut Vec<StateSet>) -> Result<(), Set
     ensures never_full { IfErr result (λ e. e ≡ SetErr.Memory) }
 {
     let cubes = board.only_cubes(enc, NEW)?;
-    sets.push(StateSet { cubes })?;
+    push_set(sets, StateSet { cubes })?;
     Ok(())
+}
+
+/// Adds a set behind the others.
+fn push_set(sets: &mut Vec<StateSet>, set: StateSet) -> Result<(), SetErr>
+    ensures pushed { OnOk result (sets.new.items ≡ sets.old.items ++ set ∷ []) }
+    ensures never_full { IfErr result (λ e. e ≡ SetErr.Memory) }
+{
+    match sets.push(set) {
+        Ok(()) => Ok(()),
+        Err(_) => Err(SetErr::Memory),
+    }
 }
 
 /// The sets of states that the rounds lose, until one loses none.

@@ -15,4 +15,4 @@ only_cubes-requires-clause-place c =
 
 pub returns-clause-added : goal.returns-clause-added
 returns-clause-added c start r ready =
-    set_added start c.args.enc.now c.args.board.now.slots.items r c.args.sets.now.items c.push.new.self.items (record { cubes = c.in_ok-cubes.cubes }) ready c.in_ok-cubes.ensures.cubes c.in_ok-push.ensures.items
+    set_added start c.args.enc.now c.args.board.now.slots.items r c.args.sets.now.items c.push_set.new.sets.items (record { cubes = c.in_ok-cubes.cubes }) ready c.in_ok-cubes.ensures.cubes c.in_ok-push_set.ensures.pushed
