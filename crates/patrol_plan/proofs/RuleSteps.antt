@@ -48,6 +48,7 @@ pub has_beside : (start : Start) (x y : Scene) (chain : UntilSets) (i : ℕ) →
 has_beside start x y chain i h w = record {
   ready = w.ready;
   fits = h.fits;
+  covered = h.covered;
   won = record {
     wins = λ j from to v is. ap (λ (f : SetOfVectors). f v) (early (win_place j) (omega arith) (omega arith)) ∙ h.won.wins j from to v is;
     mets = λ j from less v is. ap (λ (f : SetOfVectors). f v) (early (met_place j) (omega arith) (omega arith)) ∙ h.won.mets j from less v is;

@@ -187,7 +187,7 @@ fn search_and_leave(
         return Ok(None);
     }
     leave_out(enc, board)?;
-    let cubes = board.cubes(enc, REST)?;
+    let cubes = board.only_cubes(enc, REST)?;
     Ok(Some(cubes))
 }
 

@@ -4,7 +4,7 @@ ghost use Rattle.std.specs.Prelude.{◌≡◌, ℕ, ◌+◌, ◌*◌, ◌<◌, L
 ghost use Rattle.dd_nodes.specs.Subfunctions.{nodes};
 ghost use Rattle.dd_sets.specs.Frames.{Owns};
 ghost use Rattle.dd_sets.specs.LiveSets.{live_sets};
-ghost use Rattle.dd_sets.specs.Rooms.{IsTightFor};
+ghost use Rattle.dd_sets.specs.Rooms.{IsAtLimit, IsTightFor};
 ghost use Rattle.encode_task.specs.Made.{MadeOf};
 ghost use Rattle.plan_certs.specs.Named.{AreSetsOf, plain_certificate, set_of as cubes_in};
 ghost use Rattle.encode_task.specs.TaskSets.{initial_set};
@@ -175,6 +175,7 @@ pub fn refute(
     ensures verdict { IfOk result
         (IsVerdict (system_of task.now) (plain_certificate certificate.now)) }
     ensures full { IsErrOf result SetErr.Full → IsTightFor 24 enc.old.sets }
+    ensures at_limit { IsErrOf result SetErr.Full → IsAtLimit enc.new.sets }
     ensures full_by_sets { IsErrOf result SetErr.Full → enc.old.sets.order ≡ [] → (w : ℕ)
         → IsWide w task.now (plain_certificate certificate.now) → enc.old.sets.limit
         < nodes enc.old.sets.vars (live_sets enc.old.sets) + 24 * w + 17 * (w * w * w) }
