@@ -15,7 +15,7 @@ use Rattle.plan_theory.specs.UntilChains.{SetStage, UntilSets, guarded_from, unt
 use Rattle.plan_theory.specs.LayerPlans.{is_action}
 use Rattle.plan_theory.specs.Safe.{safe_action, safe_round, safe_set}
 use Rattle.plan_theory.specs.StageSets.{near, stage_action}
-use Rattle.plan_theory.proofs.Shrinking.{same_truth}
+use Rattle.list_laws.proofs.Booleans.{same_truth}
 use Rattle.task_core.specs.Cubes.{SetOfVectors}
 use Rattle.task_core.specs.Systems.{System}
 use Rattle.task_core.specs.Tasks.{action_count, fluent_count}
