@@ -16,7 +16,7 @@ use Rattle.command_base.specs.PddlTexts.{ReadBoth}
 use Rattle.command_base.specs.PlanFiles.{IsFaultyPlan, PlacedPlan, SpellsPlaced}
 use Rattle.command_base.specs.Reading.{ReadThen}
 use Rattle.command_base.specs.Words.{Bytes}
-use Rattle.picture_text.specs.Texts.{picture_text}
+use Rattle.plan_picture.specs.Texts.{picture_text}
 use Rattle.picture_plan.specs.Words.{PictureWords}
 
 -- how many configurations a picture may show

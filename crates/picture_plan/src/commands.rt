@@ -49,9 +49,8 @@ use command_base::{
     Limit, Refusal, Shown, Text, ground_both, no_initial, read_both, read_plan_file,
 };
 use pddl_ast::{Domain, Problem};
-use picture_text::dot_text;
 use plan_io::Shelf;
-use plan_picture::{Picture, PictureErr, picture_of};
+use plan_picture::{MAX_NODES, Picture, PictureErr, dot_text, picture_of};
 use plan_rules::Plan;
 use std::alloc::Global;
 use task_core::Task;
@@ -145,7 +144,7 @@ fn drawn(
         (ShowsPicture (fluent_names task.now) (action_names task.now) (system_of task.now)
         (plain_of plan.now))) (answer_of result) }
 {
-    match picture_of(alloc, task, plan) {
+    match picture_of(alloc, task, plan, MAX_NODES) {
         Ok(picture) => {
             if is_blank(&picture) {
                 return Err(no_initial(alloc, name, problem)?);

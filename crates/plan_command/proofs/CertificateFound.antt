@@ -8,7 +8,7 @@ use Rattle.cyclic_plan.specs.Certificates.{HasSolution as HasCyclicSolution}
 use Rattle.dd_sets.specs.declared.errors.SetErr.{SetErr}
 use Rattle.plan_certs.proofs.PrintedLemmas.{printed_accepted}
 use Rattle.plan_certs.specs.Certificates.{CubeSet, PlainCertificate, some_holds}
-use Rattle.plan_certs.specs.Named.{AreSetsOf, IsCertificateOf, IsSetOf, MayHave, plain_of}
+use Rattle.plan_certs.specs.Named.{AreSetsOf, IsCertificateOf, IsSetOf, MayHave, plain_certificate}
 use Rattle.plan_certs.specs.Printed.{IsPrinted, lost_set, set_cubes}
 use Rattle.plan_certs.specs.declared.certificates.Certificate.{Certificate}
 use Rattle.plan_theory.proofs.PrintedWithin.{cubes_below}
@@ -32,21 +32,21 @@ some_sets [] v held = absurd (false≢true held)
 some_sets (set ∷ sets) v held = omega arith
 
 -- a printed certificate that there is no strong cyclic plan
-cyclic_in_task : (t : Task) (certificate : Certificate) → IsPrinted Cyclic (system_of t) (plain_of certificate) → HasNoSolution Cyclic (system_of t) → IsCertificateOf (fluent_count t) certificate
+cyclic_in_task : (t : Task) (certificate : Certificate) → IsPrinted Cyclic (system_of t) (plain_certificate certificate) → HasNoSolution Cyclic (system_of t) → IsCertificateOf (fluent_count t) certificate
 cyclic_in_task t certificate printed none =
     let sys = system_of t in
     let n = fluent_count t in
-    let accepted = printed_accepted Cyclic sys (plain_of certificate) (is_system t) printed none in
-    let some : 1 ≤ length (plain_of certificate).sets = some_sets (plain_of certificate).sets accepted.start accepted.initial.held in
+    let accepted = printed_accepted Cyclic sys (plain_certificate certificate) (is_system t) printed none in
+    let some : 1 ≤ length (plain_certificate certificate).sets = some_sets (plain_certificate certificate).sets accepted.start accepted.initial.held in
     record {
       sets = subst (λ (c : PlainCertificate). AreSetsOf n c.sets) (sym printed.2)
           (all_mapped n (λ k. set_cubes sys (lost_set sys k)) (range_with_len 0 printed.0) (λ k. cubes_below 0 n n (lost_set sys k) (omega arith)));
-      number = subst (λ (k : Class). MayHave k (length (plain_of certificate).sets)) (sym (ap (λ (c : PlainCertificate). c.class) printed.2)) some;
+      number = subst (λ (k : Class). MayHave k (length (plain_certificate certificate).sets)) (sym (ap (λ (c : PlainCertificate). c.class) printed.2)) some;
     }
 
 -- what the makers of certificates answer
 pub layers_certified : (class : Class) (t : Task) (r : Result (Option Certificate) SetErr)
-    → IfOk r (λ found. IfSome found (λ certificate. IsPrinted class (system_of t) (plain_of certificate)))
+    → IfOk r (λ found. IfSome found (λ certificate. IsPrinted class (system_of t) (plain_certificate certificate)))
     → IfOk r (λ found. IfSome found (λ certificate. IsCertificateOf (fluent_count t) certificate))
     → IfOk r (λ found. IfSome found (λ certificate. HasNoSolution class (system_of t)))
     → IfOk r (λ found. IfNone found (HasLayerSolution class (system_of t))) → IsCertified class t r
@@ -55,7 +55,7 @@ layers_certified class t (Ok None) printed in_task none some = record { rows = s
 layers_certified class t (Err e) printed in_task none some = tt
 
 pub rounds_certified : (t : Task) (r : Result (Option Certificate) SetErr)
-    → IfOk r (λ found. IfSome found (λ certificate. IsPrinted Cyclic (system_of t) (plain_of certificate)))
+    → IfOk r (λ found. IfSome found (λ certificate. IsPrinted Cyclic (system_of t) (plain_certificate certificate)))
     → IfOk r (λ found. IfSome found (λ certificate. HasNoSolution Cyclic (system_of t)))
     → IfOk r (λ found. IfNone found (HasCyclicSolution (system_of t))) → IsCertified Cyclic t r
 rounds_certified t (Ok (Some certificate)) printed none some = record { printed = printed; in_task = cyclic_in_task t certificate printed none; none = none }

@@ -16,7 +16,7 @@ use Rattle.task_core.specs.Systems.{IsSystem, System}
 use Rattle.task_core.specs.Tables.{IsTable, Table}
 use Rattle.task_core.specs.Vectors.{Vector}
 use Rattle.task_core.specs.Solutions.{HasNoSolution, IsSolution, IsStrongSolution}
-use Rattle.plan_certs.specs.Named.{plain_of}
+use Rattle.plan_certs.specs.Named.{plain_certificate}
 use Rattle.plan_certs.specs.Readings.{SpellsPlain as SpellsCertificate}
 use Rattle.plan_certs.specs.Texts.{certificate_text}
 use Rattle.plan_certs.specs.declared.certificates.Certificate.{Certificate}
@@ -121,14 +121,14 @@ shortest_strong sys K rules law is printed other s n of solves initial within =
 
 -- that there is no plan, with the certificate
 pub certificate_is_result : (class : Class) (t : Task) (certificate : Certificate) (text : Bytes) → IsFoundCertificate class t certificate
-    → SpellsCertificate (names_of_fluents t) (certificate_text (names_of_fluents t) (plain_of certificate)) (plain_of certificate)
-    → text ≡ no_plan_text ++ certificate_text (names_of_fluents t) (plain_of certificate)
+    → SpellsCertificate (names_of_fluents t) (certificate_text (names_of_fluents t) (plain_certificate certificate)) (plain_certificate certificate)
+    → text ≡ no_plan_text ++ certificate_text (names_of_fluents t) (plain_certificate certificate)
     → IsTableResult true class (system_of t) (names_of_fluents t) (names_of_actions t) (denied text)
 certificate_is_result class t certificate text found spelled is = inr (record {
   text = text;
   shown = refl;
   none = found.none;
-  written = record { certificate = plain_of certificate; printed = found.printed; spelled = spelled; written = is };
+  written = record { certificate = plain_certificate certificate; printed = found.printed; spelled = spelled; written = is };
 })
 
 -- or without it

@@ -2,7 +2,7 @@
 use Rattle.std.specs.Prelude.{◌≡◌, ◌≢◌, ◌⊎◌, ⊤, All, Bool, true, false, List, [], Option, Some}
 use Rattle.std.specs.Prelude.{None, Result, Ok, Err}
 use Rattle.dd_sets.specs.declared.errors.SetErr.{SetErr}
-use Rattle.plan_certs.specs.Named.{IsCertificateOf, plain_of}
+use Rattle.plan_certs.specs.Named.{IsCertificateOf, plain_certificate}
 use Rattle.plan_certs.specs.Printed.{IsPrinted}
 use Rattle.plan_certs.specs.declared.certificates.Certificate.{Certificate}
 use Rattle.plan_check.specs.Verdicts.{CanFollowRules}
@@ -47,7 +47,7 @@ IsSearched class task (Err e) = ⊤
 -- the certificate is the one that is printed of the class, and there is no plan
 pub record IsFoundCertificate (class : Class) (task : Task) (certificate : Certificate)
     : Type 0 where
-  pub printed : IsPrinted class (system_of task) (plain_of certificate)
+  pub printed : IsPrinted class (system_of task) (plain_certificate certificate)
   pub in_task : IsCertificateOf (fluent_count task) certificate
   pub none : HasNoSolution class (system_of task)
 

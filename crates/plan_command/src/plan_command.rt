@@ -9,7 +9,7 @@ ghost use Rattle.command_base.specs.Words.{IsNodeLimit, of_class};
 ghost use Rattle.pddl_ast.specs.Fits.{FitsDomain, FitsProblem};
 ghost use Rattle.pddl_ast.specs.Values.{domain_value, problem_value};
 ghost use Rattle.pddl_system.specs.Names.{NamesAreWords};
-ghost use Rattle.plan_certs.specs.Named.{IsCertificateOf, plain_of};
+ghost use Rattle.plan_certs.specs.Named.{IsCertificateOf, plain_certificate};
 ghost use Rattle.plan_certs.specs.Readings.{SpellsPlain as SpellsCertificate};
 ghost use Rattle.plan_certs.specs.Texts.{certificate_text};
 ghost use Rattle.plan_command.specs.Enough.{IsTightForClass};
@@ -199,10 +199,10 @@ fn plan_task(
 fn certified_text(alloc: Global, certificate: &Certificate, task: &Task) -> Result<Text, AllocError>
     requires { IsCertificateOf (fluent_count task.now) certificate.now }
     ensures text { IfOk result (λ text. bytes_of text ≡ no_plan_text
-        ++ certificate_text (fluent_names task.now) (plain_of certificate.now)) }
+        ++ certificate_text (fluent_names task.now) (plain_certificate certificate.now)) }
     ensures spells { IfOk result (λ text. SpellsCertificate (fluent_names task.now)
-        (certificate_text (fluent_names task.now) (plain_of certificate.now))
-        (plain_of certificate.now)) }
+        (certificate_text (fluent_names task.now) (plain_certificate certificate.now))
+        (plain_certificate certificate.now)) }
 {
     let written = write_cert(alloc, certificate, task)?;
     let mut text = Vec::from_slice(alloc, b"no plan\n")?;

@@ -1,6 +1,6 @@
 -- What rules denote is a table, and what a plan means meets a problem.
 use Rattle.std.proofs.Common.{ℕ, List, [], ◌∷◌, refl, subst}
-use Rattle.exec_graph.proofs.DenotedPairs.{can_execute-Exec, denoted-pair}
+use Rattle.plan_rules.proofs.DenotedPairs.{can_execute-Exec, denoted-pair}
 use Rattle.pddl_ast.specs.Trees.{DomainTree, ProblemTree}
 use Rattle.pddl_system.specs.Systems.{system}
 use Rattle.pddl_system.proofs.States.{they_have_a_system}

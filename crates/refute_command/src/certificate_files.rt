@@ -4,7 +4,7 @@ ghost use Rattle.command_base.specs.Answers.{no_memory, refused};
 ghost use Rattle.command_base.specs.Faults.{IsQuietAt};
 ghost use Rattle.command_base.specs.Reading.{IsRefusedFile};
 ghost use Rattle.command_base.specs.Values.{refusal_of};
-ghost use Rattle.plan_certs.specs.Named.{IsCertificateOf, plain_of};
+ghost use Rattle.plan_certs.specs.Named.{IsCertificateOf, plain_certificate};
 ghost use Rattle.plan_io.specs.Fetches.{FailedLast};
 ghost use Rattle.refute_command.specs.RefuteCommand.{HoldsCertificate, IsFaultyCertificate};
 ghost use Rattle.std.specs.Prelude.{◌≡◌, ◌≤◌, ◌⊎◌, IfErr, IfOk, List, OnOk, ℕ};
@@ -24,7 +24,7 @@ pub(crate) fn read_certificate_file<S: Shelf>(
     task: &Task,
 ) -> Result<CertificateRead, Refusal>
     ensures holds { IfOk result (λ read. HoldsCertificate (S.held shelf.old)
-        (fluent_names task.now) name.now (plain_of read.certificate)) }
+        (fluent_names task.now) name.now (plain_certificate read.certificate)) }
     ensures in_task { IfOk result (λ read.
         IsCertificateOf (fluent_count task.now) read.certificate) }
     ensures refused { let failed = FailedLast S.fetched S.faults shelf.old shelf.new in

@@ -15,7 +15,7 @@ ghost use Rattle.pddl_ast.specs.Fits.{FitsDomain, FitsProblem};
 ghost use Rattle.pddl_ast.specs.Values.{domain_value, problem_value};
 ghost use Rattle.pddl_system.specs.Names.{NamesAreWords};
 ghost use Rattle.pddl_system.specs.Sizes.{first_passed};
-ghost use Rattle.plan_certs.specs.Named.{AreSetsOf, IsCertificateOf, plain_of};
+ghost use Rattle.plan_certs.specs.Named.{AreSetsOf, IsCertificateOf, plain_certificate};
 ghost use Rattle.plan_io.specs.Fetches.{FailedLast, Fetches};
 ghost use Rattle.refute_cert.specs.Sizes.{IsWide};
 ghost use Rattle.refute_command.specs.FoundVerdicts.{IsJudgedFrom, IsRefutedOrFull};
@@ -125,10 +125,10 @@ fn judge_certificate(
     requires goal { IsSome task.now.goal }
     requires in_task { IsCertificateOf (fluent_count task.now) certificate.now }
     ensures { (answer_of result ≡ refused no_memory)
-        ⊎ (IsTightToJudge asked.now.options.nodes task.now (plain_of certificate.now)
+        ⊎ (IsTightToJudge asked.now.options.nodes task.now (plain_certificate certificate.now)
         × (answer_of result ≡ refused (full asked.now.options.nodes)))
         ⊎ InitialThen (empty_init asked.now.problem.now (problem_value problem.now))
-        (initial_states task.now) (ShowsJudged (system_of task.now) (plain_of certificate.now))
+        (initial_states task.now) (ShowsJudged (system_of task.now) (plain_certificate certificate.now))
         (answer_of result) }
 {
     match judge_task(alloc, asked.options.nodes, task, certificate) {
@@ -164,10 +164,10 @@ fn judge_task(
 ) -> Result<Option<Judged>, SetErr>
     requires room { IsNodeLimit nodes }
     requires goal { IsSome task.now.goal }
-    requires in_task { AreSetsOf (fluent_count task.now) (plain_of certificate.now).sets }
-    ensures judged { IsJudgedFrom task.now (plain_of certificate.now) result }
+    requires in_task { AreSetsOf (fluent_count task.now) (plain_certificate certificate.now).sets }
+    ensures judged { IsJudgedFrom task.now (plain_certificate certificate.now) result }
     ensures full { IsErrOf result SetErr.Full
-        → IsTightToJudge nodes task.now (plain_of certificate.now) }
+        → IsTightToJudge nodes task.now (plain_certificate certificate.now) }
 {
     match judge_in_order(alloc, nodes, task, certificate) {
         Ok(judged) => Ok(judged),
@@ -185,8 +185,8 @@ fn judge_in_order(
 ) -> Result<Option<Judged>, SetErr>
     requires room { IsNodeLimit nodes }
     requires goal { IsSome task.now.goal }
-    requires in_task { AreSetsOf (fluent_count task.now) (plain_of certificate.now).sets }
-    ensures judged { IsJudgedFrom task.now (plain_of certificate.now) result }
+    requires in_task { AreSetsOf (fluent_count task.now) (plain_certificate certificate.now).sets }
+    ensures judged { IsJudgedFrom task.now (plain_certificate certificate.now) result }
 {
     let mut enc = encode_ordered(alloc, task, nodes)?;
     judge_from_initial(alloc, task, &mut enc, certificate)
@@ -201,10 +201,10 @@ fn judge_plainly(
 ) -> Result<Option<Judged>, SetErr>
     requires room { IsNodeLimit nodes }
     requires goal { IsSome task.now.goal }
-    requires in_task { AreSetsOf (fluent_count task.now) (plain_of certificate.now).sets }
-    ensures judged { IsJudgedFrom task.now (plain_of certificate.now) result }
+    requires in_task { AreSetsOf (fluent_count task.now) (plain_certificate certificate.now).sets }
+    ensures judged { IsJudgedFrom task.now (plain_certificate certificate.now) result }
     ensures full { IsErrOf result SetErr.Full
-        → IsTightToJudge nodes task.now (plain_of certificate.now) }
+        → IsTightToJudge nodes task.now (plain_certificate certificate.now) }
 {
     // These do nothing: that few nodes are too few for more sets rests on what they promise.
     tight_is_monotone();
@@ -222,11 +222,11 @@ fn judge_from_initial(
 ) -> Result<Option<Judged>, SetErr>
     requires made { MadeOf task.now enc.old }
     requires goal { IsSome task.now.goal }
-    requires in_task { AreSetsOf (fluent_count task.now) (plain_of certificate.now).sets }
-    ensures judged { IsJudgedFrom task.now (plain_of certificate.now) result }
+    requires in_task { AreSetsOf (fluent_count task.now) (plain_certificate certificate.now).sets }
+    ensures judged { IsJudgedFrom task.now (plain_certificate certificate.now) result }
     ensures full { IsErrOf result SetErr.Full → IsTightFor 24 enc.old.sets }
     ensures full_by_sets { IsErrOf result SetErr.Full → enc.old.sets.order ≡ [] → (w : ℕ)
-        → IsWide w task.now (plain_of certificate.now) → enc.old.sets.limit
+        → IsWide w task.now (plain_certificate certificate.now) → enc.old.sets.limit
         < node_count enc.old.sets.vars (live_sets enc.old.sets) + 24 * w + 17 * (w * w * w) }
 {
     if has_no_initial(task, enc) {

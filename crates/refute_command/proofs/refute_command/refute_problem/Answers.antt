@@ -1,7 +1,7 @@
 use Rattle.std.proofs.Common.{inr, refl}
 use Rattle.std.proofs.lemmas.Result.{err_from_is_err_and}
 use Rattle.pddl_ast.specs.Values.{domain_value, problem_value}
-use Rattle.plan_certs.specs.Named.{plain_of}
+use Rattle.plan_certs.specs.Named.{plain_certificate}
 use Rattle.plan_io.specs.Fetches.{FailedLast}
 use Rattle.command_base.specs.Grounding.{GroundThen, for_tables}
 use Rattle.refute_command.specs.RefuteCommand.{RefuteThen}
@@ -54,7 +54,7 @@ returns-clause-answer g c =
     let domain = domain_value c.args.domain.now in
     let problem = problem_value c.args.problem.now in
     refuted_answer held failed (refute_words_of c.args.asked.now) domain problem c.in_ok-grounded.grounded.task
-    (plain_of c.in_ok-read.read.certificate) (answer_of c.judge_certificate.result)
+    (plain_certificate c.in_ok-read.read.certificate) (answer_of c.judge_certificate.result)
     c.in_ok-grounded.ensures.task c.in_ok-grounded.ensures.system c.in_ok-grounded.ensures.within c.in_ok-check_goal.ensures.goal
     c.in_ok-read.ensures.holds c.judge_certificate.ensures
 
