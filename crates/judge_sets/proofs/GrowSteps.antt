@@ -17,7 +17,7 @@ use Rattle.task_core.specs.Vectors.{all_vectors, value_of}
 use Rattle.task_core.specs.declared.literals.ActionId.{ActionId}
 use Rattle.task_core.proofs.Vectors.{all_vectors_has}
 use Rattle.plan_theory.proofs.RoundSteps.{held, holds_fewer}
-use Rattle.plan_theory.proofs.WeakLists.{map-agree}
+use Rattle.list_laws.proofs.Elements.{map-agree}
 use Rattle.board_steps.specs.Steps.{CanMakeAll, Shows, after_steps}
 use Rattle.board_steps.specs.declared.steps.Step.{Step}
 use Rattle.board_steps.specs.declared.steps.Step.TheVariants.{Combine, Lead}

@@ -25,7 +25,7 @@ use Rattle.task_core.specs.declared.conditions.Cond.{Cond}
 use Rattle.task_core.specs.declared.tasks.Task.{Task}
 use Rattle.plan_rules.specs.Plans.{IsRuleOf}
 use Rattle.plan_rules.specs.Rules.{PlanRule}
-use Rattle.plan_theory.proofs.WeakLists.{list_all-at, list_all-from}
+use Rattle.list_laws.proofs.Elements.{list_all-at, list_all-from}
 use Rattle.board_steps.specs.Steps.{CanMakeAll, Shows, after_steps}
 use Rattle.board_steps.specs.declared.steps.Step.{Step}
 use Rattle.board_steps.specs.declared.steps.Step.TheVariants.{Combine, Copy, Whole}

@@ -22,7 +22,7 @@ use Rattle.task_core.specs.Vectors.{Vector, all_vectors, value_of}
 use Rattle.task_core.specs.declared.literals.Lit.{Lit}
 use Rattle.task_core.proofs.Vectors.{all_vectors_has, all_vectors_length}
 use Rattle.plan_rules.specs.Rules.{PlanRule}
-use Rattle.plan_theory.proofs.WeakLists.{Contains-cons, Contains-head, find-None, list_any-false, list_any-witness}
+use Rattle.list_laws.proofs.Elements.{Contains-cons, Contains-head, find-None, list_any-false, list_any-witness}
 use Rattle.board_steps.specs.Steps.{CanMakeAll, Placed, Shows, after_steps, with_set}
 use Rattle.board_steps.specs.declared.steps.Step.{Step}
 use Rattle.board_steps.specs.declared.steps.Step.TheVariants.{Combine, Fluent, Kept, Whole}

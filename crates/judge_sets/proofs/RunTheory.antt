@@ -13,10 +13,10 @@ use Rattle.task_core.specs.declared.classes.Class.TheVariants.{Weak, Strong, Cyc
 use Rattle.task_core.proofs.Paths.{last_onward, path_keeps, path_onward}
 use Rattle.plan_rules.specs.Denoted.{can_execute}
 use Rattle.plan_rules.specs.Rules.{PlanRule}
-use Rattle.plan_theory.proofs.Cubes.{all_vectors-holds, all_vectors-length}
+use Rattle.task_core.proofs.Vectors.{all_vectors_has as all_vectors-holds, all_vectors_length as all_vectors-length}
 use Rattle.plan_theory.proofs.NoStrong.{reach_more, strong_is_bounded}
-use Rattle.plan_theory.proofs.WeakDenoted.{can_execute-Exec}
-use Rattle.plan_theory.proofs.WeakLists.{Contains-filter, Contains-filter-witness, Contains-flat_map, Contains-flat_map-witness, Contains-map, Contains-map-witness, Contains-range_with_len}
+use Rattle.plan_rules.proofs.DenotedPairs.{can_execute-Exec}
+use Rattle.list_laws.proofs.Elements.{Contains-filter, Contains-filter-witness, Contains-flat_map, Contains-flat_map-witness, Contains-map, Contains-map-witness, Contains-range_with_len}
 use Rattle.judge_sets.specs.FirstMatch.{CanFollowFirst, SolvesAsRun, first_advises, first_rule, first_table, first_table_at}
 
 -- the rule that counts in a state has the action

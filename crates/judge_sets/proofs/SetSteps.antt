@@ -12,7 +12,7 @@ use Rattle.task_core.specs.Cubes.{Cube}
 use Rattle.task_core.specs.Vectors.{same_value}
 use Rattle.task_core.specs.declared.literals.Lit.{Lit}
 use Rattle.plan_rules.specs.Rules.{PlanRule}
-use Rattle.plan_theory.proofs.WeakLists.{find-Some, find-found, list_any-false, list_any-from, list_any-none}
+use Rattle.list_laws.proofs.Elements.{find-Some, find-found, list_any-false, list_any-from, list_any-none}
 use Rattle.slot_board.specs.Board.{combined}
 use Rattle.judge_sets.specs.Places.{sign_of}
 use Rattle.judge_sets.specs.TableSets.{cube_set, differ_set, matched_set, rule_at, taken_set}

@@ -28,7 +28,7 @@ use Rattle.task_core.specs.declared.tasks.Task.{Task}
 use Rattle.task_core.proofs.TaskSystem.{exec_executable, executable_exec, is_system, states_where_has, states_where_holds}
 use Rattle.plan_rules.specs.Plans.{IsRuleOf}
 use Rattle.plan_rules.specs.Rules.{PlanRule}
-use Rattle.plan_theory.proofs.WeakLists.{Contains-cases, Contains-nil, find-None, find-Some, find-found, list_all-agree, list_all-at, list_all-from, list_any-false, list_any-from, list_any-none, list_any-witness}
+use Rattle.list_laws.proofs.Elements.{Contains-cases, Contains-nil, find-None, find-Some, find-found, list_all-agree, list_all-at, list_all-from, list_any-false, list_any-from, list_any-none, list_any-witness}
 use Rattle.judge_sets.specs.FirstMatch.{CanFollowFirst, RulesAgree, SolvesAsRun, first_rule, first_table}
 use Rattle.judge_sets.specs.Fixpoints.{IsGrown, IsShrunk, hits_of, lost_of, rest_of}
 use Rattle.judge_sets.specs.Fixpoints.IsGrown.{begun, grown}

@@ -11,7 +11,7 @@ use Rattle.slot_board.proofs.BoardSlots.{depends}
 use Rattle.task_core.specs.Tasks.{action_count, fluent_count}
 use Rattle.plan_rules.specs.Plans.{IsRuleOf}
 use Rattle.plan_rules.specs.Rules.{PlanRule}
-use Rattle.plan_theory.proofs.WeakLists.{Contains-cons, Contains-head}
+use Rattle.list_laws.proofs.Elements.{Contains-cons, Contains-head}
 use Rattle.board_steps.specs.Steps.{Placed, Shows, after_step, after_steps, place_of, set_made}
 use Rattle.board_steps.specs.declared.steps.Step.{Step}
 use Rattle.board_steps.proofs.StepLemmas.{with_other}
