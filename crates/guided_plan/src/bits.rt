@@ -1,6 +1,6 @@
 //! States as words of bits, and partial states.
 
-use task_core::State;
+use task_core::{FluentId, State};
 
 /// The values of 256 fluents: fluent `f` is bit `f % 64` of word `f / 64`.
 #[derive(Clone, Copy, PartialEq, Eq, Hash)]
@@ -19,6 +19,17 @@ impl Bits {
         Bits {
             words: *state.bits(),
         }
+    }
+
+    /// The state with these values.
+    pub(crate) fn to_state(&self) -> State {
+        let mut state = State::none();
+        for fluent in 0..256u32 {
+            if self.get(fluent) {
+                state = state.with(FluentId(fluent), true);
+            }
+        }
+        state
     }
 
     /// The value of a fluent.

@@ -186,3 +186,21 @@ fn add_literal(fluent: u32, value: bool, part: &mut Part) -> bool {
     part.add(fluent, value);
     true
 }
+
+/// Adds the literals that stand alone in a conjunction.
+pub(crate) fn add_sure_literals(cond: &Cond, part: &mut Part) {
+    match cond {
+        Cond::Is(fluent) => part.add(fluent.0, true),
+        Cond::Not(of) => {
+            if let Cond::Is(fluent) = &**of {
+                part.add(fluent.0, false);
+            }
+        }
+        Cond::All(parts) => {
+            for each in parts {
+                add_sure_literals(each, part);
+            }
+        }
+        Cond::Yes | Cond::No | Cond::Any(_) => {}
+    }
+}

@@ -43,6 +43,13 @@ impl Patterns {
         }
     }
 
+    /// Puts another partial state in the place of one, which it entails.
+    pub(crate) fn put(&mut self, number: u32, part: Part) {
+        if let Some(own) = self.parts.get_mut(number as usize) {
+            *own = part;
+        }
+    }
+
     /// Adds a partial state, and tells its number.
     pub(crate) fn add(&mut self, part: Part) -> Result<u32, AllocError> {
         let number = self.len();

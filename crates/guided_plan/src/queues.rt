@@ -82,4 +82,3 @@ impl Queue {
         state
     }
 }
-

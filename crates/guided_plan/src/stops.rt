@@ -8,6 +8,8 @@ use task_core::InitErr;
 pub(crate) enum Stop {
     /// It has done as much as it may.
     GaveUp,
+    /// A policy reaches too many states for this way.
+    TooMany,
     Memory,
 }
 

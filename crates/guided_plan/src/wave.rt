@@ -2,8 +2,8 @@
 //! does, and an operator what all its needs do and one for an outcome; the estimate is the number of
 //! outcomes that such a way takes (the additive and the FF heuristic).
 
-use crate::bits::Bits;
-use crate::net::{Draft, Operator};
+use crate::bits::{Bits, Part};
+use crate::net::{Draft, Operator, literal};
 use crate::numbers::{NONE, at, put, small};
 use crate::rows::Rows;
 use std::alloc::{AllocError, Global};
@@ -260,6 +260,20 @@ impl Work {
         }
     }
 
+    /// The literals that hold wherever an unsuccessful spread may lead: those of which the other one
+    /// isn't there.
+    fn lasting(&self, fluents: u32) -> Part {
+        let mut part = Part::none();
+        for fluent in 0..fluents {
+            if self.cost_of(literal(fluent, true)) == NONE {
+                part.add(fluent, false);
+            } else if self.cost_of(literal(fluent, false)) == NONE {
+                part.add(fluent, true);
+            }
+        }
+        part
+    }
+
     /// What the needs of an operator cost.
     fn sum_of(&self, operator: u32) -> u32 {
         match self.counts.get(operator as usize) {
@@ -381,6 +395,12 @@ impl Wave {
             return Ok(Some(self.trail.follow(&self.web, &self.work)?));
         }
         Ok(Some(self.work.cost_of(self.web.goal)))
+    }
+
+    /// After an estimate of `None`: the literals that hold in each state to which anything may lead.
+    /// They are a set of states that no action leaves, and that has no goal state.
+    pub(crate) fn lasting(&self) -> Part {
+        self.work.lasting(self.web.fluents)
     }
 
     /// The outcomes of the last estimate that may come first.
