@@ -18,6 +18,10 @@ const MOST_AFTER_DEAD: u32 = 2000;
 /// How many states are gone through before closed pairs are looked for.
 const FIRST_CLOSE: u32 = 1000;
 
+/// How many pairs for partial states may be made, besides one for eight states that are gone
+/// through: where they are more, they don't stand for many states.
+const MANY_PAIRS: u32 = 1000;
+
 /// How often pairs are made to ask more before closed ones are looked for once more.
 const MOST_STRENGTHENED: u32 = 8;
 
@@ -163,6 +167,9 @@ impl Rounds {
             return Ok(found);
         }
         self.follow(world, state, planner.policy.action(pair))?;
+        if planner.policy.by_part && planner.policy.len() > self.count / 8 + MANY_PAIRS {
+            return Err(Stop::TooMany);
+        }
         if planner.policy.by_part && self.count >= self.next_close {
             if self.close(world, planner)? {
                 found = Round::Grown;

@@ -106,7 +106,7 @@ impl Finder {
 
     /// Begins a search.
     fn begin(&mut self, world: &mut World<'_>, start: u32) -> Result<(), Stop> {
-        self.search = self.search.wrapping_add(1);
+        self.search = world.states.next_search();
         self.region.clear();
         self.region.push(start)?;
         world.states.meet(start, self.search, NONE, NONE);

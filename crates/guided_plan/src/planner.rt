@@ -74,6 +74,7 @@ impl Planner {
 
     /// Finds a weak plan from a state.
     fn look_from(&mut self, world: &mut World<'_>, state: u32) -> Result<bool, Stop> {
+        self.finder.region.clear();
         let hope = world.hope(state);
         if hope == Hope::Dead {
             return Ok(false);

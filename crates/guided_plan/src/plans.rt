@@ -17,7 +17,7 @@ use task_core::{ActionId, Class, Cond, FluentId, Lit, State, Task};
 const MOST_LISTED: u32 = 262_144;
 
 /// How many states a strong cyclic policy may reach at first.
-const FEW_LISTED: u32 = 20_000;
+const FEW_LISTED: u32 = 6_000;
 
 /// How much a search may do: counts, never clocks.
 #[derive(Clone, Copy, Debug)]
@@ -179,28 +179,40 @@ fn push_cubes(alloc: Global, parts: &[Part], cubes: &mut Vec<Vec<Lit>>) -> Resul
 /// reached, else with actions for partial states, and where that fails with one for each state after
 /// all.
 fn seek_cyclic(world: &mut World<'_>) -> Result<Sought, Stop> {
-    match try_cyclic(world, false, FEW_LISTED) {
+    let mut planner = Planner::new(world.alloc, world.actions.label_count(), false)?;
+    match try_cyclic(world, &mut planner, FEW_LISTED) {
+        Ok(true) => return Ok(Sought::Policy(planner.policy)),
+        Ok(false) => return Ok(Sought::Nothing(Vec::new(world.alloc))),
         Err(Stop::TooMany) => {}
-        found => return found,
+        Err(stop) => return Err(stop),
     }
     if world.space.is_all() {
-        world.find_exclusions()?;
-        match try_cyclic(world, true, MOST_LISTED) {
+        match seek_parts(world) {
             Err(Stop::TooMany) => {}
             found => return found,
         }
     }
-    try_cyclic(world, false, MOST_LISTED)
-}
-
-/// The same in one way, with at most so many states that are reached.
-fn try_cyclic(world: &mut World<'_>, by_part: bool, most: u32) -> Result<Sought, Stop> {
-    let mut planner = Planner::new(world.alloc, world.actions.label_count(), by_part)?;
-    let mut rounds = Rounds::new(world.alloc, most);
-    if rounds.solve(world, &mut planner)? {
+    if try_cyclic(world, &mut planner, MOST_LISTED)? {
         return Ok(Sought::Policy(planner.policy));
     }
     Ok(Sought::Nothing(Vec::new(world.alloc)))
+}
+
+/// A strong cyclic policy with actions for partial states.
+fn seek_parts(world: &mut World<'_>) -> Result<Sought, Stop> {
+    world.find_exclusions()?;
+    let mut planner = Planner::new(world.alloc, world.actions.label_count(), true)?;
+    if try_cyclic(world, &mut planner, MOST_LISTED)? {
+        return Ok(Sought::Policy(planner.policy));
+    }
+    Ok(Sought::Nothing(Vec::new(world.alloc)))
+}
+
+/// Makes a strong cyclic policy with at most so many states that are reached. False where there is
+/// none.
+fn try_cyclic(world: &mut World<'_>, planner: &mut Planner, most: u32) -> Result<bool, Stop> {
+    let mut rounds = Rounds::new(world.alloc, most);
+    rounds.solve(world, planner)
 }
 
 /// What a policy takes in the states that it reaches, or where these are too many its rules.

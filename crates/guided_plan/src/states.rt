@@ -52,6 +52,7 @@ pub(crate) struct States {
     /// The numbers by the hash of the state: two places a state at least, a power of two of them.
     slots: Vec<u32>,
     most: u32,
+    searches: u32,
 }
 
 impl States {
@@ -61,7 +62,14 @@ impl States {
             notes: Vec::new(alloc),
             slots: Vec::new(alloc),
             most,
+            searches: 0,
         }
+    }
+
+    /// The number of the next search.
+    pub(crate) fn next_search(&mut self) -> u32 {
+        self.searches = self.searches.wrapping_add(1);
+        self.searches
     }
 
     pub(crate) fn len(&self) -> u32 {

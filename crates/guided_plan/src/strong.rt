@@ -22,6 +22,12 @@ const STEP: u64 = 1024;
 /// How much less an action counts that is helpful.
 const BONUS: u64 = 512;
 
+/// How many branches are made at once, if there are so many, before the cheapest is taken.
+const FEW_BRANCHES: u32 = 8;
+
+/// By how much a state may become dearer before more of its actions are tried.
+const SLACK: u64 = STEP;
+
 /// How much more a state costs from which every way goes round.
 const DETOUR: u64 = 5 * STEP;
 
@@ -64,6 +70,8 @@ pub(crate) struct Graph {
     /// The actions that are helpful where the search is: those that have this mark.
     helpful: Vec<u32>,
     mark: u32,
+    /// Whether all actions were tried in each state that was met.
+    is_exhausted: bool,
 }
 
 impl Graph {
@@ -81,6 +89,7 @@ impl Graph {
             },
             helpful: vec![in alloc; 0; actions as usize]?,
             mark: 0,
+            is_exhausted: false,
         })
     }
 
@@ -112,6 +121,7 @@ impl Graph {
             }
             self.descend(world, root)?;
             if self.path.is_stuck() && !self.take_best(world)? {
+                self.is_exhausted = true;
                 return Ok(self.first_open(world)?.is_none());
             }
         }
@@ -335,7 +345,9 @@ impl Graph {
             return Ok(());
         }
         let limit = self.cost(state);
-        if (best == NONE || cost.saturating_add(STEP) > limit) && self.phase(state) != Phase::Done {
+        if (best == NONE || cost > limit.saturating_add(SLACK))
+            && self.phase(state) != Phase::Done
+        {
             return self.try_actions(world, state);
         }
         if best == NONE {
@@ -393,7 +405,7 @@ impl Graph {
         if goes_round {
             return Ok(None);
         }
-        let cost = worst.saturating_add(sum / 8192).saturating_add(BONUS);
+        let cost = worst.saturating_add(sum / 8192);
         Ok(Some(cost.saturating_sub(self.bonus(branch))))
     }
 
@@ -455,16 +467,20 @@ impl Graph {
         is_helpful: bool,
     ) -> Result<bool, Stop> {
         let first = self.vertices.view(state).next_action;
+        let before = self.vertices.branch_count(state);
+        let mut is_nearer = false;
         for action in first..world.actions.count() {
             if (at(&self.helpful, action) == self.mark) == is_helpful {
                 self.vertices
                     .put_next_action(state, action.saturating_add(1));
-                if self.try_action(world, state, action, is_helpful)? {
+                is_nearer = self.try_action(world, state, action, is_helpful)? || is_nearer;
+                let count = self.vertices.branch_count(state).saturating_sub(before);
+                if !self.is_open(state) || is_nearer && count >= FEW_BRANCHES {
                     return Ok(true);
                 }
             }
         }
-        Ok(false)
+        Ok(is_nearer)
     }
 
     /// Makes a branch of an action, if it may be of use. Tells whether it leads nearer to the goal.
@@ -497,7 +513,7 @@ impl Graph {
         }
         let limit = self.cost(state);
         match self.branch_cost(world, branch)? {
-            Some(cost) => Ok(cost.saturating_add(STEP) <= limit),
+            Some(cost) => Ok(cost.saturating_add(STEP / 2) <= limit),
             None => Ok(false),
         }
     }
@@ -622,9 +638,13 @@ impl Graph {
 }
 
 impl Graph {
-    /// The open states that were met: each action leads from one to another, or to a dead end.
+    /// Where all actions were tried, the open states that were met: each action may lead from one to
+    /// another, or to a dead end.
     pub(crate) fn unsolved(&self, world: &mut World<'_>) -> Result<Vec<Part>, Stop> {
         let mut set = Vec::new(self.alloc);
+        if !self.is_exhausted {
+            return Ok(set);
+        }
         for state in 0..self.vertices.len() {
             let view = self.vertices.view(state);
             if view.is_known && self.is_open(state) && world.hope(state) == Hope::Open {
