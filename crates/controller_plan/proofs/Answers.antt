@@ -1,5 +1,6 @@
 -- From what follows the reading of both files to the answer, and from the answer to a run.
 use Rattle.std.proofs.Common.{◌≡◌, ◌≢◌, ◌⊎◌, ◌≤◌, ℕ, List, inl, inr, refl, sym, subst, ap, ◌∙◌, arith, codes, None, true}
+use Rattle.std.specs.Prelude.{IfErr, IfOk, Result, Ok, Err}
 use Rattle.pddl_ast.specs.Trees.{DomainTree, ProblemTree}
 use Rattle.ground_task.specs.declared.grounding.Grounded.{Grounded}
 use Rattle.pddl_system.specs.Sizes.{first_passed}
@@ -13,10 +14,12 @@ use Rattle.mbp_top.specs.Grounded.{IsGroundedOf, IsTaskOf}
 use Rattle.mbp_top.specs.Grounding.{has_goal_for}
 use Rattle.mbp_top.specs.PddlTexts.{HoldBoth, ReadBoth}
 use Rattle.mbp_top.specs.PlanCommand.{MayBeTooFew, PlanThen}
+use Rattle.mbp_top.specs.Values.{answer_of, refusal_of, shown_of}
 use Rattle.mbp_top.specs.Words.{Bytes}
+use Rattle.mbp_top.specs.declared.answers.Refusal.{Refusal as CodeRefusal}
+use Rattle.mbp_top.specs.declared.answers.Shown.{Shown}
 use Rattle.task_core.specs.declared.tasks.Task.{Task}
-use Rattle.mbp_top.proofs.CheckAnswers.{too_many}
-use Rattle.controller_plan.specs.Controllers.{AffirmsNothing, ControlThen, FindsPlan, IsControlAnswer, IsControlled, IsControllerShown, MayReachTooMany}
+use Rattle.controller_plan.specs.Controllers.{AffirmsNothing, ControlThen, IsControlAnswer, IsControlled, IsControllerShown}
 use Rattle.controller_plan.specs.Judged.{IsControlRefusal}
 use Rattle.controller_plan.specs.Runs.{ControlRun, HasControlCause, HasControlled}
 use Rattle.controller_plan.specs.Words.{AskNothing, ControlWords, SaysControl}
@@ -59,37 +62,34 @@ denied_affirms_nothing text other is = cc is
 pub refused_affirms_nothing : (refusal : Refusal) → AffirmsNothing (refused refusal)
 refused_affirms_nothing refusal other is = cc is
 
--- `plan` has a plan where its answer affirms
-finds_plan : (asked : ControlWords) (d : DomainTree) (p : ProblemTree) (text : Bytes) (found : Answer) → found ≡ affirmed text
-    → (found ≡ refused no_memory) ⊎ (MayBeTooFew asked.plan d p × (found ≡ refused (full asked.plan.options.nodes))) ⊎ PlanThen asked.plan d p found → FindsPlan asked d p
-finds_plan asked d p text found is (inl memory) = absurd (refused_affirms_nothing _ text (sym memory ∙ is))
-finds_plan asked d p text found is (inr (inl (few, full_is))) = absurd (refused_affirms_nothing _ text (sym full_is ∙ is))
-finds_plan asked d p text found is (inr (inr then)) = (text, subst (λ (x : Answer). PlanThen asked.plan d p x) is then)
+-- want of memory, or a limit that is passed for its cause
+pub limited : (asked : ControlWords) (d : DomainTree) (p : ProblemTree) (r : Refusal) → IsControlRefusal asked d p r
+    → (refused r ≡ refused no_memory) ⊎ (MayBeTooFew asked.plan d p × (refused r ≡ refused (full asked.plan.options.nodes))) ⊎ ControlThen asked d p (refused r)
+limited asked d p r (inl memory) = inl (ap refused memory)
+limited asked d p r (inr (name, passed, is)) = inr (inr (inr (inl (name, passed, ap refused is))))
 
--- the answer of `plan`, unless it affirms
-pub of_unless : (asked : ControlWords) (d : DomainTree) (p : ProblemTree) (found a : Answer)
-    → ((a ≡ found) × AffirmsNothing found) ⊎ ((text : Bytes) × (found ≡ affirmed text) × (a ≡ refused (over_limit (codes "configurations"))))
+-- an answer is that of a controller, or why none is shown
+pub controlled : (asked : ControlWords) (d : DomainTree) (p : ProblemTree) (r : Result Shown CodeRefusal) → IfOk r (λ shown. IsControllerShown asked d p (shown_of shown))
+    → IfErr r (λ refusal. IsControlRefusal asked d p (refusal_of refusal))
+    → (answer_of r ≡ refused no_memory) ⊎ (MayBeTooFew asked.plan d p × (answer_of r ≡ refused (full asked.plan.options.nodes))) ⊎ ControlThen asked d p (answer_of r)
+controlled asked d p (Ok shown) is why = inr (inr (inl is))
+controlled asked d p (Err refusal) is why = limited asked d p (refusal_of refusal) why
+
+-- the plan that `plan` finds, where it affirms
+pub plan_found : (asked : ControlWords) (d : DomainTree) (p : ProblemTree) (text : Bytes) (found : Answer) → found ≡ affirmed text
+    → (found ≡ refused no_memory) ⊎ (MayBeTooFew asked.plan d p × (found ≡ refused (full asked.plan.options.nodes))) ⊎ PlanThen asked.plan d p found
+    → PlanThen asked.plan d p (affirmed text)
+plan_found asked d p text found is (inl memory) = absurd (refused_affirms_nothing _ text (sym memory ∙ is))
+plan_found asked d p text found is (inr (inl (few, full_is))) = absurd (refused_affirms_nothing _ text (sym full_is ∙ is))
+plan_found asked d p text found is (inr (inr then)) = subst (λ (x : Answer). PlanThen asked.plan d p x) is then
+
+-- its answer where it doesn't
+pub plan_answer : (asked : ControlWords) (d : DomainTree) (p : ProblemTree) (found a : Answer) → found ≡ a → AffirmsNothing a
     → (found ≡ refused no_memory) ⊎ (MayBeTooFew asked.plan d p × (found ≡ refused (full asked.plan.options.nodes))) ⊎ PlanThen asked.plan d p found
     → (a ≡ refused no_memory) ⊎ (MayBeTooFew asked.plan d p × (a ≡ refused (full asked.plan.options.nodes))) ⊎ ControlThen asked d p a
-of_unless asked d p found a (inl (same, none)) why =
-    subst (λ (x : Answer). (x ≡ refused no_memory) ⊎ (MayBeTooFew asked.plan d p × (x ≡ refused (full asked.plan.options.nodes))) ⊎ ControlThen asked d p x) (sym same)
-    (of_plan asked d p found none why)
-of_unless asked d p found a (inr (text, affirms, is)) why =
-    inr (inr (inr (inl (codes "configurations", inr (inl (refl, inr (finds_plan asked d p text found affirms why))), is))))
-
--- want of memory, or a limit that is passed for its cause
-pub limited : (asked : ControlWords) (d : DomainTree) (p : ProblemTree) (task : Task) (r : Refusal) → IsTaskOf d p task → IsControlRefusal task r
-    → (refused r ≡ refused no_memory) ⊎ (MayBeTooFew asked.plan d p × (refused r ≡ refused (full asked.plan.options.nodes))) ⊎ ControlThen asked d p (refused r)
-limited asked d p task r of (inl memory) = inl (ap refused memory)
-limited asked d p task r of (inr (inl (many, is))) = inr (inr (inr (inl (codes "initial", inl (refl, too_many d p task of.task_is many), ap refused is))))
-limited asked d p task r of (inr (inr (inl (reach, is)))) =
-    inr (inr (inr (inl (codes "configurations", inr (inl (refl, inl (subst MayReachTooMany of.system_is reach))), ap refused is))))
-limited asked d p task r of (inr (inr (inr is))) = inr (inr (inr (inl (codes "file", inr (inr refl), ap refused is))))
-
--- the same in the answer
-pub limit_passed : (asked : ControlWords) (d : DomainTree) (p : ProblemTree) (g : Grounded) (r : Refusal) → IsGroundedOf d p g → IsControlRefusal g.task r
-    → (refused r ≡ refused no_memory) ⊎ (MayBeTooFew asked.plan d p × (refused r ≡ refused (full asked.plan.options.nodes))) ⊎ ControlThen asked d p (refused r)
-limit_passed asked d p g r of why = limited asked d p g.task r of.of_task why
+plan_answer asked d p found a same none why =
+    of_plan asked d p a none
+    (subst (λ (x : Answer). (x ≡ refused no_memory) ⊎ (MayBeTooFew asked.plan d p × (x ≡ refused (full asked.plan.options.nodes))) ⊎ PlanThen asked.plan d p x) same why)
 
 -- the cause of want of memory that came in place of an answer
 memory_instead : (held : Bytes → Held) (failed : Bytes → Type 0) (words : List Bytes) (a : Answer) → a ≢ refused no_command

@@ -16,7 +16,7 @@ use Rattle.mbp_top.specs.Words.{Bytes, PlanKind, of_class, with_contexts}
 use Rattle.mbp_top.proofs.Initials.{shown_initial}
 use Rattle.mbp_top.proofs.PddlDecides.{ReadFor, not_refused, shown_both, shown_goal, shown_grounded}
 use Rattle.mbp_top.proofs.Statuses.{shown_at, whole_delivery, written_shown}
-use Rattle.controller_plan.specs.Controllers.{AffirmsNothing, ControlThen, IsControlAnswer, IsControlled, IsController, IsControllerShown}
+use Rattle.controller_plan.specs.Controllers.{AffirmsNothing, ControlThen, IsControlAnswer, IsControlled, IsControllerShown}
 use Rattle.controller_plan.specs.Laws.{IsControllerRun, IsNoPlanRun}
 use Rattle.controller_plan.specs.Runs.{ControlRun, HasControlCause, HasControlled}
 use Rattle.controller_plan.specs.Words.{ControlWords, SaysControl}
@@ -116,7 +116,7 @@ module _ {S : Type 0} (held : S → Bytes → Held) (faults : S → ℕ) (fetche
       let text = affirms a shown code in
       let controller = controller_for asked found.domain found.problem a text.0 text.1 shown found.then in
       let written = written_shown a (text_of a) run.out run.out_after run.err run.err_after whole.1 shown refl in
-      (found.domain, found.problem, controller.text, found.both, controller.controller, as_written _ a run.out run.out_after controller.shown written)
+      (found.domain, found.problem, controller.plan, controller.steps, found.both, controller.text, as_written _ a run.out run.out_after controller.shown written)
 
   pub no_plan_run : IsNoPlanRun held run
   no_plan_run asked says one =

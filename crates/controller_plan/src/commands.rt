@@ -1,28 +1,34 @@
 //! From the words to the answer.
 
 ghost use Rattle.controller_plan.specs.Controllers.{
-  AffirmsNothing,
   ControlThen,
   IsControlAnswer,
   IsControlled,
   IsControllerShown,
-  shown_bytes,
 };
-ghost use Rattle.controller_plan.specs.Judged.{IsControlRefusal};
+ghost use Rattle.controller_plan.specs.Judged.{IsControlRefusal, IsJudged, bytes_as};
 ghost use Rattle.controller_plan.specs.Runs.{HasControlCause};
 ghost use Rattle.controller_plan.specs.Values.{control_words_of};
 ghost use Rattle.controller_plan.specs.Words.{AskNothing, ControlWords as AskedControl, SaysControl};
-ghost use Rattle.mbp_top.specs.Answers.{affirmed, full, no_memory, over_limit, refused};
+ghost use Rattle.mbp_top.specs.Answers.{affirmed, full, no_memory, refused};
 ghost use Rattle.mbp_top.specs.Causes.{IsQuietAt};
 ghost use Rattle.mbp_top.specs.Fetching.{FetchesBoth};
 ghost use Rattle.mbp_top.specs.Grounded.{IsGroundedOf};
 ghost use Rattle.mbp_top.specs.Grounding.{has_goal_for};
-ghost use Rattle.mbp_top.specs.PlanCommand.{MayBeTooFew};
-ghost use Rattle.mbp_top.specs.Values.{answer_of, kind_of, refusal_of, shown_of};
+ghost use Rattle.mbp_top.specs.PlanCommand.{MayBeTooFew, PlanThen};
+ghost use Rattle.mbp_top.specs.Values.{
+  answer_of,
+  bytes_of,
+  kind_of,
+  plan_words_of,
+  refusal_of,
+  shown_of,
+};
 ghost use Rattle.mbp_top.specs.Words.{IsNodeLimit};
 ghost use Rattle.pddl_ast.specs.Fits.{FitsDomain, FitsProblem};
 ghost use Rattle.pddl_ast.specs.Values.{domain_value, problem_value};
 ghost use Rattle.pddl_system.specs.Names.{NamesAreWords};
+ghost use Rattle.plan_document.specs.Faithful.{IsToldInFull};
 ghost use Rattle.plan_io.specs.Fetches.{FailedLast, FetchesNothing};
 ghost use Rattle.plan_rules.specs.Plans.{IsPlanOf};
 ghost use Rattle.plan_rules.specs.Rules.{plain_of};
@@ -34,7 +40,6 @@ ghost use Rattle.std.specs.Prelude.{
   IfOk,
   IfSome,
   List,
-  codes,
   map,
   string_bytes,
   true,
@@ -43,12 +48,13 @@ ghost use Rattle.std.specs.Prelude.{
 ghost use Rattle.task_core.specs.Tasks.{action_count, action_names, fluent_count, fluent_names};
 
 use crate::followed::Followed;
-use crate::judged::judged;
-use crate::reach::check_reach;
-use crate::rule_texts::rules_text;
+use crate::judged::is_controller;
+use crate::plans::{plan_of, steps_of};
+use crate::reach::{check_reach, check_reached, plan_in};
 use crate::rules::{Length, rules_of};
-use crate::searches::{Sought, seek};
+use crate::searches::{Sought, follow_found, seek};
 use crate::words::{ControlWords, read_words};
+use controller_rules::write_controller;
 use ground_task::Grounded;
 use mbp_top::{Limit, Refusal, Shown, Text, check_goal, ground_both, plan_grounded, read_both};
 use pddl_ast::{Domain, Problem};
@@ -57,6 +63,7 @@ use plan_check::yes_is_solution;
 use plan_document::plan_document;
 use plan_io::Shelf;
 use plan_rules::Plan;
+use sexpr_text::MAX_BYTES;
 use std::alloc::{AllocError, Global};
 use task_core::Task;
 
@@ -169,23 +176,18 @@ fn shown_sought(
     ensures shown { IfOk result (λ found. IfSome found (λ shown.
         IsControllerShown (control_words_of asked.now)
         (domain_value domain.now) (problem_value problem.now) (shown_of shown))) }
-    ensures refused { IfErr result
-        (λ refusal. IsControlRefusal grounded.now.task (refusal_of refusal)) }
+    ensures refused { IfErr result (λ refusal. IsControlRefusal (control_words_of asked.now)
+        (domain_value domain.now) (problem_value problem.now) (refusal_of refusal)) }
 {
     match seek(alloc, &asked.plan, grounded)? {
         Sought::Followed(followed) => {
             shown_controller(alloc, asked, domain, problem, grounded, &followed)
         }
-        Sought::TooMany => {
-            check_reach(alloc, &grounded.task)?;
-            Ok(None)
-        }
         Sought::Nothing => Ok(None),
     }
 }
 
-/// The answer of `plan` where no controller is shown. If it is a plan, that isn't shown: what it
-/// reaches couldn't be followed.
+/// The answer of `plan` where no controller was shown; if it is a plan, what is made of that.
 fn without_controller(
     alloc: Global,
     asked: &ControlWords,
@@ -205,25 +207,53 @@ fn without_controller(
         ⊎ ControlThen asked (domain_value domain.now) (problem_value problem.now)
         (answer_of result) }
 {
-    let found = plan_grounded(alloc, &asked.plan, domain, problem, grounded);
-    unless_affirmed(found)
-}
-
-/// The same answer, unless it affirms; then that too much is reached.
-fn unless_affirmed(found: Result<Shown, Refusal>) -> Result<Shown, Refusal>
-    ensures { ((answer_of result ≡ answer_of found) × AffirmsNothing (answer_of found))
-        ⊎ ((text : List ℕ) × (answer_of found ≡ affirmed text)
-        × (answer_of result ≡ refused (over_limit (codes "configurations")))) }
-{
-    match found {
-        Ok(Shown::Affirmed(_)) => Err(Refusal::OverLimit(Limit::Configurations)),
+    match plan_grounded(alloc, &asked.plan, domain, problem, grounded) {
+        Ok(Shown::Affirmed(text)) => {
+            controller_of_text(alloc, asked, domain, problem, grounded, &text)
+        }
         Ok(Shown::Denied(text)) => Ok(Shown::Denied(text)),
         Err(refusal) => Err(refusal),
     }
 }
 
-/// The controller for what a plan does where it reaches: first with short rules, and if these aren't
-/// judged to be a plan, with full ones. `None` where these aren't, either.
+/// The controller for the plan that `plan` finds, or the limit that keeps it from being made.
+fn controller_of_text(
+    alloc: Global,
+    asked: &ControlWords,
+    domain: &Domain,
+    problem: &Problem,
+    grounded: &Grounded,
+    text: &Text,
+) -> Result<Shown, Refusal>
+    requires goal { has_goal_for (kind_of asked.now.plan.kind) (problem_value problem.now)
+        ≡ true }
+    requires grounded { IsGroundedOf (domain_value domain.now) (problem_value problem.now)
+        grounded.now }
+    requires found { PlanThen (plan_words_of asked.now.plan) (domain_value domain.now)
+        (problem_value problem.now) (affirmed (bytes_of text.now)) }
+    ensures shown { IfOk result (λ shown. IsControllerShown (control_words_of asked.now)
+        (domain_value domain.now) (problem_value problem.now) (shown_of shown)) }
+    ensures refused { IfErr result (λ refusal. IsControlRefusal (control_words_of asked.now)
+        (domain_value domain.now) (problem_value problem.now) (refusal_of refusal)) }
+{
+    let task = &grounded.task;
+    match plan_in(alloc, task, text.as_bytes())? {
+        Some(read) => {
+            check_reached(alloc, task, &read.plan)?;
+            if let Some(followed) = follow_found(alloc, task, &read.plan)? {
+                let found = shown_controller(alloc, asked, domain, problem, grounded, &followed)?;
+                if let Some(shown) = found {
+                    return Ok(shown);
+                }
+            }
+        }
+        None => check_reach(alloc, task)?,
+    }
+    Err(Refusal::OverLimit(Limit::Configurations))
+}
+
+/// The controller for what a plan does where it reaches: first with short rules, and if these don't make
+/// one, with full ones. `None` where these don't, either.
 fn shown_controller(
     alloc: Global,
     asked: &ControlWords,
@@ -239,8 +269,8 @@ fn shown_controller(
     ensures shown { IfOk result (λ found. IfSome found (λ shown.
         IsControllerShown (control_words_of asked.now)
         (domain_value domain.now) (problem_value problem.now) (shown_of shown))) }
-    ensures refused { IfErr result
-        (λ refusal. IsControlRefusal grounded.now.task (refusal_of refusal)) }
+    ensures refused { IfErr result (λ refusal. IsControlRefusal (control_words_of asked.now)
+        (domain_value domain.now) (problem_value problem.now) (refusal_of refusal)) }
 {
     let short = shown_rules(
         alloc,
@@ -265,7 +295,7 @@ fn shown_controller(
     )
 }
 
-/// The controller with rules of this length, if they are judged to be a plan that meets the problem.
+/// The controller with rules of this length, if they make one.
 fn shown_rules(
     alloc: Global,
     asked: &ControlWords,
@@ -282,33 +312,24 @@ fn shown_rules(
     ensures shown { IfOk result (λ found. IfSome found (λ shown.
         IsControllerShown (control_words_of asked.now)
         (domain_value domain.now) (problem_value problem.now) (shown_of shown))) }
-    ensures refused { IfErr result
-        (λ refusal. IsControlRefusal grounded.now.task (refusal_of refusal)) }
+    ensures refused { IfErr result (λ refusal. IsControlRefusal (control_words_of asked.now)
+        (domain_value domain.now) (problem_value problem.now) (refusal_of refusal)) }
 {
-    let text = text_of_rules(alloc, asked, &grounded.task, followed, length)?;
-    shown_text(alloc, asked, domain, problem, grounded, text)
+    let rules = rules_of(alloc, followed, grounded.task.fluents.len() as u32, length)?;
+    let plan = plan_of(alloc, asked.plan.kind, &rules)?;
+    let steps = steps_of(alloc, &rules)?;
+    shown_plan(alloc, asked, domain, problem, grounded, &plan, &steps)
 }
 
-/// The text of the rules for what a plan does where it reaches.
-fn text_of_rules(
-    alloc: Global,
-    asked: &ControlWords,
-    task: &Task,
-    followed: &Followed,
-    length: Length,
-) -> Result<Vec<u8>, AllocError> {
-    let rules = rules_of(alloc, followed, task.fluents.len() as u32, length)?;
-    rules_text(alloc, asked.plan.kind, followed.contexts, &rules, task)
-}
-
-/// The text as a controller, if it is judged to be a plan that meets the problem.
-fn shown_text(
+/// A plan as a controller, if it is one.
+fn shown_plan(
     alloc: Global,
     asked: &ControlWords,
     domain: &Domain,
     problem: &Problem,
     grounded: &Grounded,
-    text: Vec<u8>,
+    plan: &Plan,
+    steps: &[u32],
 ) -> Result<Option<Shown>, Refusal>
     requires goal { has_goal_for (kind_of asked.now.plan.kind) (problem_value problem.now)
         ≡ true }
@@ -317,20 +338,48 @@ fn shown_text(
     ensures shown { IfOk result (λ found. IfSome found (λ shown.
         IsControllerShown (control_words_of asked.now)
         (domain_value domain.now) (problem_value problem.now) (shown_of shown))) }
-    ensures refused { IfErr result
-        (λ refusal. IsControlRefusal grounded.now.task (refusal_of refusal)) }
+    ensures refused { IfErr result (λ refusal. IsControlRefusal (control_words_of asked.now)
+        (domain_value domain.now) (problem_value problem.now) (refusal_of refusal)) }
+{
+    if !is_controller(alloc, asked.plan.kind, grounded, plan)? {
+        return Ok(None);
+    }
+    let shown = shown_judged(alloc, asked, domain, problem, grounded, plan, steps)?;
+    Ok(Some(shown))
+}
+
+/// A plan that was judged to be a controller, as it is shown, unless its text is too long.
+fn shown_judged(
+    alloc: Global,
+    asked: &ControlWords,
+    domain: &Domain,
+    problem: &Problem,
+    grounded: &Grounded,
+    plan: &Plan,
+    steps: &[u32],
+) -> Result<Shown, Refusal>
+    requires goal { has_goal_for (kind_of asked.now.plan.kind) (problem_value problem.now)
+        ≡ true }
+    requires grounded { IsGroundedOf (domain_value domain.now) (problem_value problem.now)
+        grounded.now }
+    requires judged { IsJudged (kind_of asked.now.plan.kind) grounded.now.task grounded.now.ctl
+        (plain_of plan.now) }
+    requires in_task { IsPlanOf (fluent_count grounded.now.task) (action_count grounded.now.task)
+        plan.now }
+    ensures shown { IfOk result (λ shown. IsControllerShown (control_words_of asked.now)
+        (domain_value domain.now) (problem_value problem.now) (shown_of shown)) }
+    ensures refused { IfErr result (λ refusal. IsControlRefusal (control_words_of asked.now)
+        (domain_value domain.now) (problem_value problem.now) (refusal_of refusal)) }
 {
     // These do nothing: that what the checker says yes to meets the problem rests on what they
     // promise.
     grounded_goals_are_true();
     yes_is_solution();
-    let name = asked.plan.problem;
-    match judged(alloc, asked.plan.kind, name, problem, grounded, &text)? {
-        Some(read) => {
-            let shown = shown_as(alloc, asked.json, text, &read.plan, &grounded.task)?;
-            Ok(Some(shown))
-        }
-        None => Ok(None),
+    // The domain and the problem are those of the clauses alone.
+    let _names = (domain, problem);
+    match write_controller(alloc, plan, steps, &grounded.task, MAX_BYTES)? {
+        Some(text) => Ok(shown_as(alloc, asked.json, text, plan, &grounded.task)?),
+        None => Err(Refusal::OverLimit(Limit::File)),
     }
 }
 
@@ -342,9 +391,10 @@ fn shown_as(
     plan: &Plan,
     task: &Task,
 ) -> Result<Shown, AllocError>
-    requires { IsPlanOf (fluent_count task.now) (action_count task.now) plan.now }
+    requires in_task { IsPlanOf (fluent_count task.now) (action_count task.now) plan.now }
+    requires told { IsToldInFull (plain_of plan.now) }
     ensures { IfOk result (λ shown. shown_of shown
-        ≡ affirmed (shown_bytes json (fluent_names task.now) (action_names task.now)
+        ≡ affirmed (bytes_as json (fluent_names task.now) (action_names task.now)
         (plain_of plan.now) text.items)) }
 {
     if json {

@@ -1,0 +1,69 @@
+-- Limits that the plan in hand passes.
+use Rattle.std.proofs.Common.{◌≡◌, ◌⊎◌, ◌+◌, ◌++◌, ◌∙◌, ◌<◌, ℕ, List, [], ◌∷◌, map, inl, inr, refl, sym, subst, ap, codes}
+use Rattle.std.specs.Prelude.{All}
+use Rattle.std.specs.List.{range_with_len}
+use Rattle.std.proofs.lemmas.List.{map-append}
+use Rattle.std.proofs.lemmas.List.Elements.{All-push}
+use Rattle.exec_graph.specs.Executions.{ReachesMoreThan}
+use Rattle.exec_graph.specs.Initials.{HasTooManyInitial}
+use Rattle.pddl_ast.specs.Trees.{DomainTree, ProblemTree}
+use Rattle.pddl_system.specs.Systems.{action_names, fluent_names, system}
+use Rattle.plan_rules.specs.Plans.{IsRuleOf}
+use Rattle.plan_rules.specs.Readings.{SpellsPlain}
+use Rattle.plan_rules.specs.Rules.{PlainPlan, PlanRule, rule_of}
+use Rattle.plan_rules.specs.declared.rules.Rule.{Rule}
+use Rattle.task_core.specs.Names.{Name}
+use Rattle.task_core.specs.Systems.{System}
+use Rattle.task_core.specs.Tasks.{action_names as names_of_actions, fluent_names as names_of_fluents, system_of}
+use Rattle.task_core.specs.declared.tasks.Task.{Task}
+use Rattle.mbp_top.specs.Answers.{Refusal, affirmed, over_limit}
+use Rattle.mbp_top.specs.CheckCommand.{HasTooManyStates, most_followed}
+use Rattle.mbp_top.specs.Grounded.{IsTaskOf}
+use Rattle.mbp_top.specs.PlanCommand.{PlanThen}
+use Rattle.mbp_top.specs.Words.{Bytes}
+use Rattle.mbp_top.proofs.CheckAnswers.{too_many}
+use Rattle.mbp_top.proofs.Listings.{same_actions, same_fluents}
+use Rattle.controller_plan.specs.Controllers.{FindsPlan, IsTooLarge, ReachesTooMany}
+use Rattle.controller_plan.specs.Judged.{IsControlRefusal, IsJudgeRefusal, IsReachRefusal}
+use Rattle.controller_plan.specs.Words.{ControlWords}
+
+-- the rule of an action that may be taken in any state
+abbrev pub any_rule : ℕ → PlanRule
+any_rule a = record { cube = []; action = a }
+
+-- one rule more of the task
+pub rule_more : (fluents actions : ℕ) (rules : List Rule) (rule : Rule) → All (IsRuleOf fluents actions) (map rule_of rules) → IsRuleOf fluents actions (rule_of rule)
+    → All (IsRuleOf fluents actions) (map rule_of (rules ++ rule ∷ []))
+rule_more fluents actions rules rule all one =
+    subst (All (IsRuleOf fluents actions)) (sym (map-append rule_of rules (rule ∷ []))) (All-push (IsRuleOf fluents actions) (map rule_of rules) (rule_of rule) all one)
+
+-- too many initial states
+initial : (asked : ControlWords) (d : DomainTree) (p : ProblemTree) (task : Task) (r : Refusal) → IsTaskOf d p task → HasTooManyInitial task most_followed → r ≡ over_limit (codes "initial") → IsControlRefusal asked d p r
+initial asked d p task r of many is = inr (codes "initial", inl (refl, too_many d p task of.task_is many), is)
+
+pub judge_refusal : (asked : ControlWords) (d : DomainTree) (p : ProblemTree) (task : Task) (r : Refusal) → IsTaskOf d p task → IsJudgeRefusal task r → IsControlRefusal asked d p r
+judge_refusal asked d p task r of (inl memory) = inl memory
+judge_refusal asked d p task r of (inr (many, is)) = initial asked d p task r of many is
+
+-- too many of them, or of configurations
+pub reach_refusal : (asked : ControlWords) (d : DomainTree) (p : ProblemTree) (task : Task) (TooMany : Type 0) (r : Refusal) → IsTaskOf d p task
+    → (TooMany → ReachesTooMany asked d p ⊎ IsTooLarge (system d p) ⊎ FindsPlan asked d p) → IsReachRefusal task TooMany r → IsControlRefusal asked d p r
+reach_refusal asked d p task TooMany r of why (inl memory) = inl memory
+reach_refusal asked d p task TooMany r of why (inr (inl (many, is))) = initial asked d p task r of many is
+reach_refusal asked d p task TooMany r of why (inr (inr (more, is))) = inr (codes "configurations", inr (inl (refl, why more)), is)
+
+-- the plan that `plan` finds, as it is read back
+pub plan_reaches : (asked : ControlWords) (d : DomainTree) (p : ProblemTree) (task : Task) (text : Bytes) (plan : PlainPlan) → IsTaskOf d p task → PlanThen asked.plan d p (affirmed text)
+    → SpellsPlain (names_of_fluents task) (names_of_actions task) text plan → ReachesMoreThan (system_of task) plan most_followed → ReachesTooMany asked d p
+plan_reaches asked d p task text plan of found spelled more = record {
+  text = text;
+  found = found;
+  plan = plan;
+  spelled = subst (λ (ns : List Name). SpellsPlain (fluent_names d p) ns text plan) (same_actions d p task of.task_is)
+      (subst (λ (ns : List Name). SpellsPlain ns (names_of_actions task) text plan) (same_fluents d p task of.task_is) spelled);
+  more = subst (λ (sys : System). ReachesMoreThan sys plan most_followed) of.system_is more;
+}
+
+-- a plan is found, and no controller was made of it
+pub not_made : (asked : ControlWords) (d : DomainTree) (p : ProblemTree) (text : Bytes) (r : Refusal) → PlanThen asked.plan d p (affirmed text) → r ≡ over_limit (codes "configurations") → IsControlRefusal asked d p r
+not_made asked d p text r found is = inr (codes "configurations", inr (inl (refl, inr (inr (text, found)))), is)
