@@ -6,22 +6,24 @@ use Rattle.ground_task.specs.declared.grounding.Grounded.{Grounded}
 use Rattle.pddl_system.specs.Sizes.{first_passed}
 use Rattle.plan_io.specs.Fetches.{FailedLast, FetchesNothing}
 use Rattle.plan_io.specs.Held.{Held}
-use Rattle.mbp_top.specs.Answers.{Answer, Refusal, affirmed, denied, full, no_command, no_memory, over_limit, refused}
-use Rattle.mbp_top.specs.Causes.{IsQuietAt}
-use Rattle.mbp_top.specs.Delivery.{IsDelivered}
-use Rattle.mbp_top.specs.Fetching.{FetchesBoth}
-use Rattle.mbp_top.specs.Grounded.{IsGroundedOf, IsTaskOf}
-use Rattle.mbp_top.specs.Grounding.{has_goal_for}
-use Rattle.mbp_top.specs.PddlTexts.{HoldBoth, ReadBoth}
-use Rattle.mbp_top.specs.PlanCommand.{MayBeTooFew, PlanThen}
-use Rattle.mbp_top.specs.Values.{answer_of, refusal_of, shown_of}
-use Rattle.mbp_top.specs.Words.{Bytes}
-use Rattle.mbp_top.specs.declared.answers.Refusal.{Refusal as CodeRefusal}
-use Rattle.mbp_top.specs.declared.answers.Shown.{Shown}
+use Rattle.command_base.specs.Answers.{Answer, Refusal, affirmed, denied, full, no_command, no_memory, over_limit, refused}
+use Rattle.command_base.specs.Faults.{IsQuietAt}
+use Rattle.command_base.specs.Delivery.{IsDelivered}
+use Rattle.command_base.specs.Fetching.{FetchesBoth}
+use Rattle.command_base.specs.Grounded.{IsGroundedOf, IsTaskOf}
+use Rattle.command_base.specs.Grounding.{has_goal_for}
+use Rattle.command_base.specs.PddlTexts.{HoldBoth, ReadBoth}
+use Rattle.plan_command.specs.PlanCommand.{MayBeTooFew, PlanThen}
+use Rattle.command_base.specs.Values.{answer_of, refusal_of, shown_of}
+use Rattle.command_base.specs.Words.{Bytes}
+use Rattle.command_base.specs.declared.answers.Refusal.{Refusal as CodeRefusal}
+use Rattle.command_base.specs.declared.answers.Shown.{Shown}
 use Rattle.task_core.specs.declared.tasks.Task.{Task}
+use Rattle.command_base.specs.Frame.{FailedIn}
+use Rattle.command_base.proofs.Frames.{IsGivenFor, is_run}
 use Rattle.controller_plan.specs.Controllers.{AffirmsNothing, ControlThen, IsControlAnswer, IsControlled, IsControllerShown}
 use Rattle.controller_plan.specs.Judged.{IsControlRefusal}
-use Rattle.controller_plan.specs.Runs.{ControlRun, HasControlCause, HasControlled}
+use Rattle.controller_plan.specs.Runs.{ControlRun, FetchesForControl, HasControlCause, HasControlled}
 use Rattle.controller_plan.specs.Words.{AskNothing, ControlWords, SaysControl}
 
 -- one of the files is refused
@@ -91,43 +93,15 @@ plan_answer asked d p found a same none why =
     of_plan asked d p a none
     (subst (λ (x : Answer). (x ≡ refused no_memory) ⊎ (MayBeTooFew asked.plan d p × (x ≡ refused (full asked.plan.options.nodes))) ⊎ PlanThen asked.plan d p x) same why)
 
--- the cause of want of memory that came in place of an answer
-memory_instead : (held : Bytes → Held) (failed : Bytes → Type 0) (words : List Bytes) (a : Answer) → a ≢ refused no_command
-    → HasControlCause held failed words a → HasControlCause held failed words (refused no_memory)
-memory_instead held failed words a said (inl (nothing, is)) = absurd (said is)
-memory_instead held failed words a said (inr (asked, says, why)) = inr (asked, says, inl refl)
-
-module _ {S : Type 0} (held : S → Bytes → Held) (faults : S → ℕ) (fetched : S → Bytes → S → Type 0) (run : ControlRun S) where
-  abbrev pub Cause : Answer → Type 0
-  Cause = HasControlCause (held run.shelf) (FailedLast fetched faults run.shelf run.shelf_after) run.words
-
-  abbrev pub Quiet : Answer → Type 0
-  Quiet a = IsQuietAt a (faults run.shelf) (faults run.shelf_after)
-
-  given_cause : (found given : Answer) → Cause found → (given ≡ found) ⊎ ((given ≡ refused no_memory) × (found ≢ refused no_command)) → Cause given
-  given_cause found given cause (inl is) = subst Cause (sym is) cause
-  given_cause found given cause (inr (is, said)) =
-      subst Cause (sym is) (memory_instead (held run.shelf) (FailedLast fetched faults run.shelf run.shelf_after) run.words found said cause)
-
-  given_quiet : (found given : Answer) → Quiet found → (given ≡ found) ⊎ ((given ≡ refused no_memory) × (found ≢ refused no_command)) → Quiet given
-  given_quiet found given quiet (inl is) = subst Quiet (sym is) quiet
-  given_quiet found given quiet (inr (is, said)) = subst Quiet (sym is) (inr tt)
-
-  -- what was found for the words, and what was given for it
-  pub has_controlled : (found given : Answer) → Cause found
-      → ((asked : ControlWords) → SaysControl run.words asked
-      → FetchesBoth (held run.shelf) fetched asked.plan.domain asked.plan.problem FetchesNothing run.shelf run.shelf_after)
-      → (AskNothing run.words → run.shelf_after ≡ run.shelf) → Quiet found
-      → ((file : Bytes) → held run.shelf_after file ≡ held run.shelf file) → faults run.shelf ≤ faults run.shelf_after
-      → (given ≡ found) ⊎ ((given ≡ refused no_memory) × (found ≢ refused no_command))
-      → IsDelivered given run.out run.out_after run.err run.err_after run.status → HasControlled held faults fetched run
-  has_controlled found given cause fetches unfetched quiet kept later same delivered = record {
-    answer = given;
-    cause = given_cause found given cause same;
-    delivered = delivered;
-    fetches = fetches;
-    unfetched = unfetched;
-    quiet = given_quiet found given quiet same;
-    kept = kept;
-    later = later;
-  }
+-- what was found for the words, and what was given for it
+pub has_controlled : {S : Type 0} (held : S → Bytes → Held) (faults : S → ℕ) (fetched : S → Bytes → S → Type 0) (run : ControlRun S) (found given : Answer)
+    → HasControlCause (held run.shelf) (FailedIn faults fetched run) run.words found
+    → ((asked : ControlWords) → SaysControl run.words asked
+    → FetchesBoth (held run.shelf) fetched asked.plan.domain asked.plan.problem FetchesNothing run.shelf run.shelf_after)
+    → (AskNothing run.words → run.shelf_after ≡ run.shelf) → IsQuietAt found (faults run.shelf) (faults run.shelf_after)
+    → ((file : Bytes) → held run.shelf_after file ≡ held run.shelf file) → faults run.shelf ≤ faults run.shelf_after
+    → IsGivenFor found given
+    → IsDelivered given run.out run.out_after run.err run.err_after run.status → HasControlled held faults fetched run
+has_controlled held faults fetched run found given cause fetches unfetched quiet kept later same delivered =
+    is_run SaysControl (IsControlAnswer (held run.shelf) (FailedIn faults fetched run)) (FetchesForControl (held run.shelf) fetched) held faults run
+    (λ asked a did. did) found given cause fetches unfetched quiet kept later same delivered

@@ -16,13 +16,13 @@ use Rattle.task_core.specs.Names.{Name}
 use Rattle.task_core.specs.Systems.{System}
 use Rattle.task_core.specs.Tasks.{action_names as names_of_actions, fluent_names as names_of_fluents, system_of}
 use Rattle.task_core.specs.declared.tasks.Task.{Task}
-use Rattle.mbp_top.specs.Answers.{Refusal, affirmed, over_limit}
-use Rattle.mbp_top.specs.CheckCommand.{HasTooManyStates, most_followed}
-use Rattle.mbp_top.specs.Grounded.{IsTaskOf}
-use Rattle.mbp_top.specs.PlanCommand.{PlanThen}
-use Rattle.mbp_top.specs.Words.{Bytes}
-use Rattle.mbp_top.proofs.CheckAnswers.{too_many}
-use Rattle.mbp_top.proofs.Listings.{same_actions, same_fluents}
+use Rattle.command_base.specs.Answers.{Refusal, affirmed, over_limit}
+use Rattle.command_base.specs.Following.{HasTooManyStates, most_followed}
+use Rattle.command_base.specs.Grounded.{IsTaskOf}
+use Rattle.plan_command.specs.PlanCommand.{PlanThen}
+use Rattle.command_base.specs.Words.{Bytes}
+use Rattle.check_command.proofs.CheckAnswers.{too_many}
+use Rattle.command_base.proofs.TaskNames.{same_actions, same_fluents}
 use Rattle.controller_plan.specs.Controllers.{FindsPlan, IsTooLarge, ReachesTooMany}
 use Rattle.controller_plan.specs.Judged.{IsControlRefusal, IsJudgeRefusal, IsReachRefusal}
 use Rattle.controller_plan.specs.Words.{ControlWords}

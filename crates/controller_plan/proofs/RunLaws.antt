@@ -5,17 +5,17 @@ use Rattle.pddl_ast.specs.Trees.{DomainTree, ProblemTree}
 use Rattle.pddl_system.specs.Systems.{system}
 use Rattle.plan_io.specs.Fetches.{FailedLast}
 use Rattle.plan_io.specs.Held.{Held}
-use Rattle.mbp_top.specs.Answers.{Answer, affirmed, denied, full, is_shown, no_command, no_memory, over_limit, refused, status_of, text_of}
-use Rattle.mbp_top.specs.ContextGoals.{ContextGoalThen}
-use Rattle.mbp_top.specs.Delivery.{IsDelivered, Seen}
-use Rattle.mbp_top.specs.Grounding.{GroundThen}
-use Rattle.mbp_top.specs.InitialStates.{empty_init}
-use Rattle.mbp_top.specs.PddlTexts.{HoldBoth}
-use Rattle.mbp_top.specs.PlanCommand.{HasNoPlan, IsNoPlanText, IsPlanResult, IsResultOf, no_plan_text}
-use Rattle.mbp_top.specs.Words.{Bytes, PlanKind, of_class, with_contexts}
-use Rattle.mbp_top.proofs.Initials.{shown_initial}
-use Rattle.mbp_top.proofs.PddlDecides.{ReadFor, not_refused, shown_both, shown_goal, shown_grounded}
-use Rattle.mbp_top.proofs.Statuses.{shown_at, whole_delivery, written_shown}
+use Rattle.command_base.specs.Answers.{Answer, affirmed, denied, full, is_shown, no_command, no_memory, over_limit, refused, status_of, text_of}
+use Rattle.plan_command.specs.ContextGoals.{ContextGoalThen}
+use Rattle.command_base.specs.Delivery.{IsDelivered, Seen}
+use Rattle.command_base.specs.Grounding.{GroundThen}
+use Rattle.command_base.specs.InitialStates.{empty_init}
+use Rattle.command_base.specs.PddlTexts.{HoldBoth}
+use Rattle.plan_command.specs.PlanCommand.{HasNoPlan, IsNoPlanText, IsPlanResult, IsResultOf, no_plan_text}
+use Rattle.command_base.specs.Words.{Bytes, PlanKind, of_class, with_contexts}
+use Rattle.command_base.proofs.Initials.{shown_initial}
+use Rattle.command_base.proofs.PddlDecides.{ReadFor, not_refused, shown_both, shown_goal, shown_grounded}
+use Rattle.command_base.proofs.Statuses.{shown_at, whole_delivery, written_shown}
 use Rattle.controller_plan.specs.Controllers.{AffirmsNothing, ControlThen, IsControlAnswer, IsControlled, IsControllerShown}
 use Rattle.controller_plan.specs.Laws.{IsControllerRun, IsNoPlanRun}
 use Rattle.controller_plan.specs.Runs.{ControlRun, HasControlCause, HasControlled}

@@ -19,16 +19,16 @@ use Rattle.plan_rules.specs.Rules.{PlainPlan, automaton, table}
 use Rattle.task_core.specs.Names.{Name}
 use Rattle.task_core.specs.Systems.{System}
 use Rattle.task_core.specs.Tasks.{action_names as names_of_actions, fluent_names as names_of_fluents, initial_states, system_of}
-use Rattle.mbp_top.specs.Answers.{Answer, affirmed}
-use Rattle.mbp_top.specs.Grounded.{IsGroundedOf}
-use Rattle.mbp_top.specs.Grounding.{has_goal_for}
-use Rattle.mbp_top.specs.Judged.{HasGoalIn, IsTaskVerdict}
-use Rattle.mbp_top.specs.Meets.{Meets, PlanMeets}
-use Rattle.mbp_top.specs.Reading.{file_limit}
-use Rattle.mbp_top.specs.Words.{Bytes, PlanKind, of_class, with_contexts}
-use Rattle.mbp_top.proofs.CheckAnswers.{goal_in, verdict_for}
-use Rattle.mbp_top.proofs.CheckWritten.{YesSolves, yes_is_met}
-use Rattle.mbp_top.proofs.Listings.{same_actions, same_fluents}
+use Rattle.command_base.specs.Answers.{Answer, affirmed}
+use Rattle.command_base.specs.Grounded.{IsGroundedOf}
+use Rattle.command_base.specs.Grounding.{has_goal_for}
+use Rattle.check_command.specs.Judged.{HasGoalIn, IsTaskVerdict}
+use Rattle.plan_meets.specs.Meets.{Meets, PlanMeets}
+use Rattle.command_base.specs.Reading.{file_limit}
+use Rattle.command_base.specs.Words.{Bytes, PlanKind, of_class, with_contexts}
+use Rattle.check_command.proofs.CheckAnswers.{goal_in, verdict_for}
+use Rattle.check_command.proofs.YesMeets.{YesSolves, yes_is_met}
+use Rattle.command_base.proofs.TaskNames.{same_actions, same_fluents}
 use Rattle.controller_plan.specs.Controllers.{HasLongText, IsController, IsControllerShown, run_meaning, shown_bytes, text_for}
 use Rattle.controller_plan.specs.Judged.{IsFoundGood, IsJudged, IsYesFor, bytes_as}
 use Rattle.controller_plan.specs.Words.{ControlWords}

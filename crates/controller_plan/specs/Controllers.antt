@@ -15,14 +15,14 @@ use Rattle.plan_rules.specs.Readings.{SpellsPlain}
 use Rattle.plan_rules.specs.Rules.{PlainPlan, PlanRule, automaton, table}
 use Rattle.task_core.specs.Systems.{System}
 use Rattle.task_core.specs.declared.classes.Class.TheVariants.{Weak}
-use Rattle.mbp_top.specs.Answers.{Answer, affirmed, full, over_limit, refused}
-use Rattle.mbp_top.specs.CheckCommand.{HasTooManyStates, most_followed}
-use Rattle.mbp_top.specs.Grounding.{GoalThen, GroundThen}
-use Rattle.mbp_top.specs.Meets.{Meaning, Meets, PlanMeets, contextual, pairs}
-use Rattle.mbp_top.specs.PddlTexts.{ReadBoth}
-use Rattle.mbp_top.specs.PlanCommand.{IsWrittenFor, MayRunOut, PlanThen}
-use Rattle.mbp_top.specs.Reading.{file_limit}
-use Rattle.mbp_top.specs.Words.{Bytes, PlanKind}
+use Rattle.command_base.specs.Answers.{Answer, affirmed, full, over_limit, refused}
+use Rattle.command_base.specs.Following.{HasTooManyStates, most_followed}
+use Rattle.command_base.specs.Grounding.{GoalThen, GroundThen}
+use Rattle.plan_meets.specs.Meets.{Meaning, Meets, PlanMeets, contextual, pairs}
+use Rattle.command_base.specs.PddlTexts.{ReadBoth}
+use Rattle.plan_command.specs.PlanCommand.{IsWrittenFor, MayRunOut, PlanThen}
+use Rattle.command_base.specs.Reading.{file_limit}
+use Rattle.command_base.specs.Words.{Bytes, PlanKind}
 use Rattle.controller_plan.specs.Words.{ControlWords}
 
 -- what a plan means as it is run: of a table the pairs of the first rule that matches each state, of

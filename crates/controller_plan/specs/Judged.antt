@@ -12,11 +12,11 @@ use Rattle.plan_rules.specs.Rules.{PlainPlan}
 use Rattle.task_core.specs.Names.{Name}
 use Rattle.task_core.specs.Tasks.{initial_states, system_of}
 use Rattle.task_core.specs.declared.tasks.Task.{Task}
-use Rattle.mbp_top.specs.Answers.{Refusal, no_memory, over_limit}
-use Rattle.mbp_top.specs.CheckCommand.{most_followed}
-use Rattle.mbp_top.specs.Judged.{IsTaskVerdict}
-use Rattle.mbp_top.specs.PlanCommand.{IsWrittenFor}
-use Rattle.mbp_top.specs.Words.{Bytes, PlanKind}
+use Rattle.command_base.specs.Answers.{Refusal, no_memory, over_limit}
+use Rattle.command_base.specs.Following.{most_followed}
+use Rattle.check_command.specs.Judged.{IsTaskVerdict}
+use Rattle.plan_command.specs.PlanCommand.{IsWrittenFor}
+use Rattle.command_base.specs.Words.{Bytes, PlanKind}
 use Rattle.controller_plan.specs.Controllers.{IsLimitPassed}
 use Rattle.controller_plan.specs.Words.{ControlWords}
 

@@ -4,9 +4,9 @@ use Rattle.std.specs.Prelude.{◌≡◌, ℕ, List}
 use Rattle.std.specs.Io.KnownBytes.{append_known}
 use Rattle.pddl_ast.specs.Trees.{DomainTree, ProblemTree}
 use Rattle.plan_io.specs.Held.{Held}
-use Rattle.mbp_top.specs.PddlTexts.{HoldBoth}
-use Rattle.mbp_top.specs.PlanCommand.{HasNoPlan, no_plan_text}
-use Rattle.mbp_top.specs.Words.{Bytes}
+use Rattle.command_base.specs.PddlTexts.{HoldBoth}
+use Rattle.plan_command.specs.PlanCommand.{HasNoPlan, no_plan_text}
+use Rattle.command_base.specs.Words.{Bytes}
 use Rattle.controller_plan.specs.Controllers.{IsControllerText, shown_bytes}
 use Rattle.plan_rules.specs.Rules.{PlainPlan}
 use Rattle.controller_plan.specs.Runs.{ControlRun, HasControlled}

@@ -10,21 +10,14 @@ ghost use Rattle.controller_plan.specs.Judged.{IsControlRefusal, IsJudged, bytes
 ghost use Rattle.controller_plan.specs.Runs.{HasControlCause};
 ghost use Rattle.controller_plan.specs.Values.{control_words_of};
 ghost use Rattle.controller_plan.specs.Words.{AskNothing, ControlWords as AskedControl, SaysControl};
-ghost use Rattle.mbp_top.specs.Answers.{affirmed, full, no_memory, refused};
-ghost use Rattle.mbp_top.specs.Causes.{IsQuietAt};
-ghost use Rattle.mbp_top.specs.Fetching.{FetchesBoth};
-ghost use Rattle.mbp_top.specs.Grounded.{IsGroundedOf};
-ghost use Rattle.mbp_top.specs.Grounding.{has_goal_for};
-ghost use Rattle.mbp_top.specs.PlanCommand.{MayBeTooFew, PlanThen};
-ghost use Rattle.mbp_top.specs.Values.{
-  answer_of,
-  bytes_of,
-  kind_of,
-  plan_words_of,
-  refusal_of,
-  shown_of,
-};
-ghost use Rattle.mbp_top.specs.Words.{IsNodeLimit};
+ghost use Rattle.command_base.specs.Answers.{affirmed, full, no_memory, refused};
+ghost use Rattle.command_base.specs.Faults.{IsQuietAt};
+ghost use Rattle.command_base.specs.Fetching.{FetchesBoth};
+ghost use Rattle.command_base.specs.Grounded.{IsGroundedOf};
+ghost use Rattle.command_base.specs.Grounding.{has_goal_for};
+ghost use Rattle.plan_command.specs.PlanCommand.{MayBeTooFew, PlanThen};
+ghost use Rattle.command_base.specs.Values.{answer_of, bytes_of, kind_of, plan_words_of, refusal_of, shown_of};
+ghost use Rattle.command_base.specs.Words.{IsNodeLimit};
 ghost use Rattle.pddl_ast.specs.Fits.{FitsDomain, FitsProblem};
 ghost use Rattle.pddl_ast.specs.Values.{domain_value, problem_value};
 ghost use Rattle.pddl_system.specs.Names.{NamesAreWords};
@@ -56,7 +49,8 @@ use crate::searches::{Sought, follow_found, seek};
 use crate::words::{ControlWords, read_words};
 use controller_rules::write_controller;
 use ground_task::Grounded;
-use mbp_top::{Limit, Refusal, Shown, Text, check_goal, ground_both, plan_grounded, read_both};
+use command_base::{Limit, Refusal, Shown, Text, check_goal, ground_both, read_both};
+use plan_command::plan_grounded;
 use pddl_ast::{Domain, Problem};
 use pddl_system::grounded_goals_are_true;
 use plan_check::yes_is_solution;

@@ -1,7 +1,7 @@
 //! The plan that rules make. Nothing is promised of it: it is judged before it is shown.
 
 use crate::rules::{Pattern, ShortRule};
-use mbp_top::PlanKind;
+use command_base::PlanKind;
 use plan_rules::{AutoPlan, AutoRule, FIRST_CONTEXT, Next, Plan, Rule, TablePlan};
 use std::alloc::{AllocError, Global};
 use task_core::{FluentId, Lit};

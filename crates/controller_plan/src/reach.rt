@@ -3,8 +3,8 @@
 ghost use Rattle.controller_plan.specs.Controllers.{IsTooLarge, any_rules};
 ghost use Rattle.controller_plan.specs.Judged.{IsReachRefusal};
 ghost use Rattle.exec_graph.specs.Executions.{ReachesMoreThan};
-ghost use Rattle.mbp_top.specs.CheckCommand.{most_followed};
-ghost use Rattle.mbp_top.specs.Values.{refusal_of};
+ghost use Rattle.command_base.specs.Following.{most_followed};
+ghost use Rattle.command_base.specs.Values.{refusal_of};
 ghost use Rattle.plan_rules.specs.Plans.{IsPlanOf};
 ghost use Rattle.plan_rules.specs.Readings.{SpellsPlain};
 ghost use Rattle.plan_rules.specs.Rules.{plain_of, table};
@@ -19,7 +19,7 @@ ghost use Rattle.task_core.specs.Tasks.{
 ghost use Rattle.task_core.specs.declared.classes.Class.TheVariants.{Weak};
 
 use exec_graph::{GraphErr, explore};
-use mbp_top::{Limit, Refusal};
+use command_base::{Limit, Refusal};
 use plan_rules::{Class, Plan, PlanRead, Rule, TablePlan, read_plan};
 use sexpr_text::{MAX_BYTES, ReadErr};
 use std::alloc::{AllocError, Global};

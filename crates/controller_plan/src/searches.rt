@@ -3,7 +3,7 @@
 ghost use Rattle.controller_plan.specs.Followed.{AreReachedWithin, AreSlotsLive};
 ghost use Rattle.ctl_syntax.specs.Values.{IsAtMostDeep, NamesBelow, ctl_value};
 ghost use Rattle.encode_task.specs.Made.{MadeOf};
-ghost use Rattle.mbp_top.specs.Words.{IsNodeLimit};
+ghost use Rattle.command_base.specs.Words.{IsNodeLimit};
 ghost use Rattle.plan_rules.specs.Plans.{IsPlanOf};
 ghost use Rattle.plan_theory.specs.Classes.{IsFoundByLayers};
 ghost use Rattle.std.specs.Prelude.{◌≡◌, ◌≤◌, IfOk, IfSome, IsSome, OnOk};
@@ -16,7 +16,8 @@ use dd_sets::{SetErr, SetId};
 use encode_task::{Enc, encode};
 use exec_graph::MAX_CONFIGURATIONS;
 use ground_task::Grounded;
-use mbp_top::{PlanKind, PlanWords, encode_ordered};
+use command_base::{PlanKind, PlanWords};
+use task_sets::encode_ordered;
 use plan_guide::Guide;
 use plan_rules::{Class, Plan};
 use reach_plan::{Takers, find_takers};

@@ -1,6 +1,8 @@
 //! The states from which every visit can be made again and again, and those that take each action.
 
-ghost use Rattle.std.specs.Prelude.{◌≡◌, ℕ, suc, ◌≤◌, ◌+◌, ◌<◌, List, get_or, length};
+ghost use Rattle.std.specs.Prelude.{◌≡◌, ℕ, suc, ◌≤◌, ◌+◌, ◌<◌, List, get_or, length, true};
+ghost use Rattle.plan_theory.specs.Patrols.{covers_patrol};
+ghost use Rattle.patrol_plan.specs.Chains.{visit_sets};
 ghost use Rattle.task_core.specs.Tasks.{action_count};
 ghost use Rattle.task_core.specs.declared.conditions.Cond.{Cond as CondOf};
 ghost use Rattle.patrol_plan.specs.Chains.{IsConditionOver, IsPatrolOver, most_visits};
@@ -173,11 +175,13 @@ fn take_visit(
 ) -> Result<(), SetErr>
     requires ready { (start : Start) × (conds : List CondOf) × (i : ℕ) × (place ≡ visit_place i)
         × (takers ≡ takers_place (action_count start.task) start.stages i) × (i < start.stages)
-        × HasPatrol start conds (enc.old, board.old.slots.items) i }
+        × HasPatrol start conds (enc.old, board.old.slots.items) i
+        × (covers_patrol (sys_of start) (visit_sets conds) ≡ true) }
     requires actions { actions ≡ length enc.old.actions }
     ensures { (start : Start) (conds : List CondOf) (i : ℕ) → place ≡ visit_place i
         → takers ≡ takers_place (action_count start.task) start.stages i → i < start.stages
         → HasPatrol start conds (enc.old, board.old.slots.items) i
+        → covers_patrol (sys_of start) (visit_sets conds) ≡ true
         → Left start (enc.new, board.new.slots.items)
         (HasPatrol start conds (enc.new, board.new.slots.items) (suc i)) result }
 {
@@ -193,11 +197,13 @@ pub(crate) fn take_visits(
     visits: u32,
 ) -> Result<(), SetErr>
     requires ready { (start : Start) × (conds : List CondOf) × (start.stages ≡ visits)
-        × HasPatrol start conds (enc.old, board.old.slots.items) 0 }
+        × HasPatrol start conds (enc.old, board.old.slots.items) 0
+        × (covers_patrol (sys_of start) (visit_sets conds) ≡ true) }
     requires actions { actions ≡ length enc.old.actions }
     requires few { visits ≤ most_visits }
     ensures { (start : Start) (conds : List CondOf) → start.stages ≡ visits
         → HasPatrol start conds (enc.old, board.old.slots.items) 0
+        → covers_patrol (sys_of start) (visit_sets conds) ≡ true
         → Left start (enc.new, board.new.slots.items)
         (HasPatrol start conds (enc.new, board.new.slots.items) start.stages) result }
 {
