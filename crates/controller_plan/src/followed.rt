@@ -14,7 +14,7 @@ use indexmap::IndexSet;
 use plan_guide::{Guide, GuideNext};
 use reached_plan::ReachedPlan;
 use std::alloc::Global;
-use task_core::{ActionId, State, Task, in_space, step};
+use task_core::{ActionId, State, Task, in_space, outcome_count, step};
 
 /// A configuration: a state, and the context that the plan is in, counted from 0.
 #[derive(Clone, Copy, PartialEq, Eq, Hash)]
@@ -336,12 +336,4 @@ fn is_taken_in(enc: &Enc, slots: &[SetId], first: usize, after: usize, state: &S
         }
         None => false,
     }
-}
-
-/// How many outcomes an action has.
-fn outcome_count(task: &Task, action: ActionId) -> u32
-    requires { action.0 < action_count task.now }
-    ensures { result ≡ length (outcomes_at task.now action.0) }
-{
-    task.actions[action.0 as usize].outcomes.len() as u32
 }

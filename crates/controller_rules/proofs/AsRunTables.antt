@@ -4,8 +4,8 @@ use Rattle.std.proofs.Common.{◌≡◌, ◌&&◌, ◌||◌, ◌<◌, ℕ, Bool,
 use Rattle.std.specs.List.{Contains, filter, find, list_any, range_with_len}
 use Rattle.std.specs.Option.{option_map_or}
 use Rattle.std.proofs.lemmas.Bool.{false≢true, and_from, and_parts, eq-eqb, eqb-true}
-use Rattle.exec_graph.proofs.DenotedPairs.{denoted-from, denoted-pair}
-use Rattle.exec_graph.proofs.Lists.{Contains-filter, Contains-filter-witness, Contains-flat_map, Contains-flat_map-witness, Contains-map, Contains-map-witness, Contains-range_with_len, Contains-range_with_len-below, find-found, list_any-from, list_any-witness}
+use Rattle.plan_rules.proofs.DenotedPairs.{denoted-from, denoted-pair}
+use Rattle.list_laws.proofs.Elements.{Contains-filter, Contains-filter-witness, Contains-flat_map, Contains-flat_map-witness, Contains-map, Contains-map-witness, Contains-range_with_len, Contains-range_with_len-below, find-found, list_any-from, list_any-witness}
 use Rattle.plan_guide.specs.RunRules.{in_one_context}
 use Rattle.plan_rules.specs.Denoted.{advises, can_execute, denoted}
 use Rattle.plan_rules.specs.Rules.{PlanRule, table}

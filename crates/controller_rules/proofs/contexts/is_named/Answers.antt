@@ -1,6 +1,6 @@
 use Rattle.std.proofs.Common.{sym}
 use Rattle.plan_rules.specs.Rules.{context_rule_of}
-use Rattle.exec_graph.proofs.Lists.{Contains-map}
+use Rattle.list_laws.proofs.Elements.{Contains-map}
 use Rattle.controller_rules.proofs.contexts.is_named.Goals as goal
 
 pub returns-then-names : goal.returns-then-names

@@ -1,7 +1,8 @@
 use Rattle.std.proofs.Common.{rules, ◌≡◌, ◌∙◌, Bor, List, map, ap, subst, sym}
 use Rattle.std.specs.List.{All}
 use Rattle.cube_index.specs.Index.{AreLits, IsIndexOf}
-use Rattle.plan_guide.proofs.InTask.{lits_mapped, run_rules_in_task, unmapped}
+use Rattle.plan_guide.proofs.InTask.{lits_mapped, run_rules_in_task}
+use Rattle.list_laws.proofs.Elements.{All-unmap}
 use Rattle.plan_guide.specs.RunRules.{run_rules}
 use Rattle.plan_rules.specs.Rules.{plain_of}
 use Rattle.task_core.specs.Tasks.{action_count, fluent_count}
@@ -20,7 +21,7 @@ new-requires c =
     let lits = lits_within n c.in-Some.rules.items c.args.task.now.few_fluents
     (cubes_within n m c.in-Some.rules.items (run_rules (plain_of c.args.plan.now)) same (run_rules_in_task n m (plain_of c.args.plan.now) c.requires)) in
     subst (All (λ (cube : Bor (List Lit)). AreLits cube.now)) (sym c.deref-in-Some.ensures.value)
-    (unmapped AreLits seen c.in_ok-cubes-in-Some.cubes.items
+    (All-unmap AreLits seen c.in_ok-cubes-in-Some.cubes.items
     (lits_mapped run_cube c.deref.result.now _ c.in_ok-cubes-in-Some.ensures
     (subst (All (λ (rule : RunRule). AreLits (run_cube rule))) (sym c.deref.ensures.value) lits)))
 
