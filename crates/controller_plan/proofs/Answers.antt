@@ -86,12 +86,12 @@ plan_found asked d p text found is (inr (inl (few, full_is))) = absurd (refused_
 plan_found asked d p text found is (inr (inr then)) = subst (λ (x : Answer). PlanThen asked.plan d p x) is then
 
 -- its answer where it doesn't
-pub plan_answer : (asked : ControlWords) (d : DomainTree) (p : ProblemTree) (found a : Answer) → found ≡ a → AffirmsNothing a
+pub plan_answer : (asked : ControlWords) (d : DomainTree) (p : ProblemTree) (found a : Answer) → a ≡ found → AffirmsNothing found
     → (found ≡ refused no_memory) ⊎ (MayBeTooFew asked.plan d p × (found ≡ refused (full asked.plan.options.nodes))) ⊎ PlanThen asked.plan d p found
     → (a ≡ refused no_memory) ⊎ (MayBeTooFew asked.plan d p × (a ≡ refused (full asked.plan.options.nodes))) ⊎ ControlThen asked d p a
 plan_answer asked d p found a same none why =
-    of_plan asked d p a none
-    (subst (λ (x : Answer). (x ≡ refused no_memory) ⊎ (MayBeTooFew asked.plan d p × (x ≡ refused (full asked.plan.options.nodes))) ⊎ PlanThen asked.plan d p x) same why)
+    subst (λ (x : Answer). (x ≡ refused no_memory) ⊎ (MayBeTooFew asked.plan d p × (x ≡ refused (full asked.plan.options.nodes))) ⊎ ControlThen asked d p x) (sym same)
+    (of_plan asked d p found none why)
 
 -- what was found for the words, and what was given for it
 pub has_controlled : {S : Type 0} (held : S → Bytes → Held) (faults : S → ℕ) (fetched : S → Bytes → S → Type 0) (run : ControlRun S) (found given : Answer)

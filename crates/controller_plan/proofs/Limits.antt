@@ -23,19 +23,9 @@ use Rattle.plan_command.specs.PlanCommand.{PlanThen}
 use Rattle.command_base.specs.Words.{Bytes}
 use Rattle.check_command.proofs.CheckAnswers.{too_many}
 use Rattle.command_base.proofs.TaskNames.{same_actions, same_fluents}
-use Rattle.controller_plan.specs.Controllers.{FindsPlan, IsTooLarge, ReachesTooMany}
+use Rattle.controller_plan.specs.Controllers.{FindsPlan, ReachesTooMany}
 use Rattle.controller_plan.specs.Judged.{IsControlRefusal, IsJudgeRefusal, IsReachRefusal}
 use Rattle.controller_plan.specs.Words.{ControlWords}
-
--- the rule of an action that may be taken in any state
-abbrev pub any_rule : ℕ → PlanRule
-any_rule a = record { cube = []; action = a }
-
--- one rule more of the task
-pub rule_more : (fluents actions : ℕ) (rules : List Rule) (rule : Rule) → All (IsRuleOf fluents actions) (map rule_of rules) → IsRuleOf fluents actions (rule_of rule)
-    → All (IsRuleOf fluents actions) (map rule_of (rules ++ rule ∷ []))
-rule_more fluents actions rules rule all one =
-    subst (All (IsRuleOf fluents actions)) (sym (map-append rule_of rules (rule ∷ []))) (All-push (IsRuleOf fluents actions) (map rule_of rules) (rule_of rule) all one)
 
 -- too many initial states
 initial : (asked : ControlWords) (d : DomainTree) (p : ProblemTree) (task : Task) (r : Refusal) → IsTaskOf d p task → HasTooManyInitial task most_followed → r ≡ over_limit (codes "initial") → IsControlRefusal asked d p r
@@ -47,7 +37,7 @@ judge_refusal asked d p task r of (inr (many, is)) = initial asked d p task r of
 
 -- too many of them, or of configurations
 pub reach_refusal : (asked : ControlWords) (d : DomainTree) (p : ProblemTree) (task : Task) (TooMany : Type 0) (r : Refusal) → IsTaskOf d p task
-    → (TooMany → ReachesTooMany asked d p ⊎ IsTooLarge (system d p) ⊎ FindsPlan asked d p) → IsReachRefusal task TooMany r → IsControlRefusal asked d p r
+    → (TooMany → ReachesTooMany asked d p ⊎ FindsPlan asked d p) → IsReachRefusal task TooMany r → IsControlRefusal asked d p r
 reach_refusal asked d p task TooMany r of why (inl memory) = inl memory
 reach_refusal asked d p task TooMany r of why (inr (inl (many, is))) = initial asked d p task r of many is
 reach_refusal asked d p task TooMany r of why (inr (inr (more, is))) = inr (codes "configurations", inr (inl (refl, why more)), is)
@@ -66,4 +56,4 @@ plan_reaches asked d p task text plan of found spelled more = record {
 
 -- a plan is found, and no controller was made of it
 pub not_made : (asked : ControlWords) (d : DomainTree) (p : ProblemTree) (text : Bytes) (r : Refusal) → PlanThen asked.plan d p (affirmed text) → r ≡ over_limit (codes "configurations") → IsControlRefusal asked d p r
-not_made asked d p text r found is = inr (codes "configurations", inr (inl (refl, inr (inr (text, found)))), is)
+not_made asked d p text r found is = inr (codes "configurations", inr (inl (refl, inr (text, found))), is)

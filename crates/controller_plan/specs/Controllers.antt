@@ -1,7 +1,6 @@
 -- Which answer is a controller, and the answer to the words.
 use Rattle.std.specs.Prelude.{◌≡◌, ◌≢◌, ◌<◌, ◌≤◌, ◌⊎◌, ℕ, Bool, true, false, List, [], codes}
-use Rattle.std.specs.Prelude.{length, map}
-use Rattle.std.specs.List.{range_with_len}
+use Rattle.std.specs.Prelude.{length}
 use Rattle.controller_rules.specs.AsRun.{HasNoDeadRule, HasOneMove, NamesLastContext, run_table}
 use Rattle.controller_rules.specs.Texts.{controller_text}
 use Rattle.exec_graph.specs.Executions.{ReachesMoreThan}
@@ -12,9 +11,8 @@ use Rattle.plan_document.specs.Faithful.{IsToldInFull}
 use Rattle.plan_io.specs.Held.{Held}
 use Rattle.plan_rules.specs.Denoted.{denoted_contexts}
 use Rattle.plan_rules.specs.Readings.{SpellsPlain}
-use Rattle.plan_rules.specs.Rules.{PlainPlan, PlanRule, automaton, table}
+use Rattle.plan_rules.specs.Rules.{PlainPlan, automaton, table}
 use Rattle.task_core.specs.Systems.{System}
-use Rattle.task_core.specs.declared.classes.Class.TheVariants.{Weak}
 use Rattle.command_base.specs.Answers.{Answer, affirmed, full, over_limit, refused}
 use Rattle.command_base.specs.Following.{HasTooManyStates, most_followed}
 use Rattle.command_base.specs.Grounding.{GoalThen, GroundThen}
@@ -89,29 +87,20 @@ pub record ReachesTooMany (asked : ControlWords) (domain : DomainTree)
   pub spelled : SpellsPlain (fluent_names domain problem) (action_names domain problem) text plan
   pub more : ReachesMoreThan (system domain problem) plan most_followed
 
--- the rules that take any action in any state
-abbrev pub any_rules : System → List PlanRule
-any_rules sys = map (λ a. record { cube = []; action = a }) (range_with_len 0 sys.actions)
-
--- more states can be reached at all, whatever is done in them
-abbrev pub IsTooLarge : System → Type 0
-IsTooLarge sys = ReachesMoreThan sys (table Weak (any_rules sys)) most_followed
-
 -- `plan` finds a plan
 abbrev pub FindsPlan : ControlWords → DomainTree → ProblemTree → Type 0
 FindsPlan asked domain problem =
     (text : Bytes) × PlanThen asked.plan domain problem (affirmed text)
 
 -- the names of the limits that a controller may pass, each with its cause: there are too many initial
--- states; the plan that `plan` finds reaches more than is followed, or more can be reached at all, or
--- `plan` finds one and yet no controller was judged to be good; or a controller was found, and its
--- text is longer than a plan's file may be
+-- states; the plan that `plan` finds reaches more than is followed, or `plan` finds one and yet no
+-- controller was judged to be good; or a controller was found, and its text is longer than a plan's
+-- file may be
 abbrev pub IsLimitPassed : ControlWords → DomainTree → ProblemTree → Bytes → Type 0
 IsLimitPassed asked domain problem name =
     ((name ≡ codes "initial") × HasTooManyStates domain problem)
     ⊎ ((name ≡ codes "configurations")
-    × (ReachesTooMany asked domain problem ⊎ IsTooLarge (system domain problem)
-    ⊎ FindsPlan asked domain problem))
+    × (ReachesTooMany asked domain problem ⊎ FindsPlan asked domain problem))
     ⊎ ((name ≡ codes "file") × HasLongText asked.plan.kind domain problem)
 
 -- the answer affirms nothing

@@ -1,6 +1,7 @@
 //! From the words to the answer.
 
 ghost use Rattle.controller_plan.specs.Controllers.{
+  AffirmsNothing,
   ControlThen,
   IsControlAnswer,
   IsControlled,
@@ -24,6 +25,7 @@ ghost use Rattle.pddl_system.specs.Names.{NamesAreWords};
 ghost use Rattle.plan_document.specs.Faithful.{IsToldInFull};
 ghost use Rattle.plan_io.specs.Fetches.{FailedLast, FetchesNothing};
 ghost use Rattle.plan_rules.specs.Plans.{IsPlanOf};
+ghost use Rattle.plan_rules.specs.Readings.{SpellsPlain};
 ghost use Rattle.plan_rules.specs.Rules.{plain_of};
 ghost use Rattle.std.specs.Prelude.{
   ◌≡◌,
@@ -32,6 +34,7 @@ ghost use Rattle.std.specs.Prelude.{
   IfErr,
   IfOk,
   IfSome,
+  IsTrue,
   List,
   map,
   string_bytes,
@@ -43,7 +46,7 @@ ghost use Rattle.task_core.specs.Tasks.{action_count, action_names, fluent_count
 use crate::followed::Followed;
 use crate::judged::is_controller;
 use crate::plans::{plan_of, steps_of};
-use crate::reach::{check_reach, check_reached, plan_in};
+use crate::reach::{check_reached, plan_in};
 use crate::rules::{Length, rules_of};
 use crate::searches::{Sought, follow_found, seek};
 use crate::words::{ControlWords, read_words};
@@ -201,12 +204,23 @@ fn without_controller(
         ⊎ ControlThen asked (domain_value domain.now) (problem_value problem.now)
         (answer_of result) }
 {
-    match plan_grounded(alloc, &asked.plan, domain, problem, grounded) {
-        Ok(Shown::Affirmed(text)) => {
-            controller_of_text(alloc, asked, domain, problem, grounded, &text)
-        }
-        Ok(Shown::Denied(text)) => Ok(Shown::Denied(text)),
-        Err(refusal) => Err(refusal),
+    let found = plan_grounded(alloc, &asked.plan, domain, problem, grounded);
+    match found_text(found) {
+        Ok(text) => controller_of_text(alloc, asked, domain, problem, grounded, text.as_bytes()),
+        Err(other) => other,
+    }
+}
+
+/// The text of the plan that was found; or the answer, where it is no plan.
+fn found_text(found: Result<Shown, Refusal>) -> Result<Text, Result<Shown, Refusal>>
+    ensures text { IfOk result (λ text. answer_of found ≡ affirmed (bytes_of text)) }
+    ensures other { IfErr result (λ other. (answer_of other ≡ answer_of found)
+        × AffirmsNothing (answer_of found)) }
+{
+    match found {
+        Ok(Shown::Affirmed(text)) => Ok(text),
+        Ok(Shown::Denied(text)) => Err(Ok(Shown::Denied(text))),
+        Err(refusal) => Err(Err(refusal)),
     }
 }
 
@@ -217,33 +231,110 @@ fn controller_of_text(
     domain: &Domain,
     problem: &Problem,
     grounded: &Grounded,
-    text: &Text,
+    text: &[u8],
 ) -> Result<Shown, Refusal>
     requires goal { has_goal_for (kind_of asked.now.plan.kind) (problem_value problem.now)
         ≡ true }
     requires grounded { IsGroundedOf (domain_value domain.now) (problem_value problem.now)
         grounded.now }
     requires found { PlanThen (plan_words_of asked.now.plan) (domain_value domain.now)
-        (problem_value problem.now) (affirmed (bytes_of text.now)) }
+        (problem_value problem.now) (affirmed text.now) }
     ensures shown { IfOk result (λ shown. IsControllerShown (control_words_of asked.now)
         (domain_value domain.now) (problem_value problem.now) (shown_of shown)) }
     ensures refused { IfErr result (λ refusal. IsControlRefusal (control_words_of asked.now)
         (domain_value domain.now) (problem_value problem.now) (refusal_of refusal)) }
 {
-    let task = &grounded.task;
-    match plan_in(alloc, task, text.as_bytes())? {
-        Some(read) => {
-            check_reached(alloc, task, &read.plan)?;
-            if let Some(followed) = follow_found(alloc, task, &read.plan)? {
-                let found = shown_controller(alloc, asked, domain, problem, grounded, &followed)?;
-                if let Some(shown) = found {
-                    return Ok(shown);
-                }
-            }
-        }
-        None => check_reach(alloc, task)?,
+    match made_of_text(alloc, asked, domain, problem, grounded, text)? {
+        Some(shown) => Ok(shown),
+        None => Err(Refusal::OverLimit(Limit::Configurations)),
     }
-    Err(Refusal::OverLimit(Limit::Configurations))
+}
+
+/// The controller for the plan that a text of `plan` spells, if one can be made of it.
+fn made_of_text(
+    alloc: Global,
+    asked: &ControlWords,
+    domain: &Domain,
+    problem: &Problem,
+    grounded: &Grounded,
+    text: &[u8],
+) -> Result<Option<Shown>, Refusal>
+    requires goal { has_goal_for (kind_of asked.now.plan.kind) (problem_value problem.now)
+        ≡ true }
+    requires grounded { IsGroundedOf (domain_value domain.now) (problem_value problem.now)
+        grounded.now }
+    requires found { PlanThen (plan_words_of asked.now.plan) (domain_value domain.now)
+        (problem_value problem.now) (affirmed text.now) }
+    ensures shown { IfOk result (λ found. IfSome found (λ shown.
+        IsControllerShown (control_words_of asked.now)
+        (domain_value domain.now) (problem_value problem.now) (shown_of shown))) }
+    ensures refused { IfErr result (λ refusal. IsControlRefusal (control_words_of asked.now)
+        (domain_value domain.now) (problem_value problem.now) (refusal_of refusal)) }
+{
+    match plan_in(alloc, &grounded.task, text)? {
+        Some(read) => made_of_plan(alloc, asked, domain, problem, grounded, text, &read.plan),
+        None => Ok(None),
+    }
+}
+
+/// The controller for a plan that `plan` finds, if one can be made of it.
+fn made_of_plan(
+    alloc: Global,
+    asked: &ControlWords,
+    domain: &Domain,
+    problem: &Problem,
+    grounded: &Grounded,
+    text: &[u8],
+    plan: &Plan,
+) -> Result<Option<Shown>, Refusal>
+    requires goal { has_goal_for (kind_of asked.now.plan.kind) (problem_value problem.now)
+        ≡ true }
+    requires grounded { IsGroundedOf (domain_value domain.now) (problem_value problem.now)
+        grounded.now }
+    requires found { PlanThen (plan_words_of asked.now.plan) (domain_value domain.now)
+        (problem_value problem.now) (affirmed text.now) }
+    requires spelled { SpellsPlain (fluent_names grounded.now.task)
+        (action_names grounded.now.task) text.now (plain_of plan.now) }
+    requires in_task { IsPlanOf (fluent_count grounded.now.task) (action_count grounded.now.task)
+        plan.now }
+    ensures shown { IfOk result (λ found. IfSome found (λ shown.
+        IsControllerShown (control_words_of asked.now)
+        (domain_value domain.now) (problem_value problem.now) (shown_of shown))) }
+    ensures refused { IfErr result (λ refusal. IsControlRefusal (control_words_of asked.now)
+        (domain_value domain.now) (problem_value problem.now) (refusal_of refusal)) }
+{
+    check_found(alloc, asked, domain, problem, grounded, text, plan)?;
+    match follow_found(alloc, &grounded.task, plan)? {
+        Some(followed) => shown_controller(alloc, asked, domain, problem, grounded, &followed),
+        None => Ok(None),
+    }
+}
+
+/// Refuses where a plan that `plan` finds reaches more than may be followed.
+fn check_found(
+    alloc: Global,
+    asked: &ControlWords,
+    domain: &Domain,
+    problem: &Problem,
+    grounded: &Grounded,
+    text: &[u8],
+    plan: &Plan,
+) -> Result<(), Refusal>
+    requires grounded { IsGroundedOf (domain_value domain.now) (problem_value problem.now)
+        grounded.now }
+    requires found { PlanThen (plan_words_of asked.now.plan) (domain_value domain.now)
+        (problem_value problem.now) (affirmed text.now) }
+    requires spelled { SpellsPlain (fluent_names grounded.now.task)
+        (action_names grounded.now.task) text.now (plain_of plan.now) }
+    requires in_task { IsPlanOf (fluent_count grounded.now.task) (action_count grounded.now.task)
+        plan.now }
+    ensures { IfErr result (λ refusal. IsControlRefusal (control_words_of asked.now)
+        (domain_value domain.now) (problem_value problem.now) (refusal_of refusal)) }
+{
+    match check_reached(alloc, &grounded.task, plan) {
+        Ok(()) => Ok(()),
+        Err(refusal) => Err(refusal),
+    }
 }
 
 /// The controller for what a plan does where it reaches: first with short rules, and if these don't make
@@ -335,11 +426,37 @@ fn shown_plan(
     ensures refused { IfErr result (λ refusal. IsControlRefusal (control_words_of asked.now)
         (domain_value domain.now) (problem_value problem.now) (refusal_of refusal)) }
 {
-    if !is_controller(alloc, asked.plan.kind, grounded, plan)? {
+    if !is_good(alloc, asked, domain, problem, grounded, plan)? {
         return Ok(None);
     }
     let shown = shown_judged(alloc, asked, domain, problem, grounded, plan, steps)?;
     Ok(Some(shown))
+}
+
+/// Whether a plan is judged to be a controller.
+fn is_good(
+    alloc: Global,
+    asked: &ControlWords,
+    domain: &Domain,
+    problem: &Problem,
+    grounded: &Grounded,
+    plan: &Plan,
+) -> Result<bool, Refusal>
+    requires goal { has_goal_for (kind_of asked.now.plan.kind) (problem_value problem.now)
+        ≡ true }
+    requires grounded { IsGroundedOf (domain_value domain.now) (problem_value problem.now)
+        grounded.now }
+    ensures judged { IfOk result (λ is. IsTrue is → IsJudged (kind_of asked.now.plan.kind)
+        grounded.now.task grounded.now.ctl (plain_of plan.now)) }
+    ensures in_task { IfOk result (λ is. IsTrue is
+        → IsPlanOf (fluent_count grounded.now.task) (action_count grounded.now.task) plan.now) }
+    ensures refused { IfErr result (λ refusal. IsControlRefusal (control_words_of asked.now)
+        (domain_value domain.now) (problem_value problem.now) (refusal_of refusal)) }
+{
+    match is_controller(alloc, asked.plan.kind, grounded, plan) {
+        Ok(is) => Ok(is),
+        Err(refusal) => Err(refusal),
+    }
 }
 
 /// A plan that was judged to be a controller, as it is shown, unless its text is too long.
@@ -369,10 +486,11 @@ fn shown_judged(
     // promise.
     grounded_goals_are_true();
     yes_is_solution();
-    // The domain and the problem are those of the clauses alone.
-    let _names = (domain, problem);
     match write_controller(alloc, plan, steps, &grounded.task, MAX_BYTES)? {
-        Some(text) => Ok(shown_as(alloc, asked.json, text, plan, &grounded.task)?),
+        Some(text) => {
+            let shown = shown_as(alloc, asked.json, text, plan, &grounded.task)?;
+            Ok(shown)
+        }
         None => Err(Refusal::OverLimit(Limit::File)),
     }
 }

@@ -1,14 +1,13 @@
 //! Whether a plan reaches more configurations than can be followed.
 
-ghost use Rattle.controller_plan.specs.Controllers.{IsTooLarge, any_rules};
 ghost use Rattle.controller_plan.specs.Judged.{IsReachRefusal};
 ghost use Rattle.exec_graph.specs.Executions.{ReachesMoreThan};
 ghost use Rattle.command_base.specs.Following.{most_followed};
 ghost use Rattle.command_base.specs.Values.{refusal_of};
 ghost use Rattle.plan_rules.specs.Plans.{IsPlanOf};
 ghost use Rattle.plan_rules.specs.Readings.{SpellsPlain};
-ghost use Rattle.plan_rules.specs.Rules.{plain_of, table};
-ghost use Rattle.std.specs.Prelude.{◌≡◌, IfErr, IfOk, IfSome};
+ghost use Rattle.plan_rules.specs.Rules.{plain_of};
+ghost use Rattle.std.specs.Prelude.{IfErr, IfOk, IfSome};
 ghost use Rattle.task_core.specs.Tasks.{
   action_count,
   action_names,
@@ -16,14 +15,13 @@ ghost use Rattle.task_core.specs.Tasks.{
   fluent_names,
   system_of,
 };
-ghost use Rattle.task_core.specs.declared.classes.Class.TheVariants.{Weak};
 
 use exec_graph::{GraphErr, explore};
 use command_base::{Limit, Refusal};
-use plan_rules::{Class, Plan, PlanRead, Rule, TablePlan, read_plan};
+use plan_rules::{Plan, PlanRead, read_plan};
 use sexpr_text::{MAX_BYTES, ReadErr};
 use std::alloc::{AllocError, Global};
-use task_core::{ActionId, Task};
+use task_core::Task;
 
 /// The plan that a text spells, unless the text is longer than a plan's file may be, or spells none.
 pub(crate) fn plan_in(
@@ -61,33 +59,4 @@ pub(crate) fn check_reached(alloc: Global, task: &Task, plan: &Plan) -> Result<(
         Err(GraphErr::TooLarge) => Err(Refusal::OverLimit(Limit::Configurations)),
         Err(GraphErr::Memory) => Err(Refusal::NoMemory),
     }
-}
-
-/// Refuses where there are too many initial states, or where more states can be reached at all, whatever
-/// is done in them.
-pub(crate) fn check_reach(alloc: Global, task: &Task) -> Result<(), Refusal>
-    ensures { IfErr result (λ refusal. IsReachRefusal task.now (IsTooLarge (system_of task.now))
-        (refusal_of refusal)) }
-{
-    let plan = anything(alloc, task)?;
-    check_reached(alloc, task, &plan)
-}
-
-/// The table that takes any action in any state.
-fn anything(alloc: Global, task: &Task) -> Result<Plan, AllocError>
-    ensures in_task { IfOk result (IsPlanOf (fluent_count task.now) (action_count task.now)) }
-    ensures any { IfOk result
-        (λ plan. plain_of plan ≡ table Weak (any_rules (system_of task.now))) }
-{
-    let mut rules = Vec::new(alloc);
-    for number in 0..task.actions.len() {
-        rules.push(Rule {
-            cube: Vec::new(alloc),
-            action: ActionId(number as u32),
-        })?;
-    }
-    Ok(Plan::Table(TablePlan {
-        class: Class::Weak,
-        rules,
-    }))
 }
