@@ -1,16 +1,14 @@
 -- From what follows the reading of both files to the answer, and from the answer to a run.
-use Rattle.std.proofs.Common.{◌≡◌, ◌≢◌, ◌⊎◌, ◌≤◌, ℕ, List, inl, inr, refl, sym, subst, ap, ◌∙◌, arith, codes, None, true}
+use Rattle.std.proofs.Common.{◌≡◌, ◌⊎◌, ◌≤◌, ℕ, inl, inr, sym, subst, ap, ◌∙◌, None, true}
 use Rattle.std.specs.Prelude.{IfErr, IfOk, Result, Ok, Err}
 use Rattle.pddl_ast.specs.Trees.{DomainTree, ProblemTree}
-use Rattle.ground_task.specs.declared.grounding.Grounded.{Grounded}
 use Rattle.pddl_system.specs.Sizes.{first_passed}
-use Rattle.plan_io.specs.Fetches.{FailedLast, FetchesNothing}
+use Rattle.plan_io.specs.Fetches.{FetchesNothing}
 use Rattle.plan_io.specs.Held.{Held}
-use Rattle.command_base.specs.Answers.{Answer, Refusal, affirmed, denied, full, no_command, no_memory, over_limit, refused}
+use Rattle.command_base.specs.Answers.{Answer, Refusal, affirmed, denied, full, no_memory, refused}
 use Rattle.command_base.specs.Faults.{IsQuietAt}
 use Rattle.command_base.specs.Delivery.{IsDelivered}
 use Rattle.command_base.specs.Fetching.{FetchesBoth}
-use Rattle.command_base.specs.Grounded.{IsGroundedOf, IsTaskOf}
 use Rattle.command_base.specs.Grounding.{has_goal_for}
 use Rattle.command_base.specs.PddlTexts.{HoldBoth, ReadBoth}
 use Rattle.plan_command.specs.PlanCommand.{MayBeTooFew, PlanThen}
@@ -18,7 +16,6 @@ use Rattle.command_base.specs.Values.{answer_of, refusal_of, shown_of}
 use Rattle.command_base.specs.Words.{Bytes}
 use Rattle.command_base.specs.declared.answers.Refusal.{Refusal as CodeRefusal}
 use Rattle.command_base.specs.declared.answers.Shown.{Shown}
-use Rattle.task_core.specs.declared.tasks.Task.{Task}
 use Rattle.command_base.specs.Frame.{FailedIn}
 use Rattle.command_base.proofs.Frames.{IsGivenFor, is_run}
 use Rattle.controller_plan.specs.Controllers.{AffirmsNothing, ControlThen, IsControlAnswer, IsControlled, IsControllerShown}

@@ -1,23 +1,17 @@
 -- Limits that the plan in hand passes.
-use Rattle.std.proofs.Common.{◌≡◌, ◌⊎◌, ◌+◌, ◌++◌, ◌∙◌, ◌<◌, ℕ, List, [], ◌∷◌, map, inl, inr, refl, sym, subst, ap, codes}
-use Rattle.std.specs.Prelude.{All}
-use Rattle.std.specs.List.{range_with_len}
-use Rattle.std.proofs.lemmas.List.{map-append}
-use Rattle.std.proofs.lemmas.List.Elements.{All-push}
+use Rattle.std.proofs.Common.{◌≡◌, ◌⊎◌, List, inl, inr, refl, subst, codes}
 use Rattle.exec_graph.specs.Executions.{ReachesMoreThan}
 use Rattle.exec_graph.specs.Initials.{HasTooManyInitial}
 use Rattle.pddl_ast.specs.Trees.{DomainTree, ProblemTree}
-use Rattle.pddl_system.specs.Systems.{action_names, fluent_names, system}
-use Rattle.plan_rules.specs.Plans.{IsRuleOf}
+use Rattle.pddl_system.specs.Systems.{fluent_names}
 use Rattle.plan_rules.specs.Readings.{SpellsPlain}
-use Rattle.plan_rules.specs.Rules.{PlainPlan, PlanRule, rule_of}
-use Rattle.plan_rules.specs.declared.rules.Rule.{Rule}
+use Rattle.plan_rules.specs.Rules.{PlainPlan}
 use Rattle.task_core.specs.Names.{Name}
 use Rattle.task_core.specs.Systems.{System}
 use Rattle.task_core.specs.Tasks.{action_names as names_of_actions, fluent_names as names_of_fluents, system_of}
 use Rattle.task_core.specs.declared.tasks.Task.{Task}
 use Rattle.command_base.specs.Answers.{Refusal, affirmed, over_limit}
-use Rattle.command_base.specs.Following.{HasTooManyStates, most_followed}
+use Rattle.command_base.specs.Following.{most_followed}
 use Rattle.command_base.specs.Grounded.{IsTaskOf}
 use Rattle.plan_command.specs.PlanCommand.{PlanThen}
 use Rattle.command_base.specs.Words.{Bytes}

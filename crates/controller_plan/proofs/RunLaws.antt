@@ -1,13 +1,12 @@
 -- What follows from a run that has its cause.
-use Rattle.std.proofs.Common.{◌≡◌, ◌≢◌, ◌⊎◌, ◌≤◌, ◌<◌, ℕ, true, false, List, length, inl, inr, refl, sym, subst, ap, ◌∙◌, arith, Some, None}
+use Rattle.std.proofs.Common.{◌≡◌, ◌⊎◌, ℕ, true, false, List, inl, inr, refl, sym, subst, ap, ◌∙◌, arith}
 use Rattle.std.specs.Io.KnownBytes.{append_known}
 use Rattle.pddl_ast.specs.Trees.{DomainTree, ProblemTree}
 use Rattle.pddl_system.specs.Systems.{system}
 use Rattle.plan_io.specs.Fetches.{FailedLast}
 use Rattle.plan_io.specs.Held.{Held}
-use Rattle.command_base.specs.Answers.{Answer, affirmed, denied, full, is_shown, no_command, no_memory, over_limit, refused, status_of, text_of}
-use Rattle.plan_command.specs.ContextGoals.{ContextGoalThen}
-use Rattle.command_base.specs.Delivery.{IsDelivered, Seen}
+use Rattle.command_base.specs.Answers.{Answer, affirmed, denied, is_shown, no_memory, refused, status_of, text_of}
+use Rattle.command_base.specs.Delivery.{Seen}
 use Rattle.command_base.specs.Grounding.{GroundThen}
 use Rattle.command_base.specs.InitialStates.{empty_init}
 use Rattle.command_base.specs.PddlTexts.{HoldBoth}
@@ -16,7 +15,7 @@ use Rattle.command_base.specs.Words.{Bytes, PlanKind, of_class, with_contexts}
 use Rattle.command_base.proofs.Initials.{shown_initial}
 use Rattle.command_base.proofs.PddlDecides.{ReadFor, not_refused, shown_both, shown_goal, shown_grounded}
 use Rattle.command_base.proofs.Statuses.{shown_at, whole_delivery, written_shown}
-use Rattle.controller_plan.specs.Controllers.{AffirmsNothing, ControlThen, IsControlAnswer, IsControlled, IsControllerShown}
+use Rattle.controller_plan.specs.Controllers.{ControlThen, IsControlAnswer, IsControlled, IsControllerShown}
 use Rattle.controller_plan.specs.Laws.{IsControllerRun, IsNoPlanRun}
 use Rattle.controller_plan.specs.Runs.{ControlRun, HasControlCause, HasControlled}
 use Rattle.controller_plan.specs.Words.{ControlWords, SaysControl}

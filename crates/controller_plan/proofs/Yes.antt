@@ -1,8 +1,7 @@
 -- What is judged to be good is a controller.
-use Rattle.std.proofs.Common.{◌≡◌, ◌≢◌, ◌<◌, ◌≤◌, ◌∙◌, ap, ℕ, Bool, false, true, List, [], length, refl, subst, sym, Option, None, Some}
+use Rattle.std.proofs.Common.{◌≡◌, ◌<◌, ◌≤◌, ◌∙◌, ap, ℕ, Bool, false, true, List, length, refl, subst, Option, None, Some}
 use Rattle.std.specs.Prelude.{Vec}
 use Rattle.std.specs.declared.alloc.Global.{Global}
-use Rattle.ctl_syntax.specs.declared.goals.Ctl.{Ctl}
 use Rattle.controller_rules.specs.AsRun.{HasNoDeadRule, HasOneMove}
 use Rattle.controller_rules.specs.Texts.{IsTextWithin, controller_text}
 use Rattle.controller_rules.proofs.AsRunTables.{run_is_table, run_solves}
@@ -13,12 +12,11 @@ use Rattle.pddl_system.specs.Systems.{action_names, fluent_names, system}
 use Rattle.plan_check.specs.Verdicts.{SaysYes}
 use Rattle.plan_check.specs.declared.verdicts.Verdict.{Verdict}
 use Rattle.plan_check.specs.declared.verdicts.Verdict.TheVariants.{Yes, No}
-use Rattle.plan_rules.specs.Denoted.{denoted}
 use Rattle.plan_rules.specs.Readings.{SpellsPlain}
 use Rattle.plan_rules.specs.Rules.{PlainPlan, automaton, table}
 use Rattle.task_core.specs.Names.{Name}
 use Rattle.task_core.specs.Systems.{System}
-use Rattle.task_core.specs.Tasks.{action_names as names_of_actions, fluent_names as names_of_fluents, initial_states, system_of}
+use Rattle.task_core.specs.Tasks.{action_names as names_of_actions, fluent_names as names_of_fluents}
 use Rattle.command_base.specs.Answers.{Answer, affirmed}
 use Rattle.command_base.specs.Grounded.{IsGroundedOf}
 use Rattle.command_base.specs.Grounding.{has_goal_for}
@@ -30,7 +28,7 @@ use Rattle.check_command.proofs.CheckAnswers.{goal_in, verdict_for}
 use Rattle.check_command.proofs.YesMeets.{YesSolves, yes_is_met}
 use Rattle.command_base.proofs.TaskNames.{same_actions, same_fluents}
 use Rattle.controller_plan.specs.Controllers.{HasLongText, IsController, IsControllerShown, run_meaning, shown_bytes, text_for}
-use Rattle.controller_plan.specs.Judged.{IsFoundGood, IsJudged, IsYesFor, bytes_as}
+use Rattle.controller_plan.specs.Judged.{IsJudged, bytes_as}
 use Rattle.controller_plan.specs.Words.{ControlWords}
 
 -- a goal of the task where the problem has one

@@ -19,12 +19,12 @@ use ctl_syntax::{ContextGoal, Ctl, UntilChain, as_context_goal};
 use dd_sets::SetErr;
 use encode_task::{Enc, encode};
 use ground_task::Grounded;
-use task_sets::encode_ordered;
 use patrol_plan::{FoundAuto, plan_patrol, rule_place, rule_sets, until_takers};
 use plan_rules::Plan;
 use slot_board::Board;
 use std::alloc::Global;
 use task_core::{ActionId, Cond, Task};
+use task_sets::encode_ordered;
 
 /// The most stages of an until-chain.
 const MOST_STAGES: usize = 32;

@@ -15,11 +15,11 @@ ghost use Rattle.plan_rules.specs.Rules.{ContextRule, PlainPlan, automaton, plai
 ghost use Rattle.std.specs.Prelude.{◌≡◌, ◌↔◌, IfErr, IfOk, IfSome, IsSome, IsTrue, List, true, ℕ};
 ghost use Rattle.task_core.specs.Tasks.{action_count, fluent_count, system_of};
 
+use command_base::{Limit, PlanKind, Refusal};
 use controller_rules::{is_plan_of, names_last_context, rules_serve};
 use ctl_syntax::Ctl;
 use exec_graph::{Graph, GraphErr, explore};
 use ground_task::Grounded;
-use command_base::{Limit, PlanKind, Refusal};
 use plan_check::{Verdict, judge_class, judge_ctl};
 use plan_document::is_told_in_full;
 use plan_rules::{Class, Plan};
@@ -132,11 +132,7 @@ fn verdict_on(
 }
 
 /// The verdict on the plan with contexts whose graph this is.
-fn context_verdict(
-    alloc: Global,
-    grounded: &Grounded,
-    graph: &Graph,
-) -> Result<Verdict, AllocError>
+fn context_verdict(alloc: Global, grounded: &Grounded, graph: &Graph) -> Result<Verdict, AllocError>
     requires goal { IsSome grounded.now.ctl }
     requires goal_names { IfSome grounded.now.ctl
         (λ goal. NamesBelow (fluent_count grounded.now.task) (ctl_value goal)) }

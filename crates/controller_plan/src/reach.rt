@@ -16,8 +16,8 @@ ghost use Rattle.task_core.specs.Tasks.{
   system_of,
 };
 
-use exec_graph::{GraphErr, explore};
 use command_base::{Limit, Refusal};
+use exec_graph::{GraphErr, explore};
 use plan_rules::{Plan, PlanRead, read_plan};
 use sexpr_text::{MAX_BYTES, ReadErr};
 use std::alloc::{AllocError, Global};

@@ -11,19 +11,19 @@ ghost use Rattle.task_core.specs.Tasks.{action_count, fluent_count};
 
 use crate::context_searches::follow_contexts;
 use crate::followed::Followed;
+use command_base::{PlanKind, PlanWords};
 use cyclic_plan::{cyclic_takers, takers_of};
 use dd_sets::{SetErr, SetId};
 use encode_task::{Enc, encode};
 use exec_graph::MAX_CONFIGURATIONS;
 use ground_task::Grounded;
-use command_base::{PlanKind, PlanWords};
-use task_sets::encode_ordered;
 use plan_guide::Guide;
 use plan_rules::{Class, Plan};
 use reach_plan::{Takers, find_takers};
 use reached_plan::{ReachedPlan, plan_reached};
 use std::alloc::{AllocError, AllocFailed, Global};
 use task_core::{ActionId, InitErr, Task, init_states};
+use task_sets::encode_ordered;
 
 /// What came of a search.
 #[derive(Drop)]

@@ -1,4 +1,4 @@
-use Rattle.std.proofs.Common.{map, string_bytes, inl, inr, subst, refl}
+use Rattle.std.proofs.Common.{map, string_bytes, inr, subst}
 use Rattle.plan_io.specs.Fetches.{FetchesNothing}
 use Rattle.command_base.specs.Fetching.{FetchesBoth}
 use Rattle.controller_plan.specs.Values.{control_words_of}

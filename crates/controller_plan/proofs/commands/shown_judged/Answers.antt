@@ -14,6 +14,13 @@ returns-in_ok-shown-in-Some-clause-shown c =
 
 pub returns-in-None-clause-refused : goal.returns-in-None-clause-refused
 returns-in-None-clause-refused c =
-    inr (codes "file", inr (inr (refl, long_controller c.grounded_goals_are_true.ensures.truth c.yes_is_solution.ensures (kind_of c.args.asked.now.plan.kind) (domain_value c.args.domain.now)
-    (problem_value c.args.problem.now) c.args.grounded.now (plain_of c.args.plan.now) c.args.steps.now c.in_ok-text.field-0 c.requires.grounded c.requires.judged c.in-None.is
-    c.in_ok-text.ensures.text)), refl)
+    inr (
+      codes "file",
+      inr (inr (
+        refl,
+        long_controller c.grounded_goals_are_true.ensures.truth c.yes_is_solution.ensures (kind_of c.args.asked.now.plan.kind) (domain_value c.args.domain.now)
+            (problem_value c.args.problem.now) c.args.grounded.now (plain_of c.args.plan.now) c.args.steps.now c.in_ok-text.field-0 c.requires.grounded c.requires.judged c.in-None.is
+            c.in_ok-text.ensures.text,
+      )),
+      refl,
+    )
