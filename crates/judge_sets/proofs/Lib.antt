@@ -8,3 +8,4 @@ pub mod SettleSteps
 pub mod GrowSteps
 pub mod ShrinkSteps
 pub mod JudgeSteps
+pub mod Agreeing

@@ -47,7 +47,7 @@ pub record IsPair (sys : System) (rules : List PlanRule) (s : Vector) (a : ℕ) 
   pub executable : Exec sys s a
 
 module _ (sys : System) (ok : IsSystem sys) (rules : List PlanRule) where
-  exec_can : (s : Vector) (a : ℕ) → Exec sys s a → can_execute sys s a ≡ true
+  pub exec_can : (s : Vector) (a : ℕ) → Exec sys s a → can_execute sys s a ≡ true
   exec_can s a exec = go (sys.next s a) exec
     where
       go : (ts : List Vector) → (ts ≡ [] → ⊥) → list_any (λ (t : Vector). true) ts ≡ true

@@ -9,9 +9,11 @@
 #![tactic(auto)]
 
 mod fixpoints;
+mod laws;
 mod places;
 mod reading;
 mod settling;
 mod verdict;
 
+pub use laws::agreeing_rules_solve;
 pub use verdict::{TableVerdict, judge_table};
