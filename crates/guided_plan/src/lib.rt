@@ -2,6 +2,7 @@
 #![tactic(auto)]
 
 mod bits;
+mod choices;
 mod closing;
 mod conditions;
 mod cyclic;
