@@ -1,17 +1,35 @@
-//! Runs a plan of `mbp` or `mbp_controller` in a world: `rustc -O controller.rs; ./controller PLAN [SEED]`
+//! Runs a plan for examples/courier in a simulated world: `rustc -O controller.rs; ./controller PLAN [SEED]`
 //!
-//! The world here is simulated: the courier of examples/courier, whose door may stay open. A real
-//! controller puts its sensors into `observe` and its motors into `act`.
+//! PLAN is a text of `mbp` or `mbp_controller`. A real robot puts its sensors into `observe` and its
+//! motors into `act`.
 use std::{collections::BTreeSet, env, fs};
 
-/// A form of the text: a word, or a list, whose text has one space between its parts.
-enum Form { Word(String), List(Vec<Form>) }
+/// The names of the true fluents.
+type State = BTreeSet<String>;
+
+/// A form of the text: a word, or a list.
+enum Form {
+    Word(String),
+    List(Vec<Form>),
+}
 
 impl Form {
-    fn parts(&self) -> &[Form] { if let Form::List(parts) = self { parts } else { &[] } }
+    fn parts(&self) -> &[Form] {
+        match self {
+            Form::List(parts) => parts,
+            Form::Word(_) => &[],
+        }
+    }
+
+    /// A list's text has one space between its parts.
     fn text(&self) -> String {
-        let Form::List(parts) = self else { return if let Form::Word(word) = self { word.clone() } else { String::new() } };
-        format!("({})", parts.iter().map(Form::text).collect::<Vec<_>>().join(" "))
+        match self {
+            Form::Word(word) => word.clone(),
+            Form::List(parts) => {
+                let parts: Vec<String> = parts.iter().map(Form::text).collect();
+                format!("({})", parts.join(" "))
+            }
+        }
     }
 }
 
@@ -28,52 +46,145 @@ fn forms<'a>(words: &mut impl Iterator<Item = &'a str>) -> Vec<Form> {
     found
 }
 
-/// Whether the true fluents have all these literals.
-fn holds(literals: &Form, state: &BTreeSet<String>) -> bool {
-    literals.parts().iter().all(|literal| match literal.parts() {
-        [Form::Word(not), fluent @ Form::List(_)] if not == "not" => !state.contains(&fluent.text()),
-        _ => state.contains(&literal.text()),
-    })
+/// The forms of a text, without its comments.
+fn read(text: &str) -> Vec<Form> {
+    let lines: Vec<&str> = text
+        .lines()
+        .filter_map(|line| line.split(';').next())
+        .collect();
+    let spaced = lines.join("\n").replace('(', " ( ").replace(')', " ) ");
+    forms(&mut spaced.split_whitespace())
 }
 
-struct Courier { room: &'static str, delivered: bool, open: bool, seed: u64 }
+/// Whether a state has all literals of a list.
+fn holds(literals: &Form, state: &State) -> bool {
+    literals
+        .parts()
+        .iter()
+        .all(|literal| match literal.parts() {
+            [Form::Word(not), fluent @ Form::List(_)] if not == "not" => {
+                !state.contains(&fluent.text())
+            }
+            _ => state.contains(&literal.text()),
+        })
+}
+
+/// A rule: in a context and a state with these literals, an action and then the next context.
+struct Rule<'a> {
+    context: String,
+    literals: &'a Form,
+    action: String,
+    next: Option<&'a Form>,
+}
+
+impl<'a> Rule<'a> {
+    /// The rule of a form of a plan. In a table every rule is of context 1.
+    fn read(parts: &'a [Form], is_table: bool) -> Rule<'a> {
+        let first = if is_table { 1 } else { 2 };
+        Rule {
+            context: if is_table {
+                "1".to_string()
+            } else {
+                parts[1].text()
+            },
+            literals: &parts[first],
+            action: parts[first + 1].text(),
+            next: parts.get(first + 2),
+        }
+    }
+
+    /// The context after the action, by the state that it led to.
+    fn context_after(&self, state: &State) -> Option<String> {
+        match self.next {
+            None => Some(self.context.clone()),
+            Some(Form::Word(context)) => Some(context.clone()),
+            Some(Form::List(cases)) => {
+                let case = cases.iter().find(|case| holds(&case.parts()[0], state));
+                case.map(|case| case.parts()[1].text())
+            }
+        }
+    }
+}
+
+/// The world: rooms, a thing to deliver, and a door that may stay open on every way.
+struct Courier {
+    room: &'static str,
+    delivered: bool,
+    open: bool,
+    seed: u64,
+}
 
 impl Courier {
-    fn observe(&self) -> BTreeSet<String> {
-        let facts = [(self.room, true), ("(delivered)", self.delivered), ("(open)", self.open)];
-        facts.iter().filter(|(_, truth)| *truth).map(|(fluent, _)| fluent.to_string()).collect()
+    fn observe(&self) -> State {
+        let facts = [
+            (self.room, true),
+            ("(delivered)", self.delivered),
+            ("(open)", self.open),
+        ];
+        facts
+            .iter()
+            .filter(|(_, value)| *value)
+            .map(|(fluent, _)| fluent.to_string())
+            .collect()
     }
+
     fn act(&mut self, action: &str) {
         match action {
             "(deliver ward)" => self.delivered = true,
             "(close)" => self.open = false,
-            "(go ward store)" | "(go store ward)" => {
-                self.room = if action == "(go ward store)" { "(at store)" } else { "(at ward)" };
-                self.seed = self.seed.wrapping_mul(6364136223846793005).wrapping_add(1442695040888963407);
-                self.open |= self.seed >> 63 == 1;
-            }
+            "(go ward store)" => self.go("(at store)"),
+            "(go store ward)" => self.go("(at ward)"),
             _ => {}
         }
+    }
+
+    fn go(&mut self, room: &'static str) {
+        self.room = room;
+        self.seed = self
+            .seed
+            .wrapping_mul(6364136223846793005)
+            .wrapping_add(1442695040888963407);
+        self.open |= self.seed >> 63 == 1;
     }
 }
 
 fn main() {
     let arguments: Vec<String> = env::args().collect();
-    let file = fs::read_to_string(&arguments[1]).expect("the plan's file");
-    let lines: Vec<&str> = file.lines().filter_map(|line| line.split(';').next()).collect(); // no comments
-    let read = forms(&mut lines.join("\n").replace('(', " ( ").replace(')', " ) ").split_whitespace());
-    let plan = read.iter().find(|form| form.text().starts_with("(plan ")).expect("a plan").parts();
-    let first = if plan[1].text() == "table" { 1 } else { 2 }; // where the literals of a rule stand
-    let seed = arguments.get(2).and_then(|seed| seed.parse().ok()).unwrap_or(1);
-    let (mut world, mut context) = (Courier { room: "(at ward)", delivered: false, open: false, seed }, "1".to_string());
+    let text = fs::read_to_string(&arguments[1]).expect("the plan's file");
+    let seed = arguments
+        .get(2)
+        .and_then(|seed| seed.parse().ok())
+        .unwrap_or(1);
+    let forms = read(&text);
+    let plan = forms
+        .iter()
+        .find(|form| form.text().starts_with("(plan "))
+        .expect("a plan")
+        .parts();
+    let is_table = plan[1].text() == "table";
+    let rules: Vec<Rule> = plan[3..]
+        .iter()
+        .map(|rule| Rule::read(rule.parts(), is_table))
+        .collect();
+
+    let mut world = Courier {
+        room: "(at ward)",
+        delivered: false,
+        open: false,
+        seed,
+    };
+    let mut context = "1".to_string();
     for step in 1..=12 {
         let state = world.observe();
-        let counts = |rule: &&[Form]| (first == 1 || rule[1].text() == context) && holds(&rule[first], &state);
-        let Some(rule) = plan[3..].iter().map(Form::parts).find(counts) else { break };
-        world.act(&rule[first + 1].text());
-        let (after, next) = (world.observe(), rule.get(first + 2));
-        let case = next.and_then(|next| next.parts().iter().find(|case| holds(&case.parts()[0], &after)));
-        context = case.map(|case| &case.parts()[1]).or(next).map_or(context, Form::text);
-        println!("step {step} {} context {context}", rule[first + 1].text());
+        let found = rules
+            .iter()
+            .find(|rule| rule.context == context && holds(rule.literals, &state));
+        let Some(rule) = found else { break };
+        world.act(&rule.action);
+        let Some(next) = rule.context_after(&world.observe()) else {
+            break;
+        };
+        context = next;
+        println!("step {step} {} context {context}", rule.action);
     }
 }

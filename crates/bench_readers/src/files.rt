@@ -6,8 +6,8 @@ ghost use Rattle.pddl_ast.specs.Values.{domain_value};
 
 use crate::lines::push_line;
 use anyhow::Result;
+use domain_read::read_domain;
 use pddl_ast::Domain;
-use pddl_domain::read_domain;
 use pddl_problem::read_problem;
 use plan_io::Shelf;
 use sexpr_text::MAX_BYTES;

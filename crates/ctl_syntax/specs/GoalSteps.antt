@@ -38,13 +38,13 @@ abbrev pub patrol_conditions : List Cond → GoalTree
 patrol_conditions conds = patrol_goal (map condition_value conds)
 
 -- Private: the proposition that a goal is, where it has no operators
-abbrev pub plain_of : {P : Type 0} → CtlTree P → Option P
-plain_of (plain p) = Some p
-plain_of _ = None
+abbrev pub proposition_of : {P : Type 0} → CtlTree P → Option P
+proposition_of (plain p) = Some p
+proposition_of _ = None
 
 -- Private: the proposition that a goal says comes about, where it says that
 abbrev pub visit_of : {P : Type 0} → CtlTree P → Option P
-visit_of (af g) = plain_of g
+visit_of (af g) = proposition_of g
 visit_of _ = None
 
 -- Private: whether it says that

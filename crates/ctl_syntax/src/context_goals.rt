@@ -10,7 +10,7 @@ ghost use Rattle.ctl_syntax.specs.GoalSteps.{
   is_visit,
   is_visit_row,
   patrol_conditions,
-  plain_of,
+  proposition_of,
   visit_of,
   visit_parts,
 };
@@ -339,7 +339,7 @@ fn visited(goal: &Ctl) -> Option<&Cond>
 
 /// The condition that a goal is, where it has no operators.
 fn plain_condition(goal: &Ctl) -> Option<&Cond>
-    ensures { option_copied result ≡ plain_of (ctl_value goal.now) }
+    ensures { option_copied result ≡ proposition_of (ctl_value goal.now) }
 {
     match goal {
         Ctl::Plain(cond) => Some(cond),

@@ -5,6 +5,7 @@ use Rattle.std.proofs.lemmas.Nat.Bits.{bit_at_and, bit_at-lt, bit_at-zero, bit_a
 use Rattle.std.proofs.lemmas.Bool.{cases_eq, cases_lt, cond-true, cond-false, eq-eqb, ne_eqb, and_left, and_right, lt-ltb, le-ltb, le-leb, lt-leb}
 use Rattle.task_core.specs.Vectors.{same_value}
 use Rattle.cube_index.specs.Agreement.{has_bit, wanted_at}
+use Rattle.list_laws.proofs.Numbers.{least_bit}
 
 -- laws of "and"
 pub and_true : (x y : Bool) → y ≡ true → (x && y) ≡ x
@@ -44,18 +45,10 @@ pub wanted_both : (place k : ℕ) (x y : Bool) → wanted_at place k (x && y) �
 wanted_both place k x y = both_if (eqb k place) x y
 
 -- bits of words
-one_of_both : (x y : ℕ) → x < 2 → y < 2 → eqb (min x y) 1 ≡ (eqb x 1 && eqb y 1)
-one_of_both zero zero hx hy = refl
-one_of_both zero (suc zero) hx hy = refl
-one_of_both zero (suc (suc y)) hx hy = absurd (omega arith)
-one_of_both (suc zero) zero hx hy = refl
-one_of_both (suc zero) (suc zero) hx hy = refl
-one_of_both (suc zero) (suc (suc y)) hx hy = absurd (omega arith)
-one_of_both (suc (suc x)) y hx hy = absurd (omega arith)
 
 pub has_bit_and : (a b k : ℕ) → has_bit (bit_and a b) k ≡ (has_bit a k && has_bit b k)
 has_bit_and a b k =
-    ap (λ n. eqb n 1) (bit_at_and a b k) ∙ one_of_both (bit_at a k) (bit_at b k) (bit_at-lt a k) (bit_at-lt b k)
+    ap (λ n. eqb n 1) (bit_at_and a b k) ∙ least_bit (bit_at a k) (bit_at b k) (bit_at-lt a k) (bit_at-lt b k)
 
 pub has_bit_none : (k : ℕ) → has_bit 0 k ≡ false
 has_bit_none k = ap (λ n. eqb n 1) (bit_at-zero k)

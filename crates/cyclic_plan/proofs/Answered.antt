@@ -29,7 +29,7 @@ use Rattle.task_core.specs.Cubes.{SetOfVectors}
 use Rattle.cyclic_plan.specs.Answers.{Ends, IsAnswer, IsPlanOf, RoundsEnd}
 use Rattle.cyclic_plan.specs.Stages.{HasNear, HasRounds, Takings, kept_system, none_taken, takers_within}
 use Rattle.cyclic_plan.specs.Steps.{Follows}
-use Rattle.cyclic_plan.specs.declared.steps.Step.{Step}
+use Rattle.slot_board.specs.declared.steps.Step.{Step}
 use Rattle.cyclic_plan.proofs.PlanMade.{covered_is, near_stays}
 use Rattle.cyclic_plan.specs.Takers.{HasTable, start_of}
 use Rattle.dd_sets.specs.LiveSets.{LiveSets}
@@ -205,7 +205,7 @@ abbrev pub any_start : (task : Task) (enc : Encoded) → MadeOf task enc → Sta
 any_start task enc made = start_of task enc made (2 ^ fluent_count task + 1) (all_wide task).wide
 
 -- what the actions take in the last round is small
-pub last_takers : (start : Start) (r : ℕ) → IsFit start → IsLastRound (system_of start.task) r → AreTakersSmall start true (round (system_of start.task) r)
-last_takers start r fit last is k a within =
+pub last_takers : (start : Start) (r : ℕ) → IsFit start → IsLastRound (system_of start.task) r → list_all (round (system_of start.task) r) (system_of start.task).initial ≡ true → AreTakersSmall start true (round (system_of start.task) r)
+last_takers start r fit last all is k a within =
     let sys = system_of start.task in
-    takers_small start fit (kept sys (round sys r)) (last_is_largest sys (is_system start.task) r last) k a within
+    takers_small start fit (kept sys (round sys r)) (last_is_largest sys (is_system start.task) r last) (all_covered start.task r last all) k a within

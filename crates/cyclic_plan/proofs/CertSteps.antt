@@ -22,7 +22,7 @@ use Rattle.task_core.proofs.TaskSystem.{is_system}
 use Rattle.task_core.proofs.Vectors.{list_any_contains}
 use Rattle.plan_rules.specs.Denoted.{denoted}
 use Rattle.plan_certs.specs.Certificates.{CubeSet}
-use Rattle.plan_certs.specs.Named.{plain_of, set_of as cubes_in}
+use Rattle.plan_certs.specs.Named.{plain_certificate, set_of as cubes_in}
 use Rattle.plan_certs.specs.declared.certificates.Certificate.{Certificate}
 use Rattle.plan_certs.specs.Printed.{IsFirstWhole, IsPrinted, lost_set, lost_sets}
 use Rattle.plan_certs.specs.declared.certificates.StateSet.{StateSet}
@@ -285,7 +285,7 @@ with_refusal start now slots inner outer e was p ends =
     subst (Certifies start now slots) (sym p.1) (let kept = subst (CertificateEnds start now slots) was ends in λ full. kept.1 (sym p.2 ∙ full))
 
 -- what is said of it
-pub says_printed : (start : Start) (now : Encoded) (slots : List SetId) (result : Result (Option Certificate) SetErr) → Certifies start now slots result → IfOk result (λ found. IfSome found (λ certificate. IsPrinted Cyclic (system_of start.task) (plain_of certificate)))
+pub says_printed : (start : Start) (now : Encoded) (slots : List SetId) (result : Result (Option Certificate) SetErr) → Certifies start now slots result → IfOk result (λ found. IfSome found (λ certificate. IsPrinted Cyclic (system_of start.task) (plain_certificate certificate)))
 says_printed start now slots (Ok (Some certificate)) says = says.1
 says_printed start now slots (Ok None) says = tt
 says_printed start now slots (Err e) says = tt

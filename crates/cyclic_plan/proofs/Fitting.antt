@@ -26,7 +26,7 @@ use Rattle.task_core.specs.Vectors.{Vector, value_of}
 use Rattle.task_core.specs.declared.actions.Outcome.{Outcome}
 use Rattle.task_core.specs.declared.classes.Class.TheVariants.{Weak}
 use Rattle.task_core.specs.declared.tasks.Task.{Task}
-use Rattle.plan_theory.specs.LargestSets.{IsLargestSet}
+use Rattle.plan_theory.specs.LargestSets.{IsLargestSet, covers}
 use Rattle.plan_theory.specs.Layers.{layer, may_lead}
 use Rattle.plan_theory.specs.LayerPlans.{takers}
 use Rattle.plan_theory.specs.PairRounds.{kept, progress, round}
@@ -249,10 +249,10 @@ module _ (start : Start) (fit : IsFit start) where
   goal_small = near_itself 0 0
 
   -- what an action takes
-  pub takers_small : (pairs : Pairs) → IsLargestSet (system_of start.task) pairs → (k a : ℕ) → a < action_count start.task → IsSmallSet start (takers Weak (restricted (system_of start.task) pairs) k a)
-  takers_small pairs largest k a within =
+  pub takers_small : (pairs : Pairs) → IsLargestSet (system_of start.task) pairs → covers (system_of start.task) pairs ≡ true → (k a : ℕ) → a < action_count start.task → IsSmallSet start (takers Weak (restricted (system_of start.task) pairs) k a)
+  takers_small pairs largest covered k a within =
       states_small start (takers Weak (restricted (system_of start.task) pairs) k a)
-      (fit.wide.each (states_in start.task (takers Weak (restricted (system_of start.task) pairs) k a)) (taken pairs largest k a within))
+      (fit.wide.each (states_in start.task (takers Weak (restricted (system_of start.task) pairs) k a)) (taken pairs largest covered k a within))
 
   pub test_fits : (set : Function) → IsSmall start set → TestFits start set
   test_fits set small = (initial_small, small)

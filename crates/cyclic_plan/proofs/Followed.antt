@@ -24,8 +24,8 @@ use Rattle.plan_theory.proofs.Restricted.{restricted_system}
 use Rattle.slot_board.specs.Board.{At, Left, Moved, Start, set_at}
 use Rattle.cyclic_plan.specs.Stages.{AddsToSmall, AreTakersSmall, HasHits, HasNear, HasNext, IsFit, IsLeft, IsSmallSet, Takings, kept_system, next_by, none_taken, taken_also, taken_by, takers_within}
 use Rattle.cyclic_plan.specs.Steps.{AddsNothing, AreAll, BeginsStep, Follows, HasGrown, HasJoined, HasLed, HasRetraced, RetracedOn, near_at, next_at}
-use Rattle.cyclic_plan.specs.declared.steps.Step.{Step}
-use Rattle.cyclic_plan.specs.declared.steps.Step.TheVariants.{Advance, Grow}
+use Rattle.slot_board.specs.declared.steps.Step.{Step}
+use Rattle.slot_board.specs.declared.steps.Step.TheVariants.{Advance, Grow}
 use Rattle.cyclic_plan.proofs.Growth.{adds_small, chosen_same, layer_last, near_as, next_as, next_more, next_none, step_small, taken_more, taken_none, takers_none, takers_step}
 use Rattle.cyclic_plan.proofs.Fitting.{next_small, set_as}
 use Rattle.cyclic_plan.proofs.StageSteps.{here, may_restricted, near_copied, near_still, next_copied, next_still, still}

@@ -17,8 +17,8 @@ use Rattle.plan_theory.proofs.WeakLists.{Contains-range_with_len-below, list_any
 use Rattle.slot_board.specs.Board.{Start}
 use Rattle.cyclic_plan.specs.Rounds.{LosesNone}
 use Rattle.cyclic_plan.specs.Steps.{AddsNothing, AreAll, Follows, near_at, next_at}
-use Rattle.cyclic_plan.specs.declared.steps.Step.{Step}
-use Rattle.cyclic_plan.specs.declared.steps.Step.TheVariants.{Advance, Grow}
+use Rattle.slot_board.specs.declared.steps.Step.{Step}
+use Rattle.slot_board.specs.declared.steps.Step.TheVariants.{Advance, Grow}
 use Rattle.cyclic_plan.proofs.Narrowing.{stays}
 use Rattle.cyclic_plan.proofs.PlanMade.{same_truth}
 use Rattle.cyclic_plan.proofs.StageSteps.{may_restricted}

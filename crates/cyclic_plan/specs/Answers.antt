@@ -25,7 +25,7 @@ use Rattle.plan_theory.specs.PairRounds.{round as round_of}
 use Rattle.cyclic_plan.specs.Stages.{HasRounds}
 use Rattle.cyclic_plan.specs.Steps.{Follows}
 use Rattle.cyclic_plan.specs.Takers.{HasTable}
-use Rattle.cyclic_plan.specs.declared.steps.Step.{Step}
+use Rattle.slot_board.specs.declared.steps.Step.{Step}
 
 -- a plan for the task, and all that is said of it
 pub record IsPlanOf (task : Task) (plan : TablePlan) : Type 0 where

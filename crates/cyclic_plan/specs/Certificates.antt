@@ -13,7 +13,7 @@ use Rattle.task_core.specs.Tasks.{system_of}
 use Rattle.task_core.specs.Vectors.{Vector}
 use Rattle.task_core.specs.declared.classes.Class.TheVariants.{Cyclic}
 use Rattle.slot_board.specs.Board.{At, HasNoRoom, Start, set_at}
-use Rattle.plan_certs.specs.Named.{plain_of, set_of}
+use Rattle.plan_certs.specs.Named.{plain_certificate, set_of}
 use Rattle.plan_certs.specs.Printed.{IsFirstWhole, IsPrinted, lost_set, lost_sets}
 use Rattle.plan_certs.specs.declared.certificates.Certificate.{Certificate}
 use Rattle.plan_certs.specs.declared.certificates.StateSet.{StateSet}
@@ -66,6 +66,6 @@ CertificateEnds start now slots (Err e) =
 abbrev pub Certifies : Start → Encoded → List SetId → Result (Option Certificate) SetErr → Type 0
 Certifies start now slots (Ok (Some certificate)) =
     HasNoSolution Cyclic (system_of start.task)
-    × IsPrinted Cyclic (system_of start.task) (plain_of certificate)
+    × IsPrinted Cyclic (system_of start.task) (plain_certificate certificate)
 Certifies start now slots (Ok None) = HasSolution (system_of start.task)
 Certifies start now slots (Err e) = e ≡ Full → HasNoRoom start now

@@ -16,8 +16,8 @@ use Rattle.slot_board.specs.Board.{Start}
 use Rattle.cyclic_plan.specs.Rounds.{ArePairsAmong}
 use Rattle.cyclic_plan.specs.Stages.{HasNear, HasNext, kept_system, next_by, none_taken, taken_by}
 use Rattle.cyclic_plan.specs.Stages.{takers_within}
-use Rattle.cyclic_plan.specs.declared.steps.Step.{Step}
-use Rattle.cyclic_plan.specs.declared.steps.Step.TheVariants.{Advance, Grow}
+use Rattle.slot_board.specs.declared.steps.Step.{Step}
+use Rattle.slot_board.specs.declared.steps.Step.TheVariants.{Advance, Grow}
 
 -- the states within k steps of the goal by the pairs that are kept, and those with what the first n
 -- actions lead into them

@@ -1,5 +1,5 @@
 -- The working sets of a search for a strong cyclic plan, of which the nodes bound what it needs.
-use Rattle.std.specs.Prelude.{ℕ, ◌+◌, ◌<◌, ◌≤◌}
+use Rattle.std.specs.Prelude.{◌≡◌, ℕ, ◌+◌, ◌<◌, ◌≤◌, true}
 use Rattle.dd_nodes.specs.Subfunctions.{Function}
 use Rattle.dd_ops.specs.Operations.{and_of}
 use Rattle.dd_sets.specs.Rooms.{Small}
@@ -12,7 +12,7 @@ use Rattle.task_core.specs.Cubes.{SetOfVectors}
 use Rattle.task_core.specs.Tasks.{action_count, fluent_count, system_of}
 use Rattle.task_core.specs.declared.classes.Class.TheVariants.{Weak}
 use Rattle.task_core.specs.declared.tasks.Task.{Task}
-use Rattle.plan_theory.specs.LargestSets.{IsLargestSet}
+use Rattle.plan_theory.specs.LargestSets.{IsLargestSet, covers}
 use Rattle.plan_theory.specs.LayerPlans.{takers}
 use Rattle.plan_theory.specs.PairRounds.{kept, progress, round}
 use Rattle.plan_theory.specs.Pairs.{Pairs, restricted}
@@ -45,8 +45,9 @@ pub data IsTaskRound (task : Task) : Function → Type 0 where
   space_round : IsTaskRound task (space_set task)
 
 -- the sets that are made of the task; those that belong to the initial states, to all states, and to
--- the states near the goal; the states that have a pair of a round with an action; and those within k
--- steps of the goal to which the printed plan gives it
+-- the states near the goal; the states that have a pair of a round with an action; and where there is
+-- a plan, those within k steps of the goal to which it gives the action. Past the steps that the plan
+-- takes these stay the same
 pub data IsWorkingSet (task : Task) : Function → Type 0 where
   by_task : (set : Function) → IsMadeByEncode task set → IsWorkingSet task set
   by_rounds : (outcomes : Outcomes) (set : Function)
@@ -55,8 +56,8 @@ pub data IsWorkingSet (task : Task) : Function → Type 0 where
       → IsMadeByRound task (first_of outcomes) (pair_hits outcomes task r k) (near_set task r k) set
       → IsWorkingSet task set
   paired : (r a : ℕ) → a < action_count task → IsWorkingSet task (pair_set task r a)
-  taken : (pairs : Pairs) → IsLargestSet (system_of task) pairs → (k a : ℕ)
-      → a < action_count task
+  taken : (pairs : Pairs) → IsLargestSet (system_of task) pairs
+      → covers (system_of task) pairs ≡ true → (k a : ℕ) → a < action_count task
       → IsWorkingSet task (states_in task (takers Weak (restricted (system_of task) pairs) k a))
 
 -- each working set is small by a width, which is more than the fluents by two at least

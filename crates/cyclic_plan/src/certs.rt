@@ -1,13 +1,13 @@
 //! Certificates that there is no strong cyclic plan.
 
 ghost use Rattle.std.specs.Prelude.{◌≡◌, ℕ, List, suc, ◌+◌, ◌*◌, ◌++◌, [], ◌∷◌, map, length, Some};
-ghost use Rattle.std.specs.Prelude.{IsErrOf, IsSome, IfNone, IfOk, IfSome, OnOk};
+ghost use Rattle.std.specs.Prelude.{IsErrOf, IsSome, IfErr, IfNone, IfOk, IfSome, OnOk};
 ghost use Rattle.dd_sets.specs.Frames.{Owns};
 ghost use Rattle.dd_sets.specs.Rooms.{NoRoom};
 ghost use Rattle.dd_sets.specs.declared.slots.SetId.{SetId as SlotId};
 ghost use Rattle.encode_task.specs.Made.{MadeOf};
 ghost use Rattle.encode_task.specs.Slots.{Encoded};
-ghost use Rattle.plan_certs.specs.Named.{plain_of, set_of};
+ghost use Rattle.plan_certs.specs.Named.{plain_certificate, set_of};
 ghost use Rattle.plan_theory.specs.PairRounds.{round as round_of};
 ghost use Rattle.slot_board.specs.Board.{Left, Start};
 ghost use Rattle.task_core.specs.Cubes.{cubes_of};
@@ -23,13 +23,12 @@ ghost use Rattle.cyclic_plan.specs.WorkingSets.{IsWide};
 
 use crate::plan::{begin, places};
 use crate::rounds::{LEFT, NEAR, NEW, next_round, round};
-use crate::steps::Step;
 use dd_sets::{SetErr, SetId};
 use encode_task::Enc;
 use plan_certs::{Certificate, StateSet};
 use plan_rules::Class;
-use slot_board::{Board, Operation};
-use std::alloc::{AllocError, Global};
+use slot_board::{Board, Operation, Step};
+use std::alloc::Global;
 use task_core::Task;
 
 /// Finds the states that the first round loses.
@@ -96,16 +95,28 @@ fn lose_first(
 }
 
 /// Adds the cubes of what a round lost.
-fn add_set(enc: &Enc, board: &Board, sets: &mut Vec<StateSet>) -> Result<(), AllocError>
+fn add_set(enc: &Enc, board: &Board, sets: &mut Vec<StateSet>) -> Result<(), SetErr>
     requires ready { (start : Start) × (r : ℕ)
         × HasLost start enc.now board.now.slots.items r }
-    ensures { (start : Start) (r : ℕ) → HasLost start enc.now board.now.slots.items r
+    ensures added { (start : Start) (r : ℕ) → HasLost start enc.now board.now.slots.items r
         → OnOk result (map set_of sets.new.items ≡ map set_of sets.old.items
         ++ cubes_of (fluent_count start.task) (lost_set (system_of start.task) r) ∷ []) }
+    ensures never_full { IfErr result (λ e. e ≡ SetErr.Memory) }
 {
-    let cubes = board.cubes(enc, NEW)?;
-    sets.push(StateSet { cubes })?;
+    let cubes = board.only_cubes(enc, NEW)?;
+    push_set(sets, StateSet { cubes })?;
     Ok(())
+}
+
+/// Adds a set behind the others.
+fn push_set(sets: &mut Vec<StateSet>, set: StateSet) -> Result<(), SetErr>
+    ensures pushed { OnOk result (sets.new.items ≡ sets.old.items ++ set ∷ []) }
+    ensures never_full { IfErr result (λ e. e ≡ SetErr.Memory) }
+{
+    match sets.push(set) {
+        Ok(()) => Ok(()),
+        Err(_) => Err(SetErr::Memory),
+    }
 }
 
 /// The sets of states that the rounds lose, until one loses none.
@@ -183,7 +194,7 @@ pub fn cert_cyclic(alloc: Global, task: &Task, enc: &mut Enc) -> Result<Option<C
     requires made { MadeOf task.now enc.old }
     requires goal { IsSome task.now.goal }
     ensures printed { IfOk result (λ found. IfSome found (λ certificate.
-        IsPrinted Cyclic (system_of task.now) (plain_of certificate))) }
+        IsPrinted Cyclic (system_of task.now) (plain_certificate certificate))) }
     ensures no_plan { IfOk result (λ found. IfSome found (λ certificate.
         HasNoSolution Cyclic (system_of task.now))) }
     ensures plan { IfOk result (λ found. IfNone found (HasSolution (system_of task.now))) }

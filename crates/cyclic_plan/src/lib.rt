@@ -12,7 +12,6 @@ mod certs;
 mod plan;
 mod retrace;
 mod rounds;
-mod steps;
 
 pub use certs::cert_cyclic;
 pub use plan::{cyclic_takers, plan_cyclic};

@@ -27,12 +27,12 @@ ghost use Rattle.cyclic_plan.specs.WorkingSets.{IsWide};
 
 use crate::retrace::retrace;
 use crate::rounds::{GOAL, LEFT, last_round, takers_of};
-use dd_sets::{SetErr, SetId};
+use dd_sets::{Listing, SetErr, SetId};
 use encode_task::Enc;
 use plan_rules::{Class, Rule, TablePlan};
 use plan_theory::Found;
 use slot_board::{Board, add_rules};
-use std::alloc::{AllocError, Global};
+use std::alloc::Global;
 use task_core::{ActionId, Task};
 
 /// How many places the board has for a task with so many actions.
@@ -56,16 +56,18 @@ pub(crate) fn begin(enc: &mut Enc, board: &mut Board, goal: SetId) -> Result<(),
 }
 
 /// The rules of the states that take each action, the actions in rising number.
-fn rules(alloc: Global, enc: &Enc, board: &Board, actions: u32) -> Result<Vec<Rule>, AllocError>
+fn rules(alloc: Global, enc: &Enc, board: &Board, actions: u32) -> Result<Vec<Rule>, SetErr>
     requires ready { (start : Start) × HasTable start enc.now board.now.slots.items }
     requires actions { actions ≡ length enc.now.actions }
-    ensures { (start : Start) (table : HasTable start enc.now board.now.slots.items)
+    ensures rules { (start : Start) (table : HasTable start enc.now board.now.slots.items)
         → IfOk result (λ rules. map rule_of rules.items
         ≡ cyclic_rules (system_of start.task) table.pairs) }
+    ensures never_full { IfErr result (λ e. e ≡ SetErr.Memory) }
 {
     let mut rules = Vec::new(alloc);
+    let mut listing = Listing::new();
     for a in 0..actions {
-        let cubes = board.cubes(enc, takers_of(actions, ActionId(a)))?;
+        let cubes = board.cubes(enc, takers_of(actions, ActionId(a)), &mut listing)?;
         add_rules(&mut rules, ActionId(a), cubes)?;
     }
     Ok(rules)

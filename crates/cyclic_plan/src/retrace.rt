@@ -10,13 +10,12 @@ ghost use Rattle.cyclic_plan.specs.Stages.{AddsToSmall, AreTakersSmall, HasHits,
 ghost use Rattle.cyclic_plan.specs.Stages.{IsSmallSet, Takings, kept_system, none_taken};
 ghost use Rattle.cyclic_plan.specs.Stages.{taken_also, takers_within};
 ghost use Rattle.cyclic_plan.specs.Steps.{Follows, HasRetraced, RetracedOn};
-ghost use Rattle.cyclic_plan.specs.declared.steps.Step.{Step as Noted};
+ghost use Rattle.slot_board.specs.declared.steps.Step.{Step as Noted};
 
 use crate::rounds::{GOAL, HITS, NEAR, NEW, NEXT, hit, takers_of};
-use crate::steps::Step;
 use dd_sets::SetErr;
 use encode_task::Enc;
-use slot_board::{Board, Operation};
+use slot_board::{Board, Operation, Step};
 use task_core::ActionId;
 
 /// Has an action taken in the states from which it leads into the near ones, where they are new.

@@ -14,10 +14,9 @@ ghost use Rattle.cyclic_plan.specs.Stages.{IsSmallSet, Takings, kept_system, non
 ghost use Rattle.cyclic_plan.specs.Steps.{BeginsStep, Follows, HasGrown, HasJoined};
 ghost use Rattle.cyclic_plan.specs.Takers.{takers_place};
 
-use crate::steps::{Step, is_spent, none_spent, note, note_spent};
 use dd_sets::SetErr;
 use encode_task::Enc;
-use slot_board::{Board, Operation, Outcomes};
+use slot_board::{Board, Operation, Outcomes, Step, is_spent, none_spent, note, note_spent};
 use std::alloc::Global;
 use task_core::ActionId;
 

@@ -1,5 +1,5 @@
 //! The cache.
-ghost use Rattle.std.specs.Prelude.{◌≡◌, ℕ, ◌<◌, ◌≤◌, ◌⊎◌, [], length, vec_capacity, slice_set};
+ghost use Rattle.std.specs.Prelude.{◌≡◌, ℕ, ◌/◌, ◌<◌, ◌≤◌, ◌⊎◌, [], length, max, vec_capacity, slice_set};
 ghost use Rattle.std.specs.Prelude.{Some, IfOk, IfSome, IsTrue, true, is_some, if◌then◌else◌, Contains};
 ghost use Rattle.dd_cache.specs.declared.key.Key.{Key as Asked};
 ghost use Rattle.dd_cache.specs.CacheMap.{Has, one_more};
@@ -153,8 +153,9 @@ impl Cache {
 /// eighth of them or more.
 fn most_places(limit: u32) -> usize
     requires { limit ≤ 16777216 }
+    ensures enough { limit / 8 ≤ result }
+    ensures few { result ≤ max 1 (limit / 4) }
     ensures some { 0 < result }
-    ensures few { result ≤ 4194304 }
 {
     let mut most = 1;
     while most < limit as usize / 8 {

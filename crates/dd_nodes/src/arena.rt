@@ -23,7 +23,7 @@ pub fn new_buckets(alloc: Global, limit: usize) -> Result<Vec<u32>, AllocError>
     requires small { limit ≤ 16777216 }
     ensures one { IfOk result (λ buckets. buckets.items ≡ 0 ∷ []) }
     ensures room { IfOk result (λ buckets. limit ≤ vec_capacity buckets) }
-    ensures bound { IfOk result (λ buckets. vec_capacity buckets ≤ 33554432) }
+    ensures bound { IfOk result (λ buckets. vec_capacity buckets < 2 * limit) }
 {
     let mut buckets = Vec::with_capacity(alloc, limit.next_power_of_two())?;
     buckets.push_reserved(0);

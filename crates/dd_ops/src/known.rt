@@ -1,5 +1,5 @@
 //! The lists of replacements that substitutions had, each with a number.
-ghost use Rattle.std.specs.Prelude.{◌≡◌, ℕ, ◌+◌, ◌<◌, List, All, IfOk, IfSome, IsTrue, Contains, ◌⊎◌, slice_set};
+ghost use Rattle.std.specs.Prelude.{◌≡◌, ℕ, ◌+◌, ◌<◌, ◌≤◌, ◌↔◌, List, [], All, IfOk, IfSome, IsTrue, Contains, ◌⊎◌, length, slice_set};
 ghost use Rattle.dd_cache.specs.declared.key.Key.{Key as Asked};
 ghost use Rattle.dd_nodes.specs.declared.node.Node.{Node};
 ghost use Rattle.dd_nodes.specs.NodeList.{IsNumber};
@@ -36,12 +36,15 @@ const EMPTY: KnownList = KnownList {
 pub struct KnownLists {
     pub places: Vec<KnownList>,
     pub entries: Vec<(u32, Ref)>,
+    ghost few_places: { length places.items ≤ 4096 },
+    ghost few_entries: { length entries.items ≤ 65536 },
 }
 
 impl KnownLists {
     /// No lists yet. All memory is taken here.
     pub fn new(alloc: Global) -> Result<KnownLists, AllocError>
-        ensures { IfOk result (λ lists. AreEmpty lists.places.items) }
+        ensures empty { IfOk result (λ lists. AreEmpty lists.places.items) }
+        ensures no_entries { IfOk result (λ lists. lists.entries.items ≡ []) }
     {
         let mut lists = KnownLists {
             places: Vec::with_capacity(alloc, PLACES)?,
@@ -53,7 +56,8 @@ impl KnownLists {
 
     /// Forgets all lists.
     pub fn forget(&mut self)
-        ensures { AreEmpty self.new.places.items }
+        ensures empty { AreEmpty self.new.places.items }
+        ensures no_entries { self.new.entries.items ≡ [] }
     {
         self.entries.clear();
         self.places.clear();
@@ -88,7 +92,9 @@ impl KnownLists {
     }
 
     /// Whether the entries of a list have room.
-    fn has_room(&self, map: &[(u32, Ref)]) -> bool {
+    fn has_room(&self, map: &[(u32, Ref)]) -> bool
+        ensures { IsTrue result ↔ (length self.now.entries.items + length map.now ≤ 65536) }
+    {
         map.len() <= ENTRIES.saturating_sub(self.entries.len())
     }
 }

@@ -4,7 +4,7 @@ use borrow.Author.Tests.{eqb-true, eq-eqb}
 use Rattle.dd_nodes.specs.NodeList.{Values}
 use Rattle.dd_nodes.specs.Subfunctions.{Function, DependsOnly}
 use Rattle.dd_ops.specs.Operations.{variable, cofactor_of}
-use Rattle.dd_sets.specs.Orders.{at_place, read, AreInverse, IsOrder}
+use Rattle.dd_sets.specs.Orders.{at_place, read, AreInverse, IsOrder, IsOwnOrder}
 
 -- without a list each variable is the fluent of its own number
 pub at_none : (order : List ℕ) (v : ℕ) → order ≡ [] → at_place order v ≡ v
@@ -56,3 +56,7 @@ order_kept {n} {m} {before} {after} counts same is = subst (λ (k : ℕ). IsOrde
 pub read_depends : (count : ℕ) (order : List ℕ) → IsOrder count order → (f : Function) → DependsOnly 0 count f → DependsOnly 0 count (read order f)
 read_depends count order is f depends s t agree = depends (λ v. s (at_place order v)) (λ v. t (at_place order v))
     (λ v low within. agree (at_place order v) (omega arith) (is.inverse.fluents_within v within))
+
+-- where each variable is the fluent of its own number, a function is read as it is
+pub read_own : (order : List ℕ) (f : Function) → IsOwnOrder order → read order f ≡ f
+read_own order f own = λ i values. f (λ v. values (own v i))

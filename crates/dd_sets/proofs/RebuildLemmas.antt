@@ -10,7 +10,7 @@ use Rattle.dd_nodes.proofs.NodeLemmas.{function_node, function_without_node, nod
 use Rattle.dd_cache.specs.declared.key.Key.{Key}
 use Rattle.dd_ops.specs.Calls.{Answers}
 use Rattle.dd_ops.specs.Operations.{variable, ite_of}
-use Rattle.dd_sets.specs.Orders.{at_place}
+use Rattle.dd_sets.specs.Orders.{at_place, read}
 use Rattle.dd_sets.specs.Rebuilt.{IsRebuilt, IsMemo, KeepsFunctions, key_of}
 
 pub keeps_chain : (a b c : NodeTable) → KeepsFunctions a b → KeepsFunctions b c → KeepsFunctions a c
@@ -39,7 +39,11 @@ module _ (from : List Node) (order : List ℕ) where
   pub memo_kept : (a b : NodeTable) → KeepsFunctions a b → (pairs : List (Key × ℕ)) → IsMemo from order a.nodes pairs → IsMemo from order b.nodes pairs
   memo_kept a b keeps pairs memo number r has = rebuilt_kept a b keeps number r (memo number r has)
 
-  -- a constant has the same number everywhere
+  -- a constant is read as it is
+  pub read_constant : (number : ℕ) → number < 2 → read order (function from number) ≡ function from number
+  read_constant number small = λ i values. (function_without_node from number (λ v. values (at_place order v)) (node_at_constant from number small) ∙ sym (function_without_node from number values (node_at_constant from number small))) i
+
+  -- and has the same number everywhere
   pub rebuilt_constant : (to : List Node) (number : ℕ) → number < 2 → IsRebuilt from order to number number
   rebuilt_constant to number small = record {
     in_table = omega arith;

@@ -13,6 +13,10 @@ at_place list k = slice_index_or list k k
 abbrev pub read : List ℕ → Function → Function
 read order f values = f (λ v. values (at_place order v))
 
+-- each variable stands for the fluent of its own number
+abbrev pub IsOwnOrder : List ℕ → Type 0
+IsOwnOrder order = (v : ℕ) → at_place order v ≡ v
+
 -- an order as callers see it: the fluent of each variable, and the variable of each fluent
 pub record Ordered : Type 0 where
   pub fluents : List ℕ
@@ -44,3 +48,10 @@ pub record Undoes (back there : List ℕ) : Type 0 where
 pub record AreOf (vars : ℕ) (fluents variables : List ℕ) : Type 0 where
   pub inverse : AreInverse vars fluents variables
   pub count : (fluents ≡ []) ⊎ (length fluents ≡ vars)
+
+-- the places of an order of at most 256 fluents: each place from 0 on stands in the list once, since
+-- some list of as many fluents undoes it
+pub record HasOrder (places : List ℕ) : Type 0 where
+  pub few : length places ≤ 256
+  pub fluents : List ℕ
+  pub inverse : AreInverse (length places) fluents places

@@ -1,18 +1,17 @@
 //! The cubes of a diagram, read off its paths.
-ghost use Rattle.std.specs.Prelude.{◌≡◌, ℕ, ◌+◌, ◌++◌, [], map, IfOk, OnOk};
+ghost use Rattle.std.specs.Prelude.{◌≡◌, ℕ, ◌+◌, ◌<◌, ◌++◌, map, IfErr, IfOk, IsErrOf, OnOk};
 ghost use Rattle.dd_nodes.specs.NodeList.{IsNumber, StandsFrom, function};
 ghost use Rattle.dd_nodes.specs.Table.{IsNodeTable};
 ghost use Rattle.task_core.specs.Cubes.{cubes_from, cubes_of, literal as literal_of};
 ghost use Rattle.task_core.specs.Vectors.{value_of};
-ghost use Rattle.dd_sets.specs.Orders.{AreOf, read};
-ghost use Rattle.dd_sets.specs.Rebuilt.{StaysWithin};
+ghost use Rattle.dd_sets.specs.Orders.{AreOf, IsOwnOrder, read};
+ghost use Rattle.dd_sets.specs.Rebuilt.{IsListing};
 ghost use Rattle.dd_sets.specs.Stores.{set_from};
 
+use crate::errors::ListErr;
+use crate::listing::Listing;
 use crate::order::Order;
-use crate::rebuild::rebuild;
-use dd_cache::Cache;
 use dd_nodes::{Dd, Ref};
-use dd_ops::Ops;
 use std::alloc::{AllocError, Global};
 use task_core::{FluentId, Lit};
 
@@ -20,54 +19,39 @@ use task_core::{FluentId, Lit};
 pub type Cube = Vec<Lit>;
 
 /// The cubes of a number, in the order of the fluents. Where the variables are the fluents in another
-/// order, the set is first built in that order, in a table of its own; want of room there is told as
-/// want of memory.
+/// order, the set is first built in that order, in the tables of a listing; it is said to be full where
+/// these find no room.
 pub fn cubes_of_number(
     alloc: Global,
     dd: &Dd,
     order: &Order,
     number: Ref,
-) -> Result<Vec<Cube>, AllocError>
+    listing: &mut Listing,
+) -> Result<Vec<Cube>, ListErr>
     requires table { IsNodeTable dd.now }
     requires number { IsNumber dd.now.nodes number.0 }
     requires order { AreOf dd.now.vars order.now.fluents order.now.variables }
-    ensures { IfOk result (λ cubes. map (λ cube. cube.items) cubes.items ≡ cubes_of dd.now.vars
+    requires listing { IsListing dd.now.vars dd.now.nodes order.now.fluents listing.old.tables }
+    ensures cubes { IfOk result (λ cubes. map (λ cube. cube.items) cubes.items
+        ≡ cubes_of dd.now.vars
         (λ state. read order.now.fluents (function dd.now.nodes number.0) (value_of state))) }
+    ensures listing { IsListing dd.now.vars dd.now.nodes order.now.fluents listing.new.tables }
+    ensures full { IsErrOf result ListErr.Full → ¬ IsOwnOrder order.now.fluents }
+    ensures constant { number.0 < 2 → IfErr result (λ e. e ≡ ListErr.Memory) }
 {
     if order.is_of_fluents() {
-        return cubes_of_table(alloc, dd, number);
+        let cubes = cubes_of_table(alloc, dd, number)?;
+        return Ok(cubes);
     }
-    let mut to = Ops::new(alloc, order.count() as u32, dd.limit())?;
-    let mut memo = Cache::new(alloc, dd.limit())?;
-    cubes_over(alloc, dd, order, &mut to, &mut memo, number)
-}
-
-/// The cubes of a number, by a table whose variables are the fluents in their own order.
-#[tactic(auto, using(crate::proofs::RebuildLemmas::memo_none))]
-fn cubes_over(
-    alloc: Global,
-    dd: &Dd,
-    order: &Order,
-    to: &mut Ops,
-    memo: &mut Cache,
-    number: Ref,
-) -> Result<Vec<Cube>, AllocError>
-    requires table { IsNodeTable dd.now }
-    requires number { IsNumber dd.now.nodes number.0 }
-    requires order { StaysWithin dd.now.vars order.now.fluents dd.now.vars }
-    requires vars { to.old.vars ≡ dd.now.vars }
-    requires memo { memo.old.pairs ≡ [] }
-    ensures { IfOk result (λ cubes. map (λ cube. cube.items) cubes.items ≡ cubes_of dd.now.vars
-        (λ state. read order.now.fluents (function dd.now.nodes number.0) (value_of state))) }
-{
-    match rebuild(dd, order, to, memo, number) {
-        Ok(rebuilt) => cubes_of_table(alloc, to.table(), rebuilt),
-        Err(_) => Err(AllocError),
+    if number.0 < 2 {
+        let cubes = cubes_of_table(alloc, dd, number)?;
+        return Ok(cubes);
     }
+    listing.list(alloc, dd, order, number)
 }
 
 /// The cubes of a number whose variables are the fluents in their own order.
-fn cubes_of_table(alloc: Global, dd: &Dd, number: Ref) -> Result<Vec<Cube>, AllocError>
+pub(crate) fn cubes_of_table(alloc: Global, dd: &Dd, number: Ref) -> Result<Vec<Cube>, AllocError>
     requires table { IsNodeTable dd.now }
     requires number { IsNumber dd.now.nodes number.0 }
     ensures { IfOk result (λ cubes. map (λ cube. cube.items) cubes.items ≡ cubes_of dd.now.vars

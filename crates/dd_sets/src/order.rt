@@ -1,6 +1,7 @@
 //! Orders of the fluents as variables of diagrams.
-ghost use Rattle.std.specs.Prelude.{◌≡◌, ◌<◌, ◌≤◌, [], length, IfOk, IfSome, IsTrue};
-ghost use Rattle.dd_sets.specs.Orders.{at_place, Undoes};
+ghost use Rattle.std.specs.Prelude.{◌≡◌, ℕ, ◌<◌, ◌≤◌, ◌↔◌, [], length, map, min, slice_set};
+ghost use Rattle.std.specs.Prelude.{IfNone, IfOk, IfSome, IsTrue};
+ghost use Rattle.dd_sets.specs.Orders.{at_place, HasOrder, IsOwnOrder, Undoes};
 
 use std::alloc::{AllocError, Global};
 use std::marker::Model;
@@ -35,21 +36,21 @@ impl Model for Order {
 }
 
 impl Order {
-    /// The order in which each fluent has its place, counted from 0. `None` where the places are not
-    /// those from 0 on, each once, or are more than 256.
+    /// The order in which each fluent has its place, counted from 0. `None` exactly where the places
+    /// are not those from 0 on, each once, or are more than 256.
     pub fn of_places(alloc: Global, places: &[usize]) -> Result<Option<Order>, AllocError>
+        ensures places { IfOk result (λ found. IfSome found
+            (λ order. order.variables ≡ places.now)) }
         ensures count { IfOk result (λ found. IfSome found
             (λ order. length order.fluents ≡ length places.now)) }
+        ensures none { IfOk result (λ found. IfNone found (¬ HasOrder places.now)) }
     {
         if places.len() > MOST {
             return Ok(None);
         }
         let variables = small_numbers(alloc, places)?;
         let fluents = turned_round(alloc, &variables)?;
-        if fluents.len() == variables.len()
-            && undoes(&fluents, &variables)
-            && undoes(&variables, &fluents)
-        {
+        if undo_each_other(&fluents, &variables) {
             Ok(Some(Order { fluents, variables }))
         } else {
             Ok(None)
@@ -75,12 +76,11 @@ impl Order {
         self.fluents.len()
     }
 
-    /// Whether no order was given, so that each variable is the fluent of its own number.
-    pub(crate) fn is_of_fluents(&self) -> bool
-        ensures yes { IsTrue result → self.now.fluents ≡ [] }
-        ensures no { self.now.fluents ≡ [] → IsTrue result }
+    /// Whether each variable is the fluent of its own number.
+    pub fn is_of_fluents(&self) -> bool
+        ensures { IsTrue result ↔ IsOwnOrder self.now.fluents }
     {
-        self.fluents.is_empty()
+        leaves_places(&self.fluents)
     }
 
     /// The variable of a fluent.
@@ -108,9 +108,21 @@ fn number_at(numbers: &[u32], place: u32) -> u32
     }
 }
 
+/// Whether each place of a list has the place's own number.
+fn leaves_places(numbers: &[u32]) -> bool
+    ensures { IsTrue result ↔ IsOwnOrder numbers.now }
+{
+    for place in 0..numbers.len() {
+        if numbers[place] as usize != place {
+            return false;
+        }
+    }
+    true
+}
+
 /// Places as numbers of variables; one that is none becomes a number that is none either.
 fn small_numbers(alloc: Global, places: &[usize]) -> Result<Vec<u32>, AllocError>
-    ensures { IfOk result (λ numbers. length numbers.items ≡ length places.now) }
+    ensures { IfOk result (λ numbers. numbers.items ≡ map (λ place. min place 256) places.now) }
 {
     let mut numbers = Vec::new(alloc);
     for place in places {
@@ -123,6 +135,10 @@ fn small_numbers(alloc: Global, places: &[usize]) -> Result<Vec<u32>, AllocError
 /// its places once.
 fn turned_round(alloc: Global, numbers: &[u32]) -> Result<Vec<u32>, AllocError>
     requires { length numbers.now ≤ 256 }
+    ensures count { IfOk result (λ turned. length turned.items ≡ length numbers.now) }
+    ensures undone { IfOk result (λ turned. HasOrder numbers.now → (place : ℕ)
+        → place < length numbers.now
+        → at_place turned.items (at_place numbers.now place) ≡ place) }
 {
     let mut turned = vec![in alloc; 0; numbers.len()]?;
     for place in 0..numbers.len() {
@@ -132,16 +148,29 @@ fn turned_round(alloc: Global, numbers: &[u32]) -> Result<Vec<u32>, AllocError>
 }
 
 /// Writes a number at a place, if the list has the place.
-fn write(numbers: &mut Vec<u32>, place: u32, number: u32) {
+fn write(numbers: &mut Vec<u32>, place: u32, number: u32)
+    ensures count { length numbers.new.items ≡ length numbers.old.items }
+    ensures written { place < length numbers.old.items
+        → numbers.new.items ≡ slice_set numbers.old.items place number }
+{
     if (place as usize) < numbers.len() {
         numbers[place as usize] = number;
     }
 }
 
+/// Whether each of two lists undoes the other.
+fn undo_each_other(fluents: &[u32], variables: &[u32]) -> bool
+    requires fluents { length fluents.now ≤ 256 }
+    requires variables { length variables.now ≤ 256 }
+    ensures { IsTrue result ↔ (Undoes fluents.now variables.now × Undoes variables.now fluents.now) }
+{
+    undoes(fluents, variables) && undoes(variables, fluents)
+}
+
 /// Whether a list leads back from each number of another to the number's place.
 fn undoes(back: &[u32], there: &[u32]) -> bool
     requires { length there.now ≤ 256 }
-    ensures { IsTrue result → Undoes back.now there.now }
+    ensures { IsTrue result ↔ Undoes back.now there.now }
 {
     for place in 0..there.len() {
         if !leads_back(back, there, place as u32) {
@@ -153,8 +182,8 @@ fn undoes(back: &[u32], there: &[u32]) -> bool
 
 /// Whether a list leads back from the number at a place of another to that place.
 fn leads_back(back: &[u32], there: &[u32], place: u32) -> bool
-    ensures within { IsTrue result → at_place there.now place < length back.now }
-    ensures back { IsTrue result → at_place back.now (at_place there.now place) ≡ place }
+    ensures { IsTrue result ↔ ((at_place there.now place < length back.now)
+        × (at_place back.now (at_place there.now place) ≡ place)) }
 {
     let number = number_at(there, place);
     (number as usize) < back.len() && number_at(back, number) == place

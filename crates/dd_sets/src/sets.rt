@@ -14,15 +14,18 @@ ghost use Rattle.dd_sets.specs.LiveSets.{LiveSets, IsSets, IsLive, AllLive, is_l
 ghost use Rattle.dd_sets.specs.LiveSets.{nothing, everything, number_at, listed_set};
 ghost use Rattle.dd_sets.specs.LiveSets.{values_by_sets, subst_set};
 ghost use Rattle.dd_sets.specs.Rooms.{IsFull, Rough, AreRough, NoRoom};
+ghost use Rattle.dd_sets.specs.Orders.{IsOwnOrder};
+ghost use Rattle.dd_sets.specs.Rebuilt.{IsListingOf};
 ghost use Rattle.dd_sets.specs.Stores.{ref_at, AreRefs};
 ghost use Rattle.dd_sets.specs.Tries.{IsReady, wanted, pieces, Computes, Collects, Tries};
 
 use crate::cubes::{Cube, cubes_of_number};
+use crate::listing::Listing;
 use crate::member::is_member;
 use crate::operation::Operation;
 use crate::order::Order;
 use crate::slots::{live_numbers, live_slots, renumber, store};
-use crate::{SetErr, SetId};
+use crate::{ListErr, SetErr, SetId};
 use dd_nodes::{DdErr, Ref};
 use dd_ops::Ops;
 use slab::Slab;
@@ -592,15 +595,20 @@ impl Sets {
     /// over the rest, and another has the cubes of the half where the first fluent is false, with
     /// that literal first, and then those of the true half.
     ///
-    /// In the order of the fluents the time grows with the literals that it gives. In another one the
-    /// set is first built in the order of the fluents, with the memory of a second table of the same
-    /// limit; where that finds no room, there is said to be no memory.
-    pub fn cubes(&self, a: SetId) -> Result<Vec<Cube>, AllocError>
-        requires { IsLive self.now a.0 }
+    /// In the order of the fluents the time grows with the literals that it gives. In another one a
+    /// set that is not empty or whole is first built in the order of the fluents, in a second table of
+    /// the same limit, which a listing keeps for the next set; where that finds no room, it is said to
+    /// be full.
+    pub fn cubes(&self, a: SetId, listing: &mut Listing) -> Result<Vec<Cube>, ListErr>
+        requires live { IsLive self.now a.0 }
+        requires listing { IsListingOf self.now listing.old.tables }
         ensures answer { IfOk result (λ cubes. map (λ cube. cube.items) cubes.items
             ≡ cubes_of self.now.vars (λ state. set_of self.now a.0 (value_of state))) }
+        ensures full { IsErrOf result ListErr.Full → ¬ IsOwnOrder self.now.order }
+        ensures listing { IsListingOf self.now listing.new.tables }
         ensures sound { IsSets self.now }
     {
-        cubes_of_number(self.alloc, self.ops.table(), &self.order, self.number(a))
+        let number = self.number(a);
+        cubes_of_number(self.alloc, self.ops.table(), &self.order, number, listing)
     }
 }

@@ -3,7 +3,7 @@ ghost use Rattle.std.specs.Prelude.{◌<◌, ◌≤◌, All, IfOk, IfSome, OnOk}
 ghost use Rattle.dd_sets.specs.Calls.{KeepsSets, Releases};
 ghost use Rattle.dd_sets.specs.LiveSets.{IsLive};
 
-use dd_sets::{Cube, SetErr, SetId, Sets};
+use dd_sets::{Cube, Listing, SetErr, SetId, Sets};
 use std::alloc::{AllocError, Global};
 use std::test::Fail;
 use task_core::{FluentId, State};
@@ -104,7 +104,8 @@ fn has_state(cube: &Cube, s: u32) -> bool {
 fn has_cubes(sets: &Sets, f: Known) -> Result<bool, Fail>
     requires { IsLive sets.now f.0.0 }
 {
-    let cubes = sets.cubes(f.0)?;
+    let mut listing = Listing::new();
+    let cubes = sets.cubes(f.0, &mut listing)?;
     for s in 0..16u32 {
         let is_in = cubes.iter().any(|cube| has_state(cube, s));
         if is_in != (f.1 >> s & 1 == 1) {

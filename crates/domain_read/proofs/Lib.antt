@@ -1,2 +1,12 @@
+pub mod Multiples
+pub mod Replaced
+pub mod Rows
+pub mod Twins
+pub mod Mild
+pub mod Choices
+pub mod Walk
+pub mod Ordered
+pub mod PlainAnswered
+pub mod Exact
 pub mod Through
 pub mod Answered

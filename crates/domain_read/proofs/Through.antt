@@ -10,17 +10,14 @@ use Rattle.sexpr_text.specs.Spelling.{SpellsTrees}
 use Rattle.sexpr_text.specs.Flaws.{Flaw, first_of, fault_of_passes}
 use Rattle.sexpr_text.specs.Passes.{IfFault}
 use Rattle.sexpr_text.proofs.OneAnswer.{spells_trees-unique, fault-no_spelling}
-use Rattle.ppddl_read.specs.Meant.{plain_trees}
-use Rattle.ppddl_read.specs.Plain.{plain_passes, IsPlainOf, HasPlainFault}
+use Rattle.domain_read.specs.Meant.{plain_trees}
+use Rattle.domain_read.specs.Plain.{plain_passes, IsPlainOf, HasPlainFault}
 use Rattle.pddl_ast.specs.declared.trees.Domain.{Domain}
 use Rattle.pddl_ast.specs.Trees.{DomainTree}
 use Rattle.pddl_ast.specs.Values.{domain_value}
-use Rattle.pddl_domain.specs.Domains.{domain_passes, domain_tree, SpellsDomain as SpellsPlainDomain, HasDomainFault as HasFaultOfPlain}
+use Rattle.pddl_domain.specs.Domains.{domain_passes, domain_tree, SpellsPlainDomain, HasPlainDomainFault}
+use Rattle.domain_read.proofs.PlainAnswered.{some_fault}
 use Rattle.domain_read.specs.Domains.{whole_passes, ReadsAsDomain, IsFlawlessDomain, SpellsDomain, HasDomainFault}
-
-some_fault : (f : Flaw) (fs : List Flaw) (passes : List (List Flaw)) → fault_of_passes ((f ∷ fs) ∷ passes) ≡ None → ⊥
-unfolding fault_of_passes first_of
-some_fault f fs passes h = cc
 
 -- after passes without flaws, the fault is that of the later passes
 pub later_fault : (passes others : List (List Flaw)) → fault_of_passes passes ≡ None → fault_of_passes (passes ++ others) ≡ fault_of_passes others
@@ -54,7 +51,7 @@ spelled b text d p h = record { reads = reads h.reads; flawless = flawless h.fla
     flawless : ((forms : Forest) × SpellsTrees text forms × (fault_of_passes (domain_passes forms) ≡ None)) → IsFlawlessDomain b
     flawless (forms, s, e) = (p.trees, p.spelled, meant_fault b text p forms s ∙ e)
 
-faulty : (b text : List ℕ) (f : InputFault) → IsPlainOf b text → HasFaultOfPlain text f → HasDomainFault b f
+faulty : (b text : List ℕ) (f : InputFault) → IsPlainOf b text → HasPlainDomainFault text f → HasDomainFault b f
 faulty b text f p (inl h) = absurd (fault-no_spelling text f (plain_trees p.trees) h p.means)
 faulty b text f p (inr (forms, s, e)) = inr (p.trees, p.spelled, meant_fault b text p forms s ∙ e)
 
@@ -69,12 +66,12 @@ read_spelled b text p (Ok d) h = spelled b text (domain_value d) p h
 read_spelled b text p (Err e) h = tt
 
 fault_meant : (b text : List ℕ) → IsPlainOf b text → (e : ReadErr)
-    → IfFault e (λ f. HasFaultOfPlain text f) → IfFault e (λ f. HasDomainFault b f)
+    → IfFault e (λ f. HasPlainDomainFault text f) → IfFault e (λ f. HasDomainFault b f)
 fault_meant b text p (Fault f) h = faulty b text f p h
 fault_meant b text p Memory h = tt
 
 pub read_faulty : (b text : List ℕ) → IsPlainOf b text → (r : Result Domain ReadErr)
-    → IfErr r (λ e. IfFault e (λ f. HasFaultOfPlain text f)) → IfErr r (λ e. IfFault e (λ f. HasDomainFault b f))
+    → IfErr r (λ e. IfFault e (λ f. HasPlainDomainFault text f)) → IfErr r (λ e. IfFault e (λ f. HasDomainFault b f))
 read_faulty b text p (Ok d) h = tt
 read_faulty b text p (Err e) h = fault_meant b text p e h
 

@@ -11,8 +11,8 @@ use Rattle.sexpr_text.specs.Forest.{Forest}
 use Rattle.sexpr_text.specs.Spelling.{SpellsTrees}
 use Rattle.sexpr_text.specs.Flaws.{Flaw, fault_of_passes}
 use Rattle.sexpr_text.specs.Passes.{HasFaultBy}
-use Rattle.ppddl_read.specs.Meant.{plain_trees}
-use Rattle.ppddl_read.specs.Plain.{plain_passes}
+use Rattle.domain_read.specs.Meant.{plain_trees}
+use Rattle.domain_read.specs.Plain.{plain_passes}
 use Rattle.pddl_ast.specs.Trees.{DomainTree}
 use Rattle.pddl_domain.specs.Domains.{domain_passes, domain_tree}
 

@@ -2,19 +2,19 @@
 
 ghost use Rattle.std.specs.Prelude.{◌≡◌, ◌≤◌, ℕ, List, IfOk, IfErr, length};
 ghost use Rattle.sexpr_text.specs.Passes.{IfFault};
-ghost use Rattle.ppddl_read.specs.Plain.{IsPlainOf};
+ghost use Rattle.domain_read.specs.Plain.{IsPlainOf};
 ghost use Rattle.pddl_ast.specs.Fits.{FitsDomain};
 ghost use Rattle.pddl_ast.specs.Values.{domain_value};
 ghost use Rattle.pddl_domain.specs.WordNames.{HasWordNames};
 ghost use Rattle.domain_read.specs.Domains.{SpellsDomain, HasDomainFault};
 
+use crate::plain_text::plain;
 use pddl_ast::Domain;
-use ppddl_read::plain;
 use sexpr_text::{MAX_BYTES, ReadErr};
 use std::alloc::Global;
 
 // The plain text, or the first fault of the weights.
-fn plain_of(alloc: Global, bytes: &[u8]) -> Result<Vec<u8>, ReadErr>
+fn plain_text_of(alloc: Global, bytes: &[u8]) -> Result<Vec<u8>, ReadErr>
     requires { length bytes.now ≤ MAX_BYTES }
     ensures length { IfOk result (λ text. length text.items ≡ length bytes.now) }
     ensures plain { IfOk result (λ text. IsPlainOf bytes.now text.items) }
@@ -52,6 +52,6 @@ pub fn read_domain(alloc: Global, bytes: &[u8]) -> Result<Domain, ReadErr>
     ensures words { IfOk result (λ d. HasWordNames (domain_value d)) }
     ensures fault { IfErr result (λ e. IfFault e (λ f. HasDomainFault bytes.now f)) }
 {
-    let text = plain_of(alloc, bytes)?;
+    let text = plain_text_of(alloc, bytes)?;
     read_plain(alloc, &text)
 }

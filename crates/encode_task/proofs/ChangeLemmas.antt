@@ -30,11 +30,6 @@ not_about change f positive set is = λ i values. (sym (or_none (set values)) �
     or_none true = refl
     or_none false = refl
 
--- what is asked of the condition beside each literal holds of it where there is one
-pub said_of_each : (p : Lit → Bool) (b : Bool) (lits : Cube) → list_any p lits ≡ true → list_all (λ (lit : Lit). b) lits ≡ true → b ≡ true
-said_of_each p b [] some all = absurd (false≢true some)
-said_of_each p b (x ∷ lits) some all = (and_parts b (list_all (λ (lit : Lit). b) lits) all).0
-
 -- there is a literal that passes where some does
 pub some_literal : (p : Lit → Bool) (lits : Cube) → list_any p lits ≡ true → (lit : Lit) × Contains lits lit
 some_literal p [] some = absurd (false≢true some)

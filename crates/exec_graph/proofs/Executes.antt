@@ -13,24 +13,11 @@ use Rattle.plan_rules.specs.Denoted.{can_execute}
 use Rattle.plan_rules.specs.Rules.{PlanNext}
 use Rattle.plan_rules.specs.Advices.{Advised}
 use Rattle.exec_graph.specs.Counting.{Moved, with_if_state, with_outcome, with_rule}
-
--- what tells whether an action can be executed
-some_next : (b : Bool) (ts : List Vector) → (IsTrue b ↔ (ts ≢ [])) → list_any (λ (t : Vector). true) ts ≡ b
-some_next true [] h = absurd (h.0 refl refl)
-some_next false [] h = refl
-some_next true (t ∷ ts) h = refl
-some_next false (t ∷ ts) h = sym (h.1 (λ e. cc))
-
-pub executes : (sys : System) (s : Vector) (a : ℕ) (b : Bool) → (IsTrue b ↔ Exec sys s a) → can_execute sys s a ≡ b
-executes sys s a b h = some_next b (sys.next s a) h
+use Rattle.list_laws.proofs.Booleans.{or_true}
 
 -- a rule whose action can't be executed adds nothing but that it was refused
 abbrev pub refused_in : Moved → Moved
 refused_in m = record { next = m.next; refused = true; lost = m.lost }
-
-or_true : (b : Bool) → (b || true) ≡ true
-or_true true = refl
-or_true false = refl
 
 none_added : (m : Moved) (next : PlanNext) (ts : List Vector) → list_any (λ (t : Vector). true) ts ≡ false
     → refused_in m ≡ (let all = fold (with_outcome next) m ts in record {

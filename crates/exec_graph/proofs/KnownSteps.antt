@@ -27,10 +27,7 @@ use Rattle.exec_graph.specs.Moves.{with_configuration}
 use Rattle.exec_graph.specs.declared.effects.Effect.{Effect}
 use Rattle.exec_graph.specs.declared.effects.Effects.{Effects}
 use Rattle.exec_graph.specs.declared.graphs.Place.{Place}
-
-and_true : (b : Bool) → (b && true) ≡ b
-and_true true = refl
-and_true false = refl
+use Rattle.list_laws.proofs.Booleans.{and_true}
 
 -- which fluents the changes name, where their conditions always hold
 makes_named : (xs : List Change) → All (λ (change : Change). AlwaysHolds change.cond) xs → (positive : Bool) (value : ℕ → Bool) (f : ℕ)

@@ -1,15 +1,13 @@
-pub mod PlanCubes
 pub mod Places
 pub mod Executes
 pub mod ListWrites
-pub mod Lists
 pub mod Listed
 pub mod RowFacts
 pub mod Lengths
-pub mod DenotedPairs
 pub mod RuleMoves
 pub mod RuleLists
 pub mod Reaching
+pub mod Ordered
 pub mod Searching
 pub mod Listing
 pub mod Grown

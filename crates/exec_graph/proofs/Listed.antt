@@ -8,8 +8,8 @@ use Rattle.std.proofs.lemmas.List.Quantifiers.{all_pairs_push}
 use Rattle.std.proofs.lemmas.Option.{slice_get_within, slice_get-get_or, get_or_from_slice_get, none-some}
 use Rattle.task_core.specs.ContextPlans.{Configuration}
 use Rattle.exec_graph.specs.Counting.{same_configuration, add_configuration}
-use Rattle.exec_graph.proofs.Lists.{Contains-head, Contains-cons, Contains-nil, Contains-cases, list_any-from, list_any-witness}
 use Rattle.exec_graph.proofs.Places.{same_configuration_equal, same_configuration_refl}
+use Rattle.list_laws.proofs.Elements.{Contains-cases, Contains-cons, Contains-head, Contains-nil, list_any-from, list_any-witness}
 
 -- no two elements are the same
 abbrev pub AreDifferent : List Configuration → Type 0

@@ -11,8 +11,8 @@ use Rattle.exec_graph.specs.Counting.{add_configuration}
 use Rattle.exec_graph.specs.Moves.{AreListed, AreMoves, HasGrown, IsBeforeVisit, IsMarkedAt, IsPlaceWithin, configuration_of, found_by, listed_at, moves_value, nowhere, with_configuration}
 use Rattle.exec_graph.specs.declared.graphs.Place.{Place}
 use Rattle.exec_graph.specs.declared.moves.Moves.{Moves}
-use Rattle.exec_graph.proofs.Lists.{Contains-head, Contains-cons, Contains-nil, Contains-cases, Contains-map, Contains-map-witness}
 use Rattle.exec_graph.proofs.Listed.{AreDifferent, add_cases, added_differ, added_get, added_same, all_added_has, number-Contains, one_number}
+use Rattle.list_laws.proofs.Elements.{Contains-cases, Contains-cons, Contains-head, Contains-map, Contains-map-witness, Contains-nil}
 
 -- the place at which an added configuration stands, one of before or the next one
 pub number_before : (found : List Configuration) (x : Configuration) (k : ℕ) → k < length found

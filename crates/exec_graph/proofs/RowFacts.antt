@@ -7,8 +7,9 @@ use Rattle.std.proofs.lemmas.List.Elements.{filter-append, Contains-append_left,
 use Rattle.std.proofs.lemmas.List.Sums.{sum_by-set, sum_by-le, sum_by_more, get_or-le-sum_by}
 use Rattle.std.proofs.lemmas.List.Quantifiers.{all_pairs_push}
 use Rattle.exec_graph.specs.Rows.{Edge, HasRoom, IsCounted, IsFilled, IsRowed, edge, edges_of, firsts, row_at, sources}
-use Rattle.exec_graph.proofs.Lists.{Contains-head, Contains-cons, Contains-nil, Contains-cases, Contains-map-witness, Contains-filter-witness}
 use Rattle.exec_graph.proofs.Listed.{get-front}
+use Rattle.list_laws.proofs.Elements.{Contains-cases, Contains-cons, Contains-filter-witness, Contains-head, Contains-map-witness, Contains-nil}
+use Rattle.list_laws.proofs.Distinct.{first_once, rest_once}
 
 -- the lists one after another
 pub firsts_length : (row : ℕ → List ℕ) (n : ℕ) → length (firsts row n) ≡ n
@@ -416,11 +417,6 @@ source_from next (suc n) i j l c =
     (cases_lt i n))
 
 -- each once
-rest_once : (x : ℕ) (xs : List ℕ) → AllPairs (λ i j. i ≢ j) (x ∷ xs) → AllPairs (λ i j. i ≢ j) xs
-rest_once x xs once i j d l h = once (suc i) (suc j) d (omega arith) (omega arith)
-
-first_once : (x : ℕ) (xs : List ℕ) → AllPairs (λ i j. i ≢ j) (x ∷ xs) → Contains xs x → ⊥
-first_once x xs once c = let l : c.0 < length xs = c.1 in once zero (suc c.0) x (omega arith) (omega arith) (sym c.2)
 
 row_none : (i j : ℕ) (xs : List ℕ) → (Contains xs j → ⊥) → sources (map (edge i) xs) j ≡ []
 row_none i j [] none = refl

@@ -9,8 +9,8 @@ use Rattle.plan_rules.specs.Denoted.{rule_at}
 use Rattle.plan_rules.specs.Plans.{IsContextRuleOf}
 use Rattle.plan_rules.specs.Rules.{ContextRule, context_rule_of}
 use Rattle.exec_graph.specs.Counting.{IsRuleWithin, first_matching}
-use Rattle.exec_graph.proofs.Lists.{Contains-filter-witness}
-use Rattle.exec_graph.proofs.PlanCubes.{unmapped, cases_of_next}
+use Rattle.list_laws.proofs.Elements.{Contains-filter-witness, All-unmap}
+use Rattle.plan_rules.proofs.CaseCubes.{cases_of_next}
 
 -- a rule of an automaton of a task names its fluents and actions alone
 rule_within : (n m k : ℕ) (rule : ContextRule) → IsContextRuleOf n m k rule → IsRuleWithin n m rule
@@ -21,7 +21,7 @@ pub kept_within : (n m k : ℕ) (p : AutoRule → Bool) (rules : List AutoRule) 
 kept_within n m k p rules all i d l =
     let kept = filter p rules in
     let c = (Contains-filter-witness p rules (get_or kept i d) (Contains-get_or kept i d l)).0 in
-    let at = unmapped (IsContextRuleOf n m k) context_rule_of rules all c.0 (get_or kept i d) c.1 in
+    let at = All-unmap (IsContextRuleOf n m k) context_rule_of rules all c.0 (get_or kept i d) c.1 in
     rule_within n m k (context_rule_of (get_or kept i d)) (subst (λ (r : AutoRule). IsContextRuleOf n m k (context_rule_of r)) c.2 at)
 
 -- the first of those that matches is the first of all that has the context and matches

@@ -15,9 +15,10 @@ use Rattle.plan_rules.specs.Rules.{PlanRule, PlanNext, ContextRule, PlainPlan, a
 use Rattle.exec_graph.specs.Counting.{Moved, advised_in_table, moves_by, moves_from, no_moves, onward_to, with_outcome, with_rule, with_table_rule}
 use Rattle.plan_rules.specs.Advices.{Advised, advised_by}
 use Rattle.exec_graph.specs.Executions.{GoesTo, HasBadAction, HasBadRule, HasLostOutcome, IsStuckAt, IsUnexecutableAt}
-use Rattle.exec_graph.proofs.Lists.{Contains-head, Contains-cons, Contains-nil, Contains-cases, list_any-from, list_any-witness}
 use Rattle.exec_graph.proofs.Listed.{AreDifferent, all_added_has, all_added_only, all_added_differ, none_differ}
-use Rattle.exec_graph.proofs.DenotedPairs.{can_execute-Exec, can_execute-outcome, cannot-refused, refused-cannot, denoted-from, denoted-pair}
+use Rattle.plan_rules.proofs.DenotedPairs.{can_execute-Exec, can_execute-outcome, cannot-refused, refused-cannot, denoted-from, denoted-pair}
+use Rattle.list_laws.proofs.Elements.{Contains-cases, Contains-cons, Contains-head, Contains-nil, list_any-from, list_any-witness}
+use Rattle.list_laws.proofs.Booleans.{or_false, or_assoc}
 
 -- y is the configuration of an outcome t
 pub record IsOnward (next : PlanNext) (t : Vector) (y : Configuration) : Type 0 where
@@ -75,14 +76,6 @@ outcomes_differ next (t ∷ ts) m differ = outcomes_differ next ts (with_outcome
 outcomes_refused : (next : PlanNext) (ts : List Vector) (m : Moved) → (fold (with_outcome next) m ts).refused ≡ m.refused
 outcomes_refused next [] m = refl
 outcomes_refused next (t ∷ ts) m = outcomes_refused next ts (with_outcome next m t)
-
-or_assoc : (a b c : Bool) → ((a || b) || c) ≡ (a || (b || c))
-or_assoc true b c = refl
-or_assoc false b c = refl
-
-pub or_false : (a : Bool) → (a || false) ≡ a
-or_false true = refl
-or_false false = refl
 
 -- whether an outcome has no next context
 abbrev pub loses : PlanNext → Vector → Bool

@@ -1,11 +1,11 @@
 -- What is known of a draft: at first, after a visit, and at the end.
-use Rattle.std.proofs.Common.{◌≡◌, ◌≢◌, ◌↔◌, ℕ, ◌+◌, ◌<◌, ◌≤◌, Bool, true, false, ◌||◌, IsTrue, nat_lt, List, [], ◌∷◌, ◌++◌, length, get_or, map, slice_get, Option, Some, refl, sym, ap, ◌∙◌, subst, ⊎_elim, arith}
-use Rattle.std.specs.List.{All, AllPairs, Contains, fold}
+use Rattle.std.proofs.Common.{◌≡◌, ◌≢◌, ◌↔◌, ℕ, ◌+◌, ◌<◌, ◌≤◌, Bool, true, false, ◌||◌, IsTrue, nat_lt, List, [], ◌∷◌, ◌++◌, length, get_or, map, slice_get, take, Option, Some, refl, sym, ap, ◌∙◌, subst, ⊎_elim, arith}
+use Rattle.std.specs.List.{All, AllPairs, Contains, flat_map, fold, range_with_len}
 use Rattle.std.specs.Option.{option_map}
 use Rattle.std.specs.Cmp.{IsEquivalence}
 use Rattle.std.specs.Bool.{Decides}
 use Rattle.std.proofs.lemmas.Bool.{false≢true, or_cases, or_left, or_right, cases_lt, ltb-true, lt-ltb}
-use Rattle.std.proofs.lemmas.List.{length-append}
+use Rattle.std.proofs.lemmas.List.{length-append, map-id, take_all}
 use Rattle.std.proofs.lemmas.List.Elements.{Contains-get_or}
 use Rattle.std.proofs.lemmas.List.Kept.{AllPairs-cons}
 use Rattle.std.proofs.lemmas.Map.Made.{length-le_from_is_member, IsDistinct-from_AllPairs, is_member-Decides}
@@ -14,16 +14,18 @@ use Rattle.task_core.specs.Systems.{System, IsState, IsSystem}
 use Rattle.task_core.specs.ContextPlans.{Configuration, IsInitial}
 use Rattle.plan_rules.specs.Rules.{PlainPlan}
 use Rattle.exec_graph.specs.Counting.{add_configuration, moves_from, same_configuration}
-use Rattle.exec_graph.specs.Drafts.{HasTooMany, IsFollowed, IsNumbered, IsSearched, IsVisit, PlainDraft, SomeOfFirst, in_first}
+use Rattle.exec_graph.specs.Drafts.{HasTooMany, IsFollowed, IsNumbered, IsSearched, IsVisit, PlainDraft, SomeOfFirst}
+use Rattle.exec_graph.specs.Orders.{AreInOrderMet, in_first, onward}
+use Rattle.exec_graph.proofs.Ordered.{order_kept}
 use Rattle.exec_graph.specs.Executions.{GoesTo, IsReachedBy, IsStuckAt, IsUnexecutableAt, ReachesMoreThan}
 use Rattle.exec_graph.specs.Graphs.{IsGraphOf, PlainGraph}
-use Rattle.exec_graph.proofs.Lists.{Contains-head, Contains-cons, Contains-nil, Contains-cases, Contains-map-witness}
 use Rattle.exec_graph.proofs.Listed.{AreDifferent, All-number, Contains-number, all_added_all, all_added_differ, all_added_get, all_added_length, first_differs, get-front, number-Contains, one_number, rest_differ}
 use Rattle.exec_graph.proofs.Places.{same_configuration_equal, same_configuration_refl}
 use Rattle.exec_graph.proofs.Reaching.{goes_to_state, reached_first, reached_keeps, reached_next}
 use Rattle.exec_graph.specs.Rows.{edges_of, sources}
 use Rattle.exec_graph.proofs.RowFacts.{source_from, source_means, sources_once}
 use Rattle.exec_graph.proofs.RuleMoves.{goes_next, lost_means, next_differ, next_goes, refused_means}
+use Rattle.list_laws.proofs.Elements.{Contains-cases, Contains-cons, Contains-head, Contains-map-witness, Contains-nil, map-range}
 
 -- `same_configuration` decides whether two configurations are the same
 same_decides : (x y : Configuration) → Decides (same_configuration x y) (x ≡ y)
@@ -157,6 +159,8 @@ module _ (sys : System) (plan : PlainPlan) where
         states = subst (All (λ (y : Configuration). IsState sys y.state)) (sym grown)
             (all_added_all (λ (y : Configuration). IsState sys y.state) found moves d.states (λ y c. goes_to_state sys plan x y ok (goes y c)));
         begun = λ i y e. stays i y (d.begun i y e);
+        in_order = order_kept sys plan (map in_first sys.initial) found now (length before.next) x d.in_order v.is grown
+            ∙ ap (λ k. fold add_configuration (map in_first sys.initial) (flat_map (onward sys plan) (take k now))) (sym len);
         fewer =
             (let one : length before.next < length found = slice_get_within found (length before.next) x v.is in
             let more : length found ≤ length now = subst (λ zs. length found ≤ length zs) (sym grown) (all_added_length found moves) in
@@ -281,6 +285,14 @@ module _ (sys : System) (plan : PlainPlan) where
               let at = Contains-number draft.found x (all_found x r) in
               record { number = at.0; below = below at.0 x at.2; is = is at.0 x at.2 };
           once = λ i j li lj e. one_number draft.found i j (graph.configuration j) d.different (s.configuration i li ∙ ap Some e) (s.configuration j lj);
+          in_order =
+              (let all : map graph.configuration (range_with_len 0 graph.size) ≡ draft.found =
+              ap (λ k. map graph.configuration (range_with_len 0 k)) s.size
+              ∙ map-range graph.configuration (λ x. x) draft.found 0 (λ k x e. ap graph.configuration (let z : 0 + k ≡ k = omega arith in z) ∙ is k x e)
+              ∙ map-id draft.found in
+              let visited_all : take (length draft.next) draft.found ≡ draft.found = take_all (length draft.next) draft.found (omega arith) in
+              subst (AreInOrderMet sys plan) (sym all)
+              (d.in_order ∙ ap (λ xs. fold add_configuration (map in_first sys.initial) (flat_map (onward sys plan) xs)) visited_all));
           initial = λ i l. (
             (λ e. found_begun draft d i (graph.configuration i) (ltb-true i (length sys.initial) (sym (s.initial i) ∙ e)) (s.configuration i l)),
             (λ first.
@@ -333,6 +345,7 @@ searched_first sys plan ok differ draft found next bad stuck =
       reached = λ i e l. reached_first sys plan (get_or draft.found i e) (first (get_or draft.found i e) (Contains-get_or draft.found i e l));
       states = λ i e l. ok.initial (get_or draft.found i e).state (first (get_or draft.found i e) (Contains-get_or draft.found i e l)).state;
       begun = λ i x e. ap (λ ys. slice_get ys i) found ∙ e;
+      in_order = found ∙ ap (λ ns. fold add_configuration (map in_first sys.initial) (flat_map (onward sys plan) (take (length ns) draft.found))) (sym next);
       fewer = subst (λ ys. length ys ≤ length draft.found) (sym next) (omega arith);
       followed = λ i x numbers at e. absurd (none-some numbers (sym (ap (λ ys. slice_get ys i) next ∙ slice_get_past [] i (omega arith)) ∙ e));
       unexecutable = none_marked (IsUnexecutableAt sys plan) draft.unexecutable bad;

@@ -11,9 +11,10 @@ use Rattle.plan_rules.specs.Advices.{Advised}
 use Rattle.plan_rules.specs.Denoted.{can_execute}
 use Rattle.plan_rules.specs.Rules.{PlanRule, always}
 use Rattle.exec_graph.specs.Counting.{HasTaken, HaveTaken, Moved, add_configuration, advised_in_table, onward_to, with_outcome, with_rule, with_table_rule}
-use Rattle.exec_graph.proofs.Lists.{Contains-head, Contains-cons}
 use Rattle.exec_graph.proofs.Listed.{added_same}
-use Rattle.exec_graph.proofs.RuleMoves.{next_rule, or_false, rule_refused}
+use Rattle.exec_graph.proofs.RuleMoves.{next_rule, rule_refused}
+use Rattle.list_laws.proofs.Elements.{Contains-cons, Contains-head}
+use Rattle.list_laws.proofs.Booleans.{or_false}
 
 in_first : Vector → Configuration
 in_first t = record { state = t; context = first_context }

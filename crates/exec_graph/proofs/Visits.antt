@@ -19,7 +19,8 @@ use Rattle.task_core.proofs.EntryStates.{after_entries_differ}
 use Rattle.exec_graph.specs.Initials.{HasTooManyInitial}
 use Rattle.std.proofs.lemmas.Bool.{cases_lt}
 use Rattle.exec_graph.specs.Counting.{add_configuration, moves_from}
-use Rattle.exec_graph.specs.Drafts.{HasTooMany, IsNumbered, IsSearched, IsVisit, beginnings, draft_value, in_first}
+use Rattle.exec_graph.specs.Drafts.{HasTooMany, IsNumbered, IsSearched, IsVisit, beginnings, draft_value}
+use Rattle.exec_graph.specs.Orders.{in_first}
 use Rattle.exec_graph.specs.Executions.{ReachesMoreThan}
 use Rattle.exec_graph.specs.Graphs.{IsGraphOf}
 use Rattle.exec_graph.specs.Moves.{configuration_of, found_by, listed_at, moves_value}

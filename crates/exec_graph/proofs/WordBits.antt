@@ -4,19 +4,11 @@ use Rattle.std.specs.Int.{bit_at}
 use Rattle.std.proofs.lemmas.List.{get_or_past}
 use Rattle.std.proofs.lemmas.Nat.Bits.{bit_at_and, bit_at_or, bit_at-lt, bit_at-zero}
 use Rattle.exec_graph.specs.Effects.{truth_in}
+use Rattle.list_laws.proofs.Numbers.{least_bit}
 
 -- whether a word has a bit
 abbrev has : ℕ → ℕ → Bool
 has word k = eqb (bit_at word k) 1
-
-both : (x y : ℕ) → x < 2 → y < 2 → eqb (min x y) 1 ≡ (eqb x 1 && eqb y 1)
-both zero zero hx hy = refl
-both zero (suc zero) hx hy = refl
-both zero (suc (suc y)) hx hy = absurd (omega arith)
-both (suc zero) zero hx hy = refl
-both (suc zero) (suc zero) hx hy = refl
-both (suc zero) (suc (suc y)) hx hy = absurd (omega arith)
-both (suc (suc x)) y hx hy = absurd (omega arith)
 
 either : (x y : ℕ) → x < 2 → y < 2 → eqb (max x y) 1 ≡ (eqb x 1 || eqb y 1)
 either zero zero hx hy = refl
@@ -31,7 +23,7 @@ one_word : (a b c k : ℕ) → has (bit_or a (bit_and b c)) k ≡ (has a k || (h
 one_word a b c k =
     ap (λ n. eqb n 1) (bit_at_or a (bit_and b c) k)
     ∙ either (bit_at a k) (bit_at (bit_and b c) k) (bit_at-lt a k) (bit_at-lt (bit_and b c) k)
-    ∙ ap (λ t. has a k || t) (ap (λ n. eqb n 1) (bit_at_and b c k) ∙ both (bit_at b k) (bit_at c k) (bit_at-lt b k) (bit_at-lt c k))
+    ∙ ap (λ t. has a k || t) (ap (λ n. eqb n 1) (bit_at_and b c k) ∙ least_bit (bit_at b k) (bit_at c k) (bit_at-lt b k) (bit_at-lt c k))
 
 -- the words of a, and those of c as far as they are in b
 abbrev pub joined : List ℕ → List ℕ → List ℕ → List ℕ

@@ -1,4 +1,4 @@
--- Private: the rules of a plan that count in a configuration, and what each of them leads to, as
+-- the rules of a plan that count in a configuration, and what each of them leads to, as
 -- lists.
 use Rattle.std.specs.Prelude.{◌≡◌, ℕ, ◌<◌, Bool, false, true, not, ◌||◌, ◌&&◌, ◌==◌, List, [], ◌∷◌, ◌++◌}
 use Rattle.std.specs.Prelude.{Option, Some, None, is_some, option_to_list, find, slice_index_or}
@@ -15,16 +15,16 @@ use Rattle.plan_rules.specs.Plans.{IsCubeOf}
 use Rattle.plan_rules.specs.Rules.{PlanRule, PlanNext, ContextRule, PlainPlan, always}
 use Rattle.plan_rules.specs.Rules.{table, automaton}
 
--- Private: what a rule of a table says; it keeps the first context
+-- what a rule of a table says; it keeps the first context
 abbrev pub advised_in_table : PlanRule → Advised
 advised_in_table rule = record { action = rule.action; next = always first_context }
 
--- Private: the configuration of an outcome; none where there is no next context
+-- the configuration of an outcome; none where there is no next context
 abbrev pub onward_to : PlanNext → Vector → List Configuration
 onward_to next t =
     option_to_list (option_map (λ c. record { state = t; context = c }) (next_context next t))
 
--- Private: whether two configurations are the same, and one more in a list unless it is there
+-- whether two configurations are the same, and one more in a list unless it is there
 abbrev pub same_configuration : Configuration → Configuration → Bool
 same_configuration x y = same_vector x.state y.state && (x.context == y.context)
 
@@ -32,7 +32,7 @@ abbrev pub add_configuration : List Configuration → Configuration → List Con
 add_configuration listed x =
     if list_any (same_configuration x) listed then listed else listed ++ x ∷ []
 
--- Private: what is known of the moves from a configuration: those that follow it, each once,
+-- what is known of the moves from a configuration: those that follow it, each once,
 -- whether a rule that counts has an action that can't be executed, and whether the plan doesn't go
 -- on
 pub record Moved : Type 0 where
@@ -40,7 +40,7 @@ pub record Moved : Type 0 where
   pub refused : Bool
   pub lost : Bool
 
--- Private: with one outcome more
+-- with one outcome more
 abbrev pub with_outcome : PlanNext → Moved → Vector → Moved
 with_outcome next m t = record {
   next = fold add_configuration m.next (onward_to next t);
@@ -52,7 +52,7 @@ with_outcome next m t = record {
 abbrev pub with_if_state : (Vector → Bool) → PlanNext → Moved → Vector → Moved
 with_if_state inside next m t = if inside t then with_outcome next m t else m
 
--- Private: with one rule more that counts in the state s
+-- with one rule more that counts in the state s
 abbrev pub with_rule : System → Vector → Moved → Advised → Moved
 with_rule sys s m a = let all = fold (with_outcome a.next) m (sys.next s a.action) in record {
   next = all.next;
@@ -60,16 +60,16 @@ with_rule sys s m a = let all = fold (with_outcome a.next) m (sys.next s a.actio
   lost = all.lost;
 }
 
--- Private: no moves yet
+-- no moves yet
 abbrev pub no_moves : Bool → Moved
 no_moves lost = record { next = []; refused = false; lost = lost }
 
--- Private: the moves by the rule of an automaton that counts, where there is one
+-- the moves by the rule of an automaton that counts, where there is one
 abbrev pub moves_by : System → Vector → Option Advised → Moved
 moves_by sys s None = no_moves true
 moves_by sys s (Some a) = with_rule sys s (no_moves false) a
 
--- Private: with one rule of a table more, if it matches the state
+-- with one rule of a table more, if it matches the state
 abbrev pub with_table_rule : System → Vector → Moved → PlanRule → Moved
 with_table_rule sys s m rule =
     if matches rule.cube s then with_rule sys s m (advised_in_table rule) else m
@@ -85,11 +85,11 @@ abbrev pub HaveTaken : System → Vector → Moved → List Bool → Type 0
 HaveTaken sys s m taken =
     (action : ℕ) → slice_index_or taken action false ≡ true → HasTaken sys s m action
 
--- Private: the moves by the rules of a table
+-- the moves by the rules of a table
 abbrev pub moves_in_table : System → Vector → List PlanRule → Moved
 moves_in_table sys s rules = fold (with_table_rule sys s) (no_moves false) rules
 
--- Private: the moves from a configuration
+-- the moves from a configuration
 abbrev pub moves_from : System → PlainPlan → Configuration → Moved
 moves_from sys (table class rules) x = moves_in_table sys x.state rules
 moves_from sys (automaton contexts rules) x =

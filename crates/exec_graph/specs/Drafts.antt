@@ -1,23 +1,19 @@
 -- Private: a graph that is being made. The configurations that were found are numbered in the order
 -- in which they were found. The first of them were visited: their followers were found too.
 use Rattle.std.specs.Prelude.{◌≡◌, ◌≢◌, ◌↔◌, ◌≤◌, ◌<◌, ◌+◌, ◌||◌, ℕ, Bool, IsTrue, List, [], ◌∷◌, ◌++◌}
-use Rattle.std.specs.Prelude.{length, map, slice_get, Some}
-use Rattle.std.specs.List.{All, AllPairs, Contains, fold}
-use Rattle.task_core.specs.Vectors.{Vector}
+use Rattle.std.specs.Prelude.{length, map, slice_get, take, Some}
+use Rattle.std.specs.List.{All, AllPairs, Contains, flat_map, fold}
 use Rattle.task_core.specs.States.{vector}
 use Rattle.task_core.specs.Systems.{System, IsState}
-use Rattle.task_core.specs.ContextPlans.{Configuration, first_context}
+use Rattle.task_core.specs.ContextPlans.{Configuration}
 use Rattle.task_core.specs.declared.states.State.{State}
 use Rattle.plan_rules.specs.Rules.{PlainPlan}
 use Rattle.exec_graph.specs.Counting.{add_configuration, moves_from}
 use Rattle.exec_graph.specs.Executions.{GoesTo, IsReachedBy, IsStuckAt, IsUnexecutableAt}
 use Rattle.exec_graph.specs.Moves.{IsBeforeVisit, found_by}
+use Rattle.exec_graph.specs.Orders.{in_first, onward}
 use Rattle.exec_graph.specs.Rows.{row_count, rows_of}
 use Rattle.exec_graph.specs.declared.exploration.Draft.{Draft}
-
--- Private: a state in the first context
-abbrev pub in_first : Vector → Configuration
-in_first s = record { state = s; context = first_context }
 
 -- Private: the places of states, over n fluents
 abbrev pub beginnings : ℕ → List State → List Configuration
@@ -103,6 +99,8 @@ pub record IsSearched (sys : System) (plan : PlainPlan) (draft : PlainDraft) : T
   pub states : All (λ x. IsState sys x.state) draft.found
   pub begun : (i : ℕ) (x : Configuration) → slice_get (map in_first sys.initial) i ≡ Some x
       → slice_get draft.found i ≡ Some x
+  pub in_order : draft.found ≡ fold add_configuration (map in_first sys.initial)
+      (flat_map (onward sys plan) (take (length draft.next) draft.found))
   pub fewer : length draft.next ≤ length draft.found
   pub followed : (i : ℕ) (x : Configuration) (numbers : List ℕ) → slice_get draft.found i ≡ Some x
       → slice_get draft.next i ≡ Some numbers → IsFollowed sys plan draft.found x numbers

@@ -1,10 +1,11 @@
 -- The graph of a plan: which configurations it may reach, and which follow which.
-use Rattle.std.specs.Prelude.{◌≡◌, ◌≢◌, ◌<◌, ◌↔◌, ℕ, Bool, IsTrue, List}
-use Rattle.std.specs.List.{AllPairs, Contains}
+use Rattle.std.specs.Prelude.{◌≡◌, ◌≢◌, ◌<◌, ◌↔◌, ℕ, Bool, IsTrue, List, map}
+use Rattle.std.specs.List.{AllPairs, Contains, range_with_len}
 use Rattle.task_core.specs.Systems.{System}
 use Rattle.task_core.specs.ContextPlans.{Configuration, IsInitial}
 use Rattle.plan_rules.specs.Rules.{PlainPlan}
 use Rattle.exec_graph.specs.Executions.{GoesTo, IsReachedBy, MayBeStuck, MayBeUnexecutable}
+use Rattle.exec_graph.specs.Orders.{AreInOrderMet}
 
 -- a graph as plain data. Its nodes are the numbers below `size`: each has a configuration, a mark
 -- whether an execution may begin there, the list of the numbers that follow it and the list of
@@ -31,6 +32,8 @@ pub record IsGraphOf (sys : System) (plan : PlainPlan) (graph : PlainGraph) : Ty
   pub listed : (x : Configuration) → IsReachedBy sys plan x → HasNode graph x
   pub once : (i j : ℕ) → i < graph.size → j < graph.size
       → graph.configuration i ≡ graph.configuration j → i ≡ j
+  -- they are numbered in the order in which they are met
+  pub in_order : AreInOrderMet sys plan (map graph.configuration (range_with_len 0 graph.size))
   -- those in which an execution may begin are marked
   pub initial : (i : ℕ) → i < graph.size
       → IsTrue (graph.initial i) ↔ IsInitial sys (graph.configuration i)

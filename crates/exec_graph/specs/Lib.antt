@@ -3,6 +3,7 @@ pub mod Graphs
 pub mod Initials
 pub mod Values
 pub mod Counting
+pub mod Orders
 pub mod ByContext
 pub mod Moves
 pub mod Drafts

@@ -29,7 +29,7 @@ ghost use Rattle.exec_graph.specs.Effects.{
 
 use plan_rules::Plan;
 use std::alloc::{AllocError, Global};
-use task_core::{ActionId, Cond, FluentId, Outcome, State, Task, step};
+use task_core::{ActionId, FluentId, Outcome, State, Task, always_holds, outcome_count, step};
 
 /// What an outcome does: it makes the fluents true that are so in `made`, and leaves those true that
 /// are so in `kept`. Each other becomes false.
@@ -187,16 +187,6 @@ fn is_unconditional(outcome: &Outcome) -> bool
     true
 }
 
-/// Whether a condition is seen to hold always, without a look at its parts.
-fn always_holds(cond: &Cond) -> bool
-    ensures { IsTrue result → AlwaysHolds cond.now }
-{
-    match cond {
-        Cond::Yes => true,
-        _ => false,
-    }
-}
-
 /// The state in which each fluent of the task is true.
 fn all_true(task: &Task) -> State
     ensures within { IsWithin (fluent_count task.now) result }
@@ -207,12 +197,4 @@ fn all_true(task: &Task) -> State
         state = state.with(FluentId(fluent as u32), true);
     }
     state
-}
-
-/// How many outcomes an action has.
-pub(crate) fn outcome_count(task: &Task, action: ActionId) -> u32
-    requires { action.0 < action_count task.now }
-    ensures { result ≡ length (outcomes_at task.now action.0) }
-{
-    task.actions[action.0 as usize].outcomes.len() as u32
 }

@@ -59,7 +59,7 @@ ghost use Rattle.exec_graph.specs.Moves.{
   with_configuration,
 };
 
-use crate::effects::{Effect, Effects, known_effect, outcome_count};
+use crate::effects::{Effect, Effects, known_effect};
 use crate::graphs::Place;
 use crate::guesses::{Guesses, WAYS};
 use crate::rows::zeros;
@@ -67,7 +67,7 @@ use crate::rules::{RuleIndex, next_rule};
 use indexmap::IndexSet;
 use plan_rules::{Advice, FIRST_CONTEXT, Onward, Plan, Rule, context_in, has_all};
 use std::alloc::{AllocError, Global};
-use task_core::{ActionId, State, Task, in_space, is_exec, step};
+use task_core::{ActionId, State, Task, in_space, is_exec, outcome_count, step};
 
 /// The configurations that were found, numbered in the order in which they were found, and the
 /// moves from the one that is being visited: the numbers of those that follow it, each once,

@@ -14,6 +14,7 @@ use Rattle.pddl_system.specs.Objects.{all_objects, is_kind_of, type_of, objects_
 use Rattle.ground_instances.specs.Entering.{AreBelow, entered, list_of, shared_lists, types_of}
 use Rattle.ground_instances.specs.Groups.{AreGroups}
 use Rattle.ground_instances.specs.Tables.{objects_at}
+use Rattle.list_laws.proofs.Booleans.{or_false, or_true}
 
 -- whether one of the first k steps from type t comes to type u
 abbrev pub reaches : List ℕ → ℕ → ℕ → ℕ → Bool
@@ -26,19 +27,11 @@ range-snoc a (suc k) =
     ap (λ xs. a ∷ xs) (range-snoc (a + 1) k)
     ∙ ap (λ n. a ∷ (range_with_len (a + 1) k ++ n ∷ [])) e
 
-or-true : (b : Bool) → (b || true) ≡ true
-or-true true = refl
-or-true false = refl
-
-or-false : (b : Bool) → (b || false) ≡ b
-or-false true = refl
-or-false false = refl
-
 pub reaches_more : (parents : List ℕ) (t u k : ℕ) → reaches parents t u (suc k) ≡ (reaches parents t u k || (ancestor parents k t == u))
 reaches_more parents t u k =
     ap (list_any (λ j. ancestor parents j t == u)) (range-snoc 0 k)
     ∙ list_any-append (λ j. ancestor parents j t == u) (range_with_len 0 k) ((0 + k) ∷ [])
-    ∙ ap (λ b. reaches parents t u k || b) (or-false (ancestor parents (0 + k) t == u))
+    ∙ ap (λ b. reaches parents t u k || b) (or_false (ancestor parents (0 + k) t == u))
     ∙ ap (λ n. reaches parents t u k || (ancestor parents n t == u)) (zero-add k)
 
 -- a step more is a step from where the steps so far lead
@@ -127,15 +120,11 @@ enter_step parents type o k kind base lists new v at inside before put pushed t 
   | inl same ↦
       ap (λ ls. list_of ls t) put ∙ ap (list_of (slice_set lists kind v)) same ∙ list_of-set_same lists kind v inside ∙ pushed
       ∙ ap (λ u. base u ++ o ∷ []) (sym same)
-      ∙ ap (λ b. base t ++ if_so b o) (sym (reaches_more parents type t k ∙ ap (λ b. reaches parents type t k || b) (eq-eqb (ancestor parents k type) t (sym at ∙ sym same)) ∙ or-true (reaches parents type t k)))
+      ∙ ap (λ b. base t ++ if_so b o) (sym (reaches_more parents type t k ∙ ap (λ b. reaches parents type t k || b) (eq-eqb (ancestor parents k type) t (sym at ∙ sym same)) ∙ or_true (reaches parents type t k)))
   | inr other ↦
       ap (λ ls. list_of ls t) put ∙ list_of-set_other lists kind t v other ∙ before t within
-      ∙ ap (λ b. base t ++ if_so b o) (sym (reaches_more parents type t k ∙ ap (λ b. reaches parents type t k || b) (ne_eqb (ancestor parents k type) t (λ e. other (sym e ∙ sym at))) ∙ or-false (reaches parents type t k)))
+      ∙ ap (λ b. base t ++ if_so b o) (sym (reaches_more parents type t k ∙ ap (λ b. reaches parents type t k || b) (ne_eqb (ancestor parents k type) t (λ e. other (sym e ∙ sym at))) ∙ or_false (reaches parents type t k)))
 ]
-
-or-assoc : (a b c : Bool) → ((a || b) || c) ≡ (a || (b || c))
-or-assoc true b c = refl
-or-assoc false b c = refl
 
 -- the numbers stay below where an object is entered
 pub enter_below : (parents : List ℕ) (o : ℕ) (kinds : ℕ → Bool) (lists new : List (Vec ℕ Global)) → length new ≡ length parents → AreBelow o lists

@@ -11,6 +11,7 @@ use Rattle.pddl_ast.specs.Fits.{ancestor}
 use Rattle.pddl_system.specs.Objects.{is_kind_of}
 use Rattle.ground_instances.specs.Groups.{is_seen, AreWays, Begins, HasWays, AreSteps, AreFar, AreGroups}
 use Rattle.ground_instances.proofs.EnteringLemmas.{ancestor_next, ancestor-add, ancestor-fixed, ancestor_known}
+use Rattle.list_laws.proofs.Booleans.{same_truth}
 
 -- how many types no way came to
 abbrev pub unseen : List Bool → ℕ
@@ -250,11 +251,6 @@ back_down {parents = parents} {below = below} {steps = steps} tops (suc k) e d t
           | inr other ↦ (f, under ∙ other)
         ]
 
-same_bool : (a b : Bool) → (a ≡ true → b ≡ true) → (b ≡ true → a ≡ true) → a ≡ b
-same_bool true b f g = sym (f refl)
-same_bool false true f g = g refl
-same_bool false false f g = refl
-
 -- an ancestor within as many steps as there are types
 kind_from : (parents : List ℕ) (k d t : ℕ) → k ≤ length parents → ancestor parents k d ≡ t → is_kind_of parents d t ≡ true
 kind_from parents k d t low same =
@@ -282,7 +278,7 @@ same_kind : {parents types below steps above : List ℕ} {n : ℕ} (tops : Tops 
     → (d t : ℕ) → d < length parents → t < length parents → Begins tops.ways.seen below d
     → is_kind_of above (ancestor steps n d) (ancestor steps n t) ≡ is_kind_of parents d t
 same_kind {parents = parents} {steps = steps} {above = above} {n = n} tops rises all d t inside h begun =
-    same_bool (is_kind_of above (ancestor steps n d) (ancestor steps n t)) (is_kind_of parents d t)
+    same_truth (is_kind_of above (ancestor steps n d) (ancestor steps n t)) (is_kind_of parents d t)
     (λ yes.
     let (j, low, same) = from_kind above (ancestor steps n d) (ancestor steps n t) yes in
     let (e, up) = group_is_above tops rises j d inside in

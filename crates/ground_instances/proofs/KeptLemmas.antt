@@ -6,7 +6,7 @@ use Rattle.std.specs.Option.{option_map}
 use Rattle.std.proofs.Math.Seq.{drop-cons}
 use Rattle.std.proofs.lemmas.Bool.{le-leb, leb-true}
 use Rattle.std.proofs.lemmas.Bool.Decides.{leb_tells}
-use Rattle.std.proofs.lemmas.List.{drop_all, map-append}
+use Rattle.std.proofs.lemmas.List.{length-map, drop_all, map-append}
 use Rattle.std.proofs.lemmas.Option.{slice_get-get_or}
 use Rattle.pddl_ast.specs.declared.trees.Schema.{Schema}
 use Rattle.pddl_ast.specs.Trees.{SchemaTree, DomainTree}
@@ -28,10 +28,6 @@ not_no No e = cc
 not_no Unknown e = refl
 not_no Yes e = refl
 
-length-map-any : {X Y : Type 0} (f : X → Y) (xs : List X) → length (map f xs) ≡ length xs
-length-map-any f [] = refl
-length-map-any f (x ∷ xs) = ap suc (length-map-any f xs)
-
 -- a kept instance is appended
 pub append_kept : (action : ℕ) (objects : List ℕ) (old new : List Instance) (i : Instance) (b : Bool) → b ≡ true → new ≡ old ++ i ∷ []
     → i.action ≡ action → i.objects.items ≡ objects
@@ -47,10 +43,10 @@ append_kept action objects old new i b kept pushed numbers holds =
 pub count_kept : (action : ℕ) (rows : List (List ℕ)) (old new : List Instance) → map numbered new ≡ map numbered old ++ map (with_number action) rows
     → length new ≡ length old + length rows
 count_kept action rows old new e =
-    sym (length-map-any numbered new) ∙ ap (λ xs. length xs) e
+    sym (length-map new numbered) ∙ ap (λ xs. length xs) e
     ∙ length-append (map numbered old) (map (with_number action) rows)
-    ∙ ap (λ k. k + length (map (with_number action) rows)) (length-map-any numbered old)
-    ∙ ap (λ k. length old + k) (length-map-any (with_number action) rows)
+    ∙ ap (λ k. k + length (map (with_number action) rows)) (length-map old numbered)
+    ∙ ap (λ k. length old + k) (length-map rows (with_number action))
 
 filter-first : {X : Type 0} (p : X → Bool) (x : X) (xs : List X) → filter p (x ∷ xs) ≡ filter p (x ∷ []) ++ filter p xs
 filter-first p x xs = go (p x)
@@ -115,7 +111,7 @@ filter-map at s (row ∷ rows) = go (is_kept at (record { schema = s; objects = 
 pub length_kept_of : (at : Setting) (s : SchemaTree) → length (kept_of at s) ≡ length (kept_objects at s)
 length_kept_of at s =
     ap (λ xs. length xs) (filter-map at s (bindings at.objects s.parameters))
-    ∙ length-map-any (λ objects. record { schema = s; objects = objects }) (kept_objects at s)
+    ∙ length-map (kept_objects at s) (λ objects. record { schema = s; objects = objects })
 
 -- the actions that are left begin with the one that has the number
 actions-next : (at : Setting) (d : DomainTree) (i : ℕ) (s : SchemaTree) → i < length d.actions → get_or d.actions i s ≡ s
@@ -158,9 +154,9 @@ too_many at d i most s old fits in-range is counted unfit before =
     let more : most < length old + length (kept_objects at s) = is_above (length old + length (kept_objects at s)) most fits counted unfit in
     let total : length old + length (flat_map (kept_of at) (drop i d.actions)) ≡ length (kept_by at d) =
     sym (length-append (map (instance_of d) old) (map Some (flat_map (kept_of at) (drop i d.actions)))
-    ∙ ap (λ k. k + length (map Some (flat_map (kept_of at) (drop i d.actions)))) (length-map-any (instance_of d) old)
-    ∙ ap (λ k. length old + k) (length-map-any Some (flat_map (kept_of at) (drop i d.actions))))
-    ∙ ap (λ xs. length xs) before ∙ length-map-any Some (kept_by at d) in
+    ∙ ap (λ k. k + length (map Some (flat_map (kept_of at) (drop i d.actions)))) (length-map old (instance_of d))
+    ∙ ap (λ k. length old + k) (length-map (flat_map (kept_of at) (drop i d.actions)) Some))
+    ∙ ap (λ xs. length xs) before ∙ length-map (kept_by at d) Some in
     let split : length (flat_map (kept_of at) (drop i d.actions)) ≡ length (kept_of at s) + length rest =
     ap (λ xs. length xs) (actions-next at d i s in-range is) ∙ length-append (kept_of at s) rest in
     let same : length (kept_of at s) ≡ length (kept_objects at s) = length_kept_of at s in
@@ -170,7 +166,7 @@ too_many at d i most s old fits in-range is counted unfit before =
 pub schema_at : (schemas : List Schema) (i : ℕ) (s : Schema) → i < length schemas → s ≡ get_or schemas i s
     → (i < length (map schema_value schemas)) × (get_or (map schema_value schemas) i (schema_value s) ≡ schema_value s)
 schema_at schemas i s inside is =
-    (subst (λ k. i < k) (sym (length-map-any schema_value schemas)) inside, go schemas i inside ∙ ap schema_value (sym is))
+    (subst (λ k. i < k) (sym (length-map schemas schema_value)) inside, go schemas i inside ∙ ap schema_value (sym is))
   where
     go : (xs : List Schema) (k : ℕ) → k < length xs → get_or (map schema_value xs) k (schema_value s) ≡ schema_value (get_or xs k s)
     go [] k h = absurd (omega arith)

@@ -1,5 +1,6 @@
 -- Bindings by their numbers.
 use Rattle.std.proofs.Common.{◌≡◌, ℕ, zero, suc, ◌+◌, ◌*◌, ◌/◌, ◌%◌, ◌<◌, List, [], ◌∷◌, ◌++◌, length, get_or, take, drop, map, refl, ap, sym, subst, ◌∙◌, arith, add-one, length-append, append_assoc}
+use Rattle.std.proofs.lemmas.List.{length-map}
 use Rattle.std.specs.List.{flat_map}
 use Rattle.std.proofs.lemmas.List.Concat.{get_or-flat_map}
 use Rattle.std.proofs.lemmas.Nat.{div-add-mod'}
@@ -7,10 +8,6 @@ use Rattle.std.proofs.Math.Nat.{div-lt_iff_lt-mul, mod-lt, mul-div_cancel_left, 
 use Rattle.std.proofs.Math.Seq.{drop-cons}
 use Rattle.pddl_system.specs.Objects.{bindings}
 use Rattle.pddl_system.specs.Sizes.{binding_count}
-
-length-map-any : {X Y : Type 0} (f : X → Y) (xs : List X) → length (map f xs) ≡ length xs
-length-map-any f [] = refl
-length-map-any f (x ∷ xs) = ap suc (length-map-any f xs)
 
 -- pieces of one length
 length-pieces : {Y : Type 0} (f : ℕ → List Y) (m : ℕ) → ((o : ℕ) → length (f o) ≡ m) → (xs : List ℕ) → length (flat_map f xs) ≡ length xs * m
@@ -27,7 +24,7 @@ pub length_bindings : (objects : ℕ → List ℕ) (types : List ℕ) → length
 length_bindings objects [] = refl
 length_bindings objects (t ∷ ts) =
     length-pieces (λ o. map (λ rest. o ∷ rest) (bindings objects ts)) (binding_count objects ts)
-    (λ o. length-map-any (λ rest. o ∷ rest) (bindings objects ts) ∙ length_bindings objects ts) (objects t)
+    (λ o. length-map (bindings objects ts) (λ rest. o ∷ rest) ∙ length_bindings objects ts) (objects t)
 
 get_or-map-cons : (o : ℕ) (rows : List (List ℕ)) (k : ℕ) → k < length rows → get_or (map (λ rest. o ∷ rest) rows) k [] ≡ o ∷ get_or rows k []
 get_or-map-cons o [] k h = absurd (omega arith)
@@ -46,7 +43,7 @@ first_of_binding objects t ts n some below =
     let m : ℕ = binding_count objects ts in
     let rows : List (List ℕ) = bindings objects ts in
     let f : ℕ → List (List ℕ) = λ o. map (λ rest. o ∷ rest) rows in
-    let same : (o : ℕ) → length (f o) ≡ m = λ o. length-map-any (λ rest. o ∷ rest) rows ∙ length_bindings objects ts in
+    let same : (o : ℕ) → length (f o) ≡ m = λ o. length-map rows (λ rest. o ∷ rest) ∙ length_bindings objects ts in
     let i : ℕ = n / m in
     let j : ℕ = n % m in
     let i-below : i < length (objects t) = (div-lt_iff_lt-mul {k = m} {x = n} {y = length (objects t)} some).1 below in

@@ -13,6 +13,7 @@ use Rattle.ground_instances.specs.declared.atoms.Atom.{Atom}
 use Rattle.ground_instances.specs.contracts.atoms.AtomPartialEq.TheImpl.{eq-value}
 use Rattle.ground_instances.specs.Atoms.{atom_tree}
 use Rattle.pddl_system.specs.GroundAtoms.{same_atom, is_among}
+use Rattle.list_laws.proofs.Booleans.{or_false}
 
 abbrev pub atom_eq : Atom → Atom → Bool
 atom_eq = eq-value.it
@@ -40,10 +41,6 @@ or-last true c h = refl
 or-last false true h = sym (h refl)
 or-last false false h = refl
 
-or-false : (b : Bool) → (b || false) ≡ b
-or-false true = refl
-or-false false = refl
-
 or-assoc : (b c d : Bool) → ((b || c) || d) ≡ (b || (c || d))
 or-assoc true c d = refl
 or-assoc false c d = refl
@@ -59,7 +56,7 @@ inserted keys atom a = elim (cases_Bool (list_any (atom_eq atom) keys)) [
       ap (λ b. is_among (map atom_tree (cond b keys (keys ++ atom ∷ []))) a) absent
       ∙ ap (λ xs. is_among xs a) (map-append atom_tree keys (atom ∷ []))
       ∙ list_any-append (same_atom a) (map atom_tree keys) (atom_tree atom ∷ [])
-      ∙ ap (λ b. is_among (map atom_tree keys) a || b) (or-false (same_atom a (atom_tree atom)))
+      ∙ ap (λ b. is_among (map atom_tree keys) a || b) (or_false (same_atom a (atom_tree atom)))
 ]
 
 -- one fact more

@@ -3,7 +3,7 @@ use Rattle.std.proofs.Common.{◌≡◌, ℕ, zero, suc, ◌+◌, ◌<◌, ◌�
 use Rattle.std.specs.Prelude.{nat_le, replicate}
 use Rattle.std.specs.List.{flat_map}
 use Rattle.std.proofs.Math.Seq.{drop-cons, take-append_seam}
-use Rattle.std.proofs.lemmas.List.{drop_all, length-replicate, map-append, take_all}
+use Rattle.std.proofs.lemmas.List.{length-map, drop_all, length-replicate, map-append, take_all}
 use Rattle.std.proofs.lemmas.List.Elements.{filter-append}
 use Rattle.pddl_ast.specs.Trees.{SchemaTree}
 use Rattle.pddl_system.specs.Instances.{is_kept}
@@ -159,15 +159,11 @@ added_next action old new all here rest whole split added before =
     ∙ ap (λ xs. map numbered old ++ map (with_number action) xs) (sym split)
     ∙ before
 
-length-map-any : {X Y : Type 0} (f : X → Y) (xs : List X) → length (map f xs) ≡ length xs
-length-map-any f [] = refl
-length-map-any f (x ∷ xs) = ap suc (length-map-any f xs)
-
 totals : (action : ℕ) (xs : List Instance) (rows : List (List ℕ)) → length (map numbered xs ++ map (with_number action) rows) ≡ length xs + length rows
 totals action xs rows =
     length-append (map numbered xs) (map (with_number action) rows)
-    ∙ ap (λ k. k + length (map (with_number action) rows)) (length-map-any numbered xs)
-    ∙ ap (λ k. length xs + k) (length-map-any (with_number action) rows)
+    ∙ ap (λ k. k + length (map (with_number action) rows)) (length-map xs numbered)
+    ∙ ap (λ k. length xs + k) (length-map rows (with_number action))
 
 pub same_totals : (action : ℕ) (xs ys : List Instance) (rows more : List (List ℕ))
     → map numbered xs ++ map (with_number action) rows ≡ map numbered ys ++ map (with_number action) more → length xs + length rows ≡ length ys + length more

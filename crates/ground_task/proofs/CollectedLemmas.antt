@@ -8,24 +8,21 @@ use Rattle.pddl_ast.specs.Trees.{AtomTree}
 use Rattle.pddl_system.specs.GroundAtoms.{is_among, same_atom}
 use Rattle.pddl_system.proofs.Numbers.{same_atom-equal}
 use Rattle.ground_task.specs.Collecting.{collected, with_atom}
-
-or_right_false : (b : Bool) → (b || false) ≡ b
-or_right_false true = refl
-or_right_false false = refl
+use Rattle.list_laws.proofs.Booleans.{or_false}
 
 or_assoc : (x y z : Bool) → (x || y || z) ≡ (x || (y || z))
 or_assoc true y z = refl
 or_assoc false y z = refl
 
 among_pushed : (t : List AtomTree) (x a : AtomTree) → is_among (t ++ x ∷ []) a ≡ (is_among t a || same_atom a x)
-among_pushed t x a = list_any-append (same_atom a) t (x ∷ []) ∙ ap (λ b. is_among t a || b) (or_right_false (same_atom a x))
+among_pushed t x a = list_any-append (same_atom a) t (x ∷ []) ∙ ap (λ b. is_among t a || b) (or_false (same_atom a x))
 
 -- an atom that is there already names nothing new
 already : (t : List AtomTree) (x a : AtomTree) → is_among t x ≡ true → is_among t a ≡ (is_among t a || same_atom a x)
 already t x a there = pick (same_atom a x) refl
   where
     pick : (b : Bool) → same_atom a x ≡ b → is_among t a ≡ (is_among t a || b)
-    pick false is = sym (or_right_false (is_among t a))
+    pick false is = sym (or_false (is_among t a))
     pick true is =
         let e : is_among t a ≡ true = ap (is_among t) (same_atom-equal a x is) ∙ there in
         e ∙ sym (ap (λ b. b || true) e)
@@ -82,7 +79,7 @@ still_few t atoms few =
 
 -- all atoms are there, where there aren't too many
 pub collected_all : (t atoms : List AtomTree) (a : AtomTree) → nat_lt 256 (length (collected t atoms)) ≡ false → is_among (collected t atoms) a ≡ (is_among t a || is_among atoms a)
-collected_all t [] a few = sym (or_right_false (is_among t a))
+collected_all t [] a few = sym (or_false (is_among t a))
 collected_all t (x ∷ atoms) a few =
     collected_all (with_atom t x) atoms a few
     ∙ ap (λ b. b || is_among atoms a) (one_more t x a (still_few t (x ∷ atoms) few))

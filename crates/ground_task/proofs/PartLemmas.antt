@@ -1,9 +1,10 @@
 -- The parts that are built are those of the task of the domain and the problem.
-use Rattle.std.proofs.Common.{◌≡◌, ℕ, List, [], map, length, Option, None, sym, ap, subst, ◌∙◌}
+use Rattle.std.proofs.Common.{◌≡◌, true, ℕ, List, [], map, length, Option, None, sym, ap, subst, ◌∙◌}
 use Rattle.std.specs.Prelude.{Vec}
 use Rattle.std.specs.declared.alloc.Global.{Global}
 use Rattle.std.specs.Option.{option_map}
 use Rattle.std.proofs.lemmas.List.{length-map}
+use Rattle.std.specs.List.{list_all}
 use Rattle.task_core.specs.Initial as initial
 use Rattle.task_core.specs.Names.{Words, name_bytes}
 use Rattle.task_core.specs.Parts.{MakesTask}
@@ -23,7 +24,7 @@ use Rattle.pddl_system.specs.Systems as systems
 use Rattle.pddl_system.specs.Systems.{atom_name}
 use Rattle.pddl_system.specs.Tasks.{condition_of, task_of}
 use Rattle.ctl_syntax.specs.Conditions.{condition_value}
-use Rattle.pddl_system.specs.Values.{ArePartsOf, action_value, task_value}
+use Rattle.pddl_system.specs.Values.{ArePartsOf, action_has_literals, action_value, task_value}
 use Rattle.pddl_system.proofs.TaskParts.{parts_make_task}
 use Rattle.ground_instances.specs.Kept.{kept_by}
 use Rattle.ground_task.specs.Actions.{action_in}
@@ -36,6 +37,7 @@ pub record AreBuilt (d : DomainTree) (p : ProblemTree) (at : Setting) (listed : 
   pub fluents_are : listed ≡ fluents d p
   pub named : map name_bytes names ≡ map (atom_name d p) listed
   pub acts : map action_value actions ≡ map (action_in at listed d p) (kept_by at d)
+  pub says : list_all action_has_literals actions ≡ true
   pub begins : (f : ℕ) → truth init.facts f ≡ value_of (systems.facts_of at listed) f
   pub entered : initial.entries_of init ≡ map (systems.entry_over listed) p.entries
   pub wanted : option_map condition_value goal ≡ option_map (λ (g : FormulaTree). condition_of at listed g []) p.goal
@@ -58,7 +60,7 @@ module _ (d : DomainTree) (p : ProblemTree) (at : Setting) (listed : List AtomTr
 
   pub make_task : FitsDomain d → FitsProblem d p → NamesAreWords d p → first_passed d p ≡ None → MakesTask names actions init goal invariant
   make_task fits_d fits_p words within =
-      parts_make_task d p names actions init goal invariant fits_d fits_p words within are_parts (subst (λ n. IsWithin n init.facts) count (within_is (systems.facts_of at listed) init.facts built.begins))
+      parts_make_task d p names actions init goal invariant fits_d fits_p words within are_parts built.says (subst (λ n. IsWithin n init.facts) count (within_is (systems.facts_of at listed) init.facts built.begins))
 
 -- the task with these parts
 pub task_is : (d : DomainTree) (p : ProblemTree) (task : Task) (names : Vec Words Global) (actions : Vec GroundAction Global) (init : InitSpec) (goal : Option Cond) (invariant : Cond)

@@ -1,6 +1,7 @@
 -- What drafts name, and what they become over fluents.
-use Rattle.std.proofs.Common.{◌≡◌, Bool, List, [], ◌∷◌, ◌++◌, map, refl, ap, sym, ◌∙◌}
-use Rattle.std.specs.List.{flat_map}
+use Rattle.list_laws.proofs.Elements.{list_all-more}
+use Rattle.std.proofs.Common.{◌≡◌, Bool, true, List, [], ◌∷◌, ◌++◌, map, refl, ap, sym, ◌∙◌}
+use Rattle.std.specs.List.{flat_map, list_all}
 use Rattle.std.proofs.lemmas.Grind.{flat_map-append}
 use Rattle.std.proofs.lemmas.List.{append_assoc, append-nil, map-append}
 use Rattle.pddl_ast.specs.Trees.{AtomTree}
@@ -9,7 +10,7 @@ use Rattle.pddl_system.specs.Instances.{Instance as InstanceTree}
 use Rattle.pddl_system.specs.Outcomes.{ChangeTree, OutcomeTree, outcomes_of, possible_changes}
 use Rattle.pddl_system.specs.Settings.{Setting}
 use Rattle.pddl_system.specs.Tasks.{change_of, changed_if, outcome_of}
-use Rattle.pddl_system.specs.Values.{change_value}
+use Rattle.pddl_system.specs.Values.{change_has_literals, change_value}
 use Rattle.ctl_syntax.specs.Conditions.{CondTree, condition_value}
 use Rattle.task_core.specs.declared.literals.Lit.{Lit}
 use Rattle.task_core.specs.declared.actions.Change.{Change}
@@ -75,6 +76,10 @@ pub one_change_more : (changes : List Change) (c : Change) (made : List (CondTre
 one_change_more changes c made is =
     flat_map-append change_value changes (c ∷ [])
     ∙ ap (λ l. flat_map change_value changes ++ l) (append-nil (change_value c) ∙ is)
+
+-- and the change has a literal where the part has one
+pub one_saying_more : (changes : List Change) (c : Change) → list_all change_has_literals changes ≡ true → change_has_literals c ≡ true → list_all change_has_literals (changes ++ c ∷ []) ≡ true
+one_saying_more changes c all this = list_all-more change_has_literals changes c all this
 
 -- parts that are put together
 pub merged_trees : (g h : List Guard) (all a b : List (AtomTree × Bool)) → g ≡ [] → h ≡ [] → all ≡ a ++ b

@@ -1,6 +1,7 @@
 //! The actions of a task.
 
-ghost use Rattle.std.specs.Prelude.{◌≡◌, Some, map, IfOk};
+ghost use Rattle.std.specs.Prelude.{◌≡◌, Some, map, true, IfOk};
+ghost use Rattle.std.specs.List.{list_all};
 ghost use Rattle.ground_instances.specs.Kept.{instance_of, kept_by};
 ghost use Rattle.ground_instances.specs.Tables.{setting_in};
 ghost use Rattle.ground_task.specs.Actions.{action_in, action_over};
@@ -8,7 +9,7 @@ ghost use Rattle.ground_task.specs.Drafts.{action_tree, draft_trees, drafted};
 ghost use Rattle.ground_task.specs.NameWords.{AreWordsOf, listed};
 ghost use Rattle.ground_task.specs.Numbered.{instance_with};
 ghost use Rattle.pddl_ast.specs.Values.{domain_value, problem_value, schema_value};
-ghost use Rattle.pddl_system.specs.Values.{action_value};
+ghost use Rattle.pddl_system.specs.Values.{action_has_literals, action_value};
 
 use crate::changes::drafted_outcomes;
 use crate::conditions::condition;
@@ -37,10 +38,11 @@ fn action(
     requires words { AreWordsOf (domain_value domain.now) (problem_value problem.now) words.now }
     requires first { listed words.now.actions.items instance.now.action
         ≡ (schema_value schema.now).name }
-    ensures { IfOk result (λ action. action_value action
+    ensures value { IfOk result (λ action. action_value action
         ≡ action_over (setting_in setting.now) fluents.now (domain_value domain.now)
         (problem_value problem.now) (instance_with (schema_value schema.now) instance.now)
         (draft_trees outcomes.now)) }
+    ensures says { IfOk result (λ action. action_has_literals action ≡ true) }
 {
     let name = action_name(alloc, domain, problem, words, schema, instance)?;
     let mut scope = Vec::from_slice(alloc, &instance.objects)?;
@@ -67,9 +69,10 @@ pub(crate) fn actions(
     requires drafts { map (action_tree (domain_value domain.now)) drafts.now
         ≡ map (drafted (setting_in setting.now))
         (kept_by (setting_in setting.now) (domain_value domain.now)) }
-    ensures { IfOk result (λ actions. map action_value actions.items
+    ensures value { IfOk result (λ actions. map action_value actions.items
         ≡ map (action_in (setting_in setting.now) fluents.now (domain_value domain.now)
         (problem_value problem.now)) (kept_by (setting_in setting.now) (domain_value domain.now))) }
+    ensures says { IfOk result (λ actions. list_all action_has_literals actions.items ≡ true) }
 {
     let mut actions = Vec::new(alloc);
     for draft in drafts {

@@ -1,14 +1,15 @@
 //! Outcomes over fluents.
 
-ghost use Rattle.std.specs.Prelude.{◌≡◌, ◌++◌, IfOk, OnOk, map};
-ghost use Rattle.std.specs.List.{flat_map};
+ghost use Rattle.std.specs.Prelude.{◌≡◌, ◌++◌, IfOk, OnOk, length, map, true};
+ghost use Rattle.std.specs.List.{flat_map, list_all};
 ghost use Rattle.ctl_syntax.specs.Conditions.{condition_value};
 ghost use Rattle.ground_instances.specs.Tables.{setting_in};
 ghost use Rattle.ground_task.specs.Built.{condition_at, literal_made, part_made};
 ghost use Rattle.ground_task.specs.Drafts.{change_tree, draft_tree, draft_trees, guard_tree};
 ghost use Rattle.ground_task.specs.Drafts.{guard_trees, part_tree};
 ghost use Rattle.pddl_system.specs.Tasks.{change_of, changed_if};
-ghost use Rattle.pddl_system.specs.Values.{change_value, outcome_value};
+ghost use Rattle.pddl_system.specs.Values.{change_has_literals, change_value};
+ghost use Rattle.pddl_system.specs.Values.{outcome_has_literals, outcome_value};
 
 use crate::conditions::condition;
 use crate::drafts::{ChangeDraft, Guard, OutcomeDraft, PartDraft};
@@ -97,16 +98,18 @@ fn part_change(
     fluents: &Fluents,
     part: &PartDraft<'_>,
 ) -> Result<Change, AllocError>
-    ensures { IfOk result (λ change. change_value change
+    ensures value { IfOk result (λ change. change_value change
         ≡ part_made (setting_in setting.now) fluents.now part.now) }
+    ensures count { IfOk result (λ change. length change.lits.items
+        ≡ length part.now.changes.items) }
 {
     let cond = all_hold(alloc, setting, fluents, &part.guards)?;
     let lits = literals(alloc, fluents, &part.changes)?;
     Ok(Change { cond, lits })
 }
 
-/// Adds the change of a part after the others.
-#[tactic(auto, using(crate::proofs::PartTrees::one_change_more))]
+/// Adds the change of a part after the others; none where the part has no literals.
+#[tactic(auto, using(crate::proofs::PartTrees::one_change_more, crate::proofs::PartTrees::one_saying_more))]
 fn push_part(
     alloc: Global,
     setting: &Setting,
@@ -114,10 +117,15 @@ fn push_part(
     part: &PartDraft<'_>,
     changes: &mut Vec<Change>,
 ) -> Result<(), AllocError>
-    ensures { OnOk result (flat_map change_value changes.new.items
+    ensures value { OnOk result (flat_map change_value changes.new.items
         ≡ flat_map change_value changes.old.items
         ++ part_made (setting_in setting.now) fluents.now part.now) }
+    ensures says { OnOk result (list_all change_has_literals changes.old.items ≡ true
+        → list_all change_has_literals changes.new.items ≡ true) }
 {
+    if part.changes.is_empty() {
+        return Ok(());
+    }
     let change = part_change(alloc, setting, fluents, part)?;
     changes.push(change)?;
     Ok(())
@@ -130,8 +138,9 @@ fn outcome(
     fluents: &Fluents,
     parts: &[PartDraft<'_>],
 ) -> Result<Outcome, AllocError>
-    ensures { IfOk result (λ outcome. outcome_value outcome
+    ensures value { IfOk result (λ outcome. outcome_value outcome
         ≡ flat_map (part_made (setting_in setting.now) fluents.now) parts.now) }
+    ensures says { IfOk result (λ outcome. outcome_has_literals outcome ≡ true) }
 {
     let mut changes = Vec::new(alloc);
     for part in parts {
@@ -147,8 +156,9 @@ fn drafted_outcome(
     fluents: &Fluents,
     draft: &OutcomeDraft<'_>,
 ) -> Result<Outcome, AllocError>
-    ensures { IfOk result (λ outcome. outcome_value outcome
+    ensures value { IfOk result (λ outcome. outcome_value outcome
         ≡ map (change_of (setting_in setting.now) fluents.now) (draft_tree draft.now)) }
+    ensures says { IfOk result (λ outcome. outcome_has_literals outcome ≡ true) }
 {
     Ok(outcome(alloc, setting, fluents, &draft.parts)?)
 }
@@ -160,8 +170,9 @@ pub(crate) fn drafted_outcomes(
     fluents: &Fluents,
     drafts: &[OutcomeDraft<'_>],
 ) -> Result<Vec<Outcome>, AllocError>
-    ensures { IfOk result (λ outcomes. map outcome_value outcomes.items
+    ensures value { IfOk result (λ outcomes. map outcome_value outcomes.items
         ≡ map (map (change_of (setting_in setting.now) fluents.now)) (draft_trees drafts.now)) }
+    ensures says { IfOk result (λ outcomes. list_all outcome_has_literals outcomes.items ≡ true) }
 {
     let mut outcomes = Vec::new(alloc);
     for draft in drafts {

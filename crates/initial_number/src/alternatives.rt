@@ -31,7 +31,7 @@ ghost use Rattle.task_core.specs.Initial.{
 
 use indexmap::IndexSet;
 use std::alloc::{AllocError, Global};
-use task_core::{Alternative, Lit, State};
+use task_core::{Alternative, State, with_literals};
 
 // Whether no two alternatives of an entry make the same of a state.
 pub(crate) fn are_apart(
@@ -77,28 +77,4 @@ fn add(made: &mut IndexSet<State>, state: State) -> Result<(), AllocError>
 {
     made.insert_full(state)?;
     Ok(())
-}
-
-// The state with literals applied: deletes first, so that a fluent that is also added becomes true.
-pub(crate) fn with_literals(state: &State, lits: &[Lit]) -> State
-    requires { list_all (lit_within 256) lits.now ≡ true }
-    ensures { (f : ℕ) → truth result f ≡ applied_value lits.now (truth state.now) f }
-{
-    let deleted = with_signed(*state, lits, false);
-    with_signed(deleted, lits, true)
-}
-
-// The state with each fluent made `positive` that a literal of this sign names.
-fn with_signed(state: State, lits: &[Lit], positive: bool) -> State
-    requires { list_all (lit_within 256) lits.now ≡ true }
-    ensures { (f : ℕ) → truth result f
-        ≡ (if names_it positive f lits.now then positive else truth state f) }
-{
-    let mut state = state;
-    for lit in lits {
-        if lit.positive == positive {
-            state = state.with(lit.fluent, positive);
-        }
-    }
-    state
 }

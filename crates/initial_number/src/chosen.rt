@@ -5,8 +5,7 @@ ghost use Rattle.task_core.specs.States.{IsWithin, vector};
 ghost use Rattle.task_core.specs.Tasks.{fluent_count, initial_vectors};
 ghost use Rattle.initial_number.specs.Choices.{AreChoices};
 
-use crate::alternatives::with_literals;
-use task_core::{State, Task};
+use task_core::{State, Task, with_literals};
 
 // The vector with a number among so many: the number's digits choose the alternatives, the lowest
 // digit that of the last entry.

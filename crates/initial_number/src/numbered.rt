@@ -31,7 +31,7 @@ use crate::choices::count_choices;
 use crate::chosen::chosen;
 use std::alloc::Global;
 use task_core::{
-    Cond, InitErr, State, Task, init_states, without_invariant_each_vector_is_a_state,
+    InitErr, State, Task, always_holds, init_states, without_invariant_each_vector_is_a_state,
 };
 
 /// What a number names in the list of a task's initial states, which are counted from 0.
@@ -134,16 +134,5 @@ fn choice_at(task: &Task, count: usize, number: usize) -> Numbered
         Numbered::Found(chosen(task, count, number))
     } else {
         Numbered::Beyond
-    }
-}
-
-// Whether a condition is seen to hold always, without a look at its parts.
-fn always_holds(cond: &Cond) -> bool
-    ensures { IsTrue result → AlwaysHolds cond.now }
-{
-    match cond {
-        Cond::Yes => true,
-        Cond::All(parts) => parts.is_empty(),
-        _ => false,
     }
 }

@@ -2,11 +2,12 @@
 //! monitors of a replay, handed to `mbp_top::run`.
 #![tactic(auto)]
 
-use mbp_top::{NO_MEMORY, run};
+use command_base::{NO_MEMORY, command_words};
+use mbp_top::run;
 use plan_io::{DiskShelf, StdSink};
 use run_replay::{ChangeMonitor, Monitor, RecordWorld, StepMonitor, World};
+use std::io;
 use std::process::ExitCode;
-use std::{env, io};
 
 fn main(rt: HostRuntime) -> ExitCode {
     match run_words(&rt) {
@@ -30,14 +31,4 @@ fn run_words(rt: &HostRuntime) -> io::Result<u8> {
     Ok(run(
         alloc, &words, &mut shelf, &mut out, &mut err, world, monitors,
     ))
-}
-
-/// The words after the program's name. Where one of them is no text, no command is meant, and there
-/// are none.
-fn command_words(rt: &HostRuntime) -> io::Result<Vec<String>> {
-    match env::args(rt) {
-        Ok(words) => Ok(words.skip(1).collect(rt.alloc())?),
-        Err(error) if error.kind() == io::ErrorKind::OutOfMemory => Err(error),
-        Err(_) => Ok(Vec::new(rt.alloc())),
-    }
 }

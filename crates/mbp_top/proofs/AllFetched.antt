@@ -4,16 +4,18 @@ use Rattle.std.proofs.Common.{◌≡◌, ◌⊎◌, ℕ, List, inl, inr, refl, �
 use Rattle.pddl_ast.specs.Trees.{DomainTree, ProblemTree}
 use Rattle.plan_io.specs.Fetches.{Fetches}
 use Rattle.plan_io.specs.Held.{Held}
-use Rattle.mbp_top.specs.Answers.{Answer, Refusal, refused, status_of, status_of_refusal}
-use Rattle.mbp_top.specs.Fetching.{FetchesFiles, RefusesPlan, Stops}
-use Rattle.mbp_top.specs.Grounding.{GoalThen, GroundThen, for_tables}
+use Rattle.command_base.specs.Answers.{Answer, Refusal, refused, status_of, status_of_refusal}
+use Rattle.mbp_top.specs.Fetching.{FetchesFiles}
+use Rattle.command_base.specs.Fetching.{RefusesPlan, Stops}
+use Rattle.command_base.specs.Grounding.{GoalThen, GroundThen, for_tables}
 use Rattle.mbp_top.specs.Laws.{AreAllFetched}
-use Rattle.mbp_top.specs.PddlTexts.{IsFaultyDomain, IsFaultyProblem, ReadBoth}
-use Rattle.mbp_top.specs.PlanFiles.{IsFaultyPlan}
-use Rattle.mbp_top.specs.Reading.{IsRefusedFile, ReadThen}
-use Rattle.mbp_top.specs.Runs.{FailedIn, HasRun, Run}
-use Rattle.mbp_top.specs.Words.{Bytes, Command, PlanKind, check, drill, files_of, ground, plan, refute, replay}
-use Rattle.mbp_top.proofs.Statuses.{whole_delivery}
+use Rattle.command_base.specs.PddlTexts.{IsFaultyDomain, IsFaultyProblem, ReadBoth}
+use Rattle.command_base.specs.PlanFiles.{IsFaultyPlan}
+use Rattle.command_base.specs.Reading.{IsRefusedFile, ReadThen}
+use Rattle.mbp_top.specs.Runs.{HasRun, Run}
+use Rattle.command_base.specs.Frame.{FailedIn}
+use Rattle.command_base.specs.Words.{Bytes, Command, PlanKind, check, drill, files_of, ground, plan, refute, replay}
+use Rattle.command_base.proofs.Statuses.{whole_delivery}
 use Rattle.pddl_system.specs.Systems.{action_names, fluent_names}
 use Rattle.task_core.specs.Names.{Name}
 

@@ -14,16 +14,16 @@ use Rattle.plan_io.specs.Held.{Held}
 use Rattle.task_core.specs.Solutions.{HasNoSolution}
 use Rattle.task_core.specs.Systems.{IsSystem, System}
 use Rattle.task_core.specs.declared.classes.Class.{Class}
-use Rattle.mbp_top.specs.Answers.{Answer}
-use Rattle.mbp_top.specs.Delivery.{Seen}
-use Rattle.mbp_top.specs.Meets.{pairs}
-use Rattle.mbp_top.specs.PddlTexts.{HoldBoth}
-use Rattle.mbp_top.specs.PlanCommand.{HasNoPlan, IsNoPlanText, no_plan_text}
-use Rattle.mbp_top.specs.ReplayCommand.{Tallies}
-use Rattle.mbp_top.specs.Words.{Bytes, MayBeCertified, PlanKind, PlanWords, SaysPlan, of_class, with_contexts}
+use Rattle.command_base.specs.Answers.{Answer}
+use Rattle.command_base.specs.Delivery.{Seen}
+use Rattle.plan_meets.specs.Meets.{pairs}
+use Rattle.command_base.specs.PddlTexts.{HoldBoth}
+use Rattle.plan_command.specs.PlanCommand.{HasNoPlan, IsNoPlanText, no_plan_text}
+use Rattle.replay_command.specs.ReplayCommand.{Tallies}
+use Rattle.command_base.specs.Words.{Bytes, MayBeCertified, PlanKind, PlanWords, SaysPlan, of_class, with_contexts}
 use Rattle.mbp_top.proofs.PlanWritten.{NoPlanWritten, no_plan_written}
 use Rattle.mbp_top.proofs.RefuteWritten.{AcceptedMeansNone}
-use Rattle.mbp_top.proofs.Statuses.{Done}
+use Rattle.mbp_top.proofs.DueStatuses.{Done}
 
 abbrev pub PrintedIsAccepted : Type 0
 PrintedIsAccepted =

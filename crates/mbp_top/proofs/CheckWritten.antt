@@ -1,48 +1,39 @@
 -- `check`: what was written at status 0 and 1, and which statuses come.
-use Rattle.std.proofs.Common.{◌≡◌, ◌≢◌, ℕ, List, [], ◌⊎◌, ◌↔◌, inl, inr, refl, sym, subst, arith, ◌∙◌, ap, true, None, Some, Option}
+use Rattle.std.proofs.Common.{◌≡◌, ◌≢◌, ℕ, List, [], ◌⊎◌, inl, inr, refl, sym, arith, ◌∙◌, ap, true, None, Some, Option}
 use Rattle.std.proofs.lemmas.Bool.{false≢true}
 use Rattle.std.specs.Io.KnownBytes.{append_known}
 use Rattle.exec_graph.specs.Executions.{ReachesMoreThan}
-use Rattle.pddl_ast.specs.Trees.{DomainTree, ProblemTree, TemporalTree}
+use Rattle.pddl_ast.specs.Trees.{DomainTree, ProblemTree}
 use Rattle.pddl_system.specs.Sizes.{first_passed}
 use Rattle.pddl_system.specs.Systems.{action_names, fluent_names, system}
-use Rattle.plan_check.specs.ContextVerdicts.{MeetsGoal}
-use Rattle.plan_check.specs.Verdicts.{CanFollowRules, IsVerdict, SaysYes}
-use Rattle.plan_check.proofs.ContextLaws.{yes_met}
 use Rattle.plan_check.specs.declared.verdicts.Reason.{Reason}
 use Rattle.plan_check.specs.declared.verdicts.Verdict.{Verdict}
 use Rattle.plan_check.specs.declared.verdicts.Verdict.TheVariants.{Yes, No}
 use Rattle.plan_io.specs.Held.{Held}
-use Rattle.plan_rules.specs.Denoted.{denoted, denoted_contexts}
-use Rattle.plan_rules.specs.Rules.{PlainPlan, PlanRule, table, automaton}
-use Rattle.task_core.specs.Solutions.{IsSolution}
+use Rattle.plan_rules.specs.Rules.{PlainPlan, table, automaton}
 use Rattle.task_core.specs.Systems.{System}
-use Rattle.task_core.specs.declared.classes.Class.{Class}
-use Rattle.mbp_top.specs.Answers.{Answer, refused, no_memory, status_of, text_of, is_shown}
-use Rattle.mbp_top.specs.CheckCommand.{CheckThen, ExploreThen, HasBound, HasTooManyStates, IsCheckAnswer, IsChecked, IsFirstAgainst, IsVerdictOf, ShowsVerdict, VerdictThen, most_followed, verdict_answer}
-use Rattle.mbp_top.specs.Delivery.{Seen}
-use Rattle.mbp_top.specs.Grounding.{GroundThen, has_goal_for}
-use Rattle.mbp_top.specs.InitialStates.{empty_init}
-use Rattle.mbp_top.specs.Meets.{PlanMeets}
-use Rattle.mbp_top.specs.PddlTexts.{HoldBoth}
-use Rattle.mbp_top.specs.PlanFiles.{HoldsPlan, IsFaultyPlan, KindThen, PlacedPlan, SpellsPlaced, is_of_kind}
-use Rattle.mbp_top.specs.Told.{AreFilesTold, NoFault}
-use Rattle.mbp_top.specs.ReplayCommand.{Tallies}
-use Rattle.mbp_top.specs.TemporalGoals.{HasGoal}
-use Rattle.mbp_top.specs.Words.{Bytes, CheckWords, PlanKind, of_class, with_contexts, check, SaysCheck}
+use Rattle.command_base.specs.Answers.{Answer, refused, no_memory, status_of, text_of, is_shown}
+use Rattle.check_command.specs.CheckCommand.{CheckThen, ExploreThen, HasBound, IsCheckAnswer, IsChecked, IsFirstAgainst, IsVerdictOf, ShowsVerdict, VerdictThen, verdict_answer}
+use Rattle.command_base.specs.Following.{HasTooManyStates, most_followed}
+use Rattle.command_base.specs.Delivery.{Seen}
+use Rattle.command_base.specs.Grounding.{GroundThen, has_goal_for}
+use Rattle.command_base.specs.InitialStates.{empty_init}
+use Rattle.plan_meets.specs.Meets.{PlanMeets}
+use Rattle.command_base.specs.PddlTexts.{HoldBoth}
+use Rattle.command_base.specs.PlanFiles.{HoldsPlan, IsFaultyPlan, KindThen, PlacedPlan, SpellsPlaced, is_of_kind}
+use Rattle.mbp_top.specs.Told.{AreFilesTold}
+use Rattle.command_base.specs.Faults.{NoFault}
+use Rattle.replay_command.specs.ReplayCommand.{Tallies}
+use Rattle.command_base.specs.Words.{Bytes, CheckWords, PlanKind, of_class, with_contexts, check, SaysCheck}
 use Rattle.mbp_top.proofs.ByCommand.{of_command}
-use Rattle.mbp_top.proofs.CheckDecides.{plan_grammar}
-use Rattle.mbp_top.proofs.Deciding.{read_as}
-use Rattle.mbp_top.proofs.Initials.{shown_initial, with_initial}
-use Rattle.mbp_top.proofs.Meetings.{contexts_meet, meaning_meets, table_meets, table_solves}
-use Rattle.mbp_top.specs.OneReading.{OneReading}
-use Rattle.mbp_top.proofs.PddlDecides.{ReadFor, both_as, not_refused, shown_both, shown_goal, shown_grounded, with_goal, within_limits}
-use Rattle.mbp_top.proofs.Statuses.{Done, shown_at, undisturbed, whole_delivery, written_shown}
-
--- what is known of verdicts
-abbrev pub YesSolves : Type 0
-YesSolves = (sys : System) (rules : List PlanRule) (class : Class) (verdict : Verdict) → IsVerdict sys rules class verdict
-    → SaysYes verdict ↔ (CanFollowRules sys rules × IsSolution class sys (denoted sys rules))
+use Rattle.command_base.proofs.PlanDecides.{plan_grammar}
+use Rattle.command_base.proofs.Deciding.{read_as}
+use Rattle.command_base.proofs.Initials.{shown_initial, with_initial}
+use Rattle.command_base.specs.OneReading.{OneReading}
+use Rattle.command_base.proofs.PddlDecides.{ReadFor, both_as, not_refused, shown_both, shown_goal, shown_grounded, with_goal, within_limits}
+use Rattle.mbp_top.proofs.DueStatuses.{Done}
+use Rattle.command_base.proofs.Statuses.{shown_at, undisturbed, whole_delivery, written_shown}
+use Rattle.check_command.proofs.YesMeets.{YesSolves, shown_judged, yes_is_met, no_is_not_met}
 
 -- the trees and the plan that the files spell, and the verdict on it
 pub record CheckFor (held : Bytes → Held) (asked : CheckWords) (answer : Answer) : Type 0 where
@@ -54,12 +45,6 @@ pub record CheckFor (held : Bytes → Held) (asked : CheckWords) (answer : Answe
   pub verdict : Verdict
   pub of_plan : IsVerdictOf asked.kind domain problem plan verdict
   pub shown : answer ≡ verdict_answer verdict
-
-pub shown_judged : (TooMany : Type 0) (sys : System) (plan : PlainPlan) (Then : Answer → Type 0) (a : Answer) → is_shown a ≡ true
-    → ExploreThen TooMany sys plan Then a → Then a
-shown_judged TooMany sys plan Then a shown (inl (many, is)) = absurd (not_refused _ a is shown)
-shown_judged TooMany sys plan Then a shown (inr (inl (few, more, is))) = absurd (not_refused _ a is shown)
-shown_judged TooMany sys plan Then a shown (inr (inr (few, small, then))) = then
 
 shown_kind : (kind : PlanKind) (name : Bytes) (placed : PlacedPlan) (Then : Answer → Type 0) (a : Answer) → is_shown a ≡ true
     → KindThen kind name placed.place placed.plan Then a → Then a
@@ -128,16 +113,6 @@ yes_zero : (bound : Option ℕ) → status_of (verdict_answer (Yes bound)) ≡ 0
 yes_zero None = refl
 yes_zero (Some n) = refl
 
--- a yes is one of a plan that meets the goal
-pub yes_is_met : YesSolves → (kind : PlanKind) (d : DomainTree) (p : ProblemTree) (plan : PlainPlan) (bound : Option ℕ) → IsVerdictOf kind d p plan (Yes bound) → PlanMeets kind d p plan
-yes_is_met law (of_class class) d p (table written rules) bound is =
-    let both = (law (system d p) rules class (Yes bound) is).0 tt in
-    table_meets class written d p rules both.0 both.1
-yes_is_met law (of_class class) d p (automaton contexts rules) bound never = absurd never
-yes_is_met law with_contexts d p (table written rules) bound never = absurd never
-yes_is_met law with_contexts d p (automaton contexts rules) bound (goal, same, is) =
-    contexts_meet d p contexts rules (goal, same, (yes_met (system d p) (denoted_contexts rules) (HasGoal d p (denoted_contexts rules) goal) (Yes bound) is).0 tt)
-
 yes_bound : (kind : PlanKind) (d : DomainTree) (p : ProblemTree) (plan : PlainPlan) (bound : Option ℕ) → IsVerdictOf kind d p plan (Yes bound) → HasBound kind d p plan bound
 yes_bound (of_class class) d p (table written rules) bound is = is.bounded
 yes_bound (of_class class) d p (automaton contexts rules) bound never = absurd never
@@ -149,20 +124,6 @@ no_reason (of_class class) d p (table written rules) reason is = is
 no_reason (of_class class) d p (automaton contexts rules) reason never = absurd never
 no_reason with_contexts d p (table written rules) reason never = absurd never
 no_reason with_contexts d p (automaton contexts rules) reason is = is
-
-one_goal : (s t : TemporalTree) → Some s ≡ Some t → s ≡ t
-one_goal s t same = cc
-
--- and a no is one of a plan that doesn't
-no_is_not_met : YesSolves → (kind : PlanKind) (d : DomainTree) (p : ProblemTree) (plan : PlainPlan) (reason : Reason) → IsVerdictOf kind d p plan (No reason) → PlanMeets kind d p plan → ⊥
-no_is_not_met law (of_class class) d p (table written rules) reason is met = (law (system d p) rules class (No reason) is).1 (table_solves class written d p rules met)
-no_is_not_met law (of_class class) d p (automaton contexts rules) reason never met = absurd never
-no_is_not_met law with_contexts d p (table written rules) reason never met = absurd never
-no_is_not_met law with_contexts d p (automaton contexts rules) reason (goal, same, is) met =
-    let plan = denoted_contexts rules in
-    let meets = meaning_meets d p contexts rules met in
-    (yes_met (system d p) plan (HasGoal d p plan goal) (No reason) is).1
-    (subst (λ (t : TemporalTree). MeetsGoal (system d p) plan (HasGoal d p plan t)) (one_goal meets.0 goal (sym meets.1 ∙ same)) meets.2)
 
 yes_written : YesSolves → (held : Bytes → Held) (asked : CheckWords) (out out' : Seen) (a : Answer) (read : CheckFor held asked a) (verdict : Verdict)
     → IsVerdictOf asked.kind read.domain read.problem read.plan verdict → status_of (verdict_answer verdict) ≡ 0

@@ -8,16 +8,17 @@ use Rattle.pddl_system.specs.Systems.{system}
 use Rattle.task_core.specs.Systems.{System}
 use Rattle.task_core.specs.declared.classes.Class.{Class}
 use Rattle.task_core.specs.declared.classes.Class.TheVariants.{Weak, Strong, Cyclic}
-use Rattle.mbp_top.specs.Answers.{Answer, affirmed, full, refused, no_memory, status_of, status_of_refusal, text_of, is_shown}
-use Rattle.mbp_top.specs.CheckCommand.{HasTooManyStates}
-use Rattle.mbp_top.specs.Delivery.{IsWhole, Seen}
-use Rattle.mbp_top.specs.DrillCommand.{DrillThen, IsClassLine, IsDrillAnswer, IsDrilled, IsNotFollowed, MayDrillRunOut, SpellBoth, TextsThen, drill_text, problem_name}
-use Rattle.mbp_top.specs.Grounding.{GroundThen}
-use Rattle.mbp_top.specs.ReplayCommand.{Tallies}
-use Rattle.mbp_top.specs.Words.{Bytes, DrillWords, SaysDrill, default_nodes, drill, of_class}
+use Rattle.command_base.specs.Answers.{Answer, affirmed, full, refused, no_memory, status_of, status_of_refusal, text_of, is_shown}
+use Rattle.command_base.specs.Following.{HasTooManyStates}
+use Rattle.command_base.specs.Delivery.{IsWhole, Seen}
+use Rattle.drill_command.specs.DrillCommand.{DrillThen, IsClassLine, IsDrillAnswer, IsDrilled, IsNotFollowed, MayDrillRunOut, SpellBoth, TextsThen, drill_text, problem_name}
+use Rattle.command_base.specs.Grounding.{GroundThen}
+use Rattle.replay_command.specs.ReplayCommand.{Tallies}
+use Rattle.command_base.specs.Words.{Bytes, DrillWords, SaysDrill, default_nodes, drill, of_class}
 use Rattle.mbp_top.proofs.ByCommand.{of_command}
-use Rattle.mbp_top.proofs.PddlDecides.{not_refused, shown_goal, shown_grounded}
-use Rattle.mbp_top.proofs.Statuses.{Done, shown_at, whole_delivery, written_shown}
+use Rattle.command_base.proofs.PddlDecides.{not_refused, shown_goal, shown_grounded}
+use Rattle.mbp_top.proofs.DueStatuses.{Done}
+use Rattle.command_base.proofs.Statuses.{shown_at, whole_delivery, written_shown}
 
 not_followed : (TooMany : Type 0) (sys : System) (class : Class) (a : Answer) → is_shown a ≡ true → IsNotFollowed TooMany class sys a → ⊥
 not_followed TooMany sys class a shown (rules, found, inl (many, is)) = not_refused _ a is shown

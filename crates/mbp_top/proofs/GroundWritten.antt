@@ -4,17 +4,19 @@ use Rattle.std.specs.Io.KnownBytes.{append_known}
 use Rattle.plan_io.specs.Held.{Held}
 use Rattle.pddl_ast.specs.Trees.{DomainTree, ProblemTree}
 use Rattle.pddl_system.specs.Sizes.{first_passed}
-use Rattle.mbp_top.specs.Answers.{Answer, affirmed, refused, no_memory, status_of, text_of, is_shown}
-use Rattle.mbp_top.specs.Delivery.{Seen}
-use Rattle.mbp_top.specs.GroundCommand.{IsGroundAnswer, IsListed, listing_of}
-use Rattle.mbp_top.specs.PddlTexts.{HoldBoth}
-use Rattle.mbp_top.specs.Told.{AreFilesTold, NoFault}
-use Rattle.mbp_top.specs.ReplayCommand.{Tallies}
-use Rattle.mbp_top.specs.Words.{Bytes, GroundWords, ground, SaysGround}
+use Rattle.command_base.specs.Answers.{Answer, affirmed, refused, no_memory, status_of, text_of, is_shown}
+use Rattle.command_base.specs.Delivery.{Seen}
+use Rattle.ground_command.specs.GroundCommand.{IsGroundAnswer, IsListed, listing_of}
+use Rattle.command_base.specs.PddlTexts.{HoldBoth}
+use Rattle.mbp_top.specs.Told.{AreFilesTold}
+use Rattle.command_base.specs.Faults.{NoFault}
+use Rattle.replay_command.specs.ReplayCommand.{Tallies}
+use Rattle.command_base.specs.Words.{Bytes, GroundWords, ground, SaysGround}
 use Rattle.mbp_top.proofs.ByCommand.{of_command}
-use Rattle.mbp_top.specs.OneReading.{OneReading}
-use Rattle.mbp_top.proofs.PddlDecides.{ReadFor, both_as, not_refused, shown_both, shown_grounded, within_limits}
-use Rattle.mbp_top.proofs.Statuses.{Done, shown_at, undisturbed, whole_delivery, written_shown}
+use Rattle.command_base.specs.OneReading.{OneReading}
+use Rattle.command_base.proofs.PddlDecides.{ReadFor, both_as, not_refused, shown_both, shown_grounded, within_limits}
+use Rattle.mbp_top.proofs.DueStatuses.{Done}
+use Rattle.command_base.proofs.Statuses.{shown_at, undisturbed, whole_delivery, written_shown}
 
 shown_listed : (held : Bytes → Held) (failed : Bytes → Type 0) (asked : GroundWords) (a : Answer) → is_shown a ≡ true
     → (a ≡ refused no_memory) ⊎ IsGroundAnswer held failed asked a → ReadFor held asked.domain asked.problem IsListed a

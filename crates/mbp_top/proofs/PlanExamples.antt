@@ -7,8 +7,8 @@ use Rattle.plan_rules.specs.Denoted.{denoted}
 use Rattle.plan_rules.specs.Texts.{table_text, line_feed}
 use Rattle.plan_theory.specs.Layers.{covers}
 use Rattle.plan_theory.specs.LayerPlans.{printed_rules}
-use Rattle.mbp_top.specs.GroundCommand.{listing, listing_of}
-use Rattle.mbp_top.specs.Words.{Bytes}
+use Rattle.ground_command.specs.GroundCommand.{listing, listing_of}
+use Rattle.command_base.specs.Words.{Bytes}
 
 -- the text of the rules of the first layers
 abbrev text_within : DomainTree → ProblemTree → ℕ → Bytes

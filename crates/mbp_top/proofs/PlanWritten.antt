@@ -9,24 +9,26 @@ use Rattle.plan_io.specs.Held.{Held, Untold}
 use Rattle.pddl_ast.specs.Trees.{DomainTree, FormulaTree, ProblemTree, TemporalTree}
 use Rattle.pddl_system.specs.Sizes.{first_passed}
 use Rattle.pddl_system.specs.Systems.{system}
-use Rattle.mbp_top.specs.Answers.{Answer, Refusal, refused, no_memory, full, status_of, status_of_refusal, text_of, is_shown}
-use Rattle.mbp_top.specs.Delivery.{IsWhole, Seen}
-use Rattle.mbp_top.specs.Grounding.{GroundThen, has_goal_for}
-use Rattle.mbp_top.specs.Enough.{IsTightPlan}
-use Rattle.mbp_top.specs.InitialStates.{empty_init}
-use Rattle.mbp_top.specs.PddlTexts.{HoldBoth, IsFaultyDomain, IsFaultyProblem, ReadBoth}
-use Rattle.mbp_top.specs.PlanCommand.{HasNoPlan, IsGoodText, IsNoPlanText, IsPlanAnswer, IsPlanFound, IsPlanMissing, IsPlanResult, IsPlanned, IsResultFrom, IsResultOf, IsShortText, IsTextPrinted, MayRunOut, PlanThen, is_sought}
+use Rattle.command_base.specs.Answers.{Answer, Refusal, refused, no_memory, full, status_of, status_of_refusal, text_of, is_shown}
+use Rattle.command_base.specs.Delivery.{IsWhole, Seen}
+use Rattle.command_base.specs.Grounding.{GroundThen, has_goal_for}
+use Rattle.plan_command.specs.Enough.{IsTightPlan}
+use Rattle.command_base.specs.InitialStates.{empty_init}
+use Rattle.command_base.specs.PddlTexts.{HoldBoth, IsFaultyDomain, IsFaultyProblem, ReadBoth}
+use Rattle.plan_command.specs.PlanCommand.{HasNoPlan, IsGoodText, IsNoPlanText, IsPlanAnswer, IsPlanFound, IsPlanMissing, IsPlanResult, IsPlanned, IsResultFrom, IsResultOf, IsShortText, IsTextPrinted, MayRunOut, PlanThen, is_sought}
 use Rattle.ctl_syntax.specs.ContextGoals.{PlainGoal, plain_goal}
-use Rattle.mbp_top.specs.ContextGoals.{ContextGoalThen, context_goal, is_short_goal, most_parts, part_count}
-use Rattle.mbp_top.specs.Reading.{IsRefusedFile}
-use Rattle.mbp_top.specs.Told.{AreFilesTold, NoFault}
-use Rattle.mbp_top.specs.ReplayCommand.{Tallies}
-use Rattle.mbp_top.specs.Words.{Bytes, PlanKind, PlanWords, plan, SaysPlan, of_class, with_contexts}
+use Rattle.plan_command.specs.ContextGoals.{ContextGoalThen, context_goal, is_short_goal, most_parts, part_count}
+use Rattle.command_base.specs.Reading.{IsRefusedFile}
+use Rattle.mbp_top.specs.Told.{AreFilesTold}
+use Rattle.command_base.specs.Faults.{NoFault}
+use Rattle.replay_command.specs.ReplayCommand.{Tallies}
+use Rattle.command_base.specs.Words.{Bytes, PlanKind, PlanWords, plan, SaysPlan, of_class, with_contexts}
 use Rattle.mbp_top.proofs.ByCommand.{of_command}
-use Rattle.mbp_top.specs.OneReading.{OneReading}
-use Rattle.mbp_top.proofs.Initials.{shown_initial, with_initial}
-use Rattle.mbp_top.proofs.PddlDecides.{ReadFor, both_as, not_refused, shown_both, shown_goal, shown_grounded, with_goal, within_limits}
-use Rattle.mbp_top.proofs.Statuses.{Done, shown_at, undisturbed, whole_delivery, written_shown}
+use Rattle.command_base.specs.OneReading.{OneReading}
+use Rattle.command_base.proofs.Initials.{shown_initial, with_initial}
+use Rattle.command_base.proofs.PddlDecides.{ReadFor, both_as, not_refused, shown_both, shown_goal, shown_grounded, with_goal, within_limits}
+use Rattle.mbp_top.proofs.DueStatuses.{Done}
+use Rattle.command_base.proofs.Statuses.{shown_at, undisturbed, whole_delivery, written_shown}
 
 -- the trees that the files spell, and the answer for them
 pub record PlanFor (held : Bytes → Held) (asked : PlanWords) (answer : Answer) : Type 0 where

@@ -14,24 +14,25 @@ use Rattle.refute_cert.specs.declared.verdict.Judged.{Judged}
 use Rattle.refute_cert.specs.declared.verdict.Judged.TheVariants.{Accepted, Rejected}
 use Rattle.task_core.specs.Solutions.{HasNoSolution}
 use Rattle.task_core.specs.Systems.{IsSystem, System}
-use Rattle.mbp_top.specs.Answers.{Answer, full, is_shown, no_memory, refused, status_of, status_of_refusal, text_of}
-use Rattle.mbp_top.specs.Delivery.{IsWhole, Seen}
-use Rattle.mbp_top.specs.Grounding.{GroundThen, for_tables, has_goal_for}
-use Rattle.mbp_top.specs.InitialStates.{empty_init}
-use Rattle.mbp_top.specs.OneReading.{OneReading}
-use Rattle.mbp_top.specs.PddlTexts.{HoldBoth, IsFaultyDomain, IsFaultyProblem, ReadBoth}
-use Rattle.mbp_top.specs.Reading.{Holds}
-use Rattle.mbp_top.specs.RefuteCommand.{HoldsCertificate, IsFaultyCertificate, IsRefuteAnswer, IsRefuted, IsTightVerdict, JudgeThen, MayRefuteRunOut, RefuteThen, ShowsJudged, judged_answer}
-use Rattle.mbp_top.specs.ReplayCommand.{Tallies}
-use Rattle.mbp_top.specs.Told.{AreFilesTold, NoFault}
-use Rattle.mbp_top.specs.Words.{Bytes, RefuteWords, SaysRefute, refute}
+use Rattle.command_base.specs.Answers.{Answer, full, is_shown, no_memory, refused, status_of, status_of_refusal, text_of}
+use Rattle.command_base.specs.Delivery.{IsWhole, Seen}
+use Rattle.command_base.specs.Grounding.{GroundThen, for_tables, has_goal_for}
+use Rattle.command_base.specs.InitialStates.{empty_init}
+use Rattle.command_base.specs.OneReading.{OneReading}
+use Rattle.command_base.specs.PddlTexts.{HoldBoth, IsFaultyDomain, IsFaultyProblem, ReadBoth}
+use Rattle.refute_command.specs.RefuteCommand.{HoldsCertificate, IsFaultyCertificate, IsRefuteAnswer, IsRefuted, IsTightVerdict, JudgeThen, MayRefuteRunOut, RefuteThen, ShowsJudged, judged_answer}
+use Rattle.replay_command.specs.ReplayCommand.{Tallies}
+use Rattle.mbp_top.specs.Told.{AreFilesTold}
+use Rattle.command_base.specs.Faults.{NoFault}
+use Rattle.command_base.specs.Words.{Bytes, RefuteWords, SaysRefute, refute}
 use Rattle.mbp_top.proofs.ByCommand.{of_command}
-use Rattle.mbp_top.proofs.Deciding.{one_tree, read_as}
-use Rattle.mbp_top.proofs.Initials.{shown_initial, with_initial}
-use Rattle.mbp_top.proofs.PddlDecides.{ReadFor, both_as, not_refused, shown_both, shown_goal, shown_grounded, with_goal, within_limits}
+use Rattle.command_base.proofs.Deciding.{one_tree, read_as}
+use Rattle.command_base.proofs.Initials.{shown_initial, with_initial}
+use Rattle.command_base.proofs.PddlDecides.{ReadFor, both_as, not_refused, shown_both, shown_goal, shown_grounded, with_goal, within_limits}
 use Rattle.mbp_top.proofs.PlanWritten.{refused_not_full}
-use Rattle.mbp_top.proofs.RefuteDecides.{certificate_grammar, not_accepted}
-use Rattle.mbp_top.proofs.Statuses.{Done, shown_at, undisturbed, whole_delivery, written_shown}
+use Rattle.refute_command.proofs.RefuteDecides.{certificate_grammar, not_accepted}
+use Rattle.mbp_top.proofs.DueStatuses.{Done}
+use Rattle.command_base.proofs.Statuses.{shown_at, undisturbed, whole_delivery, written_shown}
 
 -- what is known of accepted certificates
 abbrev pub AcceptedMeansNone : Type 0
@@ -215,7 +216,7 @@ tight_of : OneReading → (held : Bytes → Held) (asked : RefuteWords) (d : Dom
 tight_of one held asked d p certificate told file may =
     let names = fluent_names d p in
     subst (λ (c : PlainCertificate). IsTightVerdict asked.options.nodes d p c)
-    (one_tree held (SpellsPlain names) (IsFaultyCertificate names) asked.certificate may.certificate certificate told (certificate_grammar one names) may.file file)
+    (one_tree held (SpellsPlain names) (IsFaultyCertificate names) asked.certificate may.certificate certificate told (certificate_grammar names) may.file file)
     may.tight
 
 -- the status where the files spell a domain, a problem of it and a certificate, within the limits: 0
@@ -263,5 +264,5 @@ refute_status one held failed tallies words before after out out' err err' statu
           let Then : PlainCertificate → Answer → Type 0 = JudgeThen asked domain problem in
           let judged = with_initial (empty_init asked.problem problem) (system domain problem).initial (ShowsJudged (system domain problem) certificate) a some
           (read_as held failed asked.certificate (SpellsPlain (fluent_names domain problem)) (IsFaultyCertificate (fluent_names domain problem))
-          Then certificate a told_certificate (quiet asked.certificate) (certificate_grammar one (fluent_names domain problem)) file then) in
+          Then certificate a told_certificate (quiet asked.certificate) (certificate_grammar (fluent_names domain problem)) file then) in
           judged_status (system domain problem) certificate judged.0 status judged.1 (code ∙ ap status_of judged.2)

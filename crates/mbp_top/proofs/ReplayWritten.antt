@@ -11,23 +11,25 @@ use Rattle.run_replay.specs.Traces.{Ending, Terminal, Ended, Capped, Stray, Unex
 use Rattle.run_replay.specs.declared.worlds.Step.{Step}
 use Rattle.task_core.specs.Systems.{System}
 use Rattle.task_core.specs.Vectors.{Vector}
-use Rattle.mbp_top.specs.Answers.{Answer, Refusal, refused, no_memory, status_of, text_of, is_shown}
-use Rattle.mbp_top.specs.CheckCommand.{HasTooManyStates}
-use Rattle.mbp_top.specs.Delivery.{Seen}
-use Rattle.mbp_top.specs.InitialStates.{empty_init}
-use Rattle.mbp_top.specs.PddlTexts.{HoldBoth}
-use Rattle.mbp_top.specs.PlanFiles.{IsFaultyPlan, PlacedPlan, SpellsPlaced}
-use Rattle.mbp_top.specs.Reading.{Holds}
-use Rattle.mbp_top.specs.ReplayCommand.{AreToldAs, FirstThen, HoldRun, IsFaultyRecord, IsFirstState, IsReplay, IsReplayAnswer, IsReplayed, RecordThen, ReplayThen, Tallies, ended_answer, ended_status, replay_text, trace_under}
-use Rattle.mbp_top.specs.Told.{AreFilesTold, NoFault}
-use Rattle.mbp_top.specs.Words.{Bytes, ReplayWords, replay, SaysReplay}
+use Rattle.command_base.specs.Answers.{Answer, Refusal, refused, no_memory, status_of, text_of, is_shown}
+use Rattle.command_base.specs.Following.{HasTooManyStates}
+use Rattle.command_base.specs.Delivery.{Seen}
+use Rattle.command_base.specs.InitialStates.{empty_init}
+use Rattle.command_base.specs.PddlTexts.{HoldBoth}
+use Rattle.command_base.specs.PlanFiles.{IsFaultyPlan, PlacedPlan, SpellsPlaced}
+use Rattle.command_base.specs.Reading.{Holds}
+use Rattle.replay_command.specs.ReplayCommand.{AreToldAs, FirstThen, HoldRun, IsFaultyRecord, IsFirstState, IsReplay, IsReplayAnswer, IsReplayed, RecordThen, ReplayThen, Tallies, ended_answer, ended_status, replay_text, trace_under}
+use Rattle.mbp_top.specs.Told.{AreFilesTold}
+use Rattle.command_base.specs.Faults.{NoFault}
+use Rattle.command_base.specs.Words.{Bytes, ReplayWords, replay, SaysReplay}
 use Rattle.mbp_top.proofs.ByCommand.{of_command}
-use Rattle.mbp_top.proofs.CheckDecides.{plan_grammar}
-use Rattle.mbp_top.proofs.Deciding.{read_as}
-use Rattle.mbp_top.specs.OneReading.{OneReading}
-use Rattle.mbp_top.proofs.PddlDecides.{both_as, not_refused, shown_both, shown_grounded, within_limits}
-use Rattle.mbp_top.proofs.ReplayDecides.{record_grammar}
-use Rattle.mbp_top.proofs.Statuses.{Done, shown_at, undisturbed, whole_delivery, written_shown}
+use Rattle.command_base.proofs.PlanDecides.{plan_grammar}
+use Rattle.command_base.proofs.Deciding.{read_as}
+use Rattle.command_base.specs.OneReading.{OneReading}
+use Rattle.command_base.proofs.PddlDecides.{both_as, not_refused, shown_both, shown_grounded, within_limits}
+use Rattle.replay_command.proofs.ReplayDecides.{record_grammar}
+use Rattle.mbp_top.proofs.DueStatuses.{Done}
+use Rattle.command_base.proofs.Statuses.{shown_at, undisturbed, whole_delivery, written_shown}
 
 -- what is run of the files, and that the answer is for it
 record RunFor (held : Bytes → Held) (tallies : Tallies) (asked : ReplayWords) (d : DomainTree) (p : ProblemTree) (answer : Answer) : Type 0 where

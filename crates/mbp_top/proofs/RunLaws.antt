@@ -1,73 +1,61 @@
 -- What follows for a run that has its cause.
-use Rattle.std.proofs.Common.{◌≡◌, ◌≢◌, ◌≤◌, ◌⊎◌, ℕ, [], None, true, inl, inr, subst, sym}
+use Rattle.std.proofs.Common.{◌≡◌, ◌≢◌, ◌≤◌, ◌⊎◌, ℕ, [], None, true}
 use Rattle.exec_graph.specs.Executions.{ReachesMoreThan}
 use Rattle.pddl_ast.specs.Trees.{DomainTree, ProblemTree}
 use Rattle.pddl_system.specs.Sizes.{first_passed}
 use Rattle.pddl_system.specs.Systems.{action_names, fluent_names, system}
 use Rattle.plan_io.specs.Held.{Held}
 use Rattle.plan_rules.specs.Rules.{PlainPlan}
-use Rattle.mbp_top.specs.Answers.{Answer, no_command, no_memory, refused}
-use Rattle.mbp_top.specs.Causes.{HasCause, IsQuietAt}
-use Rattle.mbp_top.specs.CheckCommand.{HasTooManyStates, most_followed}
-use Rattle.mbp_top.specs.Delivery.{IsDelivered}
-use Rattle.mbp_top.specs.Enough.{IsTightPlan}
+use Rattle.command_base.specs.Answers.{Answer}
+use Rattle.mbp_top.specs.Causes.{HasCause, IsAnswerOf}
+use Rattle.command_base.specs.Faults.{IsQuietAt, NoFault}
+use Rattle.command_base.specs.Following.{HasTooManyStates, most_followed}
+use Rattle.command_base.specs.Delivery.{IsDelivered}
+use Rattle.plan_command.specs.Enough.{IsTightPlan}
 use Rattle.mbp_top.specs.Fetching.{FetchesFiles}
-use Rattle.mbp_top.specs.Grounding.{has_goal_for}
+use Rattle.command_base.specs.Grounding.{has_goal_for}
 use Rattle.mbp_top.specs.Laws.{AreQuietSinks, ComesToJudged, ComesToListing, ComesToReplay, HasStatus, IsAcceptance, IsFullRefutation, IsRejection, IsAnswered, IsCertified, IsCutOff, IsDrillOf, IsDueAnswer, IsDueStatus, IsFullAtLimit, IsFullDrill, IsListing, IsNo, IsQuietShelf, IsReplayOf, IsYes}
-use Rattle.mbp_top.specs.Meets.{PlanMeets}
-use Rattle.mbp_top.specs.OneReading.{OneReading}
-use Rattle.mbp_top.specs.PddlTexts.{HoldBoth}
-use Rattle.mbp_top.specs.PlanCommand.{is_sought}
-use Rattle.mbp_top.specs.PlanFiles.{HoldsPlan, is_of_kind}
-use Rattle.mbp_top.specs.Runs.{FailedIn, HasRun, Run}
-use Rattle.mbp_top.specs.Told.{AreFilesTold, NoFault}
-use Rattle.mbp_top.specs.Words.{Bytes, CheckWords, Command, PlanWords, SayNothing, Says, SaysCheck, SaysPlan}
+use Rattle.plan_meets.specs.Meets.{PlanMeets}
+use Rattle.command_base.specs.OneReading.{OneReading}
+use Rattle.command_base.specs.PddlTexts.{HoldBoth}
+use Rattle.plan_command.specs.PlanCommand.{is_sought}
+use Rattle.command_base.specs.PlanFiles.{HoldsPlan, is_of_kind}
+use Rattle.mbp_top.specs.Runs.{HasRun, Run}
+use Rattle.command_base.specs.Frame.{FailedIn}
+use Rattle.mbp_top.specs.Told.{AreFilesTold}
+use Rattle.command_base.specs.Words.{Bytes, CheckWords, Command, PlanWords, SayNothing, Says, SaysCheck, SaysPlan}
+use Rattle.command_base.proofs.Frames.{IsGivenFor, is_run}
 use Rattle.mbp_top.proofs.ByCommand.{due_answer}
 use Rattle.mbp_top.proofs.CertificateWritten.{PrintedIsAccepted, certificate_written}
-use Rattle.mbp_top.proofs.CheckWritten.{YesSolves, check_no_written, check_status, check_yes_written}
-use Rattle.mbp_top.proofs.Fetched.{fetched_for_memory}
+use Rattle.check_command.proofs.YesMeets.{YesSolves}
+use Rattle.mbp_top.proofs.CheckWritten.{check_no_written, check_status, check_yes_written}
+use Rattle.mbp_top.proofs.MemoryFetches.{fetched_for_memory}
 use Rattle.mbp_top.proofs.DrillWritten.{drill_written, full_drill}
 use Rattle.mbp_top.proofs.GroundWritten.{listing_status, listing_written}
 use Rattle.mbp_top.proofs.PlanWritten.{NoPlanWritten, PlanWritten, full_written, no_plan_written, plan_status, plan_written}
 use Rattle.mbp_top.proofs.RefuteWritten.{AcceptedMeansNone, acceptance_written, full_refutation, refute_status, rejection_written}
 use Rattle.mbp_top.proofs.ReplayWritten.{run_status, run_written}
-use Rattle.mbp_top.proofs.Statuses.{Done, cut_delivery, done, due_status, no_failure, of_delivery, quiet_shelf, quiet_sinks, whole_delivery}
+use Rattle.mbp_top.proofs.DueStatuses.{Done, due_status}
+use Rattle.command_base.proofs.Statuses.{cut_delivery, no_failure, of_delivery, quiet_shelf, quiet_sinks, whole_delivery}
 
 module _ {S : Type 0} (held : S → Bytes → Held) (faults : S → ℕ) (fetched : S → Bytes → S → Type 0) (run : Run S) where
   abbrev Cause : Answer → Type 0
-  Cause = HasCause (held run.shelf) (FailedIn faults fetched run) run.tallies run.words
+  Cause = HasCause (held run.shelf) (FailedIn faults fetched run) run.handed run.words
 
   abbrev IsDone : Answer → Type 0
-  IsDone = Done (held run.shelf) (FailedIn faults fetched run) run.tallies run.words (faults run.shelf) (faults run.shelf_after) run.out run.out_after run.err run.err_after run.status
+  IsDone = Done (held run.shelf) (FailedIn faults fetched run) run.handed run.words (faults run.shelf) (faults run.shelf_after) run.out run.out_after run.err run.err_after run.status
 
   -- what was found for the words, and what was given for it
   pub has_run : (found given : Answer) → Cause found
       → ((command : Command) → Says run.words command → FetchesFiles (held run.shelf) (FailedIn faults fetched run) fetched command found run.shelf run.shelf_after)
       → (SayNothing run.words → run.shelf_after ≡ run.shelf) → IsQuietAt found (faults run.shelf) (faults run.shelf_after)
       → ((file : Bytes) → held run.shelf_after file ≡ held run.shelf file) → faults run.shelf ≤ faults run.shelf_after
-      → (given ≡ found) ⊎ ((given ≡ refused no_memory) × (found ≢ refused no_command))
+      → IsGivenFor found given
       → IsDelivered given run.out run.out_after run.err run.err_after run.status → HasRun held faults fetched run
-  has_run found given cause fetches unfetched quiet kept later same delivered =
-      let d : IsDone given = done (held run.shelf) (FailedIn faults fetched run) run.tallies run.words (faults run.shelf) (faults run.shelf_after) run.out run.out_after run.err run.err_after run.status
-      found given cause quiet same delivered in
-      record {
-        answer = given;
-        cause = d.cause;
-        delivered = d.delivered;
-        fetches = λ command says. given_fetches command (fetches command says) same;
-        unfetched = unfetched;
-        quiet = d.quiet;
-        kept = kept;
-        later = later;
-      }
-    where
-      given_fetches : (command : Command) → FetchesFiles (held run.shelf) (FailedIn faults fetched run) fetched command found run.shelf run.shelf_after
-          → (given ≡ found) ⊎ ((given ≡ refused no_memory) × (found ≢ refused no_command))
-          → FetchesFiles (held run.shelf) (FailedIn faults fetched run) fetched command given run.shelf run.shelf_after
-      given_fetches command was (inl is) = subst (λ (a : Answer). FetchesFiles (held run.shelf) (FailedIn faults fetched run) fetched command a run.shelf run.shelf_after) (sym is) was
-      given_fetches command was (inr (is, said)) =
-          subst (λ (a : Answer). FetchesFiles (held run.shelf) (FailedIn faults fetched run) fetched command a run.shelf run.shelf_after) (sym is)
-          (fetched_for_memory (held run.shelf) (FailedIn faults fetched run) fetched command found run.shelf run.shelf_after was)
+  has_run =
+      is_run Says (IsAnswerOf (held run.shelf) (FailedIn faults fetched run) run.handed)
+      (FetchesFiles (held run.shelf) (FailedIn faults fetched run) fetched) held faults run
+      (λ command a was. fetched_for_memory (held run.shelf) (FailedIn faults fetched run) fetched command a run.shelf run.shelf_after was)
 
   module _ (has : HasRun held faults fetched run) where
     it_is : IsDone has.answer
@@ -184,7 +172,7 @@ module _ {S : Type 0} (held : S → Bytes → Held) (faults : S → ℕ) (fetche
 
       pub is_due_answer : IsDueAnswer held faults run
       is_due_answer answer is told =
-          (has.answer, due_answer one (held run.shelf) (FailedIn faults fetched run) run.tallies run.words has.answer answer has.cause is told.told (not_failed told.shelf), has.delivered)
+          (has.answer, due_answer one (held run.shelf) (FailedIn faults fetched run) run.handed run.words has.answer answer has.cause is told.told (not_failed told.shelf), has.delivered)
 
       pub is_due_status : IsDueStatus held faults run
       is_due_status answer is u =

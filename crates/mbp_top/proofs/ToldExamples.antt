@@ -6,11 +6,11 @@ use Rattle.plan_rules.specs.Texts.{line_feed}
 use Rattle.refute_cert.specs.declared.verdict.Flaw.TheVariants.{Goal}
 use Rattle.refute_cert.specs.declared.verdict.Judged.TheVariants.{Accepted, Rejected}
 use Rattle.task_core.specs.declared.classes.Class.TheVariants.{Weak, Strong}
-use Rattle.mbp_top.specs.Answers.{full, no_command, over_limit, read_fault, refused, status_of, text_of}
-use Rattle.mbp_top.specs.RefuteCommand.{judged_answer}
-use Rattle.mbp_top.specs.ReplayCommand.{Tallies}
+use Rattle.command_base.specs.Answers.{full, no_command, over_limit, read_fault, refused, status_of, text_of}
+use Rattle.refute_command.specs.RefuteCommand.{judged_answer}
+use Rattle.replay_command.specs.ReplayCommand.{Tallies}
 use Rattle.mbp_top.specs.Told.{AreFilesTold, IsDue}
-use Rattle.mbp_top.specs.Words.{Bytes, Command, PlanWords, of_class, plan, ground, check, refute, replay, drill, Says, files_of}
+use Rattle.command_base.specs.Words.{Bytes, Command, PlanWords, of_class, plan, ground, check, refute, replay, drill, Says, files_of}
 
 -- the words `plan weak coin-d coin-p`, the command that they say, and the two files that it names
 abbrev coin_words : List Bytes

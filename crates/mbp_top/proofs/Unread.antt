@@ -1,6 +1,6 @@
 -- Status 6: which file of the command can't be read.
 use Rattle.std.proofs.Common.{◌≡◌, ◌≢◌, ◌<◌, Bool, ℕ, zero, suc, List, [], ◌∷◌, length, ◌⊎◌, inl, inr, refl, sym, arith, ◌∙◌, ap}
-use Rattle.std.specs.Prelude.{slice_index_or}
+use Rattle.std.specs.Prelude.{slice_index_or, None, Some}
 use Rattle.std.specs.Io.KnownBytes.{append_known}
 use Rattle.pddl_ast.specs.Trees.{DomainTree, ProblemTree}
 use Rattle.pddl_system.specs.Systems.{action_names, fluent_names, system}
@@ -8,27 +8,28 @@ use Rattle.plan_check.specs.declared.verdicts.Verdict.{Verdict}
 use Rattle.plan_check.specs.declared.verdicts.Verdict.TheVariants.{Yes, No}
 use Rattle.plan_io.specs.Held.{Held, Missing}
 use Rattle.run_replay.specs.Traces.{Ending, Terminal, Ended, Capped, Stray, Unexecutable}
-use Rattle.std.specs.Prelude.{None, Some}
-use Rattle.mbp_top.specs.Answers.{Answer, Refusal, refused, no_memory, read_fault, status_of, status_of_refusal, text_of}
+use Rattle.command_base.specs.Answers.{Answer, Refusal, refused, no_memory, read_fault, status_of, status_of_refusal, text_of}
 use Rattle.mbp_top.specs.Causes.{IsAnswerOf}
-use Rattle.mbp_top.specs.CheckCommand.{HasTooManyStates, IsChecked, verdict_answer}
-use Rattle.mbp_top.specs.Delivery.{IsWhole}
-use Rattle.mbp_top.specs.DrillCommand.{IsDrillAnswer, IsDrilled, IsNotFollowed}
-use Rattle.mbp_top.specs.GroundCommand.{IsListed}
+use Rattle.command_base.specs.Following.{HasTooManyStates}
+use Rattle.check_command.specs.CheckCommand.{IsChecked, verdict_answer}
+use Rattle.command_base.specs.Delivery.{IsWhole}
+use Rattle.drill_command.specs.DrillCommand.{IsDrillAnswer, IsDrilled, IsNotFollowed}
+use Rattle.ground_command.specs.GroundCommand.{IsListed}
 use Rattle.mbp_top.specs.Laws.{IsUnread, IsUnreadAt}
-use Rattle.mbp_top.specs.PddlTexts.{IsFaultyDomain, IsFaultyProblem, ReadBoth}
-use Rattle.mbp_top.specs.PlanCommand.{IsPlanResult, IsPlanned, IsResultOf}
-use Rattle.mbp_top.specs.PlanFiles.{IsFaultyPlan}
-use Rattle.mbp_top.specs.Reading.{IsFile, IsRefusedFile}
-use Rattle.mbp_top.specs.RefuteCommand.{IsFaultyCertificate, IsRefuted, judged_answer}
+use Rattle.command_base.specs.PddlTexts.{IsFaultyDomain, IsFaultyProblem, ReadBoth}
+use Rattle.plan_command.specs.PlanCommand.{IsPlanResult, IsPlanned, IsResultOf}
+use Rattle.command_base.specs.PlanFiles.{IsFaultyPlan}
+use Rattle.command_base.specs.Reading.{IsFile, IsRefusedFile}
+use Rattle.refute_command.specs.RefuteCommand.{IsFaultyCertificate, IsRefuted, judged_answer}
 use Rattle.refute_cert.specs.declared.verdict.Judged.{Judged}
 use Rattle.refute_cert.specs.declared.verdict.Judged.TheVariants.{Accepted, Rejected}
-use Rattle.mbp_top.specs.ReplayCommand.{IsFaultyRecord, IsReplay, Tallies, ended_answer, trace_under}
-use Rattle.mbp_top.specs.Runs.{FailedIn, HasRun, Run}
-use Rattle.mbp_top.specs.Words.{Bytes, CheckWords, Command, DrillWords, PlanKind, PlanWords, ReplayWords, check, drill, files_of, ground, of_class, plan, replay, with_contexts, RefuteWords, refute}
+use Rattle.replay_command.specs.ReplayCommand.{IsFaultyRecord, IsReplay, Tallies, ended_answer, trace_under}
+use Rattle.mbp_top.specs.Runs.{HasRun, Run}
+use Rattle.command_base.specs.Frame.{FailedIn}
+use Rattle.command_base.specs.Words.{Bytes, CheckWords, Command, DrillWords, PlanKind, PlanWords, ReplayWords, check, drill, files_of, ground, of_class, plan, replay, with_contexts, RefuteWords, refute}
 use Rattle.mbp_top.proofs.ByCommand.{of_command}
-use Rattle.mbp_top.proofs.PddlDecides.{not_refused}
-use Rattle.mbp_top.proofs.Statuses.{whole_delivery}
+use Rattle.command_base.proofs.PddlDecides.{not_refused}
+use Rattle.command_base.proofs.Statuses.{whole_delivery}
 use Rattle.task_core.specs.declared.classes.Class.{Class}
 use Rattle.task_core.specs.declared.classes.Class.TheVariants.{Weak, Strong, Cyclic}
 use Rattle.task_core.specs.Systems.{System}
@@ -226,7 +227,7 @@ module _ (held : Bytes → Held) (failed : Bytes → Type 0) (a : Answer) (six :
 
 module _ {S : Type 0} (held : S → Bytes → Held) (faults : S → ℕ) (fetched : S → Bytes → S → Type 0) (run : Run S) (has : HasRun held faults fetched run) where
   pub is_unread : IsUnread held faults fetched run
-  is_unread command says six = go (of_command (held run.shelf) (FailedIn faults fetched run) run.tallies run.words command has.answer says has.cause) where
+  is_unread command says six = go (of_command (held run.shelf) (FailedIn faults fetched run) run.handed run.words command has.answer says has.cause) where
     whole : (run.status ≡ status_of has.answer) × IsWhole has.answer run.out run.out_after run.err run.err_after
     whole = whole_delivery has.answer run.out run.out_after run.err run.err_after run.status has.delivered (λ seven. let e : 6 ≡ 7 = sym six ∙ seven in omega arith)
 
@@ -240,7 +241,7 @@ module _ {S : Type 0} (held : S → Bytes → Held) (faults : S → ℕ) (fetche
     told : UnreadAt (held run.shelf) (FailedIn faults fetched run) (files_of command) has.answer → (place : ℕ) × (name : Bytes) × IsUnreadAt held faults fetched run (files_of command) place name
     told u = (u.place, u.name, record { there = u.there; named = u.named; before = u.before; unread = u.unread; written = line (read_fault u.name) u.shown whole.1 })
 
-    go : (has.answer ≡ refused no_memory) ⊎ IsAnswerOf (held run.shelf) (FailedIn faults fetched run) run.tallies command has.answer
+    go : (has.answer ≡ refused no_memory) ⊎ IsAnswerOf (held run.shelf) (FailedIn faults fetched run) run.handed command has.answer
         → (place : ℕ) × (name : Bytes) × IsUnreadAt held faults fetched run (files_of command) place name
     go (inl memory) = absurd (let e : 6 ≡ 8 = sym code ∙ ap status_of memory in omega arith)
-    go (inr is) = told (of_answer (held run.shelf) (FailedIn faults fetched run) has.answer code run.tallies command is)
+    go (inr is) = told (of_answer (held run.shelf) (FailedIn faults fetched run) has.answer code run.handed command is)

@@ -1,7 +1,6 @@
 -- What follows for every run that has its cause: statements of laws. `held`, `faults` and `fetched`
 -- are what the shelf tells.
-use Rattle.std.specs.Prelude.{◌≡◌, ◌≢◌, ◌<◌, ◌⊎◌, ℕ, [], ◌∷◌, ◌++◌, Contains, List, None}
-use Rattle.std.specs.Prelude.{Option}
+use Rattle.std.specs.Prelude.{◌≡◌, ◌≢◌, ◌<◌, ◌⊎◌, ℕ, [], ◌∷◌, ◌++◌, Contains, List, None, Option}
 use Rattle.std.specs.Prelude.{length, slice_index_or, true}
 use Rattle.std.specs.Io.KnownBytes.{append_known}
 use Rattle.pddl_ast.specs.Trees.{DomainTree, ProblemTree}
@@ -23,27 +22,31 @@ use Rattle.run_replay.specs.declared.worlds.Step.{Step}
 use Rattle.task_core.specs.Solutions.{HasNoSolution}
 use Rattle.task_core.specs.Vectors.{Vector}
 use Rattle.task_core.specs.declared.classes.Class.TheVariants.{Weak, Strong, Cyclic}
-use Rattle.mbp_top.specs.Answers.{Answer, full, read_fault, refused, status_of, text_of}
-use Rattle.mbp_top.specs.Causes.{HasCause, IsQuietAt}
-use Rattle.mbp_top.specs.CheckCommand.{HasBound, HasTooManyStates, IsFirstAgainst, verdict_answer}
-use Rattle.mbp_top.specs.Delivery.{IsCut, IsDelivered, IsWhole}
-use Rattle.mbp_top.specs.DrillCommand.{IsClassLine, MayDrillRunOut, SpellBoth, drill_text}
-use Rattle.mbp_top.specs.GroundCommand.{listing_of}
-use Rattle.mbp_top.specs.Meets.{PlanMeets}
-use Rattle.mbp_top.specs.PddlTexts.{HoldBoth}
-use Rattle.mbp_top.specs.PlanCommand.{MayRunOut, no_plan_text}
-use Rattle.mbp_top.specs.PlanFiles.{HoldsPlan}
-use Rattle.mbp_top.specs.Reading.{IsFile}
-use Rattle.mbp_top.specs.Grounding.{for_tables, has_goal_for}
-use Rattle.mbp_top.specs.RefuteCommand.{HoldsCertificate, IsTightVerdict, MayRefuteRunOut}
-use Rattle.mbp_top.specs.RefuteCommand.{judged_answer}
-use Rattle.mbp_top.specs.ReplayCommand.{AreToldAs, HoldRun, ended_status, replay_text, trace_under}
-use Rattle.mbp_top.specs.Runs.{FailedIn, HasRun, IsTold, IsUndisturbed, Run}
+use Rattle.command_base.specs.Answers.{Answer, full, read_fault, refused, status_of, text_of}
+use Rattle.mbp_top.specs.Causes.{HasCause}
+use Rattle.command_base.specs.Faults.{IsQuietAt}
+use Rattle.check_command.specs.CheckCommand.{HasBound, IsFirstAgainst, verdict_answer}
+use Rattle.command_base.specs.Following.{HasTooManyStates}
+use Rattle.command_base.specs.Delivery.{IsCut, IsDelivered, IsWhole}
+use Rattle.drill_command.specs.DrillCommand.{IsClassLine, MayDrillRunOut, SpellBoth, drill_text}
+use Rattle.ground_command.specs.GroundCommand.{listing_of}
+use Rattle.plan_meets.specs.Meets.{PlanMeets}
+use Rattle.command_base.specs.PddlTexts.{HoldBoth}
+use Rattle.plan_command.specs.PlanCommand.{MayRunOut, no_plan_text}
+use Rattle.command_base.specs.PlanFiles.{HoldsPlan}
+use Rattle.command_base.specs.Reading.{IsFile}
+use Rattle.command_base.specs.Grounding.{for_tables, has_goal_for}
+use Rattle.refute_command.specs.RefuteCommand.{HoldsCertificate, IsTightVerdict, MayRefuteRunOut}
+use Rattle.refute_command.specs.RefuteCommand.{judged_answer}
+use Rattle.replay_command.specs.ReplayCommand.{AreToldAs, HoldRun, ended_status, replay_text}
+use Rattle.replay_command.specs.ReplayCommand.{trace_under}
+use Rattle.mbp_top.specs.Runs.{HasRun, IsTold, IsUndisturbed, Run}
+use Rattle.command_base.specs.Frame.{FailedIn}
 use Rattle.mbp_top.specs.Told.{IsDue, MayStandIn}
-use Rattle.mbp_top.specs.Words.{Bytes, CheckWords, GroundWords, PlanWords, ReplayWords, SaysCheck}
-use Rattle.mbp_top.specs.Words.{DrillWords, SaysDrill, SaysGround, SaysPlan, SaysReplay}
-use Rattle.mbp_top.specs.Words.{Command, RefuteWords, Says, SaysRefute, default_nodes, files_of}
-use Rattle.mbp_top.specs.Words.{of_class}
+use Rattle.command_base.specs.Words.{Bytes, CheckWords, GroundWords, PlanWords, ReplayWords}
+use Rattle.command_base.specs.Words.{SaysCheck, DrillWords, SaysDrill, SaysGround, SaysPlan}
+use Rattle.command_base.specs.Words.{SaysReplay, Command, RefuteWords, Says, SaysRefute}
+use Rattle.command_base.specs.Words.{default_nodes, files_of, of_class}
 
 -- of every run that has its cause
 abbrev pub OfRuns : {S : Type 0} → (S → Bytes → Held) → (S → ℕ) → (S → Bytes → S → Type 0)
@@ -61,7 +64,7 @@ abbrev pub IsAnswered : {S : Type 0} → (S → Bytes → Held) → (S → ℕ) 
 IsAnswered {S} held faults fetched run =
     run.status ≢ 7
     → (answer : Answer)
-    × HasCause (held run.shelf) (FailedIn faults fetched run) run.tallies run.words answer
+    × HasCause (held run.shelf) (FailedIn faults fetched run) run.handed run.words answer
     × (run.status ≡ status_of answer)
     × IsWhole answer run.out run.out_after run.err run.err_after
 
@@ -71,7 +74,7 @@ abbrev pub IsCutOff : {S : Type 0} → (S → Bytes → Held) → (S → ℕ) �
 IsCutOff {S} held faults fetched run =
     run.status ≡ 7
     → (answer : Answer)
-    × HasCause (held run.shelf) (FailedIn faults fetched run) run.tallies run.words answer
+    × HasCause (held run.shelf) (FailedIn faults fetched run) run.handed run.words answer
     × IsQuietAt answer (faults run.shelf) (faults run.shelf_after)
     × IsCut answer run.out run.out_after run.err run.err_after
 
@@ -158,7 +161,7 @@ IsReplayOf {S} held run =
     × AreToldAs (system domain problem)
     (trace_under (system domain problem) plan first recorded.words).steps told
     × (run.out_after.written ≡ append_known run.out.written
-    (replay_text run.tallies (action_names domain problem)
+    (replay_text run.handed (action_names domain problem)
     (trace_under (system domain problem) plan first recorded.words) told))
 
 -- `replay` of files that spell a problem within the limits with few initial states, a plan, and a
@@ -292,7 +295,7 @@ AreAllFetched {S} fetched run =
 -- monitors make of its steps
 abbrev pub IsDueAnswer : {S : Type 0} → (S → Bytes → Held) → (S → ℕ) → Run S → Type 0
 IsDueAnswer {S} held faults run =
-    (answer : Answer) → IsDue (held run.shelf) run.tallies run.words answer
+    (answer : Answer) → IsDue (held run.shelf) run.handed run.words answer
     → IsTold held faults run
     → (given : Answer) × ((given ≡ answer) ⊎ MayStandIn (held run.shelf) run.words given)
     × IsDelivered given run.out run.out_after run.err run.err_after run.status
@@ -300,7 +303,7 @@ IsDueAnswer {S} held faults run =
 -- and so the status, if no fault comes of the sinks either
 abbrev pub IsDueStatus : {S : Type 0} → (S → Bytes → Held) → (S → ℕ) → Run S → Type 0
 IsDueStatus {S} held faults run =
-    (answer : Answer) → IsDue (held run.shelf) run.tallies run.words answer
+    (answer : Answer) → IsDue (held run.shelf) run.handed run.words answer
     → IsUndisturbed held faults run
     → (run.status ≡ status_of answer) ⊎ (run.status ≡ 8)
     ⊎ ((run.status ≡ 5) × (asked : PlanWords) × SaysPlan run.words asked

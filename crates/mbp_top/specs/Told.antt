@@ -1,15 +1,14 @@
 -- What the words and the files alone decide. `held` is what the shelf tells of each name.
 use Rattle.std.specs.Prelude.{◌≡◌, ◌≢◌, ℕ, ◌⊎◌, List, Contains}
-use Rattle.plan_io.specs.Counts.{Rose}
 use Rattle.plan_io.specs.Held.{Held, Untold}
-use Rattle.mbp_top.specs.Answers.{Answer, refused, full, no_memory}
+use Rattle.command_base.specs.Answers.{Answer, refused, full, no_memory}
 use Rattle.mbp_top.specs.Causes.{HasCause}
-use Rattle.mbp_top.specs.DrillCommand.{MayDrillRunOut}
-use Rattle.mbp_top.specs.PlanCommand.{MayRunOut}
-use Rattle.mbp_top.specs.RefuteCommand.{MayRefuteRunOut}
-use Rattle.mbp_top.specs.ReplayCommand.{Tallies}
-use Rattle.mbp_top.specs.Words.{Bytes, Command, DrillWords, PlanWords, Says, SaysDrill, SaysPlan}
-use Rattle.mbp_top.specs.Words.{RefuteWords, SaysRefute, default_nodes, files_of}
+use Rattle.drill_command.specs.DrillCommand.{MayDrillRunOut}
+use Rattle.plan_command.specs.PlanCommand.{MayRunOut}
+use Rattle.refute_command.specs.RefuteCommand.{MayRefuteRunOut}
+use Rattle.replay_command.specs.ReplayCommand.{Tallies}
+use Rattle.command_base.specs.Words.{Bytes, Command, DrillWords, PlanWords, Says, SaysDrill}
+use Rattle.command_base.specs.Words.{SaysPlan, RefuteWords, SaysRefute, default_nodes, files_of}
 
 -- of each file that the words name, the shelf tells its bytes, or that there is none
 abbrev pub AreFilesTold : (Bytes → Held) → List Bytes → Type 0
@@ -38,7 +37,3 @@ MayStandIn held words given =
     × (given ≡ refused (full default_nodes)))
     ⊎ ((asked : RefuteWords) × SaysRefute words asked × MayRefuteRunOut held asked
     × (given ≡ refused (full asked.options.nodes)))
-
--- no fault came: the count of faults didn't rise
-abbrev pub NoFault : ℕ → ℕ → Type 0
-NoFault before now = Rose before now → ⊥

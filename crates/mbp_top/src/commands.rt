@@ -1,22 +1,22 @@
 //! From the words to the answer.
 
-ghost use Rattle.mbp_top.specs.Causes.{HasCause, IsQuietAt};
+ghost use Rattle.command_base.specs.Faults.{IsQuietAt};
+ghost use Rattle.command_base.specs.Values.{answer_of};
+ghost use Rattle.command_base.specs.Words.{Command as SaidCommand, SayNothing, Says};
+ghost use Rattle.mbp_top.specs.Causes.{HasCause};
 ghost use Rattle.mbp_top.specs.Fetching.{FetchesFiles};
-ghost use Rattle.mbp_top.specs.Values.{answer_of};
-ghost use Rattle.mbp_top.specs.Words.{Command as SaidCommand, SayNothing, Says};
 ghost use Rattle.plan_io.specs.Fetches.{FailedLast};
 ghost use Rattle.run_replay.specs.TraceTexts.{tallies_of};
 ghost use Rattle.std.specs.Prelude.{◌≡◌, ◌≤◌, All, List, map, string_bytes, ℕ};
 
-use crate::answers::{Refusal, Shown};
-use crate::check_command::check_files;
-use crate::drill_command::run_drill;
-use crate::ground_command::ground_files;
-use crate::plan_command::plan_files;
-use crate::refute_command::refute_files;
-use crate::replay_command::replay_files;
-use crate::words::{Command, read_words};
+use check_command::check_files;
+use command_base::{Command, Refusal, Shown, read_words};
+use drill_command::run_drill;
+use ground_command::ground_files;
+use plan_command::plan_files;
 use plan_io::Shelf;
+use refute_command::refute_files;
+use replay_command::replay_files;
 use run_replay::{Monitor, World};
 use std::alloc::Global;
 

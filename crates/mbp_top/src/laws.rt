@@ -26,31 +26,11 @@ ghost use Rattle.mbp_top.specs.Laws.{
   IsYes,
   OfRuns,
 };
-ghost use Rattle.mbp_top.specs.OneReading.{OneReading};
 
-use domain_read::domain_or_fault;
-use pddl_problem::one_answer;
-use plan_certs::{
-    accepted_certificates_mean_no_plan, certificate_or_fault, one_certificate, printed_where_none,
-};
-use plan_check::{one_verdict, yes_is_solution};
+use command_base::texts_are_read_one_way;
+use plan_certs::{accepted_certificates_mean_no_plan, printed_where_none};
+use plan_check::yes_is_solution;
 use plan_io::Shelf;
-use plan_rules::plan_or_fault;
-use sexpr_text::one_spelling;
-
-/// A text is read in one way.
-pub(crate) fn texts_are_read_one_way()
-    ensures { OneReading }
-{
-    // These do nothing: all rests on what they promise.
-    domain_or_fault();
-    one_answer();
-    one_spelling();
-    plan_or_fault();
-    one_verdict();
-    one_certificate();
-    certificate_or_fault();
-}
 
 /// Each status is one of ten.
 pub fn statuses_are_ten<S: Shelf>()

@@ -1,12 +1,12 @@
 //! A run: from the words to what is written.
 
-ghost use Rattle.mbp_top.specs.Delivery.{seen};
-ghost use Rattle.run_replay.specs.TraceTexts.{tallies_of};
+ghost use Rattle.command_base.specs.Delivery.{seen};
 ghost use Rattle.mbp_top.specs.Runs.{HasRun};
+ghost use Rattle.run_replay.specs.TraceTexts.{tallies_of};
 ghost use Rattle.std.specs.Prelude.{◌≡◌, All, map, string_bytes};
 
 use crate::commands::answer;
-use crate::delivery::deliver;
+use command_base::deliver;
 use plan_io::{Shelf, Sink};
 use run_replay::{Monitor, World};
 use std::alloc::Global;
@@ -24,7 +24,7 @@ pub(crate) fn carry_out<S: Shelf, O: Sink, E: Sink>(
     requires untold { All (λ monitor. (shown monitor).counted ≡ 0) monitors.old.items }
     ensures { HasRun S.held S.faults S.fetched (record {
       words = map string_bytes words.now;
-      tallies = tallies_of (map (λ monitor. shown monitor) monitors.old.items);
+      handed = tallies_of (map (λ monitor. shown monitor) monitors.old.items);
       shelf = shelf.old;
       shelf_after = shelf.new;
       out = seen (O.written out.old) (O.faults out.old);

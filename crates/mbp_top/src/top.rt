@@ -1,13 +1,20 @@
 //! The top call.
 
+ghost use Rattle.command_base.specs.Delivery.{seen};
+ghost use Rattle.command_base.specs.Faults.{NoFault};
+ghost use Rattle.command_base.specs.Following.{HasTooManyStates, most_followed};
+ghost use Rattle.command_base.specs.Grounding.{has_goal_for};
+ghost use Rattle.command_base.specs.PddlTexts.{HoldBoth, ReadAsBoth};
+ghost use Rattle.command_base.specs.PlanFiles.{HoldsPlan, is_of_kind};
+ghost use Rattle.command_base.specs.Words.{Bytes, CheckWords, PlanWords, SaysCheck, SaysPlan};
 ghost use Rattle.exec_graph.specs.Executions.{ReachesMoreThan};
-ghost use Rattle.mbp_top.specs.CheckCommand.{HasTooManyStates, most_followed};
-ghost use Rattle.mbp_top.specs.Delivery.{seen};
-ghost use Rattle.mbp_top.specs.Enough.{IsTightPlan};
-ghost use Rattle.mbp_top.specs.Grounding.{has_goal_for};
-ghost use Rattle.mbp_top.specs.Meets.{PlanMeets};
-ghost use Rattle.mbp_top.specs.PddlTexts.{HoldBoth, ReadAsBoth};
-ghost use Rattle.mbp_top.specs.PlanCommand.{
+ghost use Rattle.mbp_top.specs.Runs.{HasRun};
+ghost use Rattle.mbp_top.specs.Told.{AreFilesTold};
+ghost use Rattle.pddl_ast.specs.Trees.{DomainTree, ProblemTree};
+ghost use Rattle.pddl_system.specs.Sizes.{first_passed};
+ghost use Rattle.pddl_system.specs.Systems.{action_names, fluent_names, system};
+ghost use Rattle.plan_command.specs.Enough.{IsTightPlan};
+ghost use Rattle.plan_command.specs.PlanCommand.{
   HasNoPlan,
   IsGoodText,
   IsNoPlanText,
@@ -15,20 +22,14 @@ ghost use Rattle.mbp_top.specs.PlanCommand.{
   IsTextPrinted,
   is_sought,
 };
-ghost use Rattle.mbp_top.specs.PlanFiles.{HoldsPlan, is_of_kind};
-ghost use Rattle.run_replay.specs.TraceTexts.{tallies_of};
-ghost use Rattle.mbp_top.specs.Runs.{HasRun};
-ghost use Rattle.mbp_top.specs.Told.{AreFilesTold, NoFault};
-ghost use Rattle.mbp_top.specs.Words.{Bytes, CheckWords, PlanWords, SaysCheck, SaysPlan};
-ghost use Rattle.pddl_ast.specs.Trees.{DomainTree, ProblemTree};
-ghost use Rattle.pddl_system.specs.Sizes.{first_passed};
-ghost use Rattle.pddl_system.specs.Systems.{action_names, fluent_names, system};
+ghost use Rattle.plan_meets.specs.Meets.{PlanMeets};
 ghost use Rattle.plan_rules.specs.Rules.{PlainPlan};
+ghost use Rattle.run_replay.specs.TraceTexts.{tallies_of};
 ghost use Rattle.std.specs.Io.KnownBytes.{append_known};
 ghost use Rattle.std.specs.Prelude.{◌≡◌, ◌≢◌, ◌⊎◌, [], All, None, map, string_bytes, true};
 
-use crate::laws::texts_are_read_one_way;
 use crate::runs::carry_out;
+use command_base::texts_are_read_one_way;
 use plan_check::yes_is_solution;
 use plan_io::{Shelf, Sink};
 use run_replay::{Monitor, World};
@@ -94,7 +95,7 @@ pub fn run<S: Shelf, O: Sink, E: Sink>(
     // what stays.
     ensures answered { HasRun S.held S.faults S.fetched (record {
       words = map string_bytes words.now;
-      tallies = tallies_of (map (λ monitor. shown monitor) monitors.items);
+      handed = tallies_of (map (λ monitor. shown monitor) monitors.items);
       shelf = shelf.old;
       shelf_after = shelf.new;
       out = seen (O.written out.old) (O.faults out.old);

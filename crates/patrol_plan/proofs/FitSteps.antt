@@ -15,7 +15,7 @@ use Rattle.plan_theory.specs.UntilChains.{SetStage, UntilSets, guarded_from, unt
 use Rattle.plan_theory.specs.LayerPlans.{is_action}
 use Rattle.plan_theory.specs.Safe.{safe_action, safe_round, safe_set}
 use Rattle.plan_theory.specs.StageSets.{near, stage_action}
-use Rattle.plan_theory.proofs.Shrinking.{same_truth}
+use Rattle.list_laws.proofs.Booleans.{same_truth}
 use Rattle.task_core.specs.Cubes.{SetOfVectors}
 use Rattle.task_core.specs.Systems.{System}
 use Rattle.task_core.specs.Tasks.{action_count, fluent_count}
@@ -118,8 +118,8 @@ module _ (start : Start) (chain : UntilChain) (long : start.stages ≡ length ch
       space = of_set anywhere (space_set start.task) (space_set start.task) all_states itself;
       kept = kept_fits;
       near = near_fits;
-      taken = λ i k a less below. wide.small _ (taken i k a (omega (arith, long)) below);
-      last = λ a below. wide.small _ (taken_last a below);
+      taken = λ i k a covered less below. wide.small _ (taken i k a covered (omega (arith, long)) below);
+      last = λ a covered below. wide.small _ (taken_last a covered below);
       turning = turning_fits;
       later = later_fits;
     };
@@ -178,7 +178,7 @@ stage_climbs start x chain i less h =
           sym (ap (λ b. b || (near (sys_in inside) found k v && is_action a (stage_action (sys_in inside) found v))) (h.untaken i a (omega arith) (omega arith) below v is)
           ∙ ap (λ b. b && is_action a (stage_action (sys_in inside) found v)) (near_as start guard found (met_in sys chain i) back k v is)
           ∙ ap (λ o. near_in sys chain i k v && is_action a o) (action_as start guard found (met_in sys chain i) back v is)))
-          (h.fits.taken i k a less below);
+          (h.fits.taken i k a h.covered less below);
     }
 
 -- and where those of the last one do
@@ -201,7 +201,7 @@ end_shares start x chain long h =
     (λ v is.
     ap (λ b. b && is_action a (safe_action sys chain.keep v)) (safe v is)
     ∙ ap (λ o. won v && is_action a o) (sym (first_anywhere sys (safe_set sys chain.keep) v) ∙ first_same inside (safe_set sys chain.keep) won safe v is))
-    (h.fits.last a below) in
+    (h.fits.last a h.covered below) in
     record {
       lead = λ a below. round.lead a below;
       first = first;

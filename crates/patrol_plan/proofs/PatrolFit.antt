@@ -58,7 +58,7 @@ module _ (start : Start) (conds : List Cond) (wide : IsWide start.width start.ta
         (λ v is. sym (near_inside sys (round_of start conds r) (made_in start conds r i) k v))
         (round_fits (round_of start conds r) (near_visit_in sys visits r i k) (near_visit r i k (let e = length-map conds states_of in omega arith)));
     first = λ r j few. wide.small _ (first_visits r j few);
-    taken = λ i k a less below. wide.small _ (taken i k a less below);
+    taken = λ i k a covered less below. wide.small _ (taken i k a covered less below);
   }
 
 -- by a large width every set is small

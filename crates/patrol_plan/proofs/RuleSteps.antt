@@ -15,7 +15,7 @@ use Rattle.patrol_plan.proofs.SetSteps.{cubes_agree}
 use Rattle.plan_theory.specs.ContextRules.{action_rules, next_rules, rules_in_context}
 use Rattle.plan_theory.specs.UntilChains.{SetStage, UntilSets, covers_until, guarded_from, until_advance, until_met_count, until_win, until_win_at}
 use Rattle.plan_theory.specs.UntilPrinted.{until_nexts, until_rules, until_states, until_towards}
-use Rattle.plan_theory.proofs.Shrinking.{same_truth}
+use Rattle.list_laws.proofs.Booleans.{same_truth}
 use Rattle.plan_rules.specs.Rules.{ContextRule}
 use Rattle.plan_theory.specs.LayerPlans.{is_action}
 use Rattle.task_core.specs.Cubes.{SetOfVectors}
@@ -48,6 +48,7 @@ pub has_beside : (start : Start) (x y : Scene) (chain : UntilSets) (i : ℕ) →
 has_beside start x y chain i h w = record {
   ready = w.ready;
   fits = h.fits;
+  covered = h.covered;
   won = record {
     wins = λ j from to v is. ap (λ (f : SetOfVectors). f v) (early (win_place j) (omega arith) (omega arith)) ∙ h.won.wins j from to v is;
     mets = λ j from less v is. ap (λ (f : SetOfVectors). f v) (early (met_place j) (omega arith) (omega arith)) ∙ h.won.mets j from less v is;

@@ -4,7 +4,7 @@ use Rattle.std.specs.Prelude.{nat_le}
 use Rattle.std.proofs.Math.Seq.{drop-drop}
 use Rattle.std.proofs.lemmas.Bool.{and_from, and_parts, eq-eqb, eqb-true, false≢true, false_from_ne_true, le-leb, leb-true, cases_lt}
 use Rattle.plan_theory.specs.UntilChains.{SetStage, UntilSets, until_met_count, until_win}
-use Rattle.plan_theory.proofs.Shrinking.{same_truth}
+use Rattle.list_laws.proofs.Booleans.{same_truth}
 use Rattle.plan_theory.proofs.UntilTowards.{earlier-met, met_count-few, met_count-more, win-unmet}
 use Rattle.task_core.specs.Cubes.{SetOfVectors}
 use Rattle.task_core.specs.Systems.{System}

@@ -1,8 +1,8 @@
 -- The states that take each action: of one context more.
-use Rattle.std.proofs.Common.{◌≡◌, ◌≢◌, ℕ, suc, ◌+◌, ◌*◌, ◌<◌, ◌≤◌, false, ◌&&◌, ◌||◌, List, [], ◌∷◌, drop, length, sym, ap, subst, ◌∙◌, inl, inr, ◌⊎◌, ⊎_elim, arith, mul-le-mul_right, slice_index_or}
+use Rattle.std.proofs.Common.{◌≡◌, ◌≢◌, ℕ, suc, ◌+◌, ◌*◌, ◌<◌, ◌≤◌, true, false, ◌&&◌, ◌||◌, List, [], ◌∷◌, drop, length, sym, ap, subst, ◌∙◌, inl, inr, ◌⊎◌, ⊎_elim, arith, mul-le-mul_right, slice_index_or}
 use Rattle.std.proofs.lemmas.Bool.{cases_eq, cases_lt}
 use Rattle.std.specs.List.{find}
-use Rattle.plan_theory.specs.UntilChains.{SetStage, UntilSets, until_met, until_win}
+use Rattle.plan_theory.specs.UntilChains.{SetStage, UntilSets, covers_until, until_met, until_win}
 use Rattle.plan_theory.specs.Safe.{safe_set}
 use Rattle.plan_theory.specs.GuardedSets.{guarded_set}
 use Rattle.plan_theory.specs.StageSets.{near, stage_action, stage_set}
@@ -135,6 +135,7 @@ module _ (start : Start) (x y : Scene) (chain : UntilSets) (i : ℕ) (few : i �
   takers_more here = record {
     ready = changed.ready;
     fits = h.fits;
+    covered = h.covered;
     won = won_still;
     last = last_still;
     taken = λ j a less low below.
@@ -187,10 +188,11 @@ last_taken start x y chain long h c =
     ∙ ap (λ (stages : List SetStage). states_at x (t + a) v || takers_of sys chain.keep stages a v) (sym is_end))
 
 -- at the beginning none is taken
-pub takers_none : (start : Start) (x y : Scene) (chain : UntilSets) → UntilFits start chain → ((k : ℕ) → 8 ≤ k → k < length x.1 → SameStates start (states_at x k) (λ v. false)) → length y.1 ≡ length x.1 → HasWins start x y chain 0 → HasTakers start y chain 0
-takers_none start x y chain fits blank same h = record {
+pub takers_none : (start : Start) (x y : Scene) (chain : UntilSets) → UntilFits start chain → ((k : ℕ) → 8 ≤ k → k < length x.1 → SameStates start (states_at x k) (λ v. false)) → length y.1 ≡ length x.1 → HasWins start x y chain 0 → covers_until (sys_of start) chain ≡ true → HasTakers start y chain 0
+takers_none start x y chain fits blank same h covered = record {
   ready = h.changed.ready;
   fits = fits;
+  covered = covered;
   won = h.won;
   last = λ v is.
       let w = long_enough start y h.changed.ready.at (met_place start.stages) (omega arith) in

@@ -14,7 +14,7 @@ use Rattle.plan_theory.proofs.PatrolSets.{near_inside, near_stays, patrol_set-la
 use Rattle.plan_theory.specs.GuardedSets.{guarded_action, guarded_near}
 use Rattle.plan_theory.specs.LayerPlans.{is_action}
 use Rattle.plan_theory.specs.Layers.{action_numbers, must_lead}
-use Rattle.plan_theory.specs.Patrols.{patrol_set, visit_near, visit_set, visited}
+use Rattle.plan_theory.specs.Patrols.{covers_patrol, patrol_set, visit_near, visit_set, visited}
 use Rattle.plan_theory.specs.PatrolPrinted.{patrol_action, visit_in}
 use Rattle.plan_theory.specs.Safe.{some_must_lead}
 use Rattle.plan_theory.specs.StageSets.{near, stage_action}
@@ -170,10 +170,10 @@ module _ (start : Start) (conds : List Cond) (x : Scene) (i : ℕ) (less : i < s
       none true e = ap (λ o. made v && is_action a o) (no_action-met (sys_of start) all made v e) ∙ and_none (made v)
       none false e = ap (λ b. b && is_action a (guarded_action (sys_of start) all made v)) e
 
-  first_small : (a : ℕ) → a < A → IsSmall start (first_lead (sys_in inside) (states_at x 8) (states_at x (visit_place i)) a)
-  first_small a below =
+  first_small : covers_patrol (sys_of start) (visit_sets conds) ≡ true → (a : ℕ) → a < A → IsSmall start (first_lead (sys_in inside) (states_at x 8) (states_at x (visit_place i)) a)
+  first_small covered a below =
       small_same start (visit_taken_in (sys_of start) (visit_sets conds) i 0 a) (first_lead (sys_in inside) (states_at x 8) (states_at x (visit_place i)) a)
-      (λ v is. sym (first_is a v is ∙ near_none a v)) (h.fits.taken i 0 a few below)
+      (λ v is. sym (first_is a v is ∙ near_none a v)) (h.fits.taken i 0 a covered few below)
 
   among : (v : Vector) → made v ≡ true → all v ≡ true
   among v e = (and_parts (all v) _ e).0
@@ -196,14 +196,14 @@ module _ (start : Start) (conds : List Cond) (x : Scene) (i : ℕ) (less : i < s
       without (set u) (states_at x 8 u) (led u) (λ e. h.left u at ∙ among u (sym (h.mets i less u at) ∙ e)))
       (difference_rough m start.width (function_of m set) (function_of m (turn_by Shrinking (sys_in inside) (states_at x 8) n)) small (near_round.turned Shrinking n most))
 
-  pub visit_shares : ShareFits inside (states_at x 8) (states_at x (visit_place i)) (λ k. states_at x (t + k))
-  visit_shares = record {
+  pub visit_shares : covers_patrol (sys_of start) (visit_sets conds) ≡ true → ShareFits inside (states_at x 8) (states_at x (visit_place i)) (λ k. states_at x (t + k))
+  visit_shares covered = record {
     lead = λ a below. lead_same inside a all (states_at x 8) (same_back start (states_at x 8) all h.left) (round.lead a below);
-    first = first_small;
+    first = first_small covered;
     taken = λ a below.
         small_same start (first_lead (sys_in inside) (states_at x 8) (states_at x (visit_place i)) a) (λ v. states_at x (t + a) v || first_lead (sys_in inside) (states_at x 8) (states_at x (visit_place i)) a v)
         (λ v is. ap (λ b. b || first_lead (sys_in inside) (states_at x 8) (states_at x (visit_place i)) a v) (sym (h.untaken i a (omega arith) less below v is)))
-        (first_small a below);
+        (first_small covered a below);
     left = rest_rough;
   }
 
@@ -237,15 +237,15 @@ module _ (start : Start) (conds : List Cond) (x : Scene) (i : ℕ) (less : i < s
         ∙ ap (λ o. (made v && is_action a (find (must_lead (sys_in inside) all v) (action_numbers (sys_of start)))) || (guarded_near (sys_of start) all made k v && is_action a o)) (action_as start all found made met_still v is)
         ∙ taken_near (sys_of start) ok (visit_sets conds) i a k v
 
-    pub visit_climbs : ClimbsFit inside (states_at m (visit_place i)) (λ k. states_at m (t + k))
-    visit_climbs = record {
+    pub visit_climbs : covers_patrol (sys_of start) (visit_sets conds) ≡ true → ClimbsFit inside (states_at m (visit_place i)) (λ k. states_at m (t + k))
+    visit_climbs covered = record {
       rounds = λ k.
           round_fits_same inside (near (sys_in inside) made k) (near (sys_in inside) (states_at m (visit_place i)) k)
           (near_same inside made (states_at m (visit_place i)) (same_back start (states_at m (visit_place i)) made met_still) k)
           (h.fits.near (2 ^ fluent_count start.task) i few k);
       taken = λ k a below.
           small_same start (visit_taken_in (sys_of start) (visit_sets conds) i k a) _
-          (λ v is. sym (reached k a below v is)) (h.fits.taken i k a few below);
+          (λ v is. sym (reached k a below v is)) (h.fits.taken i k a covered few below);
     }
 
     pub visit_taken : (y : Scene) → Climbed inside m y (visit_place i) t → HasPatrol start conds y (suc i)

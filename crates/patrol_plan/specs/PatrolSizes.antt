@@ -1,7 +1,7 @@
 -- Private: that what the parts of a search for a patrol goal make is small, by the width of its start.
 -- Rounds and visits are counted from 0.
-use Rattle.std.specs.Prelude.{ℕ, ◌<◌, ◌≤◌, Contains, List, length}
-use Rattle.plan_theory.specs.Patrols.{patrol_round, visited}
+use Rattle.std.specs.Prelude.{◌≡◌, ℕ, ◌<◌, ◌≤◌, true, Contains, List, length}
+use Rattle.plan_theory.specs.Patrols.{covers_patrol, patrol_round, visited}
 use Rattle.encode_task.specs.TaskSets.{initial_set, space_set}
 use Rattle.slot_board.specs.Board as board
 use Rattle.task_core.specs.Cubes.{SetOfVectors}
@@ -36,5 +36,6 @@ pub record PatrolFits (start : Start) (conds : List Cond) : Type 0 where
       → TurnsFit Growing (within_round start conds r) (made_in start conds r i)
   pub first : (r j : ℕ) → j ≤ length conds
       → IsSmall start (first_visits_in (sys_of start) (visit_sets conds) r j)
-  pub taken : (i k a : ℕ) → i < length conds → a < action_count start.task
+  pub taken : (i k a : ℕ) → covers_patrol (sys_of start) (visit_sets conds) ≡ true
+      → i < length conds → a < action_count start.task
       → IsSmall start (visit_taken_in (sys_of start) (visit_sets conds) i k a)

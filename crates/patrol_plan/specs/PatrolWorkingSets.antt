@@ -1,11 +1,11 @@
 -- The sets of states that a search for a patrol goal's plan makes: if each of them has a small
 -- diagram, few nodes are enough, however many fluents there are. Rounds and visits are counted from
 -- 0 here.
-use Rattle.std.specs.Prelude.{ℕ, suc, ◌+◌, ◌<◌, ◌≤◌, false, ◌&&◌, List, Contains, get_or, length}
+use Rattle.std.specs.Prelude.{◌≡◌, ℕ, suc, ◌+◌, ◌<◌, ◌≤◌, true, false, ◌&&◌, List, Contains, get_or, length}
 use Rattle.std.specs.Prelude.{take}
 use Rattle.std.specs.List.{list_all}
 use Rattle.plan_theory.specs.LayerPlans.{is_action}
-use Rattle.plan_theory.specs.Patrols.{patrol_round, patrol_set, visit_near, visit_set}
+use Rattle.plan_theory.specs.Patrols.{covers_patrol, patrol_round, patrol_set, visit_near, visit_set}
 use Rattle.plan_theory.specs.PatrolPrinted.{patrol_action}
 use Rattle.dd_nodes.specs.Subfunctions.{Function}
 use Rattle.dd_sets.specs.Rooms.{Small}
@@ -53,7 +53,8 @@ pub data IsRoundSet (task : Task) (visits : List SetOfVectors)
       (function_of (fluent_count task) (near_visit_in (system_of task) visits r i k))
 
 -- all the sets: those of the task, the parts of the conditions, those of the round sets, the states
--- from which each of the first visits can be made, and those to which an action is given
+-- from which each of the first visits can be made, and where there is a plan, those to which it gives
+-- an action. Past the steps that it takes to make a visit the last ones stay the same
 pub data IsWorkingSet (task : Task) (conds : List Cond) : Function → Type 0 where
   of_task : (set : Function) → IsMadeByEncode task set → IsWorkingSet task conds set
   of_visit : (cond : Cond) (set : Function) → Contains conds cond → IsPartOf cond set
@@ -63,7 +64,8 @@ pub data IsWorkingSet (task : Task) (conds : List Cond) : Function → Type 0 wh
   first_visits : (r j : ℕ) → j ≤ length conds → IsWorkingSet task conds
       (function_of (fluent_count task)
       (first_visits_in (system_of task) (visit_sets conds) r j))
-  taken : (i k a : ℕ) → i < length conds → a < action_count task → IsWorkingSet task conds
+  taken : (i k a : ℕ) → covers_patrol (system_of task) (visit_sets conds) ≡ true
+      → i < length conds → a < action_count task → IsWorkingSet task conds
       (function_of (fluent_count task)
       (visit_taken_in (system_of task) (visit_sets conds) i k a))
 

@@ -1,7 +1,7 @@
 -- Private: that what the parts of a search make is small, or rough, by the width of its start.
-use Rattle.std.specs.Prelude.{ℕ, ◌<◌, ◌≤◌, ◌||◌, ◌&&◌, not, Contains}
+use Rattle.std.specs.Prelude.{◌≡◌, ℕ, ◌<◌, ◌≤◌, ◌||◌, ◌&&◌, not, true, Contains}
 use Rattle.std.specs.List.{list_any, range_with_len}
-use Rattle.plan_theory.specs.UntilChains.{UntilSets}
+use Rattle.plan_theory.specs.UntilChains.{UntilSets, covers_until}
 use Rattle.plan_theory.specs.Layers.{must_lead}
 use Rattle.plan_theory.specs.LayerPlans.{is_action}
 use Rattle.plan_theory.specs.StageSets.{near as near_within, stage_action}
@@ -115,9 +115,10 @@ pub record UntilFits (start : Start) (chain : UntilSets) : Type 0 where
   pub kept : TurnsFit Shrinking (guarded start anywhere) (kept_states (sys_of start) chain.keep)
   pub near : (i : ℕ) → i < start.stages
       → TurnsFit Growing (guarded start (guard_in chain i)) (met_in (sys_of start) chain i)
-  pub taken : (i k a : ℕ) → i < start.stages → a < action_count start.task
+  pub taken : (i k a : ℕ) → covers_until (sys_of start) chain ≡ true → i < start.stages
+      → a < action_count start.task
       → IsSmall start (taken_within (sys_of start) chain i k a)
-  pub last : (a : ℕ) → a < action_count start.task
+  pub last : (a : ℕ) → covers_until (sys_of start) chain ≡ true → a < action_count start.task
       → IsSmall start (taken_at_end (sys_of start) chain a)
   pub turning : (c j : ℕ) → c ≤ j → j ≤ start.stages
       → IsSmall start (turning_at (sys_of start) chain c j)

@@ -6,7 +6,7 @@ use Rattle.std.specs.Prelude.{◌≡◌, ◌≢◌, ℕ, suc, ◌+◌, ◌*◌, 
 use Rattle.std.specs.Prelude.{List, drop, length}
 use Rattle.std.specs.List.{list_any, range_with_len}
 use Rattle.plan_theory.specs.GuardedSets.{guarded_set}
-use Rattle.plan_theory.specs.UntilChains.{SetStage, UntilSets, until_win}
+use Rattle.plan_theory.specs.UntilChains.{SetStage, UntilSets, covers_until, until_win}
 use Rattle.plan_theory.specs.UntilPrinted.{until_towards}
 use Rattle.plan_theory.specs.Safe.{safe_set}
 use Rattle.plan_theory.specs.StageSets.{near as near_within, stage_action, stage_set}
@@ -194,10 +194,12 @@ takers_of sys keep stages a v =
     until_win sys keep stages v && is_action a (until_towards sys keep stages v)
 
 -- the board has the states of all contexts, and where all stages are met; and of the first i
--- contexts the states that take each action; and what the search makes is small
+-- contexts the states that take each action; and what the search makes is small, and each initial
+-- state is one of the first context
 pub record HasTakers (start : Start) (x : Scene) (chain : UntilSets) (i : ℕ) : Type 0 where
   pub ready : IsReady start x
   pub fits : UntilFits start chain
+  pub covered : covers_until (sys_of start) chain ≡ true
   pub won : Won start x chain 0
   pub last : SameStates start (states_at x (met_place start.stages)) (λ v. false)
   pub taken : (j a : ℕ) → j < i → j ≤ start.stages → a < action_count start.task

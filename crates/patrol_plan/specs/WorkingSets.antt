@@ -1,12 +1,12 @@
 -- The sets of states that a search for an until-chain's plan makes: if each of them has a small
 -- diagram, few nodes are enough, however many fluents there are.
-use Rattle.std.specs.Prelude.{ℕ, suc, ◌+◌, ◌<◌, ◌≤◌, ◌==◌, false, ◌&&◌, List, [], ◌∷◌, drop}
+use Rattle.std.specs.Prelude.{◌≡◌, ℕ, suc, ◌+◌, ◌<◌, ◌≤◌, ◌==◌, true, false, ◌&&◌, List, [], ◌∷◌, drop}
 use Rattle.std.specs.Prelude.{Contains, length, nat_le}
 use Rattle.plan_theory.specs.GuardedSets.{guarded_action, guarded_near}
 use Rattle.plan_theory.specs.LayerPlans.{is_action}
 use Rattle.plan_theory.specs.Safe.{safe_action, safe_round, safe_set}
-use Rattle.plan_theory.specs.UntilChains.{SetStage, UntilSets, until_advance, until_met}
-use Rattle.plan_theory.specs.UntilChains.{until_win_at}
+use Rattle.plan_theory.specs.UntilChains.{SetStage, UntilSets, covers_until, until_advance}
+use Rattle.plan_theory.specs.UntilChains.{until_met, until_win_at}
 use Rattle.ctl_syntax.specs.declared.context_goals.UntilChain.{UntilChain}
 use Rattle.ctl_syntax.specs.declared.context_goals.UntilStage.{UntilStage}
 use Rattle.dd_nodes.specs.Subfunctions.{Function}
@@ -92,8 +92,9 @@ pub data IsRoundSet (task : Task) (chain : UntilSets) : SetOfVectors → Functio
       (near_in (system_of task) chain i k))
 
 -- all the sets: those of the task, the parts of the until-chain's conditions, those of the round
--- sets, the states to which an action is given, and the states of each context by the stage that
--- they turn to
+-- sets, where there is a plan, the states to which it gives an action, and the states of each context
+-- by the stage that they turn to. Past the steps that the plan takes to meet a stage the states to
+-- which it gives an action towards it stay the same
 pub data IsWorkingSet (task : Task) (chain : UntilChain) : Function → Type 0 where
   of_task : (set : Function) → IsMadeByEncode task set → IsWorkingSet task chain set
   of_guard : (stage : UntilStage) (set : Function) → Contains chain.stages.items stage
@@ -103,10 +104,12 @@ pub data IsWorkingSet (task : Task) (chain : UntilChain) : Function → Type 0 w
   of_keep : (set : Function) → IsPartOf chain.keep set → IsWorkingSet task chain set
   of_round : (set : Function) → IsMadeInside task (IsRoundSet task (until_sets chain)) set
       → IsWorkingSet task chain set
-  taken : (i k a : ℕ) → i < length chain.stages.items → a < action_count task
+  taken : (i k a : ℕ) → covers_until (system_of task) (until_sets chain) ≡ true
+      → i < length chain.stages.items → a < action_count task
       → IsWorkingSet task chain (function_of (fluent_count task)
       (taken_within (system_of task) (until_sets chain) i k a))
-  taken_last : (a : ℕ) → a < action_count task → IsWorkingSet task chain
+  taken_last : (a : ℕ) → covers_until (system_of task) (until_sets chain) ≡ true
+      → a < action_count task → IsWorkingSet task chain
       (function_of (fluent_count task) (taken_at_end (system_of task) (until_sets chain) a))
   turned : (c j : ℕ) → 1 ≤ c → c ≤ j → j ≤ suc (length chain.stages.items)
       → IsWorkingSet task chain (function_of (fluent_count task)

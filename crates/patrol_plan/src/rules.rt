@@ -62,7 +62,7 @@ pub(crate) fn list_at(
         ≡ map context_rule_of rules.old.items ++ rules_for (fluent_count start.task) context next
         action.0 (states_at (enc.now, board.now.slots.items) place)) }
 {
-    match board.cubes(enc, place) {
+    match board.only_cubes(enc, place) {
         Ok(cubes) => match add_rules(rules, context, next, action, cubes) {
             Ok(()) => Ok(()),
             Err(_) => Err(SetErr::Memory),

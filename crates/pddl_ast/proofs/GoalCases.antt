@@ -9,7 +9,7 @@ use Rattle.pddl_ast.specs.declared.goal_words.GoalWord.TheVariants.{Unary, Binar
 use Rattle.pddl_ast.specs.Known.{Known}
 use Rattle.pddl_ast.specs.Atoms.{count}
 use Rattle.pddl_ast.specs.Formulas.{bad_list}
-use Rattle.pddl_ast.specs.Goals.{read_as, plain_flaws, quantified_flaws, temporals_flaws, temporal_flaws, plain_of, first_temporal, second_temporal, temporals_of, temporal_of}
+use Rattle.pddl_ast.specs.Goals.{read_as, plain_flaws, quantified_flaws, temporals_flaws, temporal_flaws, formula_goal, first_temporal, second_temporal, temporals_of, temporal_of}
 use Rattle.pddl_ast.specs.Trees.{TemporalTree, goal_negation, all_goals, any_goal, goal_implication, unary, binary, temporal_row}
 
 -- what holds of each case of a goal holds of the goal
@@ -22,8 +22,8 @@ pub temporal_cases : (P : List Flaw → TemporalTree → Type 0) (known : Known)
     → P (if count parts == 1 then temporals_flaws known parts else bad_list span) (goal_negation (first_temporal (temporals_of known parts)))
     → P (if count parts == 2 then temporals_flaws known parts else bad_list span)
     (goal_implication (first_temporal (temporals_of known parts)) (second_temporal (temporals_of known parts)))
-    → P (quantified_flaws known (word head w parts) parts span) (plain_of known (word head w parts))
-    → P (plain_flaws known (word head w parts) span) (plain_of known (word head w parts))
+    → P (quantified_flaws known (word head w parts) parts span) (formula_goal known (word head w parts))
+    → P (plain_flaws known (word head w parts) span) (formula_goal known (word head w parts))
     → P (temporal_flaws known (word head w parts) span) (temporal_of known (word head w parts))
 temporal_cases P known span head w parts p_unary p_binary p_all p_any p_not p_imply p_quantifier p_plain =
     elim (read_as w parts) as (λ k. P
@@ -44,8 +44,8 @@ temporal_cases P known span head w parts p_unary p_binary p_all p_any p_not p_im
       | Or ↦ any_goal (temporal_row (temporals_of known parts))
       | Not ↦ goal_negation (first_temporal (temporals_of known parts))
       | Imply ↦ goal_implication (first_temporal (temporals_of known parts)) (second_temporal (temporals_of known parts))
-      | Quantifier ↦ plain_of known (word head w parts)
-      | Plain ↦ plain_of known (word head w parts)
+      | Quantifier ↦ formula_goal known (word head w parts)
+      | Plain ↦ formula_goal known (word head w parts)
     ])) [
       | Unary operator ↦ p_unary operator
       | Binary operator ↦ p_binary operator

@@ -10,7 +10,7 @@ use Rattle.pddl_ast.specs.Known.{Known}
 use Rattle.pddl_ast.specs.Trees.{TemporalTree, temporal_row}
 use Rattle.pddl_ast.specs.Atoms.{count}
 use Rattle.pddl_ast.specs.Formulas.{bad_list, formula_of}
-use Rattle.pddl_ast.specs.Goals.{quantifies_operator, plain_flaws, plain_of, first_temporal, second_temporal, temporals_flaws, temporals_of, temporal_flaws, temporal_of}
+use Rattle.pddl_ast.specs.Goals.{quantifies_operator, plain_flaws, formula_goal, first_temporal, second_temporal, temporals_flaws, temporals_of, temporal_flaws, temporal_of}
 use Rattle.pddl_ast.specs.Depth.{formula_depth, temporal_depth, temporals_depth}
 use Rattle.pddl_ast.specs.Fits.{IsKnown, FitsTemporal, FitsTemporals}
 use Rattle.pddl_ast.proofs.Fitting.{no_first, no_second, where_true, where_false, same_number}
@@ -37,7 +37,7 @@ two-at known d (f ∷ []) (h, g, e) = absurd (omega arith)
 two-at known d (f ∷ (g ∷ gs)) (h, k, e) = ((h.0, omega arith), (h.1.0, omega arith))
 
 -- a formula of a goal
-plain-fits : (known : Known) (parts : Forest) (span : Span) → IsKnown known → plain_flaws known parts span ≡ [] → GoalAt known (2 + nesting_of parts) (plain_of known parts)
+plain-fits : (known : Known) (parts : Forest) (span : Span) → IsKnown known → plain_flaws known parts span ≡ [] → GoalAt known (2 + nesting_of parts) (formula_goal known parts)
 plain-fits known parts span ok h =
     let f = formula-fits known parts span [] ok h in
     let d : formula_depth (formula_of known parts []) ≤ 1 + nesting_of parts = f.1 in

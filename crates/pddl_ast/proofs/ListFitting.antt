@@ -17,6 +17,7 @@ use Rattle.pddl_ast.specs.Fits.{AreDistinct}
 use Rattle.pddl_ast.proofs.Distinct.{other_way, or-first, or-both}
 use Rattle.pddl_ast.proofs.Fitting.{no_first, no_second, where_true}
 use Rattle.pddl_ast.proofs.Pending.{all_seen_push}
+use Rattle.list_laws.proofs.Booleans.{and_second}
 
 distinct_push : (names : List (List ℕ)) (n : List ℕ) → AreDistinct names → list_any (bytes_eq n) names ≡ false → AreDistinct (names ++ n ∷ [])
 distinct_push [] n d h = (refl, tt {0})
@@ -61,10 +62,6 @@ all_seen_append declares (n ∷ names) others seen = all_seen_append declares na
 -- what holds of the groups of a list
 abbrev Fine : Declares → List (List ℕ) → List Group → Type 0
 Fine declares before gs = AreDistinct (all_seen declares (names_of gs) before) × All (λ name. is_wanted declares name ≡ true) (names_of gs)
-
-and_second : (a b : Bool) → (a && b) ≡ true → b ≡ true
-and_second true b h = h
-and_second false b h = cc
 
 mutual
   pub names-fine : (declares : Declares) (types : List (List ℕ)) (list : Forest) (seen before pending : List (List ℕ)) (named : Bool)

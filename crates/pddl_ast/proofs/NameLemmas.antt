@@ -15,7 +15,7 @@ use Rattle.pddl_ast.specs.Known.{number_in, number_from_inside, variable_number}
 abbrev pub items_of : List (Vec ℕ Global) → List (List ℕ)
 items_of keys = map (λ (k : Vec ℕ Global). k.items) keys
 
-abbrev spelled : List ℕ → Vec ℕ Global → Bool
+abbrev pub spelled : List ℕ → Vec ℕ Global → Bool
 spelled name = λ k. bytes_eq name k.items
 
 pub any_name : (name : List ℕ) (keys : List (Vec ℕ Global)) → list_any (spelled name) keys ≡ list_any (bytes_eq name) (items_of keys)

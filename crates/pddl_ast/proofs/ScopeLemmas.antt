@@ -12,10 +12,7 @@ use Rattle.indexmap.proofs.ReorderLemmas.{map-reverse}
 use Rattle.pddl_ast.specs.Known.{number_from_inside, variable_number}
 use Rattle.pddl_ast.specs.Scopes.{Table, table_entry, meaning, names_in, KnowHidden, Tells}
 use Rattle.pddl_ast.specs.declared.scope.Variable.{Variable}
-use Rattle.pddl_ast.proofs.NameLemmas.{variable_push}
-
-abbrev spelled : List ℕ → Vec ℕ Global → Bool
-spelled name = λ k. bytes_eq name k.items
+use Rattle.pddl_ast.proofs.NameLemmas.{variable_push, spelled}
 
 same : (xs ys : List ℕ) → bytes_eq xs ys ≡ true → xs ≡ ys
 same xs ys h = (bytes_eq-Decides xs ys).0 h

@@ -79,8 +79,8 @@ abbrev mutual
   ]
 
 -- the tree of a formula of a goal, the list with these parts
-abbrev pub plain_of : Known → Forest → TemporalTree
-plain_of known parts = state_formula (formula_of known parts [])
+abbrev pub formula_goal : Known → Forest → TemporalTree
+formula_goal known parts = state_formula (formula_of known parts [])
 
 -- the first and the second of a row of goals
 abbrev pub first_temporal : List TemporalTree → TemporalTree
@@ -100,8 +100,8 @@ abbrev mutual
 
   -- the tree of the goal that the list with these parts is
   pub temporal_of : Known → Forest → TemporalTree
-  temporal_of known nothing = plain_of known nothing
-  temporal_of known (group inner parts rest) = plain_of known (group inner parts rest)
+  temporal_of known nothing = formula_goal known nothing
+  temporal_of known (group inner parts rest) = formula_goal known (group inner parts rest)
   temporal_of known (word head w parts) = elim (read_as w parts) [
     | Unary operator ↦ unary operator (first_temporal (temporals_of known parts))
     | Binary operator ↦ binary operator (first_temporal (temporals_of known parts))
@@ -111,6 +111,6 @@ abbrev mutual
     | Not ↦ goal_negation (first_temporal (temporals_of known parts))
     | Imply ↦ goal_implication (first_temporal (temporals_of known parts))
         (second_temporal (temporals_of known parts))
-    | Quantifier ↦ plain_of known (word head w parts)
-    | Plain ↦ plain_of known (word head w parts)
+    | Quantifier ↦ formula_goal known (word head w parts)
+    | Plain ↦ formula_goal known (word head w parts)
   ]

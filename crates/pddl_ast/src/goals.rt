@@ -102,7 +102,7 @@ fn read_plain(alloc: Global, known: &Known, span: Span, parts: &[Form]) -> Resul
     ensures sound { OnOk result (goals.plain_flaws (known_value known.now)
         (forest_of parts.now) span ≡ []) }
     ensures read { IfOk result (λ goal.
-        temporal_value goal ≡ goals.plain_of (known_value known.now) (forest_of parts.now)) }
+        temporal_value goal ≡ goals.formula_goal (known_value known.now) (forest_of parts.now)) }
     ensures fault { IfErr result (λ e. IfFault e (λ fault.
         first_listed (goals.plain_flaws (known_value known.now) (forest_of parts.now) span)
         ≡ Some fault)) }
@@ -123,7 +123,7 @@ fn read_quantified(
     ensures sound { OnOk result (goals.quantified_flaws (known_value known.now)
         (forest_of parts.now) (forest_of items.now) span ≡ []) }
     ensures read { IfOk result (λ goal.
-        temporal_value goal ≡ goals.plain_of (known_value known.now) (forest_of parts.now)) }
+        temporal_value goal ≡ goals.formula_goal (known_value known.now) (forest_of parts.now)) }
     ensures fault { IfErr result (λ e. IfFault e (λ fault.
         first_listed (goals.quantified_flaws (known_value known.now) (forest_of parts.now)
         (forest_of items.now) span) ≡ Some fault)) }

@@ -11,6 +11,7 @@ use Rattle.std.proofs.lemmas.Grind.{get_or-set_at}
 use Rattle.std.proofs.lemmas.Simd.{splat_is_map}
 use Rattle.std.proofs.lemmas.Bool.Decides.{nat_tests}
 use Rattle.pddl_domain.proofs.Pigeonhole.{repeats, same_or_not}
+use Rattle.list_laws.proofs.Booleans.{same_truth}
 
 -- two functions that agree below n
 pub map_range_agree : {X : Type 0} (f g : ℕ → X) (a n : ℕ) → ((k : ℕ) → a ≤ k → k < a + n → f k ≡ g k) → map f (range_with_len a n) ≡ map g (range_with_len a n)
@@ -112,11 +113,6 @@ far_above ps within n p t some small back =
     ancestor_add ps n (n * p - n) t ∙ (ap (λ m. ancestor ps m t) (let e : n * p - n + n ≡ n * p = omega arith in e) ∙ rounds ps p t back n) in
     (ancestor ps (n * p - n) t, ancestor_below ps within (n * p - n) t small, here)
 
-same_bool : (a b : Bool) → (a ≡ true → b ≡ true) → (b ≡ true → a ≡ true) → a ≡ b
-same_bool true b f g = sym (f refl)
-same_bool false true f g = g refl
-same_bool false false f g = refl
-
 -- what is some type's ancestor as far up as there are types, or farther, stands on a loop
 pub on_loop_from_far : (ps : List ℕ) → All (λ t. t < length ps) ps → (n s t : ℕ) → length ps ≤ n → s < length ps → ancestor ps n s ≡ t → is_own_ancestor ps t ≡ true
 on_loop_from_far ps within n s t far small above =
@@ -156,7 +152,7 @@ pub far_in_loops : (ps : List ℕ) → All (λ t. t < length ps) ps → (n : ℕ
 far_in_loops ps within n far = map_range_agree (λ t. list_any (λ s. s == t) (ancestors ps n)) (is_own_ancestor ps) 0 (length ps)
     (λ t lo hi.
     let small : t < length ps = omega arith in
-    same_bool (list_any (λ s. s == t) (ancestors ps n)) (is_own_ancestor ps t)
+    same_truth (list_any (λ s. s == t) (ancestors ps n)) (is_own_ancestor ps t)
     (λ h.
     let (i, s, low, at, here) = Any-from_list_any (λ s. s == t) (ancestors ps n) h in
     let inside : i < length ps = omega (arith, length-ancestors ps n) in

@@ -14,31 +14,31 @@ use Rattle.sexpr_text.proofs.PassLaws.{answered, not_both, one_fault_by}
 use Rattle.pddl_ast.specs.declared.trees.Domain.{Domain}
 use Rattle.pddl_ast.specs.Trees.{DomainTree}
 use Rattle.pddl_ast.specs.Values.{domain_value}
-use Rattle.pddl_domain.specs.Domains.{domain_passes, domain_tree, ReadsAsDomain, IsFlawlessDomain, SpellsDomain, HasDomainFault}
+use Rattle.pddl_domain.specs.Domains.{domain_passes, domain_tree, ReadsAsPlainDomain, IsFlawlessPlainDomain, SpellsPlainDomain, HasPlainDomainFault}
 use Rattle.pddl_domain.specs.Reading.{domain_flaws, tree_of}
 use Rattle.pddl_domain.specs.Sections.{defined_name, sections_of}
 use Rattle.pddl_domain.proofs.PassLemmas.{fault_in_turn, domain_in_turn, tree_is}
 use Rattle.pddl_domain.proofs.Orders.{Laws, domain-ordered}
 
-pub spelled_or_faulty : (b : List ℕ) → ((d : DomainTree) × SpellsDomain b d) ⊎ ((f : InputFault) × HasDomainFault b f)
+pub spelled_or_faulty : (b : List ℕ) → ((d : DomainTree) × SpellsPlainDomain b d) ⊎ ((f : InputFault) × HasPlainDomainFault b f)
 spelled_or_faulty b = elim (answered domain_passes b) [
   | inl h ↦ inl (domain_tree h.0, record { reads = (h.0, h.1.spelled, refl); flawless = (h.0, h.1.spelled, h.1.sound) })
   | inr h ↦ inr h
 ]
 
-pub one_domain : (b : List ℕ) (d e : DomainTree) → SpellsDomain b d → SpellsDomain b e → d ≡ e
+pub one_domain : (b : List ℕ) (d e : DomainTree) → SpellsPlainDomain b d → SpellsPlainDomain b e → d ≡ e
 one_domain b d e h k = same h.reads k.reads
   where
-    same : ReadsAsDomain b d → ReadsAsDomain b e → d ≡ e
+    same : ReadsAsPlainDomain b d → ReadsAsPlainDomain b e → d ≡ e
     same (trees, s, x) (others, t, y) = sym x ∙ (ap domain_tree (spells_trees-unique b trees others s t) ∙ y)
 
-pub one_fault : (b : List ℕ) (f g : InputFault) → HasDomainFault b f → HasDomainFault b g → f ≡ g
+pub one_fault : (b : List ℕ) (f g : InputFault) → HasPlainDomainFault b f → HasPlainDomainFault b g → f ≡ g
 one_fault b f g = one_fault_by domain_passes b f g
 
-pub never_both : (b : List ℕ) (d : DomainTree) (f : InputFault) → SpellsDomain b d → HasDomainFault b f → ⊥
+pub never_both : (b : List ℕ) (d : DomainTree) (f : InputFault) → SpellsPlainDomain b d → HasPlainDomainFault b f → ⊥
 never_both b d f h g = by h.flawless
   where
-    by : IsFlawlessDomain b → ⊥
+    by : IsFlawlessPlainDomain b → ⊥
     by (trees, s, none) = not_both domain_passes b trees f (record { spelled = s; sound = none }) g
 
 -- the fault of the passes is the first flaw that the reader meets
@@ -49,7 +49,7 @@ met laws forms size rising =
 
 pub read_spelled : Laws → (b : List ℕ) (forms : Forest) (size : ℕ) → SpellsTrees b forms → IsRising 0 size forms → (r : Result Domain ReadErr)
     → OnOk r (domain_flaws forms ≡ []) → IfOk r (λ d. domain_value d ≡ tree_of (defined_name forms) (sections_of forms))
-    → IfOk r (λ d. SpellsDomain b (domain_value d))
+    → IfOk r (λ d. SpellsPlainDomain b (domain_value d))
 read_spelled laws b forms size spelled rising (Ok d) sound read =
     record {
       reads = (forms, spelled, sym (read ∙ tree_is forms));
@@ -58,11 +58,11 @@ read_spelled laws b forms size spelled rising (Ok d) sound read =
 read_spelled laws b forms size spelled rising (Err e) sound read = tt
 
 faulty : Laws → (b : List ℕ) (forms : Forest) (size : ℕ) → SpellsTrees b forms → IsRising 0 size forms → (e : ReadErr)
-    → IfFault e (λ f. first_listed (domain_flaws forms) ≡ Some f) → IfFault e (λ f. HasDomainFault b f)
+    → IfFault e (λ f. first_listed (domain_flaws forms) ≡ Some f) → IfFault e (λ f. HasPlainDomainFault b f)
 faulty laws b forms size spelled rising (Fault f) h = inr (forms, spelled, met laws forms size rising ∙ h)
 faulty laws b forms size spelled rising Memory h = tt
 
 pub read_faulty : Laws → (b : List ℕ) (forms : Forest) (size : ℕ) → SpellsTrees b forms → IsRising 0 size forms → (r : Result Domain ReadErr)
-    → IfErr r (λ e. IfFault e (λ f. first_listed (domain_flaws forms) ≡ Some f)) → IfErr r (λ e. IfFault e (λ f. HasDomainFault b f))
+    → IfErr r (λ e. IfFault e (λ f. first_listed (domain_flaws forms) ≡ Some f)) → IfErr r (λ e. IfFault e (λ f. HasPlainDomainFault b f))
 read_faulty laws b forms size spelled rising (Ok d) h = tt
 read_faulty laws b forms size spelled rising (Err e) h = faulty laws b forms size spelled rising e h

@@ -12,23 +12,20 @@ use Rattle.sexpr_text.specs.Flaws.{flaw_at}
 use Rattle.sexpr_text.specs.Parts.{is_name, is_nothing, is_titled, is_definition, first_group_with}
 use Rattle.pddl_ast.specs.declared.trees.Predicate.{Predicate}
 use Rattle.pddl_ast.specs.Words.{is_reserved}
-use Rattle.pddl_ast.specs.Fits.{AreDistinct}
+use Rattle.pddl_ast.specs.Fits.{AreDistinct, names_of_predicates}
 use Rattle.pddl_ast.specs.TypedLists.{names_of, typed_groups}
 use Rattle.pddl_ast.proofs.Fitting.{no_first, no_second, where_true, where_false}
 use Rattle.pddl_ast.specs.Definitions.{title_of}
 use Rattle.pddl_domain.specs.Sections.{name_and_sections, definition, defined_name}
 use Rattle.pddl_domain.specs.Constants as specs
 use Rattle.pddl_domain.proofs.FitTypes.{distinct-push}
+use Rattle.list_laws.proofs.Booleans.{and_second}
 
 -- the name
 second_of : (a b c : Bool) → (a && b && c) ≡ true → b ≡ true
 second_of true true c h = refl
 second_of true false c h = absurd (cc)
 second_of false b c h = absurd (cc)
-
-right_of : (a b : Bool) → (a && b) ≡ true → b ≡ true
-right_of true b h = h
-right_of false b h = absurd (cc)
 
 abbrev pub NameFits : Option (List ℕ) → Type 0
 NameFits None = Unit {0}
@@ -55,7 +52,7 @@ parts-fit kind (group span parts rest) h = tt
 parts-fit kind (word span w nothing) h = tt
 parts-fit kind (word span w (word s t rest)) h = tt
 parts-fit kind (word span w (group s title sections)) h =
-    with-sections (title_of title) sections (title-fits kind title (right_of (bytes_eq w (codes "define")) (is_titled kind title) h))
+    with-sections (title_of title) sections (title-fits kind title (and_second (bytes_eq w (codes "define")) (is_titled kind title) h))
 
 abbrev pub GroupPasses : (Forest → Bool) → Option (Span × Forest) → Type 0
 GroupPasses test None = Unit {0}
@@ -115,9 +112,6 @@ one-predicate types before span (word s name variables) h =
       new = fresh.0;
     }
 
-abbrev pub predicate_names : List Predicate → List (List ℕ)
-predicate_names = map (λ (p : Predicate). p.name)
-
 pub predicates-fit : (list : Forest) (types before : List (List ℕ)) → specs.predicates_flaws types before list ≡ [] → All PredicateFits (specs.predicates_of list)
 predicates-fit nothing types before h = All-nil PredicateFits
 predicates-fit (word span w rest) types before h = absurd (cc)
@@ -128,17 +122,17 @@ predicates-fit (group span parts rest) types before h =
     (subst (All PredicateFits) (sym one.is) (All-cons PredicateFits one.predicate [] one.fits (All-nil PredicateFits))) later
 
 pub predicates-differ : (list : Forest) (types before : List (List ℕ)) → specs.predicates_flaws types before list ≡ [] → AreDistinct before
-    → AreDistinct (before ++ predicate_names (specs.predicates_of list))
+    → AreDistinct (before ++ names_of_predicates (specs.predicates_of list))
 predicates-differ nothing types before h g = subst AreDistinct (sym (append-nil before)) g
 predicates-differ (word span w rest) types before h g = absurd (cc)
 predicates-differ (group span parts rest) types before h g =
     let one = one-predicate types before span parts (no_first (specs.predicate_flaws types before span parts) (specs.predicates_flaws types (specs.with_first_word before parts) rest) h) in
     let after = specs.with_first_word before parts in
     let pushed : AreDistinct after = subst AreDistinct (sym one.after) (distinct-push before one.predicate.name g one.new) in
-    let later : AreDistinct (after ++ predicate_names (specs.predicates_of rest)) =
+    let later : AreDistinct (after ++ names_of_predicates (specs.predicates_of rest)) =
     predicates-differ rest types after (no_second (specs.predicate_flaws types before span parts) (specs.predicates_flaws types after rest) h) pushed in
-    let same : after ++ predicate_names (specs.predicates_of rest) ≡ before ++ predicate_names (specs.predicate_of parts ++ specs.predicates_of rest) =
-    ap (λ ns. ns ++ predicate_names (specs.predicates_of rest)) one.after
-    ∙ (append_assoc before (one.predicate.name ∷ []) (predicate_names (specs.predicates_of rest))
-    ∙ ap (λ ps. before ++ predicate_names (ps ++ specs.predicates_of rest)) (sym one.is)) in
+    let same : after ++ names_of_predicates (specs.predicates_of rest) ≡ before ++ names_of_predicates (specs.predicate_of parts ++ specs.predicates_of rest) =
+    ap (λ ns. ns ++ names_of_predicates (specs.predicates_of rest)) one.after
+    ∙ (append_assoc before (one.predicate.name ∷ []) (names_of_predicates (specs.predicates_of rest))
+    ∙ ap (λ ps. before ++ names_of_predicates (ps ++ specs.predicates_of rest)) (sym one.is)) in
     subst AreDistinct same later

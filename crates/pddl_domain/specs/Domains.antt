@@ -76,20 +76,20 @@ domain_tree forms =
     }
 
 -- the bytes spell forms that read as this domain
-abbrev pub ReadsAsDomain : List ℕ → DomainTree → Type 0
-ReadsAsDomain bytes tree =
+abbrev pub ReadsAsPlainDomain : List ℕ → DomainTree → Type 0
+ReadsAsPlainDomain bytes tree =
     (forms : Forest) × SpellsTrees bytes forms × (domain_tree forms ≡ tree)
 
 -- the bytes spell forms in which no pass lists a flaw
-abbrev pub IsFlawlessDomain : List ℕ → Type 0
-IsFlawlessDomain bytes =
+abbrev pub IsFlawlessPlainDomain : List ℕ → Type 0
+IsFlawlessPlainDomain bytes =
     (forms : Forest) × SpellsTrees bytes forms × (fault_of_passes (domain_passes forms) ≡ None)
 
 -- the bytes spell this domain: they read as it, and nothing is wrong in them
-pub record SpellsDomain (bytes : List ℕ) (tree : DomainTree) : Type 0 where
-  pub reads : ReadsAsDomain bytes tree
-  pub flawless : IsFlawlessDomain bytes
+pub record SpellsPlainDomain (bytes : List ℕ) (tree : DomainTree) : Type 0 where
+  pub reads : ReadsAsPlainDomain bytes tree
+  pub flawless : IsFlawlessPlainDomain bytes
 
 -- this is the fault of the bytes as a domain
-abbrev pub HasDomainFault : List ℕ → InputFault → Type 0
-HasDomainFault bytes fault = HasFaultBy domain_passes bytes fault
+abbrev pub HasPlainDomainFault : List ℕ → InputFault → Type 0
+HasPlainDomainFault bytes fault = HasFaultBy domain_passes bytes fault

@@ -11,7 +11,7 @@ ghost use Rattle.pddl_ast.specs.Values.{domain_value, formula_value, schema_valu
 ghost use Rattle.pddl_domain.specs.ActionParts.{all_actions};
 ghost use Rattle.pddl_domain.specs.Constants as constant;
 ghost use Rattle.pddl_domain.specs.Domains as domain;
-ghost use Rattle.pddl_domain.specs.Domains.{SpellsDomain, HasDomainFault};
+ghost use Rattle.pddl_domain.specs.Domains.{SpellsPlainDomain, HasPlainDomainFault};
 ghost use Rattle.pddl_domain.specs.Invariant as invariant_of;
 ghost use Rattle.pddl_domain.specs.Reading as reading;
 ghost use Rattle.pddl_domain.specs.Sections as section;
@@ -216,10 +216,10 @@ fn read_defined(alloc: Global, forms: &[Form]) -> Result<Domain, ReadErr>
 /// numbers are in range, types form a tree, and no tree is more than 200 deep.
 pub fn read_domain(alloc: Global, bytes: &[u8]) -> Result<Domain, ReadErr>
     requires { length bytes.now ≤ MAX_BYTES }
-    ensures domain { IfOk result (λ d. SpellsDomain bytes.now (domain_value d)) }
+    ensures domain { IfOk result (λ d. SpellsPlainDomain bytes.now (domain_value d)) }
     ensures fits { IfOk result (λ d. FitsDomain (domain_value d)) }
     ensures words { IfOk result (λ d. HasWordNames (domain_value d)) }
-    ensures fault { IfErr result (λ e. IfFault e (λ f. HasDomainFault bytes.now f)) }
+    ensures fault { IfErr result (λ e. IfFault e (λ f. HasPlainDomainFault bytes.now f)) }
 {
     typed_lists_in_order();
     formulas_in_order();

@@ -33,6 +33,7 @@ use Rattle.pddl_problem.specs.Listed.{listed_fault}
 use Rattle.pddl_ast.specs.Definitions.{title_of}
 use Rattle.pddl_problem.specs.Problems.{Definition, definition_in, defined, object_list, with_objects, goal_flaws, goal_of, ctl_flaws, ctl_of, body_passes, definition_passes, problem_of, domain_flaws, missing_flaws}
 use Rattle.pddl_problem.specs.Sections.{none_seen, sections_flaws, section, items_of}
+use Rattle.list_laws.proofs.Booleans.{and_first, and_second}
 
 -- passes without a flaw: the first has none, and neither have the others
 no_listed : (flaws : List Flaw) (passes : List (List Flaw)) → listed_fault (flaws ∷ passes) ≡ None → (flaws ≡ []) × (listed_fault passes ≡ None)
@@ -250,14 +251,6 @@ pub record IsFound (forest : Forest) (d : Definition) : Type 0 where
   pub name : is_name d.name ≡ true
   pub shallow : 1 + nesting_of d.items ≤ nesting_of forest
 
-and-left : (a b : Bool) → (a && b) ≡ true → a ≡ true
-and-left true b h = refl
-and-left false b h = h
-
-and-right : (a b : Bool) → (a && b) ≡ true → b ≡ true
-and-right true b h = h
-and-right false b h = absurd (cc)
-
 title-name : (ps : Forest) (name : List ℕ) → is_titled (codes "problem") ps ≡ true → title_of ps ≡ Some name → is_name name ≡ true
 title-name nothing name h e = absurd (cc)
 title-name (group s qs rest) name h e = absurd (cc)
@@ -266,7 +259,7 @@ title-name (word s w (group s' qs rest)) name h e = absurd (cc)
 title-name (word s w (word s' text rest)) name h e =
     let same : text ≡ name = cc in
     subst (λ n. is_name n ≡ true) same
-    (and-right (bytes_eq w (codes "problem")) (is_name text) (and-left (bytes_eq w (codes "problem") && is_name text) (is_nothing rest) h))
+    (and_second (bytes_eq w (codes "problem")) (is_name text) (and_first (bytes_eq w (codes "problem") && is_name text) (is_nothing rest) h))
 
 named-found : (span : Span) (ps rest : Forest) (d : Definition) (o : Option (List ℕ)) → title_of ps ≡ o → is_titled (codes "problem") ps ≡ true
     → option_map (λ name. record { span = span; name = name; items = rest }) o ≡ Some d → (is_name d.name ≡ true) × (nesting_of d.items ≤ nesting_of rest)
@@ -283,7 +276,7 @@ defined-found span (group s ps rest) d h e = absurd (cc)
 defined-found span (word s w nothing) d h e = absurd (cc)
 defined-found span (word s w (word s' text rest)) d h e = absurd (cc)
 defined-found span (word s w (group s' ps rest)) d h e =
-    let p = named-found span ps rest d (title_of ps) refl (and-right (bytes_eq w (codes "define")) (is_titled (codes "problem") ps) h) e in
+    let p = named-found span ps rest d (title_of ps) refl (and_second (bytes_eq w (codes "define")) (is_titled (codes "problem") ps) h) e in
     let n = p.1 in
     (p.0, omega (arith, n))
 

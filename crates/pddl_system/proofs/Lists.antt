@@ -1,11 +1,12 @@
 -- Lists that are put together of lists.
 use Rattle.std.proofs.Common.{◌≡◌, ℕ, zero, suc, ◌+◌, ◌*◌, ◌<◌, Bool, true, false, ◌&&◌, ◌||◌, inl, inr, List, [], ◌∷◌, map, length, refl, sym, ◌∙◌, ap, arith, Option, Some, None}
-use Rattle.std.specs.Prelude.{slice_get}
-use Rattle.std.proofs.lemmas.Bool.{and_from, or_parts, or_from}
+use Rattle.std.specs.Prelude.{nat_lt, slice_get}
+use Rattle.std.proofs.lemmas.Bool.{false≢true, and_from, and_left, and_parts, and_right, or_parts, or_from}
 use Rattle.std.specs.List.{flat_map, filter, list_all, list_any, range_with_len}
 use Rattle.std.proofs.lemmas.List.{length-append, length-map}
 use Rattle.std.proofs.lemmas.List.Folds.{list_any-append, list_all-append}
 use Rattle.pddl_system.proofs.Members.{Among}
+use Rattle.list_laws.proofs.Booleans.{and_true}
 
 -- a list of lists of one length, put together
 pub length-flat_map_of : {X Y : Type 0} (f : X → List Y) (n : ℕ) → ((x : X) → length (f x) ≡ n) → (xs : List X) → length (flat_map f xs) ≡ length xs * n
@@ -35,11 +36,6 @@ list_any-same p q same (x ∷ xs) = ap (λ b. b || list_any p xs) (same x) ∙ a
 pub list_all-same : {X : Type 0} (p q : X → Bool) → ((x : X) → p x ≡ q x) → (xs : List X) → list_all p xs ≡ list_all q xs
 list_all-same p q same [] = refl
 list_all-same p q same (x ∷ xs) = ap (λ b. b && list_all p xs) (same x) ∙ ap (λ b. q x && b) (list_all-same p q same xs)
-
--- some element of an image
-pub list_any-map : {X Y : Type 0} (p : Y → Bool) (f : X → Y) (xs : List X) → list_any p (map f xs) ≡ list_any (λ x. p (f x)) xs
-list_any-map p f [] = refl
-list_any-map p f (x ∷ xs) = ap (λ b. p (f x) || b) (list_any-map p f xs)
 
 -- a part of a test that doesn't look at the element
 or_around : (a b c d : Bool) → (a || b || (c || d || b)) ≡ (a || (c || d) || b)
@@ -123,18 +119,35 @@ zip_get f g R none some (x ∷ xs) (y ∷ ys) h (suc i) =
     let tail : map f xs ≡ map g ys = cc in
     zip_get f g R none some xs ys tail i
 
-pub zip_all : {X Y Z : Type 0} (f : X → Z) (g : Y → Z) (p : X → Bool) (xs : List X) (ys : List Y) → ((x : X) (y : Y) → Among y ys → f x ≡ g y → p x ≡ true) → map f xs ≡ map g ys → list_all p xs ≡ true
-zip_all f g p [] ys passes h = refl
-zip_all f g p (x ∷ xs) [] passes h = absurd (cc)
-zip_all f g p (x ∷ xs) (y ∷ ys) passes h =
+-- and a test of the elements of one that pass another
+pub zip_all : {X Y Z : Type 0} (f : X → Z) (g : Y → Z) (given p : X → Bool) (xs : List X) (ys : List Y) → ((x : X) (y : Y) → given x ≡ true → Among y ys → f x ≡ g y → p x ≡ true) → list_all given xs ≡ true → map f xs ≡ map g ys → list_all p xs ≡ true
+zip_all f g given p [] ys passes all h = refl
+zip_all f g given p (x ∷ xs) [] passes all h = absurd (cc)
+zip_all f g given p (x ∷ xs) (y ∷ ys) passes all h =
     let head : f x ≡ g y = cc in
     let tail : map f xs ≡ map g ys = cc in
-    and_from (p x) (list_all p xs) (passes x y (inl refl) head) (zip_all f g p xs ys (λ z w k e. passes z w (inr k) e) tail)
+    let both = and_parts (given x) (list_all given xs) all in
+    and_from (p x) (list_all p xs) (passes x y both.0 (inl refl) head) (zip_all f g given p xs ys (λ z w is k e. passes z w is (inr k) e) both.1 tail)
 
--- a list by its places
-pub map-range : {X Y : Type 0} (f : ℕ → Y) (g : X → Y) (xs : List X) (a : ℕ) → ((k : ℕ) (x : X) → slice_get xs k ≡ Some x → f (a + k) ≡ g x) → map f (range_with_len a (length xs)) ≡ map g xs
-map-range f g [] a same = refl
-map-range f g (x ∷ xs) a same =
-    let here : f a ≡ g x = ap f (omega arith) ∙ same 0 x refl in
-    let rest = map-range f g xs (a + 1) (λ k y e. ap f (omega arith) ∙ same (suc k) y e) in
-    ap (λ w. w ∷ map f (range_with_len (a + 1) (length xs))) here ∙ ap (λ ws. g x ∷ ws) rest
+-- tests that give one answer where a third passes
+pub list_all-same-given : {X : Type 0} (given p q : X → Bool) → ((x : X) → given x ≡ true → p x ≡ q x) → (xs : List X) → list_all given xs ≡ true → list_all p xs ≡ list_all q xs
+list_all-same-given given p q same [] all = refl
+list_all-same-given given p q same (x ∷ xs) all =
+    let both = and_parts (given x) (list_all given xs) all in
+    ap (λ b. b && list_all p xs) (same x both.0) ∙ ap (λ b. q x && b) (list_all-same-given given p q same xs both.1)
+
+-- a test and a condition beside it, at each of some elements
+pub beside_each : {X : Type 0} (q : X → Bool) (b : Bool) (xs : List X) → nat_lt 0 (length xs) ≡ true → (b && list_all q xs) ≡ list_all (λ x. q x && b) xs
+beside_each q b [] some = absurd (false≢true some)
+beside_each q false (x ∷ xs) some = sym (and_left (q x && false) (list_all (λ y. q y && false) xs) (and_right (q x) false refl))
+beside_each q true (x ∷ xs) some = list_all-same q (λ y. q y && true) (λ y. sym (and_true (q y))) (x ∷ xs)
+
+-- one answer for each of some elements
+pub one_for_each : {X : Type 0} (b : Bool) (xs : List X) → nat_lt 0 (length xs) ≡ true → b ≡ list_all (λ (x : X). b) xs
+one_for_each b [] some = absurd (false≢true some)
+one_for_each false (x ∷ xs) some = refl
+one_for_each {X} true (x ∷ xs) some = sym (each xs)
+  where
+    each : (ys : List X) → list_all (λ (y : X). true) ys ≡ true
+    each [] = refl
+    each (y ∷ ys) = each ys

@@ -31,13 +31,14 @@ use Rattle.pddl_system.specs.Systems as systems
 use Rattle.ctl_syntax.specs.Conditions.{CondTree, condition_value}
 use Rattle.pddl_system.specs.Tasks.{ActionTree, TaskTree, action_of, change_of, changed_if, condition_of, outcome_of, task_of}
 use Rattle.pddl_system.specs.Values.{action_value, change_value, outcome_value, task_value}
-use Rattle.pddl_system.proofs.Lists.{list_all-same, list_any-flat_map, list_any-map, list_any-same, list_any-filter, map-range, zip_get, zip_length, zip_map}
+use Rattle.pddl_system.proofs.Lists.{list_all-same, list_any-flat_map, list_any-same, list_any-filter, zip_get, zip_length, zip_map}
 use Rattle.pddl_system.proofs.Members.{Apart}
 use Rattle.pddl_system.proofs.Numbers.{fluents_apart, number_is, place_is}
 use Rattle.pddl_system.proofs.RigidAtoms.{rigid_is_no_fluent}
 use Rattle.pddl_system.proofs.Soundness.{RigidIsNoFluent, no_change}
 use Rattle.ctl_syntax.proofs.ConditionTrees.{holds_is, tree_holds}
 use Rattle.pddl_system.proofs.TreeTruth.{formula_same, stands_for, trees_hold-row}
+use Rattle.list_laws.proofs.Elements.{list_any-map, map-range}
 
 -- a change, an outcome and an action that stand for those of the trees do the same
 

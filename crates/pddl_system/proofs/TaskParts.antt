@@ -36,8 +36,8 @@ use Rattle.pddl_system.specs.Systems.{action_names, atom_name, fluent_names, ins
 use Rattle.pddl_system.specs.Systems as systems
 use Rattle.ctl_syntax.specs.Conditions.{CondTree, condition_row, condition_value}
 use Rattle.pddl_system.specs.Tasks.{ActionTree, action_of, change_of, changed_if, condition_of, outcome_of}
-use Rattle.pddl_system.specs.Values.{ArePartsOf, action_value, change_value, outcome_value}
-use Rattle.pddl_system.proofs.Lists.{list_all-flat_map, list_all-same, zip_all, zip_length, zip_map}
+use Rattle.pddl_system.specs.Values.{ArePartsOf, action_has_literals, action_value, change_has_literals, change_value, outcome_has_literals, outcome_value}
+use Rattle.pddl_system.proofs.Lists.{beside_each, list_all-flat_map, list_all-same-given, one_for_each, zip_all, zip_length, zip_map}
 use Rattle.std.proofs.lemmas.List.Folds.{list_all-map}
 use Rattle.pddl_system.proofs.Members.{Among, All-Among, Among-filter, Among-filter_from, Among-flat_map, Among-flat_map_from, Among-map, Among-map_from, Among-range, list_all-from_Among, list_any-from_Among, passes_Among}
 use Rattle.pddl_system.proofs.NamedAtoms.{effects_have_outcomes}
@@ -189,14 +189,16 @@ module _ (d : DomainTree) (p : ProblemTree) (fits_d : FitsDomain d) (fits_p : Fi
   abbrev is_lit_shallow : CondTree × Lit → Bool
   is_lit_shallow x = nat_le (tree_depth x.0) 200
 
-  change_within_is : (c : Change) → change_within many c ≡ list_all is_lit_within (change_value c)
-  change_within_is c =
-      list_all-same _ _ (λ (lit : Lit). ap (λ b. nat_lt lit.fluent.0 many && b) (below_is many c.cond)) c.lits.items
+  change_within_is : (c : Change) → change_has_literals c ≡ true → change_within many c ≡ list_all is_lit_within (change_value c)
+  change_within_is c some =
+      ap (λ b. b && list_all (lit_within many) c.lits.items) (below_is many c.cond)
+      ∙ beside_each (lit_within many) (tree_below many (condition_value c.cond)) c.lits.items some
       ∙ sym (list_all-map is_lit_within (λ (lit : Lit). (condition_value c.cond, lit)) c.lits.items)
 
-  change_shallow_is : (c : Change) → change_is_shallow c ≡ list_all is_lit_shallow (change_value c)
-  change_shallow_is c =
-      list_all-same _ _ (λ (lit : Lit). ap (λ m. nat_le m 200) (depth_is c.cond)) c.lits.items
+  change_shallow_is : (c : Change) → change_has_literals c ≡ true → change_is_shallow c ≡ list_all is_lit_shallow (change_value c)
+  change_shallow_is c some =
+      ap (λ m. nat_le m 200) (depth_is c.cond)
+      ∙ one_for_each (nat_le (tree_depth (condition_value c.cond)) 200) c.lits.items some
       ∙ sym (list_all-map is_lit_shallow (λ (lit : Lit). (condition_value c.cond, lit)) c.lits.items)
 
   -- the parts of an action
@@ -217,23 +219,23 @@ module _ (d : DomainTree) (p : ProblemTree) (fits_d : FitsDomain d) (fits_p : Fi
         let most = effect_shallow in
         shallow_if (tree_depth (changed_if (setting d p) (fluents d p) t.conditions)) (omega arith)
 
-    outcome_within_it : (o : Outcome) (u : OutcomeTree) → Among u (outcomes_of (setting d p) i) → outcome_value o ≡ outcome_of (setting d p) (fluents d p) u → outcome_within many o ≡ true
-    outcome_within_it o u k e =
-        list_all-same (change_within many) (λ c. list_all is_lit_within (change_value c)) change_within_is o.changes.items
+    outcome_within_it : (o : Outcome) (u : OutcomeTree) → outcome_has_literals o ≡ true → Among u (outcomes_of (setting d p) i) → outcome_value o ≡ outcome_of (setting d p) (fluents d p) u → outcome_within many o ≡ true
+    outcome_within_it o u some k e =
+        list_all-same-given change_has_literals (change_within many) (λ c. list_all is_lit_within (change_value c)) change_within_is o.changes.items some
         ∙ sym (list_all-flat_map is_lit_within change_value o.changes.items)
         ∙ ap (list_all is_lit_within) e
         ∙ list_all-map is_lit_within (change_of (setting d p) (fluents d p)) (possible_changes (setting d p) u)
         ∙ list_all-from_Among (λ t. is_lit_within (change_of (setting d p) (fluents d p) t)) (possible_changes (setting d p) u) (lit_within_it u k)
 
-    outcome_shallow : (o : Outcome) (u : OutcomeTree) → Among u (outcomes_of (setting d p) i) → outcome_value o ≡ outcome_of (setting d p) (fluents d p) u → outcome_is_shallow o ≡ true
-    outcome_shallow o u k e =
-        list_all-same change_is_shallow (λ c. list_all is_lit_shallow (change_value c)) change_shallow_is o.changes.items
+    outcome_shallow : (o : Outcome) (u : OutcomeTree) → outcome_has_literals o ≡ true → Among u (outcomes_of (setting d p) i) → outcome_value o ≡ outcome_of (setting d p) (fluents d p) u → outcome_is_shallow o ≡ true
+    outcome_shallow o u some k e =
+        list_all-same-given change_has_literals change_is_shallow (λ c. list_all is_lit_shallow (change_value c)) change_shallow_is o.changes.items some
         ∙ sym (list_all-flat_map is_lit_shallow change_value o.changes.items)
         ∙ ap (list_all is_lit_shallow) e
         ∙ list_all-map is_lit_shallow (change_of (setting d p) (fluents d p)) (possible_changes (setting d p) u)
         ∙ list_all-from_Among (λ t. is_lit_shallow (change_of (setting d p) (fluents d p) t)) (possible_changes (setting d p) u) (lit_shallow u k)
 
-    module _ (few : length (outcomes_of (setting d p) i) ≤ 64) (x : GroundAction) (e : action_value x ≡ action_of d p i) where
+    module _ (few : length (outcomes_of (setting d p) i) ≤ 64) (x : GroundAction) (some : action_has_literals x ≡ true) (e : action_value x ≡ action_of d p i) where
       exec_is : condition_value x.exec ≡ condition_of (setting d p) (fluents d p) i.schema.precondition i.objects
       exec_is = ap (λ (t : ActionTree). t.exec) e
 
@@ -243,12 +245,12 @@ module _ (d : DomainTree) (p : ProblemTree) (fits_d : FitsDomain d) (fits_p : Fi
       action_within_it : action_within many x ≡ true
       action_within_it =
           let same_count = zip_length outcome_value (outcome_of (setting d p) (fluents d p)) x.outcomes.items (outcomes_of (setting d p) i) outcomes_are in
-          let some = effects_have_outcomes (known_in d) (setting d p).objects i.schema.effect (length i.schema.parameters) i.objects (schema_fits i kept).effect in
+          let outcomes_some = effects_have_outcomes (known_in d) (setting d p).objects i.schema.effect (length i.schema.parameters) i.objects (schema_fits i kept).effect in
           and_from _ (nat_lt (length x.outcomes.items) (2 ^ 32))
           (and_from _ (nat_lt 0 (length x.outcomes.items))
           (and_from (ids_below many x.exec) (list_all (outcome_within many) x.outcomes.items)
           (cond_below x.exec (condition_of (setting d p) (fluents d p) i.schema.precondition i.objects) exec_is (formula_below (setting d p) (fluents d p) i.schema.precondition i.objects))
-          (zip_all outcome_value (outcome_of (setting d p) (fluents d p)) (outcome_within many) x.outcomes.items (outcomes_of (setting d p) i) outcome_within_it outcomes_are))
+          (zip_all outcome_value (outcome_of (setting d p) (fluents d p)) outcome_has_literals (outcome_within many) x.outcomes.items (outcomes_of (setting d p) i) outcome_within_it some outcomes_are))
           (lt-ltb 0 (length x.outcomes.items) (omega arith)))
           (lt-ltb (length x.outcomes.items) (2 ^ 32) (omega arith))
 
@@ -258,7 +260,7 @@ module _ (d : DomainTree) (p : ProblemTree) (fits_d : FitsDomain d) (fits_p : Fi
           let most = (schema_fits i kept).precondition_depth in
           and_from (is_shallow x.exec) (list_all outcome_is_shallow x.outcomes.items)
           (cond_shallow x.exec (condition_of (setting d p) (fluents d p) i.schema.precondition i.objects) exec_is (omega arith))
-          (zip_all outcome_value (outcome_of (setting d p) (fluents d p)) outcome_is_shallow x.outcomes.items (outcomes_of (setting d p) i) outcome_shallow outcomes_are)
+          (zip_all outcome_value (outcome_of (setting d p) (fluents d p)) outcome_has_literals outcome_is_shallow x.outcomes.items (outcomes_of (setting d p) i) outcome_shallow some outcomes_are)
 
   -- entries
 
@@ -313,7 +315,7 @@ module _ (d : DomainTree) (p : ProblemTree) (fits_d : FitsDomain d) (fits_p : Fi
 
   -- all parts
 
-  module _ (words : NamesAreWords d p) (all_kept : first_passed d p ≡ None) (fluent_list : List Words) (actions : List GroundAction) (init : InitSpec) (goal : Option Cond) (invariant : Cond) (parts : ArePartsOf d p fluent_list actions init goal invariant) (facts : IsWithin (length fluent_list) init.facts) where
+  module _ (words : NamesAreWords d p) (all_kept : first_passed d p ≡ None) (fluent_list : List Words) (actions : List GroundAction) (init : InitSpec) (goal : Option Cond) (invariant : Cond) (parts : ArePartsOf d p fluent_list actions init goal invariant) (says : list_all action_has_literals actions ≡ true) (facts : IsWithin (length fluent_list) init.facts) where
     kept_limit : (limit : Limit) → Among limit limits → keeps d p limit ≡ true
     kept_limit limit h = none_found (keeps d p) limits all_kept limit h
 
@@ -340,7 +342,7 @@ module _ (d : DomainTree) (p : ProblemTree) (fits_d : FitsDomain d) (fits_p : Fi
       few_actions = (let same = actions_same in let few = few_actions in omega arith);
       within = record {
         actions_within = subst (λ n. list_all (action_within n) actions ≡ true) (sym count_same)
-            (zip_all action_value (action_of d p) (action_within many) actions (kept_instances d p) (λ x i h e. action_within_it i h (few_outcomes i h) x e) parts.actions_are);
+            (zip_all action_value (action_of d p) action_has_literals (action_within many) actions (kept_instances d p) (λ x i some h e. action_within_it i h (few_outcomes i h) x some e) says parts.actions_are);
         facts_within = facts;
         entries_within = subst (λ n. entries_within n init ≡ true) (sym count_same)
             (ap (list_all (entry_within many)) parts.entries_are
@@ -349,7 +351,7 @@ module _ (d : DomainTree) (p : ProblemTree) (fits_d : FitsDomain d) (fits_p : Fi
         invariant_within = subst (λ n. ids_below n invariant ≡ true) (sym count_same) (invariant_within_it invariant parts.invariant_is);
       };
       shallow = record {
-        shallow_actions = zip_all action_value (action_of d p) action_is_shallow actions (kept_instances d p) (λ x i h e. action_shallow i h (few_outcomes i h) x e) parts.actions_are;
+        shallow_actions = zip_all action_value (action_of d p) action_has_literals action_is_shallow actions (kept_instances d p) (λ x i some h e. action_shallow i h (few_outcomes i h) x some e) says parts.actions_are;
         shallow_goal = goal_shallow_it goal p.goal fits_p.goal_depth parts.goal_is;
         shallow_invariant = invariant_shallow_it invariant parts.invariant_is;
       };
@@ -363,5 +365,5 @@ module _ (d : DomainTree) (p : ProblemTree) (fits_d : FitsDomain d) (fits_p : Fi
             subst (λ e. entry_within many e ≡ true) from.2 (entry_is_within from.0 from.1)
 
 pub parts_make_task : PartsMakeTask
-parts_make_task d p fluent_list actions init goal invariant fits_d fits_p words all_kept parts facts =
-    makes_task d p fits_d fits_p words all_kept fluent_list actions init goal invariant parts facts
+parts_make_task d p fluent_list actions init goal invariant fits_d fits_p words all_kept parts says facts =
+    makes_task d p fits_d fits_p words all_kept fluent_list actions init goal invariant parts says facts

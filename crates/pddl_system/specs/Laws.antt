@@ -8,7 +8,7 @@ use Rattle.pddl_ast.specs.Trees.{SchemaTree}
 use Rattle.pddl_ast.specs.Trees.{DomainTree, ProblemTree, TemporalTree}
 use Rattle.pddl_ast.specs.declared.trees.Named.{Named}
 use Rattle.pddl_ast.specs.declared.trees.Predicate.{Predicate}
-use Rattle.std.specs.List.{All, AllPairs, Contains}
+use Rattle.std.specs.List.{All, AllPairs, Contains, list_all}
 use Rattle.ctl_syntax.specs.Goals.{CtlTree, map_plain}
 use Rattle.ctl_syntax.specs.Truth.{Satisfies}
 use Rattle.ctl_syntax.specs.Values.{IsAtMostDeep, NamesBelow}
@@ -31,7 +31,7 @@ use Rattle.pddl_system.specs.Systems.{vectors_after}
 use Rattle.pddl_system.specs.Tasks.{task_of}
 use Rattle.pddl_system.specs.ThreeValues.{value}
 use Rattle.ctl_syntax.specs.Conditions.{condition_value}
-use Rattle.pddl_system.specs.Values.{ArePartsOf, task_value}
+use Rattle.pddl_system.specs.Values.{ArePartsOf, action_has_literals, task_value}
 use Rattle.task_core.specs.ContextPlans.{Configuration, ContextPlan, Follows}
 use Rattle.task_core.specs.Names.{AreActionNames, AreFluentNames, Words}
 use Rattle.task_core.specs.Parts.{MakesTask}
@@ -99,14 +99,15 @@ ActionNamesAreNames =
     → FitsDomain d → FitsProblem d p → NamesAreWords d p → AreActionNames (action_names d p)
 
 -- parts that stand for those of the task of a domain and a problem make a task, where no limit is
--- passed: what they name is among the fluents, their conditions are at most 200 deep, each action
+-- passed and each change has a literal: what they name is among the fluents, their conditions are at most 200 deep, each action
 -- has an outcome and each uncertain entry an alternative, and names are names
 abbrev pub PartsMakeTask : Type 0
 PartsMakeTask =
     (d : DomainTree) (p : ProblemTree) (fluents : List Words)
     (actions : List GroundAction) (init : InitSpec) (goal : Option Cond) (invariant : Cond)
     → FitsDomain d → FitsProblem d p → NamesAreWords d p → first_passed d p ≡ None
-    → ArePartsOf d p fluents actions init goal invariant → IsWithin (length fluents) init.facts
+    → ArePartsOf d p fluents actions init goal invariant
+    → list_all action_has_literals actions ≡ true → IsWithin (length fluents) init.facts
     → MakesTask fluents actions init goal invariant
 
 -- what is known of a formula is so in every vector: the three values are sound

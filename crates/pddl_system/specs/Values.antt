@@ -1,6 +1,6 @@
 -- The plain trees that a task's types stand for.
-use Rattle.std.specs.Prelude.{◌≡◌, List, map, length, Option}
-use Rattle.std.specs.List.{flat_map}
+use Rattle.std.specs.Prelude.{◌≡◌, Bool, List, map, length, nat_lt, Option}
+use Rattle.std.specs.List.{flat_map, list_all}
 use Rattle.std.specs.Option.{option_map}
 use Rattle.task_core.specs.Initial.{entries_of, facts_of}
 use Rattle.task_core.specs.Names.{Words, name_bytes, name_of}
@@ -23,6 +23,16 @@ change_value change =
 
 abbrev pub outcome_value : Outcome → List (CondTree × Lit)
 outcome_value outcome = flat_map change_value outcome.changes.items
+
+-- whether each change has a literal. One without does nothing, and its condition stands in no value
+abbrev pub change_has_literals : Change → Bool
+change_has_literals change = nat_lt 0 (length change.lits.items)
+
+abbrev pub outcome_has_literals : Outcome → Bool
+outcome_has_literals outcome = list_all change_has_literals outcome.changes.items
+
+abbrev pub action_has_literals : GroundAction → Bool
+action_has_literals action = list_all outcome_has_literals action.outcomes.items
 
 abbrev pub action_value : GroundAction → ActionTree
 action_value action = record {

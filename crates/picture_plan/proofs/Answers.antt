@@ -1,5 +1,5 @@
 -- From what follows the reading of both files to the answer, and from the answer to a run.
-use Rattle.std.proofs.Common.{◌≡◌, ◌≢◌, ◌⊎◌, ◌≤◌, ◌<◌, ℕ, List, [], ◌∷◌, Contains, length, map, inl, inr, refl, sym, subst, ap, ◌∙◌, arith, codes, None}
+use Rattle.std.proofs.Common.{◌≡◌, ◌≢◌, ◌⊎◌, ◌≤◌, ◌<◌, ℕ, List, [], ◌∷◌, Contains, get_or, length, map, inl, inr, refl, sym, subst, ap, ◌∙◌, arith, codes, None}
 use Rattle.exec_graph.specs.Executions.{IsReachedBy, ReachesMoreThan}
 use Rattle.exec_graph.specs.Initials.{HasTooManyInitial}
 use Rattle.pddl_ast.specs.Trees.{DomainTree, ProblemTree}
@@ -7,7 +7,7 @@ use Rattle.pddl_system.specs.Sizes.{first_passed}
 use Rattle.pddl_system.specs.Systems.{action_names, fluent_names, system}
 use Rattle.pddl_system.specs.Tasks.{task_of}
 use Rattle.pddl_system.specs.Values.{task_value}
-use Rattle.plan_io.specs.Fetches.{FailedLast}
+use Rattle.plan_io.specs.Fetches.{Fetches}
 use Rattle.plan_io.specs.Held.{Held}
 use Rattle.plan_picture.specs.Pictures.{IsPictureOf, PlainNode, configurations}
 use Rattle.plan_rules.specs.Rules.{PlainPlan, table, automaton}
@@ -17,20 +17,27 @@ use Rattle.task_core.specs.Systems.{System}
 use Rattle.task_core.specs.Tasks.{action_names as names_of_actions, fluent_names as names_of_fluents, initial_states, system_of}
 use Rattle.task_core.specs.Vectors.{Vector}
 use Rattle.task_core.specs.declared.tasks.Task.{Task}
-use Rattle.mbp_top.specs.Answers.{Answer, Refusal, no_command, no_memory, refused}
-use Rattle.mbp_top.specs.Causes.{IsQuietAt}
-use Rattle.mbp_top.specs.CheckCommand.{HasTooManyStates, most_followed}
-use Rattle.mbp_top.specs.Delivery.{IsDelivered}
-use Rattle.mbp_top.specs.Grounding.{GroundThen}
-use Rattle.mbp_top.specs.InitialStates.{InitialThen, empty_init}
-use Rattle.mbp_top.specs.PlanFiles.{IsFaultyPlan, PlacedPlan, SpellsPlaced}
-use Rattle.mbp_top.specs.Reading.{Holds, IsRefusedFile}
-use Rattle.mbp_top.specs.Words.{Bytes}
-use Rattle.mbp_top.proofs.CheckAnswers.{too_many, too_many_back}
-use Rattle.mbp_top.proofs.Initials.{initial_over}
-use Rattle.mbp_top.proofs.Later.{read_over}
-use Rattle.mbp_top.proofs.Listings.{same_actions, same_fluents}
-use Rattle.picture_plan.specs.Pictures.{DrawThen, DrawnThen, IsPictured, PictureThen, ShowsPicture, most_shown}
+use Rattle.command_base.specs.Answers.{Answer, Refusal, no_command, no_memory, refused}
+use Rattle.command_base.specs.Faults.{IsQuietAt}
+use Rattle.command_base.specs.Following.{HasTooManyStates, most_followed}
+use Rattle.command_base.specs.Delivery.{IsDelivered}
+use Rattle.command_base.specs.Grounding.{GroundThen}
+use Rattle.command_base.specs.InitialStates.{InitialThen, empty_init}
+use Rattle.command_base.specs.PlanFiles.{IsFaultyPlan, PlacedPlan, SpellsPlaced}
+use Rattle.command_base.specs.Reading.{Holds, IsRefusedFile}
+use Rattle.command_base.specs.Words.{Bytes}
+use Rattle.command_base.proofs.TooMany.{too_many as too_many_states, too_many_back as too_many_states_back}
+use Rattle.command_base.proofs.Fetched.{after_files, both_stop, one_decides}
+use Rattle.command_base.proofs.Frames.{IsGivenFor, is_run}
+use Rattle.command_base.proofs.PddlDecides.{refused_both}
+use Rattle.command_base.specs.Fetching.{FetchDomain, RefusesBoth, Stops}
+use Rattle.command_base.specs.Frame.{FailedIn}
+use Rattle.command_base.specs.PddlTexts.{HoldBoth, ReadBoth}
+use Rattle.picture_plan.specs.Fetching.{AsksForPlan, FetchesToPicture}
+use Rattle.command_base.proofs.Initials.{initial_over}
+use Rattle.command_base.proofs.Later.{read_over}
+use Rattle.command_base.proofs.TaskNames.{same_actions, same_fluents}
+use Rattle.picture_plan.specs.Pictures.{DrawThen, DrawnThen, IsPictureAnswer, IsPictured, PictureThen, ShowsPicture, most_shown}
 use Rattle.picture_plan.specs.Runs.{HasPictureCause, HasPictured, PictureRun}
 use Rattle.picture_plan.specs.Words.{AskNothing, PictureWords, SaysPicture}
 
@@ -66,11 +73,16 @@ shows_for t d p plan a is system_is shows =
     (subst (λ (ns : List Name). ShowsPicture (fluent_names d p) ns (system_of t) plan a) (same_actions d p t is)
     (subst (λ (ns : List Name). ShowsPicture ns (names_of_actions t) (system_of t) plan a) (same_fluents d p t is) shows))
 
+too_many_back : (d : DomainTree) (p : ProblemTree) (t : Task) → task_value t ≡ task_of d p → HasTooManyStates d p → HasTooManyInitial t most_followed
+too_many_back d p t is many =
+    let back = too_many_states_back d p t is many in
+    record { entries = many.entries; first = back.0; more = back.1 }
+
 drawn_for : (asked : PictureWords) (d : DomainTree) (p : ProblemTree) (t : Task) (placed : PlacedPlan) (a : Answer) → task_value t ≡ task_of d p → system_of t ≡ system d p
     → DrawThen (HasTooManyInitial t most_followed) (system_of t) placed.plan (InitialThen (empty_init asked.problem p) (initial_states t)
     (ShowsPicture (names_of_fluents t) (names_of_actions t) (system_of t) placed.plan)) a
     → DrawnThen asked d p placed a
-drawn_for asked d p t placed a is system_is (inl (many, refused_is)) = inl (too_many d p t is many, refused_is)
+drawn_for asked d p t placed a is system_is (inl (many, refused_is)) = inl (too_many_states d p t is many.entries many.first many.more, refused_is)
 drawn_for asked d p t placed a is system_is (inr (inl (few, more, refused_is))) =
     inr (inl (λ many. few (too_many_back d p t is many), subst (λ (s : System). ReachesMoreThan s placed.plan most_shown) system_is more, refused_is))
 drawn_for asked d p t placed a is system_is (inr (inr then)) =
@@ -134,39 +146,56 @@ pub some_nodes : {X Y : Type 0} (f : X → Y) (xs : List X) → (length xs ≡ 0
 some_nodes f [] some none = some refl
 some_nodes f (x ∷ xs) some none = cc none
 
--- the cause of want of memory that came in place of an answer
-memory_instead : (held : Bytes → Held) (failed : Bytes → Type 0) (words : List Bytes) (a : Answer) → a ≢ refused no_command
-    → HasPictureCause held failed words a → HasPictureCause held failed words (refused no_memory)
-memory_instead held failed words a said (inl (nothing, is)) = absurd (said is)
-memory_instead held failed words a said (inr (asked, says, why)) = inr (asked, says, inl refl)
+-- the words ask for one picture at most
+pub one_asked : (words : List Bytes) (v w : PictureWords) → SaysPicture words v → SaysPicture words w → v ≡ w
+one_asked words v w says says' =
+    let both = sym says ∙ says' in
+    let domains : v.domain ≡ w.domain = ap (λ (ws : List Bytes). get_or ws 0 []) both in
+    let problems : v.problem ≡ w.problem = ap (λ (ws : List Bytes). get_or ws 1 []) both in
+    let plans : v.plan ≡ w.plan = ap (λ (ws : List Bytes). get_or ws 2 []) both in
+    λ i. record { domain = domains i; problem = problems i; plan = plans i }
 
+-- one of the first two files is refused
+pub picture_stopped : {S : Type 0} (held : Bytes → Held) (failed : Bytes → Type 0) (fetched : S → Bytes → S → Type 0) (asked : PictureWords) (r : Refusal) (before after : S)
+    → RefusesBoth held failed asked.domain asked.problem (refused r) → FetchDomain held failed fetched asked.domain (refused r) (Fetches fetched (asked.problem ∷ [])) before after
+    → FetchesToPicture held failed fetched asked (refused r) before after
+picture_stopped held failed fetched asked r before after refuses f =
+    let Then : DomainTree → ProblemTree → Answer → Type 0 = λ domain problem. GroundThen domain problem (λ answer. ⊥) in
+    one_decides held failed fetched asked.domain asked.problem (ReadBoth held failed asked.domain asked.problem Then) (AsksForPlan held asked) (Fetches fetched (asked.plan ∷ [])) (refused r) before after
+    (refused_both held failed asked.domain asked.problem Then r refuses) f
+
+-- both were read
+pub picture_fetched : {S : Type 0} (held : Bytes → Held) (failed : Bytes → Type 0) (fetched : S → Bytes → S → Type 0) (asked : PictureWords) (domain : DomainTree) (problem : ProblemTree) (a : Answer) (before between after : S)
+    → HoldBoth held asked.domain asked.problem domain problem → Fetches fetched (asked.domain ∷ asked.problem ∷ []) before between
+    → (Stops (GroundThen domain problem (λ answer. ⊥)) a × (after ≡ between)) ⊎ ((first_passed domain problem ≡ None) × Fetches fetched (asked.plan ∷ []) between after)
+    → FetchesToPicture held failed fetched asked a before after
+picture_fetched {S} held failed fetched asked domain problem a before between after both came then =
+    after_files held failed fetched asked.domain asked.problem
+    (Stops (ReadBoth held failed asked.domain asked.problem (λ domain problem. GroundThen domain problem (λ answer. ⊥))) a)
+    (AsksForPlan held asked) (Fetches fetched (asked.plan ∷ [])) a before between after (domain, both.holds_domain) came (go then)
+  where
+    go : (Stops (GroundThen domain problem (λ answer. ⊥)) a × (after ≡ between)) ⊎ ((first_passed domain problem ≡ None) × Fetches fetched (asked.plan ∷ []) between after)
+        → (Stops (ReadBoth held failed asked.domain asked.problem (λ domain problem. GroundThen domain problem (λ answer. ⊥))) a × (after ≡ between))
+        ⊎ (AsksForPlan held asked × Fetches fetched (asked.plan ∷ []) between after)
+    go (inl (stops, same)) =
+        inl (both_stop held failed asked.domain asked.problem (λ domain problem. GroundThen domain problem (λ answer. ⊥)) domain problem a both stops, same)
+    go (inr (within, fetch)) = inr ((domain, problem, both, within), fetch)
+
+-- want of memory may come in place of an answer
+picture_for_memory : {S : Type 0} (held : Bytes → Held) (failed : Bytes → Type 0) (fetched : S → Bytes → S → Type 0) (asked : PictureWords) (a : Answer) (before after : S)
+    → FetchesToPicture held failed fetched asked a before after → FetchesToPicture held failed fetched asked (refused no_memory) before after
+picture_for_memory held failed fetched asked a before after (x, first, inl (was, same)) = (x, first, inl (inl refl, same))
+picture_for_memory held failed fetched asked a before after (x, first, inr (holds, (y, second, inl (was, same)))) = (x, first, inr (holds, (y, second, inl (inl refl, same))))
+picture_for_memory held failed fetched asked a before after (x, first, inr (holds, (y, second, inr (needed, rest)))) = (x, first, inr (holds, (y, second, inr (needed, rest))))
+
+-- what was found for the words, and what was given for it
 module _ {S : Type 0} (held : S → Bytes → Held) (faults : S → ℕ) (fetched : S → Bytes → S → Type 0) (run : PictureRun S) where
-  abbrev pub Cause : Answer → Type 0
-  Cause = HasPictureCause (held run.shelf) (FailedLast fetched faults run.shelf run.shelf_after) run.words
-
-  abbrev pub Quiet : Answer → Type 0
-  Quiet a = IsQuietAt a (faults run.shelf) (faults run.shelf_after)
-
-  given_cause : (found given : Answer) → Cause found → (given ≡ found) ⊎ ((given ≡ refused no_memory) × (found ≢ refused no_command)) → Cause given
-  given_cause found given cause (inl is) = subst Cause (sym is) cause
-  given_cause found given cause (inr (is, said)) =
-      subst Cause (sym is) (memory_instead (held run.shelf) (FailedLast fetched faults run.shelf run.shelf_after) run.words found said cause)
-
-  given_quiet : (found given : Answer) → Quiet found → (given ≡ found) ⊎ ((given ≡ refused no_memory) × (found ≢ refused no_command)) → Quiet given
-  given_quiet found given quiet (inl is) = subst Quiet (sym is) quiet
-  given_quiet found given quiet (inr (is, said)) = subst Quiet (sym is) (inr tt)
-
-  -- what was found for the words, and what was given for it
-  pub has_pictured : (found given : Answer) → Cause found → (AskNothing run.words → run.shelf_after ≡ run.shelf) → Quiet found
+  pub has_pictured : (found given : Answer) → HasPictureCause (held run.shelf) (FailedIn faults fetched run) run.words found
+      → ((asked : PictureWords) → SaysPicture run.words asked → FetchesToPicture (held run.shelf) (FailedIn faults fetched run) fetched asked found run.shelf run.shelf_after)
+      → (AskNothing run.words → run.shelf_after ≡ run.shelf) → IsQuietAt found (faults run.shelf) (faults run.shelf_after)
       → ((file : Bytes) → held run.shelf_after file ≡ held run.shelf file) → faults run.shelf ≤ faults run.shelf_after
-      → (given ≡ found) ⊎ ((given ≡ refused no_memory) × (found ≢ refused no_command))
-      → IsDelivered given run.out run.out_after run.err run.err_after run.status → HasPictured held faults fetched run
-  has_pictured found given cause unfetched quiet kept later same delivered = record {
-    answer = given;
-    cause = given_cause found given cause same;
-    delivered = delivered;
-    unfetched = unfetched;
-    quiet = given_quiet found given quiet same;
-    kept = kept;
-    later = later;
-  }
+      → IsGivenFor found given → IsDelivered given run.out run.out_after run.err run.err_after run.status → HasPictured held faults fetched run
+  has_pictured =
+      is_run SaysPicture (IsPictureAnswer (held run.shelf) (FailedIn faults fetched run))
+      (FetchesToPicture (held run.shelf) (FailedIn faults fetched run) fetched) held faults run
+      (λ asked a was. picture_for_memory (held run.shelf) (FailedIn faults fetched run) fetched asked a run.shelf run.shelf_after was)

@@ -2,3 +2,4 @@ pub mod Pictures
 pub mod Runs
 pub mod Values
 pub mod Words
+pub mod Fetching

@@ -8,15 +8,15 @@ use Rattle.plan_picture.specs.Pictures.{IsPictureOf, PlainNode}
 use Rattle.plan_rules.specs.Rules.{PlainPlan}
 use Rattle.task_core.specs.Names.{Name}
 use Rattle.task_core.specs.Systems.{System}
-use Rattle.mbp_top.specs.Answers.{Answer, affirmed, over_limit, refused}
-use Rattle.mbp_top.specs.CheckCommand.{HasTooManyStates}
-use Rattle.mbp_top.specs.Grounding.{GroundThen}
-use Rattle.mbp_top.specs.InitialStates.{InitialThen, empty_init}
-use Rattle.mbp_top.specs.PddlTexts.{ReadBoth}
-use Rattle.mbp_top.specs.PlanFiles.{IsFaultyPlan, PlacedPlan, SpellsPlaced}
-use Rattle.mbp_top.specs.Reading.{ReadThen}
-use Rattle.mbp_top.specs.Words.{Bytes}
-use Rattle.picture_text.specs.Texts.{picture_text}
+use Rattle.command_base.specs.Answers.{Answer, affirmed, over_limit, refused}
+use Rattle.command_base.specs.Following.{HasTooManyStates}
+use Rattle.command_base.specs.Grounding.{GroundThen}
+use Rattle.command_base.specs.InitialStates.{InitialThen, empty_init}
+use Rattle.command_base.specs.PddlTexts.{ReadBoth}
+use Rattle.command_base.specs.PlanFiles.{IsFaultyPlan, PlacedPlan, SpellsPlaced}
+use Rattle.command_base.specs.Reading.{ReadThen}
+use Rattle.command_base.specs.Words.{Bytes}
+use Rattle.plan_picture.specs.Texts.{picture_text}
 use Rattle.picture_plan.specs.Words.{PictureWords}
 
 -- how many configurations a picture may show

@@ -1,6 +1,6 @@
 -- The words: which picture is wanted.
 use Rattle.std.specs.Prelude.{◌≡◌, List, [], ◌∷◌}
-use Rattle.mbp_top.specs.Words.{Bytes}
+use Rattle.command_base.specs.Words.{Bytes}
 
 -- what is asked: a picture of the plan, for the domain and the problem, in the files of these names
 pub record PictureWords : Type 0 where

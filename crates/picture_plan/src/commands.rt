@@ -1,24 +1,23 @@
 //! From the words to the answer.
 
+ghost use Rattle.command_base.specs.Answers.{no_memory, refused};
+ghost use Rattle.command_base.specs.Faults.{IsQuietAt};
+ghost use Rattle.command_base.specs.Fetching.{Stops};
+ghost use Rattle.command_base.specs.Following.{most_followed};
+ghost use Rattle.command_base.specs.Grounding.{GroundThen};
+ghost use Rattle.command_base.specs.InitialStates.{InitialThen, empty_init};
+ghost use Rattle.command_base.specs.Values.{answer_of};
 ghost use Rattle.exec_graph.specs.Initials.{HasTooManyInitial};
-ghost use Rattle.mbp_top.specs.Answers.{no_memory, refused};
-ghost use Rattle.mbp_top.specs.Causes.{IsQuietAt};
-ghost use Rattle.mbp_top.specs.CheckCommand.{most_followed};
-ghost use Rattle.mbp_top.specs.InitialStates.{InitialThen, empty_init};
-ghost use Rattle.mbp_top.specs.Values.{answer_of, refusal_of};
 ghost use Rattle.pddl_ast.specs.Fits.{FitsDomain, FitsProblem};
 ghost use Rattle.pddl_ast.specs.Values.{domain_value, problem_value};
 ghost use Rattle.pddl_system.specs.Names.{NamesAreWords};
-ghost use Rattle.picture_plan.specs.Pictures.{
-  DrawThen,
-  IsPictureAnswer,
-  IsPictured,
-  ShowsPicture,
-};
+ghost use Rattle.pddl_system.specs.Sizes.{first_passed};
+ghost use Rattle.picture_plan.specs.Fetching.{FetchesToPicture};
+ghost use Rattle.picture_plan.specs.Pictures.{DrawThen, IsPictureAnswer, IsPictured, ShowsPicture};
 ghost use Rattle.picture_plan.specs.Runs.{HasPictureCause};
 ghost use Rattle.picture_plan.specs.Values.{picture_words_of};
-ghost use Rattle.picture_plan.specs.Words.{AskNothing};
-ghost use Rattle.plan_io.specs.Fetches.{FailedLast};
+ghost use Rattle.picture_plan.specs.Words.{AskNothing, PictureWords as AskedPicture, SaysPicture};
+ghost use Rattle.plan_io.specs.Fetches.{FailedLast, Fetches};
 ghost use Rattle.plan_rules.specs.Plans.{IsPlanOf};
 ghost use Rattle.plan_rules.specs.Rules.{plain_of};
 ghost use Rattle.std.specs.Prelude.{
@@ -26,7 +25,9 @@ ghost use Rattle.std.specs.Prelude.{
   ◌≤◌,
   ◌⊎◌,
   ◌↔◌,
-  IfOk,
+  ◌∷◌,
+  [],
+  None,
   IsTrue,
   List,
   length,
@@ -44,14 +45,14 @@ ghost use Rattle.task_core.specs.Tasks.{
 };
 
 use crate::words::{PictureWords, read_words};
-use mbp_top::{Limit, Refusal, Shown, Text, ground_both, read_both, read_plan_file};
+use command_base::{
+    Limit, Refusal, Shown, Text, ground_both, no_initial, read_both, read_plan_file,
+};
 use pddl_ast::{Domain, Problem};
-use picture_text::dot_text;
 use plan_io::Shelf;
-use plan_picture::{Picture, PictureErr, picture_of};
+use plan_picture::{MAX_NODES, Picture, PictureErr, dot_text, picture_of};
 use plan_rules::Plan;
-use sexpr_text::{FaultKind, InputFault};
-use std::alloc::{AllocError, Global};
+use std::alloc::Global;
 use task_core::Task;
 
 /// Does what the words say, and gives the answer.
@@ -63,6 +64,10 @@ pub(crate) fn answer<S: Shelf>(
     ensures cause { let failed = FailedLast S.fetched S.faults shelf.old shelf.new in
         HasPictureCause (S.held shelf.old) failed (map string_bytes words.now)
         (answer_of result) }
+    ensures fetches { let failed = FailedLast S.fetched S.faults shelf.old shelf.new in
+        (asked : AskedPicture) → SaysPicture (map string_bytes words.now) asked
+        → FetchesToPicture (S.held shelf.old) failed S.fetched asked (answer_of result)
+        shelf.old shelf.new }
     ensures no_fetch { AskNothing (map string_bytes words.now) → shelf.new ≡ shelf.old }
     ensures quiet_at { IsQuietAt (answer_of result) (S.faults shelf.old) (S.faults shelf.new) }
     ensures kept { (file : List ℕ) → S.held shelf.new file ≡ S.held shelf.old file }
@@ -84,6 +89,9 @@ fn picture_files<S: Shelf>(
         (answer_of result ≡ refused no_memory)
         ⊎ IsPictureAnswer (S.held shelf.old) failed (picture_words_of asked.now)
         (answer_of result) }
+    ensures fetches { let failed = FailedLast S.fetched S.faults shelf.old shelf.new in
+        FetchesToPicture (S.held shelf.old) failed S.fetched (picture_words_of asked.now)
+        (answer_of result) shelf.old shelf.new }
     ensures quiet_at { IsQuietAt (answer_of result) (S.faults shelf.old) (S.faults shelf.new) }
     ensures kept { (file : List ℕ) → S.held shelf.new file ≡ S.held shelf.old file }
     ensures later { S.faults shelf.old ≤ S.faults shelf.new }
@@ -107,6 +115,10 @@ fn picture_problem<S: Shelf>(
         (answer_of result ≡ refused no_memory)
         ⊎ IsPictured (S.held shelf.old) failed (picture_words_of asked.now)
         (domain_value domain.now) (problem_value problem.now) (answer_of result) }
+    ensures fetches { (Stops (GroundThen (domain_value domain.now) (problem_value problem.now) (λ answer. ⊥))
+        (answer_of result) × (shelf.new ≡ shelf.old))
+        ⊎ ((first_passed (domain_value domain.now) (problem_value problem.now) ≡ None)
+        × Fetches S.fetched (asked.now.plan.now ∷ []) shelf.old shelf.new) }
     ensures quiet_at { IsQuietAt (answer_of result) (S.faults shelf.old) (S.faults shelf.new) }
     ensures kept { (file : List ℕ) → S.held shelf.new file ≡ S.held shelf.old file }
     ensures later { S.faults shelf.old ≤ S.faults shelf.new }
@@ -132,7 +144,7 @@ fn drawn(
         (ShowsPicture (fluent_names task.now) (action_names task.now) (system_of task.now)
         (plain_of plan.now))) (answer_of result) }
 {
-    match picture_of(alloc, task, plan) {
+    match picture_of(alloc, task, plan, MAX_NODES) {
         Ok(picture) => {
             if is_blank(&picture) {
                 return Err(no_initial(alloc, name, problem)?);
@@ -150,18 +162,4 @@ fn is_blank(picture: &Picture) -> bool
     ensures { IsTrue result ↔ (length picture.now.nodes.items ≡ 0) }
 {
     picture.nodes.is_empty()
-}
-
-/// The refusal of the problem in the file of this name, which has no initial state.
-fn no_initial(alloc: Global, name: &str, problem: &Problem) -> Result<Refusal, AllocError>
-    ensures { IfOk result
-        (λ refusal. refusal_of refusal ≡ empty_init name.now (problem_value problem.now)) }
-{
-    Ok(Refusal::TextFault(
-        String::from_str(alloc, name)?,
-        InputFault {
-            kind: FaultKind::EmptyInit,
-            place: problem.place,
-        },
-    ))
 }

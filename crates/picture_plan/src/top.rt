@@ -1,11 +1,11 @@
 //! The call.
 
-ghost use Rattle.mbp_top.specs.Delivery.{seen};
+ghost use Rattle.command_base.specs.Delivery.{seen};
 ghost use Rattle.picture_plan.specs.Runs.{HasPictured};
 ghost use Rattle.std.specs.Prelude.{map, string_bytes};
 
 use crate::commands::answer;
-use mbp_top::deliver;
+use command_base::deliver;
 use plan_io::{Shelf, Sink};
 use std::alloc::Global;
 
@@ -28,6 +28,7 @@ pub fn picture<S: Shelf, O: Sink, E: Sink>(
 ) -> u8
     ensures { HasPictured S.held S.faults S.fetched (record {
       words = map string_bytes words.now;
+      handed = tt;
       shelf = shelf.old;
       shelf_after = shelf.new;
       out = seen (O.written out.old) (O.faults out.old);

@@ -6,7 +6,7 @@ use Rattle.task_core.specs.Systems.{System}
 use Rattle.task_core.specs.Vectors.{Vector}
 use Rattle.task_core.specs.declared.classes.Class.TheVariants.{Weak, Strong, Cyclic}
 use Rattle.plan_certs.specs.Certificates.{CubeSet, HasNoWayOut, HoldsNoGoal, IsAccepted, PlainCertificate, holds_state, is_no_way_out, some_holds}
-use Rattle.plan_theory.proofs.WeakLists.{Contains-head}
+use Rattle.list_laws.proofs.Elements.{Contains-head}
 
 -- Cubes: the empty one matches each state, and one that contradicts itself none; a set without
 -- cubes is empty.

@@ -16,50 +16,11 @@ use Rattle.task_core.specs.Names.{Name}
 use Rattle.task_core.specs.declared.classes.Class.{Class}
 use Rattle.plan_rules.specs.Items.{Item, of_word, of_group, item_span, first_item}
 use Rattle.plan_rules.specs.Readings as plans
-use Rattle.plan_rules.proofs.InOrder.{IsFirstWithin, IsGroupWithin, IsItemWithin, by_option, only-if, rising-from, then_if}
+use Rattle.plan_rules.proofs.InOrder.{IsFirstWithin, IsGroupWithin, IsItemWithin, by_option, only-if, rising-from, then_if, IsListAt, after_first-within, after_word-within, at_item, first_group-within, first_item-within, group_after-within, item-end, item-from, one_flaw}
 use Rattle.plan_certs.specs.Readings as read
-
-only_group-within : (lo hi : ℕ) (row : Forest) → IsRising lo hi row → IfSome (only_group row) (IsGroupWithin lo hi)
-only_group-within lo hi nothing h = tt
-only_group-within lo hi (word span text rest) h = tt
-only_group-within lo hi (group span parts nothing) (a, b, c, d) = record { from = a; some = b; to = d; parts = c }
-only_group-within lo hi (group span parts (word s t rest)) h = tt
-only_group-within lo hi (group span parts (group s t rest)) h = tt
-
-after_first-within : (lo hi : ℕ) (row : Forest) → IsRising lo hi row → IsRising lo hi (after_first row)
-after_first-within lo hi nothing h = h
-after_first-within lo hi (word span text rest) (a, b, c, d, e) = rising-from lo span.end hi rest (omega arith) e
-after_first-within lo hi (group span parts rest) (a, b, c, d) = rising-from lo span.end hi rest (omega arith) d
-
-after_word-within : (w : List ℕ) (lo hi : ℕ) (row : Forest) → IsRising lo hi row → IfSome (after_word w row) (IsRising lo hi)
-after_word-within w lo hi row h = only-if (IsRising lo hi) (begins_with w row) (after_first row) (after_first-within lo hi row h)
-
-group_after-within : (w : List ℕ) (lo hi : ℕ) (row : Forest) → IsRising lo hi row → IfSome (group_after w row) (IsGroupWithin lo hi)
-group_after-within w lo hi row h =
-    then_if (IsRising lo hi) (IsGroupWithin lo hi) only_group (after_word w row) (after_word-within w lo hi row h) (only_group-within lo hi)
-
-first_item-within : (lo hi : ℕ) (row : Forest) → IsRising lo hi row → IfSome (first_item row) (IsFirstWithin lo hi)
-first_item-within lo hi nothing h = tt
-first_item-within lo hi (word span text rest) (a, b, c, d, e) =
-    record { item = record { from = a; some = b; to = rising-bounds span.end hi rest e }; rest = e }
-first_item-within lo hi (group span parts rest) (a, b, c, d) =
-    record { item = record { from = a; some = b; to = rising-bounds span.end hi rest d; parts = c }; rest = d }
-
-first_group-within : (test : Forest → Bool) (lo hi : ℕ) (row : Forest) → IsRising lo hi row → IfSome (first_group_with test row) (IsGroupWithin lo hi)
-first_group-within test lo hi nothing h = tt
-first_group-within test lo hi (word span text rest) (a, b, c, d, e) =
-    first_group-within test lo hi rest (rising-from lo span.end hi rest (omega arith) e)
-first_group-within test lo hi (group span parts rest) (a, b, c, d) =
-    by_test (test parts) (record { from = a; some = b; to = rising-bounds span.end hi rest d; parts = c })
-    (first_group-within test lo hi rest (rising-from lo span.end hi rest (omega arith) d))
-  where
-    by_test : (v : Bool) → IsGroupWithin lo hi (span, parts) → IfSome (first_group_with test rest) (IsGroupWithin lo hi) → IfSome (if v then Some (span, parts) else first_group_with test rest) (IsGroupWithin lo hi)
-    by_test true here there = here
-    by_test false here there = there
+use Rattle.list_laws.proofs.Options.{if_any}
 
 -- one flaw, or none
-one_flaw : (lo hi : ℕ) (span : Span) (kind : FaultKind) → lo ≤ span.start → span.start < hi → IsInOrder lo hi (flaw_at span kind ∷ [])
-one_flaw lo hi span kind a b = (a, omega arith)
 
 unless : (lo hi : ℕ) (holds : Bool) (span : Span) (kind : FaultKind) → lo ≤ span.start → span.start < hi → IsInOrder lo hi (plans.flaw_unless holds span kind)
 unless lo hi true span kind a b = omega arith
@@ -104,27 +65,7 @@ set fluents span parts wide h =
     (groups-in_order (read.set_item_flaws fluents) (set_item fluents) (span.start + 1) (span.end - 1) rest g))
     (one_flaw span.start span.end span BadForm (omega arith) (omega arith))
 
-item-end : (lo hi : ℕ) (item : Item) → IsItemWithin lo hi item → (item_span item).end ≤ hi
-item-end lo hi (of_word span text) within = within.to
-item-end lo hi (of_group span parts) within = within.to
-
-item-from : (lo hi : ℕ) (item : Item) → IsItemWithin lo hi item → lo ≤ (item_span item).end
-item-from lo hi (of_word span text) within = let a : lo ≤ span.start = within.from in let b : span.start < span.end = within.some in omega arith
-item-from lo hi (of_group span parts) within = let a : lo ≤ span.start = within.from in let b : span.start + 2 ≤ span.end = within.some in omega arith
-
-at_item : (lo hi : ℕ) (item : Item) (kind : FaultKind) → IsItemWithin lo hi item → IsInOrder lo hi (flaw_at (item_span item) kind ∷ [])
-at_item lo hi (of_word span text) kind within =
-    let some : span.start < span.end = within.some in let to : span.end ≤ hi = within.to in one_flaw lo hi span kind within.from (omega arith)
-at_item lo hi (of_group span parts) kind within =
-    let some : span.start + 2 ≤ span.end = within.some in let to : span.end ≤ hi = within.to in one_flaw lo hi span kind within.from (omega arith)
-
-if_any : {X : Type 0} (o : Option X) → IfSome o (λ _. Unit {0})
-if_any None = tt
-if_any (Some x) = tt
-
 -- what stands in the list of a certificate from offset lo up to hi; the list begins before
-abbrev IsListAt : ℕ → ℕ → Span → Type 0
-IsListAt lo hi span = (span.start < lo) × (lo ≤ hi)
 
 sets : (fluents : List Name) (class : Class) (lo hi : ℕ) (span : Span) (row : Forest) → IsListAt lo hi span → IsRising lo hi row → IsInOrder span.start hi (read.sets_flaws fluents span class row)
 sets fluents class lo hi span row at h =

@@ -16,11 +16,13 @@ use Rattle.task_core.specs.Solutions.{HasNoSolution, IsReached, IsStrongSolution
 use Rattle.task_core.specs.declared.classes.Class.{Class}
 use Rattle.task_core.specs.declared.classes.Class.TheVariants.{Weak, Strong, Cyclic}
 use Rattle.plan_certs.specs.Certificates.{CubeSet, PlainCertificate, CanAct, HasNoWayOut, IsAccepted, holds_state, set_at, some_holds}
-use Rattle.plan_certs.proofs.Lists.{Apart, Apart-few, number_of_set, pair_of, some_holds-at, some_holds-last}
+use Rattle.plan_certs.proofs.Lists.{number_of_set, some_holds-at, some_holds-last}
 use Rattle.plan_theory.proofs.Cubes.{all_vectors-holds}
 use Rattle.plan_theory.proofs.NoStrong.{reach_more}
 use Rattle.plan_theory.proofs.Tests.{same_vector-itself, same_vector-true}
-use Rattle.plan_theory.proofs.WeakLists.{Contains-cases, Contains-nil, list_all-at, list_any-from, list_any-witness}
+use Rattle.list_laws.proofs.Elements.{Contains-cases, Contains-nil, list_all-at, list_any-from, list_any-witness}
+use Rattle.list_laws.proofs.Distinct.{Apart, Apart-few}
+use Rattle.plan_theory.proofs.LeastBounds.{pair_or_terminal}
 
 here : (sys : System) (table : Table) (s : Vector) → Reaches sys table s s
 here sys table s = record { rest = []; path = tt; ends = refl }
@@ -77,7 +79,7 @@ module _ (sys : System) (ok : IsSystem sys) (sets : List CubeSet) (no_goal : (s 
       held : holds_state (set_at sets i) s ≡ true
 
     goes_on : (s : Vector) → IsInside s → (t : Vector) × Leads sys table s t × IsInside t
-    goes_on s inside = ⊎_elim (λ pair. by_pair pair.0 pair.1) (λ terminal. absurd (not_goal i s within inside.held (solves.ends_in_goal s inside.reached terminal))) (pair_of table s)
+    goes_on s inside = ⊎_elim (λ pair. by_pair pair.0 pair.1) (λ terminal. absurd (not_goal i s within inside.held (solves.ends_in_goal s inside.reached terminal))) (pair_or_terminal table s)
       where
         by_pair : (a : ℕ) → Contains table (s, a) → (t : Vector) × Leads sys table s t × IsInside t
         by_pair a pair =

@@ -30,8 +30,8 @@ use Rattle.plan_theory.proofs.LeastBounds.{solves_by_class, stands_still}
 use Rattle.plan_theory.proofs.Restricted.{progress_connected, progress_step}
 use Rattle.plan_theory.proofs.RoundSteps.{connected_more, kept_from, later_rounds, round_shrinks, rounds_end, rounds_shrink_to}
 use Rattle.plan_theory.proofs.Survives.{last_is_largest, left_state}
-use Rattle.plan_theory.proofs.WeakDenoted.{denoted-table}
-use Rattle.plan_theory.proofs.WeakLists.{Contains-range_with_len, list_all-at, list_all-from, list_any-false, list_any-from, list_any-none}
+use Rattle.plan_rules.proofs.DenotedPairs.{denoted-table}
+use Rattle.list_laws.proofs.Elements.{Contains-range_with_len, list_all-at, list_all-from, list_any-false, list_any-from, list_any-none}
 use Rattle.plan_certs.specs.Certificates.{CanAct, CubeSet, HasNoWayOut, HoldsInitial, HoldsNoGoal, IsAccepted, PlainCertificate, holds_state, is_no_way_out, set_at, some_holds}
 use Rattle.plan_certs.specs.Printed.{IsFirstWhole, IsPrinted, lost_set, lost_sets, outside_layers, set_cubes}
 

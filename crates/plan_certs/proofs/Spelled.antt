@@ -32,7 +32,7 @@ use Rattle.plan_rules.proofs.Pieces.{spelled_whole}
 use Rattle.plan_rules.proofs.Printed.{groups, cube_row}
 use Rattle.plan_rules.proofs.RowRead.{IsRead, first-word, first-group, groups-read}
 use Rattle.plan_certs.specs.Certificates.{CubeSet, PlainCertificate}
-use Rattle.plan_certs.specs.Named.{IsCertificateOf, IsPlainCertificateOf, IsSetOf, MayHave, plain_of}
+use Rattle.plan_certs.specs.Named.{IsCertificateOf, IsPlainCertificateOf, IsSetOf, MayHave, plain_certificate}
 use Rattle.plan_certs.specs.Readings as read
 use Rattle.plan_certs.specs.Readings.{HasCertificateFault, SpellsPlain}
 use Rattle.plan_certs.specs.Texts.{certificate_text}
@@ -84,7 +84,7 @@ sets-when : (b : Bool) (flaws others : List Flaw) → b ≡ true → flaws ≡ [
 sets-when true flaws others e h = h
 sets-when false flaws others e h = absurd (let none : ⊥ = cc in none)
 
-abbrev sets_of : Class → List CubeSet → PlainCertificate
+abbrev pub sets_of : Class → List CubeSet → PlainCertificate
 sets_of class sets = record { class = class; sets = sets }
 
 -- the row of a certificate's list after the word `certificate`
@@ -156,10 +156,10 @@ certificate_no_fault fluents bytes c f (a, (t, spelled, none, same)) h =
     not_both (read.certificate_passes fluents) bytes t f (record { spelled = spelled; sound = none }) h
 
 -- of a task
-pub task_spells : (task : Task) (certificate : Certificate) → IsCertificateOf (fluent_count task) certificate → SpellsPlain (fluent_names task) (certificate_text (fluent_names task) (plain_of certificate)) (plain_of certificate)
+pub task_spells : (task : Task) (certificate : Certificate) → IsCertificateOf (fluent_count task) certificate → SpellsPlain (fluent_names task) (certificate_text (fluent_names task) (plain_certificate certificate)) (plain_certificate certificate)
 task_spells task certificate is =
-    written_spells (fluent_names task) (plain_of certificate) task.fluent_names
-    (subst (λ n. IsPlainCertificateOf n (plain_of certificate)) (sym (length-map task.fluents.items name_bytes)) is)
+    written_spells (fluent_names task) (plain_certificate certificate) task.fluent_names
+    (subst (λ n. IsPlainCertificateOf n (plain_certificate certificate)) (sym (length-map task.fluents.items name_bytes)) is)
 
 pub spelled_if : (fluents : List Name) (c : PlainCertificate) (r : Result (Vec ℕ Global) AllocError) → SpellsPlain fluents (certificate_text fluents c) c
     → IfOk r (λ text. text.items ≡ certificate_text fluents c) → IfOk r (λ text. SpellsPlain fluents text.items c)

@@ -6,7 +6,7 @@ use Rattle.task_core.specs.Vectors.{Vector, all_vectors}
 use Rattle.task_core.specs.Systems.{System, IsSystem, goal_states}
 use Rattle.task_core.proofs.Vectors.{all_vectors_has, all_vectors_length}
 use Rattle.plan_certs.specs.Certificates.{CanAct, CertificateFlaw, HasNoWayOut, HoldsInitial, HoldsNoGoal, IsAccepted, IsFirstFlaw, IsWayOut, PlainCertificate, holds_state, is_no_way_out, no_initial, set_at, some_goal, some_holds, way_out}
-use Rattle.plan_theory.proofs.WeakLists.{Contains-range_with_len, Contains-range_with_len-below, list_any-false, list_any-witness}
+use Rattle.list_laws.proofs.Elements.{Contains-range_with_len, Contains-range_with_len-below, list_any-false, list_any-witness}
 
 pub not_both : (sys : System) (c : PlainCertificate) (flaw : CertificateFlaw) → IsAccepted sys c → IsFirstFlaw sys c flaw → ⊥
 not_both sys c no_initial accepted none = true≢false (sym accepted.initial.held ∙ none accepted.start accepted.initial.initial)

@@ -27,28 +27,16 @@ use Rattle.plan_rules.specs.Items.{Item, first_item, item_span}
 use Rattle.plan_rules.specs.Plans.{IsCubeOf}
 use Rattle.plan_rules.specs.Readings.{class_named, cube_tree}
 use Rattle.plan_certs.specs.Certificates.{CubeSet, PlainCertificate}
-use Rattle.plan_certs.specs.Named.{IsCertificateOf, IsPlainCertificateOf, IsSetOf, MayHave, plain_of}
+use Rattle.plan_certs.specs.Named.{IsCertificateOf, IsPlainCertificateOf, IsSetOf, MayHave, plain_certificate}
 use Rattle.plan_certs.specs.Readings.{HasCertificateFault, SpellsCertificateAt, certificate_flaws, certificate_list, certificate_read, certificate_tree, has_sets, no_certificate, no_list, set_flaws, set_item_flaws, set_tree, sets_flaws, text_flaws}
 use Rattle.plan_certs.specs.declared.certificates.CertificateRead.{CertificateRead}
 use Rattle.plan_certs.proofs.CubeForms.{cube-in_task}
 use Rattle.plan_certs.proofs.InOrder.{text_flaws-in_order}
-
-nil-first : (xs ys : List Flaw) → xs ++ ys ≡ [] → xs ≡ []
-nil-first [] ys e = refl
-nil-first (x ∷ xs) ys e = cc
-
-nil-second : (xs ys : List Flaw) → xs ++ ys ≡ [] → ys ≡ []
-nil-second [] ys e = e
-nil-second (x ∷ xs) ys e = cc
+use Rattle.list_laws.proofs.Options.{nil-first, nil-second, in_option}
+use Rattle.plan_rules.proofs.InTask.{a_flaw}
+use Rattle.plan_certs.proofs.Spelled.{sets_of}
 
 -- what is read where there are no flaws, along an option
-in_option : {X Y : Type 0} (P : Y → Type 0) (f : X → List Flaw) (g : X → Y) (d : List Flaw) (e : Y) (o : Option X)
-    → ((x : X) → f x ≡ [] → P (g x)) → (d ≡ [] → P e) → option_map_or f o d ≡ [] → P (option_map_or g o e)
-in_option P f g d e None each none h = none h
-in_option P f g d e (Some x) each none h = each x h
-
-a_flaw : {P : Type 0} (f : Flaw) → f ∷ [] ≡ [] → P
-a_flaw f e = absurd (let none : ⊥ = cc in none)
 
 in_groups : {X : Type 0} (P : X → Type 0) (flaws : Span → Forest → List Flaw) (tree : Forest → X)
     → ((span : Span) (parts : Forest) → flaws span parts ≡ [] → P (tree parts)) → (row : Forest) → flaws_of_groups flaws row ≡ [] → All P (each_group tree row)
@@ -84,9 +72,6 @@ number flaws tree class row none enough = by_class class row none enough
     by_class Cyclic nothing none enough = absurd (let none : ⊥ = cc in none)
     by_class Cyclic (word span text rest) none enough = absurd (let none : ⊥ = cc in none)
     by_class Cyclic (group span parts rest) none enough = omega arith
-
-abbrev sets_of : Class → List CubeSet → PlainCertificate
-sets_of class sets = record { class = class; sets = sets }
 
 sets : (fluents : List Name) (span : Span) (class : Class) (row : Forest) → sets_flaws fluents span class row ≡ [] → IsPlainCertificateOf (length fluents) (sets_of class (each_group (set_tree fluents) row))
 sets fluents span class row h = by_test (has_sets class row) refl h
@@ -127,19 +112,19 @@ read-in_task fluents trees p place h e = by_list (certificate_list trees) h e
 -- what the readers of forms say
 pub record IsReadFrom (fluents : List Name) (trees : Forest) (r : Result CertificateRead ReadErr) : Type 0 where
   pub sound : IfOk r (λ _. text_flaws fluents trees ≡ [])
-  pub read : IfOk r (λ x. certificate_read fluents trees ≡ Some (plain_of x.certificate, x.place))
+  pub read : IfOk r (λ x. certificate_read fluents trees ≡ Some (plain_certificate x.certificate, x.place))
   pub fault : IfErr r (λ e. IfFault e (λ f. first_listed (text_flaws fluents trees) ≡ Some f))
 
 pub whole-read : (fluents : List Name) (bytes : List ℕ) (trees : Forest) (r : Result CertificateRead ReadErr) → SpellsTrees bytes trees → IsReadFrom fluents trees r
-    → IfOk r (λ x. SpellsCertificateAt fluents bytes (plain_of x.certificate) x.place)
+    → IfOk r (λ x. SpellsCertificateAt fluents bytes (plain_certificate x.certificate) x.place)
 whole-read fluents bytes trees (Err e) s h = tt
 whole-read fluents bytes trees (Ok x) s h =
     (trees, s, ap (λ flaws. fault_of_passes (flaws ∷ [])) h.sound ∙ (passes-none [] ∙ passes-end), h.read)
 
 whole-in_task : (fluents : List Name) (trees : Forest) (r : Result CertificateRead ReadErr) → IsReadFrom fluents trees r
-    → IfOk r (λ x. IsPlainCertificateOf (length fluents) (plain_of x.certificate))
+    → IfOk r (λ x. IsPlainCertificateOf (length fluents) (plain_certificate x.certificate))
 whole-in_task fluents trees (Err e) h = tt
-whole-in_task fluents trees (Ok x) h = read-in_task fluents trees (plain_of x.certificate) x.place h.sound h.read
+whole-in_task fluents trees (Ok x) h = read-in_task fluents trees (plain_certificate x.certificate) x.place h.sound h.read
 
 pub whole-fault : (fluents : List Name) (bytes : List ℕ) (size : ℕ) (trees : Forest) (r : Result CertificateRead ReadErr) → SpellsTrees bytes trees → IsRising 0 size trees → IsReadFrom fluents trees r
     → IfErr r (λ e. IfFault e (HasCertificateFault fluents bytes))

@@ -17,8 +17,8 @@ cube_of lits = lits.items
 abbrev pub set_of : StateSet → CubeSet
 set_of set = map cube_of set.cubes.items
 
-abbrev pub plain_of : Certificate → PlainCertificate
-plain_of certificate =
+abbrev pub plain_certificate : Certificate → PlainCertificate
+plain_certificate certificate =
     record { class = certificate.class; sets = map set_of certificate.sets.items }
 
 -- each fluent is among so many
@@ -40,4 +40,4 @@ pub record IsPlainCertificateOf (fluents : ℕ) (certificate : PlainCertificate)
   pub number : MayHave certificate.class (length certificate.sets)
 
 abbrev pub IsCertificateOf : ℕ → Certificate → Type 0
-IsCertificateOf fluents certificate = IsPlainCertificateOf fluents (plain_of certificate)
+IsCertificateOf fluents certificate = IsPlainCertificateOf fluents (plain_certificate certificate)

@@ -20,7 +20,7 @@ use Rattle.task_core.specs.Names.{Name}
 use Rattle.plan_rules.specs.Items.{Item, item_span, first_item}
 use Rattle.plan_rules.specs.Readings.{class_named, cube_flaws, cube_tree}
 use Rattle.plan_certs.specs.Certificates.{CubeSet, PlainCertificate}
-use Rattle.plan_certs.specs.Named.{plain_of}
+use Rattle.plan_certs.specs.Named.{plain_certificate}
 use Rattle.plan_certs.specs.declared.certificates.Certificate.{Certificate}
 
 -- `(LITERAL ..)`, an item of a set
@@ -119,4 +119,4 @@ HasCertificateFault fluents = HasFaultBy (certificate_passes fluents)
 
 -- the bytes spell this certificate, as the program holds it
 abbrev pub SpellsCertificate : List Name → List ℕ → Certificate → Type 0
-SpellsCertificate fluents bytes certificate = SpellsPlain fluents bytes (plain_of certificate)
+SpellsCertificate fluents bytes certificate = SpellsPlain fluents bytes (plain_certificate certificate)

@@ -6,7 +6,7 @@ ghost use Rattle.std.specs.List.{list_all, list_any};
 ghost use Rattle.task_core.specs.States.{vector};
 ghost use Rattle.task_core.specs.Tasks.{fluent_count};
 ghost use Rattle.plan_certs.specs.Certificates.{holds_state, is_no_way_out, some_holds};
-ghost use Rattle.plan_certs.specs.Named.{AreSetsOf, IsCertificateOf, IsSetOf, plain_of, set_of};
+ghost use Rattle.plan_certs.specs.Named.{AreSetsOf, IsCertificateOf, IsSetOf, plain_certificate, set_of};
 
 use crate::certificates::{Certificate, StateSet};
 use plan_rules::has_all;
@@ -72,7 +72,7 @@ fn hold_each(task: &Task, sets: &[StateSet], states: &[State]) -> bool
 pub fn is_no_way_out(task: &Task, certificate: &Certificate, number: usize, next: &[State]) -> bool
     requires in_task { IsCertificateOf (fluent_count task.now) certificate.now }
     requires set { number < length certificate.now.sets.items }
-    ensures { result ≡ is_no_way_out certificate.now.class (plain_of certificate.now).sets number
+    ensures { result ≡ is_no_way_out certificate.now.class (plain_certificate certificate.now).sets number
         (map (vector (fluent_count task.now)) next.now) }
 {
     let sets = certificate.sets.as_slice();

@@ -6,7 +6,7 @@ ghost use Rattle.sexpr_text.specs.Forest.{forest_of};
 ghost use Rattle.sexpr_text.specs.Passes.{IfFault};
 ghost use Rattle.task_core.specs.Tasks.{fluent_count, fluent_names};
 ghost use Rattle.plan_rules.specs.Readings.{cube_tree};
-ghost use Rattle.plan_certs.specs.Named.{IsCertificateOf, plain_of, set_of};
+ghost use Rattle.plan_certs.specs.Named.{IsCertificateOf, plain_certificate, set_of};
 ghost use Rattle.plan_certs.specs.Readings.{
   HasCertificateFault,
   SpellsCertificateAt,
@@ -39,7 +39,7 @@ use task_core::{Lit, Task};
 pub fn read_cert(alloc: Global, bytes: &[u8], task: &Task) -> Result<CertificateRead, ReadErr>
     requires { length bytes.now ≤ MAX_BYTES }
     ensures read { IfOk result (λ read.
-        SpellsCertificateAt (fluent_names task.now) bytes.now (plain_of read.certificate)
+        SpellsCertificateAt (fluent_names task.now) bytes.now (plain_certificate read.certificate)
         read.place) }
     ensures in_task { IfOk result (λ read.
         IsCertificateOf (fluent_count task.now) read.certificate) }
@@ -57,7 +57,7 @@ fn read_text(alloc: Global, fluents: &NameTable, forms: &[Form]) -> Result<Certi
         text_flaws fluents.now (forest_of forms.now) ≡ []) }
     ensures read { IfOk result (λ read.
         certificate_read fluents.now (forest_of forms.now)
-        ≡ Some (plain_of read.certificate, read.place)) }
+        ≡ Some (plain_certificate read.certificate, read.place)) }
     ensures fault { IfErr result (λ e. IfFault e (λ fault.
         first_listed (text_flaws fluents.now (forest_of forms.now)) ≡ Some fault)) }
 {
@@ -83,7 +83,7 @@ fn read_list(
     ensures sound { IfOk result (λ certificate.
         certificate_flaws fluents.now span (forest_of row.now) ≡ []) }
     ensures read { IfOk result (λ certificate.
-        plain_of certificate ≡ certificate_tree fluents.now (forest_of row.now)) }
+        plain_certificate certificate ≡ certificate_tree fluents.now (forest_of row.now)) }
     ensures fault { IfErr result (λ e. IfFault e (λ fault.
         first_listed (certificate_flaws fluents.now span (forest_of row.now))
         ≡ Some fault)) }

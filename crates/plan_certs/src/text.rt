@@ -11,7 +11,7 @@ ghost use Rattle.plan_certs.specs.Named.{
   IsCertificateOf,
   IsSetOf,
   cube_of,
-  plain_of,
+  plain_certificate,
   set_of,
 };
 ghost use Rattle.plan_certs.specs.Readings.{SpellsCertificate};
@@ -81,9 +81,9 @@ fn push_sets(out: &mut String, fluents: &[Vec<RcStr>], sets: &[StateSet]) -> Res
 
 // The text of a certificate.
 fn write_text(alloc: Global, certificate: &Certificate, task: &Task) -> Result<Vec<u8>, AllocError>
-    requires { AreSetsOf (fluent_count task.now) (plain_of certificate.now).sets }
+    requires { AreSetsOf (fluent_count task.now) (plain_certificate certificate.now).sets }
     ensures { IfOk result (λ text.
-        text.items ≡ certificate_text (fluent_names task.now) (plain_of certificate.now)) }
+        text.items ≡ certificate_text (fluent_names task.now) (plain_certificate certificate.now)) }
 {
     let mut out = String::new(alloc);
     out.push_str("(certificate ")?;
@@ -107,7 +107,7 @@ pub fn write_cert(
 ) -> Result<Vec<u8>, AllocError>
     requires in_task { IsCertificateOf (fluent_count task.now) certificate.now }
     ensures text { IfOk result (λ text.
-        text.items ≡ certificate_text (fluent_names task.now) (plain_of certificate.now)) }
+        text.items ≡ certificate_text (fluent_names task.now) (plain_certificate certificate.now)) }
     ensures spells { IfOk result (λ text.
         SpellsCertificate (fluent_names task.now) text.items certificate.now) }
 {

@@ -32,11 +32,9 @@ use Rattle.plan_check.specs.declared.verdicts.Reason.TheVariants.{Unexecutable, 
 use Rattle.plan_check.specs.declared.verdicts.Verdict.{Verdict}
 use Rattle.plan_check.specs.declared.verdicts.Verdict.TheVariants.{Yes, No}
 use Rattle.plan_check.proofs.VerdictLaws.{at_turn, reason_at}
+use Rattle.list_laws.proofs.Options.{some_value}
 
 -- an option that isn't none
-some_value : {T : Type 0} (o : Option T) → IsSome o → (x : T) × (o ≡ Some x)
-some_value None e = absurd (false≢true e)
-some_value (Some x) e = (x, refl)
 
 never_none : {T : Type 0} (o : Option T) → IsSome o → o ≡ None → ⊥
 never_none o e none = false≢true (sym (ap (λ (p : Option _). is_some p) none) ∙ e)

@@ -5,16 +5,12 @@ use Rattle.std.proofs.lemmas.Bool.{cases_eq, eq-eqb, ne_eqb}
 use Rattle.std.proofs.lemmas.List.{length-append, length-map}
 use Rattle.exec_graph.specs.Rows.{edge}
 use Rattle.exec_graph.specs.Values.{lengths_below, sum_below}
-use Rattle.exec_graph.proofs.Lists.{Contains-head, Contains-cons, Contains-nil, Contains-cases}
 use Rattle.plan_check.specs.Spreads.{edges_to}
 use Rattle.plan_check.proofs.Sums.{is_one, length_is, sum_one, sum_same, sum_swap, times, times_none}
+use Rattle.list_laws.proofs.Elements.{Contains-cases, Contains-cons, Contains-head, Contains-nil}
+use Rattle.list_laws.proofs.Distinct.{first_once, rest_once}
 
 -- lists without doubles
-pub rest_once : (x : ℕ) (xs : List ℕ) → AllPairs (λ i j. i ≢ j) (x ∷ xs) → AllPairs (λ i j. i ≢ j) xs
-rest_once x xs once i j d l h = once (suc i) (suc j) d (omega arith) (omega arith)
-
-pub first_once : (x : ℕ) (xs : List ℕ) → AllPairs (λ i j. i ≢ j) (x ∷ xs) → Contains xs x → ⊥
-first_once x xs once c = let l : c.0 < length xs = c.1 in once zero (suc c.0) x (omega arith) (omega arith) (sym c.2)
 
 times_once : (xs : List ℕ) (x : ℕ) → AllPairs (λ i j. i ≢ j) xs → Contains xs x → times xs x ≡ 1
 times_once [] x once c = absurd (Contains-nil x c)

@@ -1,6 +1,6 @@
 -- The labels of goals, from those of their parts.
 use Rattle.std.proofs.Common.{◌≡◌, ◌⊎◌, ◌↔◌, ℕ, ◌+◌, ◌<◌, ◌≤◌, Bool, true, false, List, [], ◌∷◌, length, drop, get_or, map, sym, ap, ◌∙◌, subst, arith, ⊎_elim, inl, inr}
-use Rattle.std.proofs.lemmas.Bool.{false≢true}
+use Rattle.std.proofs.lemmas.Bool.{false≢true, or_cases, or_left, or_right, and_from}
 use Rattle.std.proofs.lemmas.List.{drop_more, drop_all}
 use Rattle.std.specs.Prelude.{Box, IfOk, Result, Ok, Err}
 use Rattle.std.specs.declared.alloc.Global.{Global}
@@ -18,8 +18,8 @@ use Rattle.plan_check.specs.Plain.{HasFollowersInside}
 use Rattle.plan_check.specs.declared.spreading.Need.TheVariants.{One, Each}
 use Rattle.plan_check.specs.declared.labelling.Join.{Join}
 use Rattle.plan_check.specs.declared.labelling.Join.TheVariants.{And, Or, Implies}
-use Rattle.plan_check.proofs.LabelFacts.{and_left, and_right, and_true, or_cases, or_left, or_right}
 use Rattle.plan_check.proofs.LabelTruth.{each_next, every_until, every_weak, everywhere, implies_shows, nowhere, one_next, some_until, some_weak}
+use Rattle.list_laws.proofs.Booleans.{and_first, and_second}
 
 abbrev row : List Ctl → CtlTree Cond
 row goals = all (goal_row (map ctl_value goals))
@@ -63,9 +63,9 @@ module _ (graph : Graph) (goals : List Ctl) where
             let within : i < length marks = omega (arith, h.count) in
             let truth = shows n (h.known n k).0 in (
               λ s. let both = sym (joined.each i within) ∙ s.0 in
-                  (h.each n i k l).0 (and_left (mark_at marks i) (mark_at part i) both, ((truth.each i l).0 (and_right (mark_at marks i) (mark_at part i) both), s.1)),
+                  (h.each n i k l).0 (and_first (mark_at marks i) (mark_at part i) both, ((truth.each i l).0 (and_second (mark_at marks i) (mark_at part i) both), s.1)),
               λ s. let whole = (h.each n i k l).1 s in
-                  (joined.each i within ∙ and_true (mark_at marks i) (mark_at part i) whole.0 ((truth.each i l).1 whole.1.0), whole.1.1),
+                  (joined.each i within ∙ and_from (mark_at marks i) (mark_at part i) whole.0 ((truth.each i l).1 whole.1.0), whole.1.1),
             );
       }
 

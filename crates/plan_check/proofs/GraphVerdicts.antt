@@ -19,7 +19,7 @@ use Rattle.task_core.specs.declared.classes.Class.{Class}
 use Rattle.task_core.specs.declared.classes.Class.TheVariants.{Weak, Strong, Cyclic}
 use Rattle.task_core.specs.declared.conditions.Cond.{Cond}
 use Rattle.task_core.specs.declared.tasks.Task.{Task}
-use Rattle.task_core.proofs.TaskSystem.{is_system, states_where_has, states_where_holds, value_of-vector}
+use Rattle.task_core.proofs.TaskSystem.{goal_states_of, is_system, states_where_has, states_where_holds, value_of-vector}
 use Rattle.plan_rules.specs.Rules.{PlanRule, table}
 use Rattle.plan_rules.specs.Denoted.{denoted}
 use Rattle.exec_graph.proofs.Reaching.{reached_state}
@@ -93,9 +93,6 @@ module _ (sys : System) (rules : List PlanRule) where
       before Cycle l = tt
       before Unreachable l = absurd (omega arith)
       before Formula l = absurd (omega arith)
-
-goal_states_of : (task : Task) (goal : Cond) → task.goal ≡ Some goal → goal_states (system_of task) ≡ states_where task goal
-goal_states_of task goal e = ap (λ (o : Option Cond). unwrap_or (option_map (states_where task) o) []) e
 
 -- the goal in a state, over the values of n fluents
 pub goal_value : (n : ℕ) (goal : Cond) (s : State) (v : Vector) → IsTrue (ids_below n goal) → v ≡ vector n s → holds_in goal s ≡ holds goal (value_of v)

@@ -1,7 +1,7 @@
 -- Labels that are written mark by mark, and what a label reaches in rounds.
 use Rattle.std.proofs.Common.{◌≡◌, ◌⊎◌, ℕ, zero, suc, ◌+◌, ◌<◌, Bool, true, false, not, ◌&&◌, ◌||◌, List, [], ◌∷◌, ◌++◌, length, get_or, set, refl, sym, ap, ◌∙◌, subst, arith, ⊎_elim, inl, inr}
 use Rattle.std.specs.List.{All, Contains}
-use Rattle.std.proofs.lemmas.Bool.{false≢true}
+use Rattle.std.proofs.lemmas.Bool.{false≢true, or_cases, or_left, or_right, and_from}
 use Rattle.std.proofs.lemmas.List.{get_or_append_left, get_or_push}
 use Rattle.std.proofs.lemmas.List.Elements.{Contains-get_or}
 use borrow.Author.Count.{below_more}
@@ -12,6 +12,7 @@ use Rattle.plan_check.specs.Labels.{IsWithinRounds, in_round, is_led, mark_at}
 use Rattle.plan_check.specs.declared.spreading.Need.{Need}
 use Rattle.plan_check.specs.declared.spreading.Need.TheVariants.{One, Each}
 use Rattle.plan_check.proofs.MarkFacts.{marked_cases}
+use Rattle.list_laws.proofs.Booleans.{and_first, and_second}
 
 -- one more mark at the end
 pub mark_push : (marks : List Bool) (b : Bool) (value : ℕ → Bool) (i : ℕ) → length marks ≡ i → ((k : ℕ) → k < i → mark_at marks k ≡ value k) → b ≡ value i
@@ -27,29 +28,6 @@ followers_below graph inside i n read l size is = λ k d within.
     subst (λ m. get_or read k d < m) (sym size) (inside i (get_or read k d) l (subst (λ xs. Contains xs (get_or read k d)) (sym is) (Contains-get_or read k d within)))
 
 -- truth values
-pub and_true : (a b : Bool) → a ≡ true → b ≡ true → (a && b) ≡ true
-and_true true b p q = q
-and_true false b p q = p
-
-pub and_left : (a b : Bool) → (a && b) ≡ true → a ≡ true
-and_left true b p = refl
-and_left false b p = p
-
-pub and_right : (a b : Bool) → (a && b) ≡ true → b ≡ true
-and_right true b p = p
-and_right false b p = absurd (false≢true p)
-
-pub or_cases : (a b : Bool) → (a || b) ≡ true → (a ≡ true) ⊎ (b ≡ true)
-or_cases true b p = inl refl
-or_cases false b p = inr p
-
-pub or_left : (a b : Bool) → a ≡ true → (a || b) ≡ true
-or_left true b p = refl
-or_left false b p = absurd (false≢true p)
-
-pub or_right : (a b : Bool) → b ≡ true → (a || b) ≡ true
-or_right true b p = refl
-or_right false b p = p
 
 pub not_true : (a : Bool) → not a ≡ true → a ≡ false
 not_true true p = sym p
@@ -72,13 +50,13 @@ one_from has (x ∷ xs) j (suc k, l, is) h = or_right (has x) (is_led One has xs
 
 pub each_of : (has : ℕ → Bool) (xs : List ℕ) → is_led Each has xs ≡ true → (j : ℕ) → Contains xs j → has j ≡ true
 each_of has [] e j (k, l, is) = absurd (omega arith)
-each_of has (x ∷ xs) e j (zero, l, is) = sym (ap has is) ∙ and_left (has x) (is_led Each has xs) e
-each_of has (x ∷ xs) e j (suc k, l, is) = each_of has xs (and_right (has x) (is_led Each has xs) e) j (k, omega arith, is)
+each_of has (x ∷ xs) e j (zero, l, is) = sym (ap has is) ∙ and_first (has x) (is_led Each has xs) e
+each_of has (x ∷ xs) e j (suc k, l, is) = each_of has xs (and_second (has x) (is_led Each has xs) e) j (k, omega arith, is)
 
 pub each_from : (has : ℕ → Bool) (xs : List ℕ) → ((j : ℕ) → Contains xs j → has j ≡ true) → is_led Each has xs ≡ true
 each_from has [] all = refl
 each_from has (x ∷ xs) all =
-    and_true (has x) (is_led Each has xs) (all x (0, omega arith, refl)) (each_from has xs (λ j c. all j (suc c.0, omega arith, c.2)))
+    and_from (has x) (is_led Each has xs) (all x (0, omega arith, refl)) (each_from has xs (λ j c. all j (suc c.0, omega arith, c.2)))
 
 -- where not each of some numbers has it, one hasn't
 pub each_fails : (has : ℕ → Bool) (xs : List ℕ) → is_led Each has xs ≡ false → (j : ℕ) × Contains xs j × (has j ≡ false)
@@ -102,8 +80,8 @@ module _ (need : Need) (next : ℕ → List ℕ) (guard target : ℕ → Bool) w
       let further = is_led need (in_round need next guard target (suc k)) (next i) in
       ⊎_elim
       (λ t. or_left (target i) (guard i && further) t)
-      (λ g. or_right (target i) (guard i && further) (and_true (guard i) further (and_left (guard i) led g)
-      (led_weaker need (in_round need next guard target k) (in_round need next guard target (suc k)) (next i) (λ j r. round_more k j r) (and_right (guard i) led g))))
+      (λ g. or_right (target i) (guard i && further) (and_from (guard i) further (and_first (guard i) led g)
+      (led_weaker need (in_round need next guard target k) (in_round need next guard target (suc k)) (next i) (λ j r. round_more k j r) (and_second (guard i) led g))))
       (or_cases (target i) (guard i && led) e)
 
   -- one more mark, of a number that has the guard and is led to marks
@@ -115,7 +93,7 @@ module _ (need : Need) (next : ℕ → List ℕ) (guard target : ℕ → Bool) w
             (λ old. round_more w.rounds j (w.each j old))
             (λ (same : i ≡ j). subst (λ k. in_round need next guard target (suc w.rounds) k ≡ true) same
             (or_right (target i) (guard i && is_led need (in_round need next guard target w.rounds) (next i))
-            (and_true (guard i) (is_led need (in_round need next guard target w.rounds) (next i)) g
+            (and_from (guard i) (is_led need (in_round need next guard target w.rounds) (next i)) g
             (led_weaker need (mark_at marks) (in_round need next guard target w.rounds) (next i) w.each led))))
             (marked_cases marks i j m);
       }

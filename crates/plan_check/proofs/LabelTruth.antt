@@ -3,7 +3,7 @@
 -- for every number of steps.
 use Rattle.std.proofs.Common.{◌≡◌, ◌⊎◌, ℕ, zero, suc, ◌<◌, Bool, true, false, not, ◌&&◌, ◌||◌, List, [], ◌∷◌, length, refl, sym, ap, ◌∙◌, arith, ⊎_elim, inl, inr}
 use Rattle.std.specs.List.{Contains}
-use Rattle.std.proofs.lemmas.Bool.{false≢true}
+use Rattle.std.proofs.lemmas.Bool.{false≢true, or_cases}
 use Rattle.ctl_syntax.specs.Paths.{Meets, MeetsOrKeeps, SomeNext, EveryPathMeets, SomePathMeets, EveryPathKeeps, SomePathKeeps}
 use Rattle.task_core.specs.Paths.{IsPath}
 use Rattle.ctl_syntax.proofs.Meeting.{meets_here, meets_later, meets_cases, meets_nothing, keeps_nothing, keeps_more, holds_here, holds_later, opposite}
@@ -11,7 +11,8 @@ use Rattle.plan_check.specs.Labels.{IsJoined, IsLeast, IsNegated, IsNext, IsWeak
 use Rattle.plan_check.specs.Walks.{StaysBelow}
 use Rattle.plan_check.specs.declared.spreading.Need.TheVariants.{One, Each}
 use Rattle.plan_check.specs.declared.labelling.Join.TheVariants.{And, Or, Implies, Neither}
-use Rattle.plan_check.proofs.LabelFacts.{and_left, and_right, decided, each_fails, each_from, each_of, not_true, one_from, one_of, or_cases}
+use Rattle.plan_check.proofs.LabelFacts.{decided, each_fails, each_from, each_of, not_true, one_from, one_of}
+use Rattle.list_laws.proofs.Booleans.{and_first, and_second}
 
 -- what a label says of a number
 module _ (n : ℕ) (G : ℕ → Type 0) (label : List Bool) (shows : Shows n G label) where
@@ -44,7 +45,7 @@ module _ (n : ℕ) (G H : ℕ → Type 0) (left right : List Bool) (first : Show
       record {
         count = h.count;
         each = λ i l. (
-          λ m. let both = sym (h.each i l) ∙ m in (is_so n G left first i l (and_left (mark_at left i) (mark_at right i) both), is_so n H right second i l (and_right (mark_at left i) (mark_at right i) both)),
+          λ m. let both = sym (h.each i l) ∙ m in (is_so n G left first i l (and_first (mark_at left i) (mark_at right i) both), is_so n H right second i l (and_second (mark_at left i) (mark_at right i) both)),
           λ both. h.each i l ∙ (ap (λ a. a && mark_at right i) (is_marked n G left first i l both.0) ∙ is_marked n H right second i l both.1),
         );
       }
@@ -153,8 +154,8 @@ module _ (n : ℕ) (next : ℕ → List ℕ) (inside : StaysBelow n next) where
         let led = is_led Each (in_round Each next (mark_at guard) (mark_at target) k) (next i) in
         ⊎_elim
         (λ t. meets_here G H i (j ∷ rest) (is_so n H target second i l t))
-        (λ g. meets_later G H i (j ∷ rest) (is_so n G guard first i l (and_left (mark_at guard i) led g))
-        (meets_in k j (inside i j l p.0) (each_of (in_round Each next (mark_at guard) (mark_at target) k) (next i) (and_right (mark_at guard i) led g) j p.0) rest (omega arith) p.1))
+        (λ g. meets_later G H i (j ∷ rest) (is_so n G guard first i l (and_first (mark_at guard i) led g))
+        (meets_in k j (inside i j l p.0) (each_of (in_round Each next (mark_at guard) (mark_at target) k) (next i) (and_second (mark_at guard i) led g) j p.0) rest (omega arith) p.1))
         (or_cases (mark_at target i) (mark_at guard i && led) e)
 
     some_in : (k i : ℕ) → i < n → in_round One next (mark_at guard) (mark_at target) k i ≡ true → SomePathMeets Follows G H i
@@ -164,9 +165,9 @@ module _ (n : ℕ) (next : ℕ → List ℕ) (inside : StaysBelow n next) where
         let led = is_led One before (next i) in
         ⊎_elim
         (λ t. record { rest = []; path = tt; meets = meets_here G H i [] (is_so n H target second i l t) })
-        (λ g. let w = one_of before (next i) (and_right (mark_at guard i) led g) in
+        (λ g. let w = one_of before (next i) (and_second (mark_at guard i) led g) in
         let s = some_in k w.0 (inside i w.0 l w.1) w.2 in
-        record { rest = w.0 ∷ s.rest; path = (w.1, s.path); meets = meets_later G H i (w.0 ∷ s.rest) (is_so n G guard first i l (and_left (mark_at guard i) led g)) s.meets })
+        record { rest = w.0 ∷ s.rest; path = (w.1, s.path); meets = meets_later G H i (w.0 ∷ s.rest) (is_so n G guard first i l (and_first (mark_at guard i) led g)) s.meets })
         (or_cases (mark_at target i) (mark_at guard i && led) e)
 
     -- a path meets G until H or keeps G, or it meets the end of both before H

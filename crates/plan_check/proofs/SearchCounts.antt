@@ -2,7 +2,6 @@
 use Rattle.std.proofs.Common.{◌≡◌, ◌≢◌, ℕ, ◌+◌, ◌*◌, ◌<◌, ◌≤◌, List, [], ◌∷◌, length, set, max, refl, sym, ap, ◌∙◌, subst, arith}
 use Rattle.std.specs.List.{Contains}
 use Rattle.exec_graph.specs.Values.{lengths_below, sum_below}
-use Rattle.exec_graph.proofs.Lists.{Contains-nil}
 use Rattle.plan_check.specs.Plain.{IsTurned}
 use Rattle.plan_check.specs.Searches.{IsSearch, entered, looks_at, looks_by, visit_at}
 use Rattle.plan_check.specs.declared.search.Mark.{Mark}
@@ -10,6 +9,7 @@ use Rattle.plan_check.specs.declared.search.Mark.TheVariants.{Unseen, Open, Done
 use Rattle.plan_check.specs.declared.search.Visit.{Visit}
 use Rattle.plan_check.proofs.SearchSteps.{elsewhere, here}
 use Rattle.plan_check.proofs.Sums.{sum_less, sum_most, sum_one, sum_plus}
+use Rattle.list_laws.proofs.Elements.{Contains-nil}
 
 entered_most : (xs : List ℕ) → entered xs ≤ length xs
 entered_most [] = omega arith

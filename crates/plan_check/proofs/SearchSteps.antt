@@ -15,7 +15,7 @@ use Rattle.plan_check.specs.declared.search.Mark.TheVariants.{Unseen, Open, Done
 use Rattle.plan_check.specs.declared.search.Visit.{Visit}
 use Rattle.plan_check.proofs.WalkFacts.{trail_pop}
 
-abbrev new_visit : Visit
+abbrev pub new_visit : Visit
 new_visit = record { mark = Open; tried = 0; height = 0 }
 
 -- a number that isn't unseen is one of the visits

@@ -13,14 +13,11 @@ use Rattle.plan_check.specs.declared.search.Mark.TheVariants.{Unseen, Open, Done
 use Rattle.plan_check.specs.declared.search.Visit.{Visit}
 use Rattle.plan_check.proofs.WalkFacts.{split_last, trail_push, trail_round}
 use Rattle.plan_check.proofs.SearchCounts.{entered_some, looks_ended, looks_left, looks_opened, looks_took}
-use Rattle.plan_check.proofs.SearchSteps.{ended_keeps, ended_less, ended_search, height_fits, on_path_open, opened, opened_keeps, opened_less, seen_below, took, took_keeps, took_less}
+use Rattle.plan_check.proofs.SearchSteps.{ended_keeps, ended_less, ended_search, height_fits, on_path_open, opened, opened_keeps, opened_less, seen_below, took, took_keeps, took_less, new_visit}
 
 -- the search over equal lists
 same_search : (n : ℕ) (next : ℕ → List ℕ) (visits now : List Visit) (path new : List ℕ) → now ≡ visits → new ≡ path → IsSearch n next visits path → IsSearch n next now new
 same_search n next visits now path new a b h = subst (λ vs. IsSearch n next vs new) (sym a) (subst (IsSearch n next visits) (sym b) h)
-
-abbrev begun : Visit
-begun = record { mark = Open; tried = 0; height = 0 }
 
 abbrev higher : Visit → ℕ → Visit
 higher visit height = record { mark = visit.mark; tried = visit.tried + 1; height = max visit.height (height + 1) }
@@ -30,13 +27,13 @@ over visit = record { mark = Done; tried = visit.tried; height = visit.height }
 
 -- a first number on the path
 pub turn_begins : (n : ℕ) (next : ℕ → List ℕ) (visits now : List Visit) (path new : List ℕ) (root : ℕ) (visit : Visit) → IsSearch n next visits path → path ≡ [] → root < n → visit ≡ get_or visits root visit → visit.mark ≡ Unseen
-    → now ≡ set visits root begun → new ≡ path ++ root ∷ [] → IsSearch n next now new × KeepsSeen visits now × ((visit_at now root).mark ≡ Unseen → ⊥)
+    → now ≡ set visits root new_visit → new ≡ path ++ root ∷ [] → IsSearch n next now new × KeepsSeen visits now × ((visit_at now root).mark ≡ Unseen → ⊥)
 turn_begins n next visits now path new root visit h none below is unseen a b =
     let l : root < length visits = subst (λ m. root < m) (sym h.count) below in
     let un : (visit_at visits root).mark ≡ Unseen = sym (ap (λ (w : Visit). w.mark) (get_or_read visits root visit l is no_visit)) ∙ unseen in
     let trail : IsTrail next (path ++ root ∷ []) = subst (λ p. IsTrail next (p ++ root ∷ [])) (sym none) tt in
     let s = opened n next visits path h root below un trail in
-    let new_search = same_search n next (set visits root begun) now (path ++ root ∷ []) new a b s in
+    let new_search = same_search n next (set visits root new_visit) now (path ++ root ∷ []) new a b s in
     let on : (visit_at now root).mark ≡ Open = on_path_open n next now new new_search root (subst (λ p. Contains p root) (sym b) (last_in path root)) in (
       new_search,
       subst (λ vs. KeepsSeen visits vs) (sym a) (opened_keeps n next visits path h root below un trail),
@@ -50,7 +47,7 @@ turn_begins n next visits now path new root visit h none below is unseen a b =
     open_unseen e = cc
 
 pub turn_begins_looks : (n : ℕ) (next prev : ℕ → List ℕ) (visits now : List Visit) (path : List ℕ) (root : ℕ) (visit : Visit) → IsTurned n next prev → IsSearch n next visits path → root < n
-    → visit ≡ get_or visits root visit → visit.mark ≡ Unseen → now ≡ set visits root begun → sum_below (looks_at prev visits) n ≤ sum_below (looks_at prev now) n
+    → visit ≡ get_or visits root visit → visit.mark ≡ Unseen → now ≡ set visits root new_visit → sum_below (looks_at prev visits) n ≤ sum_below (looks_at prev now) n
 turn_begins_looks n next prev visits now path root visit turned h below is unseen a =
     let l : root < length visits = subst (λ m. root < m) (sym h.count) below in
     let un : (visit_at visits root).mark ≡ Unseen = sym (ap (λ (w : Visit). w.mark) (get_or_read visits root visit l is no_visit)) ∙ unseen in
@@ -109,7 +106,7 @@ module _ (n : ℕ) (next : ℕ → List ℕ) (visits : List Visit) (path : List 
             (subst (λ p. Contains p follower) path_is (h.all_on_path follower (sym (ap (λ (w : Visit). w.mark) other_is) ∙ e)))
             follows
 
-        module _ (e : other.mark ≡ Unseen) (now : List Visit) (new : List ℕ) (a : now ≡ set visits follower begun) (b : new ≡ path ++ follower ∷ []) where
+        module _ (e : other.mark ≡ Unseen) (now : List Visit) (new : List ℕ) (a : now ≡ set visits follower new_visit) (b : new ≡ path ++ follower ∷ []) where
           unseen : (visit_at visits follower).mark ≡ Unseen
           unseen = sym (ap (λ (w : Visit). w.mark) other_is) ∙ e
 
@@ -117,7 +114,7 @@ module _ (n : ℕ) (next : ℕ → List ℕ) (visits : List Visit) (path : List 
           trail = subst (λ p. IsTrail next (p ++ follower ∷ [])) (sym path_is) (trail_push next front top follower (subst (IsTrail next) path_is h.trail) follows)
 
           pub turn_opens : IsSearch n next now new
-          turn_opens = same_search n next (set visits follower begun) now (path ++ follower ∷ []) new a b (opened n next visits path h follower follower_below unseen trail)
+          turn_opens = same_search n next (set visits follower new_visit) now (path ++ follower ∷ []) new a b (opened n next visits path h follower follower_below unseen trail)
 
           pub turn_opens_keeps : KeepsSeen visits now
           turn_opens_keeps = subst (λ vs. KeepsSeen visits vs) (sym a) (opened_keeps n next visits path h follower follower_below unseen trail)

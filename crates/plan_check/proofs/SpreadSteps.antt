@@ -1,7 +1,7 @@
 -- A label that spreads from edge to edge.
 use Rattle.std.proofs.Common.{◌≡◌, ◌≢◌, ◌⊎◌, ◌↔◌, ℕ, zero, suc, ◌+◌, ◌-◌, ◌<◌, ◌≤◌, ◌==◌, Bool, true, false, not, ◌&&◌, ◌||◌, cond, List, [], ◌∷◌, ◌++◌, length, map, take, drop, get_or, set, refl, sym, ap, ◌∙◌, subst, arith, ⊎_elim, inl, inr, append_assoc, take_all}
 use Rattle.std.specs.List.{All, AllPairs, Contains, count_by}
-use Rattle.std.proofs.lemmas.Bool.{cases_eq, cases_lt, eq-eqb, eqb-true, false≢true}
+use Rattle.std.proofs.lemmas.Bool.{cases_eq, cases_lt, eq-eqb, eqb-true, false≢true, or_cases, or_left, or_right, and_from}
 use Rattle.std.proofs.lemmas.List.{append-nil, length-append, length-map, length-set, length-take, length_push, get_or-set_same, get_or-set_other, get_or-take, get_or_append_left, get_or_push, get_or_default, map-append, take_more, take-append-drop, take-append-le}
 use Rattle.std.proofs.lemmas.List.Concat.{flat_map-append}
 use Rattle.std.proofs.lemmas.List.Elements.{All-contains, All-push, Contains-append_cases, Contains-append_left, Contains-push}
@@ -15,7 +15,6 @@ use Rattle.exec_graph.specs.Graphs.{IsGraphOf}
 use Rattle.exec_graph.specs.Values.{followers_at, graph_size, lengths_below, plain_graph, predecessors_at}
 use Rattle.exec_graph.specs.declared.graphs.Graph.{Graph}
 use Rattle.exec_graph.specs.Rows.{Edge, edge}
-use Rattle.exec_graph.proofs.Lists.{Contains-head, Contains-cons, Contains-nil, Contains-cases, Contains-flat_map, Contains-flat_map-witness, Contains-map, Contains-map-witness, list_any-from, list_any-witness}
 use Rattle.plan_check.specs.Labels.{HasFollowers, IsLeast, in_round, is_led, mark_at}
 use Rattle.plan_check.specs.Marks.{ListsMarked, unmarked}
 use Rattle.plan_check.specs.Plain.{HasPredecessors, IsTurned}
@@ -23,9 +22,12 @@ use Rattle.plan_check.specs.Spreads.{IsSpreading, NeedsFollowers, Reaches, edges
 use Rattle.plan_check.specs.Walks.{IsMarked, LeadsToMarked, StaysBelow}
 use Rattle.plan_check.specs.declared.spreading.Need.{Need}
 use Rattle.plan_check.specs.declared.spreading.Need.TheVariants.{One, Each}
-use Rattle.plan_check.proofs.LabelFacts.{and_left, and_right, and_true, decided, each_from, each_of, led_weaker, not_true, one_from, one_of, or_cases, or_left, or_right, within_more}
-use Rattle.plan_check.proofs.EdgeCounts.{edges_even, edges_most, first_once, rest_once}
+use Rattle.plan_check.proofs.LabelFacts.{decided, each_from, each_of, led_weaker, not_true, one_from, one_of, within_more}
+use Rattle.plan_check.proofs.EdgeCounts.{edges_even, edges_most}
 use Rattle.plan_check.proofs.MarkFacts.{closed_leads, fewer_unmarked, leads_before, marked_below, marked_cases, marked_more, marked_same}
+use Rattle.list_laws.proofs.Elements.{Contains-cases, Contains-cons, Contains-flat_map, Contains-flat_map-witness, Contains-head, Contains-map, Contains-map-witness, Contains-nil, list_any-from, list_any-witness}
+use Rattle.list_laws.proofs.Distinct.{first_once, rest_once}
+use Rattle.list_laws.proofs.Booleans.{and_first, and_second}
 
 not_before : (xs : List ℕ) (k x : ℕ) → AllPairs (λ i j. i ≢ j) xs → k < length xs → get_or xs k 0 ≡ x → Contains (take k xs) x → ⊥
 not_before xs k x once l is c =
@@ -68,15 +70,15 @@ count_none p [] e = refl
 count_none p (x ∷ xs) e =
     let s = count_cons (λ j. not (p j)) x xs in
     ⊎_elim
-    (λ (t : p x ≡ true). let z : one_if (not (p x)) ≡ 0 = ap (λ (b : Bool). one_if (not b)) t in and_true (p x) (is_led Each p xs) t (count_none p xs (omega (arith, s, z, e))))
+    (λ (t : p x ≡ true). let z : one_if (not (p x)) ≡ 0 = ap (λ (b : Bool). one_if (not b)) t in and_from (p x) (is_led Each p xs) t (count_none p xs (omega (arith, s, z, e))))
     (λ (f : p x ≡ false). let o : one_if (not (p x)) ≡ 1 = ap (λ (b : Bool). one_if (not b)) f in absurd (omega (arith, s, o, e)))
     (decided (p x))
 
 count_all : (p : ℕ → Bool) (xs : List ℕ) → is_led Each p xs ≡ true → count_by (λ j. not (p j)) xs ≡ 0
 count_all p [] e = refl
 count_all p (x ∷ xs) e =
-    let z : one_if (not (p x)) ≡ 0 = ap (λ (b : Bool). one_if (not b)) (and_left (p x) (is_led Each p xs) e) in
-    let rest = count_all p xs (and_right (p x) (is_led Each p xs) e) in
+    let z : one_if (not (p x)) ≡ 0 = ap (λ (b : Bool). one_if (not b)) (and_first (p x) (is_led Each p xs) e) in
+    let rest = count_all p xs (and_second (p x) (is_led Each p xs) e) in
     omega (arith, z, rest, count_cons (λ j. not (p j)) x xs)
 
 count_whole : (xs : List ℕ) → count_by (λ (j : ℕ). true) xs ≡ length xs
@@ -106,7 +108,7 @@ module _ (edges : List Edge) (i x : ℕ) where
   looked_here =
       looked_more i x
       ∙ or_right (is_looked edges i x) (is_looked (edge i x ∷ []) i x)
-      (or_left ((i == i) && (x == x)) false (and_true (i == i) (x == x) (eq-eqb i i refl) (eq-eqb x x refl)))
+      (or_left ((i == i) && (x == x)) false (and_from (i == i) (x == x) (eq-eqb i i refl) (eq-eqb x x refl)))
 
   looked_old : (a b : ℕ) → is_looked edges a b ≡ true → is_looked (edges ++ edge i x ∷ []) a b ≡ true
   looked_old a b t = looked_more a b ∙ or_left (is_looked edges a b) (is_looked (edge i x ∷ []) a b) t
@@ -116,7 +118,7 @@ module _ (edges : List Edge) (i x : ℕ) where
       ⊎_elim (λ o. inl o)
       (λ n.
       ⊎_elim
-      (λ (s : ((i == a) && (x == b)) ≡ true). inr (eqb-true i a (and_left (i == a) (x == b) s), eqb-true x b (and_right (i == a) (x == b) s)))
+      (λ (s : ((i == a) && (x == b)) ≡ true). inr (eqb-true i a (and_first (i == a) (x == b) s), eqb-true x b (and_second (i == a) (x == b) s)))
       (λ (f : false ≡ true). absurd (false≢true f))
       (or_cases ((i == a) && (x == b)) false n))
       (or_cases (is_looked edges a b) (is_looked (edge i x ∷ []) a b) (sym (looked_more a b) ∙ t))
@@ -131,12 +133,12 @@ module _ (edges : List Edge) (i x : ℕ) where
 
 looked_from : (edges : List Edge) (i j : ℕ) → Contains edges (edge i j) → is_looked edges i j ≡ true
 looked_from edges i j c =
-    list_any-from (λ (e : Edge). (e.source == i) && (e.target == j)) edges (edge i j) c (and_true (i == i) (j == j) (eq-eqb i i refl) (eq-eqb j j refl))
+    list_any-from (λ (e : Edge). (e.source == i) && (e.target == j)) edges (edge i j) c (and_from (i == i) (j == j) (eq-eqb i i refl) (eq-eqb j j refl))
 
 looked_witness : (edges : List Edge) (i j : ℕ) → is_looked edges i j ≡ true → (e : Edge) × Contains edges e × (e.source ≡ i) × (e.target ≡ j)
 looked_witness edges i j t =
     let w = list_any-witness (λ (e : Edge). (e.source == i) && (e.target == j)) edges t in
-    (w.0, w.1, eqb-true w.0.source i (and_left (w.0.source == i) (w.0.target == j) w.2), eqb-true w.0.target j (and_right (w.0.source == i) (w.0.target == j) w.2))
+    (w.0, w.1, eqb-true w.0.source i (and_first (w.0.source == i) (w.0.target == j) w.2), eqb-true w.0.target j (and_second (w.0.source == i) (w.0.target == j) w.2))
 
 edges_to_means : (prev : ℕ → List ℕ) (xs : List ℕ) (e : Edge) → Contains (edges_to prev xs) e → Contains xs e.target × Contains (prev e.target) e.source
 edges_to_means prev xs e c =
@@ -237,8 +239,8 @@ module _ (n : ℕ) (need : Need) (next : ℕ → List ℕ) (guard marks : List B
             let here : is_led need (is_looked (edges ++ edge i x ∷ []) i) (next i) ≡ true = subst (λ m. is_led need (is_looked (edges ++ edge i x ∷ []) m) (next m) ≡ true) e led in
             let guarded : mark_at guard i ≡ true = subst (λ m. mark_at guard m ≡ true) e g in
             let due : is_due need guard marks left i ≡ true =
-            and_true (not (mark_at marks i)) (mark_at guard i && is_enough need left) (ap not f)
-            (and_true (mark_at guard i) (is_enough need left) guarded (enough_from need left (is_looked (edges ++ edge i x ∷ []) i) (next i) left_here here)) in
+            and_from (not (mark_at marks i)) (mark_at guard i && is_enough need left) (ap not f)
+            (and_from (mark_at guard i) (is_enough need left) guarded (enough_from need left (is_looked (edges ++ edge i x ∷ []) i) (next i) left_here here)) in
             absurd (false≢true (sym none ∙ due)))
             (decided (mark_at marks i)))
             (λ (ne : a ≢ i). due_other a l ne g led)
@@ -253,10 +255,10 @@ module _ (n : ℕ) (need : Need) (next : ℕ → List ℕ) (guard marks : List B
     step_more due =
         let left = get_or lacks i 0 - 1 in
         let within : i < length marks = subst (λ m. i < m) (sym h.count) below in
-        let unset : mark_at marks i ≡ false = not_true (mark_at marks i) (and_left (not (mark_at marks i)) (mark_at guard i && is_enough need left) due) in
-        let both = and_right (not (mark_at marks i)) (mark_at guard i && is_enough need left) due in
-        let guarded = and_left (mark_at guard i) (is_enough need left) both in
-        let enough = and_right (mark_at guard i) (is_enough need left) both in
+        let unset : mark_at marks i ≡ false = not_true (mark_at marks i) (and_first (not (mark_at marks i)) (mark_at guard i && is_enough need left) due) in
+        let both = and_second (not (mark_at marks i)) (mark_at guard i && is_enough need left) due in
+        let guarded = and_first (mark_at guard i) (is_enough need left) both in
+        let enough = and_second (mark_at guard i) (is_enough need left) both in
         let led : is_led need (mark_at marks) (next i) ≡ true =
         led_weaker need (is_looked (edges ++ edge i x ∷ []) i) (mark_at marks) (next i) (λ j t. sound_now i j t)
         (enough_led need left (is_looked (edges ++ edge i x ∷ []) i) (next i) x left_here follows (looked_here edges i x) enough) in
@@ -479,7 +481,7 @@ least_leads n next guard first marks stays whole least i l = (
         let led = is_led One (in_round One next (mark_at guard) (mark_at first) k) (next a) in
         ⊎_elim
         (λ t. record { rest = []; walk = tt; ends = t })
-        (λ g. let w = one_of (in_round One next (mark_at guard) (mark_at first) k) (next a) (and_right (mark_at guard a) led g) in leads_before next first a w.0 w.1 (rounds_lead k w.0 w.2))
+        (λ g. let w = one_of (in_round One next (mark_at guard) (mark_at first) k) (next a) (and_second (mark_at guard a) led g) in leads_before next first a w.0 w.1 (rounds_lead k w.0 w.2))
         (or_cases (mark_at first a) (mark_at guard a && led) e)
 
 -- no follower has a label that none has

@@ -3,7 +3,7 @@ use Rattle.std.proofs.Common.{◌≡◌, ◌≢◌, ◌⊎◌, ℕ, zero, suc, �
 use Rattle.std.specs.List.{Contains}
 use Rattle.std.proofs.lemmas.Bool.{cases_eq, cases_lt, eq-eqb, ne_eqb}
 use Rattle.exec_graph.specs.Values.{sum_below}
-use Rattle.exec_graph.proofs.Lists.{Contains-head, Contains-cons}
+use Rattle.list_laws.proofs.Elements.{Contains-cons, Contains-head}
 
 pub sum_same : (f g : ℕ → ℕ) (n : ℕ) → ((i : ℕ) → i < n → f i ≡ g i) → sum_below f n ≡ sum_below g n
 sum_same f g zero h = refl

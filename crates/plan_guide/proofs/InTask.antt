@@ -15,14 +15,8 @@ use Rattle.plan_guide.specs.declared.rules.GuideRule.{GuideRule}
 use Rattle.plan_guide.specs.GuideRules.{IsNextIndexed, rule_value}
 use Rattle.plan_guide.specs.Guides.{IsReady}
 use Rattle.plan_guide.specs.RunRules.{IsRunRuleOf, in_one_context, run_rules}
-
-pub unmapped : {X Y : Type 0} (P : X → Type 0) (f : Y → X) (ys : List Y) → All P (map f ys) → All (λ y. P (f y)) ys
-unmapped P f ys all k d lt =
-    subst P (get_or-map f ys k d (f d) lt) (all k (f d) (subst (λ n. k < n) (sym (length-map ys f)) lt))
-
-cases_of_next : (n contexts : ℕ) (next : PlanNext) → IsNextOf n contexts next → AreCasesOf n next
-cases_of_next n contexts (always context) h = tt
-cases_of_next n contexts (by_cases cases) h = λ k d lt. (h k d lt).cube
+use Rattle.list_laws.proofs.Elements.{All-unmap}
+use Rattle.plan_rules.proofs.CaseCubes.{cases_of_next}
 
 pub run_rules_in_task : (n m : ℕ) (plan : PlainPlan) → IsPlainPlanOf n m plan → All (IsRunRuleOf n m) (run_rules plan)
 run_rules_in_task n m (table class rules) all =
@@ -46,17 +40,13 @@ cases_below n (by_cases cases) few fits = λ k d lt. lits_of_cube n (get_or case
 pub next_cases : (n m : ℕ) (rules : List AutoRule) → n ≤ 256 → All (IsRunRuleOf n m) (map context_rule_of rules)
     → All (λ (rule : AutoRule). AreCasesOf 256 (next_of rule.next)) rules
 next_cases n m rules few all k d lt =
-    cases_below n (next_of (get_or rules k d).next) few (unmapped (IsRunRuleOf n m) context_rule_of rules all k d lt).cases
-
-pub cubes_of_cases : (n : ℕ) (cases : List Case) → All (λ (case : PlanCase). IsCubeOf n case.cube) (map case_of cases)
-    → All (λ (case : Case). IsCubeOf n case.cube.items) cases
-cubes_of_cases n cases all k d lt = unmapped (λ (case : PlanCase). IsCubeOf n case.cube) case_of cases all k d lt
+    cases_below n (next_of (get_or rules k d).next) few (All-unmap (IsRunRuleOf n m) context_rule_of rules all k d lt).cases
 
 -- the rules of a guide are ready where they are a task's and have their indices
 pub all_ready : (n m : ℕ) (rules : List GuideRule) (plain : List ContextRule) → map rule_value rules ≡ plain → All (IsRunRuleOf n m) plain
     → All (λ (rule : GuideRule). IsNextIndexed rule.onward) rules → All (IsReady n m) rules
 all_ready n m rules plain is all indexed k d lt = record {
-  in_task = unmapped (IsRunRuleOf n m) rule_value rules (subst (All (IsRunRuleOf n m)) (sym is) all) k d lt;
+  in_task = All-unmap (IsRunRuleOf n m) rule_value rules (subst (All (IsRunRuleOf n m)) (sym is) all) k d lt;
   indexed = indexed k d lt;
 }
 
@@ -71,4 +61,4 @@ pub lits_mapped : {X : Type 0} (cube : X → Cube) (xs : List X) (cubes : List C
 lits_mapped cube xs cubes is all = subst (All AreLits) (sym is) (All-map AreLits cube xs all)
 
 pub lits_of_cases : (cases : List Case) → All (λ (case : PlanCase). IsCubeOf 256 case.cube) (map case_of cases) → All (λ (case : Case). AreLits case.cube.items) cases
-lits_of_cases cases all k d lt = unmapped (λ (case : PlanCase). IsCubeOf 256 case.cube) case_of cases all k d lt
+lits_of_cases cases all k d lt = All-unmap (λ (case : PlanCase). IsCubeOf 256 case.cube) case_of cases all k d lt

@@ -1,6 +1,6 @@
 -- The goal states of a task, and graphs that are too large to be shown.
-use Rattle.std.proofs.Common.{◌≡◌, ◌↔◌, ℕ, ◌<◌, Bool, true, false, cond, ◌&&◌, IsTrue, List, Option, [], length, map, get_or, Some, None, slice_get, refl, sym, ap, ◌∙◌, subst, arith}
-use Rattle.std.specs.List.{Contains, range_with_len}
+use Rattle.std.proofs.Common.{◌≡◌, ◌≢◌, ◌↔◌, ℕ, ◌<◌, ◌≤◌, Bool, true, false, cond, ◌&&◌, IsTrue, List, Option, [], ◌∷◌, length, map, get_or, Some, None, slice_get, refl, sym, ap, ◌∙◌, subst, arith}
+use Rattle.std.specs.List.{AllPairs, Contains, range_with_len}
 use Rattle.std.specs.Option.{option_and_then, option_map, unwrap_or}
 use Rattle.std.proofs.lemmas.Bool.{and_from, and_parts, false≢true}
 use Rattle.std.proofs.lemmas.List.{length-map}
@@ -8,11 +8,10 @@ use Rattle.std.proofs.lemmas.Option.{none-some, slice_get_within}
 use Rattle.std.proofs.lemmas.List.FromFn.{length-map-range_with_len, get_or-map-range_with_len}
 use Rattle.exec_graph.specs.Executions.{IsReachedBy, ReachesMoreThan}
 use Rattle.exec_graph.specs.Graphs.{IsGraphOf, PlainGraph}
-use Rattle.exec_graph.proofs.Lists.{Contains-nil}
 use Rattle.plan_picture.proofs.Shown.{IsNumberedSystem}
 use Rattle.plan_rules.specs.Rules.{PlainPlan}
 use Rattle.task_core.proofs.Agreement.{ids_below_widen, holds_agree}
-use Rattle.task_core.proofs.TaskSystem.{are_numbered, is_system, length-vector, states_where_has, states_where_holds, value_of-vector}
+use Rattle.task_core.proofs.TaskSystem.{goal_states_of, are_numbered, is_system, length-vector, states_where_has, states_where_holds, value_of-vector}
 use Rattle.task_core.specs.Actions.{after, goal_within}
 use Rattle.task_core.specs.Conditions.{holds, holds_in, ids_below}
 use Rattle.task_core.specs.ContextPlans.{Configuration}
@@ -23,15 +22,14 @@ use Rattle.task_core.specs.Vectors.{Vector, value_of}
 use Rattle.task_core.specs.declared.conditions.Cond.{Cond}
 use Rattle.task_core.specs.declared.states.State.{State}
 use Rattle.task_core.specs.declared.tasks.Task.{Task}
+use Rattle.list_laws.proofs.Elements.{Contains-map, Contains-nil, Contains-range_with_len}
+use Rattle.list_laws.proofs.Distinct.{Apart, Apart-few, first_once, rest_once}
 
 goal_inside : (task : Task) (goal : Cond) → task.goal ≡ Some goal → ids_below (fluent_count task) goal ≡ true
 goal_inside task goal e = ap (goal_within (fluent_count task)) (sym e) ∙ task.goal_within
 
 pub goal_below : (task : Task) (goal : Cond) → task.goal ≡ Some goal → IsTrue (ids_below 256 goal)
 goal_below task goal e = ids_below_widen goal (fluent_count task) 256 task.few_fluents (goal_inside task goal e)
-
-goal_states_of : (task : Task) (goal : Cond) → task.goal ≡ Some goal → goal_states (system_of task) ≡ states_where task goal
-goal_states_of task goal e = ap (λ (o : Option Cond). unwrap_or (option_map (states_where task) o) []) e
 
 goal_value : (task : Task) (goal : Cond) (s : State) → task.goal ≡ Some goal → holds_in goal s ≡ holds goal (value_of (vector (fluent_count task) s))
 goal_value task goal s e =
@@ -76,6 +74,33 @@ reaches_more sys plan graph limit is more =
       reached = λ i d l. subst (IsReachedBy sys plan) (sym (at i d l)) (is.reached i (omega (arith, l, long)));
       more = omega (arith, more, long);
     }
+
+-- and one of few configurations: the plan reaches no more
+apart : (xs : List Configuration) → AllPairs (λ x y. x ≢ y) xs → Apart xs
+apart [] h = tt
+apart (x ∷ xs) h = (λ c. first_once x xs h c, apart xs (rest_once x xs h))
+
+pub reaches_no_more : (sys : System) (plan : PlainPlan) (graph : PlainGraph) (limit : ℕ) → IsGraphOf sys plan graph → graph.size ≤ limit → ReachesMoreThan sys plan limit → ⊥
+reaches_no_more sys plan graph limit is few more =
+    let numbers = range_with_len 0 graph.size in
+    let places = map graph.configuration numbers in
+    let long : length places ≡ graph.size = length-map-range_with_len graph.configuration 0 graph.size in
+    let there : (x : Configuration) → Contains more.places x → Contains places x =
+    λ x c.
+    let node = is.listed x (subst (IsReachedBy sys plan) c.2 (more.reached c.0 x c.1)) in
+    subst (Contains places) node.is (Contains-map graph.configuration numbers node.number (Contains-range_with_len graph.size node.number node.below)) in
+    let fewer = Apart-few more.places places (apart more.places more.different) there in
+    let over = more.more in
+    omega arith
+
+-- more than many are more than few
+pub reaches_fewer : (sys : System) (plan : PlainPlan) (few many : ℕ) → few ≤ many → ReachesMoreThan sys plan many → ReachesMoreThan sys plan few
+reaches_fewer sys plan few many le more = record {
+  places = more.places;
+  different = more.different;
+  reached = more.reached;
+  more = (let over = more.more in omega arith);
+}
 
 -- only an outcome that an action has leads anywhere
 some_led : {X : Type 0} (b : Bool) (f : Vector → Option X) (ts : List Vector) (k : ℕ) (x : X) → cond b (option_and_then f (slice_get ts k)) None ≡ Some x → k < length ts

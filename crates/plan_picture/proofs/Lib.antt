@@ -2,3 +2,4 @@ pub mod Found
 pub mod Goals
 pub mod Stepped
 pub mod Shown
+pub mod Numbered

@@ -1,13 +1,17 @@
 -- The nodes that show the configurations of a graph are a picture of the plan.
-use Rattle.std.proofs.Common.{◌≡◌, ◌≢◌, ◌↔◌, ℕ, suc, ◌<◌, ⊎_elim, Bool, IsTrue, List, [], ◌∷◌, ◌++◌, length, slice_get, Option, Some, None, refl, sym, ap, ◌∙◌, subst, arith}
+use Rattle.std.proofs.Common.{◌≡◌, ◌≢◌, ◌↔◌, ℕ, suc, ◌+◌, ◌<◌, ⊎_elim, Bool, IsTrue, List, [], ◌∷◌, ◌++◌, length, map, slice_get, Option, Some, None, refl, sym, ap, ◌∙◌, subst, arith}
 use Rattle.std.specs.List.{AllPairs, Contains}
 use Rattle.std.specs.Option.{option_map, option_and_then}
 use Rattle.std.proofs.lemmas.List.{length-map}
 use Rattle.std.proofs.lemmas.Option.{none-some, same_Some, slice_get-map, slice_get_within}
+use Rattle.std.specs.List.{flat_map, range_with_len}
+use Rattle.std.proofs.lemmas.List.{map-id}
+use Rattle.list_laws.proofs.Elements.{map-range}
+use Rattle.exec_graph.specs.Orders.{AreInOrderMet, in_first, onward}
+use Rattle.exec_graph.proofs.Listed.{all_added_get}
 use Rattle.exec_graph.specs.Executions.{IsReachedBy}
 use Rattle.exec_graph.specs.Graphs.{IsGraphOf, PlainGraph}
 use Rattle.exec_graph.proofs.Listed.{Contains-number, number-Contains}
-use Rattle.exec_graph.proofs.Lists.{Contains-nil}
 use Rattle.task_core.specs.Vectors.{Vector}
 use Rattle.task_core.specs.Systems.{AreNumbered, IsSystem, System, goal_states}
 use Rattle.task_core.specs.ContextPlans.{Configuration, IsInitial}
@@ -18,6 +22,7 @@ use Rattle.plan_picture.specs.Pictures.{HasAction, IsBefore, IsNode, IsPictureOf
 use Rattle.plan_picture.specs.Places.{ShowEach, Shows, advised_in_table, outcomes_from, place_after, place_from, plan_steps, steps_if}
 use Rattle.plan_picture.proofs.Found.{AreDistinct, found, finds, pushed_cases}
 use Rattle.plan_picture.proofs.Stepped.{IsOutcome, leads_somewhere, none_ordered, outcome_after, outcome_at, outcomes_has, outcomes_only, outcomes_ordered, table_has, table_only, table_ordered}
+use Rattle.list_laws.proofs.Elements.{Contains-nil}
 
 -- where an outcome leads
 record IsAfter (places : List Configuration) (next : PlanNext) (t : Vector) (i : ℕ) : Type 0 where
@@ -192,10 +197,28 @@ module _ (sys : System) (plan : PlainPlan) (graph : PlainGraph) (places : List C
       shown_node sys places plan (graph.configuration k.0) (graph.initial k.0) node ok differ (is.initial k.0 low)
       (shown k.0 node (graph.configuration k.0) k.2 (at k.0 low))
 
+  -- they stand as they are numbered
+  numbered : map graph.configuration (range_with_len 0 graph.size) ≡ places
+  numbered =
+      ap (λ k. map graph.configuration (range_with_len 0 k)) (sym count)
+      ∙ map-range graph.configuration (λ x. x) places 0 (λ k x e. ap graph.configuration (let z : 0 + k ≡ k = omega arith in z) ∙ at_is k x e)
+      ∙ map-id places
+
+  order : AreInOrderMet sys plan (configurations nodes)
+  order = subst (AreInOrderMet sys plan) (numbered ∙ same) is.in_order
+
+  first_ones : (i : ℕ) (s : Vector) → slice_get sys.initial i ≡ Some s → slice_get (configurations nodes) i ≡ Some (in_first s)
+  first_ones i s e =
+      ap (λ xs. slice_get xs i) order
+      ∙ all_added_get (map in_first sys.initial) (flat_map (onward sys plan) (configurations nodes)) i (in_first s)
+      (slice_get-map in_first sys.initial i ∙ ap (option_map in_first) e)
+
   pub picture_is : IsPictureOf sys plan nodes
   picture_is = record {
     reached = λ x. subst (λ ps. Contains ps x ↔ IsReachedBy sys plan x) same (λ c. has_reached x c, λ r. reached_has x r);
     once = subst AreDistinct same differ;
+    in_order = order;
+    begun = first_ones;
     each = λ node c. subst (λ ps. IsNode sys plan ps node) same (is_node node c);
   }
 

@@ -6,7 +6,6 @@ use Rattle.std.proofs.lemmas.List.{append-nil}
 use Rattle.std.proofs.lemmas.List.Elements.{Contains-append_left, Contains-append_right, Contains-append_cases, Contains-get_or}
 use Rattle.std.proofs.lemmas.List.FromFn.{length-map-range_with_len, get_or-map-range_with_len}
 use Rattle.std.proofs.lemmas.Option.{none-some, same_Some, slice_get_read, slice_get_within}
-use Rattle.exec_graph.proofs.Lists.{Contains-head, Contains-cons, Contains-nil, Contains-cases}
 use Rattle.task_core.specs.Vectors.{Vector}
 use Rattle.task_core.specs.Systems.{AreNumbered, Exec, System}
 use Rattle.task_core.specs.ContextPlans.{Configuration}
@@ -15,6 +14,7 @@ use Rattle.plan_rules.specs.Denoted.{advises}
 use Rattle.plan_rules.specs.Rules.{PlanRule}
 use Rattle.plan_picture.specs.Pictures.{IsBefore, PlainStep}
 use Rattle.plan_picture.specs.Places.{advised_in_table, outcome_steps, outcomes_from, outcomes_steps, place_after, steps_by, table_steps_below}
+use Rattle.list_laws.proofs.Elements.{Contains-cases, Contains-cons, Contains-head, Contains-nil}
 
 -- one outcome more
 pub outcomes_more : (places : List Configuration) (a : Advised) (k : ℕ) (ts : List (Option Vector)) (i : ℕ) (t : Option Vector) → slice_get ts i ≡ Some t

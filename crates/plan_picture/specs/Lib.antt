@@ -1,3 +1,4 @@
 pub mod Pictures
 pub mod Places
 pub mod Values
+pub mod Texts

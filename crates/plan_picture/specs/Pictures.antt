@@ -10,6 +10,7 @@ use Rattle.task_core.specs.ContextPlans.{Configuration, IsInitial, first_context
 use Rattle.plan_rules.specs.Denoted.{advises, denoted_contexts}
 use Rattle.plan_rules.specs.Rules.{PlainPlan, table, automaton}
 use Rattle.exec_graph.specs.Executions.{IsReachedBy}
+use Rattle.exec_graph.specs.Orders.{AreInOrderMet, in_first}
 
 -- a step: the number of the action, that of its outcome, and the place of the node to which it leads
 pub record PlainStep : Type 0 where
@@ -78,5 +79,10 @@ pub record IsPictureOf (sys : System) (plan : PlainPlan) (nodes : List PlainNode
       → Contains (configurations nodes) x ↔ IsReachedBy sys plan x
   pub once : (i j : ℕ) (x : Configuration) → slice_get (configurations nodes) i ≡ Some x
       → slice_get (configurations nodes) j ≡ Some x → i ≡ j
+  -- in the order in which they are met: those of the initial states come first, in their order, and
+  -- then from each node in its turn those to which its plan goes on
+  pub in_order : AreInOrderMet sys plan (configurations nodes)
+  pub begun : (i : ℕ) (s : Vector) → slice_get sys.initial i ≡ Some s
+      → slice_get (configurations nodes) i ≡ Some (in_first s)
   pub each : (node : PlainNode) → Contains nodes node
       → IsNode sys plan (configurations nodes) node

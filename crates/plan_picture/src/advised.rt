@@ -40,7 +40,7 @@ use plan_rules::{
     Advice, AutoRule, FIRST_CONTEXT, Onward, Plan, Rule, context_in, has_all, onward_of,
 };
 use std::alloc::{AllocError, Global};
-use task_core::{ActionId, State, Task, in_space, is_exec, step};
+use task_core::{ActionId, State, Task, in_space, is_exec, outcome_count, step};
 
 /// The steps of a plan from a configuration to others, in the order of actions and outcomes.
 pub(crate) fn steps_from(
@@ -234,12 +234,4 @@ fn target_of(task: &Task, places: &[Place], after: &State, onward: &Onward<'_>) 
             context,
         },
     )
-}
-
-/// How many outcomes an action has.
-fn outcome_count(task: &Task, action: ActionId) -> u32
-    requires { action.0 < action_count task.now }
-    ensures { result ≡ length (outcomes_at task.now action.0) }
-{
-    task.actions[action.0 as usize].outcomes.len() as u32
 }

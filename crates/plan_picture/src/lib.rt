@@ -1,11 +1,15 @@
 //! Pictures of plans: a node for each configuration that a plan may reach, that is a state with the
-//! context that the plan is in, and the steps that it may take there, by action and outcome.
+//! context that the plan is in, and the steps that it may take there, by action and outcome. And the
+//! text of a picture in the DOT language, which `dot` draws: a line a node and a line a step.
 //!
-//! `specs/Pictures.antt` says what the picture of a plan is.
+//! `specs/Pictures.antt` says what the picture of a plan is, and `specs/Texts.antt` what is printed of
+//! it, byte for byte.
 #![tactic(auto)]
 
 mod advised;
 mod pictures;
 mod places;
+mod text;
 
 pub use pictures::{MAX_NODES, Node, Picture, PictureErr, Step, picture_of};
+pub use text::dot_text;

@@ -15,7 +15,7 @@ ghost use Rattle.plan_picture.specs.Places.{
 ghost use Rattle.plan_picture.specs.Values.{node_value, nodes_of};
 ghost use Rattle.plan_rules.specs.Plans.{IsPlanOf};
 ghost use Rattle.plan_rules.specs.Rules.{plain_of};
-ghost use Rattle.std.specs.Prelude.{◌≡◌, ◌≤◌, ◌<◌, ◌↔◌, ◌&&◌, IfOk, IsErrOf, IsTrue, length, map};
+ghost use Rattle.std.specs.Prelude.{◌≡◌, ◌≤◌, ◌<◌, ◌↔◌, ◌&&◌, IfOk, IsErrOf, IsTrue, OnOk, length, map};
 ghost use Rattle.std.specs.List.{Contains};
 ghost use Rattle.task_core.specs.Conditions.{holds_in, ids_below};
 ghost use Rattle.task_core.specs.States.{IsWithin, vector};
@@ -30,8 +30,8 @@ use std::alloc::{AllocError, Global};
 use task_core::{ActionId, Cond, State, Task, cond_holds, in_space};
 use thiserror::Error;
 
-/// How many configurations a picture may show.
-pub const MAX_NODES: usize = 400;
+/// How many configurations a drawn picture may show.
+pub const MAX_NODES: u32 = 400;
 
 /// A step of a plan: an action, the number of its outcome among all of them, and the place of the
 /// node to which it leads.
@@ -66,7 +66,7 @@ pub enum PictureErr {
     /// not.
     #[error("too many initial states")]
     Initial,
-    /// The plan may reach more than 400 configurations.
+    /// The plan may reach more configurations than the picture may show.
     #[error("too many configurations")]
     Configurations,
     /// There was no memory for the picture.
@@ -84,24 +84,28 @@ impl From<AllocError> for PictureErr {
     }
 }
 
-/// The picture of the plan in the task.
+/// The picture of the plan in the task, with no more nodes than `most`.
 ///
-/// `Initial` comes only where there are more than 262,144 vectors after some of the uncertain
-/// initial entries. Where there aren't, `Configurations` comes only where the plan may reach
-/// more than 400 configurations. Both yield to want of memory.
-pub fn picture_of(alloc: Global, task: &Task, plan: &Plan) -> Result<Picture, PictureErr>
-    requires { IsPlanOf (fluent_count task.now) (action_count task.now) plan.now }
+/// `Initial` comes exactly where there are more than 262,144 vectors after some of the uncertain
+/// initial entries. Where there aren't, `Configurations` comes exactly where the plan may reach
+/// more configurations than `most`. Both yield to want of memory.
+pub fn picture_of(alloc: Global, task: &Task, plan: &Plan, most: u32) -> Result<Picture, PictureErr>
+    requires plan_of_task { IsPlanOf (fluent_count task.now) (action_count task.now) plan.now }
+    requires most { most ≤ 262144 }
     ensures picture { IfOk result (λ picture.
         IsPictureOf (system_of task.now) (plain_of plan.now)
         (nodes_of (fluent_count task.now) picture)) }
-    ensures few { IfOk result (λ picture. length picture.nodes.items ≤ 400) }
+    ensures few { IfOk result (λ picture. length picture.nodes.items ≤ most) }
     ensures initial { IsErrOf result PictureErr.Initial → HasTooManyInitial task.now 262144 }
     ensures configurations { IsErrOf result PictureErr.Configurations
-        → ReachesMoreThan (system_of task.now) (plain_of plan.now) 400 }
+        → ReachesMoreThan (system_of task.now) (plain_of plan.now) most }
     ensures not_initial { IsErrOf result PictureErr.Configurations
         → HasTooManyInitial task.now 262144 → ⊥ }
+    ensures few_initial { OnOk result (HasTooManyInitial task.now 262144 → ⊥) }
+    ensures not_more { OnOk result
+        (ReachesMoreThan (system_of task.now) (plain_of plan.now) most → ⊥) }
 {
-    let graph = graph_of(alloc, task, plan)?;
+    let graph = graph_of(alloc, task, plan, most)?;
     let places = places_of(alloc, &graph)?;
     let nodes = nodes_at(alloc, task, plan, &graph, &places)?;
     Ok(Picture { nodes })
@@ -117,7 +121,7 @@ fn nodes_at(
 ) -> Result<Vec<Node>, AllocError>
     requires plan_of_task { IsPlanOf (fluent_count task.now) (action_count task.now) plan.now }
     requires count { length places.now ≡ graph_size graph.now }
-    requires few { graph_size graph.now ≤ 400 }
+    requires few { graph_size graph.now ≤ 262144 }
     requires within { AreWithin (fluent_count task.now) places.now }
     ensures count { IfOk result (λ nodes. length nodes.items ≡ graph_size graph.now) }
     ensures each { let n = fluent_count task.now in IfOk result (λ nodes.
@@ -135,21 +139,25 @@ fn nodes_at(
 }
 
 /// The graph of a plan that reaches few configurations.
-fn graph_of(alloc: Global, task: &Task, plan: &Plan) -> Result<Graph, PictureErr>
-    requires { IsPlanOf (fluent_count task.now) (action_count task.now) plan.now }
+fn graph_of(alloc: Global, task: &Task, plan: &Plan, most: u32) -> Result<Graph, PictureErr>
+    requires plan_of_task { IsPlanOf (fluent_count task.now) (action_count task.now) plan.now }
+    requires most { most ≤ 262144 }
     ensures graph { let n = fluent_count task.now in IfOk result (λ graph.
         IsGraphOf (system_of task.now) (plain_of plan.now) (plain_graph n graph)) }
     ensures within { IfOk result (IsWithinFluents (fluent_count task.now)) }
-    ensures few { IfOk result (λ graph. graph_size graph ≤ 400) }
+    ensures few { IfOk result (λ graph. graph_size graph ≤ most) }
     ensures initial { IsErrOf result PictureErr.Initial → HasTooManyInitial task.now 262144 }
     ensures configurations { IsErrOf result PictureErr.Configurations
-        → ReachesMoreThan (system_of task.now) (plain_of plan.now) 400 }
+        → ReachesMoreThan (system_of task.now) (plain_of plan.now) most }
     ensures not_initial { IsErrOf result PictureErr.Configurations
         → HasTooManyInitial task.now 262144 → ⊥ }
+    ensures few_initial { OnOk result (HasTooManyInitial task.now 262144 → ⊥) }
+    ensures not_more { OnOk result
+        (ReachesMoreThan (system_of task.now) (plain_of plan.now) most → ⊥) }
 {
     match explore(alloc, task, plan) {
         Ok(graph) => {
-            if is_large(&graph) {
+            if is_large(&graph, most) {
                 return Err(PictureErr::Configurations);
             }
             Ok(graph)
@@ -161,10 +169,10 @@ fn graph_of(alloc: Global, task: &Task, plan: &Plan) -> Result<Graph, PictureErr
 }
 
 /// Whether a graph has more configurations than a picture may show.
-fn is_large(graph: &Graph) -> bool
-    ensures { IsTrue result ↔ 400 < graph_size graph.now }
+fn is_large(graph: &Graph, most: u32) -> bool
+    ensures { IsTrue result ↔ most < graph_size graph.now }
 {
-    graph.len() as usize > MAX_NODES
+    graph.len() > most
 }
 
 /// What is shown of a configuration.

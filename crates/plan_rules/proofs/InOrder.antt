@@ -16,6 +16,7 @@ use Rattle.task_core.specs.Names.{Name}
 use Rattle.plan_rules.specs.Items.{Item, of_word, of_group, item_span, only_if, first_item, split_group}
 use Rattle.plan_rules.specs.Plans.{most_contexts}
 use Rattle.plan_rules.specs.Readings as read
+use Rattle.list_laws.proofs.Options.{if_any}
 
 -- what holds of a value where there is one, along a chain
 pub then_if : {X Y : Type 0} (P : X → Type 0) (Q : Y → Type 0) (f : X → Option Y) (o : Option X) → IfSome o P → ((x : X) → P x → IfSome (f x) Q) → IfSome (option_and_then f o) Q
@@ -63,7 +64,7 @@ pub record IsFirstWithin (lo hi : ℕ) (found : Item × Forest) : Type 0 where
   pub item : IsItemWithin lo hi found.0
   pub rest : IsRising (item_span found.0).end hi found.1
 
-first_item-within : (lo hi : ℕ) (row : Forest) → IsRising lo hi row → IfSome (first_item row) (IsFirstWithin lo hi)
+pub first_item-within : (lo hi : ℕ) (row : Forest) → IsRising lo hi row → IfSome (first_item row) (IsFirstWithin lo hi)
 first_item-within lo hi nothing h = tt
 first_item-within lo hi (word span text rest) (a, b, c, d, e) =
     record { item = record { from = a; some = b; to = rising-bounds span.end hi rest e }; rest = e }
@@ -76,26 +77,26 @@ split_group-within lo hi (word span text rest) h = tt
 split_group-within lo hi (group span parts rest) (a, b, c, d) =
     record { group = record { from = a; some = b; to = rising-bounds span.end hi rest d; parts = c }; rest = d }
 
-only_group-within : (lo hi : ℕ) (row : Forest) → IsRising lo hi row → IfSome (only_group row) (IsGroupWithin lo hi)
+pub only_group-within : (lo hi : ℕ) (row : Forest) → IsRising lo hi row → IfSome (only_group row) (IsGroupWithin lo hi)
 only_group-within lo hi nothing h = tt
 only_group-within lo hi (word span text rest) h = tt
 only_group-within lo hi (group span parts nothing) (a, b, c, d) = record { from = a; some = b; to = d; parts = c }
 only_group-within lo hi (group span parts (word s t rest)) h = tt
 only_group-within lo hi (group span parts (group s t rest)) h = tt
 
-after_first-within : (lo hi : ℕ) (row : Forest) → IsRising lo hi row → IsRising lo hi (after_first row)
+pub after_first-within : (lo hi : ℕ) (row : Forest) → IsRising lo hi row → IsRising lo hi (after_first row)
 after_first-within lo hi nothing h = h
 after_first-within lo hi (word span text rest) (a, b, c, d, e) = rising-from lo span.end hi rest (omega arith) e
 after_first-within lo hi (group span parts rest) (a, b, c, d) = rising-from lo span.end hi rest (omega arith) d
 
-after_word-within : (w : List ℕ) (lo hi : ℕ) (row : Forest) → IsRising lo hi row → IfSome (after_word w row) (IsRising lo hi)
+pub after_word-within : (w : List ℕ) (lo hi : ℕ) (row : Forest) → IsRising lo hi row → IfSome (after_word w row) (IsRising lo hi)
 after_word-within w lo hi row h = only-if (IsRising lo hi) (begins_with w row) (after_first row) (after_first-within lo hi row h)
 
-group_after-within : (w : List ℕ) (lo hi : ℕ) (row : Forest) → IsRising lo hi row → IfSome (group_after w row) (IsGroupWithin lo hi)
+pub group_after-within : (w : List ℕ) (lo hi : ℕ) (row : Forest) → IsRising lo hi row → IfSome (group_after w row) (IsGroupWithin lo hi)
 group_after-within w lo hi row h =
     then_if (IsRising lo hi) (IsGroupWithin lo hi) only_group (after_word w row) (after_word-within w lo hi row h) (only_group-within lo hi)
 
-first_group-within : (test : Forest → Bool) (lo hi : ℕ) (row : Forest) → IsRising lo hi row → IfSome (first_group_with test row) (IsGroupWithin lo hi)
+pub first_group-within : (test : Forest → Bool) (lo hi : ℕ) (row : Forest) → IsRising lo hi row → IfSome (first_group_with test row) (IsGroupWithin lo hi)
 first_group-within test lo hi nothing h = tt
 first_group-within test lo hi (word span text rest) (a, b, c, d, e) =
     first_group-within test lo hi rest (rising-from lo span.end hi rest (omega arith) e)
@@ -108,7 +109,7 @@ first_group-within test lo hi (group span parts rest) (a, b, c, d) =
     by_test false here there = there
 
 -- one flaw, or none
-one_flaw : (lo hi : ℕ) (span : Span) (kind : FaultKind) → lo ≤ span.start → span.start < hi → IsInOrder lo hi (flaw_at span kind ∷ [])
+pub one_flaw : (lo hi : ℕ) (span : Span) (kind : FaultKind) → lo ≤ span.start → span.start < hi → IsInOrder lo hi (flaw_at span kind ∷ [])
 one_flaw lo hi span kind a b = (a, omega arith)
 
 unless : (lo hi : ℕ) (holds : Bool) (span : Span) (kind : FaultKind) → lo ≤ span.start → span.start < hi → IsInOrder lo hi (read.flaw_unless holds span kind)
@@ -209,17 +210,13 @@ case-within lo hi parts h =
     (λ n l. only-if (IsCaseWithin lo hi) (is_nothing n.1) (c.1, n.0)
     (record { mid = c.0.end; cubes = λ fluents. cube-within fluents lo hi (c.0, c.1) k.group; context = l.item })))
 
-item-end : (lo hi : ℕ) (item : Item) → IsItemWithin lo hi item → (item_span item).end ≤ hi
+pub item-end : (lo hi : ℕ) (item : Item) → IsItemWithin lo hi item → (item_span item).end ≤ hi
 item-end lo hi (of_word span text) within = within.to
 item-end lo hi (of_group span parts) within = within.to
 
-item-from : (lo hi : ℕ) (item : Item) → IsItemWithin lo hi item → lo ≤ (item_span item).end
+pub item-from : (lo hi : ℕ) (item : Item) → IsItemWithin lo hi item → lo ≤ (item_span item).end
 item-from lo hi (of_word span text) within = let a : lo ≤ span.start = within.from in let b : span.start < span.end = within.some in omega arith
 item-from lo hi (of_group span parts) within = let a : lo ≤ span.start = within.from in let b : span.start + 2 ≤ span.end = within.some in omega arith
-
-if_any : {X : Type 0} (o : Option X) → IfSome o (λ _. Unit {0})
-if_any None = tt
-if_any (Some x) = tt
 
 case : (fluents : List Name) (contexts : ℕ) → AreGroupFlaws (read.case_flaws fluents contexts)
 case fluents contexts span parts wide h =
@@ -313,14 +310,14 @@ context_rule fluents actions contexts span parts wide h =
     (one_flaw span.start span.end span BadForm (omega arith) (omega arith))
 
 -- a flaw at a form
-at_item : (lo hi : ℕ) (item : Item) (kind : FaultKind) → IsItemWithin lo hi item → IsInOrder lo hi (flaw_at (item_span item) kind ∷ [])
+pub at_item : (lo hi : ℕ) (item : Item) (kind : FaultKind) → IsItemWithin lo hi item → IsInOrder lo hi (flaw_at (item_span item) kind ∷ [])
 at_item lo hi (of_word span text) kind within =
     let some : span.start < span.end = within.some in let to : span.end ≤ hi = within.to in one_flaw lo hi span kind within.from (omega arith)
 at_item lo hi (of_group span parts) kind within =
     let some : span.start + 2 ≤ span.end = within.some in let to : span.end ≤ hi = within.to in one_flaw lo hi span kind within.from (omega arith)
 
 -- what stands in the list of a plan from offset lo up to hi; the list begins before
-abbrev IsListAt : ℕ → ℕ → Span → Type 0
+abbrev pub IsListAt : ℕ → ℕ → Span → Type 0
 IsListAt lo hi span = (span.start < lo) × (lo ≤ hi)
 
 table : (fluents actions : List Name) (lo hi : ℕ) (span : Span) (row : Forest) → IsListAt lo hi span → IsRising lo hi row → IsInOrder span.start hi (read.table_flaws fluents actions span row)

@@ -24,22 +24,11 @@ use Rattle.plan_rules.specs.Items.{Item, of_word, of_group, item_span, only_if, 
 use Rattle.plan_rules.specs.Plans.{most_contexts, IsCubeOf, IsRuleOf, IsContextOf, IsCaseOf, IsNextOf, IsContextRuleOf, IsAutomatonOf, IsPlainPlanOf}
 use Rattle.plan_rules.specs.Rules.{PlainPlan}
 use Rattle.plan_rules.specs.Readings as read
-
-nil-first : (xs ys : List Flaw) → xs ++ ys ≡ [] → xs ≡ []
-nil-first [] ys e = refl
-nil-first (x ∷ xs) ys e = cc
-
-nil-second : (xs ys : List Flaw) → xs ++ ys ≡ [] → ys ≡ []
-nil-second [] ys e = e
-nil-second (x ∷ xs) ys e = cc
+use Rattle.list_laws.proofs.Options.{nil-first, nil-second, in_option}
 
 -- what is read where there are no flaws, along an option
-in_option : {X Y : Type 0} (P : Y → Type 0) (f : X → List Flaw) (g : X → Y) (d : List Flaw) (e : Y) (o : Option X)
-    → ((x : X) → f x ≡ [] → P (g x)) → (d ≡ [] → P e) → option_map_or f o d ≡ [] → P (option_map_or g o e)
-in_option P f g d e None each none h = none h
-in_option P f g d e (Some x) each none h = each x h
 
-a_flaw : {P : Type 0} (f : Flaw) → f ∷ [] ≡ [] → P
+pub a_flaw : {P : Type 0} (f : Flaw) → f ∷ [] ≡ [] → P
 a_flaw f e = absurd (let none : ⊥ = cc in none)
 
 in_groups : {X : Type 0} (P : X → Type 0) (flaws : Span → Forest → List Flaw) (tree : Forest → X)

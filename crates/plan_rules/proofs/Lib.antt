@@ -14,3 +14,4 @@ pub mod Decimals
 pub mod PrintedContexts
 pub mod RowRead
 pub mod Spelled
+pub mod DenotedPairs

@@ -12,6 +12,7 @@ use Rattle.std.proofs.lemmas.List.Quantifiers.{position-Some}
 use Rattle.std.proofs.lemmas.List.{get_or-take, get_or-map, length-take-le, length-map, take-map}
 use Rattle.task_core.specs.Names.{Name, AreDistinct}
 use Rattle.plan_rules.specs.Readings.{number_of_name}
+use Rattle.list_laws.proofs.Numbers.{trichotomy}
 
 pub same_name : (v w : Name) → Decides (pointwise bytes_eq v w) (v ≡ w)
 same_name v w = slice_eq-Decides bytes_eq-Decides v w (pointwise bytes_eq v w) refl
@@ -48,9 +49,6 @@ found-before p xs n d within e =
     let before : position_or_len p xs ≤ n = place-before p xs n d within e in
     let test : nat_lt (position_or_len p xs) (length xs) ≡ true = grind (arith, nat_tests) in
     ap (λ b. cond b (Some (position_or_len p xs)) None) test
-
-trichotomy : (x y : ℕ) → (x < y) ⊎ (x ≡ y) ⊎ (y < x)
-trichotomy x y = grind arith
 
 -- names that are all different have different numbers
 same-number : (names : List Name) (i j : ℕ) → AreDistinct names → i < length names → j < length names → get_or names i [] ≡ get_or names j [] → i ≡ j

@@ -18,8 +18,8 @@ use Rattle.plan_theory.specs.Layers.{layer, covers, leads_by, may_lead, action_n
 use Rattle.plan_theory.specs.LayerPlans.{chosen_action, action_of_rank, takers, rules_of_action, printed_rules}
 use Rattle.plan_theory.proofs.Cubes.{cubes_match}
 use Rattle.plan_theory.proofs.Tests.{HasOutcome-Exec, is_action-Some, is_action-from, same_vector-itself, same_vector-true}
-use Rattle.plan_theory.proofs.WeakDenoted.{denoted-from, denoted-pair, can_execute-outcome}
-use Rattle.plan_theory.proofs.WeakLists.{range_with_len-last, list_any-agree, list_all-agree, list_all-at, list_all-from, list_any-from, list_any-none, list_any-witness, find-None, find-Some, find-found, Contains-map, Contains-map-witness, Contains-flat_map, Contains-flat_map-witness, Contains-range_with_len, Contains-range_with_len-below}
+use Rattle.plan_rules.proofs.DenotedPairs.{denoted-from, denoted-pair, can_execute-outcome}
+use Rattle.list_laws.proofs.Elements.{range_with_len-last, list_any-agree, list_all-agree, list_all-at, list_all-from, list_any-from, list_any-none, list_any-witness, find-None, find-Some, find-found, Contains-map, Contains-map-witness, Contains-flat_map, Contains-flat_map-witness, Contains-range_with_len, Contains-range_with_len-below}
 
 -- sets that agree on an action's outcomes are led to alike
 leads_agree : (class : Class) (sys : System) (f g : SetOfVectors) (v : Vector) (a : ℕ) → ((t : Vector) → HasOutcome sys v a t → f t ≡ g t) → leads_by class sys f v a ≡ leads_by class sys g v a
@@ -186,7 +186,7 @@ module _ (class : Class) where
   goal_terminal sys K v h a c =
       let d = denoted-pair sys (printed_rules class sys K) v a c in
       let none : chosen_action class sys K v ≡ None = chosen_kept sys v zero K (omega arith) h ∙ chosen_zero sys v in
-      none-some a (sym none ∙ advised_chosen sys K v a d.state d.advised)
+      none-some a (sym none ∙ advised_chosen sys K v a d.vector d.advised)
 
   -- a state of layer k + 1 and not of layer k has a pair, whose action leads to layer k
   pub pair_at : (sys : System) (K k : ℕ) → suc k ≤ K → (v : Vector) → IsVector sys v → layer class sys (suc k) v ≡ true → layer class sys k v ≡ false
@@ -200,7 +200,7 @@ module _ (class : Class) where
       let found = find-found test (action_numbers sys) a first.1 in
       let below : a < sys.actions = Contains-range_with_len-below sys.actions a found.0 in
       let t = leads_outcome class sys (layer class sys k) v a found.1 in
-      (a, denoted-from sys (printed_rules class sys K) v a (record { state = is; below = below; advised = chosen_advised sys K v a is below chosen; executable = can_execute-outcome sys v a t.0 t.1 }), found.1)
+      (a, denoted-from sys (printed_rules class sys K) v a (record { vector = is; below = below; advised = chosen_advised sys K v a is below chosen; executable = can_execute-outcome sys v a t.0 t.1 }), found.1)
 
   -- each pair is of a state of some layer k + 1 and not of layer k, and its action leads to layer k
   pub record Ranked (sys : System) (K : ℕ) (v : Vector) (a : ℕ) : Type 0 where
@@ -226,7 +226,7 @@ module _ (class : Class) where
   pub pair_ranked : (sys : System) (K : ℕ) (v : Vector) (a : ℕ) → Contains (denoted sys (printed_rules class sys K)) (v, a) → Ranked sys K v a
   pair_ranked sys K v a c =
       let d = denoted-pair sys (printed_rules class sys K) v a c in
-      ranked_choice sys K v a (advised_chosen sys K v a d.state d.advised)
+      ranked_choice sys K v a (advised_chosen sys K v a d.vector d.advised)
 
   -- the rank of a state of layer k: the first layer that holds it
   pub first_layer : (sys : System) (k : ℕ) (v : Vector) → layer class sys k v ≡ true → (layer class sys zero v ≡ true) ⊎ ((j : ℕ) × (suc j ≤ k) × (layer class sys (suc j) v ≡ true) × (layer class sys j v ≡ false))

@@ -17,7 +17,7 @@ use Rattle.plan_theory.specs.Layers.{action_numbers, may_lead, must_lead}
 use Rattle.plan_theory.proofs.Cubes.{cubes_match}
 use Rattle.plan_theory.proofs.PrintedWithin.{All-flat_map, cubes_below, range_below}
 use Rattle.plan_theory.proofs.Weak.{HasOutcome-Exec}
-use Rattle.plan_theory.proofs.WeakLists.{Contains-cons, Contains-flat_map, Contains-flat_map-witness, Contains-head, Contains-map, Contains-map-witness, Contains-range_with_len, find-Some, find-found, list_any-from, list_any-witness}
+use Rattle.list_laws.proofs.Elements.{Contains-cons, Contains-flat_map, Contains-flat_map-witness, Contains-head, Contains-map, Contains-map-witness, Contains-range_with_len, find-Some, find-found, list_any-from, list_any-witness}
 
 -- a number among those from a on
 pub Contains-range : (a n k : ℕ) → a ≤ k → k < a + n → Contains (range_with_len a n) k

@@ -7,23 +7,9 @@ use Rattle.std.proofs.lemmas.List.Folds.{list_any-append}
 use Rattle.task_core.specs.Vectors.{Vector, all_vectors, same_value, value_of}
 use Rattle.task_core.specs.Cubes.{Cube, SetOfVectors, matches, literal, half, is_empty_set, is_whole_set, ignores_first, cubes_from}
 use Rattle.std.proofs.lemmas.List.Elements.{Contains-append_left, Contains-append_right, Contains-append_cases}
-use Rattle.plan_theory.proofs.WeakLists.{Contains-nil, Contains-head, Contains-cases, Contains-map, Contains-map-witness, list_any-false, list_all-at, list_any-agree, list_any-none, list_any-map, map-agree}
+use Rattle.list_laws.proofs.Elements.{Contains-nil, Contains-head, Contains-cases, Contains-map, Contains-map-witness, list_any-false, list_all-at, list_any-agree, list_any-none, list_any-map, map-agree}
 use Rattle.plan_theory.proofs.Tests.{same_value-true}
-
--- a vector of n values is one of them, and each of them has n values
-pub all_vectors-holds : (n : ℕ) (v : Vector) → length v ≡ n → Contains (all_vectors n) v
-all_vectors-holds zero [] e = Contains-head [] []
-all_vectors-holds zero (x ∷ xs) e = let f : length xs + 1 ≡ 0 = omega arith in absurd (omega arith)
-all_vectors-holds (suc n) [] e = absurd (omega arith)
-all_vectors-holds (suc n) (false ∷ xs) e = Contains-append_left (map (λ v. false ∷ v) (all_vectors n)) (map (λ v. true ∷ v) (all_vectors n)) (false ∷ xs) (Contains-map (λ v. false ∷ v) (all_vectors n) xs (all_vectors-holds n xs (omega arith)))
-all_vectors-holds (suc n) (true ∷ xs) e = Contains-append_right (map (λ v. false ∷ v) (all_vectors n)) (map (λ v. true ∷ v) (all_vectors n)) (true ∷ xs) (Contains-map (λ v. true ∷ v) (all_vectors n) xs (all_vectors-holds n xs (omega arith)))
-
-pub all_vectors-length : (n : ℕ) (v : Vector) → Contains (all_vectors n) v → length v ≡ n
-all_vectors-length zero v c = ⊎_elim (λ e. ap length (sym e)) (λ d. absurd (Contains-nil v d)) (Contains-cases [] [] v c)
-all_vectors-length (suc n) v c = ⊎_elim (λ d. from false (Contains-map-witness (λ w. false ∷ w) (all_vectors n) v d) (all_vectors-length n)) (λ d. from true (Contains-map-witness (λ w. true ∷ w) (all_vectors n) v d) (all_vectors-length n)) (Contains-append_cases (map (λ w. false ∷ w) (all_vectors n)) (map (λ w. true ∷ w) (all_vectors n)) v c)
-  where
-    from : (b : Bool) → (w : Vector) × Contains (all_vectors n) w × (b ∷ w ≡ v) → ((w : Vector) → Contains (all_vectors n) w → length w ≡ n) → length v ≡ suc n
-    from b w rest = let e : length w.0 ≡ n = rest w.0 w.1 in ap length (sym w.2) ∙ ap suc e
+pub use Rattle.task_core.proofs.Vectors.{all_vectors_has as all_vectors-holds, all_vectors_length as all_vectors-length}
 
 -- the value of the fluent after the first ones
 value_of-middle : (before : Vector) (x : Bool) (after : Vector) → value_of (before ++ x ∷ after) (length before) ≡ x

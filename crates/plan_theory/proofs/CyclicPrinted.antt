@@ -13,18 +13,15 @@ use Rattle.task_core.specs.declared.classes.Class.TheVariants.{Weak}
 use Rattle.plan_rules.specs.Denoted.{IsExecutable, denoted}
 use Rattle.plan_theory.specs.Layers.{action_numbers, layer}
 use Rattle.plan_theory.proofs.ClassLayers.{advised_chosen, chosen_leads, layer-grows, leads_outcome, printed_executable}
-use Rattle.plan_theory.proofs.WeakDenoted.{can_execute-Exec, can_execute-outcome, denoted-from, denoted-pair}
-use Rattle.plan_theory.proofs.WeakLists.{Contains-head, list_all-at, list_any-witness}
+use Rattle.plan_rules.proofs.DenotedPairs.{can_execute-Exec, can_execute-outcome, denoted-from, denoted-pair}
+use Rattle.list_laws.proofs.Elements.{Contains-head, list_all-at, list_any-witness}
 use Rattle.plan_theory.proofs.WeakPrinted.{printed_reaches}
 use Rattle.plan_theory.specs.LargestSets.{IsStrongCyclicSet, covers, goal_or_pair}
 use Rattle.plan_theory.specs.Pairs.{Pairs, has_pair, is_goal, restricted}
 use Rattle.plan_theory.specs.CyclicPlans.{cyclic_rules}
 use Rattle.plan_theory.specs.PairRounds.{connected}
 use Rattle.plan_theory.proofs.Restricted.{outcome_of_pair, pair_of_exec, progress_connected, restricted_system}
-
-some_element : {X : Type 0} (xs : List X) → xs ≢ [] → (x : X) × Contains xs x
-some_element [] some = absurd (some refl)
-some_element (x ∷ xs) some = (x, Contains-head x xs)
+use Rattle.list_laws.proofs.Elements.{some_element}
 
 pub cyclic_executable : (sys : System) (pairs : Pairs) → IsExecutable sys (cyclic_rules sys pairs)
 cyclic_executable sys pairs rule v c is m =
@@ -44,15 +41,15 @@ module _ (sys : System) (pairs : Pairs) where
   to_sub : (v : Vector) (a : ℕ) → Contains printed (v, a) → Contains printed_below (v, a)
   to_sub v a c =
       let d = denoted-pair sys (cyclic_rules sys pairs) v a c in
-      let w = chosen_leads Weak sub v a (2 ^ sys.fluents) (advised_chosen Weak sub (2 ^ sys.fluents) v a d.state d.advised) in
+      let w = chosen_leads Weak sub v a (2 ^ sys.fluents) (advised_chosen Weak sub (2 ^ sys.fluents) v a d.vector d.advised) in
       let t = leads_outcome Weak sub (layer Weak sub w.0) v a w.1 in
-      denoted-from sub (cyclic_rules sys pairs) v a (record { state = d.state; below = d.below; advised = d.advised; executable = can_execute-outcome sub v a t.0 t.1 })
+      denoted-from sub (cyclic_rules sys pairs) v a (record { vector = d.vector; below = d.below; advised = d.advised; executable = can_execute-outcome sub v a t.0 t.1 })
 
   from_sub : (v : Vector) (a : ℕ) → Contains printed_below (v, a) → Contains printed (v, a)
   from_sub v a c =
       let d = denoted-pair sub (cyclic_rules sys pairs) v a c in
       let t = some_element (sub.next v a) (can_execute-Exec sub v a d.executable) in
-      denoted-from sys (cyclic_rules sys pairs) v a (record { state = d.state; below = d.below; advised = d.advised; executable = can_execute-outcome sys v a t.0 (outcome_of_pair sys pairs v a t.0 t.1).1 })
+      denoted-from sys (cyclic_rules sys pairs) v a (record { vector = d.vector; below = d.below; advised = d.advised; executable = can_execute-outcome sys v a t.0 (outcome_of_pair sys pairs v a t.0 t.1).1 })
 
   path_from_sub : (v : Vector) (rest : List Vector) → IsPath (Leads sub printed_below) v rest → IsPath (Leads sys printed) v rest
   path_from_sub v [] path = tt

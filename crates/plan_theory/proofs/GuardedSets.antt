@@ -10,11 +10,12 @@ use Rattle.task_core.specs.Cubes.{SetOfVectors}
 use Rattle.task_core.specs.Vectors.{Vector}
 use Rattle.task_core.specs.Systems.{System, IsVector, IsSystem}
 use Rattle.plan_theory.specs.Layers.{action_numbers, must_lead}
-use Rattle.plan_theory.proofs.WeakLists.{Contains-range_with_len, Contains-range_with_len-below, find-None, find-Some, find-found, list_any-from, list_any-none}
+use Rattle.list_laws.proofs.Elements.{Contains-range_with_len, Contains-range_with_len-below, find-None, find-Some, find-found, list_any-from, list_any-none}
 use Rattle.plan_theory.specs.Safe.{some_must_lead}
 use Rattle.plan_theory.specs.GuardedSets.{IsGuardedSet, IsLastGuarded, IsLeastGuardedSet, action_at_guarded_rank, guarded_action, guarded_near, guarded_rank, guarded_set}
 use Rattle.plan_theory.proofs.Leading.{find-least, leads_more, some_leads_more}
-use Rattle.plan_theory.proofs.Shrinking.{same_truth, stands_still}
+use Rattle.plan_theory.proofs.Shrinking.{stands_still}
+use Rattle.list_laws.proofs.Booleans.{same_truth}
 
 same_not : (b c : Bool) → not b ≡ not c → b ≡ c
 same_not true true e = refl

@@ -8,12 +8,9 @@ use Rattle.task_core.specs.Vectors.{Vector}
 use Rattle.task_core.specs.Systems.{System, Exec, HasOutcome, IsSystem}
 use Rattle.plan_theory.specs.Layers.{action_numbers, may_lead, must_lead}
 use Rattle.plan_theory.proofs.Weak.{HasOutcome-Exec}
-use Rattle.plan_theory.proofs.WeakLists.{Contains-head, Contains-range_with_len, list_all-at, list_all-from, list_any-from, list_any-witness}
+use Rattle.list_laws.proofs.Elements.{Contains-head, Contains-range_with_len, list_all-at, list_all-from, list_any-from, list_any-witness}
 use Rattle.plan_theory.specs.Safe.{some_must_lead}
-
-some_element : {X : Type 0} (xs : List X) → xs ≢ [] → (x : X) × Contains xs x
-some_element [] some = absurd (some refl)
-some_element (x ∷ xs) some = (x, Contains-head x xs)
+use Rattle.list_laws.proofs.Elements.{some_element}
 
 module _ (sys : System) where
   pub leads_at : (set : SetOfVectors) (v : Vector) (a : ℕ) → must_lead sys set v a ≡ true → (t : Vector) → HasOutcome sys v a t → set t ≡ true

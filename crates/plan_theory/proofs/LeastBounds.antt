@@ -21,10 +21,11 @@ use Rattle.plan_theory.proofs.NoStrong.{reach_more, stable_no_strong}
 use Rattle.plan_theory.proofs.StrongPrinted.{printed_short, printed_strong_solves, reaches_within}
 use Rattle.plan_theory.proofs.Weak.{path_in_layer, same_vector-itself, same_vector-true, stable_no_solution}
 use Rattle.plan_theory.proofs.WeakPrinted.{printed_solves}
-use Rattle.plan_theory.proofs.WeakLists.{Contains-head, Contains-range_with_len, list_all-at, list_all-from, list_any-from, list_any-witness}
+use Rattle.list_laws.proofs.Elements.{Contains-head, Contains-range_with_len, list_all-at, list_all-from, list_any-from, list_any-witness}
+use Rattle.list_laws.proofs.Elements.{some_element}
 
 -- a state has a pair or is terminal
-pair_or_terminal : (table : Table) (s : Vector) → ((a : ℕ) × Contains table (s, a)) ⊎ IsTerminal table s
+pub pair_or_terminal : (table : Table) (s : Vector) → ((a : ℕ) × Contains table (s, a)) ⊎ IsTerminal table s
 pair_or_terminal table s = go (list_any (λ (pair : Vector × ℕ). same_vector s pair.0) table) refl
   where
     go : (b : Bool) → list_any (λ (pair : Vector × ℕ). same_vector s pair.0) table ≡ b → ((a : ℕ) × Contains table (s, a)) ⊎ IsTerminal table s
@@ -32,10 +33,6 @@ pair_or_terminal table s = go (list_any (λ (pair : Vector × ℕ). same_vector 
         let w = list_any-witness (λ (pair : Vector × ℕ). same_vector s pair.0) table e in
         inl ((w.0).1, subst (λ v. Contains table (v, (w.0).1)) (sym (same_vector-true s (w.0).0 w.2)) w.1)
     go false e = inr (λ a c. false≢true (sym e ∙ list_any-from (λ (pair : Vector × ℕ). same_vector s pair.0) table (s, a) c (same_vector-itself s)))
-
-some_element : {X : Type 0} (xs : List X) → xs ≢ [] → (x : X) × Contains xs x
-some_element [] some = absurd (some refl)
-some_element (x ∷ xs) some = (x, Contains-head x xs)
 
 module _ (sys : System) (ok : IsSystem sys) (table : Table) (is_table : IsTable sys table) (solves : IsStrongSolution sys table) where
   onward : (s t : Vector) → IsReached sys table s → Leads sys table s t → IsReached sys table t

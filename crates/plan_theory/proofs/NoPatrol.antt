@@ -11,7 +11,7 @@ use Rattle.task_core.specs.ContextPlans.{Configuration, ContextPlan, Follows, Is
 use Rattle.task_core.specs.Paths.{IsPath, last_of}
 use Rattle.task_core.specs.Cubes.{SetOfVectors}
 use Rattle.task_core.specs.Systems.{System, IsState, IsSystem}
-use Rattle.plan_theory.proofs.WeakLists.{Contains-cases, Contains-nil, list_all-from}
+use Rattle.list_laws.proofs.Elements.{Contains-cases, Contains-nil, list_all-from}
 use Rattle.plan_theory.specs.UntilChains.{StateIsIn}
 use Rattle.plan_theory.specs.Patrols.{covers_patrol, patrol_round, patrol_set, visit_near, visit_set, visited}
 use Rattle.plan_theory.specs.PatrolPlans.{HasNoPatrolPlan, IsPatrolPlan}

@@ -18,7 +18,8 @@ use Rattle.plan_theory.specs.Layers.{action_numbers, covers, layer, may_lead, mu
 use Rattle.plan_theory.proofs.ClassLayers.{layer-grows, layer-zero}
 use Rattle.plan_theory.proofs.Cubes.{all_vectors-holds}
 use Rattle.plan_theory.proofs.Weak.{same_vector-itself, same_vector-true}
-use Rattle.plan_theory.proofs.WeakLists.{Contains-cases, Contains-cons, Contains-head, Contains-nil, Contains-range_with_len, list_any-from, list_any-witness}
+use Rattle.list_laws.proofs.Elements.{Contains-cases, Contains-cons, Contains-head, Contains-nil, Contains-range_with_len, list_any-from, list_any-witness}
+use Rattle.list_laws.proofs.Distinct.{Around, around, elsewhere, Apart, Apart-few}
 
 -- an element that fails a test of all
 failing : {X : Type 0} (p : X → Bool) (xs : List X) → list_all p xs ≡ false → (x : X) × Contains xs x × (p x ≡ false)
@@ -30,43 +31,6 @@ failing {X} p (x ∷ xs) h = go (p x) refl (failing p xs)
     go false e rest = (x, Contains-head x xs, e)
 
 -- different elements of a list are no more than it has
-
-Apart : {X : Type 0} → List X → Type 0
-Apart [] = Unit {0}
-Apart (x ∷ xs) = (Contains xs x → ⊥) × Apart xs
-
-record Around {X : Type 0} (x : X) (xs : List X) : Type 0 where
-  front : List X
-  back : List X
-  is : xs ≡ front ++ x ∷ back
-
-around : {X : Type 0} (x : X) (xs : List X) → Contains xs x → Around x xs
-around x [] h = absurd (Contains-nil x h)
-around {X} x (y ∷ xs) h =
-    ⊎_elim (λ e. here e) (λ k. later (around x xs k)) (Contains-cases y xs x h)
-  where
-    here : y ≡ x → Around x (y ∷ xs)
-    here e = record { front = []; back = xs; is = ap (λ z. z ∷ xs) e }
-
-    later : Around x xs → Around x (y ∷ xs)
-    later rest = record { front = y ∷ rest.front; back = rest.back; is = ap (λ zs. y ∷ zs) rest.is }
-
-elsewhere : {X : Type 0} (x : X) (front back : List X) (z : X) → (x ≡ z → ⊥) → Contains (front ++ x ∷ back) z → Contains (front ++ back) z
-elsewhere x [] back z other h = ⊎_elim (λ e. absurd (other e)) (λ k. k) (Contains-cases x back z h)
-elsewhere x (y ∷ front) back z other h =
-    ⊎_elim (λ e. subst (λ w. Contains (y ∷ (front ++ back)) w) e (Contains-head y (front ++ back)))
-    (λ k. Contains-cons y (front ++ back) z (elsewhere x front back z other k)) (Contains-cases y (front ++ x ∷ back) z h)
-
-Apart-few : {X : Type 0} (xs ys : List X) → Apart xs → ((x : X) → Contains xs x → Contains ys x) → length xs ≤ length ys
-unfolding Apart
-Apart-few [] ys apart there = omega arith
-Apart-few (x ∷ xs) ys apart there =
-    let at = around x ys (there x (Contains-head x xs)) in
-    let fewer = Apart-few xs (at.front ++ at.back) apart.1
-    (λ z k. elsewhere x at.front at.back z (λ e. apart.0 (subst (λ w. Contains xs w) (sym e) k)) (subst (λ zs. Contains zs z) at.is (there z (Contains-cons x xs z k)))) in
-    let all_of_them : length ys ≡ length at.front + suc (length at.back) = ap length at.is ∙ length-append at.front (x ∷ at.back) in
-    let others = length-append at.front at.back in
-    omega arith
 
 -- one step more
 pub reach_more : (sys : System) (table : Table) (x s t : Vector) → Reaches sys table x s → Leads sys table s t → Reaches sys table x t
@@ -142,7 +106,6 @@ module _ (sys : System) (ok : IsSystem sys) (k : ℕ) (stable : (v : Vector) →
   cycle s t out lead back = solves.no_cycle s t back.rest out.reached (lead, back.path) back.ends
 
   walks : (fuel : ℕ) (seen : List Vector) (s : Vector) → fuel + length seen ≡ suc (2 ^ sys.fluents) → IsWalk seen s → ⊥
-  unfolding Apart
   walks zero seen s count walk =
       let few = Apart-few seen (all_vectors sys.fluents) walk.apart (λ x h. all_vectors-holds sys.fluents x (walk.states x h)) in
       let all = length-all_vectors sys.fluents in
@@ -163,7 +126,6 @@ module _ (sys : System) (ok : IsSystem sys) (k : ℕ) (stable : (v : Vector) →
       })
 
   no_strong_from : (s : Vector) → Contains sys.initial s → layer Strong sys k s ≡ false → ⊥
-  unfolding Apart
   no_strong_from s initial out =
       let start : IsOutside s = record { state = (ok.initial s initial).vector; reached = record { start = s; initial = initial; path = here sys table s }; outside = out } in
       walks (2 ^ sys.fluents) (s ∷ []) s (omega arith) (record {
@@ -189,7 +151,6 @@ module _ (sys : System) (ok : IsSystem sys) (table : Table) (solves : IsStrongSo
       (Contains-cases t (u ∷ rest) x h)
 
   never_twice : (s : Vector) (rest : List Vector) → IsReached sys table s → IsPath (Leads sys table) s rest → Apart (s ∷ rest)
-  unfolding Apart
   never_twice s [] reached path = ((λ h. Contains-nil s h), tt)
   never_twice s (t ∷ rest) reached path = (
     (λ h. let r = reach_from s t rest path.1 h in solves.no_cycle s t r.rest reached (path.0, r.path) r.ends),

@@ -9,7 +9,7 @@ use Rattle.task_core.specs.ContextPlans.{Configuration, ContextPlan, Follows, Is
 use Rattle.task_core.specs.Paths.{IsPath}
 use Rattle.task_core.specs.Cubes.{SetOfVectors}
 use Rattle.task_core.specs.Systems.{System, IsSystem}
-use Rattle.plan_theory.proofs.WeakLists.{list_all-from}
+use Rattle.list_laws.proofs.Elements.{list_all-from}
 use Rattle.plan_theory.specs.UntilChains.{SetStage, StateIsIn, UntilSets, covers_until, until_met, until_tree, until_win, until_win_at}
 use Rattle.plan_theory.specs.UntilPlans.{HasNoUntilPlan}
 use Rattle.plan_theory.specs.Safe.{safe_round, some_must_lead}

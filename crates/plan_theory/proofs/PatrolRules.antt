@@ -15,7 +15,7 @@ use Rattle.plan_theory.specs.PatrolPlans.{ActsAsPatrol}
 use Rattle.plan_theory.specs.PatrolPrinted.{context_after, patrol_action, patrol_next, patrol_nexts, patrol_rules, patrol_states, visit_in}
 use Rattle.plan_theory.proofs.ContextRuleParts.{leading_below, rules_act, rules_within}
 use Rattle.plan_theory.proofs.PatrolSets.{acts_in_patrol}
-use Rattle.plan_theory.proofs.WeakLists.{Contains-cons, Contains-head}
+use Rattle.list_laws.proofs.Elements.{Contains-cons, Contains-head}
 use Rattle.plan_theory.proofs.WeakPrinted.{is_action-Some, is_action-from}
 
 -- the next contexts of a context: itself and the one after

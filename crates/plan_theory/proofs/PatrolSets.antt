@@ -14,8 +14,9 @@ use Rattle.plan_theory.specs.PatrolPrinted.{patrol_action, patrol_stay, patrol_t
 use Rattle.plan_theory.specs.Safe.{some_must_lead}
 use Rattle.plan_theory.proofs.GuardedSets.{guarded_acts, near-grows}
 use Rattle.plan_theory.proofs.Leading.{leads_at, leads_exec, leads_more, some_leads_from, some_leads_more}
-use Rattle.plan_theory.proofs.Shrinking.{same_truth, stands_still}
-use Rattle.plan_theory.proofs.WeakLists.{find-Some, find-found, list_all-at, list_all-from}
+use Rattle.plan_theory.proofs.Shrinking.{stands_still}
+use Rattle.list_laws.proofs.Elements.{find-Some, find-found, list_all-at, list_all-from}
+use Rattle.list_laws.proofs.Booleans.{same_truth}
 
 module _ (sys : System) (set visit : SetOfVectors) where
   visited_parts : (v : Vector) → visited sys set visit v ≡ true → (set v ≡ true) × (visit v ≡ true) × (some_must_lead sys set v ≡ true)

@@ -15,7 +15,7 @@ use Rattle.task_core.specs.Paths.{IsPath}
 use Rattle.task_core.specs.Cubes.{SetOfVectors}
 use Rattle.task_core.specs.Systems.{System, HasOutcome, IsVector, IsSystem}
 use Rattle.task_core.specs.Vectors.{Vector}
-use Rattle.plan_theory.proofs.WeakLists.{Contains-cons, Contains-head, list_all-at}
+use Rattle.list_laws.proofs.Elements.{Contains-cons, Contains-head, list_all-at}
 use Rattle.plan_theory.specs.UntilChains.{StateIsIn}
 use Rattle.plan_theory.specs.Patrols.{HasPatrol, covers_patrol, patrol_set, visit_near}
 use Rattle.plan_theory.specs.PatrolPlans.{ActsAsPatrol, IsPatrolPlan}

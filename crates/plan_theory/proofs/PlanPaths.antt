@@ -9,11 +9,8 @@ use Rattle.task_core.specs.Systems.{System, IsSystem}
 use Rattle.plan_theory.specs.Safe.{some_must_lead}
 use Rattle.plan_theory.proofs.Leading.{some_leads_from}
 use Rattle.plan_theory.proofs.PlanRuns.{follower, reached_next}
-use Rattle.plan_theory.proofs.WeakLists.{Contains-head}
-
-some_element : {X : Type 0} (xs : List X) → xs ≢ [] → (x : X) × Contains xs x
-some_element [] some = absurd (some refl)
-some_element (x ∷ xs) some = (x, Contains-head x xs)
+use Rattle.list_laws.proofs.Elements.{Contains-head}
+use Rattle.list_laws.proofs.Elements.{some_element}
 
 -- a path of n steps from x
 pub record PathOf (sys : System) (plan : ContextPlan) (n : ℕ) (x : Configuration) : Type 0 where

@@ -6,10 +6,7 @@ use Rattle.task_core.specs.ContextPlans.{Configuration, ContextPlan, Follows, Go
 use Rattle.task_core.proofs.Paths.{last_onward, path_keeps, path_onward}
 use Rattle.task_core.specs.Systems.{System, HasOutcome, IsVector, IsSystem}
 use Rattle.task_core.specs.Vectors.{Vector}
-
-some_value : {T : Type 0} (o : Option T) → IsSome o → (x : T) × (o ≡ Some x)
-some_value None e = absurd (false≢true e)
-some_value (Some x) e = (x, refl)
+use Rattle.list_laws.proofs.Options.{some_value}
 
 pub has_value : {T : Type 0} (o : Option T) (x : T) → o ≡ Some x → IsSome o
 has_value o x e = subst (λ p. IsSome p) (sym e) refl

@@ -10,7 +10,7 @@ use Rattle.plan_theory.specs.Layers.{action_numbers, layer, may_lead}
 use Rattle.plan_theory.proofs.ClassLayers.{layer-grows, layer-stable}
 use Rattle.plan_theory.proofs.LeastBounds.{stands_still}
 use Rattle.plan_theory.proofs.Weak.{HasOutcome-Exec}
-use Rattle.plan_theory.proofs.WeakLists.{Contains-nil, Contains-range_with_len, list_any-from, list_any-witness}
+use Rattle.list_laws.proofs.Elements.{Contains-nil, Contains-range_with_len, list_any-from, list_any-witness}
 use Rattle.plan_theory.specs.Pairs.{Pairs, restricted}
 use Rattle.plan_theory.specs.PairRounds.{connected, progress}
 

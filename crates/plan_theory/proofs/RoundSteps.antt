@@ -10,10 +10,11 @@ use Rattle.task_core.proofs.Vectors.{length-all_vectors}
 use Rattle.plan_theory.specs.Layers.{may_lead, must_lead}
 use Rattle.plan_theory.proofs.Cubes.{all_vectors-agree}
 use Rattle.plan_theory.proofs.Weak.{HasOutcome-Exec, same_vector-itself, same_vector-true}
-use Rattle.plan_theory.proofs.WeakLists.{Contains-cons, Contains-head, list_all-at, list_all-from, list_any-from, list_any-witness}
+use Rattle.list_laws.proofs.Elements.{Contains-cons, Contains-head, list_all-at, list_all-from, list_any-from, list_any-witness}
 use Rattle.plan_theory.specs.Pairs.{is_goal}
 use Rattle.plan_theory.specs.PairRounds.{IsLastRound, connected, kept, round}
 use Rattle.plan_theory.proofs.Restricted.{more_pairs}
+use Rattle.list_laws.proofs.Booleans.{same_truth}
 
 -- what it says of a pair that it is kept, and what keeps it
 pub record IsKept (sys : System) (set : SetOfVectors) (v : Vector) (a : ℕ) : Type 0 where
@@ -80,10 +81,6 @@ rounds_shrink_to sys v r (suc m) l h =
     (cases_lt r (suc m))
 
 -- where two sets hold the same states, the rounds after them do
-same_truth : (x y : Bool) → (x ≡ true → y ≡ true) → (y ≡ true → x ≡ true) → x ≡ y
-same_truth true y there back = sym (there refl)
-same_truth false true there back = back refl
-same_truth false false there back = refl
 
 pub connected_agree : (sys : System) → IsSystem sys → (f g : SetOfVectors) → ((v : Vector) → IsVector sys v → f v ≡ g v) → (v : Vector) → IsVector sys v → connected sys (kept sys f) v ≡ connected sys (kept sys g) v
 connected_agree sys ok f g same v is =

@@ -6,7 +6,8 @@ use Rattle.task_core.specs.Vectors.{Vector}
 use Rattle.task_core.specs.Systems.{System, IsVector, IsSystem}
 use Rattle.plan_theory.specs.Safe.{IsLargestSafeSet, IsLastSafeRound, IsSafeSet, safe_round, safe_set, some_must_lead}
 use Rattle.plan_theory.proofs.Leading.{some_leads_more}
-use Rattle.plan_theory.proofs.Shrinking.{same_truth, stands_still}
+use Rattle.plan_theory.proofs.Shrinking.{stands_still}
+use Rattle.list_laws.proofs.Booleans.{same_truth}
 
 module _ (sys : System) (keep : SetOfVectors) where
   round_parts : (k : ℕ) (v : Vector) → safe_round sys keep (suc k) v ≡ true → (safe_round sys keep k v ≡ true) × (some_must_lead sys (safe_round sys keep k) v ≡ true)

@@ -15,11 +15,6 @@ one_if-le true false down = omega arith
 one_if-le false true down = absurd (false≢true (down refl))
 one_if-le false false down = omega arith
 
-pub same_truth : (x y : Bool) → (x ≡ true → y ≡ true) → (y ≡ true → x ≡ true) → x ≡ y
-same_truth true y there back = sym (there refl)
-same_truth false true there back = back refl
-same_truth false false there back = refl
-
 -- a part of a set has no more of some states, and fewer where it isn't the whole set there
 module _ (f g : SetOfVectors) (part : (v : Vector) → g v ≡ true → f v ≡ true) where
   no_more : (xs : List Vector) → count_by g xs ≤ count_by f xs

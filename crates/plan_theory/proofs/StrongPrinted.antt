@@ -13,7 +13,7 @@ use Rattle.plan_theory.specs.Bounds.{PathsAreWithin, ReachesGoalWithin}
 use Rattle.plan_theory.specs.Layers.{IsLastLayer, layer, may_lead}
 use Rattle.plan_theory.specs.LayerPlans.{printed_rules}
 use Rattle.plan_theory.proofs.ClassLayers.{first_layer, goal_terminal, layer-grows, layer-zero_goal, leads_outcome, pair_at, pair_ranked}
-use Rattle.plan_theory.proofs.WeakLists.{list_all-at}
+use Rattle.list_laws.proofs.Elements.{list_all-at}
 
 module _ (sys : System) (ok : IsSystem sys) (K : ℕ) where
   -- the table of the printed strong plan

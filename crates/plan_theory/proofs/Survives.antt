@@ -14,16 +14,13 @@ use Rattle.task_core.specs.declared.classes.Class.TheVariants.{Cyclic, Weak}
 use Rattle.plan_theory.specs.Layers.{action_numbers, may_lead}
 use Rattle.plan_theory.proofs.ClassLayers.{first_layer, layer-grows, layer-zero}
 use Rattle.plan_theory.proofs.NoStrong.{reach_more}
-use Rattle.plan_theory.proofs.WeakLists.{Contains-head, Contains-range_with_len, list_all-from, list_any-from, list_any-witness}
+use Rattle.list_laws.proofs.Elements.{Contains-head, Contains-range_with_len, list_all-from, list_any-from, list_any-witness}
 use Rattle.plan_theory.specs.LargestSets.{IsLargestSet, IsStrongCyclicSet, covers, goal_or_pair}
 use Rattle.plan_theory.specs.Pairs.{Pairs, has_pair, is_goal, restricted}
 use Rattle.plan_theory.specs.PairRounds.{IsLastRound, kept, progress, round}
 use Rattle.plan_theory.proofs.Restricted.{outcome_of_pair, progress_connected, progress_step}
 use Rattle.plan_theory.proofs.RoundSteps.{kept_from, kept_parts, rounds_end}
-
-some_element : {X : Type 0} (xs : List X) → xs ≢ [] → (x : X) × Contains xs x
-some_element [] some = absurd (some refl)
-some_element (x ∷ xs) some = (x, Contains-head x xs)
+use Rattle.list_laws.proofs.Elements.{some_element}
 
 -- the goal is reached from v within n steps by pairs of P, none of them after it
 abbrev Way : System → (Vector → ℕ → Type 0) → ℕ → Vector → Type 0

@@ -6,28 +6,8 @@ use Rattle.std.proofs.lemmas.Bool.{false≢true, and_from, and_parts, eqb-true, 
 use Rattle.task_core.specs.Vectors.{Vector, same_vector, same_value}
 use Rattle.task_core.specs.Systems.{System, Exec, HasOutcome}
 use Rattle.plan_theory.specs.LayerPlans.{is_action}
-use Rattle.plan_theory.proofs.WeakLists.{Contains-nil}
-
-same_value-itself : (b : Bool) → same_value b b ≡ true
-same_value-itself true = refl
-same_value-itself false = refl
-
--- vectors are the same exactly where the test says so
-pub same_vector-itself : (v : Vector) → same_vector v v ≡ true
-same_vector-itself [] = refl
-same_vector-itself (x ∷ xs) = and_from (same_value x x) (same_vector xs xs) (same_value-itself x) (same_vector-itself xs)
-
-pub same_value-true : (a b : Bool) → same_value a b ≡ true → a ≡ b
-same_value-true true true h = refl
-same_value-true true false h = absurd (false≢true h)
-same_value-true false true h = absurd (false≢true h)
-same_value-true false false h = refl
-
-pub same_vector-true : (v w : Vector) → same_vector v w ≡ true → v ≡ w
-same_vector-true [] [] h = refl
-same_vector-true [] (y ∷ ys) h = absurd (false≢true h)
-same_vector-true (x ∷ xs) [] h = absurd (false≢true h)
-same_vector-true (x ∷ xs) (y ∷ ys) h = let p = and_parts (same_value x y) (same_vector xs ys) h in let a = same_value-true x y p.0 in let b = same_vector-true xs ys p.1 in cc
+use Rattle.list_laws.proofs.Elements.{Contains-nil}
+pub use Rattle.task_core.proofs.Vectors.{same_vector_refl as same_vector-itself, same_value_equal as same_value-true, same_vector_equal as same_vector-true}
 
 -- an action with an outcome can be executed
 pub HasOutcome-Exec : (sys : System) (s : Vector) (a : ℕ) (t : Vector) → HasOutcome sys s a t → Exec sys s a

@@ -12,7 +12,7 @@ use Rattle.task_core.specs.ContextPlans.{Configuration, ContextPlan, Follows, Go
 use Rattle.task_core.specs.Paths.{IsPath}
 use Rattle.task_core.specs.Cubes.{SetOfVectors}
 use Rattle.task_core.specs.Systems.{System, HasOutcome, IsVector, IsSystem}
-use Rattle.plan_theory.proofs.WeakLists.{list_all-at}
+use Rattle.list_laws.proofs.Elements.{list_all-at}
 use Rattle.plan_theory.specs.UntilChains.{SetStage, StateIsIn, UntilSets, covers_until, guarded_from, until_advance, until_contexts, until_met, until_met_count, until_tree, until_win, until_win_at}
 use Rattle.plan_theory.specs.UntilPlans.{ActsAsUntil, IsUntilPlan}
 use Rattle.plan_theory.specs.UntilPrinted.{until_towards}

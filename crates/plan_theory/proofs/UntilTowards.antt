@@ -7,7 +7,7 @@ use Rattle.task_core.specs.Cubes.{SetOfVectors}
 use Rattle.task_core.specs.Vectors.{Vector}
 use Rattle.task_core.specs.Systems.{System, IsVector, IsSystem}
 use Rattle.plan_theory.specs.Layers.{action_numbers, must_lead}
-use Rattle.plan_theory.proofs.WeakLists.{find-Some, find-found}
+use Rattle.list_laws.proofs.Elements.{find-Some, find-found}
 use Rattle.plan_theory.specs.UntilChains.{SetStage, UntilSets, guarded_from, until_advance, until_contexts, until_met, until_met_count, until_win, until_win_at}
 use Rattle.plan_theory.specs.UntilPrinted.{until_towards}
 use Rattle.plan_theory.specs.Safe.{safe_set}

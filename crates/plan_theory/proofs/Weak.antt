@@ -11,7 +11,7 @@ use Rattle.task_core.specs.Solutions.{IsWeakSolution, MayReachGoal}
 use Rattle.plan_theory.specs.Layers.{layer, covers, may_lead, action_numbers}
 use Rattle.plan_theory.proofs.ClassLayers.{layer-grows, layer-zero, stable_no_cover}
 pub use Rattle.plan_theory.proofs.Tests.{HasOutcome-Exec, same_value-true, same_vector-itself, same_vector-true}
-use Rattle.plan_theory.proofs.WeakLists.{Contains-head, Contains-cons, Contains-range_with_len, list_any-from, list_all-at, list_all-from}
+use Rattle.list_laws.proofs.Elements.{Contains-head, Contains-cons, Contains-range_with_len, list_any-from, list_all-at, list_all-from}
 use Rattle.task_core.specs.declared.classes.Class.TheVariants.{Weak}
 
 -- a state with an outcome in a layer is in the next one

@@ -11,8 +11,8 @@ use Rattle.plan_theory.specs.Layers.{layer, may_lead, action_numbers, IsLastLaye
 use Rattle.plan_theory.specs.LayerPlans.{chosen_action, printed_rules}
 use Rattle.plan_theory.proofs.ClassLayers.{chosen_advised, chosen_kept, goal_terminal, layer-zero_goal, printed_executable, step_choice}
 pub use Rattle.plan_theory.proofs.Tests.{is_action-Some, is_action-from}
-use Rattle.plan_theory.proofs.WeakDenoted.{denoted-from, denoted-table, can_execute-outcome}
-use Rattle.plan_theory.proofs.WeakLists.{Contains-range_with_len-below, list_any-witness, list_all-at, find-Some, find-found}
+use Rattle.plan_rules.proofs.DenotedPairs.{denoted-from, denoted-table, can_execute-outcome}
+use Rattle.list_laws.proofs.Elements.{Contains-range_with_len-below, list_any-witness, list_all-at, find-Some, find-found}
 use Rattle.task_core.specs.declared.classes.Class.TheVariants.{Weak}
 
 -- a first step before a path to the goal
@@ -34,7 +34,7 @@ printed_reaches sys ok K (suc k) l v is h = go (layer Weak sys k v) refl (printe
         let found = find-found test (action_numbers sys) a first.1 in
         let below : a < sys.actions = Contains-range_with_len-below sys.actions a found.0 in
         let t = list_any-witness (layer Weak sys k) (sys.next v a) found.1 in
-        let pair : Contains (denoted sys (printed_rules Weak sys K)) (v, a) = denoted-from sys (printed_rules Weak sys K) v a (record { state = is; below = below; advised = chosen_advised Weak sys K v a is below chosen; executable = can_execute-outcome sys v a t.0 t.1 }) in
+        let pair : Contains (denoted sys (printed_rules Weak sys K)) (v, a) = denoted-from sys (printed_rules Weak sys K) v a (record { vector = is; below = below; advised = chosen_advised Weak sys K v a is below chosen; executable = can_execute-outcome sys v a t.0 t.1 }) in
         prepend sys (denoted sys (printed_rules Weak sys K)) v t.0 (record { action = a; pair = pair; outcome = t.1 }) (after t.0 (ok.next v a t.0 t.1).vector t.2)
 
     go : (b : Bool) → layer Weak sys k v ≡ b → ((t : Vector) → IsVector sys t → layer Weak sys k t ≡ true → MayReachGoal sys (denoted sys (printed_rules Weak sys K)) t) → MayReachGoal sys (denoted sys (printed_rules Weak sys K)) v

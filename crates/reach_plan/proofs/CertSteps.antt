@@ -32,7 +32,7 @@ use Rattle.task_core.specs.declared.classes.Class.TheVariants.{Weak, Strong, Cyc
 use Rattle.task_core.specs.declared.literals.Lit.{Lit}
 use Rattle.task_core.specs.declared.tasks.Task.{Task}
 use Rattle.task_core.proofs.TaskSystem.{is_system}
-use Rattle.plan_certs.specs.Named.{IsCertificateOf, IsPlainCertificateOf, IsSetOf, MayHave, cube_of, plain_of}
+use Rattle.plan_certs.specs.Named.{IsCertificateOf, IsPlainCertificateOf, IsSetOf, MayHave, cube_of, plain_certificate}
 use Rattle.plan_certs.specs.Printed.{IsPrinted, outside_layers}
 use Rattle.plan_certs.specs.declared.certificates.Certificate.{Certificate}
 use Rattle.plan_rules.specs.Denoted.{denoted}
@@ -124,7 +124,7 @@ solution class by_layers task layers last =
     }
 
 -- what is left makes a certificate
-pub printed : (class : Class) → IsFoundByLayers class → (task : Task) (cubes : Vec (Vec Lit Global) Global) (certificate : Certificate) → IsLeft class task (Some cubes) → plain_of certificate ≡ record { class = class; sets = map cube_of cubes.items ∷ [] } → IsPrinted class (system_of task) (plain_of certificate)
+pub printed : (class : Class) → IsFoundByLayers class → (task : Task) (cubes : Vec (Vec Lit Global) Global) (certificate : Certificate) → IsLeft class task (Some cubes) → plain_certificate certificate ≡ record { class = class; sets = map cube_of cubes.items ∷ [] } → IsPrinted class (system_of task) (plain_certificate certificate)
 printed Weak by_layers task cubes certificate left made = made ∙ ap (λ (set : List Cube). record { class = Weak; sets = set ∷ [] }) left.1
 printed Strong by_layers task cubes certificate left made = made ∙ ap (λ (set : List Cube). record { class = Strong; sets = set ∷ [] }) left.1
 printed Cyclic by_layers task cubes certificate left made = absurd by_layers
@@ -134,7 +134,7 @@ may_have Weak by_layers = refl
 may_have Strong by_layers = refl
 may_have Cyclic by_layers = absurd by_layers
 
-pub in_task : (class : Class) → IsFoundByLayers class → (task : Task) (cubes : Vec (Vec Lit Global) Global) (certificate : Certificate) → IsLeft class task (Some cubes) → plain_of certificate ≡ record { class = class; sets = map cube_of cubes.items ∷ [] } → IsCertificateOf (fluent_count task) certificate
+pub in_task : (class : Class) → IsFoundByLayers class → (task : Task) (cubes : Vec (Vec Lit Global) Global) (certificate : Certificate) → IsLeft class task (Some cubes) → plain_certificate certificate ≡ record { class = class; sets = map cube_of cubes.items ∷ [] } → IsCertificateOf (fluent_count task) certificate
 in_task class by_layers task cubes certificate left made =
     let n = fluent_count task in
     let set = cubes_of n (outside_layers class (system_of task)) in

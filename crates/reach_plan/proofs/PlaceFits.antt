@@ -23,8 +23,8 @@ use Rattle.reach_plan.specs.Searches.{HasGrown, HasHits, HasLayer, HasProgress, 
 use Rattle.reach_plan.specs.Steps.{IsWithinRound, Progress, after_step, after_steps, at_goal, untaken}
 use Rattle.reach_plan.specs.WorkingSets.{IsWide, first_of}
 use Rattle.reach_plan.specs.WorkingSets.IsWorkingSet.{by_task}
-use Rattle.reach_plan.specs.declared.steps.Step.{Step}
-use Rattle.reach_plan.specs.declared.steps.Step.TheVariants.{Advance, Grow}
+use Rattle.slot_board.specs.declared.steps.Step.{Step}
+use Rattle.slot_board.specs.declared.steps.Step.TheVariants.{Advance, Grow}
 use Rattle.reach_plan.proofs.SearchSteps.{after_one_more, goal_slot, grown_more, hits_still}
 use Rattle.reach_plan.proofs.SmallSets.{grown_small, hits_small, initial_small, layer_fits, layer_small, next_small, now_small, takes_small}
 
@@ -40,9 +40,9 @@ lead_fits class start x slots n k a f h outcomes give has wide is within =
     give start a (set_at x.sets slots n) (subst (PreimageFits start.width start.task a (first_of class)) (sym has.holds_layer) (layer_fits start.width class start.task wide k f is a within))
 
 -- the hits of an action joined to what the actions before it add
-pub joined_small : (class : Class) (start : Start) (f : Function) (h : ℕ → Function) (a : ℕ) → IsKnown class start f h → a < action_count start.task → IsSmall start (or_of (grown class start.task f a) (class_preimage class start.task a f))
-joined_small class start f h a known within =
-    subst (IsSmall start) (sym (grown_more class start.task f a)) (grown_small start.width class start.task known.wide known.rank f known.is_layer (a + 1) (omega arith))
+pub joined_small : {k : ℕ} (class : Class) (start : Start) (f : Function) (h : ℕ → Function) (a : ℕ) → IsKnown class start k f h → a < action_count start.task → IsSmall start (or_of (grown class start.task f a) (class_preimage class start.task a f))
+joined_small {k} class start f h a known within =
+    subst (IsSmall start) (sym (grown_more class start.task f a)) (grown_small start.width class start.task known.wide k f known.is_layer (a + 1) (omega arith))
 
 hits_joined : (start : Start) (x : Encoded) (slots : List SetId) (n : ℕ) (f : Function) (h : ℕ → Function) (g hits : Function) → HasHits start x slots n f h g hits → or_of (set_at x.sets slots (n + 1)) (set_at x.sets slots (n + 2)) ≡ or_of g hits
 hits_joined start x slots n f h g hits has = ap (λ (s : Function). or_of s (set_at x.sets slots (n + 2))) has.by_next.holds_next ∙ ap (or_of g) has.holds_hits
@@ -55,17 +55,17 @@ pub grown_fits : (start : Start) (x mid : Encoded) (old half : List SetId) (plac
 grown_fits start x mid old half place f g hits has m = fits_small start place _ (or_of g hits) (m.here ∙ hits_joined start x old 0 f untaken g hits has) has.joined
 
 -- a copy of the layer
-pub layer_copy_fits : (class : Class) (start : Start) (x : Encoded) (slots : List SetId) (n place : ℕ) (f : Function) (h t : ℕ → Function) → HasLayer start x slots n f h → IsKnown class start f t → Fits start place (set_at x.sets slots n)
-layer_copy_fits class start x slots n place f h t has known = fits_small start place _ f has.holds_layer (layer_small start.width class start.task known.wide known.rank f known.is_layer)
+pub layer_copy_fits : {k : ℕ} (class : Class) (start : Start) (x : Encoded) (slots : List SetId) (n place : ℕ) (f : Function) (h t : ℕ → Function) → HasLayer start x slots n f h → IsKnown class start k f t → Fits start place (set_at x.sets slots n)
+layer_copy_fits {k} class start x slots n place f h t has known = fits_small start place _ f has.holds_layer (layer_small start.width class start.task known.wide k f known.is_layer)
 
 -- the initial states may be looked up in the layer
-pub test_fits : (class : Class) (start : Start) (x : Encoded) (slots : List SetId) (f : Function) (h : ℕ → Function) (t : ℕ → Function) → HasLayer start x slots 0 f h → IsKnown class start f t → TestFits start (set_at x.sets slots 0)
-test_fits class start x slots f h t has known =
-    (initial_small start.width class start.task known.wide, subst (IsSmall start) (sym has.holds_layer) (layer_small start.width class start.task known.wide known.rank f known.is_layer))
+pub test_fits : {k : ℕ} (class : Class) (start : Start) (x : Encoded) (slots : List SetId) (f : Function) (h : ℕ → Function) (t : ℕ → Function) → HasLayer start x slots 0 f h → IsKnown class start k f t → TestFits start (set_at x.sets slots 0)
+test_fits {k} class start x slots f h t has known =
+    (initial_small start.width class start.task known.wide, subst (IsSmall start) (sym has.holds_layer) (layer_small start.width class start.task known.wide k f known.is_layer))
 
 -- the next layer once all actions are done
-pub next_layer_small : (class : Class) (start : Start) (f : Function) (h : ℕ → Function) (m : ℕ) → IsKnown class start f h → m ≤ action_count start.task → IsSmall start (grown class start.task f m)
-next_layer_small class start f h m known few = grown_small start.width class start.task known.wide known.rank f known.is_layer m few
+pub next_layer_small : {k : ℕ} (class : Class) (start : Start) (f : Function) (h : ℕ → Function) (m : ℕ) → IsKnown class start k f h → m ≤ action_count start.task → IsSmall start (grown class start.task f m)
+next_layer_small {k} class start f h m known few = grown_small start.width class start.task known.wide k f known.is_layer m few
 
 -- the goal's states
 pub goal_fits : (class : Class) (start : Start) (x : Encoded) (slot : SetId) (place : ℕ) → IsWide start.width class start.task → MadeOf start.task x → x.goal ≡ Some slot → Fits start place (set_of x.sets slot.0)
@@ -92,37 +92,39 @@ taken_fits start x mid old half n a f h g hits long low has may m =
 -- a step of the second pass
 module _ (class : Class) (start : Start) (n : ℕ) (here : Progress) where
   pub step_joined : (a : ActionId) → MayStep class start n here (Grow a) → IsSmall start (or_of here.next (class_preimage class start.task a.0 here.layer))
-  step_joined a may = next_small start.width class start.task may.wide (after_step class start.task here (Grow a)) may.into
+  step_joined a may = next_small start.width class start.task may.wide (after_step class start.task here (Grow a)) may.layers may.last may.into
 
   pub step_takes : (a : ActionId) → a.0 < action_count start.task → MayStep class start n here (Grow a) → MayTake start n a.0 (here.taken a.0) here.next (class_preimage class start.task a.0 here.layer)
   step_takes a within may =
       let hits = class_preimage class start.task a.0 here.layer in
       let more = or_of (here.taken a.0) (minus_of hits here.next) in
-      let after = takes_small start.width class start.task may.wide (after_step class start.task here (Grow a)) may.into a.0 within in
+      let after = takes_small start.width class start.task may.wide (after_step class start.task here (Grow a)) may.layers may.last may.into a.0 within in
       record {
         new = inr
-            (may.rough, difference_rough (fluent_count start.task) start.width hits here.next (hits_small start.width class start.task may.wide may.from.rank here.layer may.from.is_layer a.0 within) (next_small start.width class start.task may.wide here may.from));
+            (may.rough, difference_rough (fluent_count start.task) start.width hits here.next (hits_small start.width class start.task may.wide may.from.rank here.layer may.from.is_layer a.0 within) (next_small start.width class start.task may.wide here may.layers may.last may.from));
         taken = inl (subst (IsSmall start) (cond-true (a.0 == a.0) more (here.taken a.0) (eq-eqb a.0 a.0 refl)) after);
       }
 
   pub step_advances : MayStep class start n here Advance → IsSmall start here.next
-  step_advances may = now_small start.width class start.task may.wide (after_step class start.task here Advance) may.into
+  step_advances may = now_small start.width class start.task may.wide (after_step class start.task here Advance) may.layers may.last may.into
 
 -- the steps in turn
 pub may_step : (class : Class) (start : Start) (n : ℕ) (steps : List Step) (i : ℕ) (d : Step) → i < length steps → MayRetrace class start n steps → MayStep class start n (after_steps class start.task (at_goal start.task) (take i steps)) (get_or steps i d)
 may_step class start n steps i d within may = record {
   wide = may.wide;
   rough = may.rough;
+  layers = may.layers;
+  last = may.last;
   from = may.along i;
-  into = subst (IsWithinRound class start.task) (sym (after_one_more class start.task (at_goal start.task) (take i steps) (take (i + 1) steps) (get_or steps i d) (take_more steps i d within))) (may.along (i + 1));
+  into = subst (IsWithinRound class start.task may.layers) (sym (after_one_more class start.task (at_goal start.task) (take i steps) (take (i + 1) steps) (get_or steps i d) (take_more steps i d within))) (may.along (i + 1));
 }
 
 -- an action of the first pass, and one of a step of the second, may be led into the layer
-pub grow_leads : (class : Class) (start : Start) (x : Encoded) (slots : List SetId) (f : Function) (h : ℕ → Function) (a : ℕ) (steps : List Step) (spent : List Bool) (outcomes : Outcomes)
+pub grow_leads : {k : ℕ} (class : Class) (start : Start) (x : Encoded) (slots : List SetId) (f : Function) (h : ℕ → Function) (a : ℕ) (steps : List Step) (spent : List Bool) (outcomes : Outcomes)
     → ((start : Start) (a : ℕ) (set : Function) → PreimageFits start.width start.task a (first_of class) set → LeadFits start outcomes a set)
-    → HasGrown class start x slots f h a steps spent → a < length x.actions → LeadFits start outcomes a (set_at x.sets slots 0)
-grow_leads class start x slots f h a steps spent outcomes give has within =
-    lead_fits class start x slots 0 has.known.rank a f untaken outcomes give has.by_next.by_layer has.known.wide has.known.is_layer (action_within start x slots a has.by_next.by_layer.at within)
+    → HasGrown class start x slots k f h a steps spent → a < length x.actions → LeadFits start outcomes a (set_at x.sets slots 0)
+grow_leads {k} class start x slots f h a steps spent outcomes give has within =
+    lead_fits class start x slots 0 k a f untaken outcomes give has.by_next.by_layer has.known.wide has.known.is_layer (action_within start x slots a has.by_next.by_layer.at within)
 
 pub step_leads : (class : Class) (start : Start) (x : Encoded) (slots : List SetId) (n : ℕ) (here : Progress) (step : Step) (a : ℕ) (outcomes : Outcomes)
     → ((start : Start) (a : ℕ) (set : Function) → PreimageFits start.width start.task a (first_of class) set → LeadFits start outcomes a set)

@@ -33,7 +33,7 @@ use Rattle.plan_theory.specs.Layers.{IsLastLayer}
 use Rattle.plan_theory.specs.LayerPlans.{printed_rules, rules_of_action, takers}
 use Rattle.reach_plan.specs.Searches.{HasProgress, MayRetrace, SearchLeft}
 use Rattle.reach_plan.specs.Steps.{LeadToLast, Progress, after_steps, at_goal}
-use Rattle.reach_plan.specs.declared.steps.Step.{Step}
+use Rattle.slot_board.specs.declared.steps.Step.{Step}
 use Rattle.reach_plan.specs.SetRules.{rules_of_place}
 use Rattle.slot_board.specs.Rules.{rule_for}
 use Rattle.reach_plan.specs.Takers.{HoldTakers, IsDecided}
@@ -188,4 +188,4 @@ second_pass task enc made actions width wide = start_of task enc made (actions +
 
 -- the second pass may make the steps of the first
 pub may_retrace : (class : Class) (task : Task) (enc : Encoded) (made : MadeOf task enc) (actions width : ℕ) (wide : IsWide width class task) (steps : List Step) → LeadToLast class task steps → MayRetrace class (second_pass task enc made actions width wide.wide) actions steps
-may_retrace class task enc made actions width wide steps leads = record { wide = wide; rough = Contains-head (actions + 3) []; along = leads.led.along }
+may_retrace class task enc made actions width wide steps leads = record { wide = wide; rough = Contains-head (actions + 3) []; layers = leads.layers; last = leads.last; along = leads.led.along }

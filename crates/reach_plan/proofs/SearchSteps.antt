@@ -34,8 +34,8 @@ use Rattle.plan_theory.specs.Layers.{covers, layer}
 use Rattle.reach_plan.specs.LayerSets.{AreTakers, IsLayerSet, IsRound, class_preimage, grown, taken_by}
 use Rattle.reach_plan.specs.Searches.{AreSpent, BeginsRound, FoundLast, FoundNone, HasGrown, HasHits, HasJoined, HasLayer, HasNext, HasRound, IsCovered, IsMore, IsStill}
 use Rattle.reach_plan.specs.Steps.{HaveLed, IsWithinRound, Progress, after_step, after_steps, at_goal, goal_layer, is_step_of, untaken, with_set}
-use Rattle.reach_plan.specs.declared.steps.Step.{Step}
-use Rattle.reach_plan.specs.declared.steps.Step.TheVariants.{Advance, Grow}
+use Rattle.slot_board.specs.declared.steps.Step.{Step}
+use Rattle.slot_board.specs.declared.steps.Step.TheVariants.{Advance, Grow}
 use Rattle.plan_theory.proofs.LeastBounds.{none_once_stable}
 use Rattle.plan_theory.proofs.Ranges.{range-more}
 use Rattle.reach_plan.specs.WorkingSets.{IsWide}
@@ -212,22 +212,36 @@ within_more : (p : Step → Bool) (steps : List Step) (step : Step) → list_all
 within_more p steps step all is = list_all-append p steps (step ∷ []) ∙ ap (λ b. b && (p step && true)) all ∙ ap (λ b. b && true) is
 
 -- and where it leads is within a round
-along_more : (class : Class) (task : Task) (steps : List Step) (step : Step) → ((i : ℕ) → IsWithinRound class task (after_steps class task (at_goal task) (take i steps))) → IsWithinRound class task (after_steps class task (at_goal task) (steps ++ step ∷ []))
-    → (i : ℕ) → IsWithinRound class task (after_steps class task (at_goal task) (take i (steps ++ step ∷ [])))
-along_more class task steps step along last i = ⊎_elim
-    (λ (low : i < length steps + 1). subst (λ (front : List Step). IsWithinRound class task (after_steps class task (at_goal task) front)) (sym (take-append-le i steps (step ∷ []) (omega arith))) (along i))
+along_more : {top : ℕ} (class : Class) (task : Task) (steps : List Step) (step : Step) → ((i : ℕ) → IsWithinRound class task top (after_steps class task (at_goal task) (take i steps))) → IsWithinRound class task top (after_steps class task (at_goal task) (steps ++ step ∷ []))
+    → (i : ℕ) → IsWithinRound class task top (after_steps class task (at_goal task) (take i (steps ++ step ∷ [])))
+along_more {top} class task steps step along last i = ⊎_elim
+    (λ (low : i < length steps + 1). subst (λ (front : List Step). IsWithinRound class task top (after_steps class task (at_goal task) front)) (sym (take-append-le i steps (step ∷ []) (omega arith))) (along i))
     (λ (high : length steps + 1 ≤ i).
     let long : length (steps ++ step ∷ []) ≡ length steps + 1 = length_push steps step in
-    subst (λ (front : List Step). IsWithinRound class task (after_steps class task (at_goal task) front)) (sym (take_all i (steps ++ step ∷ []) (omega arith))) last)
+    subst (λ (front : List Step). IsWithinRound class task top (after_steps class task (at_goal task) front)) (sym (take_all i (steps ++ step ∷ []) (omega arith))) last)
     (cases_lt i (length steps + 1))
 
-pub led_more : (class : Class) (task : Task) (steps : List Step) (here : Progress) (step : Step) → is_step_of (action_count task) step ≡ true → IsWithinRound class task (after_step class task here step) → HaveLed class task steps here
-    → HaveLed class task (steps ++ step ∷ []) (after_step class task here step)
-led_more class task steps here step is within led = record {
+pub led_more : {top : ℕ} (class : Class) (task : Task) (steps : List Step) (here : Progress) (step : Step) → is_step_of (action_count task) step ≡ true → IsWithinRound class task top (after_step class task here step) → HaveLed class task top steps here
+    → HaveLed class task top (steps ++ step ∷ []) (after_step class task here step)
+led_more {top} class task steps here step is within led = record {
   there = after_more class task (at_goal task) steps step ∙ ap (λ (p : Progress). after_step class task p step) led.there;
-  along = along_more class task steps step led.along (subst (IsWithinRound class task) (sym (after_more class task (at_goal task) steps step ∙ ap (λ (p : Progress). after_step class task p step) led.there)) within);
+  along = along_more class task steps step led.along (subst (IsWithinRound class task top) (sym (after_more class task (at_goal task) steps step ∙ ap (λ (p : Progress). after_step class task p step) led.there)) within);
   within = within_more (is_step_of (action_count task)) steps step led.within is;
 }
+
+-- within a round below a rank they are within one below a greater
+higher : (class : Class) (task : Task) (top : ℕ) (here : Progress) → IsWithinRound class task top here → IsWithinRound class task (suc top) here
+higher class task top here at = record {
+  rank = at.rank;
+  is_layer = at.is_layer;
+  grown_by = at.grown_by;
+  few = at.few;
+  is_grown = at.is_grown;
+  is_taken = λ a within. let is = at.is_taken a within in record { rank = is.rank; low = omega (arith, is.low); takes = is.takes };
+}
+
+led_higher : (class : Class) (task : Task) (top : ℕ) (steps : List Step) (here : Progress) → HaveLed class task top steps here → HaveLed class task (suc top) steps here
+led_higher class task top steps here led = record { there = led.there; along = λ i. higher class task top _ (led.along i); within = led.within }
 
 -- an action leads into a set from where it can be executed
 and_left : (b c : Bool) → (b && c) ≡ true → b ≡ true
@@ -272,22 +286,22 @@ or_true : (b : Bool) → (b || true) ≡ true
 or_true true = refl
 or_true false = refl
 
-module _ (class : Class) (start : Start) (x now : Encoded) (old new : List SetId) (f : Function) (h : ℕ → Function) (a : ActionId) (before after : List Step) (spent : List Bool) (has : HasGrown class start x old f h a.0 before spent) (within : a.0 < action_count start.task)
+module _ {k : ℕ} (class : Class) (start : Start) (x now : Encoded) (old new : List SetId) (f : Function) (h : ℕ → Function) (a : ActionId) (before after : List Step) (spent : List Bool) (has : HasGrown class start x old k f h a.0 before spent) (within : a.0 < action_count start.task)
     (joined : HasJoined start now new f (grown class start.task f a.0) (class_preimage class start.task a.0 f) a before after) where
   task : Task
   task = start.task
 
-  led_on : HaveLed class start.task after (record { layer = f; taken = taken_by class start.task f h (a.0 + 1); next = grown class start.task f (a.0 + 1) })
+  led_on : HaveLed class start.task (suc k) after (record { layer = f; taken = taken_by class start.task f h (a.0 + 1); next = grown class start.task f (a.0 + 1) })
   led_on = ⊎_elim
       (λ (is : after ≡ before ++ Grow a ∷ []).
-      subst (HaveLed class start.task after) (λ j. record { layer = f; taken = taken_more class start.task f h a.0 j; next = grown_more class start.task f a.0 j })
-      (subst (λ (steps : List Step). HaveLed class start.task steps (after_step class start.task (record { layer = f; taken = taken_by class start.task f h a.0; next = grown class start.task f a.0 }) (Grow a))) (sym is)
+      subst (HaveLed class start.task (suc k) after) (λ j. record { layer = f; taken = taken_more class start.task f h a.0 j; next = grown_more class start.task f a.0 j })
+      (subst (λ (steps : List Step). HaveLed class start.task (suc k) steps (after_step class start.task (record { layer = f; taken = taken_by class start.task f h a.0; next = grown class start.task f a.0 }) (Grow a))) (sym is)
       (led_more class start.task before _ (Grow a) (lt-ltb a.0 (action_count start.task) within)
-      (subst (IsWithinRound class start.task) (λ j. record { layer = f; taken = sym (taken_more class start.task f h a.0) j; next = sym (grown_more class start.task f a.0) j })
-      (within_round class start.task has.known.rank f has.known.is_layer h has.known.are_takers (a.0 + 1) (omega arith))) has.led)))
+      (subst (IsWithinRound class start.task (suc k)) (λ j. record { layer = f; taken = sym (taken_more class start.task f h a.0) j; next = sym (grown_more class start.task f a.0) j })
+      (within_round class start.task k f has.known.is_layer h has.known.are_takers (a.0 + 1) (omega arith))) has.led)))
       (λ (same : (after ≡ before) × (or_of (grown class start.task f a.0) (class_preimage class start.task a.0 f) ≡ grown class start.task f a.0)).
-      subst (HaveLed class start.task after) (λ j. record { layer = f; taken = taken_same class start.task f h a.0 same.1 j; next = (sym same.1 ∙ grown_more class start.task f a.0) j })
-      (subst (λ (steps : List Step). HaveLed class start.task steps (record { layer = f; taken = taken_by class start.task f h a.0; next = grown class start.task f a.0 })) (sym same.0) has.led))
+      subst (HaveLed class start.task (suc k) after) (λ j. record { layer = f; taken = taken_same class start.task f h a.0 same.1 j; next = (sym same.1 ∙ grown_more class start.task f a.0) j })
+      (subst (λ (steps : List Step). HaveLed class start.task (suc k) steps (record { layer = f; taken = taken_by class start.task f h a.0; next = grown class start.task f a.0 })) (sym same.0) has.led))
       joined.noted
 
   grows : (values : Values) → grown class start.task f a.0 values ≡ true → grown class start.task f (a.0 + 1) values ≡ true
@@ -300,7 +314,7 @@ module _ (class : Class) (start : Start) (x now : Encoded) (old new : List SetId
   next_on = subst (λ (s : Function). HasNext start now new 0 f untaken s) (grown_more class start.task f a.0) joined.by_next
 
   -- where the action's mark is as it was
-  pub grown_still : HasGrown class start now new f h (a.0 + 1) after spent
+  pub grown_still : HasGrown class start now new k f h (a.0 + 1) after spent
   grown_still = record {
     by_next = next_on;
     known = has.known;
@@ -309,7 +323,7 @@ module _ (class : Class) (start : Start) (x now : Encoded) (old new : List SetId
   }
 
   -- where it is written
-  pub grown_on : (is_spent : Bool) → (is_spent ≡ true → class_preimage class start.task a.0 f ≡ exec_set start.task a.0) → length (slice_set spent a.0 is_spent) ≡ length spent → HasGrown class start now new f h (a.0 + 1) after (slice_set spent a.0 is_spent)
+  pub grown_on : (is_spent : Bool) → (is_spent ≡ true → class_preimage class start.task a.0 f ≡ exec_set start.task a.0) → length (slice_set spent a.0 is_spent) ≡ length spent → HasGrown class start now new k f h (a.0 + 1) after (slice_set spent a.0 is_spent)
   grown_on is_spent all long = record {
     by_next = next_on;
     known = has.known;
@@ -329,9 +343,9 @@ module _ (class : Class) (start : Start) (x now : Encoded) (old new : List SetId
 pub spent_adds_nothing : (class : Class) (task : Task) (f g : Function) (a : ℕ) (spent : List Bool) → AreSpent task g spent → slice_index_or spent a false ≡ true → or_of g (class_preimage class task a f) ≡ g
 spent_adds_nothing class task f g a spent are is = joined_part g (class_preimage class task a f) (λ values p. are.inside a is values (preimage_inside class task a f values p))
 
-pub grown_spent : (class : Class) (start : Start) (x : Encoded) (slots : List SetId) (f : Function) (h : ℕ → Function) (a : ActionId) (steps : List Step) (spent : List Bool) → HasGrown class start x slots f h a.0 steps spent → a.0 < action_count start.task
-    → slice_index_or spent a.0 false ≡ true → HasGrown class start x slots f h (a.0 + 1) steps spent
-grown_spent class start x slots f h a steps spent has within is =
+pub grown_spent : {k : ℕ} (class : Class) (start : Start) (x : Encoded) (slots : List SetId) (f : Function) (h : ℕ → Function) (a : ActionId) (steps : List Step) (spent : List Bool) → HasGrown class start x slots k f h a.0 steps spent → a.0 < action_count start.task
+    → slice_index_or spent a.0 false ≡ true → HasGrown class start x slots k f h (a.0 + 1) steps spent
+grown_spent {k} class start x slots f h a steps spent has within is =
     let none = spent_adds_nothing class start.task f (grown class start.task f a.0) a.0 spent has.are_spent is in
     grown_still class start x x slots slots f h a steps steps spent has within
     (record { by_next = subst (λ (s : Function). HasNext start x slots 0 f untaken s) (sym none) has.by_next; noted = inr (refl, none) })
@@ -369,11 +383,11 @@ memory_passed start now slots Q inner outer e was p never at =
     subst (Ends start now slots Q) (sym p.1) (at, λ full. absurd (let no : Memory ≡ Full = sym memory ∙ sym p.2 ∙ full in cc))
 
 -- at first the next layer is this one
-pub grown_first : (class : Class) (start : Start) (x now : Encoded) (old new : List SetId) (f : Function) (h : ℕ → Function) (steps : List Step) (spent : List Bool) → length old ≡ 4 → BeginsRound class start x old f h steps spent → Moved start x.sets old now new 1 (set_at x.sets old 0) → HasGrown class start now new f h 0 steps spent
-grown_first class start x now old new f h steps spent long begins m = record {
+pub grown_first : {k : ℕ} (class : Class) (start : Start) (x now : Encoded) (old new : List SetId) (f : Function) (h : ℕ → Function) (steps : List Step) (spent : List Bool) → length old ≡ 4 → BeginsRound class start x old k f h steps spent → Moved start x.sets old now new 1 (set_at x.sets old 0) → HasGrown class start now new k f h 0 steps spent
+grown_first {k} class start x now old new f h steps spent long begins m = record {
   by_next = subst (λ (s : Function). HasNext start now new 0 f untaken s) (grown_none class start.task f) (copied_next start x now old new 0 f untaken long begins.by_layer m);
   known = begins.known;
-  led = subst (HaveLed class start.task steps) (λ j. record { layer = f; taken = taken_none class start.task f h j; next = grown_none class start.task f j }) begins.led;
+  led = subst (HaveLed class start.task (suc k) steps) (λ j. record { layer = f; taken = taken_none class start.task f h j; next = grown_none class start.task f j }) (led_higher class start.task k steps _ begins.led);
   are_spent = subst (λ (s : Function). AreSpent start.task s spent) (grown_none class start.task f) begins.are_spent;
 }
 
@@ -386,8 +400,8 @@ layer_stays start x now slots n f h long stayed has = record {
   holds_taken = λ a l. stayed.each a (omega arith) ∙ has.holds_taken a l;
 }
 
-pub begins_still : (class : Class) (start : Start) (x now : Encoded) (slots : List SetId) (f : Function) (h : ℕ → Function) (steps : List Step) (spent : List Bool) → length slots ≡ 4 → Stayed start x.sets now slots → BeginsRound class start x slots f h steps spent → BeginsRound class start now slots f h steps spent
-begins_still class start x now slots f h steps spent long stayed begins = record {
+pub begins_still : {k : ℕ} (class : Class) (start : Start) (x now : Encoded) (slots : List SetId) (f : Function) (h : ℕ → Function) (steps : List Step) (spent : List Bool) → length slots ≡ 4 → Stayed start x.sets now slots → BeginsRound class start x slots k f h steps spent → BeginsRound class start now slots k f h steps spent
+begins_still {k} class start x now slots f h steps spent long stayed begins = record {
   by_layer = layer_stays start x now slots 0 f untaken long stayed begins.by_layer;
   known = begins.known;
   led = begins.led;
@@ -410,7 +424,7 @@ next_round weak strong class task k f h actions round short all depends = record
 }
 
 module _ (weak : WeakLeadsToSome) (strong : StrongLeadsToAll) (class : Class) (start : Start) (x : Encoded) (slots : List SetId) (k actions : ℕ) (f : Function) (h : ℕ → Function) (steps : List Step) (spent : List Bool) (round : IsRound class start.task k f h) (short : covers class (system_of start.task) k ≡ false)
-    (all : actions ≡ action_count start.task) (has : HasGrown class start x slots f h actions steps spent) where
+    (all : actions ≡ action_count start.task) (has : HasGrown class start x slots k f h actions steps spent) where
   next : IsRound class start.task (suc k) (grown class start.task f actions) (taken_by class start.task f h actions)
   next =
       next_round weak strong class start.task k f h actions round short all
@@ -431,8 +445,8 @@ module _ (weak : WeakLeadsToSome) (strong : StrongLeadsToAll) (class : Class) (s
       h = taken_by class start.task f h actions;
       begins = record {
         by_layer = done.0;
-        known = record { wide = has.known.wide; rank = suc k; is_layer = next.is_layer; are_takers = next.are_takers };
-        led = subst (λ (s : List Step). HaveLed class start.task s (record { layer = grown class start.task f actions; taken = taken_by class start.task f h actions; next = grown class start.task f actions })) (sym done.1)
+        known = record { wide = has.known.wide; is_layer = next.is_layer; are_takers = next.are_takers };
+        led = subst (λ (s : List Step). HaveLed class start.task (suc k) s (record { layer = grown class start.task f actions; taken = taken_by class start.task f h actions; next = grown class start.task f actions })) (sym done.1)
             (led_more class start.task steps (record { layer = f; taken = taken_by class start.task f h actions; next = grown class start.task f actions }) Advance refl
             (at_layer class start.task (suc k) (grown class start.task f actions) (taken_by class start.task f h actions) next.is_layer next.are_takers) has.led);
         are_spent = has.are_spent;
@@ -476,11 +490,11 @@ first_round class start x now old new slot steps spent wide long has is no_steps
       h = untaken;
       begins = record {
         by_layer = record { at = m.at; sound = m.sound; holds_layer = held; holds_taken = λ a l. absurd (omega arith) };
-        known = record { wide = wide; rank = 0; is_layer = layer; are_takers = none_take class start.task };
+        known = record { wide = wide; is_layer = layer; are_takers = none_take class start.task };
         led = record {
           along = λ i.
-              subst (λ (front : List Step). IsWithinRound class start.task (after_steps class start.task (at_goal start.task) front)) (sym (ap (take i) no_steps ∙ take_none i))
-              (subst (λ (s : Function). IsWithinRound class start.task (record { layer = s; taken = untaken; next = s })) (sym states)
+              subst (λ (front : List Step). IsWithinRound class start.task 0 (after_steps class start.task (at_goal start.task) front)) (sym (ap (take i) no_steps ∙ take_none i))
+              (subst (λ (s : Function). IsWithinRound class start.task 0 (record { layer = s; taken = untaken; next = s })) (sym states)
               (at_layer class start.task 0 (goal_set start.task goal.0) untaken layer (none_take class start.task)));
           there = ap (after_steps class start.task (at_goal start.task)) no_steps ∙ ap (λ (s : Function). record { layer = s; taken = untaken; next = s }) states;
           within = ap (list_all (is_step_of (action_count start.task))) no_steps;

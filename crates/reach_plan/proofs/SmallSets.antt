@@ -23,7 +23,7 @@ use Rattle.task_core.specs.declared.actions.Outcome.{Outcome}
 use Rattle.task_core.specs.declared.classes.Class.{Class}
 use Rattle.task_core.specs.declared.classes.Class.TheVariants.{Weak, Strong, Cyclic}
 use Rattle.task_core.specs.declared.tasks.Task.{Task}
-use Rattle.plan_theory.specs.Layers.{layer}
+use Rattle.plan_theory.specs.Layers.{IsLastLayer, layer}
 use Rattle.plan_theory.specs.LayerPlans.{takers}
 use Rattle.plan_theory.proofs.Ranges.{range-more}
 use Rattle.reach_plan.specs.LayerSets.{AreTakers, IsLayerSet, class_preimage, grown, taken_by}
@@ -95,12 +95,12 @@ module _ (width : ℕ) (class : Class) (task : Task) (wide : IsWide width class 
   initial_small = wide.each (initial_set task) (by_rounds (initial_set task) (initial_set task, initial_round, itself))
 
   -- what an action takes is small
-  pub taken_small : (a : ℕ) (set : Function) → a < action_count task → IsTaken class task a set → Small (fluent_count task) width set
-  taken_small a set within is =
+  pub taken_small : (layers a : ℕ) (set : Function) → IsLastLayer class (system_of task) layers → a < action_count task → IsTaken class task layers a set → Small (fluent_count task) width set
+  taken_small layers a set last within is =
       let sys = system_of task in
       let n = fluent_count task in
       (agreeing_sized n (states_in task (takers class sys is.rank a)) set (λ v long. ap (takers class sys is.rank a) (own_values n v long) ∙ sym (is.takes v long)) width).0
-      (wide.each (states_in task (takers class sys is.rank a)) (taken is.rank a within))
+      (wide.each (states_in task (takers class sys is.rank a)) (taken layers is.rank a last is.low within))
 
   -- what belongs to a layer is small
   module _ (k : ℕ) (set : Function) (is : IsLayerSet class task k set) where
@@ -123,14 +123,16 @@ module _ (width : ℕ) (class : Class) (task : Task) (wide : IsWide width class 
 
 -- where a search is within a round
 module _ (class : Class) (task : Task) (k : ℕ) (set : Function) (is : IsLayerSet class task k set) (before : ℕ → Function) (taken : AreTakers class task k before) (m : ℕ) (few : m ≤ action_count task) where
-  taken_at : (a : ℕ) → a < action_count task → IsTaken class task a (taken_by class task set before m a)
+  taken_at : (a : ℕ) → a < action_count task → IsTaken class task (suc k) a (taken_by class task set before m a)
   taken_at a within = ⊎_elim
       (λ (low : a < m). record {
         rank = suc k;
+        low = omega arith;
         takes = λ v long. ap (λ (f : Function). f (value_of v)) (new m low ∙ sym (new (action_count task) within)) ∙ (next_takers weak_leads strong_leads task k set class is before taken).takes a v within long;
       })
       (λ (high : m ≤ a). record {
         rank = k;
+        low = omega arith;
         takes = λ v long. ap (λ (f : Function). f (value_of v)) (cond-false (nat_lt a m) more (before a) (false_from_ne_true (nat_lt a m) (λ lt. let l : a < m = ltb-true a m lt in absurd (omega arith)))) ∙ taken.takes a v within long;
       })
       (cases_lt a m)
@@ -141,7 +143,7 @@ module _ (class : Class) (task : Task) (k : ℕ) (set : Function) (is : IsLayerS
       new : (n : ℕ) → a < n → taken_by class task set before n a ≡ more
       new n low = cond-true (nat_lt a n) more (before a) (lt-ltb a n low)
 
-  pub within_round : IsWithinRound class task (record { layer = set; taken = taken_by class task set before m; next = grown class task set m })
+  pub within_round : IsWithinRound class task (suc k) (record { layer = set; taken = taken_by class task set before m; next = grown class task set m })
   within_round = record {
     rank = k;
     is_layer = is;
@@ -152,18 +154,18 @@ module _ (class : Class) (task : Task) (k : ℕ) (set : Function) (is : IsLayerS
   }
 
 -- or at a layer, with no action done
-pub at_layer : (class : Class) (task : Task) (k : ℕ) (set : Function) (h : ℕ → Function) → IsLayerSet class task k set → AreTakers class task k h → IsWithinRound class task (record { layer = set; taken = h; next = set })
+pub at_layer : (class : Class) (task : Task) (k : ℕ) (set : Function) (h : ℕ → Function) → IsLayerSet class task k set → AreTakers class task k h → IsWithinRound class task k (record { layer = set; taken = h; next = set })
 at_layer class task k set h is takes = record {
   rank = k;
   is_layer = is;
   grown_by = 0;
   few = omega arith;
   is_grown = grown_none class task set;
-  is_taken = λ a within. record { rank = k; takes = λ v long. takes.takes a v within long };
+  is_taken = λ a within. record { rank = k; low = omega arith; takes = λ v long. takes.takes a v within long };
 }
 
 -- from within a round, what a search makes next is small
-module _ (width : ℕ) (class : Class) (task : Task) (wide : IsWide width class task) (here : Progress) (at : IsWithinRound class task here) where
+module _ (width : ℕ) (class : Class) (task : Task) (wide : IsWide width class task) (here : Progress) (layers : ℕ) (last : IsLastLayer class (system_of task) layers) (at : IsWithinRound class task layers here) where
   pub now_small : Small (fluent_count task) width here.layer
   now_small = layer_small width class task wide at.rank here.layer at.is_layer
 
@@ -171,7 +173,7 @@ module _ (width : ℕ) (class : Class) (task : Task) (wide : IsWide width class 
   next_small = subst (Small (fluent_count task) width) (sym at.is_grown) (grown_small width class task wide at.rank here.layer at.is_layer at.grown_by at.few)
 
   pub takes_small : (a : ℕ) → a < action_count task → Small (fluent_count task) width (here.taken a)
-  takes_small a within = taken_small width class task wide a (here.taken a) within (at.is_taken a within)
+  takes_small a within = taken_small width class task wide layers a (here.taken a) last within (at.is_taken a within)
 
 -- every set is small by a large enough width
 below_power : (n : ℕ) → n + 2 ≤ 2 ^ n + 1

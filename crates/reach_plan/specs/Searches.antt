@@ -18,15 +18,15 @@ use Rattle.task_core.specs.declared.classes.Class.{Class}
 use Rattle.task_core.specs.declared.literals.ActionId.{ActionId}
 use Rattle.task_core.specs.declared.tasks.Task.{Task}
 use Rattle.plan_theory.specs.Classes.{IsStable}
-use Rattle.plan_theory.specs.Layers.{covers}
+use Rattle.plan_theory.specs.Layers.{IsLastLayer, covers}
 use Rattle.reach_plan.specs.LayerSets.{AreTakers, IsLayerSet, IsRound, grown, taken_by}
 use Rattle.reach_plan.specs.Steps.{HaveLed, IsWithinRound, LeadToLast, Progress, after_step}
 use Rattle.reach_plan.specs.Steps.{after_steps, at_goal, untaken}
 use Rattle.reach_plan.specs.WorkingSets.{IsWide}
 use Rattle.reach_plan.specs.declared.search.Round.{Round}
 use Rattle.reach_plan.specs.declared.search.Round.TheVariants.{Covered, Stable, More}
-use Rattle.reach_plan.specs.declared.steps.Step.{Step}
-use Rattle.reach_plan.specs.declared.steps.Step.TheVariants.{Grow}
+use Rattle.slot_board.specs.declared.steps.Step.{Step}
+use Rattle.slot_board.specs.declared.steps.Step.TheVariants.{Grow}
 
 -- this layer is f, and the actions take h
 pub record HasLayer (start : Start) (now : Encoded) (slots : List SetId) (n : ℕ) (f : Function)
@@ -66,30 +66,28 @@ pub record AreSpent (task : Task) (set : Function) (spent : List Bool) : Type 0 
   pub inside : (a : ℕ) → slice_index_or spent a false ≡ true → (values : Values)
       → exec_set task a values ≡ true → set values ≡ true
 
--- f is some layer, the actions take h within it, and a search makes working sets alone, which are
--- small
-pub record IsKnown (class : Class) (start : Start) (f : Function) (h : ℕ → Function)
+-- f is layer k, the actions take h within it, and a search makes working sets alone, which are small
+pub record IsKnown (class : Class) (start : Start) (k : ℕ) (f : Function) (h : ℕ → Function)
     : Type 0 where
   pub wide : IsWide start.width class start.task
-  pub rank : ℕ
-  pub is_layer : IsLayerSet class start.task rank f
-  pub are_takers : AreTakers class start.task rank h
+  pub is_layer : IsLayerSet class start.task k f
+  pub are_takers : AreTakers class start.task k h
 
--- this layer is f, and the steps so far lead to it and to what the actions take within it
-pub record BeginsRound (class : Class) (start : Start) (now : Encoded) (slots : List SetId)
+-- this layer is f, of rank k, and the steps so far lead to it and to what the actions take within it
+pub record BeginsRound (class : Class) (start : Start) (now : Encoded) (slots : List SetId) (k : ℕ)
     (f : Function) (h : ℕ → Function) (steps : List Step) (spent : List Bool) : Type 0 where
   pub by_layer : HasLayer start now slots 0 f untaken
-  pub known : IsKnown class start f h
-  pub led : HaveLed class start.task steps (record { layer = f; taken = h; next = f })
+  pub known : IsKnown class start k f h
+  pub led : HaveLed class start.task k steps (record { layer = f; taken = h; next = f })
   pub are_spent : AreSpent start.task f spent
 
 -- and the next one has what the first m actions lead into this one
-pub record HasGrown (class : Class) (start : Start) (now : Encoded) (slots : List SetId)
+pub record HasGrown (class : Class) (start : Start) (now : Encoded) (slots : List SetId) (k : ℕ)
     (f : Function) (h : ℕ → Function) (m : ℕ) (steps : List Step) (spent : List Bool)
     : Type 0 where
   pub by_next : HasNext start now slots 0 f untaken (grown class start.task f m)
-  pub known : IsKnown class start f h
-  pub led : HaveLed class start.task steps (record {
+  pub known : IsKnown class start k f h
+  pub led : HaveLed class start.task (suc k) steps (record {
     layer = f;
     taken = taken_by class start.task f h m;
     next = grown class start.task f m;
@@ -101,7 +99,7 @@ pub record HasRound (class : Class) (start : Start) (now : Encoded) (slots : Lis
     (steps : List Step) (spent : List Bool) : Type 0 where
   pub f : Function
   pub h : ℕ → Function
-  pub begins : BeginsRound class start now slots f h steps spent
+  pub begins : BeginsRound class start now slots k f h steps spent
   pub round : IsRound class start.task k f h
 
 -- layer k holds every initial state
@@ -157,19 +155,24 @@ pub record MayTake (start : Start) (n a : ℕ) (before g hits : Function) : Type
   pub new : Fits start (n + 3) (minus_of hits g)
   pub taken : Fits start a (or_of before (minus_of hits g))
 
--- the second pass may make a step: it leads from within a round to within one, and the place of what
+-- the second pass may make a step: there is a plan, and it leads from within a round to within one, of
+-- the plan's layers; and the place of what
 -- is new of the hits may hold a rough set
 pub record MayStep (class : Class) (start : Start) (n : ℕ) (here : Progress) (step : Step)
     : Type 0 where
   pub wide : IsWide start.width class start.task
   pub rough : Contains start.rough (n + 3)
-  pub from : IsWithinRound class start.task here
-  pub into : IsWithinRound class start.task (after_step class start.task here step)
+  pub layers : ℕ
+  pub last : IsLastLayer class (system_of start.task) layers
+  pub from : IsWithinRound class start.task layers here
+  pub into : IsWithinRound class start.task layers (after_step class start.task here step)
 
 -- it may make all of these
 pub record MayRetrace (class : Class) (start : Start) (n : ℕ) (steps : List Step) : Type 0 where
   pub wide : IsWide start.width class start.task
   pub rough : Contains start.rough (n + 3)
+  pub layers : ℕ
+  pub last : IsLastLayer class (system_of start.task) layers
   pub along : (i : ℕ)
-      → IsWithinRound class start.task (after_steps class start.task (at_goal start.task)
+      → IsWithinRound class start.task layers (after_steps class start.task (at_goal start.task)
       (take i steps))

@@ -15,8 +15,8 @@ use Rattle.task_core.specs.declared.tasks.Task.{Task}
 use Rattle.plan_theory.specs.Layers.{IsLastLayer}
 use Rattle.plan_theory.specs.LayerPlans.{takers}
 use Rattle.reach_plan.specs.LayerSets.{AreTakers, IsLayerSet, class_preimage, grown}
-use Rattle.reach_plan.specs.declared.steps.Step.{Step}
-use Rattle.reach_plan.specs.declared.steps.Step.TheVariants.{Advance, Grow}
+use Rattle.slot_board.specs.declared.steps.Step.{Step}
+use Rattle.slot_board.specs.declared.steps.Step.TheVariants.{Advance, Grow}
 
 -- the same sets, but for one action
 abbrev pub with_set : (ℕ → Function) → ℕ → Function → ℕ → Function
@@ -60,27 +60,29 @@ abbrev pub is_step_of : ℕ → Step → Bool
 is_step_of n (Grow a) = nat_lt a.0 n
 is_step_of n Advance = true
 
--- a set has the states within some layer that take the action
-pub record IsTaken (class : Class) (task : Task) (a : ℕ) (set : Function) : Type 0 where
+-- a set has the states within some layer, of rank `top` at most, that take the action
+pub record IsTaken (class : Class) (task : Task) (top a : ℕ) (set : Function) : Type 0 where
   pub rank : ℕ
+  pub low : rank ≤ top
   pub takes : (v : Vector) → IsVector (system_of task) v
       → set (value_of v) ≡ takers class (system_of task) rank a v
 
 -- a search is within a round: this is a layer, the next one is what the first actions make it, and
--- each action takes its states within some layer
-pub record IsWithinRound (class : Class) (task : Task) (here : Progress) : Type 0 where
+-- each action takes its states within some layer, of rank `top` at most
+pub record IsWithinRound (class : Class) (task : Task) (top : ℕ) (here : Progress) : Type 0 where
   pub rank : ℕ
   pub is_layer : IsLayerSet class task rank here.layer
   pub grown_by : ℕ
   pub few : grown_by ≤ action_count task
   pub is_grown : here.next ≡ grown class task here.layer grown_by
-  pub is_taken : (a : ℕ) → a < action_count task → IsTaken class task a (here.taken a)
+  pub is_taken : (a : ℕ) → a < action_count task → IsTaken class task top a (here.taken a)
 
 -- these steps lead from the goal to here, each of them within a round, and are steps of the task
-pub record HaveLed (class : Class) (task : Task) (steps : List Step) (here : Progress) : Type 0 where
+pub record HaveLed (class : Class) (task : Task) (top : ℕ) (steps : List Step) (here : Progress)
+    : Type 0 where
   pub there : after_steps class task (at_goal task) steps ≡ here
   pub along : (i : ℕ)
-      → IsWithinRound class task (after_steps class task (at_goal task) (take i steps))
+      → IsWithinRound class task top (after_steps class task (at_goal task) (take i steps))
   pub within : list_all (is_step_of (action_count task)) steps ≡ true
 
 -- these steps lead to the last layer, and to what each action takes within it
@@ -88,5 +90,5 @@ pub record LeadToLast (class : Class) (task : Task) (steps : List Step) : Type 0
   pub layers : ℕ
   pub last : IsLastLayer class (system_of task) layers
   pub here : Progress
-  pub led : HaveLed class task steps here
+  pub led : HaveLed class task layers steps here
   pub are_takers : AreTakers class task layers here.taken

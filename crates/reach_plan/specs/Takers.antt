@@ -12,7 +12,7 @@ use Rattle.task_core.specs.declared.tasks.Task.{Task}
 use Rattle.plan_theory.specs.Layers.{IsLastLayer}
 use Rattle.plan_theory.specs.LayerPlans.{takers}
 use Rattle.reach_plan.specs.Steps.{LeadToLast}
-use Rattle.reach_plan.specs.declared.steps.Step.{Step}
+use Rattle.slot_board.specs.declared.steps.Step.{Step}
 use Rattle.reach_plan.specs.declared.takers.Takers.{Takers}
 use Rattle.reach_plan.specs.declared.takers.Takers.TheVariants.{Board, NoPlan}
 

@@ -10,7 +10,7 @@ use Rattle.task_core.specs.Tasks.{action_count, fluent_count, system_of}
 use Rattle.task_core.specs.declared.classes.Class.{Class}
 use Rattle.task_core.specs.declared.classes.Class.TheVariants.{Weak, Strong, Cyclic}
 use Rattle.task_core.specs.declared.tasks.Task.{Task}
-use Rattle.plan_theory.specs.Layers.{layer}
+use Rattle.plan_theory.specs.Layers.{IsLastLayer, layer}
 use Rattle.plan_theory.specs.LayerPlans.{takers}
 
 -- the function that is true on the states of a set
@@ -30,14 +30,15 @@ pub data IsRoundSet (class : Class) (task : Task) : Function → Type 0 where
   space_round : IsRoundSet class task (space_set task)
   layer_round : (k : ℕ) → IsRoundSet class task (states_in task (layer class (system_of task) k))
 
--- the sets that are made of the task, those that belong to a set that is gone back from, and for each
--- action the states within a layer to which the printed table gives it
+-- the sets that are made of the task, those that belong to a set that is gone back from, and where
+-- there is a plan, for each action the states within one of its layers to which it gives the action
 pub data IsWorkingSet (class : Class) (task : Task) : Function → Type 0 where
   by_task : (set : Function) → IsMadeByEncode task set → IsWorkingSet class task set
   by_rounds : (set : Function)
       → IsMadeByRounds task (first_of class) (IsRoundSet class task) set
       → IsWorkingSet class task set
-  taken : (k a : ℕ) → a < action_count task
+  taken : (layers k a : ℕ) → IsLastLayer class (system_of task) layers → k ≤ layers
+      → a < action_count task
       → IsWorkingSet class task (states_in task (takers class (system_of task) k a))
 
 -- each working set is small by a width, which is more than the fluents by two at least

@@ -6,7 +6,7 @@ ghost use Rattle.std.specs.Prelude.{IfNone, IfSome, length, map};
 ghost use Rattle.dd_sets.specs.Frames.{Owns};
 ghost use Rattle.dd_sets.specs.Rooms.{NoRoom};
 ghost use Rattle.encode_task.specs.Made.{MadeOf};
-ghost use Rattle.plan_certs.specs.Named.{IsCertificateOf, cube_of, plain_of};
+ghost use Rattle.plan_certs.specs.Named.{IsCertificateOf, cube_of, plain_certificate};
 ghost use Rattle.plan_certs.specs.Printed.{IsPrinted};
 ghost use Rattle.preimage.specs.Preimages.{OfSomeTask};
 ghost use Rattle.slot_board.specs.Board.{Ends, HasNothing, Left, Start};
@@ -50,7 +50,7 @@ pub fn cert_weak(alloc: Global, task: &Task, enc: &mut Enc) -> Result<Option<Cer
     requires made { MadeOf task.now enc.old }
     requires goal { IsSome task.now.goal }
     ensures printed { IfOk result (λ found. IfSome found
-        (λ certificate. IsPrinted Weak (system_of task.now) (plain_of certificate))) }
+        (λ certificate. IsPrinted Weak (system_of task.now) (plain_certificate certificate))) }
     ensures in_task { IfOk result (λ found. IfSome found
         (λ certificate. IsCertificateOf (fluent_count task.now) certificate)) }
     ensures no_plan { IfOk result (λ found. IfSome found
@@ -78,7 +78,7 @@ pub fn cert_strong(alloc: Global, task: &Task, enc: &mut Enc) -> Result<Option<C
     requires made { MadeOf task.now enc.old }
     requires goal { IsSome task.now.goal }
     ensures printed { IfOk result (λ found. IfSome found
-        (λ certificate. IsPrinted Strong (system_of task.now) (plain_of certificate))) }
+        (λ certificate. IsPrinted Strong (system_of task.now) (plain_certificate certificate))) }
     ensures in_task { IfOk result (λ found. IfSome found
         (λ certificate. IsCertificateOf (fluent_count task.now) certificate)) }
     ensures no_plan { IfOk result (λ found. IfSome found
@@ -104,7 +104,7 @@ fn certify(
     requires made { MadeOf task.now enc.old }
     requires goal { IsSome task.now.goal }
     ensures printed { IfOk result (λ found. IfSome found
-        (λ certificate. IsPrinted class (system_of task.now) (plain_of certificate))) }
+        (λ certificate. IsPrinted class (system_of task.now) (plain_certificate certificate))) }
     ensures in_task { IfOk result (λ found. IfSome found
         (λ certificate. IsCertificateOf (fluent_count task.now) certificate)) }
     ensures no_plan { IfOk result (λ found. IfSome found
@@ -128,7 +128,7 @@ fn certify(
 
 /// The certificate of a class with one set.
 fn with_set(alloc: Global, class: Class, cubes: Vec<Vec<Lit>>) -> Result<Certificate, SetErr>
-    ensures made { IfOk result (λ certificate. plain_of certificate
+    ensures made { IfOk result (λ certificate. plain_certificate certificate
         ≡ record { class = class; sets = map cube_of cubes.items ∷ [] }) }
     ensures never_full { IfErr result (λ e. e ≡ SetErr.Memory) }
 {
@@ -187,7 +187,7 @@ fn search_and_leave(
         return Ok(None);
     }
     leave_out(enc, board)?;
-    let cubes = board.cubes(enc, REST)?;
+    let cubes = board.only_cubes(enc, REST)?;
     Ok(Some(cubes))
 }
 

@@ -22,7 +22,6 @@ mod retrace;
 mod search;
 mod set_rules;
 mod spent;
-mod steps;
 mod takers;
 
 pub use certs::{cert_strong, cert_weak};

@@ -10,11 +10,10 @@ ghost use Rattle.reach_plan.specs.Steps.{Progress, after_step, after_steps, at_g
 ghost use Rattle.reach_plan.specs.Steps.{with_set};
 
 use crate::search::outcomes_of;
-use crate::steps::Step;
 use dd_sets::SetErr;
 use encode_task::Enc;
 use plan_rules::Class;
-use slot_board::{Board, Operation};
+use slot_board::{Board, Operation, Step};
 use task_core::ActionId;
 
 /// Behind the places of what actions take stands a layer. One place farther on stands the next one,

@@ -12,16 +12,15 @@ ghost use Rattle.reach_plan.specs.Searches.{BeginsRound, HasGrown, HasHits, HasJ
 ghost use Rattle.reach_plan.specs.Searches.{HasNext, HasRound, RoundLeft, SearchLeft};
 ghost use Rattle.reach_plan.specs.Steps.{untaken};
 ghost use Rattle.reach_plan.specs.WorkingSets.{IsWide, first_of};
-ghost use Rattle.reach_plan.specs.declared.steps.Step.{Step as Noted};
-ghost use Rattle.reach_plan.specs.declared.steps.Step.TheVariants.{Advance};
+ghost use Rattle.slot_board.specs.declared.steps.Step.{Step as Noted};
+ghost use Rattle.slot_board.specs.declared.steps.Step.TheVariants.{Advance};
 
-use crate::spent::{has_all, is_noted, none_spent, note_spent};
-use crate::steps::{Step, note};
+use crate::spent::has_all;
 use dd_sets::SetErr;
 use encode_task::Enc;
 use plan_rules::Class;
 use preimage::preimages_lead_into_their_sets;
-use slot_board::{Board, Operation, Outcomes};
+use slot_board::{Board, Operation, Outcomes, Step, is_spent, none_spent, note, note_spent};
 use std::alloc::Global;
 use task_core::ActionId;
 
@@ -90,19 +89,19 @@ fn grow_by(
     spent: &mut Vec<bool>,
     a: ActionId,
 ) -> Result<(), SetErr>
-    requires ready { (start : Start) × (f : Function) × (h : ℕ → Function)
-        × HasGrown class start enc.old board.old.slots.items f h a.0 steps.old.items
+    requires ready { (start : Start) × (k : ℕ) × (f : Function) × (h : ℕ → Function)
+        × HasGrown class start enc.old board.old.slots.items k f h a.0 steps.old.items
         spent.old.items }
     requires places { length board.old.slots.items ≡ 4 }
     requires action { a.0 < length enc.old.actions }
     requires long { length spent.old.items ≡ length enc.old.actions }
-    ensures { (start : Start) (f : Function) (h : ℕ → Function)
-        → HasGrown class start enc.old board.old.slots.items f h a.0 steps.old.items
+    ensures { (start : Start) (k : ℕ) (f : Function) (h : ℕ → Function)
+        → HasGrown class start enc.old board.old.slots.items k f h a.0 steps.old.items
         spent.old.items → Left start enc.new board.new.slots.items
-        (HasGrown class start enc.new board.new.slots.items f h (a.0 + 1) steps.new.items
+        (HasGrown class start enc.new board.new.slots.items k f h (a.0 + 1) steps.new.items
         spent.new.items) result }
 {
-    if is_noted(spent, a) {
+    if is_spent(spent, a) {
         return Ok(());
     }
     board.lead(enc, HITS, outcomes_of(class), a, LAYER)?;
@@ -119,15 +118,15 @@ fn grow(
     spent: &mut Vec<bool>,
     actions: u32,
 ) -> Result<(), SetErr>
-    requires ready { (start : Start) × (f : Function) × (h : ℕ → Function)
-        × BeginsRound class start enc.old board.old.slots.items f h steps.old.items
+    requires ready { (start : Start) × (k : ℕ) × (f : Function) × (h : ℕ → Function)
+        × BeginsRound class start enc.old board.old.slots.items k f h steps.old.items
         spent.old.items }
     requires places { length board.old.slots.items ≡ 4 }
     requires actions { actions ≡ length enc.old.actions }
-    ensures { (start : Start) (f : Function) (h : ℕ → Function)
-        → BeginsRound class start enc.old board.old.slots.items f h steps.old.items
+    ensures { (start : Start) (k : ℕ) (f : Function) (h : ℕ → Function)
+        → BeginsRound class start enc.old board.old.slots.items k f h steps.old.items
         spent.old.items → Left start enc.new board.new.slots.items
-        (HasGrown class start enc.new board.new.slots.items f h actions steps.new.items
+        (HasGrown class start enc.new board.new.slots.items k f h actions steps.new.items
         spent.new.items) result }
 {
     board.copy_of(enc, NEXT, LAYER)?;

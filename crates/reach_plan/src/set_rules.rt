@@ -8,11 +8,11 @@ ghost use Rattle.plan_rules.specs.Rules.{rule_of};
 ghost use Rattle.slot_board.specs.Board.{IsWorking, Working};
 ghost use Rattle.reach_plan.specs.SetRules.{rules_of_place};
 
-use dd_sets::SetErr;
+use dd_sets::{Listing, SetErr};
 use encode_task::Enc;
 use plan_rules::Rule;
 use slot_board::{Board, add_rules};
-use std::alloc::{AllocError, Global};
+use std::alloc::Global;
 use task_core::ActionId;
 
 /// The actions in rising number, and for each the cubes of the set at its place.
@@ -21,16 +21,18 @@ fn rules_of_board(
     enc: &Enc,
     board: &Board,
     actions: u32,
-) -> Result<Vec<Rule>, AllocError>
+) -> Result<Vec<Rule>, SetErr>
     requires working { IsWorking enc.now board.now.slots.items }
     requires places { length board.now.slots.items ≡ actions }
-    ensures { IfOk result (λ rules. map rule_of rules.items
+    ensures rules { IfOk result (λ rules. map rule_of rules.items
         ≡ flat_map (rules_of_place enc.now.sets board.now.slots.items)
         (range_with_len 0 (length board.now.slots.items))) }
+    ensures never_full { IfErr result (λ e. e ≡ SetErr.Memory) }
 {
     let mut rules = Vec::new(alloc);
+    let mut listing = Listing::new();
     for a in 0..actions {
-        let cubes = board.cubes(enc, a as usize)?;
+        let cubes = board.cubes(enc, a as usize, &mut listing)?;
         add_rules(&mut rules, ActionId(a), cubes)?;
     }
     Ok(rules)

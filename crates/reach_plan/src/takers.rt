@@ -15,11 +15,10 @@ ghost use Rattle.reach_plan.specs.WorkingSets.{IsWide};
 
 use crate::retrace::retrace;
 use crate::search::search_back;
-use crate::steps::Step;
 use dd_sets::SetErr;
 use encode_task::{Enc, made_is_kept};
 use plan_rules::Class;
-use slot_board::Board;
+use slot_board::{Board, Step};
 use std::alloc::Global;
 use task_core::Task;
 

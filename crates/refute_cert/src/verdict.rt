@@ -4,9 +4,9 @@ ghost use Rattle.std.specs.Prelude.{◌≡◌, ℕ, ◌+◌, ◌*◌, ◌<◌, L
 ghost use Rattle.dd_nodes.specs.Subfunctions.{nodes};
 ghost use Rattle.dd_sets.specs.Frames.{Owns};
 ghost use Rattle.dd_sets.specs.LiveSets.{live_sets};
-ghost use Rattle.dd_sets.specs.Rooms.{IsTightFor};
+ghost use Rattle.dd_sets.specs.Rooms.{IsAtLimit, IsTightFor};
 ghost use Rattle.encode_task.specs.Made.{MadeOf};
-ghost use Rattle.plan_certs.specs.Named.{AreSetsOf, plain_of, set_of as cubes_in};
+ghost use Rattle.plan_certs.specs.Named.{AreSetsOf, plain_certificate, set_of as cubes_in};
 ghost use Rattle.encode_task.specs.TaskSets.{initial_set};
 ghost use Rattle.plan_certs.specs.Certificates.{CubeSet};
 ghost use Rattle.slot_board.specs.Board.{At, Ends, Left, Start};
@@ -171,12 +171,13 @@ pub fn refute(
 ) -> Result<Judged, SetErr>
     requires made { MadeOf task.now enc.old }
     requires goal { IsSome task.now.goal }
-    requires in_task { AreSetsOf (fluent_count task.now) (plain_of certificate.now).sets }
+    requires in_task { AreSetsOf (fluent_count task.now) (plain_certificate certificate.now).sets }
     ensures verdict { IfOk result
-        (IsVerdict (system_of task.now) (plain_of certificate.now)) }
+        (IsVerdict (system_of task.now) (plain_certificate certificate.now)) }
     ensures full { IsErrOf result SetErr.Full → IsTightFor 24 enc.old.sets }
+    ensures at_limit { IsErrOf result SetErr.Full → IsAtLimit enc.new.sets }
     ensures full_by_sets { IsErrOf result SetErr.Full → enc.old.sets.order ≡ [] → (w : ℕ)
-        → IsWide w task.now (plain_of certificate.now) → enc.old.sets.limit
+        → IsWide w task.now (plain_certificate certificate.now) → enc.old.sets.limit
         < nodes enc.old.sets.vars (live_sets enc.old.sets) + 24 * w + 17 * (w * w * w) }
     ensures slots { Owns enc.old.sets enc.new.sets [] }
     ensures same_slots { enc.new ≡ record enc.old { sets = enc.new.sets } }

@@ -1,5 +1,4 @@
 pub mod Counting
-pub mod Mapped
 pub mod Outcomes
 pub mod Paths
 pub mod Places

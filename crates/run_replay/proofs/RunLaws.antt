@@ -19,8 +19,8 @@ use Rattle.run_replay.specs.Traces.{Trace, TraceStep, Turn, Ends, Goes, Ending, 
 use Rattle.run_replay.specs.TraceTexts.{tallies_of, tally_lines}
 use Rattle.run_replay.specs.Turns.{IsRefusal}
 use Rattle.run_replay.specs.Watching.{AreTold, MonitorData}
-use Rattle.run_replay.proofs.Mapped.{unmapped}
 use Rattle.run_replay.proofs.Telling.{are_told_none, are_told_more, small_tallies, tallies_told}
+use Rattle.list_laws.proofs.Elements.{All-unmap}
 
 not_zero : (k : ℕ) → (suc k == 0) ≡ false
 not_zero k = grind (arith, nat_tests)
@@ -202,7 +202,7 @@ pub tallies_are_small : {X : Type 0} (shown : X → MonitorData) (monitors now :
     → HasRun sys plan n m first words (map shown monitors) steps state context left (map shown now)
     → All (λ (x : X). (shown x).counted ≡ 0) monitors → All (λ (y : X). (shown y).counted ≤ 2 ^ 127) now
 tallies_are_small {X} shown monitors now {steps} run untold =
-    unmapped (λ (y : MonitorData). y.counted ≤ 2 ^ 127) shown now
+    All-unmap (λ (y : MonitorData). y.counted ≤ 2 ^ 127) shown now
     (small_tallies steps (map shown monitors) (map shown now) (All-map (λ (x : MonitorData). x.counted ≡ 0) shown monitors untold) run.told run.few)
 
 -- what is told of them after the run

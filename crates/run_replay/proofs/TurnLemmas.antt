@@ -34,13 +34,3 @@ pub turn_is : (sys : System) (rules : List ContextRule) (full : Bool) (number : 
     → turn sys (denoted_contexts rules) full number s (Some c) words ≡ turn_by sys full number s words a
 turn_is sys rules full number s c words a e =
     acting_is sys rules full number s c words (rule_at rules s c) refl ∙ ap (turn_by sys full number s words) (sym e)
-
-some_next : (b : Bool) (ts : List Vector) → (IsTrue b ↔ (ts ≢ [])) → list_any (λ (t : Vector). true) ts ≡ b
-some_next true [] h = absurd (h.0 refl refl)
-some_next false [] h = refl
-some_next true (t ∷ ts) h = refl
-some_next false (t ∷ ts) h = absurd (false≢true (h.1 (λ e. false≢true (sym (ap (λ (l : List Vector). list_any (λ (u : Vector). true) l) e)))))
-
--- what tells whether an action can be executed
-pub executes : (sys : System) (s : Vector) (a : ℕ) (b : Bool) → (IsTrue b ↔ Exec sys s a) → can_execute sys s a ≡ b
-executes sys s a b h = some_next b (sys.next s a) h

@@ -15,7 +15,7 @@ ghost use Rattle.task_core.specs.Tasks.{action_count, fluent_count, outcomes_at,
 use crate::traces::{End, RunErr};
 use crate::worlds::{Step, World};
 use plan_guide::{Guide, GuideRule};
-use task_core::{ActionId, State, Task, in_space, is_exec, step};
+use task_core::{ActionId, State, Task, in_space, is_exec, outcome_count, step};
 
 /// What a turn does.
 pub(crate) enum Turn {
@@ -142,12 +142,4 @@ fn is_executable(task: &Task, state: &State, action: ActionId) -> bool
         ↔ Exec (system_of task.now) (vector (fluent_count task.now) state.now) action.0 }
 {
     is_exec(task, state, action)
-}
-
-/// How many outcomes an action has.
-fn outcome_count(task: &Task, action: ActionId) -> u32
-    requires { action.0 < action_count task.now }
-    ensures { result ≡ length (outcomes_at task.now action.0) }
-{
-    task.actions[action.0 as usize].outcomes.len() as u32
 }

@@ -3,6 +3,7 @@ use Rattle.std.proofs.Common.{◌≡◌, ℕ, zero, suc, ◌+◌, ◌-◌, ◌<�
 use Rattle.std.proofs.lemmas.Bool.Decides.{nat_tests}
 use Rattle.sexpr_text.specs.Lexis.{is_line_feed, is_semicolon, is_space, is_word_byte, is_in_comment, opens_at, closes_at, is_in_word, is_blank, count_below, depth_at}
 use Rattle.sexpr_text.proofs.Lines.{is_comment_open, is_in_comment_is, is_comment_open-feed, is_comment_open-more}
+use Rattle.list_laws.proofs.Booleans.{true_and_false}
 
 -- no comment runs up to offset k and goes on with its byte
 abbrev pub IsQuiet : List ℕ → ℕ → Type 0
@@ -89,11 +90,7 @@ open-rules_out c h = (grind (arith, nat_tests), grind (arith, nat_tests), grind 
 pub close-rules_out : (c : ℕ) → (c == 41) ≡ true → ((c == 40) ≡ false) × (is_word_byte c ≡ false) × (is_semicolon c ≡ false) × (is_line_feed c ≡ false) × (is_space c ≡ false)
 close-rules_out c h = (grind (arith, nat_tests), grind (arith, nat_tests), grind (arith, nat_tests), grind (arith, nat_tests), grind (arith, nat_tests))
 
--- a test that fails where another holds
-apart : (b : Bool) → b ≡ true → b ≡ false → ⊥
-apart b t f = cc
-
--- blank offsets, parentheses and offsets of words are apart
+-- blank offsets, parentheses and offsets of words are true_and_false
 pub blank-no_open : (b : List ℕ) (k : ℕ) → is_blank b k ≡ true → opens_at b k ≡ false
 blank-no_open b k h = by_comment (is_in_comment b k) refl
   where

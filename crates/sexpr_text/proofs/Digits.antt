@@ -9,6 +9,7 @@ use Rattle.std.proofs.lemmas.Int.Digits.{digits_value-lt, digits_value_more}
 use Rattle.std.proofs.lemmas.Str.Parse.{digits_value-take-le}
 use Rattle.std.proofs.Math.Nat.{pow-le-pow_right}
 use Rattle.sexpr_text.specs.Numerals.{is_numeral}
+use Rattle.list_laws.proofs.Booleans.{and_first, and_second}
 
 -- a digit
 pub record IsDigit (c : ℕ) : Type 0 where
@@ -25,24 +26,17 @@ digit c h =
     record { above = a; below = b; value = rw (e, f) refl }
 
 -- each of them
-first-of : (a b : Bool) → (a && b) ≡ true → a ≡ true
-first-of true b h = refl
-first-of false b h = h
-
-second-of : (a b : Bool) → (a && b) ≡ true → b ≡ true
-second-of true b h = h
-second-of false b h = cc
 
 all_digits : (ds : List ℕ) → list_all is_ascii_digit ds ≡ true → AllDigits 10 ds
 all_digits [] h = tt
 all_digits (c ∷ cs) h =
-    let d = digit c (first-of (is_ascii_digit c) (list_all is_ascii_digit cs) h) in
-    (rw d.value (let b : c ≤ 57 = d.below in omega arith), all_digits cs (second-of (is_ascii_digit c) (list_all is_ascii_digit cs) h))
+    let d = digit c (and_first (is_ascii_digit c) (list_all is_ascii_digit cs) h) in
+    (rw d.value (let b : c ≤ 57 = d.below in omega arith), all_digits cs (and_second (is_ascii_digit c) (list_all is_ascii_digit cs) h))
 
 digit_at : (ds : List ℕ) (i : ℕ) → list_all is_ascii_digit ds ≡ true → i < length ds → is_ascii_digit (get_or ds i 0) ≡ true
 digit_at [] i h k = absurd (omega arith)
-digit_at (c ∷ cs) zero h k = first-of (is_ascii_digit c) (list_all is_ascii_digit cs) h
-digit_at (c ∷ cs) (suc i) h k = digit_at cs i (second-of (is_ascii_digit c) (list_all is_ascii_digit cs) h) (omega arith)
+digit_at (c ∷ cs) zero h k = and_first (is_ascii_digit c) (list_all is_ascii_digit cs) h
+digit_at (c ∷ cs) (suc i) h k = digit_at cs i (and_second (is_ascii_digit c) (list_all is_ascii_digit cs) h) (omega arith)
 
 -- the number so far, and one digit more
 pub record IsNumberSoFar (ds : List ℕ) (i : ℕ) : Type 0 where
@@ -52,10 +46,10 @@ pub record IsNumberSoFar (ds : List ℕ) (i : ℕ) : Type 0 where
 
 pub number_so_far : (ds : List ℕ) (i : ℕ) → is_numeral ds ≡ true → i < length ds → IsNumberSoFar ds i
 number_so_far ds i h k =
-    let long : (nat_le 1 (length ds) && nat_le (length ds) 9) ≡ true = first-of (nat_le 1 (length ds) && nat_le (length ds) 9) (list_all is_ascii_digit ds) h in
-    let le : nat_le (length ds) 9 ≡ true = second-of (nat_le 1 (length ds)) (nat_le (length ds) 9) long in
+    let long : (nat_le 1 (length ds) && nat_le (length ds) 9) ≡ true = and_first (nat_le 1 (length ds) && nat_le (length ds) 9) (list_all is_ascii_digit ds) h in
+    let le : nat_le (length ds) 9 ≡ true = and_second (nat_le 1 (length ds)) (nat_le (length ds) 9) long in
     let short : length ds ≤ 9 = grind (arith, nat_tests) in
-    let all : list_all is_ascii_digit ds ≡ true = second-of (nat_le 1 (length ds) && nat_le (length ds) 9) (list_all is_ascii_digit ds) h in
+    let all : list_all is_ascii_digit ds ≡ true = and_second (nat_le 1 (length ds) && nat_le (length ds) 9) (list_all is_ascii_digit ds) h in
     let d = digit (get_or ds i 0) (digit_at ds i all k) in
     let e : digits_value 10 (take (i + 1) ds) ≡ digits_value 10 (take i ds) * 10 + digit_value (get_or ds i 0) = digits_value_more 10 ds i k in
     let part : digits_value 10 (take (i + 1) ds) ≤ digits_value 10 ds = digits_value-take-le 10 ds (i + 1) (lit≤ tt) in

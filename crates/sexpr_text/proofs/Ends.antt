@@ -13,12 +13,8 @@ use Rattle.sexpr_text.specs.Pending.{Pending}
 use Rattle.sexpr_text.proofs.Depths.{IsQuiet-free, opens_at-free, closes_at-free, is_in_word-free, is_blank-free, opens_at-comment, closes_at-comment, HasOpen-depth}
 use Rattle.sexpr_text.proofs.Reading.{IsPending, IsReading, IsNested-le}
 use Rattle.sexpr_text.proofs.Steps.{opens_here, closes_here}
-
-both : (v : Bool) → v ≡ true → v ≡ false → ⊥
-both v t f = cc
-
-le_or_lt : (x y : ℕ) → (x ≤ y) ⊎ (y < x)
-le_or_lt x y = grind arith
+use Rattle.list_laws.proofs.Numbers.{le_or_lt}
+use Rattle.list_laws.proofs.Booleans.{true_and_false}
 
 -- the first fault is the one that stands at the byte that is read
 first_fault : (b : List ℕ) (k : ℕ) (ps : List Pending) (t : Forest) (kind : FaultKind) (place : Place) → IsReading b k ps t → place ≡ place_at b k → IsFaultAt b k kind → HasFault b (record { kind = kind; place = place })
@@ -74,14 +70,14 @@ opens_inside : (b : List ℕ) (k : ℕ) → opens_at b k ≡ true → k < length
 opens_inside b k h = by_comment (is_in_comment b k) refl
   where
     by_comment : (v : Bool) → is_in_comment b k ≡ v → k < length b
-    by_comment true w = absurd (both (opens_at b k) h (opens_at-comment b k w))
+    by_comment true w = absurd (true_and_false (opens_at b k) h (opens_at-comment b k w))
     by_comment false w = parenthesis_inside b k 40 (omega arith) (sym (opens_at-free b k w) ∙ h)
 
 closes_inside : (b : List ℕ) (k : ℕ) → closes_at b k ≡ true → k < length b
 closes_inside b k h = by_comment (is_in_comment b k) refl
   where
     by_comment : (v : Bool) → is_in_comment b k ≡ v → k < length b
-    by_comment true w = absurd (both (closes_at b k) h (closes_at-comment b k w))
+    by_comment true w = absurd (true_and_false (closes_at b k) h (closes_at-comment b k w))
     by_comment false w = parenthesis_inside b k 41 (omega arith) (sym (closes_at-free b k w) ∙ h)
 
 -- a fault stands at a byte of the text

@@ -15,7 +15,7 @@ put_before-all : (fs : List Form) → put_before (map form_then fs) nothing ≡ 
 put_before-all [] = refl
 put_before-all (f ∷ fs) = ap (form_then f) (put_before-all fs)
 
-join-assoc : (s t u : Forest) → join (join s t) u ≡ join s (join t u)
+pub join-assoc : (s t u : Forest) → join (join s t) u ≡ join s (join t u)
 join-assoc nothing t u = refl
 join-assoc (word span text rest) t u = ap (word span text) (join-assoc rest t u)
 join-assoc (group span parts rest) t u = ap (group span parts) (join-assoc rest t u)

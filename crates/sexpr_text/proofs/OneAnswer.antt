@@ -20,9 +20,8 @@ use Rattle.sexpr_text.proofs.Unique.{IsBetween-unique}
 use Rattle.sexpr_text.proofs.Reading.{IsReading}
 use Rattle.sexpr_text.proofs.Steps.{read-start, read-space, read-comment, read-word, read-open, read-close}
 use Rattle.sexpr_text.proofs.Ends.{found-bad_byte, found-stray_close, found-too_deep, found-spelling, found-open_at_end}
-
-both : (v : Bool) → v ≡ true → v ≡ false → ⊥
-both v t f = cc
+use Rattle.list_laws.proofs.Numbers.{le_or_lt}
+use Rattle.list_laws.proofs.Booleans.{true_and_false}
 
 -- no text spells two forests
 pub spells_trees-unique : (b : List ℕ) (s t : Forest) → SpellsTrees b s → SpellsTrees b t → s ≡ t
@@ -51,13 +50,13 @@ sort_of b k _ f = absurd f
 -- and no byte has two
 one_kind : (b : List ℕ) (k : ℕ) (x y : FaultKind) → Sort b k x → Sort b k y → x ≡ y
 one_kind b k x y (bad e f) (bad d g) = e ∙ sym d
-one_kind b k x y (bad e f) (stray d g) = absurd (both (closes_at b k) g.closes f.no_close)
-one_kind b k x y (bad e f) (deep d g) = absurd (both (opens_at b k) g.opens f.no_open)
-one_kind b k x y (stray e f) (bad d g) = absurd (both (closes_at b k) f.closes g.no_close)
+one_kind b k x y (bad e f) (stray d g) = absurd (true_and_false (closes_at b k) g.closes f.no_close)
+one_kind b k x y (bad e f) (deep d g) = absurd (true_and_false (opens_at b k) g.opens f.no_open)
+one_kind b k x y (stray e f) (bad d g) = absurd (true_and_false (closes_at b k) f.closes g.no_close)
 one_kind b k x y (stray e f) (stray d g) = e ∙ sym d
-one_kind b k x y (stray e f) (deep d g) = absurd (both (opens_at b k) g.opens (close-no_open b k f.closes))
-one_kind b k x y (deep e f) (bad d g) = absurd (both (opens_at b k) f.opens g.no_open)
-one_kind b k x y (deep e f) (stray d g) = absurd (both (opens_at b k) f.opens (close-no_open b k g.closes))
+one_kind b k x y (stray e f) (deep d g) = absurd (true_and_false (opens_at b k) g.opens (close-no_open b k f.closes))
+one_kind b k x y (deep e f) (bad d g) = absurd (true_and_false (opens_at b k) f.opens g.no_open)
+one_kind b k x y (deep e f) (stray d g) = absurd (true_and_false (opens_at b k) f.opens (close-no_open b k g.closes))
 one_kind b k x y (deep e f) (deep d g) = e ∙ sym d
 
 same_fault : (b : List ℕ) (k j : ℕ) (f g : InputFault) → k ≡ j → f.place ≡ place_at b k → g.place ≡ place_at b j → f.kind ≡ g.kind → f ≡ g
@@ -86,9 +85,6 @@ record IsStop (p : ℕ → Bool) (k last e : ℕ) : Type 0 where
   within : e ≤ last
   passes : (i : ℕ) → k ≤ i → i < e → p i ≡ true
   stops : e < last → p e ≡ false
-
-le_or_lt : (x y : ℕ) → (x ≤ y) ⊎ (y < x)
-le_or_lt x y = grind arith
 
 IsStop-more : (p : ℕ → Bool) (k last e : ℕ) → p k ≡ true → IsStop p (suc k) last e → IsStop p k last e
 IsStop-more p k last e h r = record {
@@ -168,7 +164,7 @@ step_word b k ps t inside h r =
     past : (e : ℕ) → IsStop (λ i. is_word_byte (get_or b i 0)) k (length b) e → (e ≤ k) ⊎ (k < e) → k < e
     past e stop (inl w) =
         let same : e ≡ k = omega (arith, stop.after) in
-        absurd (both (is_word_byte (get_or b k 0)) h (subst (λ x. is_word_byte (get_or b x 0) ≡ false) same (stop.stops (omega arith))))
+        absurd (true_and_false (is_word_byte (get_or b k 0)) h (subst (λ x. is_word_byte (get_or b x 0) ≡ false) same (stop.stops (omega arith))))
     past e stop (inr w) = w
 
     beyond : (e : ℕ) → IsStop (λ i. is_word_byte (get_or b i 0)) k (length b) e → (length b ≤ e) ⊎ (e < length b) → is_word_byte (get_or b e 0) ≡ false

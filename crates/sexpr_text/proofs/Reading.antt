@@ -9,6 +9,7 @@ use Rattle.sexpr_text.specs.Faults.{IsFaultAt, most_open}
 use Rattle.sexpr_text.specs.Pending.{Pending}
 use Rattle.sexpr_text.proofs.Depths.{IsQuiet, HasOpen}
 use Rattle.sexpr_text.proofs.Between.{IsGap-none, IsBetween-join, IsBetween-le}
+use Rattle.list_laws.proofs.Numbers.{le_or_lt}
 
 -- the n-th open parenthesis, in a list that begins at offset lo, when the text is read up to offset
 -- k
@@ -38,9 +39,6 @@ pub IsNested-le : (b : List ℕ) (k n lo : ℕ) (ps : List Pending) (t : Forest)
 IsNested-le b k n lo [] t h = IsBetween-le b lo k t h
 IsNested-le b k n lo (p ∷ ps) t h =
     omega (arith, IsBetween-le b lo p.start p.before h.0.before, IsNested-le b k (suc n) (p.start + 1) ps t h.1)
-
-le_or_lt : (x y : ℕ) → (x ≤ y) ⊎ (y < x)
-le_or_lt x y = grind arith
 
 -- a parenthesis that is open stays open while the depth does not fall to it
 IsPending-grow : (b : List ℕ) (k e n lo : ℕ) (p : Pending) → ((m : ℕ) → k < m → m ≤ e → n < depth_at b m) → IsPending b k n lo p → IsPending b e n lo p

@@ -18,24 +18,20 @@ use Rattle.sexpr_text.specs.Faults.{HasNoFaultAt, most_open}
 use Rattle.sexpr_text.specs.Formed.{nesting_of, is_lower_word_byte, IsRising, IsFormed}
 use Rattle.sexpr_text.proofs.Depths.{blank-no_open, blank-no_close, word-no_open, word-no_close, is_in_word-free, is_in_word-comment, depth_at-upto}
 use Rattle.sexpr_text.proofs.Between.{IsBetween-le}
+use Rattle.list_laws.proofs.Numbers.{le_or_lt}
+use Rattle.list_laws.proofs.Booleans.{true_and_false}
 
-both : (v : Bool) → v ≡ true → v ≡ false → ⊥
-both v t f = cc
-
-le_or_lt : (x y : ℕ) → (x ≤ y) ⊎ (y < x)
-le_or_lt x y = grind arith
-
-gap_level : (b : List ℕ) (lo hi : ℕ) → IsGap b lo hi → depth_at b hi ≡ depth_at b lo
+pub gap_level : (b : List ℕ) (lo hi : ℕ) → IsGap b lo hi → depth_at b hi ≡ depth_at b lo
 gap_level b lo hi g =
     depth_at-upto b lo hi g.ordered (λ i l u. (blank-no_open b i (g.blank i l u), blank-no_close b i (g.blank i l u)))
 
-word_level : (b : List ℕ) (s : Span) (text : List ℕ) → IsWordAt b s text → depth_at b s.end ≡ depth_at b s.start
+pub word_level : (b : List ℕ) (s : Span) (text : List ℕ) → IsWordAt b s text → depth_at b s.end ≡ depth_at b s.start
 word_level b s text g =
     depth_at-upto b s.start s.end (omega (arith, g.nonempty))
     (λ i l u. (word-no_open b i (g.within i l u), word-no_close b i (g.within i l u)))
 
 -- no more groups stand in one another than may be open
-nesting_bounded : (b : List ℕ) (lo hi d : ℕ) (t : Forest) → HasNoFaultAt b → d ≤ depth_at b lo → d ≤ most_open → IsBetween b lo hi t → d + nesting_of t ≤ most_open
+pub nesting_bounded : (b : List ℕ) (lo hi d : ℕ) (t : Forest) → HasNoFaultAt b → d ≤ depth_at b lo → d ≤ most_open → IsBetween b lo hi t → d + nesting_of t ≤ most_open
 nesting_bounded b lo hi d nothing sound at below g = omega arith
 nesting_bounded b lo hi d (word s text rest) sound at below g =
     nesting_bounded b s.end hi d rest sound (omega (arith, gap_level b lo s.start g.0, word_level b s text g.1)) below g.2
@@ -58,7 +54,7 @@ word_byte : (b : List ℕ) (k : ℕ) → is_in_word b k ≡ true → is_word_byt
 word_byte b k h = by_comment (is_in_comment b k) refl
   where
     by_comment : (v : Bool) → is_in_comment b k ≡ v → is_word_byte (get_or b k 0) ≡ true
-    by_comment true w = absurd (both (is_in_word b k) h (is_in_word-comment b k w))
+    by_comment true w = absurd (true_and_false (is_in_word b k) h (is_in_word-comment b k w))
     by_comment false w = sym (is_in_word-free b k w) ∙ h
 
 not_upper : (c : ℕ) → is_word_byte c ≡ true → (c < 65) ⊎ (90 < c) → is_lower_word_byte c ≡ true

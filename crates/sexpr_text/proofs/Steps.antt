@@ -15,9 +15,8 @@ use Rattle.sexpr_text.proofs.Lines.{is_comment_open-start}
 use Rattle.sexpr_text.proofs.Depths.{IsQuiet, IsQuiet-free, is_comment_open-free, comment-within, opens_at-free, closes_at-free, is_blank-free, is_blank-comment, space-rules_out, word-rules_out, open-rules_out, close-rules_out, blank-no_open, blank-no_close, blank-no_word, word-no_open, word-no_close, open-no_close, close-no_open, is_in_word-other, HasOpen, HasOpen-depth, HasOpen-opens, HasOpen-closes, HasOpen-upto, depth_at-upto, words-upto, words-within}
 use Rattle.sexpr_text.proofs.Between.{IsGap-none, IsBetween-join, IsBetween-then_gap}
 use Rattle.sexpr_text.proofs.Reading.{IsNested, IsReading, IsNested-grow, IsNested-open, IsNested-close}
-
-both : (v : Bool) → v ≡ true → v ≡ false → ⊥
-both v t f = cc
+use Rattle.list_laws.proofs.Numbers.{le_or_lt}
+use Rattle.list_laws.proofs.Booleans.{true_and_false}
 
 -- a byte with none of the three faults has none
 none_of : (b : List ℕ) (i : ℕ) → (IsBadByte b i → ⊥) → (IsStrayClose b i → ⊥) → (IsTooDeep b i → ⊥) → (kind : FaultKind) → IsFaultAt b i kind → ⊥
@@ -28,30 +27,27 @@ none_of b i bad stray deep _ f = f
 
 clean-blank : (b : List ℕ) (i : ℕ) → is_blank b i ≡ true → (kind : FaultKind) → IsFaultAt b i kind → ⊥
 clean-blank b i h = none_of b i
-    (λ f. both (is_blank b i) h f.no_blank)
-    (λ f. both (closes_at b i) f.closes (blank-no_close b i h))
-    (λ f. both (opens_at b i) f.opens (blank-no_open b i h))
+    (λ f. true_and_false (is_blank b i) h f.no_blank)
+    (λ f. true_and_false (closes_at b i) f.closes (blank-no_close b i h))
+    (λ f. true_and_false (opens_at b i) f.opens (blank-no_open b i h))
 
 clean-word : (b : List ℕ) (i : ℕ) → is_in_word b i ≡ true → (kind : FaultKind) → IsFaultAt b i kind → ⊥
 clean-word b i h = none_of b i
-    (λ f. both (is_in_word b i) h f.no_word)
-    (λ f. both (closes_at b i) f.closes (word-no_close b i h))
-    (λ f. both (opens_at b i) f.opens (word-no_open b i h))
+    (λ f. true_and_false (is_in_word b i) h f.no_word)
+    (λ f. true_and_false (closes_at b i) f.closes (word-no_close b i h))
+    (λ f. true_and_false (opens_at b i) f.opens (word-no_open b i h))
 
 clean-open : (b : List ℕ) (i d : ℕ) → opens_at b i ≡ true → depth_at b i ≡ d → d < most_open → (kind : FaultKind) → IsFaultAt b i kind → ⊥
 clean-open b i d h level room = none_of b i
-    (λ f. both (opens_at b i) h f.no_open)
-    (λ f. both (closes_at b i) f.closes (open-no_close b i h))
+    (λ f. true_and_false (opens_at b i) h f.no_open)
+    (λ f. true_and_false (closes_at b i) f.closes (open-no_close b i h))
     (λ f. omega (arith, f.full))
 
 clean-close : (b : List ℕ) (i d : ℕ) → closes_at b i ≡ true → depth_at b i ≡ suc d → (kind : FaultKind) → IsFaultAt b i kind → ⊥
 clean-close b i d h level = none_of b i
-    (λ f. both (closes_at b i) h f.no_close)
+    (λ f. true_and_false (closes_at b i) h f.no_close)
     (λ f. omega (arith, f.none_open))
-    (λ f. both (opens_at b i) f.opens (close-no_open b i h))
-
-le_or_lt : (x y : ℕ) → (x ≤ y) ⊎ (y < x)
-le_or_lt x y = grind arith
+    (λ f. true_and_false (opens_at b i) f.opens (close-no_open b i h))
 
 clean-upto : (b : List ℕ) (k e : ℕ) → ((i : ℕ) (kind : FaultKind) → i < k → IsFaultAt b i kind → ⊥) → ((i : ℕ) → k ≤ i → i < e → (kind : FaultKind) → IsFaultAt b i kind → ⊥) → (i : ℕ) (kind : FaultKind) → i < e → IsFaultAt b i kind → ⊥
 clean-upto b k e before here i kind u = by_place (le_or_lt k i)
@@ -102,7 +98,7 @@ read-space b k ps t inside h r =
 pub read-comment : (b : List ℕ) (k e : ℕ) (ps : List Pending) (t : Forest) → k < length b → is_semicolon (get_or b k 0) ≡ true → k ≤ e → e ≤ length b → ((i : ℕ) → k ≤ i → i < e → is_line_feed (get_or b i 0) ≡ false) → (e < length b → is_line_feed (get_or b e 0) ≡ true) → IsReading b k ps t → IsReading b e ps t
 read-comment b k e ps t inside h le within none stops r =
     let feed : is_line_feed (get_or b k 0) ≡ false = grind (arith, nat_tests) in
-    let ends : e < length b → is_line_feed (get_or b e 0) ≡ false → ⊥ = λ u w. both (is_line_feed (get_or b e 0)) (stops u) w in
+    let ends : e < length b → is_line_feed (get_or b e 0) ≡ false → ⊥ = λ u w. true_and_false (is_line_feed (get_or b e 0)) (stops u) w in
     read-blank b k e ps t (past (le_or_lt e k) feed ends) within
     (λ i l u. is_blank-comment b i (comment-within b k e i l u within h none))
     (λ u w. absurd (ends u w))
@@ -140,7 +136,7 @@ read-word b k e ps t span text inside h le within all stops is_span is_text r =
     record {
       inside = within;
       quiet = λ _ _. words-upto b k e le within quiet all;
-      apart = λ w. absurd (both (is_in_word b e) w ends);
+      apart = λ w. absurd (true_and_false (is_in_word b e) w ends);
       clean = clean-upto b k e r.clean (λ i l u. clean-word b i (in_word i l u));
       deep = HasOpen-upto b k e (length ps) le plain r.deep;
       bounded = r.bounded;
@@ -151,7 +147,7 @@ read-word b k e ps t span text inside h le within all stops is_span is_text r =
     past : (e ≤ k) ⊎ (k < e) → k < e
     past (inl w) =
         let same : k ≡ e = omega arith in
-        absurd (both (is_word_byte (get_or b e 0)) (subst (λ x. is_word_byte (get_or b x 0) ≡ true) same h) stops)
+        absurd (true_and_false (is_word_byte (get_or b e 0)) (subst (λ x. is_word_byte (get_or b x 0) ≡ true) same h) stops)
     past (inr w) = w
 
 -- what a parenthesis is to the text

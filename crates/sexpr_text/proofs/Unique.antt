@@ -9,31 +9,28 @@ use Rattle.sexpr_text.specs.Forest.{Forest, nothing, word, group}
 use Rattle.sexpr_text.specs.Spelling.{IsGap, IsWordAt, IsGroup, IsBetween}
 use Rattle.sexpr_text.proofs.Depths.{blank-no_word, blank-no_open, word-no_open}
 use Rattle.sexpr_text.proofs.Between.{IsBetween-le}
+use Rattle.list_laws.proofs.Booleans.{true_and_false}
+use Rattle.list_laws.proofs.Numbers.{trichotomy}
 
 -- one of the three holds
-trichotomy : (x y : ℕ) → (x < y) ⊎ (x ≡ y) ⊎ (y < x)
-trichotomy x y = grind arith
-
-both : (v : Bool) → v ≡ true → v ≡ false → ⊥
-both v t f = cc
 
 pub word-no_blank : (b : List ℕ) (k : ℕ) → is_in_word b k ≡ true → is_blank b k ≡ false
 word-no_blank b k h = by_blank (is_blank b k) refl
   where
     by_blank : (v : Bool) → is_blank b k ≡ v → is_blank b k ≡ false
-    by_blank true w = absurd (both (is_in_word b k) h (blank-no_word b k w))
+    by_blank true w = absurd (true_and_false (is_in_word b k) h (blank-no_word b k w))
     by_blank false w = w
 
 pub open-no_blank : (b : List ℕ) (k : ℕ) → opens_at b k ≡ true → is_blank b k ≡ false
 open-no_blank b k h = by_blank (is_blank b k) refl
   where
     by_blank : (v : Bool) → is_blank b k ≡ v → is_blank b k ≡ false
-    by_blank true w = absurd (both (opens_at b k) h (blank-no_open b k w))
+    by_blank true w = absurd (true_and_false (opens_at b k) h (blank-no_open b k w))
     by_blank false w = w
 
 -- a gap ends at the first offset that is not blank
 no_later : (b : List ℕ) (lo x y : ℕ) → lo ≤ x → IsGap b lo y → is_blank b x ≡ false → x < y → ⊥
-no_later b lo x y le g h lt = both (is_blank b x) (g.blank x le lt) h
+no_later b lo x y le g h lt = true_and_false (is_blank b x) (g.blank x le lt) h
 
 starts_same : (b : List ℕ) (lo lo' x y : ℕ) → lo ≡ lo' → IsGap b lo x → IsGap b lo' y → is_blank b x ≡ false → is_blank b y ≡ false → x ≡ y
 starts_same b lo lo' x y e g h bx by = elim (trichotomy x y) [
@@ -45,7 +42,7 @@ starts_same b lo lo' x y e g h bx by = elim (trichotomy x y) [
 -- no run of a word stops inside another that begins with it
 word_stops : (b : List ℕ) (s t : Span) (u v : List ℕ) → IsWordAt b s u → IsWordAt b t v → s.start ≡ t.start → s.end < t.end → ⊥
 word_stops b s t u v g h e lt =
-    both (is_in_word b s.end) (h.within s.end (omega (arith, g.nonempty)) lt) g.ends
+    true_and_false (is_in_word b s.end) (h.within s.end (omega (arith, g.nonempty)) lt) g.ends
 
 word_ends_same : (b : List ℕ) (s t : Span) (u v : List ℕ) → IsWordAt b s u → IsWordAt b t v → s.start ≡ t.start → s.end ≡ t.end
 word_ends_same b s t u v g h e = elim (trichotomy s.end t.end) [
@@ -110,10 +107,10 @@ IsBetween-unique b lo lo' hi hi' (group s u x) nothing e f g h =
     (omega (arith, g.1.nonempty, IsBetween-le b s.end hi x g.3)))
 IsBetween-unique b lo lo' hi hi' (word s u x) (group t v y) e f g h =
     let start = starts_same b lo lo' s.start t.start e g.0 h.0 (word-no_blank b s.start (word_starts b s u g.1)) (open-no_blank b t.start h.1.opened) in
-    absurd (both (opens_at b t.start) h.1.opened (word-no_open b t.start (ap (is_in_word b) (sym start) ∙ word_starts b s u g.1)))
+    absurd (true_and_false (opens_at b t.start) h.1.opened (word-no_open b t.start (ap (is_in_word b) (sym start) ∙ word_starts b s u g.1)))
 IsBetween-unique b lo lo' hi hi' (group s u x) (word t v y) e f g h =
     let start = starts_same b lo lo' s.start t.start e g.0 h.0 (open-no_blank b s.start g.1.opened) (word-no_blank b t.start (word_starts b t v h.1)) in
-    absurd (both (opens_at b s.start) g.1.opened (word-no_open b s.start (ap (is_in_word b) start ∙ word_starts b t v h.1)))
+    absurd (true_and_false (opens_at b s.start) g.1.opened (word-no_open b s.start (ap (is_in_word b) start ∙ word_starts b t v h.1)))
 IsBetween-unique b lo lo' hi hi' (word s u x) (word t v y) e f g h =
     let start = starts_same b lo lo' s.start t.start e g.0 h.0 (word-no_blank b s.start (word_starts b s u g.1)) (word-no_blank b t.start (word_starts b t v h.1)) in
     let end = word_ends_same b s t u v g.1 h.1 start in

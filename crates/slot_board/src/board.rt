@@ -9,6 +9,7 @@ ghost use Rattle.dd_ops.specs.Operations.{minus_of};
 ghost use Rattle.dd_sets.specs.Calls.{AddsNone, KeepsSets, Releases};
 ghost use Rattle.dd_sets.specs.Frames.{Owns, OwnsAnswer};
 ghost use Rattle.dd_sets.specs.LiveSets.{LiveSets, IsLive, IsSets, everything, nothing, set_of};
+ghost use Rattle.dd_sets.specs.Rebuilt.{IsListingOf};
 ghost use Rattle.dd_sets.specs.Rooms.{NoRoom, Rough};
 ghost use Rattle.encode_task.specs.Made.{MadeOf};
 ghost use Rattle.encode_task.specs.WorkingSets.{AreSmall, IsPartOf};
@@ -24,10 +25,10 @@ ghost use Rattle.slot_board.specs.Board.{LeadFits, Left, Moved, TestFits};
 ghost use Rattle.slot_board.specs.Board.{Start, Stayed, Working, combined, first_of, led, set_at};
 ghost use Rattle.slot_board.specs.Board.{slot_at};
 
-use dd_sets::{SetErr, SetId, Sets};
+use dd_sets::{Listing, SetErr, SetId, Sets};
 use encode_task::Enc;
 use preimage::{strong_pre, weak_pre};
-use std::alloc::{AllocError, Global};
+use std::alloc::Global;
 use task_core::{ActionId, Cond, Lit};
 
 /// How two sets are put together.
@@ -306,16 +307,42 @@ impl Board {
         holds_initial(enc, set)
     }
 
-    /// The cubes of the set at a place.
-    pub fn cubes(&self, enc: &Enc, place: usize) -> Result<Vec<Vec<Lit>>, AllocError>
+    /// The cubes of the set at a place. A listing keeps what it took for the next set; where it finds no
+    /// room, which it does only in an order of the table's own, that is told as want of memory, since
+    /// the table of the sets isn't full.
+    pub fn cubes(
+        &self,
+        enc: &Enc,
+        place: usize,
+        listing: &mut Listing,
+    ) -> Result<Vec<Vec<Lit>>, SetErr>
         requires working { IsWorking enc.now self.now.slots.items }
         requires place { place < length self.now.slots.items }
-        ensures { IfOk result (λ cubes. map (λ cube. cube.items) cubes.items
+        requires listing { IsListingOf enc.now.sets listing.old.tables }
+        ensures cubes { IfOk result (λ cubes. map (λ cube. cube.items) cubes.items
             ≡ cubes_of enc.now.sets.vars
             (λ state. set_at enc.now.sets self.now.slots.items place (value_of state))) }
+        ensures never_full { IfErr result (λ e. e ≡ SetErr.Memory) }
+        ensures listing { IsListingOf enc.now.sets listing.new.tables }
     {
         let set = self.at(place);
-        enc.sets().cubes(set)
+        match enc.sets().cubes(set, listing) {
+            Ok(cubes) => Ok(cubes),
+            Err(_) => Err(SetErr::Memory),
+        }
+    }
+
+    /// The cubes of the set at a place, where no other is listed with it.
+    pub fn only_cubes(&self, enc: &Enc, place: usize) -> Result<Vec<Vec<Lit>>, SetErr>
+        requires working { IsWorking enc.now self.now.slots.items }
+        requires place { place < length self.now.slots.items }
+        ensures cubes { IfOk result (λ cubes. map (λ cube. cube.items) cubes.items
+            ≡ cubes_of enc.now.sets.vars
+            (λ state. set_at enc.now.sets self.now.slots.items place (value_of state))) }
+        ensures never_full { IfErr result (λ e. e ≡ SetErr.Memory) }
+    {
+        let mut listing = Listing::new();
+        self.cubes(enc, place, &mut listing)
     }
 
     /// Puts the set of all lists of truth values at a place.

@@ -9,7 +9,7 @@ use Rattle.std.proofs.lemmas.List.Elements.{Contains-get_or}
 use Rattle.std.proofs.lemmas.List.FromFn.{get_or-map-range_with_len, length-map-range_with_len}
 use Rattle.std.proofs.lemmas.Bool.{and_parts, and_from, ltb-true, cases_lt, false≢true, true_from_ne_false}
 use Rattle.task_core.specs.Vectors.{Vector, value_of, all_vectors}
-use Rattle.task_core.specs.Systems.{AreNumbered, Exec, IsState, IsSystem}
+use Rattle.task_core.specs.Systems.{AreNumbered, Exec, IsState, IsSystem, goal_states}
 use Rattle.task_core.specs.States.{truth, vector, IsWithin}
 use Rattle.task_core.specs.Conditions.{AlwaysHolds, holds, ids_below}
 use Rattle.task_core.specs.Actions.{after_value, after, outcome_within, action_within}
@@ -257,3 +257,6 @@ module _ (task : Task) (always : AlwaysHolds task.invariant) where
     initial = filter_all (in_space task) (initial_vectors task) each_inside;
     goal = λ c. ap (λ p. filter p (all_vectors (fluent_count task))) (fun_ext (λ v. ap (λ b. b && holds c (value_of v)) (each_inside v)));
   }
+
+pub goal_states_of : (task : Task) (goal : Cond) → task.goal ≡ Some goal → goal_states (system_of task) ≡ states_where task goal
+goal_states_of task goal e = ap (λ (o : Option Cond). unwrap_or (option_map (states_where task) o) []) e

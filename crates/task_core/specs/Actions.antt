@@ -34,10 +34,9 @@ after_value o value f =
 abbrev pub after : ℕ → Outcome → Vector → Vector
 after n o v = map (after_value o (value_of v)) (range_with_len 0 n)
 
--- whether every fluent that an outcome names is below n. A change stands for as many conditional
--- literals as it has: what is asked of one is asked of each, and without literals nothing is
+-- whether every fluent that an outcome names is below n, those of its conditions too
 abbrev pub change_within : ℕ → Change → Bool
-change_within n c = list_all (λ lit. lit_within n lit && ids_below n c.cond) c.lits.items
+change_within n c = ids_below n c.cond && list_all (lit_within n) c.lits.items
 
 abbrev pub outcome_within : ℕ → Outcome → Bool
 outcome_within n o = list_all (change_within n) o.changes.items
@@ -58,7 +57,7 @@ goal_within n (Some goal) = ids_below n goal
 
 -- whether every condition of an action, or of a goal where there is one, is at most 200 deep
 abbrev pub change_is_shallow : Change → Bool
-change_is_shallow c = list_all (λ (lit : Lit). is_shallow c.cond) c.lits.items
+change_is_shallow c = is_shallow c.cond
 
 abbrev pub outcome_is_shallow : Outcome → Bool
 outcome_is_shallow o = list_all change_is_shallow o.changes.items

@@ -4,8 +4,7 @@ use crate::{Cond, Lit, State};
 use std::rc::RcStr;
 
 /// What one part of an outcome does: where `cond` holds in the old state, each of `lits` adds its
-/// fluent (makes it true) or deletes it (makes it false). The condition of a change without
-/// literals is never read.
+/// fluent (makes it true) or deletes it (makes it false). A change without literals does nothing.
 #[derive(Debug, Drop)]
 pub struct Change {
     pub cond: Cond,

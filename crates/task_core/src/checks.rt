@@ -232,7 +232,7 @@ fn is_shallow(cond: &Cond) -> bool
 fn change_fits(change: &Change, fluents: usize) -> bool
     ensures { result ≡ change_within fluents change.now }
 {
-    change.lits.is_empty() || (ids_below(&change.cond, fluents) && lits_fit(&change.lits, fluents))
+    ids_below(&change.cond, fluents) && lits_fit(&change.lits, fluents)
 }
 
 /// Whether an outcome does.
@@ -281,11 +281,11 @@ fn action_fits(action: &GroundAction, fluents: usize) -> bool
         && action.outcomes.len() < 1 << 32
 }
 
-/// Whether the condition of a change is at most 200 deep, where it is ever read.
+/// Whether the condition of a change is at most 200 deep.
 fn change_is_shallow(change: &Change) -> bool
     ensures { result ≡ change_is_shallow change.now }
 {
-    change.lits.is_empty() || is_shallow(&change.cond)
+    is_shallow(&change.cond)
 }
 
 /// Whether the conditions of an outcome are.

@@ -52,7 +52,7 @@ pub fn cond_holds(cond: &Cond, state: &State) -> bool
 
 /// Whether a condition is seen to hold always, without a look at its parts: it is `Yes`, or an `All`
 /// without parts.
-pub(crate) fn always_holds(cond: &Cond) -> bool
+pub fn always_holds(cond: &Cond) -> bool
     ensures { IsTrue result → AlwaysHolds cond.now }
 {
     match cond {

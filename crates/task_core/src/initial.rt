@@ -274,8 +274,8 @@ fn add(found: &mut IndexSet<State>, state: State, limit: usize) -> Result<(), In
     }
 }
 
-// The state with literals applied: deletes first, so that a fluent that is also added becomes true.
-fn with_literals(state: &State, lits: &[Lit]) -> State
+/// The state with literals applied: deletes first, so that a fluent that is also added becomes true.
+pub fn with_literals(state: &State, lits: &[Lit]) -> State
     requires { list_all (lit_within 256) lits.now ≡ true }
     ensures { (f : ℕ) → truth result f ≡ applied_value lits.now (truth state.now) f }
 {

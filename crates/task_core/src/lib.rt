@@ -23,13 +23,13 @@ mod tests;
 
 pub use actions::{Alternative, Change, GroundAction, InitSpec, Outcome};
 pub use classes::Class;
-pub use conditions::{Cond, cond_holds};
-pub use initial::{InitErr, init_states};
+pub use conditions::{Cond, always_holds, cond_holds};
+pub use initial::{InitErr, init_states, with_literals};
 pub use laws::{
     cubes_match_their_set, initial_states_differ, tasks_have_systems,
     without_invariant_each_vector_is_a_state,
 };
 pub use literals::{ActionId, FluentId, Lit};
 pub use states::State;
-pub use steps::{in_space, is_exec, step};
+pub use steps::{in_space, is_exec, outcome_count, step};
 pub use tasks::Task;

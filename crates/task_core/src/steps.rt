@@ -86,6 +86,14 @@ fn leads_to_a_state(task: &Task, state: &State, action: ActionId) -> bool
     false
 }
 
+/// How many outcomes an action has.
+pub fn outcome_count(task: &Task, action: ActionId) -> u32
+    requires { action.0 < action_count task.now }
+    ensures { result ≡ length (outcomes_at task.now action.0) }
+{
+    task.actions[action.0 as usize].outcomes.len() as u32
+}
+
 /// The vector to which an outcome of the action leads from the state, whether it is a state or not.
 pub fn step(task: &Task, state: &State, action: ActionId, outcome: u32) -> State
     requires action_in_range { action.0 < action_count task.now }

@@ -37,7 +37,7 @@ loop-alloc-preserved c start ready =
     let slots = c.lose_more.new.board.slots.items in (
       suc k.0,
       sets_more start c.loop-alloc.enc now c.loop-alloc.board.slots.items slots k.0 c.loop-alloc.sets.items c.add_set.new.sets.items k.1 (λ same. let e = c.is_empty.ensures.1 same in let f = c.loop-alloc-test.true in cc)
-          (c.in_ok-add_set.ensures start k.0 k.1.lost) (went start now slots _ c.lose_more.result _ c.in_ok-lose_more.was (c.lose_more.ensures start k.0 k.1.lost)),
+          (c.in_ok-add_set.ensures.added start k.0 k.1.lost) (went start now slots _ c.lose_more.result _ c.in_ok-lose_more.was (c.lose_more.ensures start k.0 k.1.lost)),
     )
 
 pub loop-alloc-smaller : goal.loop-alloc-smaller

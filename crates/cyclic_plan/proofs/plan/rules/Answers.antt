@@ -20,13 +20,16 @@ cubes-requires-clause-place c =
     omega (arith, c.takers_of.ensures, c.requires.actions)
 
 pub loop-a-preserved : goal.loop-a-preserved
-loop-a-preserved c start table =
-    let actions : length c.args.enc.now.actions ≡ action_count start.task = (made_at start c.args.enc.now c.args.board.now.slots.items table.at).actions in
-    rules_more start c.args.enc.now c.args.board.now.slots.items table c.loop-a.a c.takers_of.result (map rule_of c.loop-a.rules.items) (map rule_of c.add_rules.new.rules.items) (map (λ cube. cube.items) c.in_ok-cubes.cubes.items)
-    (omega (arith, c.requires.actions)) (omega (arith, c.takers_of.ensures, c.requires.actions)) (c.loop-a.invariant start table) c.in_ok-cubes.ensures c.in_ok-add_rules.ensures
+loop-a-preserved c = record {
+  listed = λ start table.
+      let actions : length c.args.enc.now.actions ≡ action_count start.task = (made_at start c.args.enc.now c.args.board.now.slots.items table.at).actions in
+      rules_more start c.args.enc.now c.args.board.now.slots.items table c.loop-a.a c.takers_of.result (map rule_of c.loop-a.rules.items) (map rule_of c.add_rules.new.rules.items) (map (λ cube. cube.items) c.in_ok-cubes.cubes.items)
+      (omega (arith, c.requires.actions)) (omega (arith, c.takers_of.ensures, c.requires.actions)) (c.loop-a.invariant.listed start table) c.in_ok-cubes.ensures.cubes c.in_ok-add_rules.ensures;
+  listing = c.cubes.ensures.listing;
+}
 
-pub returns : goal.returns
-returns c start table =
+pub returns-clause-rules : goal.returns-clause-rules
+returns-clause-rules c start table =
     let actions : length c.args.enc.now.actions ≡ action_count start.task = (made_at start c.args.enc.now c.args.board.now.slots.items table.at).actions in
     let e : c.loop-a.a ≡ action_count start.task = omega (arith, c.requires.actions) in
-    c.loop-a.invariant start table ∙ ap (λ n. flat_map (rules_of_action Weak (restricted (system_of start.task) table.pairs) (2 ^ fluent_count start.task)) (range_with_len 0 n)) e
+    c.loop-a.invariant.listed start table ∙ ap (λ n. flat_map (rules_of_action Weak (restricted (system_of start.task) table.pairs) (2 ^ fluent_count start.task)) (range_with_len 0 n)) e

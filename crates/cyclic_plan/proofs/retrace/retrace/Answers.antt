@@ -7,7 +7,7 @@ use Rattle.slot_board.specs.Board.{Fits}
 use Rattle.slot_board.proofs.BoardSlots.{passed, same_actions, went}
 use Rattle.cyclic_plan.specs.Stages.{none_taken}
 use Rattle.cyclic_plan.specs.Steps.{RetracedOn}
-use Rattle.cyclic_plan.specs.declared.steps.Step.TheVariants.{Grow}
+use Rattle.slot_board.specs.declared.steps.Step.TheVariants.{Grow}
 use Rattle.cyclic_plan.proofs.Followed.{retraced_all, retraced_first}
 use Rattle.cyclic_plan.proofs.Premises.{copy_goal}
 use Rattle.cyclic_plan.proofs.retrace.retrace.Goals as goal

@@ -4,7 +4,7 @@ use Rattle.task_core.specs.Tasks.{action_count}
 use Rattle.slot_board.proofs.BoardSlots.{left_with, made_at}
 use Rattle.cyclic_plan.specs.Stages.{kept_system, taken_by, takers_within}
 use Rattle.cyclic_plan.specs.Steps.{HasRetraced, near_at, next_at}
-use Rattle.cyclic_plan.specs.declared.steps.Step.{Step}
+use Rattle.slot_board.specs.declared.steps.Step.{Step}
 use Rattle.cyclic_plan.proofs.Followed.{grow_adds, grow_ready, retraced_advance, retraced_grow}
 use Rattle.cyclic_plan.proofs.Premises.{copy_next}
 use Rattle.cyclic_plan.proofs.retrace.retrace_step.Goals as goal

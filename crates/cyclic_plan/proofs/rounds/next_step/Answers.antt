@@ -1,7 +1,7 @@
 use Rattle.std.proofs.lemmas.Result.{err_from_is_err_and}
 use Rattle.std.proofs.Common.{suc, ◌≡◌, ◌+◌, ◌++◌, [], ◌∷◌, arith, length, ◌∙◌}
 use Rattle.task_core.specs.Tasks.{action_count}
-use Rattle.cyclic_plan.specs.declared.steps.Step.TheVariants.{Advance}
+use Rattle.slot_board.specs.declared.steps.Step.TheVariants.{Advance}
 use Rattle.slot_board.proofs.BoardSlots.{on_ok, same_actions, went, passed}
 use Rattle.cyclic_plan.proofs.Followed.{begun_next, memory_passed}
 use Rattle.cyclic_plan.proofs.Premises.{copy_next}

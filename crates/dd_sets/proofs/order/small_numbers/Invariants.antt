@@ -1,6 +1,6 @@
 -- One number for each place so far.
-use Rattle.std.proofs.Common.{◌≡◌, length}
+use Rattle.std.proofs.Common.{◌≡◌, map, min, take}
 use Rattle.dd_sets.proofs.order.small_numbers.Given as goal
 
 abbrev pub invariant-loop-place : goal.invariant-loop-place
-invariant-loop-place l = length l.numbers.items ≡ l.place-index
+invariant-loop-place l = l.numbers.items ≡ map (λ place. min place 256) (take l.place-index l.places)

@@ -1,6 +1,7 @@
 -- What a change adds to the set.
 use Rattle.std.proofs.Common.{[], ◌∷◌, ◌==◌, ◌&&◌, ◌+◌, ◌∙◌, ⊎_elim, inl, arith, subst, sym}
-use Rattle.std.proofs.lemmas.Bool.{leb-true}
+use Rattle.std.specs.List.{list_all}
+use Rattle.std.proofs.lemmas.Bool.{and_parts, leb-true}
 use Rattle.dd_nodes.specs.Subfunctions.{Function}
 use Rattle.dd_ops.specs.Operations.{or_of}
 use Rattle.dd_sets.specs.Frames.{Owns, OwnsAnswer}
@@ -8,20 +9,18 @@ use Rattle.dd_sets.specs.LiveSets.{set_of}
 use Rattle.dd_sets.specs.Rooms.{Rough}
 use Rattle.encode_task.specs.WorkingSets.IsPartOf.{itself}
 use Rattle.encode_task.proofs.PartLemmas.{piece_beside}
-use Rattle.task_core.specs.Conditions.{depth, ids_below, is_shallow}
+use Rattle.task_core.specs.Conditions.{depth, ids_below}
 use Rattle.task_core.specs.Initial.{lit_within}
 use Rattle.task_core.specs.Vectors.{same_value}
 use Rattle.task_core.specs.declared.literals.Lit.{Lit}
-use Rattle.task_core.proofs.Changes.{asked_of_each}
 use Rattle.dd_sets.proofs.RoomSteps.{room_answer, room_wider, room_released}
-use Rattle.encode_task.proofs.ChangeLemmas.{about, some_literal, not_about, said_of_each}
+use Rattle.encode_task.proofs.ChangeLemmas.{about, some_literal, not_about}
 use Rattle.dd_sets.proofs.OwnedLemmas.{both}
 use Rattle.encode_task.proofs.outcomes.with_change.Goals as goal
 
 pub set_where-answer-requires : goal.set_where-answer-requires
 set_where-answer-requires c =
-    asked_of_each (λ (lit : Lit). lit.fluent.0 == c.args.f.0 && same_value lit.positive c.args.positive) (lit_within c.args.sets.now.vars) (ids_below c.args.sets.now.vars c.args.change.now.cond) c.args.change.now.lits.items (sym c.is_about.ensures ∙ c.if-is_about.true)
-    c.requires.fluents
+    (and_parts (ids_below c.args.sets.now.vars c.args.change.now.cond) (list_all (lit_within c.args.sets.now.vars) c.args.change.now.lits.items) c.requires.fluents).0
 
 pub returns-then-is_about-clause-answer : goal.returns-then-is_about-clause-answer
 returns-then-is_about-clause-answer c before set owns =
@@ -37,8 +36,7 @@ returns-then-is_about-clause-full c full w small rough =
     (λ refused. room_wider _ (depth c.args.change.now.cond + 4) 205 0 0
     (omega (
       arith,
-      leb-true (depth c.args.change.now.cond) 200
-          (said_of_each (λ (lit : Lit). lit.fluent.0 == c.args.f.0 && same_value lit.positive c.args.positive) (is_shallow c.args.change.now.cond) c.args.change.now.lits.items about_it c.requires.shallow),
+      leb-true (depth c.args.change.now.cond) 200 c.requires.shallow,
     )) (omega arith) (room_released _ (c.set_where-answer.ensures.full refused.0 w parts) refused.1))
     (λ tight. room_answer _ _ _ c.set_where-answer.result 0 205 0 0 0 c.set_where-answer.ensures.answer (inl (parts _ (itself c.args.change.now.cond), tt)) (omega arith) (omega arith) tight)
     (c.in_some.ensures.full full w (piece_beside w or_of _ _ c.args.some _ c.set_where-answer.result c.requires.live c.set_where-answer.ensures.answer

@@ -5,8 +5,8 @@ use Rattle.plan_rules.specs.declared.rules.AutoRule.{AutoRule}
 use Rattle.plan_rules.specs.declared.rules.Rule.{Rule}
 use Rattle.plan_rules.specs.Plans.{IsContextRuleOf, IsPlanOf, IsRuleOf}
 use Rattle.plan_rules.specs.Rules.{context_rule_of, rule_of}
-use Rattle.exec_graph.proofs.PlanCubes.{unmapped}
 use Rattle.exec_graph.proofs.exploration.index_of.Goals as goal
+use Rattle.list_laws.proofs.Elements.{All-unmap}
 
 pub by_context-requires : goal.by_context-requires
 by_context-requires c =
@@ -16,7 +16,7 @@ by_context-requires c =
     let auto = subst (IsPlanOf n m) c.in-Auto.is c.requires in
     subst (All (λ (rule : AutoRule). rule.context < contexts + 1)) (sym c.deref-in-Auto.ensures.value)
     (λ k d l.
-    let last = (unmapped (IsContextRuleOf n m contexts) context_rule_of c.in-Auto.automaton.rules.items auto.each k d l).context.last in
+    let last = (All-unmap (IsContextRuleOf n m contexts) context_rule_of c.in-Auto.automaton.rules.items auto.each k d l).context.last in
     omega arith)
 
 pub table_index-requires : goal.table_index-requires
@@ -25,5 +25,5 @@ table_index-requires c =
     let m = action_count c.args.task.now in
     record {
       in_task = subst (All (λ (rule : Rule). IsRuleOf n m (rule_of rule))) (sym c.deref.ensures.value)
-          (unmapped (IsRuleOf n m) rule_of c.in-Table.table.rules.items (subst (IsPlanOf n m) c.in-Table.is c.requires));
+          (All-unmap (IsRuleOf n m) rule_of c.in-Table.table.rules.items (subst (IsPlanOf n m) c.in-Table.is c.requires));
     }

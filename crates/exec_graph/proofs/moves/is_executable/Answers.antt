@@ -1,7 +1,7 @@
 use Rattle.std.proofs.Common.{sym}
 use Rattle.task_core.specs.States.{vector}
 use Rattle.task_core.specs.Tasks.{fluent_count, system_of}
-use Rattle.exec_graph.proofs.Executes.{executes}
+use Rattle.plan_rules.proofs.DenotedPairs.{executes}
 use Rattle.exec_graph.proofs.moves.is_executable.Goals as goal
 
 pub returns-clause-value : goal.returns-clause-value

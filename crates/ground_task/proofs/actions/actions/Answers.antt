@@ -7,7 +7,9 @@ use Rattle.pddl_system.specs.Instances.{Instance as InstanceTree}
 use Rattle.pddl_system.specs.Outcomes.{OutcomeTree, outcomes_of, possible_changes}
 use Rattle.pddl_system.specs.Tasks.{ActionTree, condition_of}
 use Rattle.pddl_system.specs.Systems.{instance_name}
-use Rattle.pddl_system.specs.Values.{action_value}
+use Rattle.std.specs.List.{list_all}
+use Rattle.pddl_system.specs.Values.{action_has_literals, action_value}
+use Rattle.list_laws.proofs.Elements.{list_all-more}
 use Rattle.ground_task.specs.Actions.{action_in, action_over}
 use Rattle.ground_task.specs.Drafts.{action_tree, draft_trees, drafted}
 use Rattle.ground_task.specs.Numbered.{instance_with}
@@ -45,15 +47,17 @@ loop-draft-preserved c =
     let make = action_in at fl d p in
     let k = turn_by (action_tree d) (drafted at) c.args.drafts.now (kept_by at d) i item c.requires.drafts c.loop-draft-test.true c.draft-item.is in
     let same : instance_with s item.instance.now ≡ k.0 = inner (instance_with s item.instance.now) k.0 (sym c.schema_of-schema.ensures ∙ ap (λ (r : Option InstanceTree × List OutcomeTree). r.0) k.1) in
-    let are : draft_trees item.outcomes.items ≡ map (possible_changes at) (outcomes_of at k.0) = ap (λ (r : Option InstanceTree × List OutcomeTree). r.1) k.1 in
-    ap (λ l. map action_value l ++ map make (drop (i + 1) (kept_by at d))) c.in_ok-push.ensures.items
-    ∙ map_turn action_value make (kept_by at d) i k.0 c.loop-draft.actions.items c.in_ok-action.field-0 _ k.2
-    (c.in_ok-action.ensures
-    ∙ ap (λ l. action_over at fl d p (instance_with s item.instance.now) (draft_trees l)) c.deref.ensures.value
-    ∙ ap (λ (j : InstanceTree). action_over at fl d p j (draft_trees item.outcomes.items)) same
-    ∙ ap (action_over at fl d p k.0) are
-    ∙ ap (λ l. let a : ActionTree = record { name = instance_name d p k.0; exec = condition_of at fl k.0.schema.precondition k.0.objects; outcomes = l } in a) (possible_over at fl (outcomes_of at k.0)))
-    c.loop-draft.invariant
+    let are : draft_trees item.outcomes.items ≡ map (possible_changes at) (outcomes_of at k.0) = ap (λ (r : Option InstanceTree × List OutcomeTree). r.1) k.1 in (
+      ap (λ l. map action_value l ++ map make (drop (i + 1) (kept_by at d))) c.in_ok-push.ensures.items
+          ∙ map_turn action_value make (kept_by at d) i k.0 c.loop-draft.actions.items c.in_ok-action.field-0 _ k.2
+          (c.in_ok-action.ensures.value
+          ∙ ap (λ l. action_over at fl d p (instance_with s item.instance.now) (draft_trees l)) c.deref.ensures.value
+          ∙ ap (λ (j : InstanceTree). action_over at fl d p j (draft_trees item.outcomes.items)) same
+          ∙ ap (action_over at fl d p k.0) are
+          ∙ ap (λ l. let a : ActionTree = record { name = instance_name d p k.0; exec = condition_of at fl k.0.schema.precondition k.0.objects; outcomes = l } in a) (possible_over at fl (outcomes_of at k.0)))
+          c.loop-draft.invariant.0,
+      ap (list_all action_has_literals) c.in_ok-push.ensures.items ∙ list_all-more action_has_literals c.loop-draft.actions.items c.in_ok-action.field-0 c.loop-draft.invariant.1 c.in_ok-action.ensures.says,
+    )
   where
     inner : (a b : InstanceTree) → Some a ≡ Some b → a ≡ b
     inner a b e = cc

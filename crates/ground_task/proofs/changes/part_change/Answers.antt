@@ -6,8 +6,8 @@ use Rattle.ground_task.specs.Drafts.{change_tree, guard_trees}
 use Rattle.ground_task.proofs.PartTrees.{change_is_part}
 use Rattle.ground_task.proofs.changes.part_change.Goals as goal
 
-pub returns : goal.returns
-returns c =
+pub returns-clause-value : goal.returns-clause-value
+returns-clause-value c =
     let at = setting_in c.args.setting.now in
     let fl = c.args.fluents.now in
     change_is_part at fl c.args.part.now (record { cond = c.in_ok-cond.cond; lits = c.in_ok-lits.lits })

@@ -1,9 +1,9 @@
 use Rattle.std.proofs.Common.{map, string_bytes, inr, refl, subst}
 use Rattle.plan_io.specs.Fetches.{FailedLast}
 use Rattle.mbp_top.specs.Fetching.{FetchesFiles}
-use Rattle.mbp_top.specs.Values.{answer_of, check_words_of, drill_words_of, ground_words_of, plan_words_of, refute_words_of, replay_words_of}
-use Rattle.mbp_top.specs.Words.{Command, plan, ground, check, replay, drill, refute}
-use Rattle.mbp_top.proofs.ByCommand.{one_command}
+use Rattle.command_base.specs.Values.{answer_of, check_words_of, drill_words_of, ground_words_of, plan_words_of, refute_words_of, replay_words_of}
+use Rattle.command_base.specs.Words.{Command, plan, ground, check, replay, drill, refute}
+use Rattle.command_base.proofs.OneCommand.{one_command}
 use Rattle.mbp_top.proofs.commands.answer.Goals as goal
 
 pub returns-in-Plan-clause-cause : goal.returns-in-Plan-clause-cause

@@ -1,4 +1,4 @@
-use Rattle.mbp_top.specs.Values.{answer_of}
+use Rattle.command_base.specs.Values.{answer_of}
 use Rattle.mbp_top.proofs.RunLaws.{has_run}
 use Rattle.mbp_top.proofs.runs.carry_out.Goals as goal
 

@@ -1,4 +1,4 @@
-use Rattle.mbp_top.proofs.PddlDecides.{as_read}
+use Rattle.command_base.proofs.PddlDecides.{as_read}
 use Rattle.mbp_top.proofs.RunLaws.{comes_to_plan, comes_to_verdict, no_plan_is_written, plan_is_written}
 use Rattle.mbp_top.proofs.top.run.Goals as goal
 

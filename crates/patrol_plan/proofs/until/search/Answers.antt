@@ -71,10 +71,14 @@ take_all-requires-clause-ready c =
     let fits = c.requires.ready.3 in
     let w = went (board_of start) c.win_all.new.enc c.win_all.new.board.slots.items _ c.win_all.result _ c.in_ok-win_all.was (c.win_all.ensures start h.at n fits) in
     let v = stayed_worked start c.win_all.new.enc c.covers_initial.new.enc c.win_all.new.board.slots.items (c.in_ok-covers_initial.ensures.left (board_of start) w.changed.ready.at (test_fits start (c.win_all.new.enc, c.win_all.new.board.slots.items) c.win_at.result (until_sets c.args.chain.now) c.win_at.ensures w.changed.ready fits.sets)) in
+    let e = (c.in_ok-covers_initial.ensures.answer (board_of start) w.changed.ready.at
+    ∙ ap (λ k. list_all (states_at (c.win_all.new.enc, c.win_all.new.board.slots.items) k) (sys_of start).initial) c.win_at.ensures
+    ∙ covered_is start (c.win_all.new.enc, c.win_all.new.board.slots.items) (until_sets c.args.chain.now) w.won) in
+    let all : covers_until (sys_of start) (until_sets c.args.chain.now) ≡ true = sym e ∙ (let f = c.if-not-branch.false in cc) in
     let long = (stage_count c.args.chain.now start.stages n) in
     let l : c.len.result ≡ length c.args.chain.now.stages.items = omega (arith, c.len.ensures) in
     let m : start.stages ≡ c.len.result = n ∙ sym l in
-    (start, m, sym l, fits, (has_still start (c.win_all.new.enc, c.win_all.new.board.slots.items) (c.covers_initial.new.enc, c.win_all.new.board.slots.items) (until_sets c.args.chain.now) 0 (takers_none start (c.args.enc.now, c.args.board.now.slots.items) (c.win_all.new.enc, c.win_all.new.board.slots.items) (until_sets c.args.chain.now) fits.sets (blank start (c.args.enc.now, c.args.board.now.slots.items) h) (same_length start (c.args.enc.now, c.args.board.now.slots.items) (c.win_all.new.enc, c.win_all.new.board.slots.items) h.at w.changed.ready.at) w) v))
+    (start, m, sym l, fits, (has_still start (c.win_all.new.enc, c.win_all.new.board.slots.items) (c.covers_initial.new.enc, c.win_all.new.board.slots.items) (until_sets c.args.chain.now) 0 (takers_none start (c.args.enc.now, c.args.board.now.slots.items) (c.win_all.new.enc, c.win_all.new.board.slots.items) (until_sets c.args.chain.now) fits.sets (blank start (c.args.enc.now, c.args.board.now.slots.items) h) (same_length start (c.args.enc.now, c.args.board.now.slots.items) (c.win_all.new.enc, c.win_all.new.board.slots.items) h.at w.changed.ready.at) w all) v))
 
 pub take_all-requires-clause-chain : goal.take_all-requires-clause-chain
 take_all-requires-clause-chain c =
@@ -102,10 +106,14 @@ returns-in_err-take_all c start n h fits =
     let p = err_from_is_err_and c.from_residual-in_err-take_all.result c.from_residual-in_err-take_all.ensures.1 in
     let w = went (board_of start) c.win_all.new.enc c.win_all.new.board.slots.items _ c.win_all.result _ c.in_ok-win_all.was (c.win_all.ensures start h.at n fits) in
     let v = stayed_worked start c.win_all.new.enc c.covers_initial.new.enc c.win_all.new.board.slots.items (c.in_ok-covers_initial.ensures.left (board_of start) w.changed.ready.at (test_fits start (c.win_all.new.enc, c.win_all.new.board.slots.items) c.win_at.result (until_sets c.args.chain.now) c.win_at.ensures w.changed.ready fits.sets)) in
+    let e = (c.in_ok-covers_initial.ensures.answer (board_of start) w.changed.ready.at
+    ∙ ap (λ k. list_all (states_at (c.win_all.new.enc, c.win_all.new.board.slots.items) k) (sys_of start).initial) c.win_at.ensures
+    ∙ covered_is start (c.win_all.new.enc, c.win_all.new.board.slots.items) (until_sets c.args.chain.now) w.won) in
+    let all : covers_until (sys_of start) (until_sets c.args.chain.now) ≡ true = sym e ∙ (let f = c.if-not-branch.false in cc) in
     let long = (stage_count c.args.chain.now start.stages n) in
     let l : c.len.result ≡ length c.args.chain.now.stages.items = omega (arith, c.len.ensures) in
     let m : start.stages ≡ c.len.result = n ∙ sym l in
-    ends_refused start (c.take_all.new.enc, c.take_all.new.board.slots.items) (until_sets c.args.chain.now) _ c.take_all.result c.from_residual-in_err-take_all.result _ c.in_err-take_all.was p (c.take_all.ensures start m (sym l) fits (has_still start (c.win_all.new.enc, c.win_all.new.board.slots.items) (c.covers_initial.new.enc, c.win_all.new.board.slots.items) (until_sets c.args.chain.now) 0 (takers_none start (c.args.enc.now, c.args.board.now.slots.items) (c.win_all.new.enc, c.win_all.new.board.slots.items) (until_sets c.args.chain.now) fits.sets (blank start (c.args.enc.now, c.args.board.now.slots.items) h) (same_length start (c.args.enc.now, c.args.board.now.slots.items) (c.win_all.new.enc, c.win_all.new.board.slots.items) h.at w.changed.ready.at) w) v))
+    ends_refused start (c.take_all.new.enc, c.take_all.new.board.slots.items) (until_sets c.args.chain.now) _ c.take_all.result c.from_residual-in_err-take_all.result _ c.in_err-take_all.was p (c.take_all.ensures start m (sym l) fits (has_still start (c.win_all.new.enc, c.win_all.new.board.slots.items) (c.covers_initial.new.enc, c.win_all.new.board.slots.items) (until_sets c.args.chain.now) 0 (takers_none start (c.args.enc.now, c.args.board.now.slots.items) (c.win_all.new.enc, c.win_all.new.board.slots.items) (until_sets c.args.chain.now) fits.sets (blank start (c.args.enc.now, c.args.board.now.slots.items) h) (same_length start (c.args.enc.now, c.args.board.now.slots.items) (c.win_all.new.enc, c.win_all.new.board.slots.items) h.at w.changed.ready.at) w all) v))
 
 pub returns : goal.returns
 returns c start n h fits =
@@ -118,5 +126,5 @@ returns c start n h fits =
     let l : c.len.result ≡ length c.args.chain.now.stages.items = omega (arith, c.len.ensures) in
     let m : start.stages ≡ c.len.result = n ∙ sym l in
     let all : covers_until (sys_of start) (until_sets c.args.chain.now) ≡ true = sym e ∙ (let f = c.if-not-branch.false in cc) in
-    let t = went (board_of start) c.take_all.new.enc c.take_all.new.board.slots.items _ c.take_all.result _ c.in_ok-take_all.was (c.take_all.ensures start m (sym l) fits (has_still start (c.win_all.new.enc, c.win_all.new.board.slots.items) (c.covers_initial.new.enc, c.win_all.new.board.slots.items) (until_sets c.args.chain.now) 0 (takers_none start (c.args.enc.now, c.args.board.now.slots.items) (c.win_all.new.enc, c.win_all.new.board.slots.items) (until_sets c.args.chain.now) fits.sets (blank start (c.args.enc.now, c.args.board.now.slots.items) h) (same_length start (c.args.enc.now, c.args.board.now.slots.items) (c.win_all.new.enc, c.win_all.new.board.slots.items) h.at w.changed.ready.at) w) v)) in
+    let t = went (board_of start) c.take_all.new.enc c.take_all.new.board.slots.items _ c.take_all.result _ c.in_ok-take_all.was (c.take_all.ensures start m (sym l) fits (has_still start (c.win_all.new.enc, c.win_all.new.board.slots.items) (c.covers_initial.new.enc, c.win_all.new.board.slots.items) (until_sets c.args.chain.now) 0 (takers_none start (c.args.enc.now, c.args.board.now.slots.items) (c.win_all.new.enc, c.win_all.new.board.slots.items) (until_sets c.args.chain.now) fits.sets (blank start (c.args.enc.now, c.args.board.now.slots.items) h) (same_length start (c.args.enc.now, c.args.board.now.slots.items) (c.win_all.new.enc, c.win_all.new.board.slots.items) h.at w.changed.ready.at) w all) v)) in
     table_is start (c.take_all.new.enc, c.take_all.new.board.slots.items) (until_sets c.args.chain.now) c.len.result long m t all

@@ -21,7 +21,8 @@ take_first-requires-clause-ready c =
     let is_takers = c.requires.ready.4 in
     let less = c.requires.ready.5 in
     let h = c.requires.ready.6 in
-    let shares = subst (λ k. ShareFits (guarded start (patrol_set (sys_of start) (visit_sets conds))) (states_at (c.args.enc.now, c.args.board.now.slots.items) 8) (states_at (c.args.enc.now, c.args.board.now.slots.items) k) (λ j. states_at (c.args.enc.now, c.args.board.now.slots.items) (c.args.takers + j))) (sym place) (subst (λ t. ShareFits (guarded start (patrol_set (sys_of start) (visit_sets conds))) (states_at (c.args.enc.now, c.args.board.now.slots.items) 8) (states_at (c.args.enc.now, c.args.board.now.slots.items) (visit_place i)) (λ j. states_at (c.args.enc.now, c.args.board.now.slots.items) (t + j))) (sym is_takers) (visit_shares start conds (c.args.enc.now, c.args.board.now.slots.items) i less h)) in
+    let covered = c.requires.ready.7 in
+    let shares = subst (λ k. ShareFits (guarded start (patrol_set (sys_of start) (visit_sets conds))) (states_at (c.args.enc.now, c.args.board.now.slots.items) 8) (states_at (c.args.enc.now, c.args.board.now.slots.items) k) (λ j. states_at (c.args.enc.now, c.args.board.now.slots.items) (c.args.takers + j))) (sym place) (subst (λ t. ShareFits (guarded start (patrol_set (sys_of start) (visit_sets conds))) (states_at (c.args.enc.now, c.args.board.now.slots.items) 8) (states_at (c.args.enc.now, c.args.board.now.slots.items) (visit_place i)) (λ j. states_at (c.args.enc.now, c.args.board.now.slots.items) (t + j))) (sym is_takers) (visit_shares start conds (c.args.enc.now, c.args.board.now.slots.items) i less h covered)) in
     ((guarded start (patrol_set (sys_of start) (visit_sets conds))), h.ready, shares)
 
 pub take_first-requires-clause-places : goal.take_first-requires-clause-places
@@ -32,6 +33,7 @@ take_first-requires-clause-places c =
     let is_takers = c.requires.ready.4 in
     let less = c.requires.ready.5 in
     let h = c.requires.ready.6 in
+    let covered = c.requires.ready.7 in
     let acts : length c.args.enc.now.actions ≡ action_count start.task = (made_at (board_of start) c.args.enc.now c.args.board.now.slots.items h.ready.at).actions in let w = t_within start conds (c.args.enc.now, c.args.board.now.slots.items) i less h in omega (arith, is_takers, c.requires.actions)
 
 pub take_first-requires-clause-rest : goal.take_first-requires-clause-rest
@@ -48,11 +50,12 @@ take_first-requires-clause-apart c =
     let is_takers = c.requires.ready.4 in
     let less = c.requires.ready.5 in
     let h = c.requires.ready.6 in
+    let covered = c.requires.ready.7 in
     let w = t_high start conds (c.args.enc.now, c.args.board.now.slots.items) i less h in (omega (arith, is_takers), omega (arith, place, is_takers))
 
 pub returns-in_err-take_first : goal.returns-in_err-take_first
-returns-in_err-take_first c start conds i place is_takers less h =
-    let shares = subst (λ k. ShareFits (guarded start (patrol_set (sys_of start) (visit_sets conds))) (states_at (c.args.enc.now, c.args.board.now.slots.items) 8) (states_at (c.args.enc.now, c.args.board.now.slots.items) k) (λ j. states_at (c.args.enc.now, c.args.board.now.slots.items) (c.args.takers + j))) (sym place) (subst (λ t. ShareFits (guarded start (patrol_set (sys_of start) (visit_sets conds))) (states_at (c.args.enc.now, c.args.board.now.slots.items) 8) (states_at (c.args.enc.now, c.args.board.now.slots.items) (visit_place i)) (λ j. states_at (c.args.enc.now, c.args.board.now.slots.items) (t + j))) (sym is_takers) (visit_shares start conds (c.args.enc.now, c.args.board.now.slots.items) i less h)) in
+returns-in_err-take_first c start conds i place is_takers less h covered =
+    let shares = subst (λ k. ShareFits (guarded start (patrol_set (sys_of start) (visit_sets conds))) (states_at (c.args.enc.now, c.args.board.now.slots.items) 8) (states_at (c.args.enc.now, c.args.board.now.slots.items) k) (λ j. states_at (c.args.enc.now, c.args.board.now.slots.items) (c.args.takers + j))) (sym place) (subst (λ t. ShareFits (guarded start (patrol_set (sys_of start) (visit_sets conds))) (states_at (c.args.enc.now, c.args.board.now.slots.items) 8) (states_at (c.args.enc.now, c.args.board.now.slots.items) (visit_place i)) (λ j. states_at (c.args.enc.now, c.args.board.now.slots.items) (t + j))) (sym is_takers) (visit_shares start conds (c.args.enc.now, c.args.board.now.slots.items) i less h covered)) in
     passed (board_of start) c.take_first.new.enc c.take_first.new.board.slots.items _ _ c.take_first.result c.from_residual.result _ c.in_err-take_first.was (err_from_is_err_and c.from_residual.result c.from_residual.ensures.1) (c.take_first.ensures (guarded start (patrol_set (sys_of start) (visit_sets conds))) h.ready shares)
 
 pub climb-requires-clause-ready : goal.climb-requires-clause-ready
@@ -64,10 +67,11 @@ climb-requires-clause-ready c =
     let is_takers = c.requires.ready.4 in
     let less = c.requires.ready.5 in
     let h = c.requires.ready.6 in
-    let shares = subst (λ k. ShareFits (guarded start (patrol_set (sys_of start) (visit_sets conds))) (states_at (c.args.enc.now, c.args.board.now.slots.items) 8) (states_at (c.args.enc.now, c.args.board.now.slots.items) k) (λ j. states_at (c.args.enc.now, c.args.board.now.slots.items) (c.args.takers + j))) (sym place) (subst (λ t. ShareFits (guarded start (patrol_set (sys_of start) (visit_sets conds))) (states_at (c.args.enc.now, c.args.board.now.slots.items) 8) (states_at (c.args.enc.now, c.args.board.now.slots.items) (visit_place i)) (λ j. states_at (c.args.enc.now, c.args.board.now.slots.items) (t + j))) (sym is_takers) (visit_shares start conds (c.args.enc.now, c.args.board.now.slots.items) i less h)) in
+    let covered = c.requires.ready.7 in
+    let shares = subst (λ k. ShareFits (guarded start (patrol_set (sys_of start) (visit_sets conds))) (states_at (c.args.enc.now, c.args.board.now.slots.items) 8) (states_at (c.args.enc.now, c.args.board.now.slots.items) k) (λ j. states_at (c.args.enc.now, c.args.board.now.slots.items) (c.args.takers + j))) (sym place) (subst (λ t. ShareFits (guarded start (patrol_set (sys_of start) (visit_sets conds))) (states_at (c.args.enc.now, c.args.board.now.slots.items) 8) (states_at (c.args.enc.now, c.args.board.now.slots.items) (visit_place i)) (λ j. states_at (c.args.enc.now, c.args.board.now.slots.items) (t + j))) (sym is_takers) (visit_shares start conds (c.args.enc.now, c.args.board.now.slots.items) i less h covered)) in
     let m = went (board_of start) c.take_first.new.enc c.take_first.new.board.slots.items _ c.take_first.result _ c.in_ok-take_first.was (c.take_first.ensures (guarded start (patrol_set (sys_of start) (visit_sets conds))) h.ready shares) in
     let first = subst (λ k. FirstTaken (guarded start (patrol_set (sys_of start) (visit_sets conds))) (c.args.enc.now, c.args.board.now.slots.items) (c.take_first.new.enc, c.take_first.new.board.slots.items) 8 k (takers_place (action_count start.task) start.stages i)) place (subst (FirstTaken (guarded start (patrol_set (sys_of start) (visit_sets conds))) (c.args.enc.now, c.args.board.now.slots.items) (c.take_first.new.enc, c.take_first.new.board.slots.items) 8 c.args.place) is_takers m) in
-    let climbs = subst (λ k. ClimbsFit (guarded start (patrol_set (sys_of start) (visit_sets conds))) (states_at (c.take_first.new.enc, c.take_first.new.board.slots.items) k) (λ j. states_at (c.take_first.new.enc, c.take_first.new.board.slots.items) (c.args.takers + j))) (sym place) (subst (λ t. ClimbsFit (guarded start (patrol_set (sys_of start) (visit_sets conds))) (states_at (c.take_first.new.enc, c.take_first.new.board.slots.items) (visit_place i)) (λ j. states_at (c.take_first.new.enc, c.take_first.new.board.slots.items) (t + j))) (sym is_takers) (visit_climbs start conds (c.args.enc.now, c.args.board.now.slots.items) i less h (c.take_first.new.enc, c.take_first.new.board.slots.items) first)) in
+    let climbs = subst (λ k. ClimbsFit (guarded start (patrol_set (sys_of start) (visit_sets conds))) (states_at (c.take_first.new.enc, c.take_first.new.board.slots.items) k) (λ j. states_at (c.take_first.new.enc, c.take_first.new.board.slots.items) (c.args.takers + j))) (sym place) (subst (λ t. ClimbsFit (guarded start (patrol_set (sys_of start) (visit_sets conds))) (states_at (c.take_first.new.enc, c.take_first.new.board.slots.items) (visit_place i)) (λ j. states_at (c.take_first.new.enc, c.take_first.new.board.slots.items) (t + j))) (sym is_takers) (visit_climbs start conds (c.args.enc.now, c.args.board.now.slots.items) i less h (c.take_first.new.enc, c.take_first.new.board.slots.items) first covered)) in
     ((guarded start (patrol_set (sys_of start) (visit_sets conds))), first.changed.ready, climbs)
 
 pub climb-requires-clause-actions : goal.climb-requires-clause-actions
@@ -79,7 +83,8 @@ climb-requires-clause-actions c =
     let is_takers = c.requires.ready.4 in
     let less = c.requires.ready.5 in
     let h = c.requires.ready.6 in
-    let shares = subst (λ k. ShareFits (guarded start (patrol_set (sys_of start) (visit_sets conds))) (states_at (c.args.enc.now, c.args.board.now.slots.items) 8) (states_at (c.args.enc.now, c.args.board.now.slots.items) k) (λ j. states_at (c.args.enc.now, c.args.board.now.slots.items) (c.args.takers + j))) (sym place) (subst (λ t. ShareFits (guarded start (patrol_set (sys_of start) (visit_sets conds))) (states_at (c.args.enc.now, c.args.board.now.slots.items) 8) (states_at (c.args.enc.now, c.args.board.now.slots.items) (visit_place i)) (λ j. states_at (c.args.enc.now, c.args.board.now.slots.items) (t + j))) (sym is_takers) (visit_shares start conds (c.args.enc.now, c.args.board.now.slots.items) i less h)) in
+    let covered = c.requires.ready.7 in
+    let shares = subst (λ k. ShareFits (guarded start (patrol_set (sys_of start) (visit_sets conds))) (states_at (c.args.enc.now, c.args.board.now.slots.items) 8) (states_at (c.args.enc.now, c.args.board.now.slots.items) k) (λ j. states_at (c.args.enc.now, c.args.board.now.slots.items) (c.args.takers + j))) (sym place) (subst (λ t. ShareFits (guarded start (patrol_set (sys_of start) (visit_sets conds))) (states_at (c.args.enc.now, c.args.board.now.slots.items) 8) (states_at (c.args.enc.now, c.args.board.now.slots.items) (visit_place i)) (λ j. states_at (c.args.enc.now, c.args.board.now.slots.items) (t + j))) (sym is_takers) (visit_shares start conds (c.args.enc.now, c.args.board.now.slots.items) i less h covered)) in
     let m = went (board_of start) c.take_first.new.enc c.take_first.new.board.slots.items _ c.take_first.result _ c.in_ok-take_first.was (c.take_first.ensures (guarded start (patrol_set (sys_of start) (visit_sets conds))) h.ready shares) in
     let e : length c.take_first.new.enc.actions ≡ length c.args.enc.now.actions = same_actions (board_of start) c.args.enc.now c.take_first.new.enc c.args.board.now.slots.items c.take_first.new.board.slots.items h.ready.at m.changed.ready.at in omega (arith, c.requires.actions)
 
@@ -92,7 +97,8 @@ climb-requires-clause-places c =
     let is_takers = c.requires.ready.4 in
     let less = c.requires.ready.5 in
     let h = c.requires.ready.6 in
-    let shares = subst (λ k. ShareFits (guarded start (patrol_set (sys_of start) (visit_sets conds))) (states_at (c.args.enc.now, c.args.board.now.slots.items) 8) (states_at (c.args.enc.now, c.args.board.now.slots.items) k) (λ j. states_at (c.args.enc.now, c.args.board.now.slots.items) (c.args.takers + j))) (sym place) (subst (λ t. ShareFits (guarded start (patrol_set (sys_of start) (visit_sets conds))) (states_at (c.args.enc.now, c.args.board.now.slots.items) 8) (states_at (c.args.enc.now, c.args.board.now.slots.items) (visit_place i)) (λ j. states_at (c.args.enc.now, c.args.board.now.slots.items) (t + j))) (sym is_takers) (visit_shares start conds (c.args.enc.now, c.args.board.now.slots.items) i less h)) in
+    let covered = c.requires.ready.7 in
+    let shares = subst (λ k. ShareFits (guarded start (patrol_set (sys_of start) (visit_sets conds))) (states_at (c.args.enc.now, c.args.board.now.slots.items) 8) (states_at (c.args.enc.now, c.args.board.now.slots.items) k) (λ j. states_at (c.args.enc.now, c.args.board.now.slots.items) (c.args.takers + j))) (sym place) (subst (λ t. ShareFits (guarded start (patrol_set (sys_of start) (visit_sets conds))) (states_at (c.args.enc.now, c.args.board.now.slots.items) 8) (states_at (c.args.enc.now, c.args.board.now.slots.items) (visit_place i)) (λ j. states_at (c.args.enc.now, c.args.board.now.slots.items) (t + j))) (sym is_takers) (visit_shares start conds (c.args.enc.now, c.args.board.now.slots.items) i less h covered)) in
     let m = went (board_of start) c.take_first.new.enc c.take_first.new.board.slots.items _ c.take_first.result _ c.in_ok-take_first.was (c.take_first.ensures (guarded start (patrol_set (sys_of start) (visit_sets conds))) h.ready shares) in
     let acts : length c.args.enc.now.actions ≡ action_count start.task = (made_at (board_of start) c.args.enc.now c.args.board.now.slots.items h.ready.at).actions in let e : length c.take_first.new.board.slots.items ≡ length c.args.board.now.slots.items = same_length start (c.args.enc.now, c.args.board.now.slots.items) (c.take_first.new.enc, c.take_first.new.board.slots.items) h.ready.at m.changed.ready.at in let w = t_within start conds (c.args.enc.now, c.args.board.now.slots.items) i less h in omega (arith, is_takers, c.requires.actions)
 
@@ -110,14 +116,15 @@ climb-requires-clause-apart c =
     let is_takers = c.requires.ready.4 in
     let less = c.requires.ready.5 in
     let h = c.requires.ready.6 in
+    let covered = c.requires.ready.7 in
     let w = t_high start conds (c.args.enc.now, c.args.board.now.slots.items) i less h in omega (arith, place, is_takers)
 
 pub returns : goal.returns
-returns c start conds i place is_takers less h =
-    let shares = subst (λ k. ShareFits (guarded start (patrol_set (sys_of start) (visit_sets conds))) (states_at (c.args.enc.now, c.args.board.now.slots.items) 8) (states_at (c.args.enc.now, c.args.board.now.slots.items) k) (λ j. states_at (c.args.enc.now, c.args.board.now.slots.items) (c.args.takers + j))) (sym place) (subst (λ t. ShareFits (guarded start (patrol_set (sys_of start) (visit_sets conds))) (states_at (c.args.enc.now, c.args.board.now.slots.items) 8) (states_at (c.args.enc.now, c.args.board.now.slots.items) (visit_place i)) (λ j. states_at (c.args.enc.now, c.args.board.now.slots.items) (t + j))) (sym is_takers) (visit_shares start conds (c.args.enc.now, c.args.board.now.slots.items) i less h)) in
+returns c start conds i place is_takers less h covered =
+    let shares = subst (λ k. ShareFits (guarded start (patrol_set (sys_of start) (visit_sets conds))) (states_at (c.args.enc.now, c.args.board.now.slots.items) 8) (states_at (c.args.enc.now, c.args.board.now.slots.items) k) (λ j. states_at (c.args.enc.now, c.args.board.now.slots.items) (c.args.takers + j))) (sym place) (subst (λ t. ShareFits (guarded start (patrol_set (sys_of start) (visit_sets conds))) (states_at (c.args.enc.now, c.args.board.now.slots.items) 8) (states_at (c.args.enc.now, c.args.board.now.slots.items) (visit_place i)) (λ j. states_at (c.args.enc.now, c.args.board.now.slots.items) (t + j))) (sym is_takers) (visit_shares start conds (c.args.enc.now, c.args.board.now.slots.items) i less h covered)) in
     let m = went (board_of start) c.take_first.new.enc c.take_first.new.board.slots.items _ c.take_first.result _ c.in_ok-take_first.was (c.take_first.ensures (guarded start (patrol_set (sys_of start) (visit_sets conds))) h.ready shares) in
     let first = subst (λ k. FirstTaken (guarded start (patrol_set (sys_of start) (visit_sets conds))) (c.args.enc.now, c.args.board.now.slots.items) (c.take_first.new.enc, c.take_first.new.board.slots.items) 8 k (takers_place (action_count start.task) start.stages i)) place (subst (FirstTaken (guarded start (patrol_set (sys_of start) (visit_sets conds))) (c.args.enc.now, c.args.board.now.slots.items) (c.take_first.new.enc, c.take_first.new.board.slots.items) 8 c.args.place) is_takers m) in
-    let climbs = subst (λ k. ClimbsFit (guarded start (patrol_set (sys_of start) (visit_sets conds))) (states_at (c.take_first.new.enc, c.take_first.new.board.slots.items) k) (λ j. states_at (c.take_first.new.enc, c.take_first.new.board.slots.items) (c.args.takers + j))) (sym place) (subst (λ t. ClimbsFit (guarded start (patrol_set (sys_of start) (visit_sets conds))) (states_at (c.take_first.new.enc, c.take_first.new.board.slots.items) (visit_place i)) (λ j. states_at (c.take_first.new.enc, c.take_first.new.board.slots.items) (t + j))) (sym is_takers) (visit_climbs start conds (c.args.enc.now, c.args.board.now.slots.items) i less h (c.take_first.new.enc, c.take_first.new.board.slots.items) first)) in
+    let climbs = subst (λ k. ClimbsFit (guarded start (patrol_set (sys_of start) (visit_sets conds))) (states_at (c.take_first.new.enc, c.take_first.new.board.slots.items) k) (λ j. states_at (c.take_first.new.enc, c.take_first.new.board.slots.items) (c.args.takers + j))) (sym place) (subst (λ t. ClimbsFit (guarded start (patrol_set (sys_of start) (visit_sets conds))) (states_at (c.take_first.new.enc, c.take_first.new.board.slots.items) (visit_place i)) (λ j. states_at (c.take_first.new.enc, c.take_first.new.board.slots.items) (t + j))) (sym is_takers) (visit_climbs start conds (c.args.enc.now, c.args.board.now.slots.items) i less h (c.take_first.new.enc, c.take_first.new.board.slots.items) first covered)) in
     left_with (board_of start) c.climb.new.enc c.climb.new.board.slots.items _ _ c.climb.result
     (λ z. visit_taken start conds (c.args.enc.now, c.args.board.now.slots.items) i less h (c.take_first.new.enc, c.take_first.new.board.slots.items) first (c.climb.new.enc, c.climb.new.board.slots.items) (subst (λ k. Climbed (guarded start (patrol_set (sys_of start) (visit_sets conds))) (c.take_first.new.enc, c.take_first.new.board.slots.items) (c.climb.new.enc, c.climb.new.board.slots.items) k (takers_place (action_count start.task) start.stages i)) place (subst (Climbed (guarded start (patrol_set (sys_of start) (visit_sets conds))) (c.take_first.new.enc, c.take_first.new.board.slots.items) (c.climb.new.enc, c.climb.new.board.slots.items) c.args.place) is_takers z)))
     (c.climb.ensures (guarded start (patrol_set (sys_of start) (visit_sets conds))) first.changed.ready climbs)

@@ -12,11 +12,12 @@ take_visit-requires-clause-ready c =
     let conds = c.requires.ready.1 in
     let n = c.requires.ready.2 in
     let h = c.requires.ready.3 in
-    let inv = c.loop-i.invariant start conds n h in
+    let covered = c.requires.ready.4 in
+    let inv = c.loop-i.invariant start conds n h covered in
     let acts = (made_at (board_of start) c.args.enc.now c.args.board.now.slots.items h.ready.at).actions in
     let place = c.takers_at.ensures ∙ ap (λ k. takers_place k c.args.visits c.loop-i.i) (c.requires.actions ∙ acts) ∙ ap (λ k. takers_place (action_count start.task) k c.loop-i.i) (sym n) in
     let less = (let l : c.loop-i.i < start.stages = omega (arith, n) in l) in
-    (start, conds, c.loop-i.i, c.visit_at.ensures, place, less, inv)
+    (start, conds, c.loop-i.i, c.visit_at.ensures, place, less, inv, c.requires.ready.4)
 
 pub take_visit-requires-clause-actions : goal.take_visit-requires-clause-actions
 take_visit-requires-clause-actions c =
@@ -24,26 +25,27 @@ take_visit-requires-clause-actions c =
     let conds = c.requires.ready.1 in
     let n = c.requires.ready.2 in
     let h = c.requires.ready.3 in
-    let inv = c.loop-i.invariant start conds n h in
+    let covered = c.requires.ready.4 in
+    let inv = c.loop-i.invariant start conds n h covered in
     let e : length c.loop-i.enc.actions ≡ length c.args.enc.now.actions = same_actions (board_of start) c.args.enc.now c.loop-i.enc c.args.board.now.slots.items c.loop-i.board.slots.items h.ready.at inv.ready.at in omega (arith, c.requires.actions)
 
 pub returns-in_err-take_visit : goal.returns-in_err-take_visit
-returns-in_err-take_visit c start conds n h =
-    let inv = c.loop-i.invariant start conds n h in
+returns-in_err-take_visit c start conds n h covered =
+    let inv = c.loop-i.invariant start conds n h covered in
     let acts = (made_at (board_of start) c.args.enc.now c.args.board.now.slots.items h.ready.at).actions in
     let place = c.takers_at.ensures ∙ ap (λ k. takers_place k c.args.visits c.loop-i.i) (c.requires.actions ∙ acts) ∙ ap (λ k. takers_place (action_count start.task) k c.loop-i.i) (sym n) in
     let less = (let l : c.loop-i.i < start.stages = omega (arith, n) in l) in
-    passed (board_of start) c.take_visit.new.enc c.take_visit.new.board.slots.items _ _ c.take_visit.result c.from_residual.result _ c.in_err-take_visit.was (err_from_is_err_and c.from_residual.result c.from_residual.ensures.1) (c.take_visit.ensures start conds c.loop-i.i c.visit_at.ensures place less inv)
+    passed (board_of start) c.take_visit.new.enc c.take_visit.new.board.slots.items _ _ c.take_visit.result c.from_residual.result _ c.in_err-take_visit.was (err_from_is_err_and c.from_residual.result c.from_residual.ensures.1) (c.take_visit.ensures start conds c.loop-i.i c.visit_at.ensures place less inv covered)
 
 pub loop-i-preserved : goal.loop-i-preserved
-loop-i-preserved c start conds n h =
-    let inv = c.loop-i.invariant start conds n h in
+loop-i-preserved c start conds n h covered =
+    let inv = c.loop-i.invariant start conds n h covered in
     let acts = (made_at (board_of start) c.args.enc.now c.args.board.now.slots.items h.ready.at).actions in
     let place = c.takers_at.ensures ∙ ap (λ k. takers_place k c.args.visits c.loop-i.i) (c.requires.actions ∙ acts) ∙ ap (λ k. takers_place (action_count start.task) k c.loop-i.i) (sym n) in
     let less = (let l : c.loop-i.i < start.stages = omega (arith, n) in l) in
-    subst (HasPatrol start conds (c.take_visit.new.enc, c.take_visit.new.board.slots.items)) (let e : suc c.loop-i.i ≡ c.loop-i.i + 1 = omega arith in e) (went (board_of start) c.take_visit.new.enc c.take_visit.new.board.slots.items _ c.take_visit.result _ c.in_ok-take_visit.was (c.take_visit.ensures start conds c.loop-i.i c.visit_at.ensures place less inv))
+    subst (HasPatrol start conds (c.take_visit.new.enc, c.take_visit.new.board.slots.items)) (let e : suc c.loop-i.i ≡ c.loop-i.i + 1 = omega arith in e) (went (board_of start) c.take_visit.new.enc c.take_visit.new.board.slots.items _ c.take_visit.result _ c.in_ok-take_visit.was (c.take_visit.ensures start conds c.loop-i.i c.visit_at.ensures place less inv covered))
 
 pub returns : goal.returns
-returns c start conds n h =
-    let inv = c.loop-i.invariant start conds n h in
+returns c start conds n h covered =
+    let inv = c.loop-i.invariant start conds n h covered in
     subst (HasPatrol start conds (c.loop-i.enc, c.loop-i.board.slots.items)) (let e : c.loop-i.i ≡ start.stages = omega (arith, n) in e) inv

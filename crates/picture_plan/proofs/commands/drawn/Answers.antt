@@ -2,7 +2,7 @@ use Rattle.std.proofs.Common.{◌≡◌, ap, inl, inr, length, rules}
 use Rattle.plan_picture.specs.Values.{node_value, nodes_of}
 use Rattle.plan_rules.specs.Rules.{plain_of}
 use Rattle.task_core.specs.Tasks.{fluent_count, system_of}
-use Rattle.mbp_top.specs.Answers.{refused}
+use Rattle.command_base.specs.Answers.{refused}
 use Rattle.picture_plan.proofs.Answers.{no_nodes, shows_nothing, shows_some, some_nodes}
 use Rattle.picture_plan.proofs.commands.drawn.Goals as goal
 

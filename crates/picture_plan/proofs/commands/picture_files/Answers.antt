@@ -1,11 +1,11 @@
 use Rattle.std.proofs.lemmas.Result.{err_from_is_err_and}
 use Rattle.plan_io.specs.Fetches.{FailedLast}
-use Rattle.mbp_top.specs.Values.{refusal_of}
-use Rattle.mbp_top.proofs.Later.{failed_after_two}
-use Rattle.mbp_top.proofs.PddlDecides.{after_both, refused_both}
+use Rattle.command_base.specs.Values.{refusal_of}
+use Rattle.command_base.proofs.Later.{failed_after_two}
+use Rattle.command_base.proofs.PddlDecides.{after_both, refused_both}
 use Rattle.picture_plan.specs.Pictures.{IsPictured}
 use Rattle.picture_plan.specs.Values.{picture_words_of}
-use Rattle.picture_plan.proofs.Answers.{pictured_later}
+use Rattle.picture_plan.proofs.Answers.{picture_fetched, picture_stopped, pictured_later}
 use Rattle.picture_plan.proofs.commands.picture_files.Goals as goal
 
 pub returns-in_err-domain-clause-answer : goal.returns-in_err-domain-clause-answer
@@ -27,3 +27,18 @@ returns-clause-answer g c =
     c.in_ok-domain.ensures.fetched c.in_ok-domain.ensures.quiet in
     after_both held failed asked.domain asked.problem (IsPictured held failed asked) _ _ _ c.in_ok-domain.ensures.holds
     (pictured_later held held' failed failed' asked _ _ _ c.in_ok-domain.ensures.kept over c.picture_problem.ensures.answer)
+
+pub returns-in_err-domain-clause-fetches : goal.returns-in_err-domain-clause-fetches
+returns-in_err-domain-clause-fetches g c =
+    let p = err_from_is_err_and c.from_residual.result c.from_residual.ensures.1 in
+    let held = g.S.Shelf.held c.args.shelf.now in
+    let failed = FailedLast g.S.Shelf.fetched g.S.Shelf.faults c.args.shelf.now c.read_both.new.shelf in
+    rw (p.1, p.2) (picture_stopped held failed g.S.Shelf.fetched (picture_words_of c.args.asked.now) (refusal_of c.in_err-domain.field-0.0) c.args.shelf.now c.read_both.new.shelf
+    c.in_err-domain.ensures.refused c.in_err-domain.ensures.stopped)
+
+pub returns-clause-fetches : goal.returns-clause-fetches
+returns-clause-fetches g c =
+    let held = g.S.Shelf.held c.args.shelf.now in
+    let failed = FailedLast g.S.Shelf.fetched g.S.Shelf.faults c.args.shelf.now c.picture_problem.new.shelf in
+    picture_fetched held failed g.S.Shelf.fetched (picture_words_of c.args.asked.now) _ _ _ c.args.shelf.now c.read_both.new.shelf c.picture_problem.new.shelf
+    c.in_ok-domain.ensures.holds c.in_ok-domain.ensures.fetched c.picture_problem.ensures.fetches

@@ -1,7 +1,8 @@
+use Rattle.std.proofs.Common.{inr, refl}
 use Rattle.std.proofs.lemmas.Result.{err_from_is_err_and}
 use Rattle.pddl_ast.specs.Values.{domain_value, problem_value}
 use Rattle.plan_io.specs.Fetches.{FailedLast}
-use Rattle.mbp_top.specs.Values.{answer_of, placed_of, refusal_of}
+use Rattle.command_base.specs.Values.{answer_of, placed_of, refusal_of}
 use Rattle.picture_plan.specs.Values.{picture_words_of}
 use Rattle.picture_plan.proofs.Answers.{pictured_answer, plan_refused}
 use Rattle.picture_plan.proofs.commands.picture_problem.Goals as goal
@@ -26,3 +27,11 @@ returns-clause-answer g c =
     (placed_of c.in_ok-read.read) (answer_of c.drawn.result)
     c.in_ok-grounded.ensures.task c.in_ok-grounded.ensures.system c.in_ok-grounded.ensures.within
     c.in_ok-read.ensures.holds c.drawn.ensures
+
+pub returns-in_err-read-clause-fetches : goal.returns-in_err-read-clause-fetches
+returns-in_err-read-clause-fetches g c =
+    inr (c.in_ok-grounded.ensures.within, (c.read_plan_file.new.shelf, c.in_err-read.ensures.fetch, refl))
+
+pub returns-clause-fetches : goal.returns-clause-fetches
+returns-clause-fetches g c =
+    inr (c.in_ok-grounded.ensures.within, (c.read_plan_file.new.shelf, c.in_ok-read.ensures.fetch, refl))

@@ -1,9 +1,9 @@
-use Rattle.mbp_top.specs.Values.{answer_of}
+use Rattle.command_base.specs.Values.{answer_of}
 use Rattle.picture_plan.proofs.Answers.{has_pictured}
 use Rattle.picture_plan.proofs.top.picture.Goals as goal
 
 pub returns : goal.returns
 returns g c =
     let found = c.answer-found.ensures in
-    has_pictured g.S.Shelf.held g.S.Shelf.faults g.S.Shelf.fetched _ (answer_of c.answer-found.result) c.deliver.ensures.0 found.cause found.no_fetch found.quiet_at found.kept found.later
+    has_pictured g.S.Shelf.held g.S.Shelf.faults g.S.Shelf.fetched _ (answer_of c.answer-found.result) c.deliver.ensures.0 found.cause found.fetches found.no_fetch found.quiet_at found.kept found.later
     c.deliver.ensures.1 c.deliver.ensures.2

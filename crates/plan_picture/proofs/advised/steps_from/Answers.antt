@@ -7,8 +7,8 @@ use Rattle.plan_rules.specs.Rules.{PlanNext, always, by_cases, context_rule_of, 
 use Rattle.plan_rules.specs.declared.rules.AutoRule.{AutoRule}
 use Rattle.plan_rules.specs.declared.rules.Rule.{Rule}
 use Rattle.std.proofs.Common.{ℕ}
-use Rattle.exec_graph.proofs.PlanCubes.{unmapped}
 use Rattle.plan_picture.proofs.advised.steps_from.Goals as goal
+use Rattle.list_laws.proofs.Elements.{All-unmap}
 
 names_next : (n contexts : ℕ) (next : PlanNext) → IsNextOf n contexts next → NamesNext n next
 names_next n contexts (always context) h = tt
@@ -19,7 +19,7 @@ table_steps-requires-clause-in_task c =
     let n = fluent_count c.args.task.now in
     let m = action_count c.args.task.now in
     subst (All (λ (rule : Rule). IsRuleOf n m (rule_of rule))) (sym c.deref.ensures.value)
-    (unmapped (IsRuleOf n m) rule_of c.in-Table.table.rules.items (subst (IsPlanOf n m) c.in-Table.is c.requires.plan_of_task))
+    (All-unmap (IsRuleOf n m) rule_of c.in-Table.table.rules.items (subst (IsPlanOf n m) c.in-Table.is c.requires.plan_of_task))
 
 pub advice_at-advice-requires : goal.advice_at-advice-requires
 advice_at-advice-requires c =
@@ -27,7 +27,7 @@ advice_at-advice-requires c =
     let m = action_count c.args.task.now in
     let automaton = c.in-Auto.automaton in
     let plan = subst (IsPlanOf n m) c.in-Auto.is c.requires.plan_of_task in
-    let each = unmapped (IsContextRuleOf n m automaton.contexts) context_rule_of automaton.rules.items plan.each in
+    let each = All-unmap (IsContextRuleOf n m automaton.contexts) context_rule_of automaton.rules.items plan.each in
     record {
       in_task = subst (All (λ (rule : AutoRule). NamesRule n m (context_rule_of rule))) (sym c.deref-in-Auto.ensures.value)
           (λ i d l. let h = each i d l in record { cube = h.cube; action = h.action; next = names_next n automaton.contexts _ h.next });

@@ -1,4 +1,4 @@
-use Rattle.plan_theory.proofs.WeakDenoted.{denoted-table}
+use Rattle.plan_rules.proofs.DenotedPairs.{denoted-table}
 use Rattle.plan_theory.specs.CyclicPlans.{cyclic_rules}
 use Rattle.plan_theory.proofs.CyclicPrinted.{cyclic_executable, cyclic_solves}
 use Rattle.plan_theory.proofs.cyclic_laws.cyclic_plan_solves.Goals as goal

@@ -1,7 +1,7 @@
 use Rattle.plan_theory.specs.LayerPlans.{printed_rules}
 use Rattle.plan_theory.proofs.ClassLayers.{printed_executable}
 use Rattle.plan_theory.proofs.LeastBounds.{solves_by_class}
-use Rattle.plan_theory.proofs.WeakDenoted.{denoted-table}
+use Rattle.plan_rules.proofs.DenotedPairs.{denoted-table}
 use Rattle.plan_theory.proofs.layer_laws.printed_plan_solves.Goals as goal
 
 pub returns-clause-table : goal.returns-clause-table

@@ -39,8 +39,8 @@ returns-in_err-leave_out c start has wide rough =
     let found = subst (SearchLeft c.args.class start c.search_back.new.enc c.search_back.new.board.slots.items c.search_back.new.steps.items) c.if-branch.false (c.in_ok-search_back.ensures start has wide) in
     passed_on start c.leave_out.new.enc c.leave_out.new.board.slots.items _ _ c.leave_out.result c.from_residual-in_err-leave_out.result _ c.in_err-leave_out.was p (c.leave_out.ensures c.args.class start found wide rough)
 
-pub cubes-requires-clause-working : goal.cubes-requires-clause-working
-cubes-requires-clause-working c =
+pub only_cubes-requires-clause-working : goal.only_cubes-requires-clause-working
+only_cubes-requires-clause-working c =
     let r = c.requires.ready in
     let found = subst (SearchLeft c.args.class r.0 c.search_back.new.enc c.search_back.new.board.slots.items c.search_back.new.steps.items) c.if-branch.false (c.in_ok-search_back.ensures r.0 r.1 r.2) in
     let rest = went r.0 c.leave_out.new.enc c.leave_out.new.board.slots.items _ c.leave_out.result _ c.in_ok-leave_out.was (c.leave_out.ensures c.args.class r.0 found r.2 r.3) in
@@ -50,4 +50,4 @@ pub returns : goal.returns
 returns c start has wide rough =
     let found = subst (SearchLeft c.args.class start c.search_back.new.enc c.search_back.new.board.slots.items c.search_back.new.steps.items) c.if-branch.false (c.in_ok-search_back.ensures start has wide) in
     let rest = went start c.leave_out.new.enc c.leave_out.new.board.slots.items _ c.leave_out.result _ c.in_ok-leave_out.was (c.leave_out.ensures c.args.class start found wide rough) in
-    cubes_left c.args.class start c.leave_out.new.enc c.leave_out.new.board.slots.items c.in_ok-cubes.cubes rest c.in_ok-cubes.ensures
+    cubes_left c.args.class start c.leave_out.new.enc c.leave_out.new.board.slots.items c.in_ok-cubes.cubes rest c.in_ok-cubes.ensures.cubes

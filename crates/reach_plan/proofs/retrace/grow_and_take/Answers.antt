@@ -8,7 +8,7 @@ use Rattle.task_core.specs.Tasks.{action_count}
 use Rattle.task_core.specs.declared.tasks.Task.{Task}
 use Rattle.reach_plan.proofs.PlaceFits.{joined_fits, step_joined, step_leads, step_takes}
 use Rattle.reach_plan.specs.LayerSets.{class_preimage}
-use Rattle.reach_plan.specs.declared.steps.Step.TheVariants.{Grow}
+use Rattle.slot_board.specs.declared.steps.Step.TheVariants.{Grow}
 use Rattle.reach_plan.proofs.SearchSteps.{hits_found, next_joined}
 use Rattle.reach_plan.proofs.retrace.grow_and_take.Goals as goal
 

@@ -6,8 +6,8 @@ use Rattle.slot_board.proofs.BoardSlots.{made_at, passed, same_actions, went}
 use Rattle.reach_plan.proofs.PlaceFits.{goal_copy_fits, goal_fits, may_step}
 use Rattle.reach_plan.specs.Searches.{HasProgress}
 use Rattle.reach_plan.specs.Steps.{after_steps, at_goal, goal_layer, untaken}
-use Rattle.reach_plan.specs.declared.steps.Step.{Step}
-use Rattle.reach_plan.specs.declared.steps.Step.TheVariants.{Grow}
+use Rattle.slot_board.specs.declared.steps.Step.{Step}
+use Rattle.slot_board.specs.declared.steps.Step.TheVariants.{Grow}
 use Rattle.reach_plan.proofs.SearchSteps.{after_one_more, at_first, copied_next, goal_live, step_passes}
 use Rattle.reach_plan.proofs.retrace.retrace.Goals as goal
 

@@ -6,7 +6,7 @@ use Rattle.slot_board.specs.Board.{Left}
 use Rattle.reach_plan.proofs.PlaceFits.{fits_small, step_advances}
 use Rattle.reach_plan.specs.Searches.{HasProgress, MayStep}
 use Rattle.reach_plan.specs.Steps.{after_step, is_step_of}
-use Rattle.reach_plan.specs.declared.steps.Step.{Step}
+use Rattle.slot_board.specs.declared.steps.Step.{Step}
 use Rattle.reach_plan.proofs.SearchSteps.{advanced}
 use Rattle.reach_plan.proofs.retrace.retrace_step.Goals as goal
 

@@ -3,7 +3,7 @@ use Rattle.std.proofs.Common.{◌≡◌, ◌++◌, [], ◌∷◌}
 use Rattle.std.proofs.lemmas.Result.{err_from_is_err_and}
 use Rattle.slot_board.proofs.BoardSlots.{passed, went}
 use Rattle.reach_plan.specs.Steps.{untaken}
-use Rattle.reach_plan.specs.declared.steps.Step.TheVariants.{Advance}
+use Rattle.slot_board.specs.declared.steps.Step.TheVariants.{Advance}
 use Rattle.reach_plan.proofs.PlaceFits.{fits_small}
 use Rattle.reach_plan.proofs.SearchSteps.{advanced, noted_then}
 use Rattle.reach_plan.proofs.search.advance.Goals as goal

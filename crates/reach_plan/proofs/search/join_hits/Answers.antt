@@ -2,7 +2,7 @@
 use Rattle.std.proofs.Common.{◌≡◌, ◌++◌, [], ◌∷◌, arith, length}
 use Rattle.std.proofs.lemmas.Result.{err_from_is_err_and}
 use Rattle.slot_board.proofs.BoardSlots.{passed, went}
-use Rattle.reach_plan.specs.declared.steps.Step.TheVariants.{Grow}
+use Rattle.slot_board.specs.declared.steps.Step.TheVariants.{Grow}
 use Rattle.reach_plan.specs.Steps.{untaken}
 use Rattle.reach_plan.proofs.PlaceFits.{grown_fits, joined_fits}
 use Rattle.reach_plan.proofs.SearchSteps.{joined_new, joined_none, noted_then}

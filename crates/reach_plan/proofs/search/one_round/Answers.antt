@@ -33,7 +33,7 @@ grow-requires-clause-ready c =
     let r = c.requires.ready in
     let mid = c.covers_initial.new.enc in
     let old = c.args.board.now.slots.items in
-    (r.0, r.2.f, r.2.h, begins_still c.args.class r.0 c.args.enc.now mid old r.2.f r.2.h c.args.steps.now.items c.args.spent.now.items c.requires.places (c.in_ok-covered.ensures.left r.0 r.2.begins.by_layer.at (test_fits c.args.class r.0 c.args.enc.now c.args.board.now.slots.items r.2.f untaken r.2.h r.2.begins.by_layer r.2.begins.known)) r.2.begins)
+    (r.0, r.1, r.2.f, r.2.h, begins_still c.args.class r.0 c.args.enc.now mid old r.2.f r.2.h c.args.steps.now.items c.args.spent.now.items c.requires.places (c.in_ok-covered.ensures.left r.0 r.2.begins.by_layer.at (test_fits c.args.class r.0 c.args.enc.now c.args.board.now.slots.items r.2.f untaken r.2.h r.2.begins.by_layer r.2.begins.known)) r.2.begins)
 
 pub grow-requires-clause-actions : goal.grow-requires-clause-actions
 grow-requires-clause-actions c =
@@ -47,7 +47,7 @@ returns-in_err-grow c start k ready =
     let mid = c.covers_initial.new.enc in
     let old = c.args.board.now.slots.items in
     let stays = begins_still c.args.class start c.args.enc.now mid old ready.f ready.h c.args.steps.now.items c.args.spent.now.items c.requires.places (c.in_ok-covered.ensures.left start ready.begins.by_layer.at (test_fits c.args.class start c.args.enc.now c.args.board.now.slots.items ready.f untaken ready.h ready.begins.by_layer ready.begins.known)) ready.begins in
-    passed_on start c.grow.new.enc c.grow.new.board.slots.items _ _ c.grow.result c.from_residual-in_err-grow.result _ c.in_err-grow.was p (c.grow.ensures start ready.f ready.h stays)
+    passed_on start c.grow.new.enc c.grow.new.board.slots.items _ _ c.grow.result c.from_residual-in_err-grow.result _ c.in_err-grow.was p (c.grow.ensures start k ready.f ready.h stays)
 
 pub is_same-requires-clause-working : goal.is_same-requires-clause-working
 is_same-requires-clause-working c =
@@ -55,7 +55,7 @@ is_same-requires-clause-working c =
     let mid = c.covers_initial.new.enc in
     let old = c.args.board.now.slots.items in
     let stays = begins_still c.args.class r.0 c.args.enc.now mid old r.2.f r.2.h c.args.steps.now.items c.args.spent.now.items c.requires.places (c.in_ok-covered.ensures.left r.0 r.2.begins.by_layer.at (test_fits c.args.class r.0 c.args.enc.now c.args.board.now.slots.items r.2.f untaken r.2.h r.2.begins.by_layer r.2.begins.known)) r.2.begins in
-    let grown = went r.0 c.grow.new.enc c.grow.new.board.slots.items _ c.grow.result _ c.in_ok-grow.was (c.grow.ensures r.0 r.2.f r.2.h stays) in
+    let grown = went r.0 c.grow.new.enc c.grow.new.board.slots.items _ c.grow.result _ c.in_ok-grow.was (c.grow.ensures r.0 r.1 r.2.f r.2.h stays) in
     (r.0, grown.by_next.by_layer.at)
 
 pub is_same-requires-clause-a : goal.is_same-requires-clause-a
@@ -64,7 +64,7 @@ is_same-requires-clause-a c =
     let mid = c.covers_initial.new.enc in
     let old = c.args.board.now.slots.items in
     let stays = begins_still c.args.class r.0 c.args.enc.now mid old r.2.f r.2.h c.args.steps.now.items c.args.spent.now.items c.requires.places (c.in_ok-covered.ensures.left r.0 r.2.begins.by_layer.at (test_fits c.args.class r.0 c.args.enc.now c.args.board.now.slots.items r.2.f untaken r.2.h r.2.begins.by_layer r.2.begins.known)) r.2.begins in
-    let grown = went r.0 c.grow.new.enc c.grow.new.board.slots.items _ c.grow.result _ c.in_ok-grow.was (c.grow.ensures r.0 r.2.f r.2.h stays) in
+    let grown = went r.0 c.grow.new.enc c.grow.new.board.slots.items _ c.grow.result _ c.in_ok-grow.was (c.grow.ensures r.0 r.1 r.2.f r.2.h stays) in
     let now : length c.grow.new.board.slots.items ≡ r.0.places = grown.by_next.by_layer.at.long in
     let was : length c.args.board.now.slots.items ≡ r.0.places = r.2.begins.by_layer.at.long in
     omega (arith, c.requires.places)
@@ -75,7 +75,7 @@ is_same-requires-clause-b c =
     let mid = c.covers_initial.new.enc in
     let old = c.args.board.now.slots.items in
     let stays = begins_still c.args.class r.0 c.args.enc.now mid old r.2.f r.2.h c.args.steps.now.items c.args.spent.now.items c.requires.places (c.in_ok-covered.ensures.left r.0 r.2.begins.by_layer.at (test_fits c.args.class r.0 c.args.enc.now c.args.board.now.slots.items r.2.f untaken r.2.h r.2.begins.by_layer r.2.begins.known)) r.2.begins in
-    let grown = went r.0 c.grow.new.enc c.grow.new.board.slots.items _ c.grow.result _ c.in_ok-grow.was (c.grow.ensures r.0 r.2.f r.2.h stays) in
+    let grown = went r.0 c.grow.new.enc c.grow.new.board.slots.items _ c.grow.result _ c.in_ok-grow.was (c.grow.ensures r.0 r.1 r.2.f r.2.h stays) in
     let now : length c.grow.new.board.slots.items ≡ r.0.places = grown.by_next.by_layer.at.long in
     let was : length c.args.board.now.slots.items ≡ r.0.places = r.2.begins.by_layer.at.long in
     omega (arith, c.requires.places)
@@ -86,7 +86,7 @@ advance-requires-clause-ready c =
     let mid = c.covers_initial.new.enc in
     let old = c.args.board.now.slots.items in
     let stays = begins_still c.args.class r.0 c.args.enc.now mid old r.2.f r.2.h c.args.steps.now.items c.args.spent.now.items c.requires.places (c.in_ok-covered.ensures.left r.0 r.2.begins.by_layer.at (test_fits c.args.class r.0 c.args.enc.now c.args.board.now.slots.items r.2.f untaken r.2.h r.2.begins.by_layer r.2.begins.known)) r.2.begins in
-    let grown = went r.0 c.grow.new.enc c.grow.new.board.slots.items _ c.grow.result _ c.in_ok-grow.was (c.grow.ensures r.0 r.2.f r.2.h stays) in
+    let grown = went r.0 c.grow.new.enc c.grow.new.board.slots.items _ c.grow.result _ c.in_ok-grow.was (c.grow.ensures r.0 r.1 r.2.f r.2.h stays) in
     let all : c.args.actions ≡ action_count r.0.task = c.requires.actions ∙ (made_at r.0 c.args.enc.now old r.2.begins.by_layer.at).actions in
     (r.0, _, _, grown.by_next, next_layer_small c.args.class r.0 r.2.f r.2.h c.args.actions grown.known (omega arith))
 
@@ -96,7 +96,7 @@ advance-requires-clause-places c =
     let mid = c.covers_initial.new.enc in
     let old = c.args.board.now.slots.items in
     let stays = begins_still c.args.class r.0 c.args.enc.now mid old r.2.f r.2.h c.args.steps.now.items c.args.spent.now.items c.requires.places (c.in_ok-covered.ensures.left r.0 r.2.begins.by_layer.at (test_fits c.args.class r.0 c.args.enc.now c.args.board.now.slots.items r.2.f untaken r.2.h r.2.begins.by_layer r.2.begins.known)) r.2.begins in
-    let grown = went r.0 c.grow.new.enc c.grow.new.board.slots.items _ c.grow.result _ c.in_ok-grow.was (c.grow.ensures r.0 r.2.f r.2.h stays) in
+    let grown = went r.0 c.grow.new.enc c.grow.new.board.slots.items _ c.grow.result _ c.in_ok-grow.was (c.grow.ensures r.0 r.1 r.2.f r.2.h stays) in
     let now : length c.grow.new.board.slots.items ≡ r.0.places = grown.by_next.by_layer.at.long in
     let was : length c.args.board.now.slots.items ≡ r.0.places = r.2.begins.by_layer.at.long in
     omega (arith, c.requires.places)
@@ -106,7 +106,7 @@ returns-then-is_same c start k ready =
     let mid = c.covers_initial.new.enc in
     let old = c.args.board.now.slots.items in
     let stays = begins_still c.args.class start c.args.enc.now mid old ready.f ready.h c.args.steps.now.items c.args.spent.now.items c.requires.places (c.in_ok-covered.ensures.left start ready.begins.by_layer.at (test_fits c.args.class start c.args.enc.now c.args.board.now.slots.items ready.f untaken ready.h ready.begins.by_layer ready.begins.known)) ready.begins in
-    let grown = went start c.grow.new.enc c.grow.new.board.slots.items _ c.grow.result _ c.in_ok-grow.was (c.grow.ensures start ready.f ready.h stays) in
+    let grown = went start c.grow.new.enc c.grow.new.board.slots.items _ c.grow.result _ c.in_ok-grow.was (c.grow.ensures start k ready.f ready.h stays) in
     let short = sym (covered_at c.args.class start c.args.enc.now old k c.args.steps.now.items c.args.spent.now.items c.in_ok-covered.covered ready (c.in_ok-covered.ensures.answer start ready.begins.by_layer.at)) ∙ c.if-covered.false in
     let all : c.args.actions ≡ action_count start.task = c.requires.actions ∙ (made_at start c.args.enc.now old ready.begins.by_layer.at).actions in
     is_still c.preimages_lead_into_their_sets.ensures.weak c.preimages_lead_into_their_sets.ensures.strong c.args.class start c.grow.new.enc c.grow.new.board.slots.items k c.args.actions ready.f ready.h c.grow.new.steps.items c.grow.new.spent.items ready.round short all grown
@@ -118,7 +118,7 @@ returns-in_err-advance c start k ready =
     let mid = c.covers_initial.new.enc in
     let old = c.args.board.now.slots.items in
     let stays = begins_still c.args.class start c.args.enc.now mid old ready.f ready.h c.args.steps.now.items c.args.spent.now.items c.requires.places (c.in_ok-covered.ensures.left start ready.begins.by_layer.at (test_fits c.args.class start c.args.enc.now c.args.board.now.slots.items ready.f untaken ready.h ready.begins.by_layer ready.begins.known)) ready.begins in
-    let grown = went start c.grow.new.enc c.grow.new.board.slots.items _ c.grow.result _ c.in_ok-grow.was (c.grow.ensures start ready.f ready.h stays) in
+    let grown = went start c.grow.new.enc c.grow.new.board.slots.items _ c.grow.result _ c.in_ok-grow.was (c.grow.ensures start k ready.f ready.h stays) in
     let all : c.args.actions ≡ action_count start.task = c.requires.actions ∙ (made_at start c.args.enc.now old ready.begins.by_layer.at).actions in
     passed_on start c.advance.new.enc c.advance.new.board.slots.items _ _ c.advance.result c.from_residual-in_err-advance.result _ c.in_err-advance.was p (c.advance.ensures start _ _ grown.by_next (next_layer_small c.args.class start ready.f ready.h c.args.actions grown.known (omega arith)))
 
@@ -127,7 +127,7 @@ returns c start k ready =
     let mid = c.covers_initial.new.enc in
     let old = c.args.board.now.slots.items in
     let stays = begins_still c.args.class start c.args.enc.now mid old ready.f ready.h c.args.steps.now.items c.args.spent.now.items c.requires.places (c.in_ok-covered.ensures.left start ready.begins.by_layer.at (test_fits c.args.class start c.args.enc.now c.args.board.now.slots.items ready.f untaken ready.h ready.begins.by_layer ready.begins.known)) ready.begins in
-    let grown = went start c.grow.new.enc c.grow.new.board.slots.items _ c.grow.result _ c.in_ok-grow.was (c.grow.ensures start ready.f ready.h stays) in
+    let grown = went start c.grow.new.enc c.grow.new.board.slots.items _ c.grow.result _ c.in_ok-grow.was (c.grow.ensures start k ready.f ready.h stays) in
     let short = sym (covered_at c.args.class start c.args.enc.now old k c.args.steps.now.items c.args.spent.now.items c.in_ok-covered.covered ready (c.in_ok-covered.ensures.answer start ready.begins.by_layer.at)) ∙ c.if-covered.false in
     let all : c.args.actions ≡ action_count start.task = c.requires.actions ∙ (made_at start c.args.enc.now old ready.begins.by_layer.at).actions in
     is_more c.preimages_lead_into_their_sets.ensures.weak c.preimages_lead_into_their_sets.ensures.strong c.args.class start c.grow.new.enc c.grow.new.board.slots.items k c.args.actions ready.f ready.h c.grow.new.steps.items c.grow.new.spent.items ready.round short all grown

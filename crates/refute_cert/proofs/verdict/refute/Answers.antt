@@ -4,7 +4,7 @@ use Rattle.std.specs.Prelude.{IsSome}
 use Rattle.dd_sets.proofs.NoRoomLemmas.{no_room_tight}
 use Rattle.dd_sets.proofs.RoomSteps.{room_wider}
 use Rattle.encode_task.specs.Slots.{Encoded}
-use Rattle.plan_certs.specs.Named.{plain_of, set_of}
+use Rattle.plan_certs.specs.Named.{plain_certificate, set_of}
 use Rattle.preimage.proofs.FrameSteps.{made_now}
 use Rattle.refute_cert.specs.Judgements.{IsVerdict, judgement}
 use Rattle.refute_cert.specs.Sizes.{JudgeFits}
@@ -56,7 +56,7 @@ returns-clause-verdict c =
     let opened = c.in_ok-board.ensures.opened c.args.task.now c.requires.made 0 (2 ^ fluent_count c.args.task.now + 1) (large_fits c.args.certificate.now.class c.args.task.now (map set_of c.args.certificate.now.sets.items)).wide (2 ∷ 4 ∷ []) in
     let fits = subst (JudgeFits start class) (sym eq) (judge_fits start class sets (board_of c.args.task.now c.args.enc.now c.requires.made (2 ^ fluent_count c.args.task.now + 1) (large_fits c.args.certificate.now.class c.args.task.now (map set_of c.args.certificate.now.sets.items)).wide) c.requires.in_task (large_fits c.args.certificate.now.class c.args.task.now (map set_of c.args.certificate.now.sets.items))) in
     ok_with start c.judge-judged.new.enc c.judge-judged.new.board.slots.items _ _ c.judge-judged.result
-    (λ judged done. subst (IsVerdict (system_of c.args.task.now) (plain_of c.args.certificate.now)) (sym (done.1 ∙ ap (judgement class c.args.task.now) eq)) (verdict_is c.args.task.now (plain_of c.args.certificate.now) c.requires.in_task c.requires.goal))
+    (λ judged done. subst (IsVerdict (system_of c.args.task.now) (plain_certificate c.args.certificate.now)) (sym (done.1 ∙ ap (judgement class c.args.task.now) eq)) (verdict_is c.args.task.now (plain_certificate c.args.certificate.now) c.requires.in_task c.requires.goal))
     (c.judge-judged.ensures start opened.at fits)
 
 pub returns-clause-full : goal.returns-clause-full
@@ -71,9 +71,19 @@ returns-clause-full c full =
     (room_wider c.args.enc.now.sets (5 + 0 + 8) 24 6 6 (omega arith) (omega arith)
     (c.close.ensures.room c.args.enc.now.sets (2 ^ fluent_count c.args.task.now + 1) _ _ (full_at start c.judge-judged.new.enc c.judge-judged.new.board.slots.items _ c.judge-judged.result (c.judge-judged.ensures start opened.at fits) full)))
 
+pub returns-clause-at_limit : goal.returns-clause-at_limit
+returns-clause-at_limit c full =
+    let sets = map set_of c.args.certificate.now.sets.items in
+    let class = c.args.certificate.now.class in
+    let eq : map set_of c.deref.result.now ≡ sets = ap (map set_of) c.deref.ensures.value in
+    let start = start_of c.args.task.now c.args.enc.now c.requires.made (2 ^ fluent_count c.args.task.now + 1) (large_fits c.args.certificate.now.class c.args.task.now (map set_of c.args.certificate.now.sets.items)).wide in
+    let opened = c.in_ok-board.ensures.opened c.args.task.now c.requires.made 0 (2 ^ fluent_count c.args.task.now + 1) (large_fits c.args.certificate.now.class c.args.task.now (map set_of c.args.certificate.now.sets.items)).wide (2 ∷ 4 ∷ []) in
+    let fits = subst (JudgeFits start class) (sym eq) (judge_fits start class sets (board_of c.args.task.now c.args.enc.now c.requires.made (2 ^ fluent_count c.args.task.now + 1) (large_fits c.args.certificate.now.class c.args.task.now (map set_of c.args.certificate.now.sets.items)).wide) c.requires.in_task (large_fits c.args.certificate.now.class c.args.task.now (map set_of c.args.certificate.now.sets.items))) in
+    (c.close.ensures.room c.args.enc.now.sets (2 ^ fluent_count c.args.task.now + 1) _ _ (full_at start c.judge-judged.new.enc c.judge-judged.new.board.slots.items _ c.judge-judged.result (c.judge-judged.ensures start opened.at fits) full)).at_limit
+
 pub returns-clause-full_by_sets : goal.returns-clause-full_by_sets
 returns-clause-full_by_sets c full order w wide =
-    room_by_sets w c.args.task.now (plain_of c.args.certificate.now) wide c.args.enc.now.sets c.close.new.enc.sets
+    room_by_sets w c.args.task.now (plain_certificate c.args.certificate.now) wide c.args.enc.now.sets c.close.new.enc.sets
     (λ r sizes.
     let sets = map set_of c.args.certificate.now.sets.items in
     let class = c.args.certificate.now.class in

@@ -1,7 +1,7 @@
 use Rattle.std.proofs.Common.{sym}
 use Rattle.task_core.specs.States.{vector}
 use Rattle.task_core.specs.Tasks.{fluent_count, system_of}
-use Rattle.run_replay.proofs.TurnLemmas.{executes}
+use Rattle.plan_rules.proofs.DenotedPairs.{executes}
 use Rattle.run_replay.proofs.turns.is_executable.Goals as goal
 
 pub returns-clause-value : goal.returns-clause-value

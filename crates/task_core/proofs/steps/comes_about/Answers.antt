@@ -1,20 +1,18 @@
 use Rattle.std.proofs.Common.{Bool, ◌&&◌, ◌∙◌, ap, sym}
-use Rattle.std.specs.List.{list_any}
+use Rattle.std.specs.List.{list_all, list_any}
+use Rattle.std.proofs.lemmas.Bool.{and_parts}
 use Rattle.task_core.specs.Conditions.{ids_below}
 use Rattle.task_core.specs.Initial.{lit_within, names_it}
 use Rattle.task_core.specs.States.{truth}
 use Rattle.task_core.specs.Vectors.{same_value}
 use Rattle.task_core.specs.declared.literals.Lit.{Lit}
-use Rattle.task_core.proofs.Changes.{asked_of_each, comes_not, unsigned}
+use Rattle.task_core.proofs.Changes.{comes_not, unsigned}
 use Rattle.task_core.proofs.steps.comes_about.Goals as goal
 
 pub cond_holds-requires : goal.cond_holds-requires
 cond_holds-requires c =
     let x = c.args.change.now in
-    let p = c.args.positive in
-    let of_sign : Lit → Bool = λ lit. same_value lit.positive p in
-    asked_of_each of_sign (lit_within 256) (ids_below 256 x.cond) x.lits.items
-    (ap (list_any of_sign) (sym c.deref.ensures.value) ∙ sym c.has_sign.ensures ∙ c.if-has_sign.true) c.requires.within
+    (and_parts (ids_below 256 x.cond) (list_all (lit_within 256) x.lits.items) c.requires.within).0
 
 pub returns-else-has_sign : goal.returns-else-has_sign
 returns-else-has_sign c = λ f.

@@ -13,7 +13,7 @@ invariant_of-result c =
       empty_arena cells buckets c.in_ok-with_capacity.ensures.items c.in_ok-new_buckets.ensures.one
           (subst (λ n. n ≤ 16777216) (sym exact) c.requires.small_limit)
           (omega arith)
-          c.in_ok-new_buckets.ensures.bound,
+          (omega (arith, c.in_ok-new_buckets.ensures.bound, c.requires.small_limit)),
       exact,
       c.in_ok-with_capacity-2.ensures.exact,
     )

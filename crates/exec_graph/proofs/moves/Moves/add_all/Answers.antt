@@ -14,16 +14,16 @@ use Rattle.cube_index.specs.Index.{IsIndexOf}
 use Rattle.exec_graph.specs.ByContext.{IsRuleIndexOf, cubes_of}
 use Rattle.exec_graph.specs.Counting.{IsRuleWithin, first_matching, moves_by, moves_from}
 use Rattle.plan_rules.specs.Advices.{advice_value, advised_by}
-use Rattle.exec_graph.proofs.PlanCubes.{unmapped}
 use Rattle.exec_graph.proofs.RuleLists.{first_kept, kept_within}
 use Rattle.exec_graph.proofs.moves.Moves.add_all.Goals as goal
+use Rattle.list_laws.proofs.Elements.{All-unmap}
 
 pub add_table-requires-clause-in_task : goal.add_table-requires-clause-in_task
 add_table-requires-clause-in_task c =
     let n = fluent_count c.args.task.now in
     let m = action_count c.args.task.now in
     subst (All (λ (rule : Rule). IsRuleOf n m (rule_of rule))) (sym c.deref.ensures.value)
-    (unmapped (IsRuleOf n m) rule_of c.in-Table.table.rules.items (subst (IsPlanOf n m) c.in-Table.is c.requires.plan_of_task))
+    (All-unmap (IsRuleOf n m) rule_of c.in-Table.table.rules.items (subst (IsPlanOf n m) c.in-Table.is c.requires.plan_of_task))
 
 pub add_table-requires-clause-index : goal.add_table-requires-clause-index
 add_table-requires-clause-index c =

@@ -9,8 +9,8 @@ use Rattle.plan_rules.specs.declared.rules.AutoRule.{AutoRule}
 use Rattle.exec_graph.specs.ByContext.{rules_in}
 use Rattle.exec_graph.specs.Counting.{IsRuleWithin, first_matching}
 use Rattle.plan_rules.specs.Advices.{advised_by}
-use Rattle.exec_graph.proofs.PlanCubes.{unmapped}
 use Rattle.exec_graph.proofs.rules.ByContext.rule_at.Goals as goal
+use Rattle.list_laws.proofs.Elements.{All-unmap}
 
 pub first_match-requires : goal.first_match-requires
 first_match-requires c =
@@ -27,7 +27,7 @@ first_match-requires c =
     let each = subst (All (λ (rule : AutoRule). IsRuleWithin n m (context_rule_of rule))) there c.requires.in_task in
     record {
       in_task = subst (All (λ rule. IsRuleWithin n m (context_rule_of rule.now))) (sym c.deref-in-Some.ensures.value)
-          (unmapped (λ (rule : AutoRule). IsRuleWithin n m (context_rule_of rule)) (λ rule. rule.now) found.items each);
+          (All-unmap (λ (rule : AutoRule). IsRuleWithin n m (context_rule_of rule)) (λ rule. rule.now) found.items each);
     }
 
 pub returns-in-Some-clause-counts : goal.returns-in-Some-clause-counts

@@ -8,10 +8,11 @@ use Rattle.task_core.specs.declared.literals.Lit.{Lit}
 use Rattle.cube_index.specs.Index.{AreLits}
 use Rattle.plan_guide.specs.declared.rules.GuideRule.{GuideRule}
 use Rattle.plan_guide.proofs.ByContext.{sorted_denotes}
-use Rattle.plan_guide.proofs.InTask.{lits_mapped, ready_lits, unmapped}
+use Rattle.plan_guide.proofs.InTask.{lits_mapped, ready_lits}
 use Rattle.plan_guide.specs.Guides.{IsReady}
 use Rattle.task_core.specs.Tasks.{action_count, fluent_count}
 use Rattle.plan_guide.proofs.guides.Guide.of_rules.Goals as goal
+use Rattle.list_laws.proofs.Elements.{All-unmap}
 
 pub new-requires : goal.new-requires
 new-requires c =
@@ -21,7 +22,7 @@ new-requires c =
     let m = action_count c.args.task.now in
     let all : All fits c.sort_by_key.new.self.items = All-permutation fits _ _ c.in_ok-sort_by_key.ensures.permutation (ready_lits n m c.args.rules.items c.args.task.now.few_fluents c.requires) in
     subst (All (λ (cube : Bor (List Lit)). AreLits cube.now)) (sym c.deref-2.ensures.value)
-    (unmapped AreLits seen c.in_ok-cubes.cubes.items
+    (All-unmap AreLits seen c.in_ok-cubes.cubes.items
     (lits_mapped (λ (rule : GuideRule). rule.cube.now) c.deref.result.now _ c.in_ok-cubes.ensures (subst (All fits) (sym c.deref.ensures.value) all)))
 
 pub returns-clause-same : goal.returns-clause-same

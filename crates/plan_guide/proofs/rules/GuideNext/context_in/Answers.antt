@@ -2,8 +2,8 @@ use Rattle.std.proofs.Common.{subst}
 use Rattle.task_core.specs.Tasks.{fluent_count}
 use Rattle.plan_rules.specs.Advices.{AreCasesOf}
 use Rattle.plan_guide.specs.GuideRules.{next_value}
-use Rattle.plan_guide.proofs.InTask.{cubes_of_cases}
 use Rattle.plan_guide.proofs.rules.GuideNext.context_in.Goals as goal
+use Rattle.plan_rules.proofs.CaseCubes.{cubes_of_cases}
 
 pub context_in-requires-clause-in_task : goal.context_in-requires-clause-in_task
 context_in-requires-clause-in_task c =

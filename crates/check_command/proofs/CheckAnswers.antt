@@ -1,0 +1,198 @@
+-- The verdict on a plan of a task is that for the domain and the problem that the task comes from.
+use Rattle.std.proofs.Common.{◌≡◌, ◌⊎◌, ◌↔◌, List, inl, inr, refl, sym, subst, ap, ◌∙◌, None, Some, Option, true, []}
+use Rattle.std.specs.Option.{option_map}
+use Rattle.ctl_syntax.specs.Conditions.{condition_value}
+use Rattle.ctl_syntax.specs.Values.{ctl_value}
+use Rattle.ctl_syntax.specs.declared.goals.Ctl.{Ctl}
+use Rattle.exec_graph.specs.Executions.{ReachesMoreThan}
+use Rattle.exec_graph.specs.Initials.{HasTooManyInitial}
+use Rattle.pddl_ast.specs.Trees.{DomainTree, FormulaTree, ProblemTree, TemporalTree}
+use Rattle.pddl_system.specs.CtlGoals.{ctl_goal_of, goal_value, grounded_goal}
+use Rattle.pddl_system.specs.Fluents.{fluents}
+use Rattle.pddl_system.specs.Laws.{GroundedGoalsAreTrue}
+use Rattle.pddl_system.specs.Settings.{setting}
+use Rattle.pddl_system.specs.Sizes.{first_passed}
+use Rattle.pddl_system.specs.Systems.{action_names, fluent_names, system}
+use Rattle.pddl_system.specs.Tasks.{TaskTree, condition_of, task_of}
+use Rattle.pddl_system.specs.Values.{task_value}
+use Rattle.plan_check.specs.Verdicts.{IsVerdict}
+use Rattle.plan_check.specs.ContextVerdicts.{IsContextVerdict, IsTrueAt, IsFreeOfContextReason, HasContextReason}
+use Rattle.plan_check.specs.declared.verdicts.Reason.{Reason}
+use Rattle.plan_check.specs.declared.verdicts.Reason.TheVariants.{Unexecutable, Stuck, Terminal, Cycle, Unreachable, Formula}
+use Rattle.plan_check.specs.declared.verdicts.Verdict.{Verdict}
+use Rattle.plan_check.specs.declared.verdicts.Verdict.TheVariants.{Yes, No}
+use Rattle.plan_io.specs.Held.{Held}
+use Rattle.plan_rules.specs.Denoted.{denoted_contexts}
+use Rattle.plan_rules.specs.Rules.{PlainPlan, table, automaton}
+use Rattle.sexpr_text.specs.declared.forms.Place.{Place}
+use Rattle.task_core.specs.ContextPlans.{Configuration, ContextPlan}
+use Rattle.task_core.specs.Names.{Name}
+use Rattle.task_core.specs.Systems.{System}
+use Rattle.task_core.specs.Tasks.{action_names as names_of_actions, fluent_names as names_of_fluents, initial_states, system_of}
+use Rattle.task_core.specs.declared.tasks.Task.{Task}
+use Rattle.command_base.specs.Answers.{Answer, Refusal, refused, no_memory}
+use Rattle.check_command.specs.CheckCommand.{CheckThen, ExploreThen, IsChecked, IsVerdictOf, ShowsVerdict, VerdictThen}
+use Rattle.command_base.specs.Following.{HasTooManyStates, most_followed}
+use Rattle.command_base.specs.Grounding.{GoalThen, GroundThen, has_goal_for}
+use Rattle.command_base.specs.InitialStates.{InitialThen, empty_init}
+use Rattle.check_command.specs.Judged.{HasGoalIn, IsTaskVerdict}
+use Rattle.command_base.specs.PlanFiles.{IsFaultyPlan, KindThen, PlacedPlan, SpellsPlaced}
+use Rattle.command_base.specs.Reading.{Holds, IsRefusedFile}
+use Rattle.plan_meets.specs.TemporalGoals.{HasGoal}
+use Rattle.command_base.specs.Words.{Bytes, CheckWords, PlanKind, of_class, with_contexts}
+use Rattle.command_base.proofs.Initials.{initial_over}
+use Rattle.command_base.proofs.Later.{read_over}
+use Rattle.command_base.proofs.TaskNames.{same_actions, same_fluents}
+use Rattle.command_base.proofs.TooMany.{too_many as too_many_states, too_many_back as too_many_states_back}
+use Rattle.command_base.proofs.TaskGoals.{goal_behind, has_some, has_some_back}
+
+-- the same from what follows
+goal_map : (kind : PlanKind) (name : Bytes) (problem : ProblemTree) (P Q : Answer → Type 0) (a : Answer) → (P a → Q a) → GoalThen kind name problem P a → GoalThen kind name problem Q a
+goal_map kind name problem P Q a f (inl why) = inl why
+goal_map kind name problem P Q a f (inr (some, then)) = inr (some, f then)
+
+ground_map : (d : DomainTree) (p : ProblemTree) (P Q : Answer → Type 0) (a : Answer) → (P a → Q a) → GroundThen d p P a → GroundThen d p Q a
+ground_map d p P Q a f (inl why) = inl why
+ground_map d p P Q a f (inr (kept, then)) = inr (kept, f then)
+
+kind_map : (kind : PlanKind) (name : Bytes) (place : Place) (plan : PlainPlan) (P Q : Answer → Type 0) (a : Answer)
+    → (P a → Q a) → KindThen kind name place plan P a → KindThen kind name place plan Q a
+kind_map kind name place plan P Q a f (inl why) = inl why
+kind_map kind name place plan P Q a f (inr (is, then)) = inr (is, f then)
+
+-- what is said from a later state of the shelf holds from the command's start
+checked_over : (held held' : Bytes → Held) (failed failed' : Bytes → Type 0) (asked : CheckWords) (d : DomainTree) (p : ProblemTree) (a : Answer)
+    → ((file : Bytes) → held' file ≡ held file) → (failed' asked.plan → failed asked.plan) → IsChecked held' failed' asked d p a → IsChecked held failed asked d p a
+checked_over held held' failed failed' asked d p a same over =
+    goal_map asked.kind asked.problem p (GroundThen d p (CheckThen held' failed' asked d p)) (GroundThen d p (CheckThen held failed asked d p)) a
+    (ground_map d p (CheckThen held' failed' asked d p) (CheckThen held failed asked d p) a
+    (read_over held held' failed failed' asked.plan (SpellsPlaced (fluent_names d p) (action_names d p)) (IsFaultyPlan (fluent_names d p) (action_names d p))
+    (λ placed. KindThen asked.kind asked.plan placed.place placed.plan
+    (ExploreThen (HasTooManyStates d p) (system d p) placed.plan (VerdictThen asked d p placed.plan))) a same over))
+
+pub checked_later : (held held' : Bytes → Held) (failed failed' : Bytes → Type 0) (asked : CheckWords) (d : DomainTree) (p : ProblemTree) (a : Answer)
+    → ((file : Bytes) → held' file ≡ held file) → (failed' asked.plan → failed asked.plan)
+    → (a ≡ refused no_memory) ⊎ IsChecked held' failed' asked d p a → (a ≡ refused no_memory) ⊎ IsChecked held failed asked d p a
+checked_later held held' failed failed' asked d p a same over (inl memory) = inl memory
+checked_later held held' failed failed' asked d p a same over (inr is) = inr (checked_over held held' failed failed' asked d p a same over is)
+
+pub too_many : (d : DomainTree) (p : ProblemTree) (t : Task) → task_value t ≡ task_of d p → HasTooManyInitial t most_followed → HasTooManyStates d p
+too_many d p t is many = too_many_states d p t is many.entries many.first many.more
+
+pub too_many_back : (d : DomainTree) (p : ProblemTree) (t : Task) → task_value t ≡ task_of d p → HasTooManyStates d p → HasTooManyInitial t most_followed
+too_many_back d p t is many =
+    let back = too_many_states_back d p t is many in
+    record { entries = many.entries; first = back.0; more = back.1 }
+
+-- a verdict for one property of configurations is that for another that holds at the same ones
+module _ (sys : System) (plan : ContextPlan) (G H : Configuration → Type 0) (same : (x : Configuration) → G x ↔ H x) where
+  free_carried : (reason : Reason) → IsFreeOfContextReason sys plan G reason → IsFreeOfContextReason sys plan H reason
+  free_carried Unexecutable free = free
+  free_carried Stuck free = free
+  free_carried Terminal free = free
+  free_carried Cycle free = free
+  free_carried Unreachable free = free
+  free_carried Formula free = λ x initial. (same x).0 (free x initial)
+
+  reason_carried : (reason : Reason) → HasContextReason sys plan G reason → HasContextReason sys plan H reason
+  reason_carried Unexecutable has = has
+  reason_carried Stuck has = has
+  reason_carried Terminal has = has
+  reason_carried Cycle has = has
+  reason_carried Unreachable has = has
+  reason_carried Formula has = record { start = has.start; initial = has.initial; misses = λ h. has.misses ((same has.start).1 h) }
+
+  verdict_carried : (verdict : Verdict) → IsContextVerdict sys plan G verdict → IsContextVerdict sys plan H verdict
+  verdict_carried (Yes bound) is = record { free = λ reason. free_carried reason (is.free reason); unbounded = is.unbounded }
+  verdict_carried (No reason) is = record { has = reason_carried reason is.has; first = λ earlier before. free_carried earlier (is.first earlier before) }
+
+-- the verdict on a plan of a task is that for the domain and the problem
+context_verdict_for : GroundedGoalsAreTrue → (d : DomainTree) (p : ProblemTree) (sys : System) (formula : Ctl) (plan : ContextPlan) (v : Verdict) → sys ≡ system d p
+    → Some (goal_value formula) ≡ ctl_goal_of d p → IsContextVerdict sys plan (IsTrueAt sys plan (ctl_value formula)) v
+    → (goal : TemporalTree) × (p.ctl ≡ Some goal) × IsContextVerdict (system d p) plan (HasGoal d p plan goal) v
+context_verdict_for law d p sys formula plan v same stands verdict =
+    let behind = goal_behind d p formula p.ctl stands in
+    let here = subst (λ (s : System). IsContextVerdict s plan (IsTrueAt s plan (ctl_value formula)) v) same verdict in (
+      behind.0,
+      behind.1,
+      verdict_carried (system d p) plan (IsTrueAt (system d p) plan (ctl_value formula)) (HasGoal d p plan behind.0)
+          (λ x. law d p behind.0 (ctl_value formula) (system d p) plan x behind.2) v here,
+    )
+
+pub verdict_for : GroundedGoalsAreTrue → (kind : PlanKind) (d : DomainTree) (p : ProblemTree) (t : Task) (goal : Option Ctl) (plan : PlainPlan) (v : Verdict)
+    → system_of t ≡ system d p → option_map goal_value goal ≡ ctl_goal_of d p → IsTaskVerdict kind t goal plan v → IsVerdictOf kind d p plan v
+verdict_for law (of_class class) d p t goal (table written rules) v same stands verdict = subst (λ (s : System). IsVerdict s rules class v) same verdict
+verdict_for law (of_class class) d p t goal (automaton contexts rules) v same stands never = absurd never
+verdict_for law with_contexts d p t goal (table written rules) v same stands never = absurd never
+verdict_for law with_contexts d p t goal (automaton contexts rules) v same stands (formula, is, verdict) =
+    context_verdict_for law d p (system_of t) formula (denoted_contexts rules) v same
+    (ap (λ (g : Option Ctl). option_map goal_value g) (sym is) ∙ stands) verdict
+
+shown_for : (Of Of' : Verdict → Type 0) (a : Answer) → ((v : Verdict) → Of v → Of' v) → ShowsVerdict Of a → ShowsVerdict Of' a
+shown_for Of Of' a f (v, of, is) = (v, f v of, is)
+
+pub explored : (X Y : Type 0) (sys sys' : System) (plan : PlainPlan) (P Q : Answer → Type 0) (a : Answer) → (X → Y) → (Y → X) → sys ≡ sys' → (P a → Q a)
+    → ExploreThen X sys plan P a → ExploreThen Y sys' plan Q a
+explored X Y sys sys' plan P Q a to from same f (inl (many, is)) = inl (to many, is)
+explored X Y sys sys' plan P Q a to from same f (inr (inl (few, more, is))) =
+    inr (inl (λ many. few (from many), subst (λ (s : System). ReachesMoreThan s plan most_followed) same more, is))
+explored X Y sys sys' plan P Q a to from same f (inr (inr (few, small, then))) =
+    inr (inr (
+      λ many. few (from many),
+      λ more. small (subst (λ (s : System). ReachesMoreThan s plan most_followed) (sym same) more),
+      f then,
+    ))
+
+-- the file of the plan is refused
+pub plan_refused : (held : Bytes → Held) (failed : Bytes → Type 0) (asked : CheckWords) (d : DomainTree) (p : ProblemTree) (t : Task) (r : Refusal)
+    → task_value t ≡ task_of d p → first_passed d p ≡ None → has_goal_for asked.kind p ≡ true
+    → (r ≡ no_memory) ⊎ IsRefusedFile held failed (IsFaultyPlan (names_of_fluents t) (names_of_actions t)) asked.plan r
+    → (refused r ≡ refused no_memory) ⊎ IsChecked held failed asked d p (refused r)
+plan_refused held failed asked d p t r is within goal (inl memory) = inl (ap refused memory)
+plan_refused held failed asked d p t r is within goal (inr why) =
+    let fluents_named = subst (λ (ns : List Name). IsRefusedFile held failed (IsFaultyPlan ns (names_of_actions t)) asked.plan r) (same_fluents d p t is) why in
+    let named = subst (λ (ns : List Name). IsRefusedFile held failed (IsFaultyPlan (fluent_names d p) ns) asked.plan r) (same_actions d p t is) fluents_named in
+    inr (inr (goal, inr (within, inl (r, refl, named))))
+
+-- the answer for a plan that was read
+pub checked_answer : GroundedGoalsAreTrue → (held : Bytes → Held) (failed : Bytes → Type 0) (asked : CheckWords) (d : DomainTree) (p : ProblemTree) (t : Task) (goal : Option Ctl)
+    (placed : PlacedPlan) (a : Answer) → task_value t ≡ task_of d p → system_of t ≡ system d p → option_map goal_value goal ≡ ctl_goal_of d p
+    → first_passed d p ≡ None → has_goal_for asked.kind p ≡ true
+    → Holds held (SpellsPlaced (names_of_fluents t) (names_of_actions t)) asked.plan placed
+    → (a ≡ refused no_memory) ⊎ KindThen asked.kind asked.plan placed.place placed.plan
+    (ExploreThen (HasTooManyInitial t most_followed) (system_of t) placed.plan
+    (InitialThen (empty_init asked.problem p) (initial_states t) (ShowsVerdict (IsTaskVerdict asked.kind t goal placed.plan)))) a
+    → (a ≡ refused no_memory) ⊎ IsChecked held failed asked d p a
+checked_answer law held failed asked d p t goal placed a is system_is stands within some holds (inl memory) = inl memory
+checked_answer law held failed asked d p t goal placed a is system_is stands within some holds (inr then) =
+    let fluents_named = subst (λ (ns : List Name). Holds held (SpellsPlaced ns (names_of_actions t)) asked.plan placed) (same_fluents d p t is) holds in
+    let named = subst (λ (ns : List Name). Holds held (SpellsPlaced (fluent_names d p) ns) asked.plan placed) (same_actions d p t is) fluents_named in
+    let Of : Verdict → Type 0 = IsTaskVerdict asked.kind t goal placed.plan in
+    let Of' : Verdict → Type 0 = IsVerdictOf asked.kind d p placed.plan in
+    let empty = empty_init asked.problem p in
+    let Then : Answer → Type 0 = InitialThen empty (initial_states t) (ShowsVerdict Of) in
+    inr (inr (
+      some,
+      inr (
+        within,
+        inr (
+          placed,
+          named,
+          kind_map asked.kind asked.plan placed.place placed.plan
+              (ExploreThen (HasTooManyInitial t most_followed) (system_of t) placed.plan Then)
+              (ExploreThen (HasTooManyStates d p) (system d p) placed.plan (VerdictThen asked d p placed.plan)) a
+              (explored (HasTooManyInitial t most_followed) (HasTooManyStates d p) (system_of t) (system d p) placed.plan Then (VerdictThen asked d p placed.plan) a
+              (too_many d p t is) (too_many_back d p t is) system_is
+              (initial_over empty (initial_states t) (system d p).initial (ShowsVerdict Of) (ShowsVerdict Of') a (ap (λ (s : System). s.initial) system_is)
+              (shown_for Of Of' a (λ v. verdict_for law asked.kind d p t goal placed.plan v system_is stands)))) then,
+        ),
+      ),
+    ))
+
+pub goal_in : (kind : PlanKind) (d : DomainTree) (p : ProblemTree) (t : Task) (goal : Option Ctl) → task_value t ≡ task_of d p → option_map goal_value goal ≡ ctl_goal_of d p
+    → has_goal_for kind p ≡ true → HasGoalIn kind t goal
+goal_in (of_class class) d p t goal is stands some =
+    has_some_back condition_value t.goal
+    (has_some (λ (f : FormulaTree). condition_of (setting d p) (fluents d p) f []) p.goal (task_value t).goal (ap (λ (x : TaskTree). x.goal) is) some)
+goal_in with_contexts d p t goal is stands some =
+    has_some_back goal_value goal (has_some (grounded_goal (setting d p) (fluents d p)) p.ctl (option_map goal_value goal) stands some)

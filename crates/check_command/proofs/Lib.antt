@@ -1,0 +1,4 @@
+pub mod CheckAnswers
+pub mod CheckDecides
+pub mod YesMeets
+pub mod ReachedStates

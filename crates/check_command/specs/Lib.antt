@@ -1,0 +1,2 @@
+pub mod CheckCommand
+pub mod Judged

@@ -1,0 +1,273 @@
+//! The command `check`.
+
+ghost use Rattle.check_command.specs.CheckCommand.{
+  ExploreThen,
+  IsCheckAnswer,
+  IsChecked,
+  ShowsVerdict,
+  verdict_answer,
+  FetchesToCheck,
+};
+ghost use Rattle.check_command.specs.Judged.{HasGoalIn, IsTaskVerdict};
+ghost use Rattle.command_base.specs.Answers.{no_memory, refused};
+ghost use Rattle.command_base.specs.Faults.{IsQuietAt};
+ghost use Rattle.command_base.specs.Fetching.{Stops};
+ghost use Rattle.command_base.specs.Following.{most_followed};
+ghost use Rattle.command_base.specs.Grounding.{GoalThen, GroundThen, has_goal_for};
+ghost use Rattle.command_base.specs.InitialStates.{InitialThen, empty_init};
+ghost use Rattle.command_base.specs.PlanFiles.{KindThen, is_of_kind};
+ghost use Rattle.command_base.specs.Values.{
+  answer_of,
+  check_words_of,
+  kind_of,
+  placed_of,
+  shown_of,
+};
+ghost use Rattle.command_base.specs.Words.{with_contexts};
+ghost use Rattle.ctl_syntax.specs.Values.{NamesBelow, ctl_value};
+ghost use Rattle.exec_graph.specs.Graphs.{IsGraphOf};
+ghost use Rattle.exec_graph.specs.Initials.{HasTooManyInitial};
+ghost use Rattle.exec_graph.specs.Values.{plain_graph};
+ghost use Rattle.pddl_ast.specs.Fits.{FitsDomain, FitsProblem};
+ghost use Rattle.pddl_ast.specs.Values.{domain_value, problem_value};
+ghost use Rattle.pddl_system.specs.Names.{NamesAreWords};
+ghost use Rattle.pddl_system.specs.Sizes.{first_passed};
+ghost use Rattle.plan_io.specs.Fetches.{FailedLast, Fetches};
+ghost use Rattle.plan_rules.specs.Plans.{IsPlanOf};
+ghost use Rattle.plan_rules.specs.Rules.{ContextRule, PlainPlan, automaton, plain_of};
+ghost use Rattle.std.specs.Prelude.{
+  ◌≡◌,
+  ◌≤◌,
+  ◌⊎◌,
+  [],
+  ◌∷◌,
+  IfOk,
+  IfSome,
+  IsSome,
+  List,
+  None,
+  true,
+  ℕ,
+};
+ghost use Rattle.task_core.specs.Tasks.{action_count, fluent_count, initial_states, system_of};
+
+use command_base::{
+    CheckWords, Limit, PlanKind, Refusal, Shown, Text, check_goal, goal_in, ground_both,
+    no_initial, read_both, read_plan_file,
+};
+use exec_graph::{Graph, GraphErr, explore};
+use ground_task::Grounded;
+use pddl_ast::{Domain, Problem};
+use pddl_system::grounded_goals_are_true;
+use plan_check::{Reason, Verdict, judge_class, judge_ctl};
+use plan_io::Shelf;
+use plan_rules::{Plan, PlanRead};
+use sexpr_text::{FaultKind, InputFault};
+use std::alloc::{AllocError, Global};
+
+/// The verdict on the plan in a file, for the domain and the problem in two files.
+pub fn check_files<S: Shelf>(
+    alloc: Global,
+    shelf: &mut S,
+    asked: &CheckWords,
+) -> Result<Shown, Refusal>
+    ensures answer { let failed = FailedLast S.fetched S.faults shelf.old shelf.new in
+        (answer_of result ≡ refused no_memory)
+        ⊎ IsCheckAnswer (S.held shelf.old) failed (check_words_of asked.now) (answer_of result) }
+    ensures fetches { let failed = FailedLast S.fetched S.faults shelf.old shelf.new in
+        FetchesToCheck (S.held shelf.old) failed S.fetched (check_words_of asked.now)
+        (answer_of result) shelf.old shelf.new }
+    ensures quiet_at { IsQuietAt (answer_of result) (S.faults shelf.old) (S.faults shelf.new) }
+    ensures kept { (file : List ℕ) → S.held shelf.new file ≡ S.held shelf.old file }
+    ensures later { S.faults shelf.old ≤ S.faults shelf.new }
+{
+    let (domain, problem) = read_both(alloc, shelf, asked.domain, asked.problem)?;
+    check_problem(alloc, shelf, asked, &domain, &problem)
+}
+
+/// The verdict on the plan in a file, for a domain and a problem.
+fn check_problem<S: Shelf>(
+    alloc: Global,
+    shelf: &mut S,
+    asked: &CheckWords,
+    domain: &Domain,
+    problem: &Problem,
+) -> Result<Shown, Refusal>
+    requires fits_domain { FitsDomain (domain_value domain.now) }
+    requires fits_problem { FitsProblem (domain_value domain.now) (problem_value problem.now) }
+    requires names { NamesAreWords (domain_value domain.now) (problem_value problem.now) }
+    ensures answer { let failed = FailedLast S.fetched S.faults shelf.old shelf.new in
+        (answer_of result ≡ refused no_memory)
+        ⊎ IsChecked (S.held shelf.old) failed (check_words_of asked.now)
+        (domain_value domain.now) (problem_value problem.now) (answer_of result) }
+    ensures fetches { let asked = check_words_of asked.now in
+        (Stops (GoalThen asked.kind asked.problem (problem_value problem.now)
+        (GroundThen (domain_value domain.now) (problem_value problem.now) (λ answer. ⊥)))
+        (answer_of result) × (shelf.new ≡ shelf.old))
+        ⊎ (((has_goal_for asked.kind (problem_value problem.now) ≡ true)
+        × (first_passed (domain_value domain.now) (problem_value problem.now) ≡ None))
+        × Fetches S.fetched (asked.plan ∷ []) shelf.old shelf.new) }
+    ensures quiet_at { IsQuietAt (answer_of result) (S.faults shelf.old) (S.faults shelf.new) }
+    ensures kept { (file : List ℕ) → S.held shelf.new file ≡ S.held shelf.old file }
+    ensures later { S.faults shelf.old ≤ S.faults shelf.new }
+{
+    // This does nothing: that the task's goal is true where the problem's is rests on what it
+    // promises.
+    grounded_goals_are_true();
+    check_goal(alloc, asked.kind, asked.problem, problem)?;
+    let grounded = ground_both(alloc, domain, problem)?;
+    let read = read_plan_file(alloc, shelf, asked.plan, &grounded.task)?;
+    judge_plan(alloc, asked, problem, &grounded, &read)
+}
+
+/// The verdict on a plan that was read.
+fn judge_plan(
+    alloc: Global,
+    asked: &CheckWords,
+    problem: &Problem,
+    grounded: &Grounded,
+    read: &PlanRead,
+) -> Result<Shown, Refusal>
+    requires goal { HasGoalIn (kind_of asked.now.kind) grounded.now.task grounded.now.ctl }
+    requires goal_names { IfSome grounded.now.ctl
+        (λ goal. NamesBelow (fluent_count grounded.now.task) (ctl_value goal)) }
+    requires in_task { IsPlanOf (fluent_count grounded.now.task) (action_count grounded.now.task)
+        read.now.plan }
+    ensures { let kind = kind_of asked.now.kind in
+        let placed = placed_of read.now in
+        (answer_of result ≡ refused no_memory)
+        ⊎ KindThen kind asked.now.plan.now placed.place placed.plan
+        (ExploreThen (HasTooManyInitial grounded.now.task most_followed)
+        (system_of grounded.now.task) placed.plan
+        (InitialThen (empty_init asked.now.problem.now (problem_value problem.now))
+        (initial_states grounded.now.task)
+        (ShowsVerdict (IsTaskVerdict kind grounded.now.task grounded.now.ctl placed.plan))))
+        (answer_of result) }
+{
+    if !is_plan_of_kind(asked.kind, &read.plan) {
+        return Err(Refusal::TextFault(
+            String::from_str(alloc, asked.plan)?,
+            InputFault {
+                kind: FaultKind::WrongPlanKind,
+                place: read.place,
+            },
+        ));
+    }
+    judge(
+        alloc,
+        asked.kind,
+        asked.problem,
+        problem,
+        grounded,
+        &read.plan,
+    )
+}
+
+/// Whether the plan is of the kind.
+fn is_plan_of_kind(kind: PlanKind, plan: &Plan) -> bool
+    ensures { result ≡ is_of_kind (kind_of kind) (plain_of plan.now) }
+{
+    match (kind, plan) {
+        (PlanKind::Class(_), Plan::Table(_)) => true,
+        (PlanKind::Contexts, Plan::Auto(_)) => true,
+        _ => false,
+    }
+}
+
+/// The verdict on a plan of the kind, for the problem in the file of this name.
+pub fn judge(
+    alloc: Global,
+    kind: PlanKind,
+    name: &str,
+    problem: &Problem,
+    grounded: &Grounded,
+    plan: &Plan,
+) -> Result<Shown, Refusal>
+    requires goal { HasGoalIn (kind_of kind) grounded.now.task grounded.now.ctl }
+    requires goal_names { IfSome grounded.now.ctl
+        (λ goal. NamesBelow (fluent_count grounded.now.task) (ctl_value goal)) }
+    requires in_task { IsPlanOf (fluent_count grounded.now.task) (action_count grounded.now.task)
+        plan.now }
+    requires of_kind { is_of_kind (kind_of kind) (plain_of plan.now) ≡ true }
+    ensures { (answer_of result ≡ refused no_memory)
+        ⊎ ExploreThen (HasTooManyInitial grounded.now.task most_followed)
+        (system_of grounded.now.task) (plain_of plan.now)
+        (InitialThen (empty_init name.now (problem_value problem.now))
+        (initial_states grounded.now.task)
+        (ShowsVerdict (IsTaskVerdict (kind_of kind) grounded.now.task grounded.now.ctl
+        (plain_of plan.now)))) (answer_of result) }
+{
+    match explore(alloc, &grounded.task, plan) {
+        Ok(graph) => {
+            if graph.len() == 0 {
+                return Err(no_initial(alloc, name, problem)?);
+            }
+            let verdict = verdict_on(alloc, kind, grounded, &graph)?;
+            Ok(show_verdict(alloc, &verdict)?)
+        }
+        Err(GraphErr::Initial) => Err(Refusal::OverLimit(Limit::Initial)),
+        Err(GraphErr::TooLarge) => Err(Refusal::OverLimit(Limit::Configurations)),
+        Err(GraphErr::Memory) => Err(Refusal::NoMemory),
+    }
+}
+
+/// The verdict on the plan of the kind whose graph this is.
+fn verdict_on(
+    alloc: Global,
+    kind: PlanKind,
+    grounded: &Grounded,
+    graph: &Graph,
+) -> Result<Verdict, AllocError>
+    requires goal { HasGoalIn (kind_of kind) grounded.now.task grounded.now.ctl }
+    requires goal_names { IfSome grounded.now.ctl
+        (λ goal. NamesBelow (fluent_count grounded.now.task) (ctl_value goal)) }
+    requires graph { (plan : PlainPlan) × ((is_of_kind (kind_of kind) plan ≡ true)
+        × IsGraphOf (system_of grounded.now.task) plan
+        (plain_graph (fluent_count grounded.now.task) graph.now)) }
+    ensures { (plan : PlainPlan) → is_of_kind (kind_of kind) plan ≡ true
+        → IsGraphOf (system_of grounded.now.task) plan
+        (plain_graph (fluent_count grounded.now.task) graph.now)
+        → IfOk result (IsTaskVerdict (kind_of kind) grounded.now.task grounded.now.ctl plan) }
+{
+    match kind {
+        PlanKind::Class(class) => judge_class(alloc, &grounded.task, graph, class),
+        PlanKind::Contexts => context_verdict(alloc, grounded, graph),
+    }
+}
+
+/// The verdict on the plan with contexts whose graph this is.
+fn context_verdict(alloc: Global, grounded: &Grounded, graph: &Graph) -> Result<Verdict, AllocError>
+    requires goal { IsSome grounded.now.ctl }
+    requires goal_names { IfSome grounded.now.ctl
+        (λ goal. NamesBelow (fluent_count grounded.now.task) (ctl_value goal)) }
+    requires graph { (contexts : ℕ) × ((rules : List ContextRule)
+        × IsGraphOf (system_of grounded.now.task) (automaton contexts rules)
+        (plain_graph (fluent_count grounded.now.task) graph.now)) }
+    ensures { (contexts : ℕ) (rules : List ContextRule)
+        → IsGraphOf (system_of grounded.now.task) (automaton contexts rules)
+        (plain_graph (fluent_count grounded.now.task) graph.now)
+        → IfOk result (IsTaskVerdict with_contexts grounded.now.task grounded.now.ctl
+        (automaton contexts rules)) }
+{
+    judge_ctl(alloc, &grounded.task, graph, goal_in(grounded))
+}
+
+/// What is shown of a verdict.
+pub fn show_verdict(alloc: Global, verdict: &Verdict) -> Result<Shown, AllocError>
+    ensures { IfOk result (λ shown. shown_of shown ≡ verdict_answer verdict.now) }
+{
+    Ok(match verdict {
+        Verdict::Yes { bound: None } => Shown::Affirmed(Text::Fixed("yes\n")),
+        Verdict::Yes { bound: Some(bound) } => Shown::Affirmed(Text::Made(format!(in alloc;
+            "yes bound {bound}\n"
+        )?.into_bytes())),
+        Verdict::No(reason) => Shown::Denied(Text::Fixed(match reason {
+            Reason::Unexecutable => "no unexecutable\n",
+            Reason::Stuck => "no stuck\n",
+            Reason::Terminal => "no terminal\n",
+            Reason::Cycle => "no cycle\n",
+            Reason::Unreachable => "no unreachable\n",
+            Reason::Formula => "no formula\n",
+        })),
+    })
+}

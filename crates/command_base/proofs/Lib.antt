@@ -1,0 +1,15 @@
+pub mod OneCommand
+pub mod Frames
+pub mod TooMany
+pub mod TaskGoals
+pub mod PlanDecides
+pub mod Deciding
+pub mod Fetched
+pub mod Initials
+pub mod Later
+pub mod TaskNames
+pub mod NodeNumerals
+pub mod PddlDecides
+pub mod Refusals
+pub mod Statuses
+pub mod WordLists

@@ -1,0 +1,142 @@
+-- The two files of a domain and a problem decide the answer, if what follows their reading does.
+use Rattle.std.proofs.Common.{◌≡◌, ◌≢◌, ◌⊎◌, inl, inr, sym, subst, ap, ◌∙◌, Some, None, true}
+use Rattle.std.proofs.lemmas.Bool.{false≢true}
+use Rattle.plan_io.specs.Held.{Held, Untold}
+use Rattle.pddl_ast.specs.Trees.{DomainTree, ProblemTree}
+use Rattle.domain_read.specs.Domains.{SpellsDomain}
+use Rattle.pddl_system.specs.Sizes.{Limit, first_passed}
+use Rattle.command_base.specs.Answers.{Answer, Refusal, refused, text_fault, over_limit, no_memory, is_shown}
+use Rattle.command_base.specs.Grounding.{GoalThen, GroundThen, has_goal_for, limit_name}
+use Rattle.command_base.specs.OneReading.{OneReading}
+use Rattle.command_base.specs.PddlTexts.{SpellsProblemOf, IsFaultyDomain, IsFaultyProblem, HoldBoth, ReadAsBoth, ReadBoth}
+use Rattle.command_base.specs.Reading.{ReadThen}
+use Rattle.command_base.specs.Words.{Bytes, PlanKind}
+use Rattle.command_base.proofs.Deciding.{Decides, IsGrammar, read_decides, read_as}
+
+pub domain_grammar : OneReading → IsGrammar SpellsDomain IsFaultyDomain
+domain_grammar one = record {
+  one_tree = one.one_domain;
+  one_refusal = λ name bytes r s wrong other. wrong.2 ∙ ap (text_fault name) (one.one_domain_fault bytes wrong.0 other.0 wrong.1 other.1) ∙ sym other.2;
+  not_both = λ name bytes r t wrong spelled. one.not_both_domain bytes t wrong.0 spelled wrong.1;
+}
+
+pub problem_grammar : OneReading → (domain : DomainTree) → IsGrammar (SpellsProblemOf domain) (IsFaultyProblem domain)
+problem_grammar one domain = record {
+  one_tree = λ bytes p q. one.one_problem bytes domain p q;
+  one_refusal = λ name bytes r s wrong other. wrong.2 ∙ ap (text_fault name) (one.one_problem_fault bytes domain wrong.0 other.0 wrong.1 other.1) ∙ sym other.2;
+  not_both = λ name bytes r t wrong spelled. one.not_both_problem bytes domain t wrong.0 spelled wrong.1;
+}
+
+-- reading both decides the answer, if what follows does
+pub both_decides : OneReading → (held : Bytes → Held) (failed failed' : Bytes → Type 0) (domain problem : Bytes) (Then Then' : DomainTree → ProblemTree → Answer → Type 0)
+    → held domain ≢ Untold → held problem ≢ Untold → ((file : Bytes) → failed file → ⊥) → ((file : Bytes) → failed' file → ⊥)
+    → ((d : DomainTree) (p : ProblemTree) → Decides (Then d p) (Then' d p))
+    → Decides (ReadBoth held failed domain problem Then) (ReadBoth held failed' domain problem Then')
+both_decides one held failed failed' domain problem Then Then' told told' quiet quiet' next =
+    read_decides held failed failed' domain SpellsDomain IsFaultyDomain
+    (λ d. ReadThen held failed problem (SpellsProblemOf d) (IsFaultyProblem d) (λ p. Then d p))
+    (λ d. ReadThen held failed' problem (SpellsProblemOf d) (IsFaultyProblem d) (λ p. Then' d p))
+    told (quiet domain) (quiet' domain) (domain_grammar one) (λ d holds.
+    read_decides held failed failed' problem (SpellsProblemOf d) (IsFaultyProblem d) (λ p. Then d p) (λ p. Then' d p)
+    told' (quiet problem) (quiet' problem) (problem_grammar one d) (λ p holds'. next d p))
+
+-- where the files spell a domain and a problem of it, the answer is for these
+pub both_as : OneReading → (held : Bytes → Held) (failed : Bytes → Type 0) (domain problem : Bytes) (Then : DomainTree → ProblemTree → Answer → Type 0)
+    (d : DomainTree) (p : ProblemTree) (a : Answer) → held domain ≢ Untold → held problem ≢ Untold → ((file : Bytes) → failed file → ⊥)
+    → HoldBoth held domain problem d p → ReadBoth held failed domain problem Then a → Then d p a
+both_as one held failed domain problem Then d p a told told' quiet both answer =
+    read_as held failed problem (SpellsProblemOf d) (IsFaultyProblem d) (λ q. Then d q) p a
+    told' (quiet problem) (problem_grammar one d) both.holds_problem
+    (read_as held failed domain SpellsDomain IsFaultyDomain
+    (λ (e : DomainTree). ReadThen held failed problem (SpellsProblemOf e) (IsFaultyProblem e) (λ q. Then e q)) d a
+    told (quiet domain) (domain_grammar one) both.holds_domain answer)
+
+-- an answer after both files were read
+pub after_both : (held : Bytes → Held) (failed : Bytes → Type 0) (domain problem : Bytes) (Then : DomainTree → ProblemTree → Answer → Type 0)
+    (d : DomainTree) (p : ProblemTree) (a : Answer) → HoldBoth held domain problem d p → (a ≡ refused no_memory) ⊎ Then d p a
+    → (a ≡ refused no_memory) ⊎ ReadBoth held failed domain problem Then a
+after_both held failed domain problem Then d p a both (inl memory) = inl memory
+after_both held failed domain problem Then d p a both (inr then) = inr (inr (d, both.holds_domain, inr (p, both.holds_problem, then)))
+
+-- one of the files is refused, whatever would follow
+refused_before : (held : Bytes → Held) (failed : Bytes → Type 0) (domain problem : Bytes) (Then : DomainTree → ProblemTree → Answer → Type 0) (a : Answer)
+    → ReadBoth held failed domain problem (λ d p b. ⊥) a → ReadBoth held failed domain problem Then a
+refused_before held failed domain problem Then a (inl why) = inl why
+refused_before held failed domain problem Then a (inr (d, holds, inl why)) = inr (d, holds, inl why)
+refused_before held failed domain problem Then a (inr (d, holds, inr (p, holds', never))) = absurd never
+
+pub refused_both : (held : Bytes → Held) (failed : Bytes → Type 0) (domain problem : Bytes) (Then : DomainTree → ProblemTree → Answer → Type 0) (r : Refusal)
+    → (refused r ≡ refused no_memory) ⊎ ReadBoth held failed domain problem (λ d p b. ⊥) (refused r)
+    → (refused r ≡ refused no_memory) ⊎ ReadBoth held failed domain problem Then (refused r)
+refused_both held failed domain problem Then r (inl memory) = inl memory
+refused_both held failed domain problem Then r (inr why) = inr (refused_before held failed domain problem Then (refused r) why)
+
+-- the goal's kind, and the limits, decide the answer, if what follows does
+pub goal_decides : (kind : PlanKind) (name : Bytes) (problem : ProblemTree) (Then Then' : Answer → Type 0) → Decides Then Then'
+    → Decides (GoalThen kind name problem Then) (GoalThen kind name problem Then')
+goal_decides kind name problem Then Then' next a b (inl (none, is)) (inl (none', is')) = is ∙ sym is'
+goal_decides kind name problem Then Then' next a b (inl (none, is)) (inr (some, then)) = absurd (false≢true (sym none ∙ some))
+goal_decides kind name problem Then Then' next a b (inr (some, then)) (inl (none, is)) = absurd (false≢true (sym none ∙ some))
+goal_decides kind name problem Then Then' next a b (inr (some, then)) (inr (some', then')) = next a b then then'
+
+one_limit : (l m : Limit) → Some l ≡ Some m → l ≡ m
+one_limit l m same = cc
+
+pub ground_decides : (domain : DomainTree) (problem : ProblemTree) (Then Then' : Answer → Type 0) → Decides Then Then'
+    → Decides (GroundThen domain problem Then) (GroundThen domain problem Then')
+ground_decides domain problem Then Then' next a b (inl (l, passed, is)) (inl (m, passed', is')) =
+    is ∙ ap (λ n. refused (over_limit (limit_name n))) (one_limit l m (sym passed ∙ passed')) ∙ sym is'
+ground_decides domain problem Then Then' next a b (inl (l, passed, is)) (inr (kept, then)) = absurd (cc (passed, kept))
+ground_decides domain problem Then Then' next a b (inr (kept, then)) (inl (l, passed, is)) = absurd (cc (passed, kept))
+ground_decides domain problem Then Then' next a b (inr (kept, then)) (inr (kept', then')) = next a b then then'
+
+-- an answer that is shown is none of the refusals
+pub not_refused : (refusal : Refusal) (a : Answer) → a ≡ refused refusal → is_shown a ≡ true → ⊥
+not_refused refusal a is shown = cc (subst (λ k. is_shown k ≡ true) is shown)
+
+-- what is shown follows the reading of both files
+pub record ReadFor (held : Bytes → Held) (domain_name problem_name : Bytes) (Then : DomainTree → ProblemTree → Answer → Type 0) (answer : Answer) : Type 0 where
+  pub domain : DomainTree
+  pub problem : ProblemTree
+  pub both : HoldBoth held domain_name problem_name domain problem
+  pub result : Then domain problem answer
+
+pub shown_both : (held : Bytes → Held) (failed : Bytes → Type 0) (domain problem : Bytes) (Then : DomainTree → ProblemTree → Answer → Type 0) (a : Answer)
+    → is_shown a ≡ true → ReadBoth held failed domain problem Then a → ReadFor held domain problem Then a
+shown_both held failed domain problem Then a shown (inl (r, is, why)) = absurd (not_refused r a is shown)
+shown_both held failed domain problem Then a shown (inr (d, holds, inl (r, is, why))) = absurd (not_refused r a is shown)
+shown_both held failed domain problem Then a shown (inr (d, holds, inr (p, holds', result))) = record {
+  domain = d;
+  problem = p;
+  both = record { holds_domain = holds; holds_problem = holds' };
+  result = result;
+}
+
+-- what is shown keeps the limits, and has a goal where one is wanted
+pub shown_grounded : (domain : DomainTree) (problem : ProblemTree) (Then : Answer → Type 0) (a : Answer) → is_shown a ≡ true
+    → GroundThen domain problem Then a → (first_passed domain problem ≡ None) × Then a
+shown_grounded domain problem Then a shown (inl (l, passed, is)) = absurd (not_refused (over_limit (limit_name l)) a is shown)
+shown_grounded domain problem Then a shown (inr then) = then
+
+pub shown_goal : (kind : PlanKind) (name : Bytes) (problem : ProblemTree) (Then : Answer → Type 0) (a : Answer) → is_shown a ≡ true → GoalThen kind name problem Then a → Then a
+shown_goal kind name problem Then a shown (inl (none, is)) = absurd (not_refused _ a is shown)
+shown_goal kind name problem Then a shown (inr (some, then)) = then
+
+-- where the limits are kept, or there is a goal, the answer is what follows
+pub within_limits : (domain : DomainTree) (problem : ProblemTree) (Then : Answer → Type 0) (a : Answer) → first_passed domain problem ≡ None
+    → GroundThen domain problem Then a → Then a
+within_limits domain problem Then a kept (inl (l, passed, is)) = absurd (cc (passed, kept))
+within_limits domain problem Then a kept (inr (kept', then)) = then
+
+pub with_goal : (kind : PlanKind) (name : Bytes) (problem : ProblemTree) (Then : Answer → Type 0) (a : Answer) → has_goal_for kind problem ≡ true
+    → GoalThen kind name problem Then a → Then a
+with_goal kind name problem Then a some (inl (none, is)) = absurd (false≢true (sym none ∙ some))
+with_goal kind name problem Then a some (inr (some', then)) = then
+
+-- files that spell a domain and a problem read as these
+pub as_read : (held : Bytes → Held) (domain_name problem_name : Bytes) (domain : DomainTree) (problem : ProblemTree) → HoldBoth held domain_name problem_name domain problem
+    → ReadAsBoth held domain_name problem_name domain problem
+as_read held domain_name problem_name domain problem both = record {
+  domain_says = record { bytes = both.holds_domain.bytes; file = both.holds_domain.file; spelled = both.holds_domain.spelled.reads };
+  problem_says = record { bytes = both.holds_problem.bytes; file = both.holds_problem.file; spelled = both.holds_problem.spelled.reads };
+}

@@ -1,0 +1,28 @@
+-- No text spells two plans, and none that spells a plan is refused.
+use Rattle.std.proofs.Common.{◌≡◌, List, sym, ap, ◌∙◌, Option, Some, unwrap_or}
+use Rattle.plan_rules.specs.Readings.{plan_read}
+use Rattle.plan_rules.specs.Rules.{PlainPlan}
+use Rattle.sexpr_text.specs.declared.forms.Place.{Place}
+use Rattle.task_core.specs.Names.{Name}
+use Rattle.command_base.specs.Answers.{text_fault}
+use Rattle.command_base.specs.PlanFiles.{IsFaultyPlan, PlacedPlan, SpellsPlaced}
+use Rattle.command_base.specs.Words.{Bytes}
+use Rattle.command_base.proofs.Deciding.{IsGrammar}
+use Rattle.command_base.specs.OneReading.{OneReading}
+
+-- no text spells two plans, nor one at two places
+one_pair : (x y : PlainPlan × Place) → Some x ≡ Some y → x ≡ y
+one_pair x y same = ap (λ (o : Option (PlainPlan × Place)). unwrap_or o x) same
+
+one_placed : OneReading → (fluents actions : List Name) (bytes : Bytes) (x y : PlacedPlan) → SpellsPlaced fluents actions bytes x → SpellsPlaced fluents actions bytes y → x ≡ y
+one_placed one fluents actions bytes x y (s, spells, none, is) (t, spells', none', is') =
+    let trees = one.one_forest bytes s t spells spells' in
+    let pairs = one_pair (x.plan, x.place) (y.plan, y.place) (sym is ∙ (ap (plan_read fluents actions) trees ∙ is')) in
+    ap (λ (pair : PlainPlan × Place). record { plan = pair.0; place = pair.1 }) pairs
+
+pub plan_grammar : OneReading → (fluents actions : List Name) → IsGrammar (SpellsPlaced fluents actions) (IsFaultyPlan fluents actions)
+plan_grammar one fluents actions = record {
+  one_tree = one_placed one fluents actions;
+  one_refusal = λ name bytes r s wrong other. wrong.2 ∙ ap (text_fault name) (one.one_plan_fault fluents actions bytes wrong.0 other.0 wrong.1 other.1) ∙ sym other.2;
+  not_both = λ name bytes r t wrong spelled. one.not_both_plan fluents actions bytes t.plan wrong.0 (t.place, spelled) wrong.1;
+}

@@ -1,0 +1,16 @@
+pub mod Answers
+pub mod Faults
+pub mod Following
+pub mod Delivery
+pub mod Fetching
+pub mod CountLines
+pub mod Grounding
+pub mod InitialStates
+pub mod OneReading
+pub mod PddlTexts
+pub mod PlanFiles
+pub mod Reading
+pub mod Values
+pub mod Words
+pub mod Frame
+pub mod Grounded

@@ -1,0 +1,38 @@
+//! What every command stands on: the words, the answers with their statuses and texts, the files of a
+//! domain, a problem and a plan, grounding, and the delivery of an answer. No planner, no diagrams, and
+//! no graph of a plan.
+//!
+//! `specs/` says what these are: `Words` which words say which command, `Answers` each answer with its
+//! status and its text, `Reading` how a command reads its files, `Fetching` which it fetches, `Faults`
+//! when the shelf may have had a fault, `PddlTexts` which domain and problem the files spell,
+//! `Grounding` the limits, `Following` how much is followed at most, `InitialStates` that there is an
+//! initial state, `PlanFiles` how a plan is read, `CountLines` a line that counts, `Delivery` what is
+//! written, and `Frame` a run of a program with all that.
+#![tactic(auto)]
+
+mod answers;
+mod count_lines;
+mod delivery;
+mod files;
+mod grounding;
+mod initial_states;
+mod laws;
+mod pddl_texts;
+mod plan_files;
+mod program_words;
+mod words;
+
+pub use answers::{Limit, NO_MEMORY, Refusal, Shown, Text};
+pub use count_lines::push_count;
+pub use delivery::deliver;
+pub use files::fetch;
+pub use grounding::{check_goal, goal_in, ground_both, grounded};
+pub use initial_states::no_initial;
+pub use laws::texts_are_read_one_way;
+pub use pddl_texts::{domain_in, misread, problem_in, read_both};
+pub use plan_files::read_plan_file;
+pub use program_words::command_words;
+pub use words::{
+    CheckWords, Command, DEFAULT_NODES, DrillKind, DrillWords, GroundWords, PlanKind, PlanOptions,
+    PlanWords, RefuteWords, ReplayWords, class_name, plain_plan_words, read_words,
+};

@@ -1,0 +1,3 @@
+pub mod DrillAnswers
+pub mod DrillDecides
+pub mod DrillSizes

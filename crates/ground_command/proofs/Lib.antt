@@ -1,0 +1,2 @@
+pub mod GroundDecides
+pub mod Listings

@@ -1,7 +1,0 @@
-use Rattle.std.proofs.Common.{rules}
-use Rattle.mbp_top.proofs.PlanAnswers.{plan_is_result}
-use Rattle.mbp_top.proofs.plan_command.plan_task.Goals as goal
-
-pub returns-in_ok-text-in-Some-Table-clause-plan : goal.returns-in_ok-text-in-Some-Table-clause-plan
-returns-in_ok-text-in-Some-Table-clause-plan c =
-    search (rules, plan_is_result c.args.certified c.args.class c.args.task.now c.tasks_have_systems.ensures.system)

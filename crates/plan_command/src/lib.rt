@@ -1,0 +1,15 @@
+//! The command `plan`.
+//!
+//! `specs/` says what it answers: `PlanCommand` the answers, `ContextGoals` for which goals plans with
+//! contexts are looked for, `GoalSets` which plans have them and which one is printed, `GoalConditions`
+//! what they are over a task, and `Enough` how many nodes are enough for a plan.
+#![tactic(auto)]
+
+mod class_search;
+mod context_command;
+mod context_goals;
+mod context_search;
+mod plan_command;
+
+pub use class_search::find_plan;
+pub use plan_command::{plan_files, plan_grounded};

@@ -1,5 +1,0 @@
-use Rattle.ppddl_read.proofs.Answered.{plain_or_faulty, one_text, one_fault, never_both}
-use Rattle.ppddl_read.proofs.laws.plain_or_fault.Goals as goal
-
-pub returns : goal.returns
-returns c = record { plain_or_faulty = plain_or_faulty; one_text = one_text; one_fault = one_fault; never_both = never_both }

@@ -1,0 +1,3 @@
+pub mod RefuteAnswers
+pub mod RefuteDecides
+pub mod RefuteSizes

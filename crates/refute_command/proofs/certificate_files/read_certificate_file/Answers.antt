@@ -1,0 +1,18 @@
+use Rattle.plan_certs.specs.Readings.{HasCertificateFault}
+use Rattle.plan_io.specs.Fetches.{FailedLast}
+use Rattle.task_core.specs.Tasks.{fluent_names}
+use Rattle.command_base.specs.Values.{refusal_of}
+use Rattle.command_base.proofs.Refusals.{misread_file}
+use Rattle.refute_command.proofs.certificate_files.read_certificate_file.Goals as goal
+
+pub returns-clause-refused : goal.returns-clause-refused
+returns-clause-refused g c =
+    let held = g.S.Shelf.held c.args.shelf.now in
+    let failed = FailedLast g.S.Shelf.fetched g.S.Shelf.faults c.args.shelf.now c.fetch.new.shelf in
+    let file = rw (← c.deref.ensures.value) at c.in_ok-bytes.ensures.file in
+    misread_file held failed (HasCertificateFault (fluent_names c.args.task.now)) c.args.name.now c.deref.result.now c.in-Err.error (refusal_of c.in_ok-misread-in-Err.field-0) file c.in-Err.ensures.fault c.in_ok-misread-in-Err.ensures
+
+pub returns-in-Ok-clause-holds : goal.returns-in-Ok-clause-holds
+returns-in-Ok-clause-holds g c =
+    let file = rw (← c.deref.ensures.value) at c.in_ok-bytes.ensures.file in
+    record { bytes = c.deref.result.now; file = file; spelled = (c.in-Ok.read.place, c.in-Ok.ensures.read) }

@@ -1,0 +1,3 @@
+pub mod RefuteFetches
+pub mod FoundVerdicts
+pub mod RefuteCommand

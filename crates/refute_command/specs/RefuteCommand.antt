@@ -1,0 +1,133 @@
+-- The command `refute`: the verdict on a certificate that there is no plan of a class.
+use Rattle.std.specs.Prelude.{◌≡◌, ℕ, ◌+◌, ◌*◌, ◌<◌, ◌⊎◌, ◌++◌, List, None, codes, true}
+use Rattle.encode_task.specs.KeptSets.{kept_nodes}
+use Rattle.encode_task.specs.WorkingSets.{AreSmall, IsMadeByEncode}
+use Rattle.pddl_ast.specs.Trees.{DomainTree, ProblemTree}
+use Rattle.pddl_system.specs.Sizes.{first_passed}
+use Rattle.pddl_system.specs.Systems.{fluent_names, system}
+use Rattle.plan_certs.specs.Certificates.{PlainCertificate}
+use Rattle.plan_certs.specs.Readings.{HasCertificateFault, SpellsPlain}
+use Rattle.plan_io.specs.Held.{Held}
+use Rattle.plan_rules.specs.Texts.{line_feed}
+use Rattle.refute_cert.specs.Judgements.{IsVerdict}
+use Rattle.refute_cert.specs.Sizes.{IsWide}
+use Rattle.refute_cert.specs.declared.verdict.Flaw.{Flaw}
+use Rattle.refute_cert.specs.declared.verdict.Flaw.TheVariants.{Initial, Goal, Action}
+use Rattle.refute_cert.specs.declared.verdict.Judged.{Judged}
+use Rattle.refute_cert.specs.declared.verdict.Judged.TheVariants.{Accepted, Rejected}
+use Rattle.sexpr_text.specs.declared.faults.InputFault.{InputFault}
+use Rattle.task_core.specs.Names.{Name}
+use Rattle.task_core.specs.Systems.{System}
+use Rattle.task_core.specs.Tasks.{action_count, fluent_count, system_of}
+use Rattle.task_core.specs.declared.tasks.Task.{Task}
+use Rattle.command_base.specs.Answers.{Answer, Refusal, affirmed, denied, full, refused, text_fault}
+use Rattle.task_sets.specs.NodeRoom.{IsTightLimit}
+use Rattle.command_base.specs.Grounded.{IsTaskOf}
+use Rattle.command_base.specs.Grounding.{GoalThen, GroundThen, for_tables, has_goal_for}
+use Rattle.command_base.specs.InitialStates.{InitialThen, empty_init}
+use Rattle.command_base.specs.PddlTexts.{HoldBoth, ReadBoth}
+use Rattle.command_base.specs.Reading.{Holds, ReadThen}
+use Rattle.command_base.specs.Words.{Bytes, RefuteWords}
+
+-- the bytes of the file of this name have a fault as a certificate
+abbrev pub IsFaultyCertificate : List Name → Bytes → Bytes → Refusal → Type 0
+IsFaultyCertificate fluents name bytes refusal =
+    (fault : InputFault) × HasCertificateFault fluents bytes fault
+    × (refusal ≡ text_fault name fault)
+
+-- the file of this name spells this certificate
+abbrev pub HoldsCertificate : (Bytes → Held) → List Name → Bytes → PlainCertificate → Type 0
+HoldsCertificate held fluents name certificate =
+    Holds held (SpellsPlain fluents) name certificate
+
+-- the word of what is wrong with a certificate
+abbrev pub flaw_word : Flaw → Bytes
+flaw_word Initial = codes "initial"
+flaw_word Goal = codes "goal"
+flaw_word Action = codes "action"
+
+-- what is shown of a verdict: `accepted`; or what is wrong, as `rejected goal`
+abbrev pub judged_answer : Judged → Answer
+judged_answer Accepted = affirmed (codes "accepted" ++ line_feed)
+judged_answer (Rejected flaw) = denied (codes "rejected " ++ flaw_word flaw ++ line_feed)
+
+-- what is shown is the verdict on the certificate
+abbrev pub ShowsJudged : System → PlainCertificate → Answer → Type 0
+ShowsJudged sys certificate answer =
+    (judged : Judged) × IsVerdict sys certificate judged × (answer ≡ judged_answer judged)
+
+-- what follows once a certificate is read: there is no initial state; or there is one, and the
+-- certificate is judged
+abbrev pub JudgeThen : RefuteWords → DomainTree → ProblemTree → PlainCertificate → Answer → Type 0
+JudgeThen asked domain problem certificate =
+    InitialThen (empty_init asked.problem problem) (system domain problem).initial
+    (ShowsJudged (system domain problem) certificate)
+
+-- what follows once both are read and within the limits: the certificate is read, and judged
+abbrev pub RefuteThen : (Bytes → Held) → (Bytes → Type 0) → RefuteWords → DomainTree → ProblemTree
+    → Answer → Type 0
+RefuteThen held failed asked domain problem =
+    ReadThen held failed asked.certificate (SpellsPlain (fluent_names domain problem))
+    (IsFaultyCertificate (fluent_names domain problem)) (JudgeThen asked domain problem)
+
+-- what follows once both are read
+abbrev pub IsRefuted : (Bytes → Held) → (Bytes → Type 0) → RefuteWords → DomainTree
+    → ProblemTree → Answer → Type 0
+IsRefuted held failed asked domain problem =
+    GoalThen for_tables asked.problem problem
+    (GroundThen domain problem (RefuteThen held failed asked domain problem))
+
+-- nodes that are enough for a verdict where each set that it makes has at most w of them: those of
+-- the sets that are kept for the task, of the sets that are live besides, and of some that are as
+-- large as w * w * w
+abbrev pub enough_to_judge : Task → ℕ → ℕ
+enough_to_judge task w =
+    kept_nodes task + (action_count task * 3 + 236) * w + 17 * (w * w * w)
+
+-- w bounds the sets that are made for a task and for the verdict on a certificate
+pub record BoundsVerdict (task : Task) (certificate : PlainCertificate) (w : ℕ) : Type 0 where
+  pub of_task : AreSmall (fluent_count task) w (IsMadeByEncode task)
+  pub of_verdict : IsWide w task certificate
+
+-- so many nodes are fewer than are enough by each such bound
+abbrev pub IsTightByVerdict : ℕ → Task → PlainCertificate → Type 0
+IsTightByVerdict nodes task certificate =
+    (w : ℕ) → BoundsVerdict task certificate w → nodes < enough_to_judge task w
+
+-- Private: they are fewer than are enough for a task by both numbers
+pub record IsTightToJudge (nodes : ℕ) (task : Task) (certificate : PlainCertificate)
+    : Type 0 where
+  pub by_sizes : IsTightLimit 0 nodes (system_of task)
+  pub by_sets : IsTightByVerdict nodes task certificate
+
+-- a table for so many nodes may be too small for the verdict: they are fewer than are enough by both
+-- numbers
+pub record IsTightVerdict (nodes : ℕ) (domain : DomainTree) (problem : ProblemTree)
+    (certificate : PlainCertificate) : Type 0 where
+  pub by_sizes : IsTightLimit 0 nodes (system domain problem)
+  pub by_sets : (task : Task) × IsTaskOf domain problem task
+      × IsTightByVerdict nodes task certificate
+
+-- a certificate is judged, since there is a goal and the limits are kept; and the nodes that are
+-- asked for may be too few for it
+pub record MayJudgeTooFew (held : Bytes → Held) (asked : RefuteWords) (domain : DomainTree)
+    (problem : ProblemTree) : Type 0 where
+  pub goal : has_goal_for for_tables problem ≡ true
+  pub within : first_passed domain problem ≡ None
+  pub certificate : PlainCertificate
+  pub file : HoldsCertificate held (fluent_names domain problem) asked.certificate certificate
+  pub tight : IsTightVerdict asked.options.nodes domain problem certificate
+
+-- the same of what the two files spell
+pub record MayRefuteRunOut (held : Bytes → Held) (asked : RefuteWords) : Type 0 where
+  pub domain : DomainTree
+  pub problem : ProblemTree
+  pub both : HoldBoth held asked.domain asked.problem domain problem
+  pub few : MayJudgeTooFew held asked domain problem
+
+-- the answer of the command: that the table of nodes is full, where it may be; or what follows the
+-- reading of the files
+abbrev pub IsRefuteAnswer : (Bytes → Held) → (Bytes → Type 0) → RefuteWords → Answer → Type 0
+IsRefuteAnswer held failed asked answer =
+    (MayRefuteRunOut held asked × (answer ≡ refused (full asked.options.nodes)))
+    ⊎ ReadBoth held failed asked.domain asked.problem (IsRefuted held failed asked) answer

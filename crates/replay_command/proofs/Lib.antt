@@ -1,0 +1,4 @@
+pub mod RunFetched
+pub mod ReplayAnswers
+pub mod ReplayDecides
+pub mod ReplayRuns

@@ -1,0 +1,52 @@
+use Rattle.std.proofs.Common.{map}
+use Rattle.std.proofs.lemmas.Result.{err_from_is_err_and}
+use Rattle.plan_io.specs.Fetches.{FailedLast}
+use Rattle.run_replay.specs.TraceTexts.{tallies_of}
+use Rattle.replay_command.specs.ReplayCommand.{IsReplay, Tallies}
+use Rattle.command_base.specs.Values.{replay_words_of, refusal_of}
+use Rattle.replay_command.proofs.ReplayAnswers.{replay_later}
+use Rattle.replay_command.proofs.RunFetched.{replay_fetched, replay_stopped}
+use Rattle.command_base.proofs.Later.{failed_after_two}
+use Rattle.command_base.proofs.PddlDecides.{after_both, refused_both}
+use Rattle.replay_command.proofs.replay_command.replay_files.Goals as goal
+
+pub returns-in_err-domain-clause-answer : goal.returns-in_err-domain-clause-answer
+returns-in_err-domain-clause-answer g c =
+    let p = err_from_is_err_and c.from_residual.result c.from_residual.ensures.1 in
+    let held = g.S.Shelf.held c.args.shelf.now in
+    let failed = FailedLast g.S.Shelf.fetched g.S.Shelf.faults c.args.shelf.now c.read_both.new.shelf in
+    let tallies : Tallies = tallies_of (map (λ monitor. (goal.Monitor-dyn g (monitor.vtable, monitor.value)).shown monitor.value) c.args.monitors.now.items) in
+    let asked = replay_words_of c.args.asked.now in
+    rw (p.1, p.2) (refused_both held failed asked.domain asked.problem (IsReplay held failed tallies asked) (refusal_of c.in_err-domain.field-0.0) c.in_err-domain.ensures.refused)
+
+pub returns-clause-answer : goal.returns-clause-answer
+returns-clause-answer g c =
+    let held = g.S.Shelf.held c.args.shelf.now in
+    let held' = g.S.Shelf.held c.read_both.new.shelf in
+    let failed = FailedLast g.S.Shelf.fetched g.S.Shelf.faults c.args.shelf.now c.replay_problem.new.shelf in
+    let failed' = FailedLast g.S.Shelf.fetched g.S.Shelf.faults c.read_both.new.shelf c.replay_problem.new.shelf in
+    let tallies : Tallies = tallies_of (map (λ monitor. (goal.Monitor-dyn g (monitor.vtable, monitor.value)).shown monitor.value) c.args.monitors.now.items) in
+    let asked = replay_words_of c.args.asked.now in
+    after_both held failed asked.domain asked.problem (IsReplay held failed tallies asked) _ _ _ c.in_ok-domain.ensures.holds
+    (replay_later held held' failed failed' tallies asked _ _ _ c.in_ok-domain.ensures.kept
+    (λ file. failed_after_two g.S.Shelf.fetched g.S.Shelf.faults asked.domain asked.problem c.args.shelf.now c.read_both.new.shelf c.replay_problem.new.shelf file
+    c.in_ok-domain.ensures.fetched c.in_ok-domain.ensures.quiet)
+    c.replay_problem.ensures.answer)
+
+pub returns-in_err-domain-clause-fetches : goal.returns-in_err-domain-clause-fetches
+returns-in_err-domain-clause-fetches g c =
+    let p = err_from_is_err_and c.from_residual.result c.from_residual.ensures.1 in
+    let held = g.S.Shelf.held c.args.shelf.now in
+    let failed = FailedLast g.S.Shelf.fetched g.S.Shelf.faults c.args.shelf.now c.read_both.new.shelf in
+    rw (p.1, p.2) (replay_stopped held failed g.S.Shelf.fetched (replay_words_of c.args.asked.now) (refusal_of c.in_err-domain.field-0.0) c.args.shelf.now c.read_both.new.shelf
+    c.in_err-domain.ensures.refused c.in_err-domain.ensures.stopped)
+
+pub returns-clause-fetches : goal.returns-clause-fetches
+returns-clause-fetches g c =
+    let held = g.S.Shelf.held c.args.shelf.now in
+    let held' = g.S.Shelf.held c.read_both.new.shelf in
+    let asked = replay_words_of c.args.asked.now in
+    let both = c.in_ok-domain.ensures in
+    replay_fetched held held' g.S.Shelf.fetched g.S.Shelf.faults asked _ _ _ c.args.shelf.now c.read_both.new.shelf c.replay_problem.new.shelf
+    both.holds both.kept (λ late. failed_after_two g.S.Shelf.fetched g.S.Shelf.faults asked.domain asked.problem c.args.shelf.now c.read_both.new.shelf c.replay_problem.new.shelf asked.plan
+    both.fetched both.quiet late) both.fetched c.replay_problem.ensures.fetches

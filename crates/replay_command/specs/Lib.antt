@@ -1,0 +1,2 @@
+pub mod RunFetches
+pub mod ReplayCommand

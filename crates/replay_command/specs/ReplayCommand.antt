@@ -1,0 +1,143 @@
+-- The command `replay`: the run of a plan under the outcome numbers of a record, and what monitors
+-- show of it.
+use Rattle.std.specs.Prelude.{◌≡◌, ℕ, ◌<◌, ◌≤◌, ◌⊎◌, List, [], ◌++◌, codes, length, slice_index_or}
+use Rattle.std.specs.List.{All}
+use Rattle.pddl_ast.specs.Trees.{DomainTree, ProblemTree}
+use Rattle.pddl_system.specs.Systems.{action_names, fluent_names, system}
+use Rattle.plan_io.specs.Held.{Held}
+use Rattle.plan_rules.specs.Rules.{PlainPlan}
+use Rattle.run_replay.specs.Records.{HasRecordFault, RecordTree, SpellsRecord}
+use Rattle.run_replay.specs.Runs.{IsStepOf, steps_value}
+use Rattle.run_replay.specs.Traces.{Ending, Terminal, Ended, Capped, Stray, Unexecutable, Trace}
+use Rattle.run_replay.specs.Traces.{TraceStep, run_plan, trace_of}
+use Rattle.run_replay.specs.TraceTexts.{trace_text}
+use Rattle.run_replay.specs.declared.worlds.Step.{Step}
+use Rattle.sexpr_text.specs.declared.faults.FaultKind.TheVariants.{BadNumber}
+use Rattle.sexpr_text.specs.declared.faults.InputFault.{InputFault}
+use Rattle.task_core.specs.Names.{Name}
+use Rattle.task_core.specs.Systems.{System}
+use Rattle.task_core.specs.Vectors.{Vector}
+use Rattle.command_base.specs.Answers.{Answer, affirmed, refused, Refusal, over_limit, text_fault}
+use Rattle.command_base.specs.Answers.{stray_outcome, unexecutable}
+use Rattle.command_base.specs.Following.{HasTooManyStates}
+use Rattle.command_base.specs.Grounding.{GroundThen}
+use Rattle.command_base.specs.InitialStates.{InitialThen, empty_init}
+use Rattle.command_base.specs.PddlTexts.{ReadBoth}
+use Rattle.command_base.specs.PlanFiles.{HoldsPlan, IsFaultyPlan, SpellsPlaced}
+use Rattle.command_base.specs.Reading.{Holds, ReadThen}
+use Rattle.command_base.specs.Words.{Bytes, ReplayWords}
+
+-- what is shown of the monitors that were told of these steps
+abbrev pub Tallies : Type 0
+Tallies = List Step → Bytes
+
+-- the trace of a plan in a system, from this state and under these outcome numbers. The first rule
+-- of a context that matches counts, also in a table
+abbrev pub trace_under : System → PlainPlan → Vector → List ℕ → Trace
+trace_under sys plan first words = trace_of sys (run_plan plan) first words
+
+-- the steps of a trace, as monitors are told of them: the same, with states that hold a value for
+-- each of 256 fluents, in which those that the system doesn't have are false
+pub record AreToldAs (sys : System) (steps : List TraceStep) (told : List Step) : Type 0 where
+  pub same : steps_value sys.fluents told ≡ steps
+  pub in_system : All (IsStepOf sys.fluents sys.actions) told
+
+-- the text of a trace, and what is shown of the monitors after its steps
+abbrev pub replay_text : Tallies → List Name → Trace → List Step → Bytes
+replay_text tallies actions trace told =
+    trace_text actions trace.steps trace.ending ++ tallies told
+
+-- the text is shown where the trace comes to an end; a trace that a refusal ends is refused so
+abbrev pub ended_answer : Bytes → Ending → Answer
+ended_answer text Terminal = affirmed text
+ended_answer text Ended = affirmed text
+ended_answer text Capped = affirmed text
+ended_answer text (Stray step word outcomes) = refused (stray_outcome step word outcomes)
+ended_answer text (Unexecutable step) = refused (unexecutable step)
+
+-- the status of a trace
+abbrev pub ended_status : Ending → ℕ
+ended_status Terminal = 0
+ended_status Ended = 0
+ended_status Capped = 0
+ended_status (Stray step word outcomes) = 9
+ended_status (Unexecutable step) = 9
+
+-- the answer for a trace
+pub record IsReplayed (tallies : Tallies) (sys : System) (actions : List Name) (trace : Trace)
+    (answer : Answer) : Type 0 where
+  pub told : List Step
+  pub steps : AreToldAs sys trace.steps told
+  pub shown : answer ≡ ended_answer (replay_text tallies actions trace told) trace.ending
+
+-- the bytes of the file of this name have a fault as a record
+abbrev pub IsFaultyRecord : Bytes → Bytes → Refusal → Type 0
+IsFaultyRecord name bytes refusal =
+    (fault : InputFault) × HasRecordFault bytes fault × (refusal ≡ text_fault name fault)
+
+-- the number that begins a record names a state of a list, counted from 0
+pub record IsFirstState (states : List Vector) (recorded : RecordTree)
+    (first : Vector) : Type 0 where
+  pub there : recorded.first < length states
+  pub is : slice_index_or states recorded.first [] ≡ first
+
+-- the record in the file of this name begins with the number of no initial state, which is a fault
+-- at that number; or with that of one, and then comes what Then says of it
+abbrev pub NumberThen : List Vector → Bytes → RecordTree → (Vector → Answer → Type 0) → Answer
+    → Type 0
+NumberThen states name recorded Then answer =
+    ((length states ≤ recorded.first)
+    × (answer ≡ refused (text_fault name
+    (record { kind = BadNumber; place = recorded.first_place }))))
+    ⊎ ((first : Vector) × IsFirstState states recorded first × Then first answer)
+
+-- there are too many initial states (`TooMany`); or not, and there is none, which is refused
+-- (`empty`); or there is one, and the record's first number is to be that of one
+abbrev pub FirstThen : Type 0 → Refusal → List Vector → Bytes → RecordTree
+    → (Vector → Answer → Type 0) → Answer → Type 0
+FirstThen TooMany empty states name recorded Then answer =
+    (TooMany × (answer ≡ refused (over_limit (codes "initial"))))
+    ⊎ ((TooMany → ⊥)
+    × InitialThen empty states (NumberThen states name recorded Then) answer)
+
+-- what follows once the plan is read: the record is read, its first number names an initial state,
+-- and the plan is run from it
+abbrev pub RecordThen : (Bytes → Held) → (Bytes → Type 0) → Tallies → Bytes → List Name → Type 0
+    → Refusal → System → PlainPlan → Answer → Type 0
+RecordThen held failed tallies name actions TooMany empty sys plan =
+    ReadThen held failed name SpellsRecord IsFaultyRecord (λ recorded.
+    FirstThen TooMany empty sys.initial name recorded (λ first.
+    IsReplayed tallies sys actions (trace_under sys plan first recorded.words)))
+
+-- what follows once the domain and the problem are within the limits: the plan is read over the
+-- names of their fluents and actions, and then the record
+abbrev pub ReplayThen : (Bytes → Held) → (Bytes → Type 0) → Tallies → ReplayWords → List Name
+    → List Name → Type 0 → Refusal → System → Answer → Type 0
+ReplayThen held failed tallies asked fluents actions TooMany empty sys =
+    ReadThen held failed asked.plan (SpellsPlaced fluents actions) (IsFaultyPlan fluents actions)
+    (λ placed. RecordThen held failed tallies asked.recorded actions TooMany empty sys placed.plan)
+
+-- what follows once both are read
+abbrev pub IsReplay : (Bytes → Held) → (Bytes → Type 0) → Tallies → ReplayWords → DomainTree
+    → ProblemTree → Answer → Type 0
+IsReplay held failed tallies asked domain problem =
+    GroundThen domain problem (ReplayThen held failed tallies asked (fluent_names domain problem)
+    (action_names domain problem) (HasTooManyStates domain problem)
+    (empty_init asked.problem problem) (system domain problem))
+
+-- the answer of the command
+abbrev pub IsReplayAnswer : (Bytes → Held) → (Bytes → Type 0) → Tallies → ReplayWords → Answer
+    → Type 0
+IsReplayAnswer held failed tallies asked =
+    ReadBoth held failed asked.domain asked.problem (IsReplay held failed tallies asked)
+
+-- the files of these words spell what is run: a plan, and a record that begins with the number of
+-- the initial state `first`
+pub record HoldRun (held : Bytes → Held) (asked : ReplayWords) (domain : DomainTree)
+    (problem : ProblemTree)
+    (plan : PlainPlan) (recorded : RecordTree) (first : Vector) : Type 0 where
+  pub plan_file : HoldsPlan held (fluent_names domain problem) (action_names domain problem)
+      asked.plan
+      plan
+  pub record_file : Holds held SpellsRecord asked.recorded recorded
+  pub first_state : IsFirstState (system domain problem).initial recorded first

@@ -1,0 +1,309 @@
+//! The command `replay`.
+
+ghost use Rattle.command_base.specs.Answers.{no_memory, refused};
+ghost use Rattle.command_base.specs.Faults.{IsQuietAt};
+ghost use Rattle.command_base.specs.Fetching.{HoldsSomePlan, RefusesPlan, Stops};
+ghost use Rattle.command_base.specs.Following.{most_followed};
+ghost use Rattle.command_base.specs.Grounding.{GroundThen};
+ghost use Rattle.command_base.specs.InitialStates.{empty_init};
+ghost use Rattle.command_base.specs.Values.{answer_of, refusal_of, replay_words_of};
+ghost use Rattle.exec_graph.specs.Initials.{HasTooManyInitial};
+ghost use Rattle.pddl_ast.specs.Fits.{FitsDomain, FitsProblem};
+ghost use Rattle.pddl_ast.specs.Values.{domain_value, problem_value};
+ghost use Rattle.pddl_system.specs.Names.{NamesAreWords};
+ghost use Rattle.pddl_system.specs.Sizes.{first_passed};
+ghost use Rattle.pddl_system.specs.Systems.{
+  action_names as names_of_actions,
+  fluent_names as names_of_fluents,
+};
+ghost use Rattle.plan_io.specs.Fetches.{FailedLast, Fetches};
+ghost use Rattle.plan_rules.specs.Plans.{IsPlanOf};
+ghost use Rattle.plan_rules.specs.Rules.{plain_of};
+ghost use Rattle.replay_command.specs.ReplayCommand.{
+  FirstThen,
+  IsFirstState,
+  IsReplay,
+  IsReplayAnswer,
+  IsReplayed,
+  RecordThen,
+  ReplayThen,
+  trace_under,
+};
+ghost use Rattle.replay_command.specs.RunFetches.{FetchRecord, FetchesToReplay};
+ghost use Rattle.run_replay.specs.Records.{record_value};
+ghost use Rattle.run_replay.specs.TraceTexts.{tallies_of};
+ghost use Rattle.std.specs.Prelude.{
+  ◌≡◌,
+  ◌≤◌,
+  ◌⊎◌,
+  [],
+  ◌∷◌,
+  All,
+  IfErr,
+  IfOk,
+  List,
+  None,
+  OnOk,
+  map,
+  ℕ,
+};
+ghost use Rattle.task_core.specs.States.{IsWithin, vector};
+ghost use Rattle.task_core.specs.Tasks.{
+  action_count,
+  action_names,
+  fluent_count,
+  fluent_names,
+  initial_states,
+  system_of,
+};
+
+use crate::record_files::read_record_file;
+use command_base::{
+    Limit, Refusal, ReplayWords, Shown, Text, grounded, no_initial, read_both, read_plan_file,
+};
+use initial_number::{Numbered, numbered_initial};
+use pddl_ast::{Domain, Problem};
+use plan_io::Shelf;
+use plan_rules::Plan;
+use run_replay::{Monitor, Recorded, RunErr, World, execute, write_trace};
+use sexpr_text::{FaultKind, InputFault};
+use std::alloc::{AllocError, Global};
+use task_core::{InitErr, State, Task};
+
+/// How many initial states a record may choose from.
+const MOST_INITIAL: usize = 262_144;
+
+/// The run of the plan under the record, for the domain and the problem, all in files, with what
+/// the monitors show of it. The world gives the record's outcome numbers.
+pub fn replay_files<S: Shelf>(
+    alloc: Global,
+    shelf: &mut S,
+    asked: &ReplayWords,
+    world: &mut Box<dyn World>,
+    monitors: &mut Vec<Box<dyn Monitor>>,
+) -> Result<Shown, Refusal>
+    requires untold { All (λ monitor. (shown monitor).counted ≡ 0) monitors.old.items }
+    ensures answer { let failed = FailedLast S.fetched S.faults shelf.old shelf.new in
+        (answer_of result ≡ refused no_memory)
+        ⊎ IsReplayAnswer (S.held shelf.old) failed
+        (tallies_of (map (λ monitor. shown monitor) monitors.old.items))
+        (replay_words_of asked.now) (answer_of result) }
+    ensures fetches { let failed = FailedLast S.fetched S.faults shelf.old shelf.new in
+        FetchesToReplay (S.held shelf.old) failed S.fetched (replay_words_of asked.now)
+        (answer_of result) shelf.old shelf.new }
+    ensures quiet_at { IsQuietAt (answer_of result) (S.faults shelf.old) (S.faults shelf.new) }
+    ensures kept { (file : List ℕ) → S.held shelf.new file ≡ S.held shelf.old file }
+    ensures later { S.faults shelf.old ≤ S.faults shelf.new }
+{
+    let (domain, problem) = read_both(alloc, shelf, asked.domain, asked.problem)?;
+    replay_problem(alloc, shelf, asked, &domain, &problem, world, monitors)
+}
+
+/// The run for a domain and a problem.
+fn replay_problem<S: Shelf>(
+    alloc: Global,
+    shelf: &mut S,
+    asked: &ReplayWords,
+    domain: &Domain,
+    problem: &Problem,
+    world: &mut Box<dyn World>,
+    monitors: &mut Vec<Box<dyn Monitor>>,
+) -> Result<Shown, Refusal>
+    requires fits_domain { FitsDomain (domain_value domain.now) }
+    requires fits_problem { FitsProblem (domain_value domain.now) (problem_value problem.now) }
+    requires names { NamesAreWords (domain_value domain.now) (problem_value problem.now) }
+    requires untold { All (λ monitor. (shown monitor).counted ≡ 0) monitors.old.items }
+    ensures answer { let failed = FailedLast S.fetched S.faults shelf.old shelf.new in
+        (answer_of result ≡ refused no_memory)
+        ⊎ IsReplay (S.held shelf.old) failed
+        (tallies_of (map (λ monitor. shown monitor) monitors.old.items))
+        (replay_words_of asked.now)
+        (domain_value domain.now) (problem_value problem.now) (answer_of result) }
+    ensures fetches { let failed = FailedLast S.fetched S.faults shelf.old shelf.new in
+        let domain = domain_value domain.now in
+        let problem = problem_value problem.now in
+        let fluents = names_of_fluents domain problem in
+        let actions = names_of_actions domain problem in
+        (Stops (GroundThen domain problem (λ answer. ⊥)) (answer_of result)
+        × (shelf.new ≡ shelf.old))
+        ⊎ ((first_passed domain problem ≡ None)
+        × FetchRecord S.fetched (replay_words_of asked.now)
+        (RefusesPlan (S.held shelf.old) failed fluents actions asked.now.plan.now)
+        (HoldsSomePlan (S.held shelf.old) fluents actions asked.now.plan.now)
+        (answer_of result) shelf.old shelf.new) }
+    ensures quiet_at { IsQuietAt (answer_of result) (S.faults shelf.old) (S.faults shelf.new) }
+    ensures kept { (file : List ℕ) → S.held shelf.new file ≡ S.held shelf.old file }
+    ensures later { S.faults shelf.old ≤ S.faults shelf.new }
+{
+    let task = grounded(alloc, domain, problem)?;
+    replay_task(alloc, shelf, asked, problem, &task, world, monitors)
+}
+
+/// The run for a task.
+fn replay_task<S: Shelf>(
+    alloc: Global,
+    shelf: &mut S,
+    asked: &ReplayWords,
+    problem: &Problem,
+    task: &Task,
+    world: &mut Box<dyn World>,
+    monitors: &mut Vec<Box<dyn Monitor>>,
+) -> Result<Shown, Refusal>
+    requires untold { All (λ monitor. (shown monitor).counted ≡ 0) monitors.old.items }
+    ensures answer { let failed = FailedLast S.fetched S.faults shelf.old shelf.new in
+        (answer_of result ≡ refused no_memory)
+        ⊎ ReplayThen (S.held shelf.old) failed
+        (tallies_of (map (λ monitor. shown monitor) monitors.old.items))
+        (replay_words_of asked.now) (fluent_names task.now) (action_names task.now)
+        (HasTooManyInitial task.now most_followed)
+        (empty_init asked.now.problem.now (problem_value problem.now)) (system_of task.now)
+        (answer_of result) }
+    ensures fetches { let failed = FailedLast S.fetched S.faults shelf.old shelf.new in
+        FetchRecord S.fetched (replay_words_of asked.now)
+        (RefusesPlan (S.held shelf.old) failed (fluent_names task.now) (action_names task.now)
+        asked.now.plan.now)
+        (HoldsSomePlan (S.held shelf.old) (fluent_names task.now) (action_names task.now)
+        asked.now.plan.now) (answer_of result) shelf.old shelf.new }
+    ensures quiet_at { IsQuietAt (answer_of result) (S.faults shelf.old) (S.faults shelf.new) }
+    ensures kept { (file : List ℕ) → S.held shelf.new file ≡ S.held shelf.old file }
+    ensures later { S.faults shelf.old ≤ S.faults shelf.new }
+{
+    let read = read_plan_file(alloc, shelf, asked.plan, task)?;
+    replay_plan(
+        alloc, shelf, asked, problem, task, &read.plan, world, monitors,
+    )
+}
+
+/// The run of a plan of the task, under the record in its file.
+fn replay_plan<S: Shelf>(
+    alloc: Global,
+    shelf: &mut S,
+    asked: &ReplayWords,
+    problem: &Problem,
+    task: &Task,
+    plan: &Plan,
+    world: &mut Box<dyn World>,
+    monitors: &mut Vec<Box<dyn Monitor>>,
+) -> Result<Shown, Refusal>
+    requires in_task { IsPlanOf (fluent_count task.now) (action_count task.now) plan.now }
+    requires untold { All (λ monitor. (shown monitor).counted ≡ 0) monitors.old.items }
+    ensures answer { let failed = FailedLast S.fetched S.faults shelf.old shelf.new in
+        (answer_of result ≡ refused no_memory)
+        ⊎ RecordThen (S.held shelf.old) failed
+        (tallies_of (map (λ monitor. shown monitor) monitors.old.items))
+        asked.now.recorded.now (action_names task.now) (HasTooManyInitial task.now most_followed)
+        (empty_init asked.now.problem.now (problem_value problem.now))
+        (system_of task.now) (plain_of plan.now) (answer_of result) }
+    ensures fetches { Fetches S.fetched (asked.now.recorded.now ∷ []) shelf.old shelf.new }
+    ensures quiet_at { IsQuietAt (answer_of result) (S.faults shelf.old) (S.faults shelf.new) }
+    ensures kept { (file : List ℕ) → S.held shelf.new file ≡ S.held shelf.old file }
+    ensures later { S.faults shelf.old ≤ S.faults shelf.new }
+{
+    let recorded = read_record_file(alloc, shelf, asked.recorded)?;
+    replay_record(alloc, asked, problem, task, plan, recorded, world, monitors)
+}
+
+/// The run of a plan of the task, under a record that was read out of its file.
+fn replay_record(
+    alloc: Global,
+    asked: &ReplayWords,
+    problem: &Problem,
+    task: &Task,
+    plan: &Plan,
+    recorded: Recorded,
+    world: &mut Box<dyn World>,
+    monitors: &mut Vec<Box<dyn Monitor>>,
+) -> Result<Shown, Refusal>
+    requires in_task { IsPlanOf (fluent_count task.now) (action_count task.now) plan.now }
+    requires untold { All (λ monitor. (shown monitor).counted ≡ 0) monitors.old.items }
+    ensures { let sys = system_of task.now in
+        (answer_of result ≡ refused no_memory)
+        ⊎ FirstThen (HasTooManyInitial task.now most_followed)
+        (empty_init asked.now.problem.now (problem_value problem.now)) sys.initial
+        asked.now.recorded.now (record_value recorded)
+        (λ first. IsReplayed
+        (tallies_of (map (λ monitor. shown monitor) monitors.old.items))
+        sys (action_names task.now)
+        (trace_under sys (plain_of plan.now) first recorded.words.items)) (answer_of result) }
+{
+    let first = first_state(alloc, asked, problem, task, &recorded)?;
+    load_world(alloc, world, recorded.words)?;
+    show_run(alloc, task, plan, first, world, monitors)
+}
+
+/// The initial state whose number begins a record that was read out of its file.
+fn first_state(
+    alloc: Global,
+    asked: &ReplayWords,
+    problem: &Problem,
+    task: &Task,
+    recorded: &Recorded,
+) -> Result<State, Refusal>
+    ensures first { IfOk result (λ state. IsFirstState (initial_states task.now)
+        (record_value recorded.now) (vector (fluent_count task.now) state)) }
+    ensures within { IfOk result (IsWithin (fluent_count task.now)) }
+    ensures few { OnOk result (HasTooManyInitial task.now most_followed → ⊥) }
+    ensures refused { IfErr result (λ refusal. (refused (refusal_of refusal) ≡ refused no_memory)
+        ⊎ FirstThen (HasTooManyInitial task.now most_followed)
+        (empty_init asked.now.problem.now (problem_value problem.now)) (initial_states task.now)
+        asked.now.recorded.now (record_value recorded.now) (λ first answer. ⊥)
+        (refused (refusal_of refusal))) }
+{
+    match numbered_initial(alloc, task, recorded.first as usize, MOST_INITIAL) {
+        Ok(Numbered::Found(state)) => Ok(state),
+        Ok(Numbered::Beyond) => Err(Refusal::TextFault(
+            String::from_str(alloc, asked.recorded)?,
+            InputFault {
+                kind: FaultKind::BadNumber,
+                place: recorded.first_place,
+            },
+        )),
+        Ok(Numbered::NoInitial) => Err(no_initial(alloc, asked.problem, problem)?),
+        Err(InitErr::TooMany) => Err(Refusal::OverLimit(Limit::Initial)),
+        Err(InitErr::Memory) => Err(Refusal::NoMemory),
+    }
+}
+
+/// Gives the world the outcome numbers to choose.
+fn load_world(alloc: Global, world: &mut Box<dyn World>, words: Vec<u32>) -> Result<(), AllocError>
+    ensures { OnOk result (left world.new ≡ words.items) }
+{
+    world.load(alloc, words)
+}
+
+/// The run of a plan of the task from a state, with the outcome numbers that the world has.
+fn show_run(
+    alloc: Global,
+    task: &Task,
+    plan: &Plan,
+    first: State,
+    world: &mut Box<dyn World>,
+    monitors: &mut Vec<Box<dyn Monitor>>,
+) -> Result<Shown, Refusal>
+    requires in_task { IsPlanOf (fluent_count task.now) (action_count task.now) plan.now }
+    requires within { IsWithin (fluent_count task.now) first }
+    requires untold { All (λ monitor. (shown monitor).counted ≡ 0) monitors.old.items }
+    ensures { (answer_of result ≡ refused no_memory)
+        ⊎ IsReplayed
+        (tallies_of (map (λ monitor. shown monitor) monitors.old.items))
+        (system_of task.now) (action_names task.now)
+        (trace_under (system_of task.now) (plain_of plan.now)
+        (vector (fluent_count task.now) first) (left world.old)) (answer_of result) }
+{
+    match execute(alloc, task, plan, first, world, monitors) {
+        Ok(trace) => Ok(Shown::Affirmed(Text::Made(write_trace(alloc, task, &trace, monitors)?))),
+        Err(
+            RunErr::StrayOutcome {
+                step,
+                word,
+                outcomes,
+            },
+        ) => Err(Refusal::StrayOutcome {
+            step,
+            word,
+            outcomes,
+        }),
+        Err(RunErr::Unexecutable { step }) => Err(Refusal::Unexecutable { step }),
+        Err(RunErr::Memory) => Err(Refusal::NoMemory),
+    }
+}

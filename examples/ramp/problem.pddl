@@ -1,0 +1,3 @@
+(define (problem careful) (:domain ramp)
+  (:init (at-kitchen))
+  (:goal (and (at-ward) (not (spilled)))))
