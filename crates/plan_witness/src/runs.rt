@@ -126,7 +126,7 @@ fn run_to(
 {
     let mut steps = VecDeque::new(alloc);
     let mut number = end;
-    while ways.length_at(number) > 0 {
+    'back: while ways.length_at(number) > 0 {
         let before = ways.before_at(number);
         let step = step_at(task, rules, graph, before, number);
         steps.push_front(step)?;

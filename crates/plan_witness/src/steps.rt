@@ -6,10 +6,13 @@ ghost use Rattle.std.specs.Prelude.{
   All,
   IfNone,
   IfSome,
+  OnSome,
+  true,
   Some,
   map,
   ℕ,
 };
+ghost use Rattle.task_core.specs.Cubes.{matches};
 ghost use Rattle.task_core.specs.States.{IsWithin, vector};
 ghost use Rattle.task_core.specs.Systems.{Exec, HasOutcome};
 ghost use Rattle.task_core.specs.Tables.{Leads};
@@ -49,17 +52,44 @@ pub(crate) fn step_between(task: &Task, rules: &[Rule], from: &State, to: &State
 {
     for number in 0..rules.len() {
         let rule = &rules[number];
-        if has_all(task, &rule.cube, from) && is_exec(task, from, rule.action) {
-            if let Some(outcome) = outcome_to(task, from, rule.action, to) {
+        match outcome_by(task, rule, from, to) {
+            Some(outcome) => {
                 return Some(Taken {
                     rule: number,
                     action: rule.action,
                     outcome,
                 });
             }
+            None => {}
         }
     }
     None
+}
+
+/// The first outcome by which a rule leads from a state to another.
+fn outcome_by(task: &Task, rule: &Rule, from: &State, to: &State) -> Option<u32>
+    requires rule { let n = fluent_count task.now in let m = action_count task.now in
+        IsRuleOf n m (rule_of rule.now) }
+    requires from { IsWithin (fluent_count task.now) from.now }
+    requires to { IsWithin (fluent_count task.now) to.now }
+    ensures matched { let n = fluent_count task.now in
+        OnSome result (matches rule.now.cube.items (vector n from.now) ≡ true) }
+    ensures below { IfSome result (λ outcome.
+        outcome < (system_of task.now).outcomes rule.now.action.0) }
+    ensures leads { let n = fluent_count task.now in IfSome result (λ outcome.
+        (system_of task.now).after (vector n from.now) rule.now.action.0 outcome
+        ≡ Some (vector n to.now)) }
+    ensures none { let n = fluent_count task.now in IfNone result
+        (matches rule.now.cube.items (vector n from.now) ≡ true
+        → HasOutcome (system_of task.now) (vector n from.now) rule.now.action.0 (vector n to.now) → ⊥) }
+{
+    if !has_all(task, &rule.cube, from) {
+        return None;
+    }
+    if !is_exec(task, from, rule.action) {
+        return None;
+    }
+    outcome_to(task, from, rule.action, to)
 }
 
 /// The first outcome of an action that leads from a state to another.
@@ -68,9 +98,9 @@ fn outcome_to(task: &Task, from: &State, action: ActionId, to: &State) -> Option
     requires from { IsWithin (fluent_count task.now) from.now }
     requires to { IsWithin (fluent_count task.now) to.now }
     requires executable { Exec (system_of task.now) (vector (fluent_count task.now) from.now) action.0 }
-    ensures found { let n = fluent_count task.now in let sys = system_of task.now in
-        IfSome result (λ outcome. (outcome < sys.outcomes action.0)
-        × (sys.after (vector n from.now) action.0 outcome ≡ Some (vector n to.now))) }
+    ensures below { IfSome result (λ outcome. outcome < (system_of task.now).outcomes action.0) }
+    ensures leads { let n = fluent_count task.now in IfSome result (λ outcome.
+        (system_of task.now).after (vector n from.now) action.0 outcome ≡ Some (vector n to.now)) }
     ensures none { let n = fluent_count task.now in IfNone result
         (HasOutcome (system_of task.now) (vector n from.now) action.0 (vector n to.now) → ⊥) }
 {

@@ -36,6 +36,6 @@ returns g c =
     let i = c.loop-now.invariant in
     let same = r.grown.same c.loop-now-test.false in
     let few = i.few in
-    made_ways n (followers_at c.args.graph.now) c.args.starts.now c.round.new.self.lengths.items c.round.new.self.before.items c.loop-now.now (omega (arith, few)) (omega (arith, c.len.ensures.len, c.len.ensures.few)) r.round
+    made_ways n (followers_at c.args.graph.now) c.args.starts.now c.round.new.self.lengths.items c.round.new.self.before.items c.loop-now.now (omega (arith, few)) (omega (arith, c.len-count.ensures.len, c.len-count.ensures.few)) r.round
     (λ k l h. subst (λ (xs : List ℕ). at xs k ≤ c.loop-now.now) (sym same) (i.reached k l (subst (λ (xs : List ℕ). at xs k < far) same h)))
     (λ k b. ((λ m. (r.grown.zeros k).1 ((i.starts k b).0 m)), (λ z. (i.starts k b).1 ((r.grown.zeros k).0 z))))
