@@ -6,8 +6,10 @@
 //! what the end of a run shows.
 #![tactic(auto)]
 
+mod reasons;
 mod runs;
 mod steps;
 mod ways;
 
+pub use reasons::{terminal_run, unexecutable_run};
 pub use runs::{Run, RunStep};
