@@ -1,3 +1,4 @@
 pub mod Visits
 pub mod Taken
 pub mod Shortest
+pub mod Meanings

@@ -1,18 +1,17 @@
 -- The run along a shortest way is a shortest run.
-use Rattle.std.proofs.Common.{◌≡◌, ◌≢◌, ◌⊎◌, ◌↔◌, ℕ, ◌+◌, ◌<◌, ◌≤◌, Bool, true, false, List, [], ◌∷◌, length, map, Option, Some, None, get_or, nat_lt, refl, sym, ap, ◌∙◌, subst, arith}
+use Rattle.std.proofs.Common.{◌≡◌, ℕ, ◌+◌, ◌<◌, ◌≤◌, Bool, false, List, [], ◌∷◌, length, get_or, nat_lt, refl, sym, ap, ◌∙◌, subst, arith}
 use Rattle.std.specs.List.{Contains}
 use Rattle.task_core.specs.Vectors.{Vector}
 use Rattle.task_core.specs.Systems.{System}
 use Rattle.task_core.specs.Tables.{Leads}
 use Rattle.task_core.specs.Paths.{IsPath, last_of}
-use Rattle.task_core.specs.Solutions.{IsReached}
 use Rattle.task_core.specs.Tasks.{fluent_count, system_of}
 use Rattle.task_core.specs.declared.tasks.Task.{Task}
 use Rattle.plan_rules.specs.Rules.{PlanRule}
 use Rattle.plan_rules.specs.Denoted.{denoted}
 use Rattle.exec_graph.specs.Values.{followers_at, graph_size, plain_graph, state_at}
 use Rattle.exec_graph.specs.declared.graphs.Graph.{Graph}
-use Rattle.plan_check.specs.Walks.{IsMarked, IsWalk, last_number}
+use Rattle.plan_check.specs.Walks.{IsWalk, last_number}
 use Rattle.plan_check.proofs.GraphPaths.{end_of_walk, last_node, length_walk, node_of, same_number, walk_of}
 use Rattle.plan_witness.specs.Marked.{IsGraphOfRules, IsMarkedState, LeadsBack}
 use Rattle.plan_witness.specs.Runs.{IsShortestRun, PlainRun}
@@ -70,11 +69,12 @@ module _ (task : Task) (rules : List PlanRule) (graph : Graph) (g : IsGraphOfRul
       let walk = walk_of sys g.class rules (plain_graph n graph) g.is i rest l (subst (λ s. IsPath (Leads sys (denoted sys rules)) s rest) (sym is) path) in
       let zeroth = from.3 in
       let b = walk_bound (graph_size graph) (followers_at graph) starts lengths before w g.is.next_below i walk.numbers 0 l (record { most = omega (arith, zeroth); reached = omega (arith, zeroth) }) walk.walk in
-      let len = length_walk sys g.class rules (plain_graph n graph) g.is i rest walk in
-      (last_number i walk.numbers,
+      let len = length_walk sys g.class rules (plain_graph n graph) g.is i rest walk in (
+        last_number i walk.numbers,
         last_node sys g.class rules (plain_graph n graph) g.is i walk.numbers l walk.walk,
         end_of_walk sys g.class rules (plain_graph n graph) g.is i rest walk ∙ ap (λ s. last_of s rest) is,
-        record { most = let m = b.most in omega (arith, m, len); reached = b.reached })
+        record { most = let m = b.most in omega (arith, m, len); reached = b.reached },
+      )
 
   -- there is a way to each number
   pub each_reached : (i : ℕ) → i < graph_size graph → at lengths i < far

@@ -1,10 +1,9 @@
 -- A round of visits, step by step.
-use Rattle.std.proofs.Common.{◌≡◌, ◌≢◌, ◌⊎◌, ◌↔◌, ◌==◌, ℕ, ◌+◌, ◌<◌, ◌≤◌, Bool, true, false, cond, List, length, set, get_or, slice_index_or, refl, sym, ap, ◌∙◌, subst, arith, ⊎_elim, inl, inr}
+use Rattle.std.proofs.Common.{◌≡◌, ◌≢◌, ◌⊎◌, ◌↔◌, ◌==◌, ℕ, ◌+◌, ◌<◌, ◌≤◌, Bool, true, false, cond, List, length, set, get_or, refl, sym, ap, ◌∙◌, subst, arith, ⊎_elim, inl, inr}
 use Rattle.std.specs.List.{Contains}
 use borrow.Author.Count.{below_more}
-use Rattle.std.proofs.lemmas.Bool.{cases_eq, cases_lt, eq-eqb, ne_eqb}
+use Rattle.std.proofs.lemmas.Bool.{cases_eq, eq-eqb, ne_eqb}
 use Rattle.std.proofs.lemmas.List.{get_or-set_other, length-set}
-use Rattle.std.proofs.lemmas.List.Elements.{Contains-get_or}
 use Rattle.std.proofs.lemmas.List.Sums.{count_by-le-length, sum_by-set}
 use Rattle.std.proofs.lemmas.Grind.{get_or_default_zero, get_or-set_at}
 use Rattle.plan_check.specs.Walks.{IsMarked, StaysBelow}
@@ -114,7 +113,6 @@ module _ (n : ℕ) (next : ℕ → List ℕ) (lengths before : List ℕ) (now nu
 
   pub found_fewer : far_count (set lengths f (now + 1)) < far_count lengths
   found_fewer =
-      
       let lt : f < length lengths = (let k = r.lengths_count in let m = to_below in omega arith) in
       let s : far_count (set lengths f (now + 1)) + far_one (at lengths f) ≡ far_count lengths + far_one (now + 1) = sum_by-set far_one lengths f (now + 1) 0 lt in
       let a : far_one (at lengths f) ≡ 1 = ap (λ b. cond b 1 0) (eq-eqb (at lengths f) far unset) in

@@ -1,6 +1,6 @@
 -- Private: the shortest ways through a finite graph whose nodes are the numbers below n, each with
 -- the list of those that follow it.
-use Rattle.std.specs.Prelude.{◌≡◌, ◌⊎◌, ◌<◌, ◌≤◌, ◌+◌, ◌==◌, ◌↔◌, ℕ, Bool, true, false, List, length, count_by}
+use Rattle.std.specs.Prelude.{◌≡◌, ◌<◌, ◌≤◌, ◌+◌, ◌==◌, ◌↔◌, ℕ, Bool, true, false, List, length, count_by}
 use Rattle.std.specs.Prelude.{slice_index_or}
 use Rattle.std.specs.List.{Contains}
 use Rattle.plan_check.specs.Walks.{IsMarked}

@@ -22,3 +22,6 @@ loop-i-preserved c =
           (subst (λ v. (x ≡ true) ↔ HasBadRule (system_of c.args.task.now) (map rule_of c.args.rules.now) v) (sym (c.state.ensures.state n)) c.has_bad_rule.ensures)
           k l);
     }
+
+pub has_bad_rule-requires-clause-within : goal.has_bad_rule-requires-clause-within
+has_bad_rule-requires-clause-within c = c.state.ensures.within (fluent_count c.args.task.now) c.requires.within

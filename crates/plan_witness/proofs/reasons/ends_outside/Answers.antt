@@ -1,4 +1,4 @@
-use Rattle.std.proofs.Common.{◌≡◌, ◌↔◌, ◌+◌, ℕ, length, sym, ap, ◌∙◌, subst}
+use Rattle.std.proofs.Common.{◌↔◌, ◌+◌, arith, length, sym, ap, ◌∙◌, subst}
 use Rattle.std.proofs.lemmas.List.{length_push}
 use Rattle.plan_check.specs.Walks.{IsMarked}
 use Rattle.plan_check.proofs.MarkFacts.{marked_push}
@@ -16,3 +16,6 @@ loop-i-preserved c =
           (marked_push old x (IsNumberOutside n c.args.goal.now c.args.graph.now) c.loop-i.i c.loop-i.invariant.count
           (λ j m. c.loop-i.invariant.marked n j below m) (c.is_outside.ensures n below) k l);
     }
+
+pub returns-clause-marked : goal.returns-clause-marked
+returns-clause-marked c = λ n i below l. c.loop-i.invariant.marked n i below (omega (arith, c.len-i-end.ensures.size 0))

@@ -1,7 +1,6 @@
-use Rattle.std.proofs.Common.{◌≡◌, ◌<◌, ℕ, false, length, map, get_or, sym, ap, ◌∙◌, subst}
+use Rattle.std.proofs.Common.{◌<◌, false, map, get_or, ap, ◌∙◌, subst}
 use Rattle.task_core.specs.Tasks.{fluent_count}
 use Rattle.plan_rules.specs.Rules.{rule_of}
-use Rattle.exec_graph.specs.Values.{graph_size}
 use Rattle.plan_check.proofs.MarkFacts.{marked_below}
 use Rattle.plan_witness.specs.Values.{run_value}
 use Rattle.plan_witness.proofs.Shortest.{each_reached, shortest}

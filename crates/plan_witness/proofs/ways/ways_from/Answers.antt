@@ -1,6 +1,6 @@
-use Rattle.std.proofs.Common.{◌≡◌, ◌+◌, ◌<◌, ◌≤◌, ℕ, List, length, sym, ap, ◌∙◌, subst, arith}
+use Rattle.std.proofs.Common.{◌≡◌, ◌<◌, ◌≤◌, ℕ, List, length, sym, ◌∙◌, subst, arith}
 use Rattle.exec_graph.specs.Values.{followers_at, graph_size}
-use Rattle.plan_witness.specs.Ways.{IsRound, at, far, far_count}
+use Rattle.plan_witness.specs.Ways.{at, far}
 use Rattle.plan_witness.proofs.Visits.{first_round, made_ways, marked_zero, next_round, reached_first, far_few}
 use Rattle.plan_witness.proofs.ways.ways_from.Goals as goal
 

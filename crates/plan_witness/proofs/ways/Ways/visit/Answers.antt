@@ -1,7 +1,7 @@
-use Rattle.std.proofs.Common.{◌<◌, ◌+◌, true, false, cond, set, length, get_or, refl, sym, ap, ◌∙◌, subst, arith}
+use Rattle.std.proofs.Common.{◌<◌, ◌+◌, true, cond, set, length, sym, ap, ◌∙◌, subst, arith}
 use Rattle.exec_graph.specs.Values.{followers_at, graph_size}
-use Rattle.plan_witness.specs.Ways.{HasGrown, IsVisiting, at}
-use Rattle.plan_witness.proofs.Visits.{follows, grown_found, grown_more, grown_none, grown_same, skipped_round, visited_round, visiting_found, visiting_known}
+use Rattle.plan_witness.specs.Ways.{HasGrown, IsVisiting}
+use Rattle.plan_witness.proofs.Visits.{follows, grown_found, grown_more, grown_none, skipped_round, visited_round, visiting_found, visiting_known}
 use Rattle.plan_witness.proofs.ways.Ways.visit.Goals as goal
 use Rattle.plan_witness.proofs.ways.Ways.visit.Goals.{then-reach, else-reach}
 
@@ -24,7 +24,7 @@ reach-requires g c =
     let v = c.loop-k.invariant.visiting in
     let lt = c.loop-k-test.true in
     let b = c.requires.inside c.args.number c.next_at-follower.result c.requires.number
-        (follows (graph_size c.args.graph.now) (followers_at c.args.graph.now) c.loop-k.self.lengths.items c.loop-k.self.before.items c.args.now c.args.number c.loop-k.k c.next_at-follower.result c.requires.inside c.requires.number c.requires.few v (omega (arith, lt, c.next_len-k-end.ensures)) c.next_at-follower.ensures.next) in
+    (follows (graph_size c.args.graph.now) (followers_at c.args.graph.now) c.loop-k.self.lengths.items c.loop-k.self.before.items c.args.now c.args.number c.loop-k.k c.next_at-follower.result c.requires.inside c.requires.number c.requires.few v (omega (arith, lt, c.next_len-k-end.ensures)) c.next_at-follower.ensures.next) in
     let lc = v.round.lengths_count in
     let bc = v.round.before_count in
     record { lengths = omega (arith, b, lc); before = omega (arith, b, bc) }
