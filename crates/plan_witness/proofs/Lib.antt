@@ -1,0 +1,4 @@
+pub mod Visits
+pub mod Taken
+pub mod Shortest
+pub mod Meanings

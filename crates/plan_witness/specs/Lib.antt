@@ -1,0 +1,5 @@
+pub mod Runs
+pub mod Ends
+pub mod Values
+pub mod Ways
+pub mod Marked
