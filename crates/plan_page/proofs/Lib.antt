@@ -1,1 +1,2 @@
 mod NoFloats
+mod NoMarkup

@@ -138,7 +138,11 @@ escaped_byte byte =
 abbrev pub escaped : List ℕ → List ℕ
 escaped = flat_map escaped_byte
 
+-- a page with these data
+abbrev pub framed_text : List ℕ → List ℕ
+framed_text json = head_text ++ escaped json ++ tail_text
+
 -- the text of the page
 abbrev pub page_of : List Name → List Name → System → PlainPlan → List PlainNode → List ℕ
 page_of fluents actions sys plan nodes =
-    head_text ++ escaped (compact_text (page_data fluents actions sys plan nodes)) ++ tail_text
+    framed_text (compact_text (page_data fluents actions sys plan nodes))

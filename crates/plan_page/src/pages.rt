@@ -1,6 +1,6 @@
 //! The text of a page.
 
-ghost use Rattle.plan_page.specs.Pages.{data_object as data_of, page_data, page_of};
+ghost use Rattle.plan_page.specs.Pages.{data_object as data_of, framed_text, page_data, page_of};
 ghost use Rattle.plan_picture.specs.Values.{nodes_of};
 ghost use Rattle.plan_rules.specs.Rules.{plain_of};
 ghost use Rattle.serde_json.specs.View.{view};
@@ -34,9 +34,16 @@ pub fn page_text(
 {
     let value = page_value(alloc, task, plan, picture)?;
     let text = value.to_string(alloc)?;
+    framed(alloc, text.as_bytes())
+}
+
+/// A page with these data.
+fn framed(alloc: Global, json: &[u8]) -> Result<Vec<u8>, AllocError>
+    ensures { IfOk result (λ text. text.items ≡ framed_text json.now) }
+{
     let mut out = Vec::new(alloc);
     push_text(&mut out, page_head())?;
-    push_escaped(&mut out, text.as_bytes())?;
+    push_escaped(&mut out, json)?;
     push_text(&mut out, page_tail())?;
     Ok(out)
 }

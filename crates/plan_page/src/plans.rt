@@ -28,6 +28,7 @@ use std::alloc::{AllocError, Global};
 use task_core::ActionId;
 
 /// The class of a plan, the number of its contexts, and its rules.
+#[derive(Drop)]
 pub(crate) struct PlanValues {
     pub(crate) class: Value,
     pub(crate) contexts: Value,

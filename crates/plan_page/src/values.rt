@@ -14,7 +14,18 @@ ghost use Rattle.plan_page.specs.Pages.{
 ghost use Rattle.plan_picture.specs.Values.{node_value, step_value};
 ghost use Rattle.serde_json.specs.Data.{array, boolean, item, no_items};
 ghost use Rattle.serde_json.specs.View.{view};
-ghost use Rattle.std.specs.Prelude.{◌≡◌, ◌≤◌, ◌<◌, ◌∷◌, [], IfOk, length, map};
+ghost use Rattle.std.specs.Prelude.{
+  ◌≡◌,
+  ◌<◌,
+  ◌++◌,
+  ◌∷◌,
+  [],
+  IfOk,
+  OnOk,
+  if◌then◌else◌,
+  length,
+  map,
+};
 ghost use Rattle.std.specs.Rc.{rc_str_bytes};
 ghost use Rattle.task_core.specs.Names.{name_bytes, name_of};
 ghost use Rattle.task_core.specs.States.{vector};
@@ -151,11 +162,20 @@ fn true_fluents(alloc: Global, task: &Task, state: &State) -> Result<Value, Allo
 {
     let mut numbers = Vec::new(alloc);
     for number in 0..task.fluents.len() as u32 {
-        if state.get(FluentId(number)) {
-            numbers.push(count_value(number))?;
-        }
+        push_if(&mut numbers, number, state.get(FluentId(number)))?;
     }
     Ok(Value::from(numbers))
+}
+
+/// Adds a number, if it is wanted.
+fn push_if(numbers: &mut Vec<Value>, number: u32, is_wanted: bool) -> Result<(), AllocError>
+    ensures { OnOk result (map view numbers.new.items
+        ≡ map view numbers.old.items ++ map count_data (if is_wanted then number ∷ [] else [])) }
+{
+    if is_wanted {
+        numbers.push(count_value(number))?;
+    }
+    Ok(())
 }
 
 /// The steps from a node.
