@@ -1,5 +1,5 @@
 -- What is escaped has no markup.
-use Rattle.std.proofs.Common.{◌≡◌, ◌==◌, ℕ, List, [], ◌∷◌, Bool, true, false, refl, tt}
+use Rattle.std.proofs.Common.{◌≡◌, ◌==◌, ℕ, List, [], ◌∷◌, Bool, true, false, refl}
 use Rattle.std.proofs.lemmas.List.Elements.{All-append, All-from_recursion, All-nil}
 use Rattle.std.specs.Prelude.{All, codes}
 use Rattle.plan_page.specs.Pages.{escaped, escaped_byte, is_markup}
@@ -8,13 +8,13 @@ abbrev Free : ℕ → Type 0
 Free byte = is_markup byte ≡ false
 
 less : All Free (codes "\\u003c")
-less = All-from_recursion Free (codes "\\u003c") (refl, refl, refl, refl, refl, refl, tt)
+less = All-from_recursion Free (codes "\\u003c") (refl, (refl, (refl, (refl, (refl, (refl, tt))))))
 
 more : All Free (codes "\\u003e")
-more = All-from_recursion Free (codes "\\u003e") (refl, refl, refl, refl, refl, refl, tt)
+more = All-from_recursion Free (codes "\\u003e") (refl, (refl, (refl, (refl, (refl, (refl, tt))))))
 
 ampersand : All Free (codes "\\u0026")
-ampersand = All-from_recursion Free (codes "\\u0026") (refl, refl, refl, refl, refl, refl, tt)
+ampersand = All-from_recursion Free (codes "\\u0026") (refl, (refl, (refl, (refl, (refl, (refl, tt))))))
 
 by_third : (byte : ℕ) (t : Bool) → (byte == 38) ≡ t → (byte == 60) ≡ false → (byte == 62) ≡ false → All Free (escaped_byte byte)
 by_third byte true is first second = rw (first, second, is) ampersand
