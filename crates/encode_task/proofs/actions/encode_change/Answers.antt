@@ -1,5 +1,5 @@
 -- One literal more.
-use Rattle.std.proofs.Common.{Contains, ◌≡◌, ◌+◌, ◌++◌, ◌∙◌, ◌≤◌, ◌<◌, ◌&&◌, [], ◌∷◌, ℕ, false, append-nil, take, get_or, arith, ap, refl, subst, sym}
+use Rattle.std.proofs.Common.{Contains, ◌≡◌, ◌+◌, ◌++◌, ◌∙◌, ◌≤◌, ◌<◌, [], ◌∷◌, ℕ, false, true, append-nil, take, get_or, arith, ap, refl, subst, sym}
 use Rattle.std.specs.List.{list_all}
 use Rattle.std.proofs.lemmas.Bool.{and_parts, ltb-true}
 use Rattle.std.proofs.lemmas.List.{append_assoc, take_all, take_more}
@@ -38,9 +38,10 @@ encode_fluent-requires-clause-fluent c =
     let n = c.args.sets.now.vars in
     let vars : c.loop-lit.sets.vars ≡ n = c.loop-lit.invariant.kept.vars in
     let lit : Lit = get_or c.deref-lit-items.result.now c.loop-lit.lit-index (record { fluent = record { 0 = 0 }; positive = false }) in
-    let passes = lit_passes (λ (l : Lit). lit_within n l && ids_below n c.args.change.now.cond) c.deref-lit-items.result.now c.loop-lit.lit-index (record { fluent = record { 0 = 0 }; positive = false })
-    (ap (list_all (λ (l : Lit). lit_within n l && ids_below n c.args.change.now.cond)) c.deref-lit-items.ensures.value ∙ c.requires.named) c.loop-lit-test.true in
-    let low : lit.fluent.0 < n = ltb-true lit.fluent.0 n (and_parts (lit_within n lit) (ids_below n c.args.change.now.cond) passes).0 in
+    let literals : list_all (lit_within n) c.args.change.now.lits.items ≡ true = (and_parts (ids_below n c.args.change.now.cond) (list_all (lit_within n) c.args.change.now.lits.items) c.requires.named).1 in
+    let passes = lit_passes (lit_within n) c.deref-lit-items.result.now c.loop-lit.lit-index (record { fluent = record { 0 = 0 }; positive = false })
+    (ap (list_all (lit_within n)) c.deref-lit-items.ensures.value ∙ literals) c.loop-lit-test.true in
+    let low : lit.fluent.0 < n = ltb-true lit.fluent.0 n passes in
     omega arith
 
 pub returns-in_err-encode_fluent-clause-full : goal.returns-in_err-encode_fluent-clause-full
