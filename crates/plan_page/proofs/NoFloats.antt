@@ -6,7 +6,7 @@ use Rattle.serde_json.specs.Written.{has_float, items_have_float}
 use Rattle.task_core.specs.Cubes.{Cube}
 use Rattle.task_core.specs.Names.{Name}
 use Rattle.task_core.specs.Systems.{System}
-use Rattle.plan_picture.specs.Pictures.{PlainNode, PlainStep}
+use Rattle.plan_picture.specs.Pictures.{PlainNode}
 use Rattle.plan_rules.specs.Rules.{ContextRule, PlainPlan, PlanCase, PlanNext, PlanRule, always, automaton, by_cases, table}
 use Rattle.plan_page.specs.Pages.{case_data, context_rule_data, count_data, cube_data, list_data, literal_data, name_data, next_data, node_data, outcomes_below, page_data, step_data, table_rule_data, true_below}
 

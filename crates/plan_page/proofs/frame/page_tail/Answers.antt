@@ -1,4 +1,4 @@
-use Rattle.std.proofs.Common.{◌≡◌, refl}
+use Rattle.std.proofs.Common.{refl}
 use Rattle.plan_page.specs.Frame.{tail_text}
 use Rattle.plan_page.proofs.frame.page_tail.Goals as goal
 
