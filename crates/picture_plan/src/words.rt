@@ -26,7 +26,7 @@ pub(crate) fn read_words<'a>(words: &'a [String]) -> Option<PictureWords<'a>>
             plan,
             page: false,
         }),
-        [domain, problem, plan, word] if word == "--page" => Some(PictureWords {
+        [domain, problem, plan, word] if word.as_str() == "--page" => Some(PictureWords {
             domain,
             problem,
             plan,
