@@ -14,7 +14,7 @@ use indexmap::IndexSet;
 use plan_guide::{Guide, GuideNext};
 use reached_plan::ReachedPlan;
 use std::alloc::Global;
-use task_core::{ActionId, State, Task, in_space, step};
+use task_core::{ActionId, State, Task, in_space, outcome_count, step};
 
 /// A configuration: a state, and the context that the plan is in, counted from 0.
 #[derive(Clone, Copy, PartialEq, Eq, Hash)]
@@ -37,14 +37,12 @@ pub(crate) struct Followed {
     pub(crate) places: Vec<Place>,
     pub(crate) steps: Vec<u32>,
     pub(crate) moves: Vec<Option<Move>>,
-    /// How many contexts the plan has.
-    pub(crate) contexts: u32,
     seen: IndexSet<Place>,
 }
 
 impl Followed {
-    /// The initial configurations of a plan with so many contexts.
-    pub(crate) fn begin(alloc: Global, states: &[State], contexts: u32) -> Result<Followed, Stop>
+    /// The initial configurations.
+    pub(crate) fn begin(alloc: Global, states: &[State]) -> Result<Followed, Stop>
         ensures { IfOk result (λ followed. (n : ℕ) → All (IsWithin n) states.now
             → AreReachedWithin n followed.places.items) }
     {
@@ -52,7 +50,6 @@ impl Followed {
             places: Vec::new(alloc),
             steps: Vec::new(alloc),
             moves: Vec::new(alloc),
-            contexts,
             seen: IndexSet::new(alloc),
         };
         for state in states {
@@ -178,6 +175,36 @@ impl Followed {
             }
         }
         Ok(())
+    }
+
+    /// Finds the same configurations once more, in the order of the steps after which they are found,
+    /// with what the plan does in them as it was found in another order.
+    pub(crate) fn visit_again(&mut self, task: &Task, known: &Followed) -> Result<(), Stop>
+        requires within { AreReachedWithin (fluent_count task.now) self.old.places.items }
+    {
+        for number in 0..MAX_CONFIGURATIONS {
+            if number >= self.places.len() {
+                return Ok(());
+            }
+            let place = self.places[number];
+            if let Some(taken) = known.move_of(task, &place) {
+                self.take(task, number, &place.state, taken.action, taken.next)?;
+            }
+        }
+        Ok(())
+    }
+
+    /// What the plan does in a configuration, if it is an action of the task.
+    fn move_of(&self, task: &Task, place: &Place) -> Option<Move>
+        ensures { IfSome result (λ taken. taken.action.0 < action_count task.now) }
+    {
+        let number = self.seen.get_index_of(place)?;
+        let taken = self.moves.get(number).copied()??;
+        if (taken.action.0 as usize) < task.actions.len() {
+            Some(taken)
+        } else {
+            None
+        }
     }
 
     /// Notes that the plan takes an action in the state of a configuration, and adds what follows.
@@ -309,12 +336,4 @@ fn is_taken_in(enc: &Enc, slots: &[SetId], first: usize, after: usize, state: &S
         }
         None => false,
     }
-}
-
-/// How many outcomes an action has.
-fn outcome_count(task: &Task, action: ActionId) -> u32
-    requires { action.0 < action_count task.now }
-    ensures { result ≡ length (outcomes_at task.now action.0) }
-{
-    task.actions[action.0 as usize].outcomes.len() as u32
 }

@@ -3,33 +3,35 @@
 ghost use Rattle.controller_plan.specs.Followed.{AreReachedWithin, AreSlotsLive};
 ghost use Rattle.ctl_syntax.specs.Values.{IsAtMostDeep, NamesBelow, ctl_value};
 ghost use Rattle.encode_task.specs.Made.{MadeOf};
-ghost use Rattle.mbp_top.specs.Words.{IsNodeLimit};
+ghost use Rattle.command_base.specs.Words.{IsNodeLimit};
+ghost use Rattle.plan_rules.specs.Plans.{IsPlanOf};
 ghost use Rattle.plan_theory.specs.Classes.{IsFoundByLayers};
 ghost use Rattle.std.specs.Prelude.{◌≡◌, ◌≤◌, IfOk, IfSome, IsSome, OnOk};
 ghost use Rattle.task_core.specs.Tasks.{action_count, fluent_count};
 
 use crate::context_searches::follow_contexts;
 use crate::followed::Followed;
+use command_base::{PlanKind, PlanWords};
 use cyclic_plan::{cyclic_takers, takers_of};
 use dd_sets::{SetErr, SetId};
 use encode_task::{Enc, encode};
 use exec_graph::MAX_CONFIGURATIONS;
 use ground_task::Grounded;
-use mbp_top::{PlanKind, PlanWords, encode_ordered};
-use plan_rules::Class;
+use plan_guide::Guide;
+use plan_rules::{Class, Plan};
 use reach_plan::{Takers, find_takers};
 use reached_plan::{ReachedPlan, plan_reached};
 use std::alloc::{AllocError, AllocFailed, Global};
 use task_core::{ActionId, InitErr, Task, init_states};
+use task_sets::encode_ordered;
 
 /// What came of a search.
 #[derive(Drop)]
 pub(crate) enum Sought {
     /// This is what a plan reaches, and what it does there.
     Followed(Followed),
-    /// There are too many initial states, or more is reached than may be followed.
-    TooMany,
-    /// No plan was found, for whatever reason.
+    /// No plan was found, or more is reached than may be followed, or for whatever other reason there is
+    /// nothing to be shown.
     Nothing,
 }
 
@@ -92,9 +94,7 @@ pub(crate) fn seek(
     };
     match found {
         Ok(Some(followed)) => Ok(Sought::Followed(followed)),
-        Ok(None) => Ok(Sought::Nothing),
-        Err(Stop::Full) => Ok(Sought::Nothing),
-        Err(Stop::TooMany) => Ok(Sought::TooMany),
+        Ok(None) | Err(Stop::Full | Stop::TooMany) => Ok(Sought::Nothing),
         Err(Stop::Memory) => Err(AllocError),
     }
 }
@@ -121,7 +121,7 @@ fn follow_reached(
     task: &Task,
     plan: &ReachedPlan,
 ) -> Result<Option<Followed>, Stop> {
-    let mut followed = begun(alloc, task, 1)?;
+    let mut followed = begun(alloc, task)?;
     followed.visit_reached(task, plan)?;
     Ok(Some(followed))
 }
@@ -233,16 +233,41 @@ fn follow_table(
 ) -> Result<Option<Followed>, Stop>
     requires live { AreSlotsLive enc.now.sets slots.now }
 {
-    let mut followed = begun(alloc, task, 1)?;
+    let mut followed = begun(alloc, task)?;
     followed.visit(task, enc, slots, first, 0, 0)?;
     Ok(Some(followed))
 }
 
-/// The initial configurations of a plan with so many contexts.
-pub(crate) fn begun(alloc: Global, task: &Task, contexts: u32) -> Result<Followed, Stop>
+/// The initial configurations.
+pub(crate) fn begun(alloc: Global, task: &Task) -> Result<Followed, Stop>
     ensures { IfOk result
         (λ followed. AreReachedWithin (fluent_count task.now) followed.places.items) }
 {
     let states = init_states(alloc, task, MAX_CONFIGURATIONS)?;
-    Followed::begin(alloc, &states, contexts)
+    Followed::begin(alloc, &states)
+}
+
+/// What a plan of a task reaches, if it can be followed. A table begins in the first context, and stays.
+pub(crate) fn follow_found(
+    alloc: Global,
+    task: &Task,
+    plan: &Plan,
+) -> Result<Option<Followed>, AllocError>
+    requires { IsPlanOf (fluent_count task.now) (action_count task.now) plan.now }
+{
+    match follow_plan(alloc, task, plan) {
+        Ok(followed) => Ok(Some(followed)),
+        Err(Stop::Full | Stop::TooMany) => Ok(None),
+        Err(Stop::Memory) => Err(AllocError),
+    }
+}
+
+/// The same, or why it can't be followed.
+pub(crate) fn follow_plan(alloc: Global, task: &Task, plan: &Plan) -> Result<Followed, Stop>
+    requires { IsPlanOf (fluent_count task.now) (action_count task.now) plan.now }
+{
+    let guide = Guide::new(alloc, task, plan)?;
+    let mut followed = begun(alloc, task)?;
+    followed.visit_guided(task, &guide)?;
+    Ok(followed)
 }

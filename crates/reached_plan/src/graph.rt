@@ -9,7 +9,8 @@ ghost use Rattle.task_core.specs.Tasks.{action_count, fluent_count, outcomes_at}
 use indexmap::IndexSet;
 use std::alloc::{AllocError, AllocFailed, Global};
 use task_core::{
-    ActionId, Cond, InitErr, State, Task, cond_holds, in_space, init_states, is_exec, step,
+    ActionId, Cond, InitErr, State, Task, cond_holds, in_space, init_states, is_exec,
+    outcome_count, step,
 };
 
 /// The most states that are gone through.
@@ -61,7 +62,7 @@ pub(crate) struct Move {
 /// The states that can be reached by actions in states outside the goal, numbered in the order in
 /// which they were found, the initial ones first.
 #[derive(Drop)]
-pub(crate) struct Graph {
+pub(crate) struct StepGraph {
     pub(crate) states: Vec<State>,
     /// How many of them are initial.
     pub(crate) initial: usize,
@@ -74,7 +75,7 @@ pub(crate) struct Graph {
 }
 
 /// The states that can be reached of a task with this goal, unless there are too many.
-pub(crate) fn explore(alloc: Global, task: &Task, goal: &Cond) -> Result<Graph, Stop>
+pub(crate) fn go_through(alloc: Global, task: &Task, goal: &Cond) -> Result<StepGraph, Stop>
     requires { IsTrue (ids_below 256 goal.now) }
 {
     let mut graph = initial_graph(alloc, task)?;
@@ -85,11 +86,12 @@ pub(crate) fn explore(alloc: Global, task: &Task, goal: &Cond) -> Result<Graph, 
         let state = graph.states[number];
         graph.expand(alloc, task, goal, &state)?;
     }
-    Err(Stop::TooMany)
+    // So many were gone through, and there are no more: one more would have been refused.
+    Ok(graph)
 }
 
 /// The initial states, before anything is done in them.
-fn initial_graph(alloc: Global, task: &Task) -> Result<Graph, Stop>
+fn initial_graph(alloc: Global, task: &Task) -> Result<StepGraph, Stop>
     ensures { IfOk result (λ graph. AreWithin (fluent_count task.now) graph.states.items) }
 {
     let states = init_states(alloc, task, most_states(task))?;
@@ -97,7 +99,7 @@ fn initial_graph(alloc: Global, task: &Task) -> Result<Graph, Stop>
     for state in &states {
         numbers.insert(*state)?;
     }
-    Ok(Graph {
+    Ok(StepGraph {
         initial: states.len(),
         states,
         goal: Vec::new(alloc),
@@ -113,7 +115,7 @@ fn most_states(task: &Task) -> usize {
     (MOST_TESTS / actions).clamp(1, MOST_STATES)
 }
 
-impl Graph {
+impl StepGraph {
     /// Finds what can be done in the next state, and where it leads.
     fn expand(&mut self, alloc: Global, task: &Task, goal: &Cond, state: &State) -> Result<(), Stop>
         requires goal { IsTrue (ids_below 256 goal.now) }
@@ -189,12 +191,4 @@ impl Graph {
         }
         Ok(number)
     }
-}
-
-/// How many outcomes an action has.
-fn outcome_count(task: &Task, action: ActionId) -> u32
-    requires { action.0 < action_count task.now }
-    ensures { result ≡ length (outcomes_at task.now action.0) }
-{
-    task.actions[action.0 as usize].outcomes.len() as u32
 }

@@ -4,7 +4,7 @@ ghost use Rattle.std.specs.Prelude.{IsTrue};
 ghost use Rattle.task_core.specs.Conditions.{ids_below};
 
 use crate::before::before_each;
-use crate::graph::{Graph, Stop, explore};
+use crate::graph::{StepGraph, Stop, go_through};
 use crate::layers::Layers;
 use indexmap::IndexSet;
 use std::alloc::{AllocError, Global};
@@ -50,10 +50,10 @@ pub fn plan_reached(
 fn find(alloc: Global, task: &Task, goal: &Cond, class: Class) -> Result<Option<ReachedPlan>, Stop>
     requires { IsTrue (ids_below 256 goal.now) }
 {
-    let graph = explore(alloc, task, goal)?;
+    let graph = go_through(alloc, task, goal)?;
     match plan_in(alloc, &graph, class)? {
         Some(layers) => {
-            let Graph { numbers, .. } = graph;
+            let StepGraph { numbers, .. } = graph;
             Ok(Some(ReachedPlan {
                 numbers,
                 taken: layers.taken,
@@ -66,7 +66,7 @@ fn find(alloc: Global, task: &Task, goal: &Cond, class: Class) -> Result<Option<
 /// The layers of a plan among the states that can be reached, if there is one. For a strong cyclic
 /// plan, states from which the goal can't be had, once all actions are left out by which it may be
 /// lost, are left out in turn, until all that are left have it.
-fn plan_in(alloc: Global, graph: &Graph, class: Class) -> Result<Option<Layers>, Stop> {
+fn plan_in(alloc: Global, graph: &StepGraph, class: Class) -> Result<Option<Layers>, Stop> {
     let before = before_each(alloc, graph)?;
     let mut stays = vec![in alloc; true; graph.states.len()]?;
     let mut looks = 0;
