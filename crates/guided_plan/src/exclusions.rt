@@ -93,6 +93,11 @@ impl Exclusions {
         gone
     }
 
+    /// Whether no two of these exclude one another.
+    pub(crate) fn are_possible(&self, fluents: &Bits) -> bool {
+        self.of_all(fluents).and(fluents).is_none()
+    }
+
     /// A partial state with what its true fluents exclude.
     pub(crate) fn completed(&self, part: &Part) -> Part {
         Part {

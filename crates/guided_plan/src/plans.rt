@@ -1,6 +1,8 @@
 //! The answers.
 
 use crate::bits::{Bits, Part};
+use crate::choices::choices_of;
+use crate::closing::is_marked;
 use crate::cyclic::{Rounds, solve_weak};
 use crate::numbers::{NONE, at, put, small};
 use crate::planner::Planner;
@@ -18,6 +20,9 @@ const MOST_LISTED: u32 = 262_144;
 
 /// How many states a strong cyclic policy may reach at first.
 const FEW_LISTED: u32 = 6_000;
+
+/// The most pieces of which a rule may consist.
+const MOST_PIECES: usize = 64;
 
 /// How much a search may do: counts, never clocks.
 #[derive(Clone, Copy, Debug)]
@@ -63,7 +68,8 @@ impl GuidedStates {
 pub enum GuidedAnswer {
     /// What is taken in each state that is reached.
     States(GuidedStates),
-    /// What is taken in the states that have a partial state, the first rule that matches.
+    /// Where many states are reached: what is taken in the states that have a partial state, by the
+    /// first rule that matches; mostly no two rules with different actions match one that is reached.
     Rules(Vec<Rule>),
     /// There is no plan, as far as the search knows. These sets, of cubes, are a certificate: one of
     /// them holds an initial state, none a goal state, and no action leads out of one but, for a
@@ -215,37 +221,194 @@ fn try_cyclic(world: &mut World<'_>, planner: &mut Planner, most: u32) -> Result
     rounds.solve(world, planner)
 }
 
-/// What a policy takes in the states that it reaches, or where these are too many its rules.
+/// What a policy takes in the states that it reaches, or where these are many its rules.
 fn answered(mut world: World<'_>, mut policy: Policy) -> Result<GuidedAnswer, Stop> {
-    let taken = match taken_by(&mut world, &mut policy) {
-        Ok(taken) => taken,
-        Err(Stop::TooMany) => {
-            if policy.by_part {
-                return Ok(GuidedAnswer::Rules(rules_of(world.alloc, &policy)?));
-            }
-            return Err(Stop::GaveUp);
-        }
-        Err(stop) => return Err(stop),
-    };
+    let mut reach = Reach::new(world.alloc);
+    reach.follow(&mut world, &mut policy)?;
+    if policy.by_part && reach.count > FEW_LISTED {
+        return Ok(GuidedAnswer::Rules(rules_of(&world, &policy, &reach)?));
+    }
+    if !reach.is_whole {
+        return Err(Stop::GaveUp);
+    }
     let World { states, .. } = world;
+    let taken = reach.taken;
     Ok(GuidedAnswer::States(GuidedStates { states, taken }))
 }
 
-/// The pairs of a policy as rules, those of least distance first.
-fn rules_of(alloc: Global, policy: &Policy) -> Result<Vec<Rule>, AllocError> {
+/// What a policy reaches.
+#[derive(Drop)]
+struct Reach {
+    /// For each state that is reached the action that is taken there, and which pairs are.
+    taken: Vec<u32>,
+    used: Vec<bool>,
+    /// In how many states something is taken, and whether these are all.
+    count: u32,
+    is_whole: bool,
+    open: Vec<u32>,
+    outcomes: Vec<u32>,
+}
+
+impl Reach {
+    fn new(alloc: Global) -> Reach {
+        Reach {
+            taken: Vec::new(alloc),
+            used: Vec::new(alloc),
+            count: 0,
+            is_whole: true,
+            open: Vec::new(alloc),
+            outcomes: Vec::new(alloc),
+        }
+    }
+
+    /// Goes through the states that a policy reaches, unless they are too many.
+    fn follow(&mut self, world: &mut World<'_>, policy: &mut Policy) -> Result<(), Stop> {
+        for _ in 0..policy.len() {
+            self.used.push(false)?;
+        }
+        self.open.extend_from_slice(&world.initial)?;
+        for _ in 0..u64::MAX {
+            let Some(state) = self.open.pop() else {
+                break;
+            };
+            self.make_room(world)?;
+            if at(&self.taken, state) == NONE && !world.is_goal(state) {
+                let pair = policy.pair_at(world, state)?;
+                self.take(world, state, policy.action(pair), pair)?;
+            }
+            if self.count > MOST_LISTED {
+                self.is_whole = false;
+                break;
+            }
+        }
+        Ok(())
+    }
+
+    /// Has a place for each state.
+    fn make_room(&mut self, world: &World<'_>) -> Result<(), AllocError> {
+        for _ in self.taken.len()..world.states.len() as usize {
+            self.taken.push(NONE)?;
+        }
+        Ok(())
+    }
+
+    /// Notes what is taken in a state, if anything is, and goes on to the outcomes.
+    fn take(
+        &mut self,
+        world: &mut World<'_>,
+        state: u32,
+        action: u32,
+        pair: u32,
+    ) -> Result<(), Stop> {
+        if action == NONE {
+            return Ok(());
+        }
+        self.count = self.count.saturating_add(1);
+        put(&mut self.taken, state, action);
+        if let Some(used) = self.used.get_mut(pair as usize) {
+            *used = true;
+        }
+        world.outcomes(state, action, &mut self.outcomes)?;
+        for next in &self.outcomes {
+            if *next != NONE {
+                self.open.push(*next)?;
+            }
+        }
+        Ok(())
+    }
+
+    /// Whether a pair may be wanted.
+    fn wants(&self, pair: u32) -> bool {
+        !self.is_whole || is_marked(&self.used, pair)
+    }
+}
+
+/// The pairs of a policy as rules, those of least distance first, so that two rules with different
+/// actions have no state in common that is reached; or with such states, where the rules would become
+/// too many otherwise.
+fn rules_of(world: &World<'_>, policy: &Policy, reach: &Reach) -> Result<Vec<Rule>, AllocError> {
+    let alloc = world.alloc;
     let mut order = Vec::new(alloc);
     for number in 0..policy.len() {
-        order.push((policy.distance(number), number))?;
+        if reach.wants(number) {
+            order.push((policy.distance(number), number))?;
+        }
     }
     order.sort()?;
+    let goal = choices_of(alloc, world.goal.cond, true)?;
     let mut rules = Vec::new(alloc);
-    for (_, number) in &order {
-        rules.push(Rule {
-            cube: cube_of(alloc, &policy.patterns.part(*number))?,
-            action: ActionId(policy.action(*number)),
-        })?;
+    for (place, entry) in order.iter().enumerate() {
+        let pieces = pieces_of(world, policy, &goal, &order[..place], entry.1)?;
+        let action = ActionId(policy.action(entry.1));
+        for piece in &pieces {
+            let cube = cube_of(alloc, piece)?;
+            rules.push(Rule { cube, action })?;
+        }
     }
     Ok(rules)
+}
+
+/// A pair's partial state in pieces outside the goal and those of pairs before it with another action;
+/// whole where they would be too many.
+fn pieces_of(
+    world: &World<'_>,
+    policy: &Policy,
+    goal: &[Part],
+    before: &[(u32, u32)],
+    number: u32,
+) -> Result<Vec<Part>, AllocError> {
+    let whole = policy.patterns.part(number);
+    let mut pieces = Vec::new(world.alloc);
+    pieces.push(whole)?;
+    for part in goal {
+        pieces = outside(world, &pieces, part)?;
+    }
+    for (_, other) in before {
+        if policy.action(*other) != policy.action(number) {
+            pieces = outside(world, &pieces, &policy.patterns.part(*other))?;
+        }
+    }
+    if pieces.len() > MOST_PIECES {
+        pieces = Vec::new(world.alloc);
+        pieces.push(whole)?;
+    }
+    Ok(pieces)
+}
+
+/// What is left of partial states outside another one.
+fn outside(world: &World<'_>, parts: &[Part], other: &Part) -> Result<Vec<Part>, AllocError> {
+    let mut left = Vec::new(world.alloc);
+    for part in parts {
+        if !world.completed(part).agrees(other) {
+            left.push(*part)?;
+        } else if left.len() <= MOST_PIECES {
+            push_outside(world, part, other, &mut left)?;
+        }
+    }
+    Ok(left)
+}
+
+/// Adds what is left of a partial state outside another one.
+fn push_outside(
+    world: &World<'_>,
+    part: &Part,
+    other: &Part,
+    left: &mut Vec<Part>,
+) -> Result<(), AllocError> {
+    let mut open = other.care.without(&part.care);
+    let mut inside = *part;
+    for _ in 0..256 {
+        let Some(fluent) = open.take_first() else {
+            break;
+        };
+        let mut piece = inside;
+        piece.add(fluent, !other.value.get(fluent));
+        if world.is_possible(&piece) {
+            left.push(piece)?;
+        }
+        inside.add(fluent, other.value.get(fluent));
+    }
+    Ok(())
 }
 
 /// The literals of a partial state.
@@ -262,39 +425,4 @@ fn cube_of(alloc: Global, part: &Part) -> Result<Vec<Lit>, AllocError> {
         })?;
     }
     Ok(cube)
-}
-
-/// For each state the action that a policy takes there, if it is reached.
-fn taken_by(world: &mut World<'_>, policy: &mut Policy) -> Result<Vec<u32>, Stop> {
-    let mut taken = Vec::new(world.alloc);
-    let mut outcomes = Vec::new(world.alloc);
-    let mut open = Vec::new(world.alloc);
-    let mut count = 0u32;
-    open.extend_from_slice(&world.initial)?;
-    for _ in 0..u64::MAX {
-        let Some(state) = open.pop() else {
-            break;
-        };
-        for _ in taken.len()..world.states.len() as usize {
-            taken.push(NONE)?;
-        }
-        if at(&taken, state) == NONE && !world.is_goal(state) {
-            let pair = policy.pair_at(world, state)?;
-            let action = policy.action(pair);
-            if action != NONE {
-                count = count.saturating_add(1);
-                if count > MOST_LISTED {
-                    return Err(Stop::TooMany);
-                }
-                put(&mut taken, state, action);
-                world.outcomes(state, action, &mut outcomes)?;
-                for next in &outcomes {
-                    if *next != NONE {
-                        open.push(*next)?;
-                    }
-                }
-            }
-        }
-    }
-    Ok(taken)
 }

@@ -360,6 +360,14 @@ impl<'a> World<'a> {
         Ok(())
     }
 
+    /// Whether no two true fluents of a partial state exclude one another.
+    pub(crate) fn is_possible(&self, part: &Part) -> bool {
+        match &self.exclusions {
+            Some(exclusions) => exclusions.are_possible(&part.value),
+            None => true,
+        }
+    }
+
     /// A partial state with what its true fluents exclude.
     pub(crate) fn completed(&self, part: &Part) -> Part {
         match &self.exclusions {
