@@ -7,12 +7,12 @@ ghost use Rattle.task_core.specs.States.{IsWithin};
 ghost use Rattle.task_core.specs.Tasks.{action_count, fluent_count, outcomes_at};
 
 use crate::searches::Stop;
+use crate::state_plans::StatePlan;
 use dd_sets::SetId;
 use encode_task::Enc;
 use exec_graph::MAX_CONFIGURATIONS;
 use indexmap::IndexSet;
 use plan_guide::{Guide, GuideNext};
-use reached_plan::ReachedPlan;
 use std::alloc::Global;
 use task_core::{ActionId, State, Task, in_space, outcome_count, step};
 
@@ -145,7 +145,7 @@ impl Followed {
 
     /// Finds what a plan for states that can be reached does in the configurations, all of one
     /// context, and adds what follows them.
-    pub(crate) fn visit_reached(&mut self, task: &Task, plan: &ReachedPlan) -> Result<(), Stop>
+    pub(crate) fn visit_reached(&mut self, task: &Task, plan: &StatePlan) -> Result<(), Stop>
         requires within { AreReachedWithin (fluent_count task.now) self.old.places.items }
     {
         for number in 0..MAX_CONFIGURATIONS {
@@ -277,7 +277,7 @@ impl Followed {
 }
 
 /// The action that a plan for states that can be reached takes in a state, if it is one of the task.
-fn action_of(task: &Task, plan: &ReachedPlan, state: &State) -> Option<ActionId>
+fn action_of(task: &Task, plan: &StatePlan, state: &State) -> Option<ActionId>
     ensures { IfSome result (λ action. action.0 < action_count task.now) }
 {
     let action = plan.action_in(state)?;

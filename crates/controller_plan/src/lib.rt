@@ -20,6 +20,7 @@ mod plans;
 mod reach;
 mod rules;
 mod searches;
+mod state_plans;
 mod top;
 mod words;
 

@@ -71,14 +71,21 @@ pub(crate) struct StepGraph {
     /// What can be done in each, actions in rising order; nothing in a state of the goal.
     pub(crate) moves: Vec<Vec<Move>>,
     outcomes: usize,
+    /// How many states are gone through at most.
+    most: usize,
     pub(crate) numbers: IndexSet<State>,
 }
 
 /// The states that can be reached of a task with this goal, unless there are too many.
-pub(crate) fn go_through(alloc: Global, task: &Task, goal: &Cond) -> Result<StepGraph, Stop>
+pub(crate) fn go_through(
+    alloc: Global,
+    task: &Task,
+    goal: &Cond,
+    most: usize,
+) -> Result<StepGraph, Stop>
     requires { IsTrue (ids_below 256 goal.now) }
 {
-    let mut graph = initial_graph(alloc, task)?;
+    let mut graph = initial_graph(alloc, task, most)?;
     for number in 0..MOST_STATES {
         if number >= graph.states.len() {
             return Ok(graph);
@@ -91,10 +98,11 @@ pub(crate) fn go_through(alloc: Global, task: &Task, goal: &Cond) -> Result<Step
 }
 
 /// The initial states, before anything is done in them.
-fn initial_graph(alloc: Global, task: &Task) -> Result<StepGraph, Stop>
+fn initial_graph(alloc: Global, task: &Task, most: usize) -> Result<StepGraph, Stop>
     ensures { IfOk result (λ graph. AreWithin (fluent_count task.now) graph.states.items) }
 {
-    let states = init_states(alloc, task, most_states(task))?;
+    let most = most_states(task, most);
+    let states = init_states(alloc, task, most)?;
     let mut numbers = IndexSet::new(alloc);
     for state in &states {
         numbers.insert(*state)?;
@@ -105,14 +113,15 @@ fn initial_graph(alloc: Global, task: &Task) -> Result<StepGraph, Stop>
         goal: Vec::new(alloc),
         moves: Vec::new(alloc),
         outcomes: 0,
+        most,
         numbers,
     })
 }
 
-/// How many states of a task are gone through at most.
-fn most_states(task: &Task) -> usize {
+/// How many states of a task are gone through at most, where no more than `most` are wanted.
+fn most_states(task: &Task, most: usize) -> usize {
     let actions = task.actions.len().max(1);
-    (MOST_TESTS / actions).clamp(1, MOST_STATES)
+    (MOST_TESTS / actions).clamp(1, MOST_STATES).min(most)
 }
 
 impl StepGraph {
@@ -186,7 +195,7 @@ impl StepGraph {
         if is_new {
             self.states.push(state)?;
         }
-        if self.outcomes > MOST_OUTCOMES || self.states.len() > most_states(task) {
+        if self.outcomes > MOST_OUTCOMES || self.states.len() > self.most {
             return Err(Stop::TooMany);
         }
         Ok(number)

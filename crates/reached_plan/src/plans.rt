@@ -26,7 +26,7 @@ impl ReachedPlan {
 }
 
 /// A plan of a class for a task, found among the states that can be reached; `None` where none is
-/// found, or the states are too many: more than 262,144, or so many that an action is tried in a
+/// found, or the states are too many: more than `most` or than 262,144, or so many that an action is tried in a
 /// state more than 16,777,216 times, or with more than 4,194,304 outcomes of actions in them. It
 /// takes in each state what the plan takes that `reach_plan` or `cyclic_plan` finds. That a task
 /// without a plan has none is not told so.
@@ -34,9 +34,10 @@ pub fn plan_reached(
     alloc: Global,
     task: &Task,
     class: Class,
+    most: usize,
 ) -> Result<Option<ReachedPlan>, AllocError> {
     let found = match &task.goal {
-        Some(goal) => find(alloc, task, goal, class),
+        Some(goal) => find(alloc, task, goal, class, most),
         None => return Ok(None),
     };
     match found {
@@ -47,10 +48,16 @@ pub fn plan_reached(
 }
 
 /// The same for a goal.
-fn find(alloc: Global, task: &Task, goal: &Cond, class: Class) -> Result<Option<ReachedPlan>, Stop>
+fn find(
+    alloc: Global,
+    task: &Task,
+    goal: &Cond,
+    class: Class,
+    most: usize,
+) -> Result<Option<ReachedPlan>, Stop>
     requires { IsTrue (ids_below 256 goal.now) }
 {
-    let graph = go_through(alloc, task, goal)?;
+    let graph = go_through(alloc, task, goal, most)?;
     match plan_in(alloc, &graph, class)? {
         Some(layers) => {
             let StepGraph { numbers, .. } = graph;
