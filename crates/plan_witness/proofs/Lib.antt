@@ -2,3 +2,4 @@ pub mod Visits
 pub mod Taken
 pub mod Shortest
 pub mod Meanings
+pub mod Leads

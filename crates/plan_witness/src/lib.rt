@@ -6,6 +6,7 @@
 //! what the end of a run shows.
 #![tactic(auto)]
 
+mod leading;
 mod reasons;
 mod runs;
 mod steps;
