@@ -3,3 +3,4 @@ pub mod Taken
 pub mod Shortest
 pub mod Meanings
 pub mod Leads
+pub mod Reaches

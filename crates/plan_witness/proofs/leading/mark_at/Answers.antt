@@ -1,5 +1,4 @@
 use Rattle.std.proofs.Common.{false, get_or, sym, ap, ◌∙◌}
-use Rattle.std.proofs.lemmas.Bool.{false≢true}
 use Rattle.plan_witness.proofs.leading.mark_at.Goals as goal
 
 pub returns-then-is_marked-clause-closed : goal.returns-then-is_marked-clause-closed

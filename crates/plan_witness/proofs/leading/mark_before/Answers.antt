@@ -1,4 +1,4 @@
-use Rattle.std.proofs.Common.{◌≡◌, ◌+◌, ◌-◌, ◌<◌, ℕ, true, cond, length, set, sym, ap, ◌∙◌, subst, arith}
+use Rattle.std.proofs.Common.{◌≡◌, ◌+◌, ◌-◌, ◌<◌, true, cond, set, sym, ap, ◌∙◌, subst, arith}
 use Rattle.exec_graph.specs.Values.{followers_at, graph_size}
 use Rattle.plan_witness.proofs.Leads.{IsPassing, passing_first, passing_found, passing_same}
 use Rattle.plan_witness.proofs.leading.mark_before.Goals as goal
