@@ -1,24 +1,26 @@
 -- From what follows the reading of both files to the answer, and from the answer to a run.
-use Rattle.std.proofs.Common.{◌≡◌, ◌≢◌, ◌⊎◌, ◌≤◌, ℕ, List, inl, inr, refl, sym, subst, ap, ◌∙◌, arith, codes, None, true}
+use Rattle.std.proofs.Common.{◌≡◌, ◌⊎◌, ◌≤◌, ℕ, inl, inr, sym, subst, ap, ◌∙◌, None, true}
+use Rattle.std.specs.Prelude.{IfErr, IfOk, Result, Ok, Err}
 use Rattle.pddl_ast.specs.Trees.{DomainTree, ProblemTree}
-use Rattle.ground_task.specs.declared.grounding.Grounded.{Grounded}
 use Rattle.pddl_system.specs.Sizes.{first_passed}
-use Rattle.plan_io.specs.Fetches.{FailedLast, FetchesNothing}
+use Rattle.plan_io.specs.Fetches.{FetchesNothing}
 use Rattle.plan_io.specs.Held.{Held}
-use Rattle.mbp_top.specs.Answers.{Answer, Refusal, affirmed, denied, full, no_command, no_memory, over_limit, refused}
-use Rattle.mbp_top.specs.Causes.{IsQuietAt}
-use Rattle.mbp_top.specs.Delivery.{IsDelivered}
-use Rattle.mbp_top.specs.Fetching.{FetchesBoth}
-use Rattle.mbp_top.specs.Grounded.{IsGroundedOf, IsTaskOf}
-use Rattle.mbp_top.specs.Grounding.{has_goal_for}
-use Rattle.mbp_top.specs.PddlTexts.{HoldBoth, ReadBoth}
-use Rattle.mbp_top.specs.PlanCommand.{MayBeTooFew, PlanThen}
-use Rattle.mbp_top.specs.Words.{Bytes}
-use Rattle.task_core.specs.declared.tasks.Task.{Task}
-use Rattle.mbp_top.proofs.CheckAnswers.{too_many}
-use Rattle.controller_plan.specs.Controllers.{AffirmsNothing, ControlThen, FindsPlan, IsControlAnswer, IsControlled, IsControllerShown, MayReachTooMany}
+use Rattle.command_base.specs.Answers.{Answer, Refusal, affirmed, denied, full, no_memory, refused}
+use Rattle.command_base.specs.Faults.{IsQuietAt}
+use Rattle.command_base.specs.Delivery.{IsDelivered}
+use Rattle.command_base.specs.Fetching.{FetchesBoth}
+use Rattle.command_base.specs.Grounding.{has_goal_for}
+use Rattle.command_base.specs.PddlTexts.{HoldBoth, ReadBoth}
+use Rattle.plan_command.specs.PlanCommand.{MayBeTooFew, PlanThen}
+use Rattle.command_base.specs.Values.{answer_of, refusal_of, shown_of}
+use Rattle.command_base.specs.Words.{Bytes}
+use Rattle.command_base.specs.declared.answers.Refusal.{Refusal as CodeRefusal}
+use Rattle.command_base.specs.declared.answers.Shown.{Shown}
+use Rattle.command_base.specs.Frame.{FailedIn}
+use Rattle.command_base.proofs.Frames.{IsGivenFor, is_run}
+use Rattle.controller_plan.specs.Controllers.{AffirmsNothing, ControlThen, IsControlAnswer, IsControlled, IsControllerShown}
 use Rattle.controller_plan.specs.Judged.{IsControlRefusal}
-use Rattle.controller_plan.specs.Runs.{ControlRun, HasControlCause, HasControlled}
+use Rattle.controller_plan.specs.Runs.{ControlRun, FetchesForControl, HasControlCause, HasControlled}
 use Rattle.controller_plan.specs.Words.{AskNothing, ControlWords, SaysControl}
 
 -- one of the files is refused
@@ -59,75 +61,44 @@ denied_affirms_nothing text other is = cc is
 pub refused_affirms_nothing : (refusal : Refusal) → AffirmsNothing (refused refusal)
 refused_affirms_nothing refusal other is = cc is
 
--- `plan` has a plan where its answer affirms
-finds_plan : (asked : ControlWords) (d : DomainTree) (p : ProblemTree) (text : Bytes) (found : Answer) → found ≡ affirmed text
-    → (found ≡ refused no_memory) ⊎ (MayBeTooFew asked.plan d p × (found ≡ refused (full asked.plan.options.nodes))) ⊎ PlanThen asked.plan d p found → FindsPlan asked d p
-finds_plan asked d p text found is (inl memory) = absurd (refused_affirms_nothing _ text (sym memory ∙ is))
-finds_plan asked d p text found is (inr (inl (few, full_is))) = absurd (refused_affirms_nothing _ text (sym full_is ∙ is))
-finds_plan asked d p text found is (inr (inr then)) = (text, subst (λ (x : Answer). PlanThen asked.plan d p x) is then)
+-- want of memory, or a limit that is passed for its cause
+pub limited : (asked : ControlWords) (d : DomainTree) (p : ProblemTree) (r : Refusal) → IsControlRefusal asked d p r
+    → (refused r ≡ refused no_memory) ⊎ (MayBeTooFew asked.plan d p × (refused r ≡ refused (full asked.plan.options.nodes))) ⊎ ControlThen asked d p (refused r)
+limited asked d p r (inl memory) = inl (ap refused memory)
+limited asked d p r (inr (name, passed, is)) = inr (inr (inr (inl (name, passed, ap refused is))))
 
--- the answer of `plan`, unless it affirms
-pub of_unless : (asked : ControlWords) (d : DomainTree) (p : ProblemTree) (found a : Answer)
-    → ((a ≡ found) × AffirmsNothing found) ⊎ ((text : Bytes) × (found ≡ affirmed text) × (a ≡ refused (over_limit (codes "configurations"))))
+-- an answer is that of a controller, or why none is shown
+pub controlled : (asked : ControlWords) (d : DomainTree) (p : ProblemTree) (r : Result Shown CodeRefusal) → IfOk r (λ shown. IsControllerShown asked d p (shown_of shown))
+    → IfErr r (λ refusal. IsControlRefusal asked d p (refusal_of refusal))
+    → (answer_of r ≡ refused no_memory) ⊎ (MayBeTooFew asked.plan d p × (answer_of r ≡ refused (full asked.plan.options.nodes))) ⊎ ControlThen asked d p (answer_of r)
+controlled asked d p (Ok shown) is why = inr (inr (inl is))
+controlled asked d p (Err refusal) is why = limited asked d p (refusal_of refusal) why
+
+-- the plan that `plan` finds, where it affirms
+pub plan_found : (asked : ControlWords) (d : DomainTree) (p : ProblemTree) (text : Bytes) (found : Answer) → found ≡ affirmed text
+    → (found ≡ refused no_memory) ⊎ (MayBeTooFew asked.plan d p × (found ≡ refused (full asked.plan.options.nodes))) ⊎ PlanThen asked.plan d p found
+    → PlanThen asked.plan d p (affirmed text)
+plan_found asked d p text found is (inl memory) = absurd (refused_affirms_nothing _ text (sym memory ∙ is))
+plan_found asked d p text found is (inr (inl (few, full_is))) = absurd (refused_affirms_nothing _ text (sym full_is ∙ is))
+plan_found asked d p text found is (inr (inr then)) = subst (λ (x : Answer). PlanThen asked.plan d p x) is then
+
+-- its answer where it doesn't
+pub plan_answer : (asked : ControlWords) (d : DomainTree) (p : ProblemTree) (found a : Answer) → a ≡ found → AffirmsNothing found
     → (found ≡ refused no_memory) ⊎ (MayBeTooFew asked.plan d p × (found ≡ refused (full asked.plan.options.nodes))) ⊎ PlanThen asked.plan d p found
     → (a ≡ refused no_memory) ⊎ (MayBeTooFew asked.plan d p × (a ≡ refused (full asked.plan.options.nodes))) ⊎ ControlThen asked d p a
-of_unless asked d p found a (inl (same, none)) why =
+plan_answer asked d p found a same none why =
     subst (λ (x : Answer). (x ≡ refused no_memory) ⊎ (MayBeTooFew asked.plan d p × (x ≡ refused (full asked.plan.options.nodes))) ⊎ ControlThen asked d p x) (sym same)
     (of_plan asked d p found none why)
-of_unless asked d p found a (inr (text, affirms, is)) why =
-    inr (inr (inr (inl (codes "configurations", inr (inl (refl, inr (finds_plan asked d p text found affirms why))), is))))
 
--- want of memory, or a limit that is passed for its cause
-pub limited : (asked : ControlWords) (d : DomainTree) (p : ProblemTree) (task : Task) (r : Refusal) → IsTaskOf d p task → IsControlRefusal task r
-    → (refused r ≡ refused no_memory) ⊎ (MayBeTooFew asked.plan d p × (refused r ≡ refused (full asked.plan.options.nodes))) ⊎ ControlThen asked d p (refused r)
-limited asked d p task r of (inl memory) = inl (ap refused memory)
-limited asked d p task r of (inr (inl (many, is))) = inr (inr (inr (inl (codes "initial", inl (refl, too_many d p task of.task_is many), ap refused is))))
-limited asked d p task r of (inr (inr (inl (reach, is)))) =
-    inr (inr (inr (inl (codes "configurations", inr (inl (refl, inl (subst MayReachTooMany of.system_is reach))), ap refused is))))
-limited asked d p task r of (inr (inr (inr is))) = inr (inr (inr (inl (codes "file", inr (inr refl), ap refused is))))
-
--- the same in the answer
-pub limit_passed : (asked : ControlWords) (d : DomainTree) (p : ProblemTree) (g : Grounded) (r : Refusal) → IsGroundedOf d p g → IsControlRefusal g.task r
-    → (refused r ≡ refused no_memory) ⊎ (MayBeTooFew asked.plan d p × (refused r ≡ refused (full asked.plan.options.nodes))) ⊎ ControlThen asked d p (refused r)
-limit_passed asked d p g r of why = limited asked d p g.task r of.of_task why
-
--- the cause of want of memory that came in place of an answer
-memory_instead : (held : Bytes → Held) (failed : Bytes → Type 0) (words : List Bytes) (a : Answer) → a ≢ refused no_command
-    → HasControlCause held failed words a → HasControlCause held failed words (refused no_memory)
-memory_instead held failed words a said (inl (nothing, is)) = absurd (said is)
-memory_instead held failed words a said (inr (asked, says, why)) = inr (asked, says, inl refl)
-
-module _ {S : Type 0} (held : S → Bytes → Held) (faults : S → ℕ) (fetched : S → Bytes → S → Type 0) (run : ControlRun S) where
-  abbrev pub Cause : Answer → Type 0
-  Cause = HasControlCause (held run.shelf) (FailedLast fetched faults run.shelf run.shelf_after) run.words
-
-  abbrev pub Quiet : Answer → Type 0
-  Quiet a = IsQuietAt a (faults run.shelf) (faults run.shelf_after)
-
-  given_cause : (found given : Answer) → Cause found → (given ≡ found) ⊎ ((given ≡ refused no_memory) × (found ≢ refused no_command)) → Cause given
-  given_cause found given cause (inl is) = subst Cause (sym is) cause
-  given_cause found given cause (inr (is, said)) =
-      subst Cause (sym is) (memory_instead (held run.shelf) (FailedLast fetched faults run.shelf run.shelf_after) run.words found said cause)
-
-  given_quiet : (found given : Answer) → Quiet found → (given ≡ found) ⊎ ((given ≡ refused no_memory) × (found ≢ refused no_command)) → Quiet given
-  given_quiet found given quiet (inl is) = subst Quiet (sym is) quiet
-  given_quiet found given quiet (inr (is, said)) = subst Quiet (sym is) (inr tt)
-
-  -- what was found for the words, and what was given for it
-  pub has_controlled : (found given : Answer) → Cause found
-      → ((asked : ControlWords) → SaysControl run.words asked
-      → FetchesBoth (held run.shelf) fetched asked.plan.domain asked.plan.problem FetchesNothing run.shelf run.shelf_after)
-      → (AskNothing run.words → run.shelf_after ≡ run.shelf) → Quiet found
-      → ((file : Bytes) → held run.shelf_after file ≡ held run.shelf file) → faults run.shelf ≤ faults run.shelf_after
-      → (given ≡ found) ⊎ ((given ≡ refused no_memory) × (found ≢ refused no_command))
-      → IsDelivered given run.out run.out_after run.err run.err_after run.status → HasControlled held faults fetched run
-  has_controlled found given cause fetches unfetched quiet kept later same delivered = record {
-    answer = given;
-    cause = given_cause found given cause same;
-    delivered = delivered;
-    fetches = fetches;
-    unfetched = unfetched;
-    quiet = given_quiet found given quiet same;
-    kept = kept;
-    later = later;
-  }
+-- what was found for the words, and what was given for it
+pub has_controlled : {S : Type 0} (held : S → Bytes → Held) (faults : S → ℕ) (fetched : S → Bytes → S → Type 0) (run : ControlRun S) (found given : Answer)
+    → HasControlCause (held run.shelf) (FailedIn faults fetched run) run.words found
+    → ((asked : ControlWords) → SaysControl run.words asked
+    → FetchesBoth (held run.shelf) fetched asked.plan.domain asked.plan.problem FetchesNothing run.shelf run.shelf_after)
+    → (AskNothing run.words → run.shelf_after ≡ run.shelf) → IsQuietAt found (faults run.shelf) (faults run.shelf_after)
+    → ((file : Bytes) → held run.shelf_after file ≡ held run.shelf file) → faults run.shelf ≤ faults run.shelf_after
+    → IsGivenFor found given
+    → IsDelivered given run.out run.out_after run.err run.err_after run.status → HasControlled held faults fetched run
+has_controlled held faults fetched run found given cause fetches unfetched quiet kept later same delivered =
+    is_run SaysControl (IsControlAnswer (held run.shelf) (FailedIn faults fetched run)) (FetchesForControl (held run.shelf) fetched) held faults run
+    (λ asked a did. did) found given cause fetches unfetched quiet kept later same delivered

@@ -1,8 +1,7 @@
 pub mod Answers
+pub mod Limits
 pub mod OneAsked
 pub mod RunLaws
 pub mod Tables
-pub mod TooMuch
-pub mod Verdicts
 pub mod WordLists
 pub mod Yes

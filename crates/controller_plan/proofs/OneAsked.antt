@@ -1,9 +1,9 @@
 -- No words ask for two controllers.
-use Rattle.std.proofs.Common.{◌≡◌, ◌⊎◌, ◌++◌, ◌∙◌, ◌+◌, ℕ, suc, Bool, true, false, List, [], ◌∷◌, length, inl, inr, refl, sym, ap, arith, codes, subst}
+use Rattle.std.proofs.Common.{◌≡◌, ◌⊎◌, ◌++◌, ◌∙◌, ◌+◌, ℕ, suc, Bool, true, false, List, ◌∷◌, length, inl, inr, refl, sym, ap, arith, codes, subst}
 use Rattle.std.proofs.lemmas.List.{append_cancel_right, length-append}
-use Rattle.mbp_top.specs.Words.{Bytes, Command, PlanOptions, PlanWords, SaysOptions, SaysPlan, plan}
-use Rattle.mbp_top.proofs.ByCommand.{one_command}
-use Rattle.mbp_top.proofs.WordLists.{as_plain}
+use Rattle.command_base.specs.Words.{Bytes, PlanOptions, PlanWords, SaysOptions, SaysPlan, plan}
+use Rattle.command_base.proofs.OneCommand.{one_command}
+use Rattle.command_base.proofs.WordLists.{as_plain}
 use Rattle.controller_plan.specs.Words.{ControlWords, SaysControl, json_word}
 
 plan_same : (a b : PlanWords) → plan a ≡ plan b → a ≡ b

@@ -1,22 +1,21 @@
 -- What follows from a run that has its cause.
-use Rattle.std.proofs.Common.{◌≡◌, ◌≢◌, ◌⊎◌, ◌≤◌, ◌<◌, ℕ, true, false, List, length, inl, inr, refl, sym, subst, ap, ◌∙◌, arith, Some, None}
+use Rattle.std.proofs.Common.{◌≡◌, ◌⊎◌, ℕ, true, false, List, inl, inr, refl, sym, subst, ap, ◌∙◌, arith}
 use Rattle.std.specs.Io.KnownBytes.{append_known}
 use Rattle.pddl_ast.specs.Trees.{DomainTree, ProblemTree}
 use Rattle.pddl_system.specs.Systems.{system}
 use Rattle.plan_io.specs.Fetches.{FailedLast}
 use Rattle.plan_io.specs.Held.{Held}
-use Rattle.mbp_top.specs.Answers.{Answer, affirmed, denied, full, is_shown, no_command, no_memory, over_limit, refused, status_of, text_of}
-use Rattle.mbp_top.specs.ContextGoals.{ContextGoalThen}
-use Rattle.mbp_top.specs.Delivery.{IsDelivered, Seen}
-use Rattle.mbp_top.specs.Grounding.{GroundThen}
-use Rattle.mbp_top.specs.InitialStates.{empty_init}
-use Rattle.mbp_top.specs.PddlTexts.{HoldBoth}
-use Rattle.mbp_top.specs.PlanCommand.{HasNoPlan, IsNoPlanText, IsPlanResult, IsResultOf, no_plan_text}
-use Rattle.mbp_top.specs.Words.{Bytes, PlanKind, of_class, with_contexts}
-use Rattle.mbp_top.proofs.Initials.{shown_initial}
-use Rattle.mbp_top.proofs.PddlDecides.{ReadFor, not_refused, shown_both, shown_goal, shown_grounded}
-use Rattle.mbp_top.proofs.Statuses.{shown_at, whole_delivery, written_shown}
-use Rattle.controller_plan.specs.Controllers.{AffirmsNothing, ControlThen, IsControlAnswer, IsControlled, IsController, IsControllerShown}
+use Rattle.command_base.specs.Answers.{Answer, affirmed, denied, is_shown, no_memory, refused, status_of, text_of}
+use Rattle.command_base.specs.Delivery.{Seen}
+use Rattle.command_base.specs.Grounding.{GroundThen}
+use Rattle.command_base.specs.InitialStates.{empty_init}
+use Rattle.command_base.specs.PddlTexts.{HoldBoth}
+use Rattle.plan_command.specs.PlanCommand.{HasNoPlan, IsNoPlanText, IsPlanResult, IsResultOf, no_plan_text}
+use Rattle.command_base.specs.Words.{Bytes, PlanKind, of_class, with_contexts}
+use Rattle.command_base.proofs.Initials.{shown_initial}
+use Rattle.command_base.proofs.PddlDecides.{ReadFor, not_refused, shown_both, shown_goal, shown_grounded}
+use Rattle.command_base.proofs.Statuses.{shown_at, whole_delivery, written_shown}
+use Rattle.controller_plan.specs.Controllers.{ControlThen, IsControlAnswer, IsControlled, IsControllerShown}
 use Rattle.controller_plan.specs.Laws.{IsControllerRun, IsNoPlanRun}
 use Rattle.controller_plan.specs.Runs.{ControlRun, HasControlCause, HasControlled}
 use Rattle.controller_plan.specs.Words.{ControlWords, SaysControl}
@@ -116,7 +115,7 @@ module _ {S : Type 0} (held : S → Bytes → Held) (faults : S → ℕ) (fetche
       let text = affirms a shown code in
       let controller = controller_for asked found.domain found.problem a text.0 text.1 shown found.then in
       let written = written_shown a (text_of a) run.out run.out_after run.err run.err_after whole.1 shown refl in
-      (found.domain, found.problem, controller.text, found.both, controller.controller, as_written _ a run.out run.out_after controller.shown written)
+      (found.domain, found.problem, controller.plan, controller.steps, found.both, controller.text, as_written _ a run.out run.out_after controller.shown written)
 
   pub no_plan_run : IsNoPlanRun held run
   no_plan_run asked says one =

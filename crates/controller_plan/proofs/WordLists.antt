@@ -2,7 +2,7 @@
 use Rattle.std.proofs.Common.{◌≡◌, ◌++◌, ◌∙◌, ◌≤◌, ◌-◌, ℕ, zero, suc, Bool, true, false, List, [], ◌∷◌, length, map, take, get_or, refl, sym, subst, ap, arith, codes, Option, None, Some}
 use Rattle.std.specs.Prelude.{MatchOption}
 use Rattle.std.proofs.lemmas.List.{append_cancel_right, append-nil}
-use Rattle.mbp_top.specs.Words.{Bytes, PlanWords, SaysPlan}
+use Rattle.command_base.specs.Words.{Bytes, PlanWords, SaysPlan}
 use Rattle.controller_plan.specs.Values.{control_words_of}
 use Rattle.controller_plan.specs.Words.{ControlWords, SaysControl, json_word}
 use Rattle.controller_plan.specs.declared.words.ControlWords.{ControlWords as CodeControlWords}

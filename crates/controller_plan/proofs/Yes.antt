@@ -1,104 +1,122 @@
--- What the checker says yes to is a controller.
-use Rattle.std.proofs.Common.{◌≡◌, ◌≢◌, ◌↔◌, ◌∙◌, ap, List, [], inl, inr, refl, subst, Option, None, Some, true}
-use Rattle.std.specs.Option.{option_map}
-use Rattle.std.specs.Prelude.{IfSome}
-use Rattle.ctl_syntax.specs.declared.goals.Ctl.{Ctl}
-use Rattle.exec_graph.specs.Initials.{HasTooManyInitial}
+-- What is judged to be good is a controller.
+use Rattle.std.proofs.Common.{◌≡◌, ◌<◌, ◌≤◌, ◌∙◌, ap, ℕ, Bool, false, true, List, length, refl, subst, Option, None, Some}
+use Rattle.std.specs.Prelude.{Vec}
+use Rattle.std.specs.declared.alloc.Global.{Global}
+use Rattle.controller_rules.specs.AsRun.{HasNoDeadRule, HasOneMove}
+use Rattle.controller_rules.specs.Texts.{IsTextWithin, controller_text}
+use Rattle.controller_rules.proofs.AsRunTables.{run_is_table, run_solves}
 use Rattle.ground_task.specs.declared.grounding.Grounded.{Grounded}
 use Rattle.pddl_ast.specs.Trees.{DomainTree, ProblemTree}
-use Rattle.pddl_system.specs.CtlGoals.{ctl_goal_of, goal_value}
 use Rattle.pddl_system.specs.Laws.{GroundedGoalsAreTrue}
 use Rattle.pddl_system.specs.Systems.{action_names, fluent_names, system}
+use Rattle.plan_check.specs.Verdicts.{SaysYes}
 use Rattle.plan_check.specs.declared.verdicts.Verdict.{Verdict}
 use Rattle.plan_check.specs.declared.verdicts.Verdict.TheVariants.{Yes, No}
-use Rattle.plan_rules.specs.Readings.{SpellsPlanAt}
-use Rattle.plan_rules.specs.Rules.{PlainPlan, plain_of}
-use Rattle.plan_rules.specs.declared.rules.PlanRead.{PlanRead}
+use Rattle.plan_rules.specs.Readings.{SpellsPlain}
+use Rattle.plan_rules.specs.Rules.{PlainPlan, automaton, table}
 use Rattle.task_core.specs.Names.{Name}
 use Rattle.task_core.specs.Systems.{System}
-use Rattle.task_core.specs.Tasks.{action_names as names_of_actions, fluent_names as names_of_fluents, initial_states, system_of}
-use Rattle.task_core.specs.declared.tasks.Task.{Task}
-use Rattle.mbp_top.specs.Answers.{Answer, affirmed, is_shown}
-use Rattle.mbp_top.specs.CheckCommand.{ShowsVerdict, most_followed, verdict_answer}
-use Rattle.mbp_top.specs.Grounded.{IsGroundedOf}
-use Rattle.mbp_top.specs.Grounding.{has_goal_for}
-use Rattle.mbp_top.specs.InitialStates.{InitialThen}
-use Rattle.mbp_top.specs.Judged.{HasGoalIn, IsTaskVerdict}
-use Rattle.mbp_top.specs.Meets.{PlanMeets}
-use Rattle.mbp_top.specs.Words.{Bytes, PlanKind}
-use Rattle.mbp_top.proofs.CheckAnswers.{goal_in, verdict_for}
-use Rattle.mbp_top.proofs.CheckWritten.{YesSolves, shown_judged, yes_is_met}
-use Rattle.mbp_top.proofs.Listings.{same_actions, same_fluents}
-use Rattle.controller_plan.specs.Controllers.{IsController, IsControllerShown, shown_bytes}
-use Rattle.controller_plan.specs.Judged.{IsAffirmed, IsJudged}
+use Rattle.task_core.specs.Tasks.{action_names as names_of_actions, fluent_names as names_of_fluents}
+use Rattle.command_base.specs.Answers.{Answer, affirmed}
+use Rattle.command_base.specs.Grounded.{IsGroundedOf}
+use Rattle.command_base.specs.Grounding.{has_goal_for}
+use Rattle.check_command.specs.Judged.{HasGoalIn, IsTaskVerdict}
+use Rattle.plan_meets.specs.Meets.{Meets, PlanMeets}
+use Rattle.command_base.specs.Reading.{file_limit}
+use Rattle.command_base.specs.Words.{Bytes, PlanKind, of_class, with_contexts}
+use Rattle.check_command.proofs.CheckAnswers.{goal_in, verdict_for}
+use Rattle.check_command.proofs.YesMeets.{YesSolves, yes_is_met}
+use Rattle.command_base.proofs.TaskNames.{same_actions, same_fluents}
+use Rattle.controller_plan.specs.Controllers.{HasLongText, IsController, IsControllerShown, run_meaning, shown_bytes, text_for}
+use Rattle.controller_plan.specs.Judged.{IsJudged, bytes_as}
 use Rattle.controller_plan.specs.Words.{ControlWords}
 
 -- a goal of the task where the problem has one
 pub has_goal : (kind : PlanKind) (d : DomainTree) (p : ProblemTree) (g : Grounded) → IsGroundedOf d p g → has_goal_for kind p ≡ true → HasGoalIn kind g.task g.ctl
 has_goal kind d p g of some = goal_in kind d p g.task g.ctl of.of_task.task_is of.goal_is some
 
--- a verdict that affirms is a yes
-verdict_meets : GroundedGoalsAreTrue → YesSolves → (kind : PlanKind) (d : DomainTree) (p : ProblemTree) (g : Grounded) (plan : PlainPlan) (said : Bytes) (v : Verdict)
-    → IsGroundedOf d p g → IsTaskVerdict kind g.task g.ctl plan v → affirmed said ≡ verdict_answer v → PlanMeets kind d p plan
-verdict_meets true_goals law kind d p g plan said (Yes bound) of verdict is =
+-- a yes
+verdict_meets : GroundedGoalsAreTrue → YesSolves → (kind : PlanKind) (d : DomainTree) (p : ProblemTree) (g : Grounded) (plan : PlainPlan) (v : Verdict)
+    → IsGroundedOf d p g → IsTaskVerdict kind g.task g.ctl plan v → SaysYes v → PlanMeets kind d p plan
+verdict_meets true_goals law kind d p g plan (Yes bound) of verdict says =
     yes_is_met law kind d p plan bound (verdict_for true_goals kind d p g.task g.ctl plan (Yes bound) of.of_task.system_is of.goal_is verdict)
-verdict_meets true_goals law kind d p g plan said (No reason) of verdict is = absurd (cc is)
+verdict_meets true_goals law kind d p g plan (No reason) of verdict never = absurd never
 
--- a plan that the checker says yes to begins somewhere, and meets the problem
-affirmed_verdict : (kind : PlanKind) (g : Grounded) (plan : PlainPlan) (affirmation : IsAffirmed kind g.task g.ctl plan)
-    → (initial_states g.task ≢ []) × ShowsVerdict (IsTaskVerdict kind g.task g.ctl plan) (affirmed affirmation.said)
-affirmed_verdict kind g plan affirmation =
-    go (shown_judged (HasTooManyInitial g.task most_followed) (system_of g.task) plan
-    (InitialThen affirmation.empty (initial_states g.task) (ShowsVerdict (IsTaskVerdict kind g.task g.ctl plan))) (affirmed affirmation.said) refl affirmation.verdict)
-  where
-    go : InitialThen affirmation.empty (initial_states g.task) (ShowsVerdict (IsTaskVerdict kind g.task g.ctl plan)) (affirmed affirmation.said)
-        → (initial_states g.task ≢ []) × ShowsVerdict (IsTaskVerdict kind g.task g.ctl plan) (affirmed affirmation.said)
-    go (inl (none, is)) = absurd (cc is)
-    go (inr then) = then
+-- what meets the problem as it is read does so as it is run, where it has one move
+runs : (kind : PlanKind) (d : DomainTree) (p : ProblemTree) (plan : PlainPlan) → PlanMeets kind d p plan → HasOneMove (system d p) plan
+    → Meets kind d p (run_meaning (system d p) plan)
+runs (of_class class) d p (table written rules) (meaning, (follow, is), met) one =
+    let here = subst (Meets (of_class class) d p) is met in
+    (run_is_table (system d p) rules here.0, run_solves (system d p) written rules one class here.1)
+runs (of_class class) d p (automaton contexts rules) (meaning, is, met) one = absurd (subst (Meets (of_class class) d p) is met)
+runs with_contexts d p (table written rules) (meaning, (follow, is), met) one = absurd (subst (Meets with_contexts d p) is met)
+runs with_contexts d p (automaton contexts rules) (meaning, is, met) one = subst (Meets with_contexts d p) is met
 
-affirmed_begins : (kind : PlanKind) (d : DomainTree) (p : ProblemTree) (g : Grounded) (plan : PlainPlan)
-    → IsGroundedOf d p g → IsAffirmed kind g.task g.ctl plan → (system d p).initial ≢ []
-affirmed_begins kind d p g plan of affirmation none =
-    (affirmed_verdict kind g plan affirmation).0 (ap (λ (s : System). s.initial) of.of_task.system_is ∙ none)
+-- what was judged is a controller
+pub judged_controller : GroundedGoalsAreTrue → YesSolves → (kind : PlanKind) (d : DomainTree) (p : ProblemTree) (g : Grounded) (plan : PlainPlan)
+    → IsGroundedOf d p g → IsJudged kind g.task g.ctl plan → IsController kind d p plan
+judged_controller true_goals law kind d p g plan of judged =
+    let good = judged.found in
+    let met = verdict_meets true_goals law kind d p g plan good.good.verdict of good.good.of_plan good.good.says_yes in
+    let one = subst (λ (sys : System). HasOneMove sys plan) of.of_task.system_is good.one_move in
+    record {
+      written = judged.written;
+      begins = λ none. good.begins (ap (λ (sys : System). sys.initial) of.of_task.system_is ∙ none);
+      meets = met;
+      run_meets = runs kind d p plan met one;
+      one_move = one;
+      no_dead_rule = subst (λ (sys : System). HasNoDeadRule sys plan) of.of_task.system_is good.no_dead_rule;
+      contexts = judged.contexts;
+      told = judged.told;
+    }
 
-affirmed_meets : GroundedGoalsAreTrue → YesSolves → (kind : PlanKind) (d : DomainTree) (p : ProblemTree) (g : Grounded) (plan : PlainPlan)
-    → IsGroundedOf d p g → IsAffirmed kind g.task g.ctl plan → PlanMeets kind d p plan
-affirmed_meets true_goals law kind d p g plan of affirmation =
-    let shows = (affirmed_verdict kind g plan affirmation).1 in
-    verdict_meets true_goals law kind d p g plan affirmation.said shows.0 of shows.1 shows.2
+-- a text that is within a length
+text_is : (most : ℕ) (text : List ℕ) (found : Option (Vec ℕ Global)) (bytes : Vec ℕ Global) → found ≡ Some bytes → IsTextWithin most text found → (bytes.items ≡ text) × (length text ≤ most)
+text_is most text found bytes is within = subst (IsTextWithin most text) is within
 
--- a text that was judged is a controller
-pub judged_controller : GroundedGoalsAreTrue → YesSolves → (kind : PlanKind) (d : DomainTree) (p : ProblemTree) (g : Grounded) (text : Bytes) (read : PlanRead)
-    → IsGroundedOf d p g → IsJudged kind g.task g.ctl text read → IsController kind d p text
-judged_controller true_goals law kind d p g text read of judged = record {
-  plan = plain_of read.plan;
-  place = read.place;
-  short = judged.short;
-  spelled = subst (λ (ns : List Name). SpellsPlanAt (fluent_names d p) ns text (plain_of read.plan) read.place) (same_actions d p g.task of.of_task.task_is)
-      (subst (λ (ns : List Name). SpellsPlanAt ns (names_of_actions g.task) text (plain_of read.plan) read.place) (same_fluents d p g.task of.of_task.task_is) judged.spelled);
-  written = judged.written;
-  begins = affirmed_begins kind d p g (plain_of read.plan) of judged.yes;
-  meets = affirmed_meets true_goals law kind d p g (plain_of read.plan) of judged.yes;
-}
+-- what is shown, over names that are those of the domain and the problem
+by_json : (json : Bool) (d : DomainTree) (p : ProblemTree) (plan : PlainPlan) (steps : List ℕ) (bytes : Bytes) → bytes ≡ text_for d p plan steps
+    → bytes_as json (fluent_names d p) (action_names d p) plan bytes ≡ shown_bytes json d p plan steps
+by_json false d p plan steps bytes is = is
+by_json true d p plan steps bytes is = refl
 
--- what is shown of a text that was judged, over the names of the task
-abbrev pub IsShownOf : ControlWords → Grounded → Bytes → PlanRead → Answer → Type 0
-IsShownOf asked g text read a = a ≡ affirmed (shown_bytes asked.json (names_of_fluents g.task) (names_of_actions g.task) (plain_of read.plan) text)
+shown_over : (asked : ControlWords) (d : DomainTree) (p : ProblemTree) (plan : PlainPlan) (steps : List ℕ) (bytes : Bytes) (a : Answer) (fs as' : List Name)
+    → fs ≡ fluent_names d p → as' ≡ action_names d p → IsController asked.plan.kind d p plan
+    → (bytes ≡ controller_text fs as' plan steps) × (length (controller_text fs as' plan steps) ≤ file_limit) → SpellsPlain fs as' (controller_text fs as' plan steps) plan
+    → a ≡ affirmed (bytes_as asked.json fs as' plan bytes) → IsControllerShown asked d p a
+shown_over asked d p plan steps bytes a fs as' same_fs same_as controller text spells is =
+    let P : List Name → List Name → Type 0 = λ (xs ys : List Name).
+    ((bytes ≡ controller_text xs ys plan steps) × (length (controller_text xs ys plan steps) ≤ file_limit)) × SpellsPlain xs ys (controller_text xs ys plan steps) plan
+    × (a ≡ affirmed (bytes_as asked.json xs ys plan bytes)) in
+    let all : P (fluent_names d p) (action_names d p) = subst (λ (ys : List Name). P (fluent_names d p) ys) same_as (subst (λ (xs : List Name). P xs as') same_fs (text, spells, is)) in
+    record {
+      plan = plan;
+      steps = steps;
+      text = record { controller = controller; spelled = all.1; short = all.0.1 };
+      shown = all.2 ∙ ap affirmed (by_json asked.json d p plan steps bytes all.0.0);
+    }
 
--- it is shown, as itself or as a document
-pub controller_shown : GroundedGoalsAreTrue → YesSolves → (asked : ControlWords) (d : DomainTree) (p : ProblemTree) (g : Grounded) (text : Bytes) (read : PlanRead) (a : Answer)
-    → IsGroundedOf d p g → IsJudged asked.plan.kind g.task g.ctl text read → IsShownOf asked g text read a → IsControllerShown asked d p a
-unfolding judged_controller
-controller_shown true_goals law asked d p g text read a of judged shown = record {
-  text = text;
-  controller = judged_controller true_goals law asked.plan.kind d p g text read of judged;
-  shown = subst (λ (ns : List Name). a ≡ affirmed (shown_bytes asked.json (fluent_names d p) ns (plain_of read.plan) text)) (same_actions d p g.task of.of_task.task_is)
-      (subst (λ (ns : List Name). a ≡ affirmed (shown_bytes asked.json ns (names_of_actions g.task) (plain_of read.plan) text)) (same_fluents d p g.task of.of_task.task_is) shown);
-}
+pub shown_controller : GroundedGoalsAreTrue → YesSolves → (asked : ControlWords) (d : DomainTree) (p : ProblemTree) (g : Grounded) (plan : PlainPlan) (steps : List ℕ) (found : Option (Vec ℕ Global)) (bytes : Vec ℕ Global) (a : Answer)
+    → IsGroundedOf d p g → IsJudged asked.plan.kind g.task g.ctl plan → found ≡ Some bytes
+    → IsTextWithin file_limit (controller_text (names_of_fluents g.task) (names_of_actions g.task) plan steps) found
+    → SpellsPlain (names_of_fluents g.task) (names_of_actions g.task) (controller_text (names_of_fluents g.task) (names_of_actions g.task) plan steps) plan
+    → a ≡ affirmed (bytes_as asked.json (names_of_fluents g.task) (names_of_actions g.task) plan bytes.items) → IsControllerShown asked d p a
+shown_controller true_goals law asked d p g plan steps found bytes a of judged is within spells shown =
+    shown_over asked d p plan steps bytes.items a (names_of_fluents g.task) (names_of_actions g.task) (same_fluents d p g.task of.of_task.task_is) (same_actions d p g.task of.of_task.task_is)
+    (judged_controller true_goals law asked.plan.kind d p g plan of judged)
+    (text_is file_limit (controller_text (names_of_fluents g.task) (names_of_actions g.task) plan steps) found bytes is within) spells shown
 
-pub shown_if_judged : GroundedGoalsAreTrue → YesSolves → (asked : ControlWords) (d : DomainTree) (p : ProblemTree) (g : Grounded) (bytes text : Bytes) (found : Option PlanRead) (read : PlanRead) (a : Answer)
-    → IsGroundedOf d p g → found ≡ Some read → bytes ≡ text → IfSome found (IsJudged asked.plan.kind g.task g.ctl bytes) → IsShownOf asked g text read a → IsControllerShown asked d p a
-shown_if_judged true_goals law asked d p g bytes text found read a of is same judged shown =
-    controller_shown true_goals law asked d p g text read a of
-    (subst (λ (t : Bytes). IsJudged asked.plan.kind g.task g.ctl t read) same
-    (subst (λ (o : Option PlanRead). IfSome o (IsJudged asked.plan.kind g.task g.ctl bytes)) is judged)) shown
+-- and where its text is too long, that is so
+pub long_controller : GroundedGoalsAreTrue → YesSolves → (kind : PlanKind) (d : DomainTree) (p : ProblemTree) (g : Grounded) (plan : PlainPlan) (steps : List ℕ) (found : Option (Vec ℕ Global))
+    → IsGroundedOf d p g → IsJudged kind g.task g.ctl plan → found ≡ None
+    → IsTextWithin file_limit (controller_text (names_of_fluents g.task) (names_of_actions g.task) plan steps) found → HasLongText kind d p
+long_controller true_goals law kind d p g plan steps found of judged is within =
+    let long : file_limit < length (controller_text (names_of_fluents g.task) (names_of_actions g.task) plan steps) =
+    subst (IsTextWithin file_limit (controller_text (names_of_fluents g.task) (names_of_actions g.task) plan steps)) is within in
+    record {
+      plan = plan;
+      steps = steps;
+      controller = judged_controller true_goals law kind d p g plan of judged;
+      long = subst (λ (ys : List Name). file_limit < length (controller_text (fluent_names d p) ys plan steps)) (same_actions d p g.task of.of_task.task_is)
+          (subst (λ (xs : List Name). file_limit < length (controller_text xs (names_of_actions g.task) plan steps)) (same_fluents d p g.task of.of_task.task_is) long);
+    }

@@ -1,54 +1,91 @@
 -- Which answer is a controller, and the answer to the words.
-use Rattle.std.specs.Prelude.{◌≡◌, ◌≢◌, ◌≤◌, ◌⊎◌, Bool, true, false, List, [], codes, length}
-use Rattle.pddl_ast.specs.Trees.{DomainTree, ProblemTree}
+use Rattle.std.specs.Prelude.{◌≡◌, ◌≢◌, ◌<◌, ◌≤◌, ◌⊎◌, ℕ, Bool, true, false, List, [], codes}
+use Rattle.std.specs.Prelude.{length}
+use Rattle.controller_rules.specs.AsRun.{HasNoDeadRule, HasOneMove, NamesLastContext, run_table}
+use Rattle.controller_rules.specs.Texts.{controller_text}
 use Rattle.exec_graph.specs.Executions.{ReachesMoreThan}
+use Rattle.pddl_ast.specs.Trees.{DomainTree, ProblemTree}
 use Rattle.pddl_system.specs.Systems.{action_names, fluent_names, system}
 use Rattle.plan_document.specs.Documents.{document_text}
+use Rattle.plan_document.specs.Faithful.{IsToldInFull}
 use Rattle.plan_io.specs.Held.{Held}
-use Rattle.plan_rules.specs.Readings.{SpellsPlanAt}
-use Rattle.plan_rules.specs.Rules.{PlainPlan}
-use Rattle.sexpr_text.specs.declared.forms.Place.{Place}
-use Rattle.task_core.specs.Names.{Name}
+use Rattle.plan_rules.specs.Denoted.{denoted_contexts}
+use Rattle.plan_rules.specs.Readings.{SpellsPlain}
+use Rattle.plan_rules.specs.Rules.{PlainPlan, automaton, table}
 use Rattle.task_core.specs.Systems.{System}
-use Rattle.mbp_top.specs.Answers.{Answer, affirmed, full, over_limit, refused}
-use Rattle.mbp_top.specs.CheckCommand.{HasTooManyStates, most_followed}
-use Rattle.mbp_top.specs.Grounding.{GoalThen, GroundThen}
-use Rattle.mbp_top.specs.Meets.{PlanMeets}
-use Rattle.mbp_top.specs.PddlTexts.{ReadBoth}
-use Rattle.mbp_top.specs.PlanCommand.{IsWrittenFor, MayRunOut, PlanThen}
-use Rattle.mbp_top.specs.Reading.{file_limit}
-use Rattle.mbp_top.specs.Words.{Bytes, PlanKind}
+use Rattle.command_base.specs.Answers.{Answer, affirmed, full, over_limit, refused}
+use Rattle.command_base.specs.Following.{HasTooManyStates, most_followed}
+use Rattle.command_base.specs.Grounding.{GoalThen, GroundThen}
+use Rattle.plan_meets.specs.Meets.{Meaning, Meets, PlanMeets, contextual, pairs}
+use Rattle.command_base.specs.PddlTexts.{ReadBoth}
+use Rattle.plan_command.specs.PlanCommand.{IsWrittenFor, MayRunOut, PlanThen}
+use Rattle.command_base.specs.Reading.{file_limit}
+use Rattle.command_base.specs.Words.{Bytes, PlanKind}
 use Rattle.controller_plan.specs.Words.{ControlWords}
 
--- the bytes are a controller: they spell a plan of the kind that meets the problem, which has an
--- initial state, and are no more than a plan's file may have
+-- what a plan means as it is run: of a table the pairs of the first rule that matches each state, of
+-- an automaton its plan with contexts, in which the first rule counts anyway
+abbrev pub run_meaning : System → PlainPlan → Meaning
+run_meaning sys (table written rules) = pairs (run_table sys rules)
+run_meaning sys (automaton contexts rules) = contextual (denoted_contexts rules)
+
+-- a plan is a controller: it is of the kind and meets the problem, which has an initial state, read as
+-- plans are read and as it is run; in whatever it may reach all rules that count make the same move; no
+-- rule is dead and no context idle; and it can be told in full
 pub record IsController (kind : PlanKind) (domain : DomainTree) (problem : ProblemTree)
-    (text : Bytes) : Type 0 where
-  pub plan : PlainPlan
-  pub place : Place
-  pub short : length text ≤ file_limit
-  pub spelled : SpellsPlanAt (fluent_names domain problem) (action_names domain problem) text plan
-      place
+    (plan : PlainPlan) : Type 0 where
   pub written : IsWrittenFor kind plan
   pub begins : (system domain problem).initial ≢ []
   pub meets : PlanMeets kind domain problem plan
+  pub run_meets : Meets kind domain problem (run_meaning (system domain problem) plan)
+  pub one_move : HasOneMove (system domain problem) plan
+  pub no_dead_rule : HasNoDeadRule (system domain problem) plan
+  pub contexts : NamesLastContext plan
+  pub told : IsToldInFull plan
 
--- what is shown of a controller: its text or, as JSON, the document of the plan that the text spells
-abbrev pub shown_bytes : Bool → List Name → List Name → PlainPlan → Bytes → Bytes
-shown_bytes false fluents actions plan text = text
-shown_bytes true fluents actions plan text = document_text fluents actions plan
+-- the text of a plan whose rules are first wanted after these numbers of steps
+abbrev pub text_for : DomainTree → ProblemTree → PlainPlan → List ℕ → Bytes
+text_for domain problem plan steps =
+    controller_text (fluent_names domain problem) (action_names domain problem) plan steps
 
--- a controller is shown
+-- a controller whose text spells it and is no longer than a plan's file may be
+pub record IsControllerText (kind : PlanKind) (domain : DomainTree) (problem : ProblemTree)
+    (plan : PlainPlan) (steps : List ℕ) : Type 0 where
+  pub controller : IsController kind domain problem plan
+  pub spelled : SpellsPlain (fluent_names domain problem) (action_names domain problem)
+      (text_for domain problem plan steps) plan
+  pub short : length (text_for domain problem plan steps) ≤ file_limit
+
+-- what is shown of a controller: its text or, as JSON, the document of the same plan
+abbrev pub shown_bytes : Bool → DomainTree → ProblemTree → PlainPlan → List ℕ → Bytes
+shown_bytes false domain problem plan steps = text_for domain problem plan steps
+shown_bytes true domain problem plan steps =
+    document_text (fluent_names domain problem) (action_names domain problem) plan
+
+-- a controller is shown. Its text is made of the plan and the numbers of steps alone, and the document
+-- of the plan, so that both tell the same, whichever is asked for
 pub record IsControllerShown (asked : ControlWords) (domain : DomainTree) (problem : ProblemTree)
     (answer : Answer) : Type 0 where
-  pub text : Bytes
-  pub controller : IsController asked.plan.kind domain problem text
-  pub shown : answer ≡ affirmed (shown_bytes asked.json (fluent_names domain problem)
-      (action_names domain problem) controller.plan text)
+  pub plan : PlainPlan
+  pub steps : List ℕ
+  pub text : IsControllerText asked.plan.kind domain problem plan steps
+  pub shown : answer ≡ affirmed (shown_bytes asked.json domain problem plan steps)
 
--- some plan reaches more configurations than are followed
-abbrev pub MayReachTooMany : System → Type 0
-MayReachTooMany sys = (plan : PlainPlan) × ReachesMoreThan sys plan most_followed
+-- a controller was found, and its text is longer than a plan's file may be
+pub record HasLongText (kind : PlanKind) (domain : DomainTree) (problem : ProblemTree) : Type 0 where
+  pub plan : PlainPlan
+  pub steps : List ℕ
+  pub controller : IsController kind domain problem plan
+  pub long : file_limit < length (text_for domain problem plan steps)
+
+-- the plan that `plan` finds reaches more configurations than are followed
+pub record ReachesTooMany (asked : ControlWords) (domain : DomainTree)
+    (problem : ProblemTree) : Type 0 where
+  pub text : Bytes
+  pub found : PlanThen asked.plan domain problem (affirmed text)
+  pub plan : PlainPlan
+  pub spelled : SpellsPlain (fluent_names domain problem) (action_names domain problem) text plan
+  pub more : ReachesMoreThan (system domain problem) plan most_followed
 
 -- `plan` finds a plan
 abbrev pub FindsPlan : ControlWords → DomainTree → ProblemTree → Type 0
@@ -56,15 +93,15 @@ FindsPlan asked domain problem =
     (text : Bytes) × PlanThen asked.plan domain problem (affirmed text)
 
 -- the names of the limits that a controller may pass, each with its cause: there are too many initial
--- states; plans may reach more than is followed, or `plan` finds one and yet no controller was
--- judged to be good; or the text that was made of what the plan does is longer than a plan's file
--- may be, which says nothing of the problem
+-- states; the plan that `plan` finds reaches more than is followed, or `plan` finds one and yet no
+-- controller was judged to be good; or a controller was found, and its text is longer than a plan's
+-- file may be
 abbrev pub IsLimitPassed : ControlWords → DomainTree → ProblemTree → Bytes → Type 0
 IsLimitPassed asked domain problem name =
     ((name ≡ codes "initial") × HasTooManyStates domain problem)
     ⊎ ((name ≡ codes "configurations")
-    × (MayReachTooMany (system domain problem) ⊎ FindsPlan asked domain problem))
-    ⊎ (name ≡ codes "file")
+    × (ReachesTooMany asked domain problem ⊎ FindsPlan asked domain problem))
+    ⊎ ((name ≡ codes "file") × HasLongText asked.plan.kind domain problem)
 
 -- the answer affirms nothing
 abbrev pub AffirmsNothing : Answer → Type 0

@@ -1,5 +1,5 @@
 -- Private: what the code's own types stand for.
-use Rattle.mbp_top.specs.Values.{plan_words_of}
+use Rattle.command_base.specs.Values.{plan_words_of}
 use Rattle.controller_plan.specs.Words.{ControlWords}
 use Rattle.controller_plan.specs.declared.words.ControlWords.{ControlWords as CodeControlWords}
 

@@ -1,6 +1,6 @@
 -- The words: which controller is wanted.
 use Rattle.std.specs.Prelude.{◌≡◌, ◌++◌, Bool, true, false, List, [], ◌∷◌, codes}
-use Rattle.mbp_top.specs.Words.{Bytes, PlanWords, SaysPlan}
+use Rattle.command_base.specs.Words.{Bytes, PlanWords, SaysPlan}
 
 -- what is asked: a plan, as `mbp plan` is asked for one, and whether it is to be a JSON document
 pub record ControlWords : Type 0 where

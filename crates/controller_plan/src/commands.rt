@@ -6,25 +6,26 @@ ghost use Rattle.controller_plan.specs.Controllers.{
   IsControlAnswer,
   IsControlled,
   IsControllerShown,
-  shown_bytes,
 };
-ghost use Rattle.controller_plan.specs.Judged.{IsControlRefusal};
+ghost use Rattle.controller_plan.specs.Judged.{IsControlRefusal, IsJudged, bytes_as};
 ghost use Rattle.controller_plan.specs.Runs.{HasControlCause};
 ghost use Rattle.controller_plan.specs.Values.{control_words_of};
 ghost use Rattle.controller_plan.specs.Words.{AskNothing, ControlWords as AskedControl, SaysControl};
-ghost use Rattle.mbp_top.specs.Answers.{affirmed, full, no_memory, over_limit, refused};
-ghost use Rattle.mbp_top.specs.Causes.{IsQuietAt};
-ghost use Rattle.mbp_top.specs.Fetching.{FetchesBoth};
-ghost use Rattle.mbp_top.specs.Grounded.{IsGroundedOf};
-ghost use Rattle.mbp_top.specs.Grounding.{has_goal_for};
-ghost use Rattle.mbp_top.specs.PlanCommand.{MayBeTooFew};
-ghost use Rattle.mbp_top.specs.Values.{answer_of, kind_of, refusal_of, shown_of};
-ghost use Rattle.mbp_top.specs.Words.{IsNodeLimit};
+ghost use Rattle.command_base.specs.Answers.{affirmed, full, no_memory, refused};
+ghost use Rattle.command_base.specs.Faults.{IsQuietAt};
+ghost use Rattle.command_base.specs.Fetching.{FetchesBoth};
+ghost use Rattle.command_base.specs.Grounded.{IsGroundedOf};
+ghost use Rattle.command_base.specs.Grounding.{has_goal_for};
+ghost use Rattle.plan_command.specs.PlanCommand.{MayBeTooFew, PlanThen};
+ghost use Rattle.command_base.specs.Values.{answer_of, bytes_of, kind_of, plan_words_of, refusal_of, shown_of};
+ghost use Rattle.command_base.specs.Words.{IsNodeLimit};
 ghost use Rattle.pddl_ast.specs.Fits.{FitsDomain, FitsProblem};
 ghost use Rattle.pddl_ast.specs.Values.{domain_value, problem_value};
 ghost use Rattle.pddl_system.specs.Names.{NamesAreWords};
+ghost use Rattle.plan_document.specs.Faithful.{IsToldInFull};
 ghost use Rattle.plan_io.specs.Fetches.{FailedLast, FetchesNothing};
 ghost use Rattle.plan_rules.specs.Plans.{IsPlanOf};
+ghost use Rattle.plan_rules.specs.Readings.{SpellsPlain};
 ghost use Rattle.plan_rules.specs.Rules.{plain_of};
 ghost use Rattle.std.specs.Prelude.{
   ◌≡◌,
@@ -33,8 +34,8 @@ ghost use Rattle.std.specs.Prelude.{
   IfErr,
   IfOk,
   IfSome,
+  IsTrue,
   List,
-  codes,
   map,
   string_bytes,
   true,
@@ -43,20 +44,23 @@ ghost use Rattle.std.specs.Prelude.{
 ghost use Rattle.task_core.specs.Tasks.{action_count, action_names, fluent_count, fluent_names};
 
 use crate::followed::Followed;
-use crate::judged::judged;
-use crate::reach::check_reach;
-use crate::rule_texts::rules_text;
+use crate::judged::is_controller;
+use crate::plans::{plan_of, steps_of};
+use crate::reach::{check_reached, plan_in};
 use crate::rules::{Length, rules_of};
-use crate::searches::{Sought, seek};
+use crate::searches::{Sought, follow_found, seek};
 use crate::words::{ControlWords, read_words};
+use command_base::{Limit, Refusal, Shown, Text, check_goal, ground_both, read_both};
+use controller_rules::write_controller;
 use ground_task::Grounded;
-use mbp_top::{Limit, Refusal, Shown, Text, check_goal, ground_both, plan_grounded, read_both};
 use pddl_ast::{Domain, Problem};
 use pddl_system::grounded_goals_are_true;
 use plan_check::yes_is_solution;
+use plan_command::plan_grounded;
 use plan_document::plan_document;
 use plan_io::Shelf;
 use plan_rules::Plan;
+use sexpr_text::MAX_BYTES;
 use std::alloc::{AllocError, Global};
 use task_core::Task;
 
@@ -169,23 +173,18 @@ fn shown_sought(
     ensures shown { IfOk result (λ found. IfSome found (λ shown.
         IsControllerShown (control_words_of asked.now)
         (domain_value domain.now) (problem_value problem.now) (shown_of shown))) }
-    ensures refused { IfErr result
-        (λ refusal. IsControlRefusal grounded.now.task (refusal_of refusal)) }
+    ensures refused { IfErr result (λ refusal. IsControlRefusal (control_words_of asked.now)
+        (domain_value domain.now) (problem_value problem.now) (refusal_of refusal)) }
 {
     match seek(alloc, &asked.plan, grounded)? {
         Sought::Followed(followed) => {
             shown_controller(alloc, asked, domain, problem, grounded, &followed)
         }
-        Sought::TooMany => {
-            check_reach(alloc, &grounded.task)?;
-            Ok(None)
-        }
         Sought::Nothing => Ok(None),
     }
 }
 
-/// The answer of `plan` where no controller is shown. If it is a plan, that isn't shown: what it
-/// reaches couldn't be followed.
+/// The answer of `plan` where no controller was shown; if it is a plan, what is made of that.
 fn without_controller(
     alloc: Global,
     asked: &ControlWords,
@@ -206,24 +205,140 @@ fn without_controller(
         (answer_of result) }
 {
     let found = plan_grounded(alloc, &asked.plan, domain, problem, grounded);
-    unless_affirmed(found)
+    match found_text(found) {
+        Ok(text) => controller_of_text(alloc, asked, domain, problem, grounded, text.as_bytes()),
+        Err(other) => other,
+    }
 }
 
-/// The same answer, unless it affirms; then that too much is reached.
-fn unless_affirmed(found: Result<Shown, Refusal>) -> Result<Shown, Refusal>
-    ensures { ((answer_of result ≡ answer_of found) × AffirmsNothing (answer_of found))
-        ⊎ ((text : List ℕ) × (answer_of found ≡ affirmed text)
-        × (answer_of result ≡ refused (over_limit (codes "configurations")))) }
+/// The text of the plan that was found; or the answer, where it is no plan.
+fn found_text(found: Result<Shown, Refusal>) -> Result<Text, Result<Shown, Refusal>>
+    ensures text { IfOk result (λ text. answer_of found ≡ affirmed (bytes_of text)) }
+    ensures other { IfErr result (λ other. (answer_of other ≡ answer_of found)
+        × AffirmsNothing (answer_of found)) }
 {
     match found {
-        Ok(Shown::Affirmed(_)) => Err(Refusal::OverLimit(Limit::Configurations)),
-        Ok(Shown::Denied(text)) => Ok(Shown::Denied(text)),
+        Ok(Shown::Affirmed(text)) => Ok(text),
+        Ok(Shown::Denied(text)) => Err(Ok(Shown::Denied(text))),
+        Err(refusal) => Err(Err(refusal)),
+    }
+}
+
+/// The controller for the plan that `plan` finds, or the limit that keeps it from being made.
+fn controller_of_text(
+    alloc: Global,
+    asked: &ControlWords,
+    domain: &Domain,
+    problem: &Problem,
+    grounded: &Grounded,
+    text: &[u8],
+) -> Result<Shown, Refusal>
+    requires goal { has_goal_for (kind_of asked.now.plan.kind) (problem_value problem.now)
+        ≡ true }
+    requires grounded { IsGroundedOf (domain_value domain.now) (problem_value problem.now)
+        grounded.now }
+    requires found { PlanThen (plan_words_of asked.now.plan) (domain_value domain.now)
+        (problem_value problem.now) (affirmed text.now) }
+    ensures shown { IfOk result (λ shown. IsControllerShown (control_words_of asked.now)
+        (domain_value domain.now) (problem_value problem.now) (shown_of shown)) }
+    ensures refused { IfErr result (λ refusal. IsControlRefusal (control_words_of asked.now)
+        (domain_value domain.now) (problem_value problem.now) (refusal_of refusal)) }
+{
+    match made_of_text(alloc, asked, domain, problem, grounded, text)? {
+        Some(shown) => Ok(shown),
+        None => Err(Refusal::OverLimit(Limit::Configurations)),
+    }
+}
+
+/// The controller for the plan that a text of `plan` spells, if one can be made of it.
+fn made_of_text(
+    alloc: Global,
+    asked: &ControlWords,
+    domain: &Domain,
+    problem: &Problem,
+    grounded: &Grounded,
+    text: &[u8],
+) -> Result<Option<Shown>, Refusal>
+    requires goal { has_goal_for (kind_of asked.now.plan.kind) (problem_value problem.now)
+        ≡ true }
+    requires grounded { IsGroundedOf (domain_value domain.now) (problem_value problem.now)
+        grounded.now }
+    requires found { PlanThen (plan_words_of asked.now.plan) (domain_value domain.now)
+        (problem_value problem.now) (affirmed text.now) }
+    ensures shown { IfOk result (λ found. IfSome found (λ shown.
+        IsControllerShown (control_words_of asked.now)
+        (domain_value domain.now) (problem_value problem.now) (shown_of shown))) }
+    ensures refused { IfErr result (λ refusal. IsControlRefusal (control_words_of asked.now)
+        (domain_value domain.now) (problem_value problem.now) (refusal_of refusal)) }
+{
+    match plan_in(alloc, &grounded.task, text)? {
+        Some(read) => made_of_plan(alloc, asked, domain, problem, grounded, text, &read.plan),
+        None => Ok(None),
+    }
+}
+
+/// The controller for a plan that `plan` finds, if one can be made of it.
+fn made_of_plan(
+    alloc: Global,
+    asked: &ControlWords,
+    domain: &Domain,
+    problem: &Problem,
+    grounded: &Grounded,
+    text: &[u8],
+    plan: &Plan,
+) -> Result<Option<Shown>, Refusal>
+    requires goal { has_goal_for (kind_of asked.now.plan.kind) (problem_value problem.now)
+        ≡ true }
+    requires grounded { IsGroundedOf (domain_value domain.now) (problem_value problem.now)
+        grounded.now }
+    requires found { PlanThen (plan_words_of asked.now.plan) (domain_value domain.now)
+        (problem_value problem.now) (affirmed text.now) }
+    requires spelled { SpellsPlain (fluent_names grounded.now.task)
+        (action_names grounded.now.task) text.now (plain_of plan.now) }
+    requires in_task { IsPlanOf (fluent_count grounded.now.task) (action_count grounded.now.task)
+        plan.now }
+    ensures shown { IfOk result (λ found. IfSome found (λ shown.
+        IsControllerShown (control_words_of asked.now)
+        (domain_value domain.now) (problem_value problem.now) (shown_of shown))) }
+    ensures refused { IfErr result (λ refusal. IsControlRefusal (control_words_of asked.now)
+        (domain_value domain.now) (problem_value problem.now) (refusal_of refusal)) }
+{
+    check_found(alloc, asked, domain, problem, grounded, text, plan)?;
+    match follow_found(alloc, &grounded.task, plan)? {
+        Some(followed) => shown_controller(alloc, asked, domain, problem, grounded, &followed),
+        None => Ok(None),
+    }
+}
+
+/// Refuses where a plan that `plan` finds reaches more than may be followed.
+fn check_found(
+    alloc: Global,
+    asked: &ControlWords,
+    domain: &Domain,
+    problem: &Problem,
+    grounded: &Grounded,
+    text: &[u8],
+    plan: &Plan,
+) -> Result<(), Refusal>
+    requires grounded { IsGroundedOf (domain_value domain.now) (problem_value problem.now)
+        grounded.now }
+    requires found { PlanThen (plan_words_of asked.now.plan) (domain_value domain.now)
+        (problem_value problem.now) (affirmed text.now) }
+    requires spelled { SpellsPlain (fluent_names grounded.now.task)
+        (action_names grounded.now.task) text.now (plain_of plan.now) }
+    requires in_task { IsPlanOf (fluent_count grounded.now.task) (action_count grounded.now.task)
+        plan.now }
+    ensures { IfErr result (λ refusal. IsControlRefusal (control_words_of asked.now)
+        (domain_value domain.now) (problem_value problem.now) (refusal_of refusal)) }
+{
+    match check_reached(alloc, &grounded.task, plan) {
+        Ok(()) => Ok(()),
         Err(refusal) => Err(refusal),
     }
 }
 
-/// The controller for what a plan does where it reaches: first with short rules, and if these aren't
-/// judged to be a plan, with full ones. `None` where these aren't, either.
+/// The controller for what a plan does where it reaches: first with short rules, and if these don't make
+/// one, with full ones. `None` where these don't, either.
 fn shown_controller(
     alloc: Global,
     asked: &ControlWords,
@@ -239,8 +354,8 @@ fn shown_controller(
     ensures shown { IfOk result (λ found. IfSome found (λ shown.
         IsControllerShown (control_words_of asked.now)
         (domain_value domain.now) (problem_value problem.now) (shown_of shown))) }
-    ensures refused { IfErr result
-        (λ refusal. IsControlRefusal grounded.now.task (refusal_of refusal)) }
+    ensures refused { IfErr result (λ refusal. IsControlRefusal (control_words_of asked.now)
+        (domain_value domain.now) (problem_value problem.now) (refusal_of refusal)) }
 {
     let short = shown_rules(
         alloc,
@@ -265,7 +380,7 @@ fn shown_controller(
     )
 }
 
-/// The controller with rules of this length, if they are judged to be a plan that meets the problem.
+/// The controller with rules of this length, if they make one.
 fn shown_rules(
     alloc: Global,
     asked: &ControlWords,
@@ -282,33 +397,24 @@ fn shown_rules(
     ensures shown { IfOk result (λ found. IfSome found (λ shown.
         IsControllerShown (control_words_of asked.now)
         (domain_value domain.now) (problem_value problem.now) (shown_of shown))) }
-    ensures refused { IfErr result
-        (λ refusal. IsControlRefusal grounded.now.task (refusal_of refusal)) }
+    ensures refused { IfErr result (λ refusal. IsControlRefusal (control_words_of asked.now)
+        (domain_value domain.now) (problem_value problem.now) (refusal_of refusal)) }
 {
-    let text = text_of_rules(alloc, asked, &grounded.task, followed, length)?;
-    shown_text(alloc, asked, domain, problem, grounded, text)
+    let rules = rules_of(alloc, followed, grounded.task.fluents.len() as u32, length)?;
+    let plan = plan_of(alloc, asked.plan.kind, &rules)?;
+    let steps = steps_of(alloc, &rules)?;
+    shown_plan(alloc, asked, domain, problem, grounded, &plan, &steps)
 }
 
-/// The text of the rules for what a plan does where it reaches.
-fn text_of_rules(
-    alloc: Global,
-    asked: &ControlWords,
-    task: &Task,
-    followed: &Followed,
-    length: Length,
-) -> Result<Vec<u8>, AllocError> {
-    let rules = rules_of(alloc, followed, task.fluents.len() as u32, length)?;
-    rules_text(alloc, asked.plan.kind, followed.contexts, &rules, task)
-}
-
-/// The text as a controller, if it is judged to be a plan that meets the problem.
-fn shown_text(
+/// A plan as a controller, if it is one.
+fn shown_plan(
     alloc: Global,
     asked: &ControlWords,
     domain: &Domain,
     problem: &Problem,
     grounded: &Grounded,
-    text: Vec<u8>,
+    plan: &Plan,
+    steps: &[u32],
 ) -> Result<Option<Shown>, Refusal>
     requires goal { has_goal_for (kind_of asked.now.plan.kind) (problem_value problem.now)
         ≡ true }
@@ -317,20 +423,75 @@ fn shown_text(
     ensures shown { IfOk result (λ found. IfSome found (λ shown.
         IsControllerShown (control_words_of asked.now)
         (domain_value domain.now) (problem_value problem.now) (shown_of shown))) }
-    ensures refused { IfErr result
-        (λ refusal. IsControlRefusal grounded.now.task (refusal_of refusal)) }
+    ensures refused { IfErr result (λ refusal. IsControlRefusal (control_words_of asked.now)
+        (domain_value domain.now) (problem_value problem.now) (refusal_of refusal)) }
+{
+    if !is_good(alloc, asked, domain, problem, grounded, plan)? {
+        return Ok(None);
+    }
+    let shown = shown_judged(alloc, asked, domain, problem, grounded, plan, steps)?;
+    Ok(Some(shown))
+}
+
+/// Whether a plan is judged to be a controller.
+fn is_good(
+    alloc: Global,
+    asked: &ControlWords,
+    domain: &Domain,
+    problem: &Problem,
+    grounded: &Grounded,
+    plan: &Plan,
+) -> Result<bool, Refusal>
+    requires goal { has_goal_for (kind_of asked.now.plan.kind) (problem_value problem.now)
+        ≡ true }
+    requires grounded { IsGroundedOf (domain_value domain.now) (problem_value problem.now)
+        grounded.now }
+    ensures judged { IfOk result (λ is. IsTrue is → IsJudged (kind_of asked.now.plan.kind)
+        grounded.now.task grounded.now.ctl (plain_of plan.now)) }
+    ensures in_task { IfOk result (λ is. IsTrue is
+        → IsPlanOf (fluent_count grounded.now.task) (action_count grounded.now.task) plan.now) }
+    ensures refused { IfErr result (λ refusal. IsControlRefusal (control_words_of asked.now)
+        (domain_value domain.now) (problem_value problem.now) (refusal_of refusal)) }
+{
+    match is_controller(alloc, asked.plan.kind, grounded, plan) {
+        Ok(is) => Ok(is),
+        Err(refusal) => Err(refusal),
+    }
+}
+
+/// A plan that was judged to be a controller, as it is shown, unless its text is too long.
+fn shown_judged(
+    alloc: Global,
+    asked: &ControlWords,
+    domain: &Domain,
+    problem: &Problem,
+    grounded: &Grounded,
+    plan: &Plan,
+    steps: &[u32],
+) -> Result<Shown, Refusal>
+    requires goal { has_goal_for (kind_of asked.now.plan.kind) (problem_value problem.now)
+        ≡ true }
+    requires grounded { IsGroundedOf (domain_value domain.now) (problem_value problem.now)
+        grounded.now }
+    requires judged { IsJudged (kind_of asked.now.plan.kind) grounded.now.task grounded.now.ctl
+        (plain_of plan.now) }
+    requires in_task { IsPlanOf (fluent_count grounded.now.task) (action_count grounded.now.task)
+        plan.now }
+    ensures shown { IfOk result (λ shown. IsControllerShown (control_words_of asked.now)
+        (domain_value domain.now) (problem_value problem.now) (shown_of shown)) }
+    ensures refused { IfErr result (λ refusal. IsControlRefusal (control_words_of asked.now)
+        (domain_value domain.now) (problem_value problem.now) (refusal_of refusal)) }
 {
     // These do nothing: that what the checker says yes to meets the problem rests on what they
     // promise.
     grounded_goals_are_true();
     yes_is_solution();
-    let name = asked.plan.problem;
-    match judged(alloc, asked.plan.kind, name, problem, grounded, &text)? {
-        Some(read) => {
-            let shown = shown_as(alloc, asked.json, text, &read.plan, &grounded.task)?;
-            Ok(Some(shown))
+    match write_controller(alloc, plan, steps, &grounded.task, MAX_BYTES)? {
+        Some(text) => {
+            let shown = shown_as(alloc, asked.json, text, plan, &grounded.task)?;
+            Ok(shown)
         }
-        None => Ok(None),
+        None => Err(Refusal::OverLimit(Limit::File)),
     }
 }
 
@@ -342,9 +503,10 @@ fn shown_as(
     plan: &Plan,
     task: &Task,
 ) -> Result<Shown, AllocError>
-    requires { IsPlanOf (fluent_count task.now) (action_count task.now) plan.now }
+    requires in_task { IsPlanOf (fluent_count task.now) (action_count task.now) plan.now }
+    requires told { IsToldInFull (plain_of plan.now) }
     ensures { IfOk result (λ shown. shown_of shown
-        ≡ affirmed (shown_bytes json (fluent_names task.now) (action_names task.now)
+        ≡ affirmed (bytes_as json (fluent_names task.now) (action_names task.now)
         (plain_of plan.now) text.items)) }
 {
     if json {

@@ -4,28 +4,27 @@ ghost use Rattle.controller_plan.specs.Followed.{AreReachedWithin, AreSlotsLive,
 ghost use Rattle.ctl_syntax.specs.GoalValues.{GoalIsAtMostDeep, GoalNamesBelow};
 ghost use Rattle.ctl_syntax.specs.Values.{IsAtMostDeep, NamesBelow, ctl_value};
 ghost use Rattle.encode_task.specs.Made.{MadeOf};
-ghost use Rattle.mbp_top.specs.GoalConditions.{HasSomeVisit, IsGoalOver, count_of, most_of};
-ghost use Rattle.mbp_top.specs.Words.{IsNodeLimit};
+ghost use Rattle.plan_command.specs.GoalConditions.{HasSomeVisit, IsGoalOver, count_of, most_of};
+ghost use Rattle.command_base.specs.Words.{IsNodeLimit};
 ghost use Rattle.patrol_plan.specs.Chains.{IsPatrolOver, IsUntilOver};
 ghost use Rattle.patrol_plan.specs.Found.{IfPlan};
-ghost use Rattle.plan_rules.specs.Plans.{IsAutomatonOf, IsPlanOf};
+ghost use Rattle.plan_rules.specs.Plans.{IsAutomatonOf};
 ghost use Rattle.plan_rules.specs.Rules.{context_rules_of};
 ghost use Rattle.std.specs.Prelude.{◌≡◌, ◌≤◌, IfSome, IsTrue, OnOk};
 ghost use Rattle.task_core.specs.Tasks.{action_count, fluent_count};
 
 use crate::followed::Followed;
-use crate::searches::{Stop, begun};
+use crate::searches::{Stop, begun, follow_plan};
 use ctl_syntax::{ContextGoal, Ctl, UntilChain, as_context_goal};
 use dd_sets::SetErr;
 use encode_task::{Enc, encode};
 use ground_task::Grounded;
-use mbp_top::encode_ordered;
 use patrol_plan::{FoundAuto, plan_patrol, rule_place, rule_sets, until_takers};
-use plan_guide::Guide;
 use plan_rules::Plan;
 use slot_board::Board;
 use std::alloc::Global;
 use task_core::{ActionId, Cond, Task};
+use task_sets::encode_ordered;
 
 /// The most stages of an until-chain.
 const MOST_STAGES: usize = 32;
@@ -171,11 +170,14 @@ fn follow_board(
     requires table { IsTableThere task.now enc.old board.old.slots.items stages }
     requires few { stages ≤ 32 }
 {
-    let mut followed = begun(alloc, task, stages + 1)?;
+    let mut followed = begun(alloc, task)?;
     for context in 0..stages + 1 {
         follow_context(task, enc, board, stages, context, &mut followed)?;
     }
-    Ok(followed)
+    // The contexts were gone through one after another, and so not in the order of the steps.
+    let mut again = begun(alloc, task)?;
+    again.visit_again(task, &followed)?;
+    Ok(again)
 }
 
 /// Follows a plan with contexts from the configurations of a context, first as far as it stays in
@@ -264,30 +266,19 @@ fn follow_visits(
     requires visits { IsPatrolOver (fluent_count task.now) visits.now }
 {
     let found = plan_patrol(alloc, task, enc, visits)?;
-    follow_found(alloc, task, found)
+    follow_automaton(alloc, task, found)
 }
 
 /// What the plan reaches that was found, if one was.
-fn follow_found(alloc: Global, task: &Task, found: FoundAuto) -> Result<Option<Followed>, Stop>
+fn follow_automaton(alloc: Global, task: &Task, found: FoundAuto) -> Result<Option<Followed>, Stop>
     requires { IfPlan found (λ plan. IsAutomatonOf (fluent_count task.now) (action_count task.now)
         plan.contexts (context_rules_of plan)) }
 {
     match found {
         FoundAuto::Plan(plan) => {
-            let contexts = plan.contexts;
-            let followed = follow_plan(alloc, task, &Plan::Auto(plan), contexts)?;
+            let followed = follow_plan(alloc, task, &Plan::Auto(plan))?;
             Ok(Some(followed))
         }
         FoundAuto::NoPlan => Ok(None),
     }
-}
-
-/// What a plan with so many contexts reaches.
-fn follow_plan(alloc: Global, task: &Task, plan: &Plan, contexts: u32) -> Result<Followed, Stop>
-    requires { IsPlanOf (fluent_count task.now) (action_count task.now) plan.now }
-{
-    let guide = Guide::new(alloc, task, plan)?;
-    let mut followed = begun(alloc, task, contexts)?;
-    followed.visit_guided(task, &guide)?;
-    Ok(followed)
 }

@@ -7,14 +7,14 @@ ghost use Rattle.task_core.specs.States.{IsWithin};
 ghost use Rattle.task_core.specs.Tasks.{action_count, fluent_count, outcomes_at};
 
 use crate::searches::Stop;
+use crate::state_plans::StatePlan;
 use dd_sets::SetId;
 use encode_task::Enc;
 use exec_graph::MAX_CONFIGURATIONS;
 use indexmap::IndexSet;
 use plan_guide::{Guide, GuideNext};
-use reached_plan::ReachedPlan;
 use std::alloc::Global;
-use task_core::{ActionId, State, Task, in_space, step};
+use task_core::{ActionId, State, Task, in_space, outcome_count, step};
 
 /// A configuration: a state, and the context that the plan is in, counted from 0.
 #[derive(Clone, Copy, PartialEq, Eq, Hash)]
@@ -37,14 +37,12 @@ pub(crate) struct Followed {
     pub(crate) places: Vec<Place>,
     pub(crate) steps: Vec<u32>,
     pub(crate) moves: Vec<Option<Move>>,
-    /// How many contexts the plan has.
-    pub(crate) contexts: u32,
     seen: IndexSet<Place>,
 }
 
 impl Followed {
-    /// The initial configurations of a plan with so many contexts.
-    pub(crate) fn begin(alloc: Global, states: &[State], contexts: u32) -> Result<Followed, Stop>
+    /// The initial configurations.
+    pub(crate) fn begin(alloc: Global, states: &[State]) -> Result<Followed, Stop>
         ensures { IfOk result (λ followed. (n : ℕ) → All (IsWithin n) states.now
             → AreReachedWithin n followed.places.items) }
     {
@@ -52,7 +50,6 @@ impl Followed {
             places: Vec::new(alloc),
             steps: Vec::new(alloc),
             moves: Vec::new(alloc),
-            contexts,
             seen: IndexSet::new(alloc),
         };
         for state in states {
@@ -148,7 +145,7 @@ impl Followed {
 
     /// Finds what a plan for states that can be reached does in the configurations, all of one
     /// context, and adds what follows them.
-    pub(crate) fn visit_reached(&mut self, task: &Task, plan: &ReachedPlan) -> Result<(), Stop>
+    pub(crate) fn visit_reached(&mut self, task: &Task, plan: &StatePlan) -> Result<(), Stop>
         requires within { AreReachedWithin (fluent_count task.now) self.old.places.items }
     {
         for number in 0..MAX_CONFIGURATIONS {
@@ -178,6 +175,36 @@ impl Followed {
             }
         }
         Ok(())
+    }
+
+    /// Finds the same configurations once more, in the order of the steps after which they are found,
+    /// with what the plan does in them as it was found in another order.
+    pub(crate) fn visit_again(&mut self, task: &Task, known: &Followed) -> Result<(), Stop>
+        requires within { AreReachedWithin (fluent_count task.now) self.old.places.items }
+    {
+        for number in 0..MAX_CONFIGURATIONS {
+            if number >= self.places.len() {
+                return Ok(());
+            }
+            let place = self.places[number];
+            if let Some(taken) = known.move_of(task, &place) {
+                self.take(task, number, &place.state, taken.action, taken.next)?;
+            }
+        }
+        Ok(())
+    }
+
+    /// What the plan does in a configuration, if it is an action of the task.
+    fn move_of(&self, task: &Task, place: &Place) -> Option<Move>
+        ensures { IfSome result (λ taken. taken.action.0 < action_count task.now) }
+    {
+        let number = self.seen.get_index_of(place)?;
+        let taken = self.moves.get(number).copied()??;
+        if (taken.action.0 as usize) < task.actions.len() {
+            Some(taken)
+        } else {
+            None
+        }
     }
 
     /// Notes that the plan takes an action in the state of a configuration, and adds what follows.
@@ -250,7 +277,7 @@ impl Followed {
 }
 
 /// The action that a plan for states that can be reached takes in a state, if it is one of the task.
-fn action_of(task: &Task, plan: &ReachedPlan, state: &State) -> Option<ActionId>
+fn action_of(task: &Task, plan: &StatePlan, state: &State) -> Option<ActionId>
     ensures { IfSome result (λ action. action.0 < action_count task.now) }
 {
     let action = plan.action_in(state)?;
@@ -309,12 +336,4 @@ fn is_taken_in(enc: &Enc, slots: &[SetId], first: usize, after: usize, state: &S
         }
         None => false,
     }
-}
-
-/// How many outcomes an action has.
-fn outcome_count(task: &Task, action: ActionId) -> u32
-    requires { action.0 < action_count task.now }
-    ensures { result ≡ length (outcomes_at task.now action.0) }
-{
-    task.actions[action.0 as usize].outcomes.len() as u32
 }

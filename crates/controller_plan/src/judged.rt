@@ -1,90 +1,62 @@
-//! Judging the text of a controller: nothing is shown that the checker doesn't say yes to.
+//! Judging a plan: nothing is shown that isn't a controller.
 
-ghost use Rattle.controller_plan.specs.Judged.{IsAffirmed, IsControlRefusal, IsJudged};
+ghost use Rattle.controller_plan.specs.Judged.{IsFoundGood, IsJudgeRefusal, IsJudged, IsYesFor};
 ghost use Rattle.ctl_syntax.specs.Values.{NamesBelow, ctl_value};
-ghost use Rattle.mbp_top.specs.Answers.{affirmed, text_fault};
-ghost use Rattle.mbp_top.specs.Judged.{HasGoalIn};
-ghost use Rattle.mbp_top.specs.PlanCommand.{IsWrittenFor};
-ghost use Rattle.mbp_top.specs.PlanFiles.{is_of_kind};
-ghost use Rattle.mbp_top.specs.Values.{kind_of, refusal_of, shown_of};
+ghost use Rattle.exec_graph.specs.Graphs.{IsGraphOf};
+ghost use Rattle.exec_graph.specs.Values.{plain_graph};
+ghost use Rattle.check_command.specs.Judged.{HasGoalIn, IsTaskVerdict};
+ghost use Rattle.plan_command.specs.PlanCommand.{IsWrittenFor};
+ghost use Rattle.command_base.specs.PlanFiles.{is_of_kind};
+ghost use Rattle.command_base.specs.Values.{kind_of, refusal_of};
+ghost use Rattle.command_base.specs.Words.{with_contexts};
+ghost use Rattle.plan_check.specs.Verdicts.{SaysYes};
 ghost use Rattle.plan_rules.specs.Plans.{IsPlanOf};
-ghost use Rattle.plan_rules.specs.Rules.{plain_of};
-ghost use Rattle.sexpr_text.specs.declared.faults.InputFault.{InputFault};
-ghost use Rattle.std.specs.Prelude.{◌≡◌, ◌≢◌, ◌↔◌, IfErr, IfOk, IfSome, IsTrue, List, false, true, ℕ};
-ghost use Rattle.task_core.specs.Tasks.{action_count, fluent_count};
+ghost use Rattle.plan_rules.specs.Rules.{ContextRule, PlainPlan, automaton, plain_of};
+ghost use Rattle.std.specs.Prelude.{◌≡◌, ◌↔◌, IfErr, IfOk, IfSome, IsSome, IsTrue, List, true, ℕ};
+ghost use Rattle.task_core.specs.Tasks.{action_count, fluent_count, system_of};
 
+use command_base::{Limit, PlanKind, Refusal};
+use controller_rules::{is_plan_of, names_last_context, rules_serve};
+use ctl_syntax::Ctl;
+use exec_graph::{Graph, GraphErr, explore};
 use ground_task::Grounded;
-use mbp_top::{Limit, PlanKind, Refusal, Shown, judge};
-use pddl_ast::Problem;
-use plan_rules::{Class, Plan, PlanRead, read_plan};
-use sexpr_text::{MAX_BYTES, ReadErr};
-use std::alloc::Global;
+use plan_check::{Verdict, judge_class, judge_ctl};
+use plan_document::is_told_in_full;
+use plan_rules::{Class, Plan};
+use std::alloc::{AllocError, Global};
 
-/// The plan that a text spells, if it is one of the kind that the checker says yes to, as one for the
-/// problem in the file of this name.
-pub(crate) fn judged(
+/// Whether a plan is a controller for a task and its goals. It isn't where it reaches more than may be
+/// followed, nor where there is no initial state.
+pub(crate) fn is_controller(
     alloc: Global,
     kind: PlanKind,
-    name: &str,
-    problem: &Problem,
     grounded: &Grounded,
-    text: &[u8],
-) -> Result<Option<PlanRead>, Refusal>
+    plan: &Plan,
+) -> Result<bool, Refusal>
     requires goal { HasGoalIn (kind_of kind) grounded.now.task grounded.now.ctl }
     requires goal_names { IfSome grounded.now.ctl
         (λ goal. NamesBelow (fluent_count grounded.now.task) (ctl_value goal)) }
-    ensures yes { IfOk result (λ found. IfSome found
-        (IsJudged (kind_of kind) grounded.now.task grounded.now.ctl text.now)) }
+    ensures yes { IfOk result (λ is. IsTrue is
+        → IsJudged (kind_of kind) grounded.now.task grounded.now.ctl (plain_of plan.now)) }
+    ensures in_task { IfOk result (λ is. IsTrue is
+        → IsPlanOf (fluent_count grounded.now.task) (action_count grounded.now.task) plan.now) }
     ensures refused { IfErr result
-        (λ refusal. IsControlRefusal grounded.now.task (refusal_of refusal)) }
+        (λ refusal. IsJudgeRefusal grounded.now.task (refusal_of refusal)) }
 {
-    if text.len() > MAX_BYTES {
-        return Err(Refusal::OverLimit(Limit::File));
+    let task = &grounded.task;
+    if !is_plan_of(task.fluents.len(), task.actions.len(), plan) {
+        return Ok(false);
     }
-    match read_plan(alloc, text, &grounded.task) {
-        Ok(read) => judged_plan(alloc, kind, name, problem, grounded, read),
-        Err(ReadErr::Fault(_)) => Ok(None),
-        Err(ReadErr::Memory) => Err(Refusal::NoMemory),
+    if !is_written_for(kind, plan) || !names_last_context(plan) || !is_told_in_full(plan) {
+        return Ok(false);
     }
+    is_found_good(alloc, kind, grounded, plan)
 }
 
-/// A plan, if it is one of the kind that the checker says yes to.
-fn judged_plan(
+/// Whether a plan of the kind begins somewhere, has the verdict yes, and has rules that serve.
+fn is_found_good(
     alloc: Global,
     kind: PlanKind,
-    name: &str,
-    problem: &Problem,
-    grounded: &Grounded,
-    read: PlanRead,
-) -> Result<Option<PlanRead>, Refusal>
-    requires goal { HasGoalIn (kind_of kind) grounded.now.task grounded.now.ctl }
-    requires goal_names { IfSome grounded.now.ctl
-        (λ goal. NamesBelow (fluent_count grounded.now.task) (ctl_value goal)) }
-    requires in_task { IsPlanOf (fluent_count grounded.now.task) (action_count grounded.now.task)
-        read.plan }
-    ensures same { IfOk result (λ found. IfSome found (λ plan. plan ≡ read)) }
-    ensures written { IfOk result (λ found. IfSome found
-        (λ plan. IsWrittenFor (kind_of kind) (plain_of plan.plan))) }
-    ensures yes { IfOk result (λ found. IfSome found
-        (λ plan. IsAffirmed (kind_of kind) grounded.now.task grounded.now.ctl
-        (plain_of plan.plan))) }
-    ensures refused { IfErr result
-        (λ refusal. IsControlRefusal grounded.now.task (refusal_of refusal)) }
-{
-    if is_written_for(kind, &read.plan)
-        && is_affirmed(alloc, kind, name, problem, grounded, &read.plan)?
-    {
-        return Ok(Some(read));
-    }
-    Ok(None)
-}
-
-/// Whether the checker says yes to a plan of the kind. It doesn't where there is no initial state.
-fn is_affirmed(
-    alloc: Global,
-    kind: PlanKind,
-    name: &str,
-    problem: &Problem,
     grounded: &Grounded,
     plan: &Plan,
 ) -> Result<bool, Refusal>
@@ -95,36 +67,105 @@ fn is_affirmed(
         plan.now }
     requires of_kind { is_of_kind (kind_of kind) (plain_of plan.now) ≡ true }
     ensures yes { IfOk result (λ is. IsTrue is
-        → IsAffirmed (kind_of kind) grounded.now.task grounded.now.ctl (plain_of plan.now)) }
+        → IsFoundGood (kind_of kind) grounded.now.task grounded.now.ctl (plain_of plan.now)) }
     ensures refused { IfErr result
-        (λ refusal. IsControlRefusal grounded.now.task (refusal_of refusal)) }
+        (λ refusal. IsJudgeRefusal grounded.now.task (refusal_of refusal)) }
 {
-    match judge(alloc, kind, name, problem, grounded, plan) {
-        Ok(shown) => Ok(affirms(&shown)),
-        Err(refusal) => unless_fault(refusal),
+    match explore(alloc, &grounded.task, plan) {
+        Ok(graph) => {
+            if graph.len() == 0 || !is_yes(alloc, kind, grounded, &graph)? {
+                return Ok(false);
+            }
+            Ok(rules_serve(alloc, &grounded.task, plan, &graph)?)
+        }
+        Err(GraphErr::Initial) => Err(Refusal::OverLimit(Limit::Initial)),
+        Err(GraphErr::TooLarge) => Ok(false),
+        Err(GraphErr::Memory) => Err(Refusal::NoMemory),
     }
 }
 
-/// A refusal of the checker, but for a fault of a text: that there is no initial state is no yes.
-fn unless_fault(refusal: Refusal) -> Result<bool, Refusal>
-    ensures no { IfOk result (λ is. is ≡ false) }
-    ensures same { IfErr result (λ other. other ≡ refusal) }
-    ensures other { IfErr result (λ other. (file : List ℕ) (fault : InputFault)
-        → refusal_of other ≢ text_fault file fault) }
+/// Whether the verdict on the plan of the kind whose graph this is is yes.
+fn is_yes(
+    alloc: Global,
+    kind: PlanKind,
+    grounded: &Grounded,
+    graph: &Graph,
+) -> Result<bool, AllocError>
+    requires goal { HasGoalIn (kind_of kind) grounded.now.task grounded.now.ctl }
+    requires goal_names { IfSome grounded.now.ctl
+        (λ goal. NamesBelow (fluent_count grounded.now.task) (ctl_value goal)) }
+    requires graph { (plan : PlainPlan) × ((is_of_kind (kind_of kind) plan ≡ true)
+        × IsGraphOf (system_of grounded.now.task) plan
+        (plain_graph (fluent_count grounded.now.task) graph.now)) }
+    ensures { (plan : PlainPlan) → is_of_kind (kind_of kind) plan ≡ true
+        → IsGraphOf (system_of grounded.now.task) plan
+        (plain_graph (fluent_count grounded.now.task) graph.now)
+        → IfOk result (λ is. IsTrue is
+        → IsYesFor (kind_of kind) grounded.now.task grounded.now.ctl plan) }
 {
-    match refusal {
-        Refusal::TextFault(..) => Ok(false),
-        other => Err(other),
+    let verdict = verdict_on(alloc, kind, grounded, graph)?;
+    Ok(says_yes(&verdict))
+}
+
+/// The verdict on the plan of the kind whose graph this is.
+fn verdict_on(
+    alloc: Global,
+    kind: PlanKind,
+    grounded: &Grounded,
+    graph: &Graph,
+) -> Result<Verdict, AllocError>
+    requires goal { HasGoalIn (kind_of kind) grounded.now.task grounded.now.ctl }
+    requires goal_names { IfSome grounded.now.ctl
+        (λ goal. NamesBelow (fluent_count grounded.now.task) (ctl_value goal)) }
+    requires graph { (plan : PlainPlan) × ((is_of_kind (kind_of kind) plan ≡ true)
+        × IsGraphOf (system_of grounded.now.task) plan
+        (plain_graph (fluent_count grounded.now.task) graph.now)) }
+    ensures { (plan : PlainPlan) → is_of_kind (kind_of kind) plan ≡ true
+        → IsGraphOf (system_of grounded.now.task) plan
+        (plain_graph (fluent_count grounded.now.task) graph.now)
+        → IfOk result (IsTaskVerdict (kind_of kind) grounded.now.task grounded.now.ctl plan) }
+{
+    match kind {
+        PlanKind::Class(class) => judge_class(alloc, &grounded.task, graph, class),
+        PlanKind::Contexts => context_verdict(alloc, grounded, graph),
     }
 }
 
-/// Whether a yes is shown.
-fn affirms(shown: &Shown) -> bool
-    ensures { IsTrue result → (text : List ℕ) × (shown_of shown.now ≡ affirmed text) }
+/// The verdict on the plan with contexts whose graph this is.
+fn context_verdict(alloc: Global, grounded: &Grounded, graph: &Graph) -> Result<Verdict, AllocError>
+    requires goal { IsSome grounded.now.ctl }
+    requires goal_names { IfSome grounded.now.ctl
+        (λ goal. NamesBelow (fluent_count grounded.now.task) (ctl_value goal)) }
+    requires graph { (contexts : ℕ) × ((rules : List ContextRule)
+        × IsGraphOf (system_of grounded.now.task) (automaton contexts rules)
+        (plain_graph (fluent_count grounded.now.task) graph.now)) }
+    ensures { (contexts : ℕ) (rules : List ContextRule)
+        → IsGraphOf (system_of grounded.now.task) (automaton contexts rules)
+        (plain_graph (fluent_count grounded.now.task) graph.now)
+        → IfOk result (IsTaskVerdict with_contexts grounded.now.task grounded.now.ctl
+        (automaton contexts rules)) }
 {
-    match shown {
-        Shown::Affirmed(_) => true,
-        Shown::Denied(_) => false,
+    judge_ctl(alloc, &grounded.task, graph, goal_in(grounded))
+}
+
+/// The goal in computation tree logic.
+fn goal_in(grounded: &Grounded) -> &Ctl
+    requires { IsSome grounded.now.ctl }
+    ensures { grounded.now.ctl ≡ Some result.now }
+{
+    match &grounded.ctl {
+        Some(goal) => goal,
+        None => unreachable!(),
+    }
+}
+
+/// Whether a verdict is yes.
+fn says_yes(verdict: &Verdict) -> bool
+    ensures { IsTrue result → SaysYes verdict.now }
+{
+    match verdict {
+        Verdict::Yes { .. } => true,
+        Verdict::No(_) => false,
     }
 }
 

@@ -5,7 +5,8 @@ ghost use Rattle.controller_plan.specs.Laws.{IsControllerRun, IsNoPlanRun, OfCon
 
 use plan_io::Shelf;
 
-/// Status 0 comes with a controller: a plan of the kind that meets the problem.
+/// Status 0 comes with a controller: a plan of the kind that meets the problem, as it is read and as it
+/// is run.
 pub fn controllers_meet<S: Shelf>()
     ensures { OfControlRuns S.held S.faults S.fetched (IsControllerRun S.held) }
 {}

@@ -1,11 +1,11 @@
-//! A controller: the plan of `mbp_top` for the states alone that it reaches, with few and short
-//! rules, as a text that `mbp_top` reads, or as a JSON document.
+//! A controller: the plan of `plan_command` for the states alone that it reaches, with few and short
+//! rules, as a text that plans are read from, or as a JSON document.
 //!
-//! `control` finds the plan with the planners of `mbp_top`, as sets of states, follows it from the
+//! `control` finds the plan with the planners of `plan_command`, as sets of states, follows it from the
 //! initial states (`followed`, `searches`, `context_searches`), and makes rules of what it does there
-//! (`rules`, `rule_texts`). None of that is trusted: the text is read back and judged by the proved checker,
-//! and what isn't judged to be a plan of the kind that meets the problem isn't shown (`judged`). All
-//! other answers are those of `mbp_top::run`: that there is no plan, and each refusal.
+//! (`rules`, `plans`). None of that is trusted: the plan is judged by the proved checker, and what isn't
+//! found to be a controller isn't shown (`judged`, and `controller_rules` for what its rules are to be
+//! beside). All other answers are those of the command `plan`: that there is no plan, and each refusal.
 //!
 //! `specs/` says what the call answers: `Words` which words say what is wanted, `Controllers` the
 //! answer, `Runs` a run with its cause, and `Laws` what follows of each run.
@@ -16,10 +16,11 @@ mod context_searches;
 mod followed;
 mod judged;
 mod laws;
+mod plans;
 mod reach;
-mod rule_texts;
 mod rules;
 mod searches;
+mod state_plans;
 mod top;
 mod words;
 

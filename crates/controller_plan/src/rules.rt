@@ -1,6 +1,6 @@
 //! Few and short rules for what a plan does in the configurations that it reaches.
 
-ghost use Rattle.std.specs.Prelude.{◌<◌, IfSome};
+ghost use Rattle.std.specs.Prelude.{◌<◌, IfSome, length};
 
 use crate::followed::{Followed, Move, Place};
 use std::alloc::{AllocError, Global};
@@ -69,6 +69,11 @@ impl ShortRule {
         ShortRule { pattern, ..*self }
     }
 
+    /// The same rule, first wanted after so many steps.
+    fn first_after(&self, steps: u32) -> ShortRule {
+        ShortRule { steps, ..*self }
+    }
+
     /// Whether the rule counts in a configuration.
     fn counts_in(&self, place: &Place) -> bool {
         self.context == place.context && self.pattern.matches(&place.state)
@@ -85,8 +90,9 @@ pub(crate) enum Length {
 }
 
 /// A rule for each configuration in which the plan does anything and that no earlier rule covers;
-/// then those go whose configurations other rules cover. The rules stand in the order in which their
-/// first configurations were found. `fluents` says how many fluents there are.
+/// then those go whose configurations other rules cover. The rules stand in the order of the first
+/// configurations that they serve, where no rule before them counts, and with the steps of these.
+/// `fluents` says how many fluents there are.
 pub(crate) fn rules_of(
     alloc: Global,
     followed: &Followed,
@@ -111,7 +117,63 @@ pub(crate) fn rules_of(
             }
         }
     }
-    wanted_rules(alloc, &mut maker, followed, &rules)
+    let wanted = wanted_rules(alloc, &mut maker, followed, &rules)?;
+    in_order_served(alloc, &mut maker, followed, &wanted)
+}
+
+/// Those rules in the order of the first configurations that they serve.
+fn in_order_served(
+    alloc: Global,
+    maker: &mut Maker,
+    followed: &Followed,
+    rules: &[ShortRule],
+) -> Result<Vec<ShortRule>, AllocError> {
+    let mut left = copy_of(alloc, rules)?;
+    let mut served = Vec::new(alloc);
+    for (number, place) in followed.places.iter().enumerate() {
+        if maker.may_look(left.len()) && !has_counting(&served, place) {
+            maker.looks = maker.looks.saturating_add(rules.len() as u64);
+            if let Some(found) = first_counting(&left, place) {
+                let rule = left.remove(found);
+                served.push(rule.first_after(steps_at(followed, number)))?;
+            }
+        }
+    }
+    for rule in &left {
+        served.push(*rule)?;
+    }
+    Ok(served)
+}
+
+/// The same rules.
+fn copy_of(alloc: Global, rules: &[ShortRule]) -> Result<Vec<ShortRule>, AllocError> {
+    let mut copy = Vec::new(alloc);
+    for rule in rules {
+        copy.push(*rule)?;
+    }
+    Ok(copy)
+}
+
+/// Whether some rule counts in a configuration.
+fn has_counting(rules: &[ShortRule], place: &Place) -> bool {
+    for rule in rules {
+        if rule.counts_in(place) {
+            return true;
+        }
+    }
+    false
+}
+
+/// The number of the first rule that counts in a configuration.
+fn first_counting(rules: &[ShortRule], place: &Place) -> Option<usize>
+    ensures { IfSome result (λ number. number < length rules.now) }
+{
+    for (number, rule) in rules.iter().enumerate() {
+        if rule.counts_in(place) {
+            return Some(number);
+        }
+    }
+    None
 }
 
 /// Those rules without which some configuration isn't covered, taken one after another.
@@ -193,6 +255,15 @@ impl Maker {
         match rule.length {
             Length::Full => Ok(Some(rule)),
             Length::Short => Ok(Some(self.shortened(alloc, followed, &rule)?)),
+        }
+    }
+
+    /// Whether so many rules may be looked through once more. Full rules stand in their order from the
+    /// beginning.
+    fn may_look(&self, rules: usize) -> bool {
+        match self.length {
+            Length::Short => rules > 0 && self.looks < MOST_LOOKS,
+            Length::Full => false,
         }
     }
 

@@ -3,33 +3,52 @@
 ghost use Rattle.controller_plan.specs.Followed.{AreReachedWithin, AreSlotsLive};
 ghost use Rattle.ctl_syntax.specs.Values.{IsAtMostDeep, NamesBelow, ctl_value};
 ghost use Rattle.encode_task.specs.Made.{MadeOf};
-ghost use Rattle.mbp_top.specs.Words.{IsNodeLimit};
+ghost use Rattle.command_base.specs.Words.{IsNodeLimit};
+ghost use Rattle.plan_rules.specs.Plans.{IsPlanOf};
 ghost use Rattle.plan_theory.specs.Classes.{IsFoundByLayers};
 ghost use Rattle.std.specs.Prelude.{◌≡◌, ◌≤◌, IfOk, IfSome, IsSome, OnOk};
 ghost use Rattle.task_core.specs.Tasks.{action_count, fluent_count};
 
 use crate::context_searches::follow_contexts;
 use crate::followed::Followed;
+use crate::state_plans::StatePlan;
+use command_base::{PlanKind, PlanWords};
 use cyclic_plan::{cyclic_takers, takers_of};
 use dd_sets::{SetErr, SetId};
 use encode_task::{Enc, encode};
 use exec_graph::MAX_CONFIGURATIONS;
 use ground_task::Grounded;
-use mbp_top::{PlanKind, PlanWords, encode_ordered};
-use plan_rules::Class;
+use guided_plan::{Allowance, GuidedAnswer, plan_guided};
+use plan_guide::Guide;
+use plan_rules::{Class, Plan};
 use reach_plan::{Takers, find_takers};
-use reached_plan::{ReachedPlan, plan_reached};
+use reached_plan::plan_reached;
 use std::alloc::{AllocError, AllocFailed, Global};
 use task_core::{ActionId, InitErr, Task, init_states};
+use task_sets::encode_ordered;
+
+/// How many states are gone through before anything else is tried.
+const FEW_STATES: usize = 4_096;
+
+/// What a heuristic search may do before all states are gone through.
+const LITTLE: Allowance = Allowance {
+    expanded: 50_000,
+    states: 200_000,
+};
+
+/// What it may do where nothing else finds a plan.
+const MUCH: Allowance = Allowance {
+    expanded: 2_000_000,
+    states: 4_000_000,
+};
 
 /// What came of a search.
 #[derive(Drop)]
 pub(crate) enum Sought {
     /// This is what a plan reaches, and what it does there.
     Followed(Followed),
-    /// There are too many initial states, or more is reached than may be followed.
-    TooMany,
-    /// No plan was found, for whatever reason.
+    /// No plan was found, or more is reached than may be followed, or for whatever other reason there is
+    /// nothing to be shown.
     Nothing,
 }
 
@@ -92,15 +111,14 @@ pub(crate) fn seek(
     };
     match found {
         Ok(Some(followed)) => Ok(Sought::Followed(followed)),
-        Ok(None) => Ok(Sought::Nothing),
-        Err(Stop::Full) => Ok(Sought::Nothing),
-        Err(Stop::TooMany) => Ok(Sought::TooMany),
+        Ok(None) | Err(Stop::Full | Stop::TooMany) => Ok(Sought::Nothing),
         Err(Stop::Memory) => Err(AllocError),
     }
 }
 
-/// What the plan of a class reaches, if there is one: found state by state where few can be reached,
-/// and over sets of states where not.
+/// What a plan of a class reaches, if one is found: state by state where very few can be reached; then by
+/// a heuristic search that may do little; then state by state once more, and over sets of states; and
+/// where these find nothing, by a heuristic search that may do much.
 fn follow_class(
     alloc: Global,
     class: Class,
@@ -109,19 +127,60 @@ fn follow_class(
 ) -> Result<Option<Followed>, Stop>
     requires room { IsNodeLimit nodes }
 {
-    match plan_reached(alloc, task, class)? {
-        Some(plan) => follow_reached(alloc, task, &plan),
+    if let Some(plan) = plan_quickly(alloc, class, task)? {
+        return follow_states(alloc, task, &plan);
+    }
+    match follow_thoroughly(alloc, class, nodes, task) {
+        Ok(Some(followed)) => Ok(Some(followed)),
+        Ok(None) => Ok(None),
+        Err(Stop::Memory) => Err(Stop::Memory),
+        Err(Stop::Full | Stop::TooMany) => match plan_guided_by(alloc, class, task, &MUCH)? {
+            Some(plan) => follow_states(alloc, task, &plan),
+            None => Ok(None),
+        },
+    }
+}
+
+/// A plan of a class that is found with little work, if one is.
+fn plan_quickly(alloc: Global, class: Class, task: &Task) -> Result<Option<StatePlan>, AllocError> {
+    match plan_reached(alloc, task, class, FEW_STATES)? {
+        Some(plan) => Ok(Some(StatePlan::Reached(plan))),
+        None => plan_guided_by(alloc, class, task, &LITTLE),
+    }
+}
+
+/// What a plan reaches that is found among all states that can be reached, or over sets of states.
+fn follow_thoroughly(
+    alloc: Global,
+    class: Class,
+    nodes: u32,
+    task: &Task,
+) -> Result<Option<Followed>, Stop>
+    requires room { IsNodeLimit nodes }
+{
+    match plan_reached(alloc, task, class, MAX_CONFIGURATIONS)? {
+        Some(plan) => follow_states(alloc, task, &StatePlan::Reached(plan)),
         None => follow_encoded(alloc, class, nodes, task),
     }
 }
 
-/// What a plan for states that can be reached does.
-fn follow_reached(
+/// A plan of a class that a heuristic search finds which may do so much, if it is one for states that can
+/// be listed. That there is none isn't taken from it.
+fn plan_guided_by(
     alloc: Global,
+    class: Class,
     task: &Task,
-    plan: &ReachedPlan,
-) -> Result<Option<Followed>, Stop> {
-    let mut followed = begun(alloc, task, 1)?;
+    allowance: &Allowance,
+) -> Result<Option<StatePlan>, AllocError> {
+    match plan_guided(alloc, task, class, allowance)? {
+        GuidedAnswer::States(plan) => Ok(Some(StatePlan::Guided(plan))),
+        GuidedAnswer::Rules(_) | GuidedAnswer::NoPlan(_) | GuidedAnswer::GaveUp => Ok(None),
+    }
+}
+
+/// What a plan for the states that it reaches does.
+fn follow_states(alloc: Global, task: &Task, plan: &StatePlan) -> Result<Option<Followed>, Stop> {
+    let mut followed = begun(alloc, task)?;
     followed.visit_reached(task, plan)?;
     Ok(Some(followed))
 }
@@ -233,16 +292,41 @@ fn follow_table(
 ) -> Result<Option<Followed>, Stop>
     requires live { AreSlotsLive enc.now.sets slots.now }
 {
-    let mut followed = begun(alloc, task, 1)?;
+    let mut followed = begun(alloc, task)?;
     followed.visit(task, enc, slots, first, 0, 0)?;
     Ok(Some(followed))
 }
 
-/// The initial configurations of a plan with so many contexts.
-pub(crate) fn begun(alloc: Global, task: &Task, contexts: u32) -> Result<Followed, Stop>
+/// The initial configurations.
+pub(crate) fn begun(alloc: Global, task: &Task) -> Result<Followed, Stop>
     ensures { IfOk result
         (λ followed. AreReachedWithin (fluent_count task.now) followed.places.items) }
 {
     let states = init_states(alloc, task, MAX_CONFIGURATIONS)?;
-    Followed::begin(alloc, &states, contexts)
+    Followed::begin(alloc, &states)
+}
+
+/// What a plan of a task reaches, if it can be followed. A table begins in the first context, and stays.
+pub(crate) fn follow_found(
+    alloc: Global,
+    task: &Task,
+    plan: &Plan,
+) -> Result<Option<Followed>, AllocError>
+    requires { IsPlanOf (fluent_count task.now) (action_count task.now) plan.now }
+{
+    match follow_plan(alloc, task, plan) {
+        Ok(followed) => Ok(Some(followed)),
+        Err(Stop::Full | Stop::TooMany) => Ok(None),
+        Err(Stop::Memory) => Err(AllocError),
+    }
+}
+
+/// The same, or why it can't be followed.
+pub(crate) fn follow_plan(alloc: Global, task: &Task, plan: &Plan) -> Result<Followed, Stop>
+    requires { IsPlanOf (fluent_count task.now) (action_count task.now) plan.now }
+{
+    let guide = Guide::new(alloc, task, plan)?;
+    let mut followed = begun(alloc, task)?;
+    followed.visit_guided(task, &guide)?;
+    Ok(followed)
 }

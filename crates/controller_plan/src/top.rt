@@ -1,18 +1,18 @@
 //! The call.
 
 ghost use Rattle.controller_plan.specs.Runs.{HasControlled};
-ghost use Rattle.mbp_top.specs.Delivery.{seen};
+ghost use Rattle.command_base.specs.Delivery.{seen};
 ghost use Rattle.std.specs.Prelude.{◌≡◌, map, string_bytes};
 
 use crate::commands::answer;
-use mbp_top::deliver;
+use command_base::deliver;
 use plan_io::{Shelf, Sink};
 use std::alloc::Global;
 
 /// Makes the controller that the words ask for, writes it, and gives the exit status.
 ///
 /// The words are `KIND DOMAIN PROBLEM`, then `--nodes N` or nothing, and then `--json` or nothing,
-/// where KIND, DOMAIN, PROBLEM and N are those of `mbp_top::run`'s `plan`. The controller, or
+/// where KIND, DOMAIN, PROBLEM and N are those of `mbp plan`. The controller, or
 /// `no plan`, goes to `out`; every other answer is one line on `err`. The statuses are those of
 /// `plan`:
 ///
@@ -32,6 +32,7 @@ pub fn control<S: Shelf, O: Sink, E: Sink>(
 ) -> u8
     ensures { HasControlled S.held S.faults S.fetched (record {
       words = map string_bytes words.now;
+      handed = tt;
       shelf = shelf.old;
       shelf_after = shelf.new;
       out = seen (O.written out.old) (O.faults out.old);

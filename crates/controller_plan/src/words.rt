@@ -2,12 +2,12 @@
 
 ghost use Rattle.controller_plan.specs.Values.{control_words_of};
 ghost use Rattle.controller_plan.specs.Words.{ControlWords as AskedControl, SaysControl};
-ghost use Rattle.mbp_top.specs.Words.{IsNodeLimit};
+ghost use Rattle.command_base.specs.Words.{IsNodeLimit};
 ghost use Rattle.std.specs.Prelude.{◌≡◌, IfSome, MatchOption, map, string_bytes, true};
 
-use mbp_top::{PlanWords, plain_plan_words};
+use command_base::{PlanWords, plain_plan_words};
 
-/// What is asked: a controller from a plan, as `mbp_top` is asked for one, and whether as a JSON
+/// What is asked: a controller from a plan, as `mbp plan` is asked for one, and whether as a JSON
 /// document.
 #[derive(Clone, Copy)]
 pub(crate) struct ControlWords<'a> {

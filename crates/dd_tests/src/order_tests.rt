@@ -149,8 +149,17 @@ fn cubes_without_room_are_not_want_of_memory(rt: HostRuntime) -> Result<(), Fail
 #[test]
 fn a_full_table_says_so(rt: HostRuntime) -> Result<(), Fail> {
     let alloc = rt.alloc();
-    assert_eq!(rt; format!(in alloc; "{}", DdErr::Full)?, "the table of diagram nodes is full");
-    assert_eq!(rt; format!(in alloc; "{}", SetErr::Full)?, "the table of diagram nodes is full");
-    assert_eq!(rt; format!(in alloc; "{}", ListErr::Full)?, "the table in which cubes are listed is full");
+    assert_eq!(rt;
+        format!(in alloc; "{}", DdErr::Full)?.as_str(),
+        "the table of diagram nodes is full"
+    );
+    assert_eq!(rt;
+        format!(in alloc; "{}", SetErr::Full)?.as_str(),
+        "the table of diagram nodes is full"
+    );
+    assert_eq!(rt;
+        format!(in alloc; "{}", ListErr::Full)?.as_str(),
+        "the table in which cubes are listed is full"
+    );
     Ok(())
 }

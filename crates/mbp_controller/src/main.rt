@@ -2,11 +2,11 @@
 //! `controller_plan::control`.
 #![tactic(auto)]
 
+use command_base::{NO_MEMORY, command_words};
 use controller_plan::control;
-use mbp_top::NO_MEMORY;
 use plan_io::{DiskShelf, StdSink};
+use std::io;
 use std::process::ExitCode;
-use std::{env, io};
 
 fn main(rt: HostRuntime) -> ExitCode {
     match control_words(&rt) {
@@ -23,14 +23,4 @@ fn control_words(rt: &HostRuntime) -> io::Result<u8> {
     let mut out = StdSink::new(rt.stdout());
     let mut err = StdSink::new(rt.stderr());
     Ok(control(rt.alloc(), &words, &mut shelf, &mut out, &mut err))
-}
-
-/// The words after the program's name. Where one of them is no text, nothing is meant, and there
-/// are none.
-fn command_words(rt: &HostRuntime) -> io::Result<Vec<String>> {
-    match env::args(rt) {
-        Ok(words) => Ok(words.skip(1).collect(rt.alloc())?),
-        Err(error) if error.kind() == io::ErrorKind::OutOfMemory => Err(error),
-        Err(_) => Ok(Vec::new(rt.alloc())),
-    }
 }

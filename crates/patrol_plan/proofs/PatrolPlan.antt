@@ -95,6 +95,10 @@ patrol_ends_refused start x visits P inner outer e was p left =
     subst (PatrolEnds start x visits) (sym p.1) (let kept = subst (Left start x P) was left in (kept.0, λ full. kept.1 (sym p.2 ∙ full)))
 
 -- what the end of a search says
+pub patrol_ends_lost : {T : Type 0} (start : Start) (x : Scene) (visits : List SetOfVectors) (P : T → Type 0) (inner : Result T SetErr) (outer : Result FoundAuto SetErr) (e : SetErr) → inner ≡ Err e → (f : SetErr) × (outer ≡ Err f) × (f ≡ e) → board.Ends (board_of start) x.0 x.1 P inner → PatrolEnds start x visits outer
+patrol_ends_lost start x visits P inner outer e was p ends =
+    subst (PatrolEnds start x visits) (sym p.1) (let kept = subst (board.Ends (board_of start) x.0 x.1 P) was ends in (kept.0, λ full. kept.1 (sym p.2 ∙ full)))
+
 pub ends_at : (start : Start) (x : Scene) (visits : List SetOfVectors) (result : Result FoundAuto SetErr) → PatrolEnds start x visits result → IsAt start x
 ends_at start x visits (Ok found) ends = ends.0
 ends_at start x visits (Err e) ends = ends.0

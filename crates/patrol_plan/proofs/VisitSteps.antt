@@ -1,25 +1,28 @@
 -- The rounds of a search for a patrol goal: from the states that are left to those that a round leaves of
 -- them, and the last round.
-use Rattle.std.proofs.Common.{◌≡◌, ◌≢◌, ℕ, zero, suc, ◌+◌, ◌<◌, ◌≤◌, Bool, true, false, ◌&&◌, List, [], ◌∷◌, get_or, length, map, take, refl, sym, ap, subst, ◌∙◌, ⊎_elim, arith}
+use Rattle.std.proofs.Common.{Result, Ok, Err, inr, ◌≡◌, ◌≢◌, ℕ, zero, suc, ◌+◌, ◌<◌, ◌≤◌, Bool, true, false, ◌&&◌, List, [], ◌∷◌, get_or, length, map, take, refl, sym, ap, subst, ◌∙◌, ⊎_elim, arith}
 use Rattle.std.specs.List.{list_all}
-use Rattle.std.proofs.lemmas.Bool.{and_parts, cases_eq}
+use Rattle.std.proofs.lemmas.Bool.{and_parts, cases_Bool, cases_eq, true≢false}
 use Rattle.std.proofs.lemmas.List.{length-map, take_all}
 use Rattle.dd_nodes.specs.Subfunctions.{Function}
 use Rattle.dd_ops.specs.Operations.{and_of}
 use Rattle.dd_sets.specs.LiveSets.{set_of}
+use Rattle.dd_sets.specs.declared.errors.SetErr.{SetErr}
 use Rattle.dd_sets.specs.declared.slots.SetId.{SetId}
+use Rattle.encode_task.specs.Slots.{Encoded}
 use Rattle.slot_board.proofs.BoardSlots.{made_at}
 use Rattle.slot_board.specs.Board as board
 use Rattle.slot_board.specs.Board.{set_at}
 use Rattle.plan_theory.proofs.Cubes.{all_vectors-agree, all_vectors-length}
-use Rattle.plan_theory.proofs.PatrolSets.{last_round}
+use Rattle.plan_theory.proofs.PatrolSets.{last_round, patrol_set-largest, within_rounds}
+use Rattle.plan_theory.proofs.WeakLists.{list_all-at, list_all-from}
 use Rattle.plan_theory.proofs.RoundSteps.{held, holds_fewer}
-use Rattle.plan_theory.specs.Patrols.{patrol_set, visit_set, visited}
+use Rattle.plan_theory.specs.Patrols.{covers_patrol, patrol_set, visit_set, visited}
 use Rattle.plan_theory.specs.Safe.{some_must_lead}
 use Rattle.plan_theory.specs.StageSets.{near}
 use Rattle.task_core.specs.Conditions.{holds}
 use Rattle.task_core.specs.Cubes.{SetOfVectors}
-use Rattle.task_core.specs.Systems.{IsVector}
+use Rattle.task_core.specs.Systems.{IsVector, System}
 use Rattle.task_core.specs.Tasks.{action_count, fluent_count}
 use Rattle.task_core.specs.Vectors.{Vector, all_vectors, value_of}
 use Rattle.task_core.specs.declared.conditions.Cond.{Cond}
@@ -28,7 +31,7 @@ use Rattle.ctl_syntax.specs.Conditions.{states_of}
 use Rattle.patrol_plan.specs.Chains.{visit_sets}
 use Rattle.patrol_plan.specs.Guards.{anywhere}
 use Rattle.patrol_plan.specs.PatrolSizes.{PatrolFits, made_in, round_of, within_round}
-use Rattle.patrol_plan.specs.PatrolSteps.{HasMet, HasPatrol, HasStay, HasVisits, IsLeft, visit_place}
+use Rattle.patrol_plan.specs.PatrolSteps.{FoundLeft, HasMet, HasPatrol, HasStay, HasVisits, IsLeft, visit_place}
 use Rattle.patrol_plan.specs.PatrolWorkingSets.{first_visits_in, visit_at}
 use Rattle.patrol_plan.specs.Scenes.{HasNothing, IsAt, IsGuarded, Moved, SameStates, Scene, Start, board_of, guarded, states_at, sys_in, sys_of, takers_place}
 use Rattle.patrol_plan.specs.Sizes.{RoundFits, TurnsFit}
@@ -40,7 +43,7 @@ use Rattle.patrol_plan.proofs.PlanSteps.{blank}
 use Rattle.patrol_plan.proofs.RoundSteps.{turn_same}
 use Rattle.patrol_plan.proofs.SceneSteps.{copied_states, depends_at, guard_put_as, long_enough, met_states, moved_here, moved_in, moved_other, moved_ready, same_back, same_length, some_leads_same, unguarded}
 use Rattle.patrol_plan.proofs.SetSteps.{same_functions}
-use Rattle.patrol_plan.proofs.SizeSteps.{fits_small, round_fits_same, turns_fit_first}
+use Rattle.patrol_plan.proofs.SizeSteps.{placed_small, fits_small, round_fits_same, turns_fit_first}
 use Rattle.patrol_plan.proofs.StageLemmas.{near_same}
 use Rattle.patrol_plan.proofs.TakenSteps.{takers_within}
 use Rattle.patrol_plan.proofs.WinSteps.{space_holds}
@@ -367,3 +370,59 @@ patrol_made start conds y r h same =
           let within = takers_within start y h.stay.ready.at i (omega arith) in
           h.stay.blank (takers_place (action_count start.task) start.stages i + a) (omega arith) (omega arith);
     }
+
+-- the test of the initial states leaves all places
+pub visits_stayed : (start : Start) (conds : List Cond) (enc now : Encoded) (slots : List SetId) (r : ℕ) → HasVisits start conds (enc, slots) r (length conds) → board.Stayed (board_of start) enc.sets now slots → HasVisits start conds (now, slots) r (length conds)
+visits_stayed start conds enc now slots r h stayed =
+    let states : Function → SetOfVectors = λ f v. f (value_of v) in
+    let still : (k : ℕ) → k < length slots → states_at (now, slots) k ≡ states_at (enc, slots) k = λ k within. ap states (stayed.each k within) in
+    let low : (k : ℕ) → k < 11 + start.stages → states_at (now, slots) k ≡ states_at (enc, slots) k = λ k before. still k (visit_low start (enc, slots) h.stay.ready.at h.stay.some k before) in
+    record {
+      stay = record {
+        fits = h.stay.fits;
+        count = h.stay.count;
+        some = h.stay.some;
+        ready = record { at = stayed.at; sound = stayed.sound; guard = λ v is. ap (λ (f : SetOfVectors). f v) (low 5 (omega arith)) ∙ h.stay.ready.guard v is };
+        blank = λ k from within v is. ap (λ (f : SetOfVectors). f v) (still k within) ∙ h.stay.blank k from within v is;
+        left = λ v is. ap (λ (f : SetOfVectors). f v) (low 8 (omega arith)) ∙ h.stay.left v is;
+        stay = λ v is. ap (λ (f : SetOfVectors). f v) (low 9 (omega arith)) ∙ h.stay.stay v is;
+      };
+      kept = λ v is. ap (λ (f : SetOfVectors). f v) (low 10 (omega arith)) ∙ h.kept v is;
+      mets = λ i less v is. let count = h.stay.count in ap (λ (f : SetOfVectors). f v) (low (visit_place i) (omega arith)) ∙ h.mets i less v is;
+    }
+
+-- and may be made
+pub visits_test : (start : Start) (conds : List Cond) (x : Scene) (r : ℕ) → HasVisits start conds x r (length conds) → board.TestFits (board_of start) (set_at x.0.sets x.1 10)
+visits_test start conds x r h = (h.stay.fits.initial, placed_small start x h.stay.ready.at 10 (visit_low start x h.stay.ready.at h.stay.some 10 (omega arith)) (inr (omega arith)))
+
+-- where a round leaves out an initial state, the states of the plan do
+pub round_loses : (start : Start) (conds : List Cond) (x : Scene) (r : ℕ) → HasVisits start conds x r (length conds) → list_all (states_at x 10) (sys_of start).initial ≡ false → covers_patrol (sys_of start) (visit_sets conds) ≡ false
+round_loses start conds x r h short = ⊎_elim
+    (λ (all : covers_patrol sys visits ≡ true). absurd (true≢false (sym (held all) ∙ short)))
+    (λ (none : covers_patrol sys visits ≡ false). none)
+    (cases_Bool (covers_patrol sys visits))
+  where
+    sys : System
+    sys = sys_of start
+
+    visits : List SetOfVectors
+    visits = visit_sets conds
+
+    held : covers_patrol sys visits ≡ true → list_all (states_at x 10) sys.initial ≡ true
+    held all = list_all-from (states_at x 10) sys.initial
+        (λ v among. let is : IsVector sys v = ((is_system start.task).initial v among).vector in
+        h.kept v is ∙ round_more start conds r v
+        ∙ within_rounds sys visits (is_system start.task) (patrol_set sys visits) (patrol_set-largest sys visits (is_system start.task)).patrol (suc r) v is
+        (list_all-at (patrol_set sys visits) sys.initial v all among))
+
+-- what the rounds found
+pub not_lost : (start : Start) (conds : List Cond) (x : Scene) (result : Result Bool SetErr) (lost : Bool) → result ≡ Ok lost → lost ≡ false → board.Ends (board_of start) x.0 x.1 (FoundLeft start conds x) result → HasPatrol start conds x 0
+not_lost start conds x result lost was held ends = subst (FoundLeft start conds x) held (subst (board.Ends (board_of start) x.0 x.1 (FoundLeft start conds x)) was ends)
+
+pub was_lost : (start : Start) (conds : List Cond) (x : Scene) (result : Result Bool SetErr) (lost : Bool) → result ≡ Ok lost → lost ≡ true → board.Ends (board_of start) x.0 x.1 (FoundLeft start conds x) result → IsAt start x × (covers_patrol (sys_of start) (visit_sets conds) ≡ false)
+was_lost start conds x result lost was gone ends = subst (FoundLeft start conds x) gone (subst (board.Ends (board_of start) x.0 x.1 (FoundLeft start conds x)) was ends)
+
+-- a refusal that is passed on
+pub ends_passed : {S T : Type 0} (start : Start) (x : Scene) (P : Type 0) (Q : T → Type 0) (inner : Result S SetErr) (outer : Result T SetErr) (e : SetErr) → inner ≡ Err e → (f : SetErr) × (outer ≡ Err f) × (f ≡ e) → board.Left (board_of start) x.0 x.1 P inner → board.Ends (board_of start) x.0 x.1 Q outer
+ends_passed start x P Q inner outer e was p left =
+    subst (board.Ends (board_of start) x.0 x.1 Q) (sym p.1) (let kept = subst (board.Left (board_of start) x.0 x.1 P) was left in (kept.0, λ full. kept.1 (sym p.2 ∙ full)))

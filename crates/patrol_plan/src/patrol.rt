@@ -86,7 +86,10 @@ fn search_visits(
         → HasNothing start (enc.old, board.old.slots.items) → PatrolFits start visits.now
         → PatrolEnds start (enc.new, board.new.slots.items) (visit_sets visits.now) result }
 {
-    find_left(enc, board, actions, visits)?;
+    let lost = find_left(enc, board, actions, visits)?;
+    if lost {
+        return Ok(FoundAuto::NoPlan);
+    }
     if !board.covers_initial(enc, LEFT)? {
         return Ok(FoundAuto::NoPlan);
     }

@@ -1,15 +1,17 @@
 //! The states from which every visit can be made again and again, and those that take each action.
 
-ghost use Rattle.std.specs.Prelude.{◌≡◌, ℕ, suc, ◌≤◌, ◌+◌, ◌<◌, List, get_or, length, true};
+ghost use Rattle.std.specs.Prelude.{◌≡◌, ℕ, suc, ◌≤◌, ◌+◌, ◌<◌, List, get_or, length, true, false, IfOk};
 ghost use Rattle.plan_theory.specs.Patrols.{covers_patrol};
 ghost use Rattle.patrol_plan.specs.Chains.{visit_sets};
 ghost use Rattle.task_core.specs.Tasks.{action_count};
 ghost use Rattle.task_core.specs.declared.conditions.Cond.{Cond as CondOf};
 ghost use Rattle.patrol_plan.specs.Chains.{IsConditionOver, IsPatrolOver, most_visits};
 ghost use Rattle.patrol_plan.specs.PatrolSizes.{PatrolFits};
-ghost use Rattle.patrol_plan.specs.PatrolSteps.{HasMet, HasPatrol, HasStay, HasVisits, IsLeft};
+ghost use Rattle.patrol_plan.specs.PatrolSteps.{FoundLeft, HasMet, HasPatrol, HasStay, HasVisits};
+ghost use Rattle.patrol_plan.specs.PatrolSteps.{IsLeft};
+ghost use Rattle.slot_board.specs.Board.{Ends};
 ghost use Rattle.patrol_plan.specs.PatrolSteps.{visit_place};
-ghost use Rattle.patrol_plan.specs.Scenes.{HasNothing, Left, Start, takers_place};
+ghost use Rattle.patrol_plan.specs.Scenes.{HasNothing, Left, Start, board_of, sys_of, takers_place};
 
 use crate::places::{GUARD, NEAR, NEXT, takers_at};
 use crate::rounds::{Way, turn_all, turn_from};
@@ -142,27 +144,48 @@ fn keep_more(enc: &mut Enc, board: &mut Board, actions: u32, visits: &[Cond]) ->
     keep_all(enc, board, actions, visits)
 }
 
-/// Makes rounds until nothing changes.
+/// Whether a round lost an initial state.
+fn loses_initial(enc: &mut Enc, board: &Board) -> Result<bool, SetErr>
+    requires ready { (start : Start) × (conds : List CondOf) × (r : ℕ) × HasVisits start conds
+        (enc.old, board.now.slots.items) r (length conds) }
+    ensures left { (start : Start) (conds : List CondOf) (r : ℕ) → HasVisits start conds
+        (enc.old, board.now.slots.items) r (length conds)
+        → Left start (enc.new, board.now.slots.items)
+        (HasVisits start conds (enc.new, board.now.slots.items) r (length conds)) result }
+    ensures lost { (start : Start) (conds : List CondOf) (r : ℕ) → HasVisits start conds
+        (enc.old, board.now.slots.items) r (length conds)
+        → IfOk result (λ lost. lost ≡ true
+        → covers_patrol (sys_of start) (visit_sets conds) ≡ false) }
+{
+    let held = board.covers_initial(enc, KEPT)?;
+    Ok(!held)
+}
+
+/// Makes rounds until nothing changes, or an initial state is lost: whether one was.
 pub(crate) fn find_left(
     enc: &mut Enc,
     board: &mut Board,
     actions: u32,
     visits: &[Cond],
-) -> Result<(), SetErr>
+) -> Result<bool, SetErr>
     requires ready { (start : Start) × (start.stages ≡ length visits.now)
         × HasNothing start (enc.old, board.old.slots.items) × PatrolFits start visits.now }
     requires actions { actions ≡ length enc.old.actions }
     requires visits { IsPatrolOver enc.old.sets.vars visits.now }
     ensures { (start : Start) → start.stages ≡ length visits.now
         → HasNothing start (enc.old, board.old.slots.items) → PatrolFits start visits.now
-        → Left start (enc.new, board.new.slots.items)
-        (HasPatrol start visits.now (enc.new, board.new.slots.items) 0) result }
+        → Ends (board_of start) enc.new board.new.slots.items
+        (FoundLeft start visits.now (enc.new, board.new.slots.items)) result }
 {
     keep_first(enc, board, actions, visits)?;
     while !board.is_same(enc, KEPT, LEFT) {
+        let lost = loses_initial(enc, board)?;
+        if lost {
+            return Ok(true);
+        }
         keep_more(enc, board, actions, visits)?;
     }
-    Ok(())
+    Ok(false)
 }
 
 /// Has the actions towards a visit taken, and after it those that stay among the states of the plan.

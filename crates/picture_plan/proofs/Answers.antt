@@ -1,5 +1,5 @@
 -- From what follows the reading of both files to the answer, and from the answer to a run.
-use Rattle.std.proofs.Common.{◌≡◌, ◌≢◌, ◌⊎◌, ◌≤◌, ◌<◌, ℕ, List, [], ◌∷◌, Contains, get_or, length, map, inl, inr, refl, sym, subst, ap, ◌∙◌, arith, codes, None}
+use Rattle.std.proofs.Common.{◌≡◌, ◌≢◌, ◌⊎◌, ◌≤◌, ℕ, List, [], ◌∷◌, Contains, get_or, length, map, inl, inr, refl, sym, subst, ap, ◌∙◌, arith, None, Bool, false, true, drop}
 use Rattle.exec_graph.specs.Executions.{IsReachedBy, ReachesMoreThan}
 use Rattle.exec_graph.specs.Initials.{HasTooManyInitial}
 use Rattle.pddl_ast.specs.Trees.{DomainTree, ProblemTree}
@@ -17,7 +17,7 @@ use Rattle.task_core.specs.Systems.{System}
 use Rattle.task_core.specs.Tasks.{action_names as names_of_actions, fluent_names as names_of_fluents, initial_states, system_of}
 use Rattle.task_core.specs.Vectors.{Vector}
 use Rattle.task_core.specs.declared.tasks.Task.{Task}
-use Rattle.command_base.specs.Answers.{Answer, Refusal, no_command, no_memory, refused}
+use Rattle.command_base.specs.Answers.{Answer, Refusal, no_memory, refused}
 use Rattle.command_base.specs.Faults.{IsQuietAt}
 use Rattle.command_base.specs.Following.{HasTooManyStates, most_followed}
 use Rattle.command_base.specs.Delivery.{IsDelivered}
@@ -37,9 +37,9 @@ use Rattle.picture_plan.specs.Fetching.{AsksForPlan, FetchesToPicture}
 use Rattle.command_base.proofs.Initials.{initial_over}
 use Rattle.command_base.proofs.Later.{read_over}
 use Rattle.command_base.proofs.TaskNames.{same_actions, same_fluents}
-use Rattle.picture_plan.specs.Pictures.{DrawThen, DrawnThen, IsPictureAnswer, IsPictured, PictureThen, ShowsPicture, most_shown}
+use Rattle.picture_plan.specs.Pictures.{DrawThen, DrawnThen, IsPictureAnswer, IsPictured, ShowsPicture, most_for}
 use Rattle.picture_plan.specs.Runs.{HasPictureCause, HasPictured, PictureRun}
-use Rattle.picture_plan.specs.Words.{AskNothing, PictureWords, SaysPicture}
+use Rattle.picture_plan.specs.Words.{AskNothing, PictureWords, SaysPicture, page_words}
 
 -- what is said from a later state of the shelf holds from the start
 pub pictured_later : (held held' : Bytes → Held) (failed failed' : Bytes → Type 0) (asked : PictureWords) (d : DomainTree) (p : ProblemTree) (a : Answer)
@@ -66,12 +66,12 @@ plan_refused held failed asked d p t r is within (inr why) =
     inr (inr (within, inl (r, refl, named)))
 
 -- what is drawn of a task is drawn of the domain and the problem
-shows_for : (t : Task) (d : DomainTree) (p : ProblemTree) (plan : PlainPlan) (a : Answer) → task_value t ≡ task_of d p → system_of t ≡ system d p
-    → ShowsPicture (names_of_fluents t) (names_of_actions t) (system_of t) plan a → ShowsPicture (fluent_names d p) (action_names d p) (system d p) plan a
-shows_for t d p plan a is system_is shows =
-    subst (λ (sys : System). ShowsPicture (fluent_names d p) (action_names d p) sys plan a) system_is
-    (subst (λ (ns : List Name). ShowsPicture (fluent_names d p) ns (system_of t) plan a) (same_actions d p t is)
-    (subst (λ (ns : List Name). ShowsPicture ns (names_of_actions t) (system_of t) plan a) (same_fluents d p t is) shows))
+shows_for : (page : Bool) (t : Task) (d : DomainTree) (p : ProblemTree) (plan : PlainPlan) (a : Answer) → task_value t ≡ task_of d p → system_of t ≡ system d p
+    → ShowsPicture page (names_of_fluents t) (names_of_actions t) (system_of t) plan a → ShowsPicture page (fluent_names d p) (action_names d p) (system d p) plan a
+shows_for page t d p plan a is system_is shows =
+    subst (λ (sys : System). ShowsPicture page (fluent_names d p) (action_names d p) sys plan a) system_is
+    (subst (λ (ns : List Name). ShowsPicture page (fluent_names d p) ns (system_of t) plan a) (same_actions d p t is)
+    (subst (λ (ns : List Name). ShowsPicture page ns (names_of_actions t) (system_of t) plan a) (same_fluents d p t is) shows))
 
 too_many_back : (d : DomainTree) (p : ProblemTree) (t : Task) → task_value t ≡ task_of d p → HasTooManyStates d p → HasTooManyInitial t most_followed
 too_many_back d p t is many =
@@ -79,24 +79,24 @@ too_many_back d p t is many =
     record { entries = many.entries; first = back.0; more = back.1 }
 
 drawn_for : (asked : PictureWords) (d : DomainTree) (p : ProblemTree) (t : Task) (placed : PlacedPlan) (a : Answer) → task_value t ≡ task_of d p → system_of t ≡ system d p
-    → DrawThen (HasTooManyInitial t most_followed) (system_of t) placed.plan (InitialThen (empty_init asked.problem p) (initial_states t)
-    (ShowsPicture (names_of_fluents t) (names_of_actions t) (system_of t) placed.plan)) a
+    → DrawThen (HasTooManyInitial t most_followed) (most_for asked.page) (system_of t) placed.plan (InitialThen (empty_init asked.problem p) (initial_states t)
+    (ShowsPicture asked.page (names_of_fluents t) (names_of_actions t) (system_of t) placed.plan)) a
     → DrawnThen asked d p placed a
 drawn_for asked d p t placed a is system_is (inl (many, refused_is)) = inl (too_many_states d p t is many.entries many.first many.more, refused_is)
 drawn_for asked d p t placed a is system_is (inr (inl (few, more, refused_is))) =
-    inr (inl (λ many. few (too_many_back d p t is many), subst (λ (s : System). ReachesMoreThan s placed.plan most_shown) system_is more, refused_is))
+    inr (inl (λ many. few (too_many_back d p t is many), subst (λ (s : System). ReachesMoreThan s placed.plan (most_for asked.page)) system_is more, refused_is))
 drawn_for asked d p t placed a is system_is (inr (inr then)) =
     inr (inr (initial_over (empty_init asked.problem p) (initial_states t) (system d p).initial
-    (ShowsPicture (names_of_fluents t) (names_of_actions t) (system_of t) placed.plan)
-    (ShowsPicture (fluent_names d p) (action_names d p) (system d p) placed.plan) a (ap (λ (s : System). s.initial) system_is)
-    (shows_for t d p placed.plan a is system_is) then))
+    (ShowsPicture asked.page (names_of_fluents t) (names_of_actions t) (system_of t) placed.plan)
+    (ShowsPicture asked.page (fluent_names d p) (action_names d p) (system d p) placed.plan) a (ap (λ (s : System). s.initial) system_is)
+    (shows_for asked.page t d p placed.plan a is system_is) then))
 
 -- the answer for a plan that was read
 pub pictured_answer : (held : Bytes → Held) (failed : Bytes → Type 0) (asked : PictureWords) (d : DomainTree) (p : ProblemTree) (t : Task) (placed : PlacedPlan) (a : Answer)
     → task_value t ≡ task_of d p → system_of t ≡ system d p → first_passed d p ≡ None
     → Holds held (SpellsPlaced (names_of_fluents t) (names_of_actions t)) asked.plan placed
-    → (a ≡ refused no_memory) ⊎ DrawThen (HasTooManyInitial t most_followed) (system_of t) placed.plan
-    (InitialThen (empty_init asked.problem p) (initial_states t) (ShowsPicture (names_of_fluents t) (names_of_actions t) (system_of t) placed.plan)) a
+    → (a ≡ refused no_memory) ⊎ DrawThen (HasTooManyInitial t most_followed) (most_for asked.page) (system_of t) placed.plan
+    (InitialThen (empty_init asked.problem p) (initial_states t) (ShowsPicture asked.page (names_of_fluents t) (names_of_actions t) (system_of t) placed.plan)) a
     → (a ≡ refused no_memory) ⊎ IsPictured held failed asked d p a
 pictured_answer held failed asked d p t placed a is system_is within holds (inl memory) = inl memory
 pictured_answer held failed asked d p t placed a is system_is within holds (inr then) =
@@ -146,6 +146,12 @@ pub some_nodes : {X Y : Type 0} (f : X → Y) (xs : List X) → (length xs ≡ 0
 some_nodes f [] some none = some refl
 some_nodes f (x ∷ xs) some none = cc none
 
+same_page : (a b : Bool) → page_words a ≡ page_words b → a ≡ b
+same_page false false same = refl
+same_page false true same = absurd (cc same)
+same_page true false same = absurd (cc same)
+same_page true true same = refl
+
 -- the words ask for one picture at most
 pub one_asked : (words : List Bytes) (v w : PictureWords) → SaysPicture words v → SaysPicture words w → v ≡ w
 one_asked words v w says says' =
@@ -153,7 +159,8 @@ one_asked words v w says says' =
     let domains : v.domain ≡ w.domain = ap (λ (ws : List Bytes). get_or ws 0 []) both in
     let problems : v.problem ≡ w.problem = ap (λ (ws : List Bytes). get_or ws 1 []) both in
     let plans : v.plan ≡ w.plan = ap (λ (ws : List Bytes). get_or ws 2 []) both in
-    λ i. record { domain = domains i; problem = problems i; plan = plans i }
+    let pages : v.page ≡ w.page = same_page v.page w.page (ap (drop 3) both) in
+    λ i. record { domain = domains i; problem = problems i; plan = plans i; page = pages i }
 
 -- one of the first two files is refused
 pub picture_stopped : {S : Type 0} (held : Bytes → Held) (failed : Bytes → Type 0) (fetched : S → Bytes → S → Type 0) (asked : PictureWords) (r : Refusal) (before after : S)

@@ -6,7 +6,7 @@ use Rattle.command_base.specs.Frame.{FailedIn, HasCauseOf, IsRunOf, Run}
 use Rattle.command_base.specs.Words.{Bytes}
 use Rattle.picture_plan.specs.Fetching.{FetchesToPicture}
 use Rattle.picture_plan.specs.Pictures.{IsPictureAnswer}
-use Rattle.picture_plan.specs.Words.{PictureWords, SaysPicture}
+use Rattle.picture_plan.specs.Words.{SaysPicture}
 
 -- the words ask for nothing; or they ask for a picture, and the answer is the one to that, or want
 -- of memory, which has no further cause

@@ -7,4 +7,5 @@ picture_words_of words = record {
   domain = words.domain.now;
   problem = words.problem.now;
   plan = words.plan.now;
+  page = words.page;
 }

@@ -13,11 +13,19 @@ ghost use Rattle.pddl_ast.specs.Values.{domain_value, problem_value};
 ghost use Rattle.pddl_system.specs.Names.{NamesAreWords};
 ghost use Rattle.pddl_system.specs.Sizes.{first_passed};
 ghost use Rattle.picture_plan.specs.Fetching.{FetchesToPicture};
-ghost use Rattle.picture_plan.specs.Pictures.{DrawThen, IsPictureAnswer, IsPictured, ShowsPicture};
+ghost use Rattle.picture_plan.specs.Pictures.{
+  DrawThen,
+  IsPictureAnswer,
+  IsPictured,
+  ShowsPicture,
+  most_for,
+  shown_text as text_of,
+};
 ghost use Rattle.picture_plan.specs.Runs.{HasPictureCause};
 ghost use Rattle.picture_plan.specs.Values.{picture_words_of};
 ghost use Rattle.picture_plan.specs.Words.{AskNothing, PictureWords as AskedPicture, SaysPicture};
 ghost use Rattle.plan_io.specs.Fetches.{FailedLast, Fetches};
+ghost use Rattle.plan_picture.specs.Values.{nodes_of};
 ghost use Rattle.plan_rules.specs.Plans.{IsPlanOf};
 ghost use Rattle.plan_rules.specs.Rules.{plain_of};
 ghost use Rattle.std.specs.Prelude.{
@@ -28,6 +36,7 @@ ghost use Rattle.std.specs.Prelude.{
   ◌∷◌,
   [],
   None,
+  IfOk,
   IsTrue,
   List,
   length,
@@ -50,10 +59,14 @@ use command_base::{
 };
 use pddl_ast::{Domain, Problem};
 use plan_io::Shelf;
+use plan_page::page_text;
 use plan_picture::{MAX_NODES, Picture, PictureErr, dot_text, picture_of};
 use plan_rules::Plan;
-use std::alloc::Global;
+use std::alloc::{AllocError, Global};
 use task_core::Task;
+
+/// How many configurations a page may show.
+const MAX_PAGE_NODES: u32 = 20_000;
 
 /// Does what the words say, and gives the answer.
 pub(crate) fn answer<S: Shelf>(
@@ -125,36 +138,63 @@ fn picture_problem<S: Shelf>(
 {
     let grounded = ground_both(alloc, domain, problem)?;
     let read = read_plan_file(alloc, shelf, asked.plan, &grounded.task)?;
-    drawn(alloc, asked.problem, problem, &grounded.task, &read.plan)
+    drawn(alloc, asked, problem, &grounded.task, &read.plan)
 }
 
-/// The picture of a plan, for the problem in the file of this name.
+/// The picture of a plan.
 fn drawn(
     alloc: Global,
-    name: &str,
+    asked: &PictureWords,
     problem: &Problem,
     task: &Task,
     plan: &Plan,
 ) -> Result<Shown, Refusal>
     requires in_task { IsPlanOf (fluent_count task.now) (action_count task.now) plan.now }
     ensures { (answer_of result ≡ refused no_memory)
-        ⊎ DrawThen (HasTooManyInitial task.now most_followed) (system_of task.now)
-        (plain_of plan.now)
-        (InitialThen (empty_init name.now (problem_value problem.now)) (initial_states task.now)
-        (ShowsPicture (fluent_names task.now) (action_names task.now) (system_of task.now)
-        (plain_of plan.now))) (answer_of result) }
+        ⊎ DrawThen (HasTooManyInitial task.now most_followed) (most_for asked.now.page)
+        (system_of task.now) (plain_of plan.now)
+        (InitialThen (empty_init asked.now.problem.now (problem_value problem.now))
+        (initial_states task.now) (ShowsPicture asked.now.page (fluent_names task.now)
+        (action_names task.now) (system_of task.now) (plain_of plan.now))) (answer_of result) }
 {
-    match picture_of(alloc, task, plan, MAX_NODES) {
+    match picture_of(alloc, task, plan, most_shown(asked.page)) {
         Ok(picture) => {
             if is_blank(&picture) {
-                return Err(no_initial(alloc, name, problem)?);
+                return Err(no_initial(alloc, asked.problem, problem)?);
             }
-            Ok(Shown::Affirmed(Text::Made(dot_text(alloc, task, plan, &picture)?)))
+            let text = shown_text(alloc, task, plan, &picture, asked.page)?;
+            Ok(Shown::Affirmed(Text::Made(text)))
         }
         Err(PictureErr::Initial) => Err(Refusal::OverLimit(Limit::Initial)),
         Err(PictureErr::Configurations) => Err(Refusal::OverLimit(Limit::Configurations)),
         Err(PictureErr::Memory) => Err(Refusal::NoMemory),
     }
+}
+
+/// How many configurations a picture may show.
+fn most_shown(page: bool) -> u32
+    ensures { result ≡ most_for page }
+{
+    if page { MAX_PAGE_NODES } else { MAX_NODES }
+}
+
+/// The text of a picture, in the DOT language or as a page.
+fn shown_text(
+    alloc: Global,
+    task: &Task,
+    plan: &Plan,
+    picture: &Picture,
+    page: bool,
+) -> Result<Vec<u8>, AllocError>
+    requires few { length picture.now.nodes.items ≤ 262144 }
+    ensures { IfOk result (λ text. text.items
+        ≡ text_of page (fluent_names task.now) (action_names task.now) (system_of task.now)
+        (plain_of plan.now) (nodes_of (fluent_count task.now) picture.now)) }
+{
+    if page {
+        return page_text(alloc, task, plan, picture);
+    }
+    dot_text(alloc, task, plan, picture)
 }
 
 /// Whether a picture has no nodes.

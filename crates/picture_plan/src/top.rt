@@ -11,13 +11,14 @@ use std::alloc::Global;
 
 /// Writes the picture that the words ask for, and gives the exit status.
 ///
-/// The words are `DOMAIN PROBLEM PLAN`. The text of the picture goes to `out`; every other answer is
-/// one line on `err`. The statuses are those of `mbp_top::run`'s `check`, but that the plan may be of
+/// The words are `DOMAIN PROBLEM PLAN`, and `--page` after them for a page to step through the plan in
+/// place of a text in the DOT language. The picture goes to `out`; every other answer is one line on
+/// `err`. The statuses are those of `mbp_top::run`'s `check`, but that the plan may be of
 /// either kind, and no goal is asked for:
 ///
-/// - 0: the text of the picture is on `out`;
+/// - 0: the picture is on `out`;
 /// - 4: a limit is passed, one of those of `check`, or: the plan may reach more than 400
-///   configurations;
+///   configurations, for a page more than 20,000;
 /// - 2, 3, 6, 7, 8: as for `check`.
 pub fn picture<S: Shelf, O: Sink, E: Sink>(
     alloc: Global,

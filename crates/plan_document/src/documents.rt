@@ -1,6 +1,7 @@
 //! The document of a plan.
 
 ghost use Rattle.plan_document.specs.Documents.{document, document_text, plan_object as plan_data};
+ghost use Rattle.plan_document.specs.Faithful.{IsToldInFull};
 ghost use Rattle.plan_rules.specs.Plans.{IsPlanOf};
 ghost use Rattle.plan_rules.specs.Rules.{plain_of};
 ghost use Rattle.plan_rules.specs.Texts.{class_word as word_of_class, line_feed};
@@ -19,10 +20,11 @@ use task_core::Task;
 
 /// The document of a plan for a task, as JSON in one line with a line feed at its end: an object with
 /// the members `actions`, `class`, `contexts`, `fluents` and `rules`, and of each rule `action`,
-/// `context`, `literals` and `next`. A table has one context, whose number is 1. Where a rule's next
-/// context depends on the state, its `next` is `null`: such a plan is not told in full.
+/// `context`, `literals` and `next`. A table has one context, whose number is 1. The plan is one that
+/// is told in full (`is_told_in_full`).
 pub fn plan_document(alloc: Global, plan: &Plan, task: &Task) -> Result<Vec<u8>, AllocError>
     requires in_task { IsPlanOf (fluent_count task.now) (action_count task.now) plan.now }
+    requires told { IsToldInFull (plain_of plan.now) }
     ensures { IfOk result (λ text. text.items
         ≡ document_text (fluent_names task.now) (action_names task.now) (plain_of plan.now)) }
 {

@@ -5,5 +5,7 @@
 mod documents;
 mod names;
 mod rules;
+mod told;
 
 pub use documents::plan_document;
+pub use told::is_told_in_full;

@@ -1,10 +1,10 @@
 //! From which states one may come to a state.
 
-use crate::graph::Graph;
+use crate::graph::StepGraph;
 use std::alloc::{AllocError, Global};
 
 /// For each state the numbers of those in which some action may lead to it, each once.
-pub(crate) fn before_each(alloc: Global, graph: &Graph) -> Result<Vec<Vec<usize>>, AllocError> {
+pub(crate) fn before_each(alloc: Global, graph: &StepGraph) -> Result<Vec<Vec<usize>>, AllocError> {
     let mut before = Vec::new(alloc);
     for _ in &graph.states {
         before.push(Vec::new(alloc))?;

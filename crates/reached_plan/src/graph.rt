@@ -9,7 +9,8 @@ ghost use Rattle.task_core.specs.Tasks.{action_count, fluent_count, outcomes_at}
 use indexmap::IndexSet;
 use std::alloc::{AllocError, AllocFailed, Global};
 use task_core::{
-    ActionId, Cond, InitErr, State, Task, cond_holds, in_space, init_states, is_exec, step,
+    ActionId, Cond, InitErr, State, Task, cond_holds, in_space, init_states, is_exec,
+    outcome_count, step,
 };
 
 /// The most states that are gone through.
@@ -61,7 +62,7 @@ pub(crate) struct Move {
 /// The states that can be reached by actions in states outside the goal, numbered in the order in
 /// which they were found, the initial ones first.
 #[derive(Drop)]
-pub(crate) struct Graph {
+pub(crate) struct StepGraph {
     pub(crate) states: Vec<State>,
     /// How many of them are initial.
     pub(crate) initial: usize,
@@ -70,14 +71,21 @@ pub(crate) struct Graph {
     /// What can be done in each, actions in rising order; nothing in a state of the goal.
     pub(crate) moves: Vec<Vec<Move>>,
     outcomes: usize,
+    /// How many states are gone through at most.
+    most: usize,
     pub(crate) numbers: IndexSet<State>,
 }
 
 /// The states that can be reached of a task with this goal, unless there are too many.
-pub(crate) fn explore(alloc: Global, task: &Task, goal: &Cond) -> Result<Graph, Stop>
+pub(crate) fn go_through(
+    alloc: Global,
+    task: &Task,
+    goal: &Cond,
+    most: usize,
+) -> Result<StepGraph, Stop>
     requires { IsTrue (ids_below 256 goal.now) }
 {
-    let mut graph = initial_graph(alloc, task)?;
+    let mut graph = initial_graph(alloc, task, most)?;
     for number in 0..MOST_STATES {
         if number >= graph.states.len() {
             return Ok(graph);
@@ -85,35 +93,38 @@ pub(crate) fn explore(alloc: Global, task: &Task, goal: &Cond) -> Result<Graph, 
         let state = graph.states[number];
         graph.expand(alloc, task, goal, &state)?;
     }
-    Err(Stop::TooMany)
+    // So many were gone through, and there are no more: one more would have been refused.
+    Ok(graph)
 }
 
 /// The initial states, before anything is done in them.
-fn initial_graph(alloc: Global, task: &Task) -> Result<Graph, Stop>
+fn initial_graph(alloc: Global, task: &Task, most: usize) -> Result<StepGraph, Stop>
     ensures { IfOk result (λ graph. AreWithin (fluent_count task.now) graph.states.items) }
 {
-    let states = init_states(alloc, task, most_states(task))?;
+    let most = most_states(task, most);
+    let states = init_states(alloc, task, most)?;
     let mut numbers = IndexSet::new(alloc);
     for state in &states {
         numbers.insert(*state)?;
     }
-    Ok(Graph {
+    Ok(StepGraph {
         initial: states.len(),
         states,
         goal: Vec::new(alloc),
         moves: Vec::new(alloc),
         outcomes: 0,
+        most,
         numbers,
     })
 }
 
-/// How many states of a task are gone through at most.
-fn most_states(task: &Task) -> usize {
+/// How many states of a task are gone through at most, where no more than `most` are wanted.
+fn most_states(task: &Task, most: usize) -> usize {
     let actions = task.actions.len().max(1);
-    (MOST_TESTS / actions).clamp(1, MOST_STATES)
+    (MOST_TESTS / actions).clamp(1, MOST_STATES).min(most)
 }
 
-impl Graph {
+impl StepGraph {
     /// Finds what can be done in the next state, and where it leads.
     fn expand(&mut self, alloc: Global, task: &Task, goal: &Cond, state: &State) -> Result<(), Stop>
         requires goal { IsTrue (ids_below 256 goal.now) }
@@ -184,17 +195,9 @@ impl Graph {
         if is_new {
             self.states.push(state)?;
         }
-        if self.outcomes > MOST_OUTCOMES || self.states.len() > most_states(task) {
+        if self.outcomes > MOST_OUTCOMES || self.states.len() > self.most {
             return Err(Stop::TooMany);
         }
         Ok(number)
     }
-}
-
-/// How many outcomes an action has.
-fn outcome_count(task: &Task, action: ActionId) -> u32
-    requires { action.0 < action_count task.now }
-    ensures { result ≡ length (outcomes_at task.now action.0) }
-{
-    task.actions[action.0 as usize].outcomes.len() as u32
 }

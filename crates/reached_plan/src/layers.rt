@@ -1,7 +1,7 @@
 //! The way back from the goal, layer by layer: of a state it is asked whether it is in the next one
 //! only where something has come about that may lead there.
 
-use crate::graph::{Graph, Move, Stop};
+use crate::graph::{Move, StepGraph, Stop};
 use std::alloc::{AllocError, Global};
 use task_core::{ActionId, Class};
 
@@ -33,7 +33,7 @@ impl Layers {
     /// The states of the goal that stay.
     pub(crate) fn of_goal(
         alloc: Global,
-        graph: &Graph,
+        graph: &StepGraph,
         stays: &[bool],
         looks: usize,
     ) -> Result<Layers, AllocError> {
@@ -82,7 +82,7 @@ impl Layers {
     pub(crate) fn grow(
         &mut self,
         alloc: Global,
-        graph: &Graph,
+        graph: &StepGraph,
         before: &[Vec<usize>],
         class: Class,
         stays: &[bool],
@@ -102,7 +102,7 @@ impl Layers {
     fn add_layer(
         &mut self,
         alloc: Global,
-        graph: &Graph,
+        graph: &StepGraph,
         before: &[Vec<usize>],
         class: Class,
         stays: &[bool],
@@ -177,7 +177,7 @@ impl Layers {
     /// The least-numbered action that leads from a state among these, as the class wants it.
     fn action_at(
         &self,
-        graph: &Graph,
+        graph: &StepGraph,
         class: Class,
         stays: &[bool],
         number: usize,

@@ -4,7 +4,7 @@ ghost use Rattle.std.specs.Prelude.{IsTrue};
 ghost use Rattle.task_core.specs.Conditions.{ids_below};
 
 use crate::before::before_each;
-use crate::graph::{Graph, Stop, explore};
+use crate::graph::{StepGraph, Stop, go_through};
 use crate::layers::Layers;
 use indexmap::IndexSet;
 use std::alloc::{AllocError, Global};
@@ -26,7 +26,7 @@ impl ReachedPlan {
 }
 
 /// A plan of a class for a task, found among the states that can be reached; `None` where none is
-/// found, or the states are too many: more than 262,144, or so many that an action is tried in a
+/// found, or the states are too many: more than `most` or than 262,144, or so many that an action is tried in a
 /// state more than 16,777,216 times, or with more than 4,194,304 outcomes of actions in them. It
 /// takes in each state what the plan takes that `reach_plan` or `cyclic_plan` finds. That a task
 /// without a plan has none is not told so.
@@ -34,9 +34,10 @@ pub fn plan_reached(
     alloc: Global,
     task: &Task,
     class: Class,
+    most: usize,
 ) -> Result<Option<ReachedPlan>, AllocError> {
     let found = match &task.goal {
-        Some(goal) => find(alloc, task, goal, class),
+        Some(goal) => find(alloc, task, goal, class, most),
         None => return Ok(None),
     };
     match found {
@@ -47,13 +48,19 @@ pub fn plan_reached(
 }
 
 /// The same for a goal.
-fn find(alloc: Global, task: &Task, goal: &Cond, class: Class) -> Result<Option<ReachedPlan>, Stop>
+fn find(
+    alloc: Global,
+    task: &Task,
+    goal: &Cond,
+    class: Class,
+    most: usize,
+) -> Result<Option<ReachedPlan>, Stop>
     requires { IsTrue (ids_below 256 goal.now) }
 {
-    let graph = explore(alloc, task, goal)?;
+    let graph = go_through(alloc, task, goal, most)?;
     match plan_in(alloc, &graph, class)? {
         Some(layers) => {
-            let Graph { numbers, .. } = graph;
+            let StepGraph { numbers, .. } = graph;
             Ok(Some(ReachedPlan {
                 numbers,
                 taken: layers.taken,
@@ -66,7 +73,7 @@ fn find(alloc: Global, task: &Task, goal: &Cond, class: Class) -> Result<Option<
 /// The layers of a plan among the states that can be reached, if there is one. For a strong cyclic
 /// plan, states from which the goal can't be had, once all actions are left out by which it may be
 /// lost, are left out in turn, until all that are left have it.
-fn plan_in(alloc: Global, graph: &Graph, class: Class) -> Result<Option<Layers>, Stop> {
+fn plan_in(alloc: Global, graph: &StepGraph, class: Class) -> Result<Option<Layers>, Stop> {
     let before = before_each(alloc, graph)?;
     let mut stays = vec![in alloc; true; graph.states.len()]?;
     let mut looks = 0;

@@ -1,6 +1,6 @@
-use Rattle.std.proofs.Common.{map, string_bytes, inl, inr, subst, refl}
+use Rattle.std.proofs.Common.{map, string_bytes, inr, subst}
 use Rattle.plan_io.specs.Fetches.{FetchesNothing}
-use Rattle.mbp_top.specs.Fetching.{FetchesBoth}
+use Rattle.command_base.specs.Fetching.{FetchesBoth}
 use Rattle.controller_plan.specs.Values.{control_words_of}
 use Rattle.controller_plan.specs.Words.{ControlWords}
 use Rattle.controller_plan.proofs.OneAsked.{one_asked}

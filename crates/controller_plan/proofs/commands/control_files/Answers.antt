@@ -1,8 +1,8 @@
 use Rattle.std.proofs.lemmas.Result.{err_from_is_err_and}
 use Rattle.plan_io.specs.Fetches.{FailedLast}
-use Rattle.mbp_top.specs.Answers.{refused}
-use Rattle.mbp_top.specs.Values.{refusal_of}
-use Rattle.mbp_top.proofs.PddlDecides.{refused_both}
+use Rattle.command_base.specs.Answers.{refused}
+use Rattle.command_base.specs.Values.{refusal_of}
+use Rattle.command_base.proofs.PddlDecides.{refused_both}
 use Rattle.controller_plan.specs.Controllers.{IsControlled}
 use Rattle.controller_plan.specs.Values.{control_words_of}
 use Rattle.controller_plan.proofs.Answers.{after_control, before_control}

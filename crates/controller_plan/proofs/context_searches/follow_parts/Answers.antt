@@ -1,6 +1,6 @@
 use Rattle.std.proofs.Common.{rules}
 use Rattle.task_core.specs.Tasks.{fluent_count}
-use Rattle.mbp_top.proofs.ContextAnswers.{over_task}
+use Rattle.plan_command.proofs.ContextAnswers.{over_task}
 use Rattle.controller_plan.proofs.context_searches.follow_parts.Goals as goal
 
 pub follow_in_order-requires-clause-goal : goal.follow_in_order-requires-clause-goal

@@ -1,7 +1,7 @@
 use Rattle.cyclic_plan.specs.Takers.{start_of}
 use Rattle.task_core.specs.declared.classes.Class.TheVariants.{Cyclic}
 use Rattle.controller_plan.proofs.Tables.{rounds_live, width_for}
-use Rattle.mbp_top.proofs.EnoughNodes.{all_bounds}
+use Rattle.plan_command.proofs.EnoughNodes.{all_bounds}
 use Rattle.controller_plan.proofs.searches.follow_rounds.Goals as goal
 
 pub follow_table-requires : goal.follow_table-requires

@@ -1,4 +1,4 @@
-use Rattle.mbp_top.specs.Values.{answer_of}
+use Rattle.command_base.specs.Values.{answer_of}
 use Rattle.controller_plan.proofs.Answers.{has_controlled}
 use Rattle.controller_plan.proofs.top.control.Goals as goal
 

@@ -1,6 +1,6 @@
 use Rattle.std.proofs.Common.{codes, length, map, rules, string_bytes, take, ◌-◌, ◌≡◌}
 use Rattle.std.specs.declared.alloc.Global.{Global}
-use Rattle.mbp_top.specs.Values.{plan_words_of}
+use Rattle.command_base.specs.Values.{plan_words_of}
 use Rattle.controller_plan.proofs.WordLists.{json_none, json_says, last_and_front}
 use Rattle.controller_plan.proofs.words.json_words.Goals as goal
 

@@ -5,8 +5,8 @@ use Rattle.plan_theory.proofs.NoPatrol.{none_without_cover}
 use Rattle.task_core.proofs.TaskSystem.{is_system}
 use Rattle.patrol_plan.specs.Chains.{visit_sets}
 use Rattle.patrol_plan.specs.Scenes.{board_of, sys_of}
-use Rattle.patrol_plan.proofs.PatrolPlan.{patrol_covered, patrol_ends_refused, patrol_stayed, patrol_test}
-use Rattle.patrol_plan.proofs.VisitSteps.{visit_low}
+use Rattle.patrol_plan.proofs.PatrolPlan.{patrol_covered, patrol_ends_lost, patrol_ends_refused, patrol_stayed, patrol_test}
+use Rattle.patrol_plan.proofs.VisitSteps.{not_lost, visit_low, was_lost}
 use Rattle.patrol_plan.proofs.patrol.search_visits.Goals as goal
 
 pub find_left-requires-clause-ready : goal.find_left-requires-clause-ready
@@ -17,9 +17,9 @@ find_left-requires-clause-ready c =
     let fits = c.requires.ready.3 in
     (start, count, h, fits)
 
-pub returns-in_err-find_left : goal.returns-in_err-find_left
-returns-in_err-find_left c start count h fits =
-    patrol_ends_refused start (c.find_left.new.enc, c.find_left.new.board.slots.items) (visit_sets c.args.visits.now) _ c.find_left.result c.from_residual.result _ c.in_err-find_left.was (err_from_is_err_and c.from_residual.result c.from_residual.ensures.1) (c.find_left.ensures start count h fits)
+pub returns-in_err-lost : goal.returns-in_err-lost
+returns-in_err-lost c start count h fits =
+    patrol_ends_lost start (c.find_left.new.enc, c.find_left.new.board.slots.items) (visit_sets c.args.visits.now) _ c.find_left.result c.from_residual.result _ c.in_err-lost.was (err_from_is_err_and c.from_residual.result c.from_residual.ensures.1) (c.find_left.ensures start count h fits)
 
 pub covers_initial-requires-clause-working : goal.covers_initial-requires-clause-working
 covers_initial-requires-clause-working c =
@@ -27,7 +27,7 @@ covers_initial-requires-clause-working c =
     let count = c.requires.ready.1 in
     let h = c.requires.ready.2 in
     let fits = c.requires.ready.3 in
-    let p = went (board_of start) c.find_left.new.enc c.find_left.new.board.slots.items _ c.find_left.result _ c.in_ok-find_left.was (c.find_left.ensures start count h fits) in
+    let p = not_lost start c.args.visits.now (c.find_left.new.enc, c.find_left.new.board.slots.items) c.find_left.result c.in_ok-lost.lost c.in_ok-lost.was c.if-lost.false (c.find_left.ensures start count h fits) in
     (board_of start, p.ready.at)
 
 pub covers_initial-requires-clause-place : goal.covers_initial-requires-clause-place
@@ -36,18 +36,18 @@ covers_initial-requires-clause-place c =
     let count = c.requires.ready.1 in
     let h = c.requires.ready.2 in
     let fits = c.requires.ready.3 in
-    let p = went (board_of start) c.find_left.new.enc c.find_left.new.board.slots.items _ c.find_left.result _ c.in_ok-find_left.was (c.find_left.ensures start count h fits) in
+    let p = not_lost start c.args.visits.now (c.find_left.new.enc, c.find_left.new.board.slots.items) c.find_left.result c.in_ok-lost.lost c.in_ok-lost.was c.if-lost.false (c.find_left.ensures start count h fits) in
     visit_low start (c.find_left.new.enc, c.find_left.new.board.slots.items) p.ready.at p.some 8 (omega arith)
 
 pub returns-in_err-covers_initial : goal.returns-in_err-covers_initial
 returns-in_err-covers_initial c start count h fits =
-    let p = went (board_of start) c.find_left.new.enc c.find_left.new.board.slots.items _ c.find_left.result _ c.in_ok-find_left.was (c.find_left.ensures start count h fits) in
+    let p = not_lost start c.args.visits.now (c.find_left.new.enc, c.find_left.new.board.slots.items) c.find_left.result c.in_ok-lost.lost c.in_ok-lost.was c.if-lost.false (c.find_left.ensures start count h fits) in
     let test = patrol_test start c.args.visits.now (c.find_left.new.enc, c.find_left.new.board.slots.items) p in
     patrol_ends_refused start (c.covers_initial.new.enc, c.find_left.new.board.slots.items) (visit_sets c.args.visits.now) _ c.covers_initial.result c.from_residual-in_err-covers_initial.result _ c.in_err-covers_initial.was (err_from_is_err_and c.from_residual-in_err-covers_initial.result c.from_residual-in_err-covers_initial.ensures.1) (c.covers_initial.ensures.left (board_of start) p.ready.at test)
 
 pub returns-then-not-branch : goal.returns-then-not-branch
 returns-then-not-branch c start count h fits =
-    let p = went (board_of start) c.find_left.new.enc c.find_left.new.board.slots.items _ c.find_left.result _ c.in_ok-find_left.was (c.find_left.ensures start count h fits) in
+    let p = not_lost start c.args.visits.now (c.find_left.new.enc, c.find_left.new.board.slots.items) c.find_left.result c.in_ok-lost.lost c.in_ok-lost.was c.if-lost.false (c.find_left.ensures start count h fits) in
     let test = patrol_test start c.args.visits.now (c.find_left.new.enc, c.find_left.new.board.slots.items) p in
     let stayed = c.in_ok-covers_initial.ensures.left (board_of start) p.ready.at test in
     let after = patrol_stayed start c.args.visits.now c.find_left.new.enc c.covers_initial.new.enc c.find_left.new.board.slots.items 0 p stayed in
@@ -60,7 +60,7 @@ write_visits-requires-clause-ready c =
     let count = c.requires.ready.1 in
     let h = c.requires.ready.2 in
     let fits = c.requires.ready.3 in
-    let p = went (board_of start) c.find_left.new.enc c.find_left.new.board.slots.items _ c.find_left.result _ c.in_ok-find_left.was (c.find_left.ensures start count h fits) in
+    let p = not_lost start c.args.visits.now (c.find_left.new.enc, c.find_left.new.board.slots.items) c.find_left.result c.in_ok-lost.lost c.in_ok-lost.was c.if-lost.false (c.find_left.ensures start count h fits) in
     let test = patrol_test start c.args.visits.now (c.find_left.new.enc, c.find_left.new.board.slots.items) p in
     let stayed = c.in_ok-covers_initial.ensures.left (board_of start) p.ready.at test in
     let after = patrol_stayed start c.args.visits.now c.find_left.new.enc c.covers_initial.new.enc c.find_left.new.board.slots.items 0 p stayed in
@@ -74,7 +74,7 @@ write_visits-requires-clause-actions c =
     let count = c.requires.ready.1 in
     let h = c.requires.ready.2 in
     let fits = c.requires.ready.3 in
-    let p = went (board_of start) c.find_left.new.enc c.find_left.new.board.slots.items _ c.find_left.result _ c.in_ok-find_left.was (c.find_left.ensures start count h fits) in
+    let p = not_lost start c.args.visits.now (c.find_left.new.enc, c.find_left.new.board.slots.items) c.find_left.result c.in_ok-lost.lost c.in_ok-lost.was c.if-lost.false (c.find_left.ensures start count h fits) in
     let test = patrol_test start c.args.visits.now (c.find_left.new.enc, c.find_left.new.board.slots.items) p in
     let stayed = c.in_ok-covers_initial.ensures.left (board_of start) p.ready.at test in
     let after = patrol_stayed start c.args.visits.now c.find_left.new.enc c.covers_initial.new.enc c.find_left.new.board.slots.items 0 p stayed in
@@ -82,7 +82,7 @@ write_visits-requires-clause-actions c =
 
 pub returns-in_err-plan : goal.returns-in_err-plan
 returns-in_err-plan c start count h fits =
-    let p = went (board_of start) c.find_left.new.enc c.find_left.new.board.slots.items _ c.find_left.result _ c.in_ok-find_left.was (c.find_left.ensures start count h fits) in
+    let p = not_lost start c.args.visits.now (c.find_left.new.enc, c.find_left.new.board.slots.items) c.find_left.result c.in_ok-lost.lost c.in_ok-lost.was c.if-lost.false (c.find_left.ensures start count h fits) in
     let test = patrol_test start c.args.visits.now (c.find_left.new.enc, c.find_left.new.board.slots.items) p in
     let stayed = c.in_ok-covers_initial.ensures.left (board_of start) p.ready.at test in
     let after = patrol_stayed start c.args.visits.now c.find_left.new.enc c.covers_initial.new.enc c.find_left.new.board.slots.items 0 p stayed in
@@ -92,10 +92,15 @@ returns-in_err-plan c start count h fits =
 
 pub returns : goal.returns
 returns c start count h fits =
-    let p = went (board_of start) c.find_left.new.enc c.find_left.new.board.slots.items _ c.find_left.result _ c.in_ok-find_left.was (c.find_left.ensures start count h fits) in
+    let p = not_lost start c.args.visits.now (c.find_left.new.enc, c.find_left.new.board.slots.items) c.find_left.result c.in_ok-lost.lost c.in_ok-lost.was c.if-lost.false (c.find_left.ensures start count h fits) in
     let test = patrol_test start c.args.visits.now (c.find_left.new.enc, c.find_left.new.board.slots.items) p in
     let stayed = c.in_ok-covers_initial.ensures.left (board_of start) p.ready.at test in
     let after = patrol_stayed start c.args.visits.now c.find_left.new.enc c.covers_initial.new.enc c.find_left.new.board.slots.items 0 p stayed in
     let answer = c.in_ok-covers_initial.ensures.answer (board_of start) p.ready.at ∙ patrol_covered start c.args.visits.now (c.find_left.new.enc, c.find_left.new.board.slots.items) p in
     let all = sym answer ∙ (let f = c.if-not-branch.false in cc) in
     (went (board_of start) c.write_visits.new.enc c.write_visits.new.board.slots.items _ c.write_visits.result _ c.in_ok-plan.was (c.write_visits.ensures.left start c.args.visits.now (let e : start.stages ≡ c.args.count = count ∙ sym c.requires.count in e) after all), c.in_ok-plan.ensures.plan start c.args.visits.now (let e : start.stages ≡ c.args.count = count ∙ sym c.requires.count in e) after all)
+
+pub returns-then-lost : goal.returns-then-lost
+returns-then-lost c start count h fits =
+    let lost = was_lost start c.args.visits.now (c.find_left.new.enc, c.find_left.new.board.slots.items) c.find_left.result c.in_ok-lost.lost c.in_ok-lost.was c.if-lost.true (c.find_left.ensures start count h fits) in
+    (lost.0, none_without_cover (sys_of start) (visit_sets c.args.visits.now) (is_system start.task) lost.1)

@@ -1,9 +1,9 @@
 use Rattle.std.proofs.Common.{◌≡◌, arith, length, suc}
 use Rattle.std.proofs.lemmas.Result.{err_from_is_err_and}
-use Rattle.slot_board.proofs.BoardSlots.{passed, same_actions, same_fluents, went}
+use Rattle.slot_board.proofs.BoardSlots.{same_actions, same_fluents, went}
 use Rattle.patrol_plan.specs.Scenes.{board_of}
 use Rattle.patrol_plan.proofs.OverSteps.{visits_over}
-use Rattle.patrol_plan.proofs.VisitSteps.{patrol_made, visit_low, visits_fewer}
+use Rattle.patrol_plan.proofs.VisitSteps.{ends_passed, patrol_made, visit_low, visits_fewer}
 use Rattle.patrol_plan.proofs.visits.find_left.Goals as goal
 
 pub keep_first-requires-clause-ready : goal.keep_first-requires-clause-ready
@@ -16,7 +16,7 @@ keep_first-requires-clause-ready c =
 
 pub returns-in_err-keep_first : goal.returns-in_err-keep_first
 returns-in_err-keep_first c start count h fits =
-    passed (board_of start) c.keep_first.new.enc c.keep_first.new.board.slots.items _ _ c.keep_first.result c.from_residual.result _ c.in_err-keep_first.was (err_from_is_err_and c.from_residual.result c.from_residual.ensures.1) (c.keep_first.ensures start count h fits)
+    ends_passed start (c.keep_first.new.enc, c.keep_first.new.board.slots.items) _ _ c.keep_first.result c.from_residual.result _ c.in_err-keep_first.was (err_from_is_err_and c.from_residual.result c.from_residual.ensures.1) (c.keep_first.ensures start count h fits)
 
 pub loop-enc-init : goal.loop-enc-init
 loop-enc-init c start count h fits =
@@ -56,7 +56,8 @@ keep_more-requires-clause-ready c =
     let h = c.requires.ready.2 in
     let fits = c.requires.ready.3 in
     let inv = c.loop-enc.invariant start count h fits in
-    (start, inv.0, inv.1)
+    let visits = went (board_of start) c.loses_initial.new.enc c.loop-enc.board.slots.items _ c.loses_initial.result _ c.in_ok-lost.was (c.loses_initial.ensures.left start c.args.visits.now inv.0 inv.1) in
+    (start, inv.0, visits)
 
 pub keep_more-requires-clause-actions : goal.keep_more-requires-clause-actions
 keep_more-requires-clause-actions c =
@@ -65,7 +66,8 @@ keep_more-requires-clause-actions c =
     let h = c.requires.ready.2 in
     let fits = c.requires.ready.3 in
     let inv = c.loop-enc.invariant start count h fits in
-    let e : length c.loop-enc.enc.actions ≡ length c.args.enc.now.actions = same_actions (board_of start) c.args.enc.now c.loop-enc.enc c.args.board.now.slots.items c.loop-enc.board.slots.items h.at inv.1.stay.ready.at in omega (arith, c.requires.actions)
+    let visits = went (board_of start) c.loses_initial.new.enc c.loop-enc.board.slots.items _ c.loses_initial.result _ c.in_ok-lost.was (c.loses_initial.ensures.left start c.args.visits.now inv.0 inv.1) in
+    let e : length c.loses_initial.new.enc.actions ≡ length c.args.enc.now.actions = same_actions (board_of start) c.args.enc.now c.loses_initial.new.enc c.args.board.now.slots.items c.loop-enc.board.slots.items h.at visits.stay.ready.at in omega (arith, c.requires.actions)
 
 pub keep_more-requires-clause-visits : goal.keep_more-requires-clause-visits
 keep_more-requires-clause-visits c =
@@ -74,12 +76,14 @@ keep_more-requires-clause-visits c =
     let h = c.requires.ready.2 in
     let fits = c.requires.ready.3 in
     let inv = c.loop-enc.invariant start count h fits in
-    visits_over start (c.args.enc.now, c.args.board.now.slots.items) (c.loop-enc.enc, c.loop-enc.board.slots.items) c.args.visits.now h.at inv.1.stay.ready.at c.requires.visits
+    let visits = went (board_of start) c.loses_initial.new.enc c.loop-enc.board.slots.items _ c.loses_initial.result _ c.in_ok-lost.was (c.loses_initial.ensures.left start c.args.visits.now inv.0 inv.1) in
+    visits_over start (c.args.enc.now, c.args.board.now.slots.items) (c.loses_initial.new.enc, c.loop-enc.board.slots.items) c.args.visits.now h.at visits.stay.ready.at c.requires.visits
 
 pub returns-in_err-keep_more : goal.returns-in_err-keep_more
 returns-in_err-keep_more c start count h fits =
     let inv = c.loop-enc.invariant start count h fits in
-    passed (board_of start) c.keep_more.new.enc c.keep_more.new.board.slots.items _ _ c.keep_more.result c.from_residual-in_err-keep_more.result _ c.in_err-keep_more.was (err_from_is_err_and c.from_residual-in_err-keep_more.result c.from_residual-in_err-keep_more.ensures.1) (c.keep_more.ensures start inv.0 inv.1)
+    let visits = went (board_of start) c.loses_initial.new.enc c.loop-enc.board.slots.items _ c.loses_initial.result _ c.in_ok-lost.was (c.loses_initial.ensures.left start c.args.visits.now inv.0 inv.1) in
+    ends_passed start (c.keep_more.new.enc, c.keep_more.new.board.slots.items) _ _ c.keep_more.result c.from_residual-in_err-keep_more.result _ c.in_err-keep_more.was (err_from_is_err_and c.from_residual-in_err-keep_more.result c.from_residual-in_err-keep_more.ensures.1) (c.keep_more.ensures start inv.0 visits)
 
 pub loop-enc-smaller : goal.loop-enc-smaller
 loop-enc-smaller c =
@@ -88,7 +92,8 @@ loop-enc-smaller c =
     let h = c.requires.ready.2 in
     let fits = c.requires.ready.3 in
     let inv = c.loop-enc.invariant start count h fits in
-    let more = went (board_of start) c.keep_more.new.enc c.keep_more.new.board.slots.items _ c.keep_more.result _ c.in_ok-keep_more.was (c.keep_more.ensures start inv.0 inv.1) in
+    let visits = went (board_of start) c.loses_initial.new.enc c.loop-enc.board.slots.items _ c.loses_initial.result _ c.in_ok-lost.was (c.loses_initial.ensures.left start c.args.visits.now inv.0 inv.1) in
+    let more = went (board_of start) c.keep_more.new.enc c.keep_more.new.board.slots.items _ c.keep_more.result _ c.in_ok-keep_more.was (c.keep_more.ensures start inv.0 visits) in
     visits_fewer start c.args.visits.now (c.loop-enc.enc, c.loop-enc.board.slots.items) (c.keep_more.new.enc, c.keep_more.new.board.slots.items) inv.0 c.args.enc.now.fluents inv.1 more
     (λ same. let e = c.is_same.ensures.1 same in let f = c.loop-enc-test.true in cc)
     (same_fluents (board_of start) c.args.enc.now c.args.board.now.slots.items h.at)
@@ -96,10 +101,28 @@ loop-enc-smaller c =
 pub loop-enc-preserved : goal.loop-enc-preserved
 loop-enc-preserved c start count h fits =
     let inv = c.loop-enc.invariant start count h fits in
-    let more = went (board_of start) c.keep_more.new.enc c.keep_more.new.board.slots.items _ c.keep_more.result _ c.in_ok-keep_more.was (c.keep_more.ensures start inv.0 inv.1) in
+    let visits = went (board_of start) c.loses_initial.new.enc c.loop-enc.board.slots.items _ c.loses_initial.result _ c.in_ok-lost.was (c.loses_initial.ensures.left start c.args.visits.now inv.0 inv.1) in
+    let more = went (board_of start) c.keep_more.new.enc c.keep_more.new.board.slots.items _ c.keep_more.result _ c.in_ok-keep_more.was (c.keep_more.ensures start inv.0 visits) in
     (suc inv.0, more)
 
 pub returns : goal.returns
 returns c start count h fits =
     let inv = c.loop-enc.invariant start count h fits in
     patrol_made start c.args.visits.now (c.loop-enc.enc, c.loop-enc.board.slots.items) inv.0 inv.1 (c.is_same.ensures.0 (let f = c.loop-enc-test.false in cc))
+
+pub loses_initial-requires : goal.loses_initial-requires
+loses_initial-requires c =
+    let start = c.requires.ready.0 in
+    let inv = c.loop-enc.invariant start c.requires.ready.1 c.requires.ready.2 c.requires.ready.3 in
+    record { ready = (start, c.args.visits.now, inv.0, inv.1) }
+
+pub returns-in_err-lost : goal.returns-in_err-lost
+returns-in_err-lost c start count h fits =
+    let inv = c.loop-enc.invariant start count h fits in
+    ends_passed start (c.loses_initial.new.enc, c.loop-enc.board.slots.items) _ _ c.loses_initial.result c.from_residual-in_err-lost.result _ c.in_err-lost.was (err_from_is_err_and c.from_residual-in_err-lost.result c.from_residual-in_err-lost.ensures.1) (c.loses_initial.ensures.left start c.args.visits.now inv.0 inv.1)
+
+pub returns-then-lost : goal.returns-then-lost
+returns-then-lost c start count h fits =
+    let inv = c.loop-enc.invariant start count h fits in
+    let visits = went (board_of start) c.loses_initial.new.enc c.loop-enc.board.slots.items _ c.loses_initial.result _ c.in_ok-lost.was (c.loses_initial.ensures.left start c.args.visits.now inv.0 inv.1) in
+    (visits.stay.ready.at, c.in_ok-lost.ensures.lost start c.args.visits.now inv.0 inv.1 c.if-lost.true)

@@ -12,7 +12,8 @@ take_visit-requires-clause-ready c =
     let conds = c.requires.ready.1 in
     let n = c.requires.ready.2 in
     let h = c.requires.ready.3 in
-    let inv = c.loop-i.invariant start conds n h in
+    let covered = c.requires.ready.4 in
+    let inv = c.loop-i.invariant start conds n h covered in
     let acts = (made_at (board_of start) c.args.enc.now c.args.board.now.slots.items h.ready.at).actions in
     let place = c.takers_at.ensures ∙ ap (λ k. takers_place k c.args.visits c.loop-i.i) (c.requires.actions ∙ acts) ∙ ap (λ k. takers_place (action_count start.task) k c.loop-i.i) (sym n) in
     let less = (let l : c.loop-i.i < start.stages = omega (arith, n) in l) in
@@ -24,12 +25,13 @@ take_visit-requires-clause-actions c =
     let conds = c.requires.ready.1 in
     let n = c.requires.ready.2 in
     let h = c.requires.ready.3 in
-    let inv = c.loop-i.invariant start conds n h in
+    let covered = c.requires.ready.4 in
+    let inv = c.loop-i.invariant start conds n h covered in
     let e : length c.loop-i.enc.actions ≡ length c.args.enc.now.actions = same_actions (board_of start) c.args.enc.now c.loop-i.enc c.args.board.now.slots.items c.loop-i.board.slots.items h.ready.at inv.ready.at in omega (arith, c.requires.actions)
 
 pub returns-in_err-take_visit : goal.returns-in_err-take_visit
 returns-in_err-take_visit c start conds n h covered =
-    let inv = c.loop-i.invariant start conds n h in
+    let inv = c.loop-i.invariant start conds n h covered in
     let acts = (made_at (board_of start) c.args.enc.now c.args.board.now.slots.items h.ready.at).actions in
     let place = c.takers_at.ensures ∙ ap (λ k. takers_place k c.args.visits c.loop-i.i) (c.requires.actions ∙ acts) ∙ ap (λ k. takers_place (action_count start.task) k c.loop-i.i) (sym n) in
     let less = (let l : c.loop-i.i < start.stages = omega (arith, n) in l) in
@@ -37,7 +39,7 @@ returns-in_err-take_visit c start conds n h covered =
 
 pub loop-i-preserved : goal.loop-i-preserved
 loop-i-preserved c start conds n h covered =
-    let inv = c.loop-i.invariant start conds n h in
+    let inv = c.loop-i.invariant start conds n h covered in
     let acts = (made_at (board_of start) c.args.enc.now c.args.board.now.slots.items h.ready.at).actions in
     let place = c.takers_at.ensures ∙ ap (λ k. takers_place k c.args.visits c.loop-i.i) (c.requires.actions ∙ acts) ∙ ap (λ k. takers_place (action_count start.task) k c.loop-i.i) (sym n) in
     let less = (let l : c.loop-i.i < start.stages = omega (arith, n) in l) in
@@ -45,5 +47,5 @@ loop-i-preserved c start conds n h covered =
 
 pub returns : goal.returns
 returns c start conds n h covered =
-    let inv = c.loop-i.invariant start conds n h in
+    let inv = c.loop-i.invariant start conds n h covered in
     subst (HasPatrol start conds (c.loop-i.enc, c.loop-i.board.slots.items)) (let e : c.loop-i.i ≡ start.stages = omega (arith, n) in e) inv

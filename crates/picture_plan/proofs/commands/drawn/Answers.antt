@@ -16,8 +16,8 @@ returns-then-is_blank c =
       ap refused c.in_ok-no_initial-in-Ok.ensures,
     ))))
 
-pub returns-in_ok-dot_text-in-Ok : goal.returns-in_ok-dot_text-in-Ok
-returns-in_ok-dot_text-in-Ok c =
+pub returns-in_ok-text-in-Ok : goal.returns-in_ok-text-in-Ok
+returns-in_ok-text-in-Ok c =
     let n = fluent_count c.args.task.now in
     let picture = c.in-Ok.picture in
     let some : length picture.nodes.items ≡ 0 → ⊥ = search rules in

@@ -1,0 +1,7 @@
+use Rattle.std.proofs.Common.{◌≡◌, map, take}
+use Rattle.plan_rules.specs.Rules.{context_rule_of}
+use Rattle.controller_rules.specs.Checks.{run_value}
+use Rattle.controller_rules.proofs.run_rules.context_rules.Given as goal
+
+abbrev pub invariant-loop-rule : goal.invariant-loop-rule
+invariant-loop-rule l = map run_value l.made.items ≡ map context_rule_of (take l.rule-index l.rules)

@@ -1,0 +1,3 @@
+pub mod AsRun
+pub mod Checks
+pub mod Texts

@@ -1,0 +1,22 @@
+//! What the rules of a controller have beside their verdict, and its text.
+//!
+//! A controller is a plan that is followed by hand or by another program: of the rules that count the
+//! first decides. `rules_serve` says whether all rules that count in a configuration make the same
+//! move, in each that the plan may reach, and whether each rule serves; `names_last_context` whether
+//! there are no idle contexts; `is_plan_of` whether rules that were made by any search speak of a task
+//! at all. `write_controller` writes the text, with a comment before the rules that are first wanted after
+//! as many steps.
+//!
+//! `specs/AsRun` says what a plan is as it is run, and `specs/Texts` which bytes are printed.
+#![tactic(auto)]
+
+mod contexts;
+mod fits;
+mod run_rules;
+mod served;
+mod texts;
+
+pub use contexts::names_last_context;
+pub use fits::is_plan_of;
+pub use served::rules_serve;
+pub use texts::write_controller;

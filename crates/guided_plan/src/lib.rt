@@ -1,0 +1,45 @@
+//! Plans found by a heuristic search forward from the initial states. Nothing is promised of what is
+//! found but that the search ends: it is to be judged before it is used.
+//!
+//! `bits` has states and partial states, `conditions` and `choices` the conditions in them, `moves`
+//! the actions, `space` the domain's set of states, `states` the states by number. `net` is the
+//! relaxed task, in which what becomes false is passed over, and `wave` makes estimates by it
+//! (Hoffmann and Nebel, The FF planning system, 2001; Bonet and Geffner, Planning as heuristic
+//! search, 2001). `world` puts these together; `dead_ends`, `lessons`, `regress`, `exclusions` and
+//! `patterns` go from a dead end to all states like it. `finder` and `planner` make weak plans,
+//! `cyclic` and `closing` strong cyclic ones of them (Kuter, Nau, Reisner and Goldman, Using
+//! classical planners to solve nondeterministic planning problems, 2008; Fu, Ng, Bastani and Yen,
+//! Simple and fast strong cyclic planning, 2011; Muise, McIlraith and Beck, Improved non-deterministic
+//! planning by exploiting state relevance, 2012), `strong` and `vertices` strong ones (after
+//! Mattmüller, Ortlieb, Helmert and Bercher, Pattern database heuristics for fully observable
+//! nondeterministic planning, 2010); `policy` is what they make, and `plans` the answers.
+#![tactic(auto)]
+
+mod bits;
+mod choices;
+mod closing;
+mod conditions;
+mod cyclic;
+mod dead_ends;
+mod exclusions;
+mod finder;
+mod lessons;
+mod moves;
+mod net;
+mod numbers;
+mod patterns;
+mod planner;
+mod plans;
+mod policy;
+mod queues;
+mod regress;
+mod rows;
+mod space;
+mod states;
+mod stops;
+mod strong;
+mod vertices;
+mod wave;
+mod world;
+
+pub use plans::{Allowance, GuidedAnswer, GuidedStates, plan_guided};

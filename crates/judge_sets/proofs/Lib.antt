@@ -1,0 +1,11 @@
+pub mod RunTheory
+pub mod SetTheory
+pub mod SetSteps
+pub mod StepFacts
+pub mod ReadSteps
+pub mod ReadLoop
+pub mod SettleSteps
+pub mod GrowSteps
+pub mod ShrinkSteps
+pub mod JudgeSteps
+pub mod Agreeing

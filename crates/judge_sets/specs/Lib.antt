@@ -1,0 +1,5 @@
+pub mod FirstMatch
+pub mod TableSets
+pub mod Fixpoints
+pub mod WorkingSets
+pub mod Places

@@ -1,0 +1,92 @@
+//! The text of a page.
+
+ghost use Rattle.plan_page.specs.Pages.{data_object as data_of, framed_text, page_data, page_of};
+ghost use Rattle.plan_picture.specs.Values.{nodes_of};
+ghost use Rattle.plan_rules.specs.Rules.{plain_of};
+ghost use Rattle.serde_json.specs.View.{view};
+ghost use Rattle.std.specs.Prelude.{◌≡◌, IfOk};
+ghost use Rattle.task_core.specs.Tasks.{action_names, fluent_count, fluent_names, system_of};
+
+use crate::escaped::{push_escaped, push_text};
+use crate::frame::{page_head, page_tail};
+use crate::plans::plan_values;
+use crate::values::{
+    action_names as action_values, fluent_names as fluent_values, node_values, outcome_counts,
+};
+use plan_picture::Picture;
+use plan_rules::Plan;
+use serde_json::{Map, Value, put};
+use std::alloc::{AllocError, Global};
+use task_core::Task;
+
+/// The page of a plan for a task, with the plan's picture: the text of an HTML file.
+///
+/// The page takes the first nodes of the picture for the initial states in the order of the task's.
+pub fn page_text(
+    alloc: Global,
+    task: &Task,
+    plan: &Plan,
+    picture: &Picture,
+) -> Result<Vec<u8>, AllocError>
+    ensures { IfOk result (λ text. text.items
+        ≡ page_of (fluent_names task.now) (action_names task.now) (system_of task.now)
+        (plain_of plan.now) (nodes_of (fluent_count task.now) picture.now)) }
+{
+    let value = page_value(alloc, task, plan, picture)?;
+    let text = value.to_string(alloc)?;
+    framed(alloc, text.as_bytes())
+}
+
+/// A page with these data.
+fn framed(alloc: Global, json: &[u8]) -> Result<Vec<u8>, AllocError>
+    ensures { IfOk result (λ text. text.items ≡ framed_text json.now) }
+{
+    let mut out = Vec::new(alloc);
+    push_text(&mut out, page_head())?;
+    push_escaped(&mut out, json)?;
+    push_text(&mut out, page_tail())?;
+    Ok(out)
+}
+
+/// The data of a page.
+fn page_value(
+    alloc: Global,
+    task: &Task,
+    plan: &Plan,
+    picture: &Picture,
+) -> Result<Value, AllocError>
+    ensures { IfOk result (λ value. view value
+        ≡ page_data (fluent_names task.now) (action_names task.now) (system_of task.now)
+        (plain_of plan.now) (nodes_of (fluent_count task.now) picture.now)) }
+{
+    let values = plan_values(alloc, plan)?;
+    let mut members = Map::new(alloc);
+    put(&mut members, alloc, "rules", values.rules)?;
+    put(
+        &mut members,
+        alloc,
+        "outcomes",
+        outcome_counts(alloc, task)?,
+    )?;
+    put(
+        &mut members,
+        alloc,
+        "nodes",
+        node_values(alloc, task, &picture.nodes)?,
+    )?;
+    put(
+        &mut members,
+        alloc,
+        "fluents",
+        fluent_values(alloc, &task.fluents)?,
+    )?;
+    put(&mut members, alloc, "contexts", values.contexts)?;
+    put(&mut members, alloc, "class", values.class)?;
+    put(
+        &mut members,
+        alloc,
+        "actions",
+        action_values(alloc, &task.actions)?,
+    )?;
+    Ok(Value::from(members))
+}
