@@ -74,7 +74,7 @@ module _ (task : Task) (rules : List PlanRule) (graph : Graph) (g : IsGraphOfRul
     outside_states i e c =
         false≢true (sym e ∙ (states_where_holds task goal (state_at n graph i) (subst (λ ss. Contains ss (state_at n graph i)) (goal_states_of task goal is) c)).1)
 
-    goal_inside : (i : ℕ) → i < graph_size graph → is_goal_at n goal graph i ≡ true → Contains (goal_states sys) (state_at n graph i)
+    pub goal_inside : (i : ℕ) → i < graph_size graph → is_goal_at n goal graph i ≡ true → Contains (goal_states sys) (state_at n graph i)
     goal_inside i l e =
         let here = reached_state sys (table g.class rules) ((plain_graph n graph).configuration i) (is_system task) (g.is.reached i l) in
         subst (λ ss. Contains ss (state_at n graph i)) (sym (goal_states_of task goal is)) (states_where_has task goal (state_at n graph i) here.vector here.inside e)

@@ -3,6 +3,7 @@ use Rattle.std.specs.Prelude.{◌≡◌, ℕ, false, []}
 use Rattle.std.specs.List.{Contains}
 use Rattle.task_core.specs.Vectors.{Vector}
 use Rattle.task_core.specs.Systems.{System, goal_states}
+use Rattle.task_core.specs.Solutions.{MayEnd, MayReachGoal}
 use Rattle.task_core.specs.Tables.{IsTerminal, Table}
 use Rattle.task_core.specs.declared.conditions.Cond.{Cond}
 use Rattle.exec_graph.specs.Values.{followers_at}
@@ -18,3 +19,12 @@ pub record IsEndOutside (sys : System) (pairs : Table) (s : Vector) : Type 0 whe
 pub record IsNumberOutside (n : ℕ) (goal : Cond) (graph : Graph) (i : ℕ) : Type 0 where
   pub end : followers_at graph i ≡ []
   pub outside : is_goal_at n goal graph i ≡ false
+
+-- no path of the table leads from s to a terminal state
+abbrev pub IsEndless : System → Table → Vector → Type 0
+IsEndless sys pairs s = MayEnd sys pairs s → ⊥
+
+-- an initial state from which no path of the table leads to a terminal goal state
+pub record IsLostStart (sys : System) (pairs : Table) (s : Vector) : Type 0 where
+  pub initial : Contains sys.initial s
+  pub misses : MayReachGoal sys pairs s → ⊥

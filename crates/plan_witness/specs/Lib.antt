@@ -3,3 +3,4 @@ pub mod Ends
 pub mod Values
 pub mod Ways
 pub mod Marked
+pub mod Leading

@@ -6,10 +6,13 @@
 //! what the end of a run shows.
 #![tactic(auto)]
 
+mod leading;
 mod reasons;
 mod runs;
 mod steps;
+mod unreachable;
 mod ways;
 
 pub use reasons::{terminal_run, unexecutable_run};
 pub use runs::{Run, RunStep};
+pub use unreachable::{endless_run, lost_run};

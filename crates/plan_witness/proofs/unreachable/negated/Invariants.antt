@@ -1,0 +1,10 @@
+-- The marks so far.
+use Rattle.std.proofs.Common.{ℕ, ◌<◌, ◌≡◌, ◌↔◌, length}
+use Rattle.plan_check.specs.Walks.{IsMarked}
+use Rattle.plan_witness.proofs.unreachable.negated.Given as goal
+
+abbrev pub invariant-loop-i : goal.invariant-loop-i
+invariant-loop-i l = record {
+  count : length l.others.items ≡ l.i;
+  marked : (k : ℕ) → k < l.i → IsMarked l.others.items k ↔ (IsMarked l.marks k → ⊥);
+}

@@ -1,0 +1,205 @@
+//! The shortest runs that show that the goal, or an end, is out of reach.
+
+ghost use Rattle.std.specs.Prelude.{
+  ◌≡◌,
+  ◌<◌,
+  ◌↔◌,
+  All,
+  IfNone,
+  IfOk,
+  IfSome,
+  IsSome,
+  IsTrue,
+  [],
+  false,
+  length,
+  map,
+  nat_lt,
+  slice_index_or,
+  true,
+  ℕ,
+};
+ghost use Rattle.task_core.specs.Conditions.{ids_below};
+ghost use Rattle.task_core.specs.Tasks.{action_count, fluent_count, system_of};
+ghost use Rattle.plan_check.specs.Plain.{HasFollowersInside, IsGoalEnd};
+ghost use Rattle.plan_check.specs.Verdicts.{MayMissGoal, MayNeverEnd};
+ghost use Rattle.plan_check.specs.Walks.{IsMarked, LeadsToMarked};
+ghost use Rattle.plan_rules.specs.Denoted.{denoted};
+ghost use Rattle.plan_rules.specs.Plans.{IsRuleOf};
+ghost use Rattle.plan_rules.specs.Rules.{rule_of};
+ghost use Rattle.exec_graph.specs.Values.{IsWithinFluents, followers_at, graph_size};
+ghost use Rattle.plan_witness.specs.Ends.{IsEndless, IsLostStart};
+ghost use Rattle.plan_witness.specs.Leading.{IsMarkedStart};
+ghost use Rattle.plan_witness.specs.Marked.{IsGraphOfRules};
+ghost use Rattle.plan_witness.specs.Runs.{IsShortestRun};
+ghost use Rattle.plan_witness.specs.Values.{run_value};
+
+use crate::leading::leading;
+use crate::runs::{Run, shortest_run};
+use exec_graph::{Graph, Steps};
+use plan_rules::Rule;
+use std::alloc::{AllocError, Global};
+use std::sync::ledger::Ledger;
+use task_core::{Cond, Task, cond_holds};
+
+/// A shortest run to a state from which no path of the plan leads to a terminal state; `None`
+/// exactly where the plan may reach no such state.
+pub fn endless_run<L: Ledger>(
+    alloc: Global,
+    task: &Task,
+    rules: &[Rule],
+    graph: &Graph,
+    steps: &mut Steps<L>,
+) -> Result<Option<Run>, AllocError>
+    requires rules { let n = fluent_count task.now in let m = action_count task.now in
+        All (λ rule. IsRuleOf n m (rule_of rule)) rules.now }
+    requires graph { IsGraphOfRules task.now (map rule_of rules.now) graph.now }
+    requires within { IsWithinFluents (fluent_count task.now) graph.now }
+    ensures shortest { let n = fluent_count task.now in let sys = system_of task.now in
+        IfOk result (λ found. IfSome found (λ run. IsShortestRun sys (map rule_of rules.now)
+        (IsEndless sys (denoted sys (map rule_of rules.now))) (run_value n run))) }
+    ensures none { let sys = system_of task.now in IfOk result (λ found.
+        IfNone found (MayNeverEnd sys (denoted sys (map rule_of rules.now)) → ⊥)) }
+{
+    let ends = ends_of(alloc, graph)?;
+    let marks = not_leading(alloc, graph, &ends, steps)?;
+    shortest_run(alloc, task, rules, graph, &marks, steps)
+}
+
+/// The run of no step in an initial state from which no path of the plan leads to a terminal goal
+/// state; `None` exactly where there is no such state.
+pub fn lost_run<L: Ledger>(
+    alloc: Global,
+    task: &Task,
+    rules: &[Rule],
+    graph: &Graph,
+    steps: &mut Steps<L>,
+) -> Result<Option<Run>, AllocError>
+    requires goal { IsSome task.now.goal }
+    requires rules { let n = fluent_count task.now in let m = action_count task.now in
+        All (λ rule. IsRuleOf n m (rule_of rule)) rules.now }
+    requires graph { IsGraphOfRules task.now (map rule_of rules.now) graph.now }
+    requires within { IsWithinFluents (fluent_count task.now) graph.now }
+    ensures shortest { let n = fluent_count task.now in let sys = system_of task.now in
+        IfOk result (λ found. IfSome found (λ run. IsShortestRun sys (map rule_of rules.now)
+        (IsLostStart sys (denoted sys (map rule_of rules.now))) (run_value n run))) }
+    ensures none { let sys = system_of task.now in IfOk result (λ found.
+        IfNone found (MayMissGoal sys (denoted sys (map rule_of rules.now)) → ⊥)) }
+{
+    let ends = goal_ends(alloc, task.goal.as_ref().unwrap(), graph)?;
+    let lost = not_leading(alloc, graph, &ends, steps)?;
+    let marks = starts_among(alloc, graph, &lost)?;
+    shortest_run(alloc, task, rules, graph, &marks, steps)
+}
+
+/// A mark for each configuration that none follows.
+fn ends_of(alloc: Global, graph: &Graph) -> Result<Vec<bool>, AllocError>
+    ensures count { IfOk result (λ marks. length marks.items ≡ graph_size graph.now) }
+    ensures marked { IfOk result (λ marks. (i : ℕ) → i < graph_size graph.now
+        → IsMarked marks.items i ↔ (followers_at graph.now i ≡ [])) }
+{
+    let mut marks = Vec::new(alloc);
+    for i in 0..graph.len() {
+        marks.push(is_end(graph, i))?;
+    }
+    Ok(marks)
+}
+
+/// Whether none follows a configuration.
+fn is_end(graph: &Graph, number: u32) -> bool
+    requires { number < graph_size graph.now }
+    ensures { (result ≡ true) ↔ (followers_at graph.now number ≡ []) }
+{
+    graph.next_len(number) == 0
+}
+
+/// A mark for each configuration that none follows, in the goal.
+fn goal_ends(alloc: Global, goal: &Cond, graph: &Graph) -> Result<Vec<bool>, AllocError>
+    requires { IsTrue (ids_below 256 goal.now) }
+    ensures count { IfOk result (λ marks. length marks.items ≡ graph_size graph.now) }
+    ensures marked { IfOk result (λ marks. (n i : ℕ) → IsTrue (ids_below n goal.now)
+        → i < graph_size graph.now → IsMarked marks.items i ↔ IsGoalEnd n goal.now graph.now i) }
+{
+    let mut marks = Vec::new(alloc);
+    for i in 0..graph.len() {
+        marks.push(is_goal_end(goal, graph, i))?;
+    }
+    Ok(marks)
+}
+
+/// Whether none follows a configuration, and it is in the goal.
+fn is_goal_end(goal: &Cond, graph: &Graph, number: u32) -> bool
+    requires goal { IsTrue (ids_below 256 goal.now) }
+    requires number { number < graph_size graph.now }
+    ensures { (n : ℕ) → IsTrue (ids_below n goal.now)
+        → (result ≡ true) ↔ IsGoalEnd n goal.now graph.now number }
+{
+    if graph.next_len(number) != 0 {
+        return false;
+    }
+    cond_holds(goal, graph.state(number))
+}
+
+/// A mark for each configuration from which no walk leads to one of the ends.
+fn not_leading<L: Ledger>(
+    alloc: Global,
+    graph: &Graph,
+    ends: &[bool],
+    steps: &mut Steps<L>,
+) -> Result<Vec<bool>, AllocError>
+    requires inside { HasFollowersInside graph.now }
+    requires count { length ends.now ≡ graph_size graph.now }
+    ensures count { IfOk result (λ marks. length marks.items ≡ graph_size graph.now) }
+    ensures marked { IfOk result (λ marks. (i : ℕ) → i < graph_size graph.now
+        → IsMarked marks.items i ↔ (LeadsToMarked (followers_at graph.now) ends.now i → ⊥)) }
+{
+    let lead = leading(alloc, graph, ends, steps)?;
+    negated(alloc, &lead)
+}
+
+/// A mark for each number without one.
+fn negated(alloc: Global, marks: &[bool]) -> Result<Vec<bool>, AllocError>
+    ensures count { IfOk result (λ others. length others.items ≡ length marks.now) }
+    ensures marked { IfOk result (λ others. (i : ℕ) → i < length marks.now
+        → IsMarked others.items i ↔ (IsMarked marks.now i → ⊥)) }
+{
+    let mut others = Vec::new(alloc);
+    for i in 0..marks.len() {
+        others.push(!has_mark(marks, i))?;
+    }
+    Ok(others)
+}
+
+/// Whether a number has a mark.
+fn has_mark(marks: &[bool], number: usize) -> bool
+    requires { number < length marks.now }
+    ensures { result ≡ slice_index_or marks.now number false }
+{
+    marks[number]
+}
+
+/// A mark for each configuration with one in which an execution may begin.
+fn starts_among(alloc: Global, graph: &Graph, marks: &[bool]) -> Result<Vec<bool>, AllocError>
+    requires { length marks.now ≡ graph_size graph.now }
+    ensures count { IfOk result (λ starts. length starts.items ≡ graph_size graph.now) }
+    ensures marked { IfOk result (λ starts. (i : ℕ) → i < graph_size graph.now
+        → IsMarked starts.items i ↔ IsMarkedStart graph.now marks.now i) }
+{
+    let mut starts = Vec::new(alloc);
+    for i in 0..graph.len() {
+        starts.push(is_marked_start(graph, marks, i))?;
+    }
+    Ok(starts)
+}
+
+/// Whether an execution may begin in a configuration, and it has a mark.
+fn is_marked_start(graph: &Graph, marks: &[bool], number: u32) -> bool
+    requires count { length marks.now ≡ graph_size graph.now }
+    requires number { number < graph_size graph.now }
+    ensures { (result ≡ true) ↔ IsMarkedStart graph.now marks.now number }
+{
+    if !graph.initial(number) {
+        return false;
+    }
+    has_mark(marks, number as usize)
+}
