@@ -1,15 +1,14 @@
 //! Sets whose fluents are variables in another order: every operation against truth tables, and the
 //! cubes beside those of sets in the order of the fluents.
-ghost use Rattle.std.specs.Prelude.{◌≡◌, ◌<◌, ◌≤◌, All, IfOk, length};
+ghost use Rattle.std.specs.Prelude.{◌≤◌, All, length};
 ghost use Rattle.dd_sets.specs.LiveSets.{IsLive};
 ghost use Rattle.dd_sets.specs.Rebuilt.{IsListingOf};
 
 use crate::set_tests::{Known, all_sets, every_set_agrees, pick};
 use dd_nodes::DdErr;
-use dd_sets::{ListErr, Listing, Order, SetErr, SetId, Sets};
+use dd_sets::{ListErr, Listing, Order, SetErr, Sets};
 use std::alloc::Global;
 use std::test::Fail;
-use task_core::FluentId;
 
 /// Whether every operation answers at every set over three of the fluents that have these places.
 fn agrees_in_order(alloc: Global, places: &[usize]) -> Result<bool, Fail>
@@ -104,45 +103,6 @@ fn no_two_fluents_have_one_place(rt: HostRuntime) -> Result<(), Fail> {
     assert!(rt; has_order(rt.alloc(), &[1, 0])?);
     assert!(rt; !has_order(rt.alloc(), &[1, 1])?);
     assert!(rt; !has_order(rt.alloc(), &[0, 2])?);
-    Ok(())
-}
-
-/// The lists in which two fluents are true, or another set's.
-fn with_pair(sets: &mut Sets, set: SetId, a: u32, b: u32) -> Result<SetId, SetErr>
-    requires vars { sets.old.vars ≡ 6 }
-    requires a { a < 6 }
-    requires b { b < 6 }
-    requires live { IsLive sets.old set.0 }
-    ensures vars { sets.new.vars ≡ 6 }
-    ensures live { IfOk result (λ made. IsLive sets.new made.0) }
-{
-    let a = sets.of_fluent(FluentId(a))?;
-    let b = sets.of_fluent(FluentId(b));
-    let pair = sets.in_both(a, b);
-    sets.in_some(set, pair)
-}
-
-/// Whether the cubes of three pairs of fluents find no room, where each pair stands side by side and the
-/// table has room for a dozen nodes: in the fluents' own order they have fourteen.
-fn pairs_find_no_room(alloc: Global) -> Result<bool, Fail> {
-    let order = Order::of_places(alloc, &[0, 2, 4, 1, 3, 5])?.ok_or("the places have no order")?;
-    let mut sets = Sets::new_in_order(alloc, order, 12)?;
-    no_room_for_pairs(&mut sets)
-}
-
-fn no_room_for_pairs(sets: &mut Sets) -> Result<bool, Fail>
-    requires { sets.old.vars ≡ 6 }
-{
-    let none = sets.none()?;
-    let one = with_pair(sets, none, 0, 3)?;
-    let two = with_pair(sets, one, 1, 4)?;
-    let three = with_pair(sets, two, 2, 5)?;
-    Ok(matches!(sets.cubes(three, &mut Listing::new()), Err(ListErr::Full)))
-}
-
-#[test]
-fn cubes_without_room_are_not_want_of_memory(rt: HostRuntime) -> Result<(), Fail> {
-    assert!(rt; pairs_find_no_room(rt.alloc())?);
     Ok(())
 }
 
