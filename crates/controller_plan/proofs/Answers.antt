@@ -1,6 +1,6 @@
 -- From what follows the reading of both files to the answer, and from the answer to a run.
 use Rattle.std.proofs.Common.{◌≡◌, ◌⊎◌, ◌≤◌, ℕ, inl, inr, sym, subst, ap, ◌∙◌, None, true}
-use Rattle.std.specs.Prelude.{IfErr, IfOk, Result, Ok, Err}
+use Rattle.std.specs.Prelude.{IfErr, IfOk, IfSome, Option, Result, Ok, Err, Some}
 use Rattle.pddl_ast.specs.Trees.{DomainTree, ProblemTree}
 use Rattle.pddl_system.specs.Sizes.{first_passed}
 use Rattle.plan_io.specs.Fetches.{FetchesNothing}
@@ -18,7 +18,7 @@ use Rattle.command_base.specs.declared.answers.Refusal.{Refusal as CodeRefusal}
 use Rattle.command_base.specs.declared.answers.Shown.{Shown}
 use Rattle.command_base.specs.Frame.{FailedIn}
 use Rattle.command_base.proofs.Frames.{IsGivenFor, is_run}
-use Rattle.controller_plan.specs.Controllers.{AffirmsNothing, ControlThen, IsControlAnswer, IsControlled, IsControllerShown}
+use Rattle.controller_plan.specs.Controllers.{AffirmsNothing, ControlThen, IsControlAnswer, IsControlled, IsControllerShown, IsRefuted}
 use Rattle.controller_plan.specs.Judged.{IsControlRefusal}
 use Rattle.controller_plan.specs.Runs.{ControlRun, FetchesForControl, HasControlCause, HasControlled}
 use Rattle.controller_plan.specs.Words.{AskNothing, ControlWords, SaysControl}
@@ -53,7 +53,7 @@ pub of_plan : (asked : ControlWords) (d : DomainTree) (p : ProblemTree) (a : Ans
     → (a ≡ refused no_memory) ⊎ (MayBeTooFew asked.plan d p × (a ≡ refused (full asked.plan.options.nodes))) ⊎ ControlThen asked d p a
 of_plan asked d p a none (inl memory) = inl memory
 of_plan asked d p a none (inr (inl few)) = inr (inl few)
-of_plan asked d p a none (inr (inr then)) = inr (inr (inr (inr (then, none))))
+of_plan asked d p a none (inr (inr then)) = inr (inr (inr (inr (inr (inr (then, none))))))
 
 pub denied_affirms_nothing : (text : Bytes) → AffirmsNothing (denied text)
 denied_affirms_nothing text other is = cc is
@@ -65,14 +65,33 @@ refused_affirms_nothing refusal other is = cc is
 pub limited : (asked : ControlWords) (d : DomainTree) (p : ProblemTree) (r : Refusal) → IsControlRefusal asked d p r
     → (refused r ≡ refused no_memory) ⊎ (MayBeTooFew asked.plan d p × (refused r ≡ refused (full asked.plan.options.nodes))) ⊎ ControlThen asked d p (refused r)
 limited asked d p r (inl memory) = inl (ap refused memory)
-limited asked d p r (inr (name, passed, is)) = inr (inr (inr (inl (name, passed, ap refused is))))
+limited asked d p r (inr (inl (name, passed, is))) = inr (inr (inr (inl (name, passed, ap refused is))))
+limited asked d p r (inr (inr (no_room, is))) = inr (inr (inr (inr (inl (no_room, ap refused is)))))
 
--- an answer is that of a controller, or why none is shown
-pub controlled : (asked : ControlWords) (d : DomainTree) (p : ProblemTree) (r : Result Shown CodeRefusal) → IfOk r (λ shown. IsControllerShown asked d p (shown_of shown))
+-- an answer is one that a search found, or why none is shown
+pub controlled : (asked : ControlWords) (d : DomainTree) (p : ProblemTree) (r : Result Shown CodeRefusal) → IfOk r (λ shown. ControlThen asked d p (shown_of shown))
     → IfErr r (λ refusal. IsControlRefusal asked d p (refusal_of refusal))
     → (answer_of r ≡ refused no_memory) ⊎ (MayBeTooFew asked.plan d p × (answer_of r ≡ refused (full asked.plan.options.nodes))) ⊎ ControlThen asked d p (answer_of r)
-controlled asked d p (Ok shown) is why = inr (inr (inl is))
+controlled asked d p (Ok shown) is why = inr (inr is)
 controlled asked d p (Err refusal) is why = limited asked d p (refusal_of refusal) why
+
+-- what a search finds, as an answer: a controller, or that there is no plan
+pub controller_then : (asked : ControlWords) (d : DomainTree) (p : ProblemTree) (r : Result (Option Shown) CodeRefusal) → IfOk r (λ found. IfSome found (λ shown. IsControllerShown asked d p (shown_of shown)))
+    → IfOk r (λ found. IfSome found (λ shown. ControlThen asked d p (shown_of shown)))
+controller_then asked d p (Ok (Some shown)) is = inl is
+controller_then asked d p (Ok None) is = tt
+controller_then asked d p (Err refusal) is = tt
+
+pub refuted_then : (asked : ControlWords) (d : DomainTree) (p : ProblemTree) (r : Result (Option Shown) CodeRefusal) → IfOk r (λ found. IfSome found (λ shown. IsRefuted asked d p (shown_of shown)))
+    → IfOk r (λ found. IfSome found (λ shown. ControlThen asked d p (shown_of shown)))
+refuted_then asked d p (Ok (Some shown)) is = inr (inr (inr (inl is)))
+refuted_then asked d p (Ok None) is = tt
+refuted_then asked d p (Err refusal) is = tt
+
+pub memory_then : (asked : ControlWords) (d : DomainTree) (p : ProblemTree) (r : Result (Option Shown) CodeRefusal) → IfErr r (λ refusal. refusal_of refusal ≡ no_memory)
+    → IfErr r (λ refusal. IsControlRefusal asked d p (refusal_of refusal))
+memory_then asked d p (Ok found) is = tt
+memory_then asked d p (Err refusal) is = inl is
 
 -- the plan that `plan` finds, where it affirms
 pub plan_found : (asked : ControlWords) (d : DomainTree) (p : ProblemTree) (text : Bytes) (found : Answer) → found ≡ affirmed text

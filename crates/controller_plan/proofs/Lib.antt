@@ -1,6 +1,8 @@
 pub mod Answers
 pub mod Limits
 pub mod OneAsked
+pub mod NoPlans
+pub mod RuleRooms
 pub mod RunLaws
 pub mod Tables
 pub mod WordLists

@@ -1,5 +1,5 @@
 -- What follows from a run that has its cause.
-use Rattle.std.proofs.Common.{◌≡◌, ◌⊎◌, ℕ, true, false, List, inl, inr, refl, sym, subst, ap, ◌∙◌, arith}
+use Rattle.std.proofs.Common.{◌≡◌, ◌⊎◌, ℕ, Bool, true, false, List, inl, inr, refl, sym, subst, ap, ◌∙◌, arith}
 use Rattle.std.specs.Io.KnownBytes.{append_known}
 use Rattle.pddl_ast.specs.Trees.{DomainTree, ProblemTree}
 use Rattle.pddl_system.specs.Systems.{system}
@@ -10,15 +10,21 @@ use Rattle.command_base.specs.Delivery.{Seen}
 use Rattle.command_base.specs.Grounding.{GroundThen}
 use Rattle.command_base.specs.InitialStates.{empty_init}
 use Rattle.command_base.specs.PddlTexts.{HoldBoth}
-use Rattle.plan_command.specs.PlanCommand.{HasNoPlan, IsNoPlanText, IsPlanResult, IsResultOf, no_plan_text}
-use Rattle.command_base.specs.Words.{Bytes, PlanKind, of_class, with_contexts}
+use Rattle.plan_command.specs.PlanCommand.{HasNoPlan, IsNoPlanText, IsPlanResult, IsResultOf}
+use Rattle.plan_meets.specs.Meets.{pairs}
+use Rattle.plan_certs.proofs.PrintedLemmas.{printed_accepted, printed_class}
+use Rattle.pddl_system.proofs.States.{they_have_a_system}
+use Rattle.task_core.specs.Solutions.{HasNoSolution}
+use Rattle.std.proofs.lemmas.Bool.{true≢false}
+use Rattle.command_base.specs.Words.{Bytes, MayBeCertified, PlanKind, of_class, with_contexts}
 use Rattle.command_base.proofs.Initials.{shown_initial}
 use Rattle.command_base.proofs.PddlDecides.{ReadFor, not_refused, shown_both, shown_goal, shown_grounded}
 use Rattle.command_base.proofs.Statuses.{shown_at, whole_delivery, written_shown}
-use Rattle.controller_plan.specs.Controllers.{ControlThen, IsControlAnswer, IsControlled, IsControllerShown}
+use Rattle.controller_plan.specs.Controllers.{ControlThen, IsControlAnswer, IsControlled, IsControllerShown, IsNoPlanShown}
 use Rattle.controller_plan.specs.Laws.{IsControllerRun, IsNoPlanRun}
 use Rattle.controller_plan.specs.Runs.{ControlRun, HasControlCause, HasControlled}
 use Rattle.controller_plan.specs.Words.{ControlWords, SaysControl}
+use Rattle.controller_plan.proofs.Answers.{denied_affirms_nothing}
 use Rattle.controller_plan.proofs.OneAsked.{one_asked}
 
 -- the trees that the files spell, and what follows for a shown answer
@@ -73,33 +79,59 @@ controller_for : (asked : ControlWords) (d : DomainTree) (p : ProblemTree) (a : 
     → ControlThen asked d p a → IsControllerShown asked d p a
 controller_for asked d p a text is shown (inl controller) = controller
 controller_for asked d p a text is shown (inr (inl (name, is_name, refused_is))) = absurd (not_refused _ a refused_is shown)
-controller_for asked d p a text is shown (inr (inr (plan, none))) = absurd (none text is)
+controller_for asked d p a text is shown (inr (inr (inl (no_room, refused_is)))) = absurd (not_refused _ a refused_is shown)
+controller_for asked d p a text is shown (inr (inr (inr (inl refuted)))) = absurd (denied_affirms_nothing refuted.text text (sym refuted.shown ∙ is))
+controller_for asked d p a text is shown (inr (inr (inr (inr (plan, none))))) = absurd (none text is)
 
--- there is no plan where it denies
-uncertified : (kind : PlanKind) (d : DomainTree) (p : ProblemTree) (text : Bytes) → IsNoPlanText false kind d p text → text ≡ no_plan_text
-uncertified (of_class class) d p text is = is
-uncertified with_contexts d p text is = is
+-- what is told where there is no plan
+pub record MissingFor (asked : ControlWords) (d : DomainTree) (p : ProblemTree) (a : Answer) : Type 0 where
+  pub text : Bytes
+  pub shown : a ≡ denied text
+  pub none : HasNoPlan asked.plan.kind d p
+  pub told : IsNoPlanShown asked.plan.certified asked.plan.kind d p text
 
-plan_missing : (kind : PlanKind) (d : DomainTree) (p : ProblemTree) (a : Answer) → ((text : Bytes) → a ≡ affirmed text → ⊥) → IsPlanResult false kind d p a
-    → (a ≡ denied no_plan_text) × HasNoPlan kind d p
-plan_missing kind d p a none (inl found) = absurd (none found.text found.shown)
-plan_missing kind d p a none (inr missing) = (missing.shown ∙ ap denied (uncertified kind d p missing.text missing.written), missing.none)
+-- what `plan` tells where there is none
+told_by_plan : (certified : Bool) (kind : PlanKind) (d : DomainTree) (p : ProblemTree) (text : Bytes) → MayBeCertified kind certified → HasNoPlan kind d p → IsNoPlanText certified kind d p text
+    → IsNoPlanShown certified kind d p text
+told_by_plan false (of_class class) d p text may none is = is
+told_by_plan false with_contexts d p text may none is = is
+told_by_plan true (of_class class) d p text may none is =
+    let none_solves : HasNoSolution class (system d p) = λ rows table solves. none (pairs rows) (table, solves) in
+    record {
+      certificate = is.certificate;
+      of_class = ap of_class (sym (printed_class class (system d p) is.certificate is.printed));
+      accepted = printed_accepted class (system d p) is.certificate (they_have_a_system d p) is.printed none_solves;
+      spelled = is.spelled;
+      written = is.written;
+    }
+told_by_plan true with_contexts d p text may none is = absurd (true≢false may)
 
-result_missing : (kind : PlanKind) (name : Bytes) (d : DomainTree) (p : ProblemTree) (a : Answer) → is_shown a ≡ true → ((text : Bytes) → a ≡ affirmed text → ⊥)
-    → IsResultOf false kind name d p a → (a ≡ denied no_plan_text) × HasNoPlan kind d p
-result_missing (of_class class) name d p a shown none result =
-    plan_missing (of_class class) d p a none (shown_initial (empty_init name p) (system d p).initial (IsPlanResult false (of_class class) d p) a shown result)
-result_missing with_contexts name d p a shown none (inl (no_chain, is)) = absurd (not_refused _ a is shown)
-result_missing with_contexts name d p a shown none (inr (chain, is_chain, inl (many, is))) = absurd (not_refused _ a is shown)
-result_missing with_contexts name d p a shown none (inr (chain, is_chain, inr (few, result))) =
-    plan_missing with_contexts d p a none (shown_initial (empty_init name p) (system d p).initial (IsPlanResult false with_contexts d p) a shown result)
+plan_missing : (asked : ControlWords) (d : DomainTree) (p : ProblemTree) (a : Answer) → MayBeCertified asked.plan.kind asked.plan.certified → ((text : Bytes) → a ≡ affirmed text → ⊥)
+    → IsPlanResult asked.plan.certified asked.plan.kind d p a → MissingFor asked d p a
+plan_missing asked d p a may none (inl found) = absurd (none found.text found.shown)
+plan_missing asked d p a may none (inr missing) = record {
+  text = missing.text;
+  shown = missing.shown;
+  none = missing.none;
+  told = told_by_plan asked.plan.certified asked.plan.kind d p missing.text may missing.none missing.written;
+}
 
-missing_for : (asked : ControlWords) (d : DomainTree) (p : ProblemTree) (a : Answer) → asked.plan.certified ≡ false → is_shown a ≡ true → ((text : Bytes) → a ≡ affirmed text → ⊥)
-    → ControlThen asked d p a → (a ≡ denied no_plan_text) × HasNoPlan asked.plan.kind d p
-missing_for asked d p a plain shown none (inl controller) = absurd (none _ controller.shown)
-missing_for asked d p a plain shown none (inr (inl (name, is_name, is))) = absurd (not_refused _ a is shown)
-missing_for asked d p a plain shown none (inr (inr (plan, nothing))) =
-    result_missing asked.plan.kind asked.plan.problem d p a shown none (subst (λ b. IsResultOf b asked.plan.kind asked.plan.problem d p a) plain plan)
+-- after the initial states, of a class and with contexts
+result_missing : (kind : PlanKind) (certified : Bool) (name : Bytes) (d : DomainTree) (p : ProblemTree) (a : Answer) → is_shown a ≡ true → IsResultOf certified kind name d p a → IsPlanResult certified kind d p a
+result_missing (of_class class) certified name d p a shown result = shown_initial (empty_init name p) (system d p).initial (IsPlanResult certified (of_class class) d p) a shown result
+result_missing with_contexts certified name d p a shown (inl (no_chain, is)) = absurd (not_refused _ a is shown)
+result_missing with_contexts certified name d p a shown (inr (chain, is_chain, inl (many, is))) = absurd (not_refused _ a is shown)
+result_missing with_contexts certified name d p a shown (inr (chain, is_chain, inr (few, result))) =
+    shown_initial (empty_init name p) (system d p).initial (IsPlanResult certified with_contexts d p) a shown result
+
+missing_for : (asked : ControlWords) (d : DomainTree) (p : ProblemTree) (a : Answer) → MayBeCertified asked.plan.kind asked.plan.certified → is_shown a ≡ true → ((text : Bytes) → a ≡ affirmed text → ⊥)
+    → ControlThen asked d p a → MissingFor asked d p a
+missing_for asked d p a may shown none (inl controller) = absurd (none _ controller.shown)
+missing_for asked d p a may shown none (inr (inl (name, is_name, is))) = absurd (not_refused _ a is shown)
+missing_for asked d p a may shown none (inr (inr (inl (no_room, is)))) = absurd (not_refused _ a is shown)
+missing_for asked d p a may shown none (inr (inr (inr (inl refuted)))) = record { text = refuted.text; shown = refuted.shown; none = refuted.none; told = refuted.told }
+missing_for asked d p a may shown none (inr (inr (inr (inr (plan, nothing))))) =
+    plan_missing asked d p a may none (result_missing asked.plan.kind asked.plan.certified asked.plan.problem d p a shown plan)
 
 module _ {S : Type 0} (held : S → Bytes → Held) (faults : S → ℕ) (fetched : S → Bytes → S → Type 0) (run : ControlRun S) (has : HasControlled held faults fetched run) where
   abbrev failed : Bytes → Type 0
@@ -124,6 +156,6 @@ module _ {S : Type 0} (held : S → Bytes → Held) (faults : S → ℕ) (fetche
       let code : status_of a ≡ 1 = sym whole.0 ∙ one in
       let shown = shown_at a (inr code) in
       let found = shown_cause (held run.shelf) failed run.words asked a shown says has.cause in
-      let missing = missing_for asked found.domain found.problem a says.plain shown (denies a shown code) found.then in
-      let written = written_shown a no_plan_text run.out run.out_after run.err run.err_after whole.1 shown (ap text_of missing.0) in
-      (found.domain, found.problem, found.both, missing.1, written)
+      let missing = missing_for asked found.domain found.problem a says.plan.for_class shown (denies a shown code) found.then in
+      let written = written_shown a missing.text run.out run.out_after run.err run.err_after whole.1 shown (ap text_of missing.shown) in
+      (found.domain, found.problem, missing.text, found.both, missing.none, missing.told, written)

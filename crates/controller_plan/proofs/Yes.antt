@@ -1,21 +1,28 @@
 -- What is judged to be good is a controller.
-use Rattle.std.proofs.Common.{◌≡◌, ◌<◌, ◌≤◌, ◌∙◌, ap, ℕ, Bool, false, true, List, length, refl, subst, Option, None, Some}
+use Rattle.std.proofs.Common.{◌≡◌, ◌↔◌, ◌<◌, ◌≤◌, ◌∙◌, ap, ℕ, Bool, false, true, List, length, refl, subst, sym, Option, None, Some, inl, inr}
 use Rattle.std.specs.Prelude.{Vec}
 use Rattle.std.specs.declared.alloc.Global.{Global}
-use Rattle.controller_rules.specs.AsRun.{HasNoDeadRule, HasOneMove}
+use Rattle.controller_rules.specs.AsRun.{HasNoDeadRule, HasNoHiddenRule, HasOneMove, NamesLastContext}
 use Rattle.controller_rules.specs.Texts.{IsTextWithin, controller_text}
 use Rattle.controller_rules.proofs.AsRunTables.{run_is_table, run_solves}
 use Rattle.ground_task.specs.declared.grounding.Grounded.{Grounded}
 use Rattle.pddl_ast.specs.Trees.{DomainTree, ProblemTree}
 use Rattle.pddl_system.specs.Laws.{GroundedGoalsAreTrue}
+use Rattle.pddl_system.proofs.States.{they_have_a_system}
 use Rattle.pddl_system.specs.Systems.{action_names, fluent_names, system}
 use Rattle.plan_check.specs.Verdicts.{SaysYes}
+use Rattle.plan_document.specs.Faithful.{IsToldInFull}
+use Rattle.plan_command.specs.PlanCommand.{IsWrittenFor}
+use Rattle.first_match.specs.FirstMatch.{AreGoodAsRun}
+use Rattle.controller_rules.specs.Unlisted.{AreGoodUnlisted}
+use Rattle.plan_meets.proofs.Meetings.{table_meets}
+use Rattle.task_core.specs.declared.classes.Class.{Class}
 use Rattle.plan_check.specs.declared.verdicts.Verdict.{Verdict}
 use Rattle.plan_check.specs.declared.verdicts.Verdict.TheVariants.{Yes, No}
 use Rattle.plan_rules.specs.Readings.{SpellsPlain}
-use Rattle.plan_rules.specs.Rules.{PlainPlan, automaton, table}
+use Rattle.plan_rules.specs.Rules.{PlainPlan, PlanRule, automaton, table}
 use Rattle.task_core.specs.Names.{Name}
-use Rattle.task_core.specs.Systems.{System}
+use Rattle.task_core.specs.Systems.{IsSystem, System}
 use Rattle.task_core.specs.Tasks.{action_names as names_of_actions, fluent_names as names_of_fluents}
 use Rattle.command_base.specs.Answers.{Answer, affirmed}
 use Rattle.command_base.specs.Grounded.{IsGroundedOf}
@@ -28,8 +35,13 @@ use Rattle.check_command.proofs.CheckAnswers.{goal_in, verdict_for}
 use Rattle.check_command.proofs.YesMeets.{YesSolves, yes_is_met}
 use Rattle.command_base.proofs.TaskNames.{same_actions, same_fluents}
 use Rattle.controller_plan.specs.Controllers.{HasLongText, IsController, IsControllerShown, run_meaning, shown_bytes, text_for}
-use Rattle.controller_plan.specs.Judged.{IsJudged, bytes_as}
+use Rattle.controller_plan.specs.Judged.{HasNoGraph, IsFoundGood, IsGoodAlong, IsJudged, IsTableGoodOnSets, bytes_as}
+use Rattle.controller_plan.proofs.Limits.{too_much}
 use Rattle.controller_plan.specs.Words.{ControlWords}
+
+-- what is known of rules that are good as they are run
+abbrev pub GoodRulesControl : Type 0
+GoodRulesControl = (class : Class) (sys : System) (rules : List PlanRule) → IsSystem sys → AreGoodAsRun class sys rules ↔ AreGoodUnlisted class sys rules
 
 -- a goal of the task where the problem has one
 pub has_goal : (kind : PlanKind) (d : DomainTree) (p : ProblemTree) (g : Grounded) → IsGroundedOf d p g → has_goal_for kind p ≡ true → HasGoalIn kind g.task g.ctl
@@ -52,23 +64,53 @@ runs (of_class class) d p (automaton contexts rules) (meaning, is, met) one = ab
 runs with_contexts d p (table written rules) (meaning, (follow, is), met) one = absurd (subst (Meets with_contexts d p) is met)
 runs with_contexts d p (automaton contexts rules) (meaning, is, met) one = subst (Meets with_contexts d p) is met
 
--- what was judged is a controller
-pub judged_controller : GroundedGoalsAreTrue → YesSolves → (kind : PlanKind) (d : DomainTree) (p : ProblemTree) (g : Grounded) (plan : PlainPlan)
-    → IsGroundedOf d p g → IsJudged kind g.task g.ctl plan → IsController kind d p plan
-judged_controller true_goals law kind d p g plan of judged =
-    let good = judged.found in
+-- what was found along a graph is a controller
+along : GroundedGoalsAreTrue → YesSolves → (kind : PlanKind) (d : DomainTree) (p : ProblemTree) (g : Grounded) (plan : PlainPlan)
+    → IsGroundedOf d p g → IsWrittenFor kind plan → NamesLastContext plan → IsToldInFull plan → IsGoodAlong kind g.task g.ctl plan → IsController kind d p plan
+along true_goals law kind d p g plan of written contexts told good =
     let met = verdict_meets true_goals law kind d p g plan good.good.verdict of good.good.of_plan good.good.says_yes in
     let one = subst (λ (sys : System). HasOneMove sys plan) of.of_task.system_is good.one_move in
     record {
-      written = judged.written;
+      written = written;
       begins = λ none. good.begins (ap (λ (sys : System). sys.initial) of.of_task.system_is ∙ none);
       meets = met;
       run_meets = runs kind d p plan met one;
       one_move = one;
-      no_dead_rule = subst (λ (sys : System). HasNoDeadRule sys plan) of.of_task.system_is good.no_dead_rule;
-      contexts = judged.contexts;
-      told = judged.told;
+      no_idle_rule = inl (subst (λ (sys : System). HasNoDeadRule sys plan) of.of_task.system_is good.no_dead_rule);
+      contexts = contexts;
+      told = told;
     }
+
+-- and what was found on sets
+on_sets : GoodRulesControl → (kind : PlanKind) (d : DomainTree) (p : ProblemTree) (g : Grounded) (plan : PlainPlan)
+    → IsGroundedOf d p g → IsWrittenFor kind plan → NamesLastContext plan → IsToldInFull plan → HasNoGraph g.task plan → IsTableGoodOnSets kind g.task plan → IsController kind d p plan
+on_sets control (of_class class) d p g (table written rules) of is_written contexts told large good =
+    let sys = system d p in
+    let are = (control class sys rules (they_have_a_system d p)).0 (subst (λ (s : System). AreGoodAsRun class s rules) of.of_task.system_is good.good) in
+    let met = table_meets class written d p rules are.followed are.solve in
+    record {
+      written = is_written;
+      begins = λ none. good.begins (ap (λ (s : System). s.initial) of.of_task.system_is ∙ none);
+      meets = met;
+      run_meets = runs (of_class class) d p (table written rules) met are.one_move;
+      one_move = are.one_move;
+      no_idle_rule = inr (too_much d p g.task (table written rules) of.of_task large, subst (λ (c : Class). HasNoHiddenRule sys (table c rules)) (sym is_written) are.no_hidden_rule);
+      contexts = contexts;
+      told = told;
+    }
+on_sets control (of_class class) d p g (automaton contexts rules) of is_written last told large never = absurd never
+on_sets control with_contexts d p g plan of is_written last told large never = absurd never
+
+found_controller : GroundedGoalsAreTrue → YesSolves → GoodRulesControl → (kind : PlanKind) (d : DomainTree) (p : ProblemTree) (g : Grounded) (plan : PlainPlan)
+    → IsGroundedOf d p g → IsWrittenFor kind plan → NamesLastContext plan → IsToldInFull plan → IsFoundGood kind g.task g.ctl plan → IsController kind d p plan
+found_controller true_goals law control kind d p g plan of written contexts told (inl good) = along true_goals law kind d p g plan of written contexts told good
+found_controller true_goals law control kind d p g plan of written contexts told (inr (large, good)) = on_sets control kind d p g plan of written contexts told large good
+
+-- what was judged is a controller
+pub judged_controller : GroundedGoalsAreTrue → YesSolves → GoodRulesControl → (kind : PlanKind) (d : DomainTree) (p : ProblemTree) (g : Grounded) (plan : PlainPlan)
+    → IsGroundedOf d p g → IsJudged kind g.task g.ctl plan → IsController kind d p plan
+judged_controller true_goals law control kind d p g plan of judged =
+    found_controller true_goals law control kind d p g plan of judged.written judged.contexts judged.told judged.found
 
 -- a text that is within a length
 text_is : (most : ℕ) (text : List ℕ) (found : Option (Vec ℕ Global)) (bytes : Vec ℕ Global) → found ≡ Some bytes → IsTextWithin most text found → (bytes.items ≡ text) × (length text ≤ most)
@@ -96,27 +138,27 @@ shown_over asked d p plan steps bytes a fs as' same_fs same_as controller text s
       shown = all.2 ∙ ap affirmed (by_json asked.json d p plan steps bytes all.0.0);
     }
 
-pub shown_controller : GroundedGoalsAreTrue → YesSolves → (asked : ControlWords) (d : DomainTree) (p : ProblemTree) (g : Grounded) (plan : PlainPlan) (steps : List ℕ) (found : Option (Vec ℕ Global)) (bytes : Vec ℕ Global) (a : Answer)
+pub shown_controller : GroundedGoalsAreTrue → YesSolves → GoodRulesControl → (asked : ControlWords) (d : DomainTree) (p : ProblemTree) (g : Grounded) (plan : PlainPlan) (steps : List ℕ) (found : Option (Vec ℕ Global)) (bytes : Vec ℕ Global) (a : Answer)
     → IsGroundedOf d p g → IsJudged asked.plan.kind g.task g.ctl plan → found ≡ Some bytes
     → IsTextWithin file_limit (controller_text (names_of_fluents g.task) (names_of_actions g.task) plan steps) found
     → SpellsPlain (names_of_fluents g.task) (names_of_actions g.task) (controller_text (names_of_fluents g.task) (names_of_actions g.task) plan steps) plan
     → a ≡ affirmed (bytes_as asked.json (names_of_fluents g.task) (names_of_actions g.task) plan bytes.items) → IsControllerShown asked d p a
-shown_controller true_goals law asked d p g plan steps found bytes a of judged is within spells shown =
+shown_controller true_goals law control asked d p g plan steps found bytes a of judged is within spells shown =
     shown_over asked d p plan steps bytes.items a (names_of_fluents g.task) (names_of_actions g.task) (same_fluents d p g.task of.of_task.task_is) (same_actions d p g.task of.of_task.task_is)
-    (judged_controller true_goals law asked.plan.kind d p g plan of judged)
+    (judged_controller true_goals law control asked.plan.kind d p g plan of judged)
     (text_is file_limit (controller_text (names_of_fluents g.task) (names_of_actions g.task) plan steps) found bytes is within) spells shown
 
 -- and where its text is too long, that is so
-pub long_controller : GroundedGoalsAreTrue → YesSolves → (kind : PlanKind) (d : DomainTree) (p : ProblemTree) (g : Grounded) (plan : PlainPlan) (steps : List ℕ) (found : Option (Vec ℕ Global))
+pub long_controller : GroundedGoalsAreTrue → YesSolves → GoodRulesControl → (kind : PlanKind) (d : DomainTree) (p : ProblemTree) (g : Grounded) (plan : PlainPlan) (steps : List ℕ) (found : Option (Vec ℕ Global))
     → IsGroundedOf d p g → IsJudged kind g.task g.ctl plan → found ≡ None
     → IsTextWithin file_limit (controller_text (names_of_fluents g.task) (names_of_actions g.task) plan steps) found → HasLongText kind d p
-long_controller true_goals law kind d p g plan steps found of judged is within =
+long_controller true_goals law control kind d p g plan steps found of judged is within =
     let long : file_limit < length (controller_text (names_of_fluents g.task) (names_of_actions g.task) plan steps) =
     subst (IsTextWithin file_limit (controller_text (names_of_fluents g.task) (names_of_actions g.task) plan steps)) is within in
     record {
       plan = plan;
       steps = steps;
-      controller = judged_controller true_goals law kind d p g plan of judged;
+      controller = judged_controller true_goals law control kind d p g plan of judged;
       long = subst (λ (ys : List Name). file_limit < length (controller_text (fluent_names d p) ys plan steps)) (same_actions d p g.task of.of_task.task_is)
           (subst (λ (xs : List Name). file_limit < length (controller_text xs (names_of_actions g.task) plan steps)) (same_fluents d p g.task of.of_task.task_is) long);
     }

@@ -1,11 +1,16 @@
 -- Which answer is a controller, and the answer to the words.
-use Rattle.std.specs.Prelude.{◌≡◌, ◌≢◌, ◌<◌, ◌≤◌, ◌⊎◌, ℕ, Bool, true, false, List, [], codes}
+use Rattle.std.specs.Prelude.{◌≡◌, ◌≢◌, ◌++◌, ◌<◌, ◌≤◌, ◌⊎◌, ℕ, Bool, true, false, List, [], codes}
 use Rattle.std.specs.Prelude.{length}
-use Rattle.controller_rules.specs.AsRun.{HasNoDeadRule, HasOneMove, NamesLastContext, run_table}
+use Rattle.controller_rules.specs.AsRun.{HasNoDeadRule, HasNoHiddenRule, HasOneMove}
+use Rattle.controller_rules.specs.AsRun.{NamesLastContext}
 use Rattle.controller_rules.specs.Texts.{controller_text}
 use Rattle.exec_graph.specs.Executions.{ReachesMoreThan}
+use Rattle.first_match.specs.FirstMatch.{run_table}
 use Rattle.pddl_ast.specs.Trees.{DomainTree, ProblemTree}
 use Rattle.pddl_system.specs.Systems.{action_names, fluent_names, system}
+use Rattle.plan_certs.specs.Certificates.{IsAccepted, PlainCertificate}
+use Rattle.plan_certs.specs.Readings.{SpellsPlain as SpellsCertificate}
+use Rattle.plan_certs.specs.Texts.{certificate_text}
 use Rattle.plan_document.specs.Documents.{document_text}
 use Rattle.plan_document.specs.Faithful.{IsToldInFull}
 use Rattle.plan_io.specs.Held.{Held}
@@ -13,14 +18,17 @@ use Rattle.plan_rules.specs.Denoted.{denoted_contexts}
 use Rattle.plan_rules.specs.Readings.{SpellsPlain}
 use Rattle.plan_rules.specs.Rules.{PlainPlan, automaton, table}
 use Rattle.task_core.specs.Systems.{System}
-use Rattle.command_base.specs.Answers.{Answer, affirmed, full, over_limit, refused}
+use Rattle.task_core.specs.declared.tasks.Task.{Task}
+use Rattle.command_base.specs.Answers.{Answer, affirmed, denied, full, over_limit, refused}
 use Rattle.command_base.specs.Following.{HasTooManyStates, most_followed}
+use Rattle.command_base.specs.Grounded.{IsTaskOf}
 use Rattle.command_base.specs.Grounding.{GoalThen, GroundThen}
 use Rattle.plan_meets.specs.Meets.{Meaning, Meets, PlanMeets, contextual, pairs}
 use Rattle.command_base.specs.PddlTexts.{ReadBoth}
-use Rattle.plan_command.specs.PlanCommand.{IsWrittenFor, MayRunOut, PlanThen}
+use Rattle.plan_command.specs.PlanCommand.{HasNoPlan, IsWrittenFor, MayRunOut, PlanThen, no_plan_text}
 use Rattle.command_base.specs.Reading.{file_limit}
-use Rattle.command_base.specs.Words.{Bytes, PlanKind}
+use Rattle.command_base.specs.Words.{Bytes, PlanKind, of_class, with_contexts}
+use Rattle.controller_plan.specs.SetRoom.{IsTightForPlan}
 use Rattle.controller_plan.specs.Words.{ControlWords}
 
 -- what a plan means as it is run: of a table the pairs of the first rule that matches each state, of
@@ -29,9 +37,22 @@ abbrev pub run_meaning : System → PlainPlan → Meaning
 run_meaning sys (table written rules) = pairs (run_table sys rules)
 run_meaning sys (automaton contexts rules) = contextual (denoted_contexts rules)
 
+-- what a plan may reach is too much to be listed: there are too many initial states, or it reaches
+-- more configurations than are followed
+abbrev pub IsTooMuchToList : DomainTree → ProblemTree → PlainPlan → Type 0
+IsTooMuchToList domain problem plan =
+    HasTooManyStates domain problem ⊎ ReachesMoreThan (system domain problem) plan most_followed
+
+-- no rule is for nothing: each is the first that counts in some configuration that the plan may reach;
+-- or, where that is too much to be listed, in some state, be it reached or not
+abbrev pub HasNoIdleRule : DomainTree → ProblemTree → PlainPlan → Type 0
+HasNoIdleRule domain problem plan =
+    HasNoDeadRule (system domain problem) plan
+    ⊎ (IsTooMuchToList domain problem plan × HasNoHiddenRule (system domain problem) plan)
+
 -- a plan is a controller: it is of the kind and meets the problem, which has an initial state, read as
 -- plans are read and as it is run; in whatever it may reach all rules that count make the same move; no
--- rule is dead and no context idle; and it can be told in full
+-- rule is for nothing and no context idle; and it can be told in full
 pub record IsController (kind : PlanKind) (domain : DomainTree) (problem : ProblemTree)
     (plan : PlainPlan) : Type 0 where
   pub written : IsWrittenFor kind plan
@@ -39,7 +60,7 @@ pub record IsController (kind : PlanKind) (domain : DomainTree) (problem : Probl
   pub meets : PlanMeets kind domain problem plan
   pub run_meets : Meets kind domain problem (run_meaning (system domain problem) plan)
   pub one_move : HasOneMove (system domain problem) plan
-  pub no_dead_rule : HasNoDeadRule (system domain problem) plan
+  pub no_idle_rule : HasNoIdleRule domain problem plan
   pub contexts : NamesLastContext plan
   pub told : IsToldInFull plan
 
@@ -92,28 +113,80 @@ abbrev pub FindsPlan : ControlWords → DomainTree → ProblemTree → Type 0
 FindsPlan asked domain problem =
     (text : Bytes) × PlanThen asked.plan domain problem (affirmed text)
 
--- the names of the limits that a controller may pass, each with its cause: there are too many initial
--- states; the plan that `plan` finds reaches more than is followed, or `plan` finds one and yet no
--- controller was judged to be good; or a controller was found, and its text is longer than a plan's
--- file may be
+-- the text of the plan that `plan` finds is longer than a plan's file may be
+abbrev pub FindsLongPlan : ControlWords → DomainTree → ProblemTree → Type 0
+FindsLongPlan asked domain problem =
+    (text : Bytes) × PlanThen asked.plan domain problem (affirmed text)
+    × (file_limit < length text)
+
+-- the names of the limits that a controller may pass, each with its cause: of a plan with contexts,
+-- that there are too many initial states, or that the one that `plan` finds reaches more than is
+-- followed; that `plan` finds a plan and yet no controller was judged to be good; or that a controller
+-- was found, or only the plan of `plan`, whose text is longer than a plan's file may be
 abbrev pub IsLimitPassed : ControlWords → DomainTree → ProblemTree → Bytes → Type 0
 IsLimitPassed asked domain problem name =
-    ((name ≡ codes "initial") × HasTooManyStates domain problem)
+    ((name ≡ codes "initial")
+    × (asked.plan.kind ≡ with_contexts) × HasTooManyStates domain problem)
     ⊎ ((name ≡ codes "configurations")
-    × (ReachesTooMany asked domain problem ⊎ FindsPlan asked domain problem))
-    ⊎ ((name ≡ codes "file") × HasLongText asked.plan.kind domain problem)
+    × (((asked.plan.kind ≡ with_contexts) × ReachesTooMany asked domain problem)
+    ⊎ FindsPlan asked domain problem))
+    ⊎ ((name ≡ codes "file")
+    × (HasLongText asked.plan.kind domain problem ⊎ FindsLongPlan asked domain problem))
+
+-- the table that `plan` finds reaches too much to be listed, so it was judged on sets of states, and the
+-- nodes that are asked for may be too few for that
+pub record HasNoRoomToJudge (asked : ControlWords) (domain : DomainTree) (problem : ProblemTree)
+    : Type 0 where
+  pub text : Bytes
+  pub found : PlanThen asked.plan domain problem (affirmed text)
+  pub plan : PlainPlan
+  pub spelled : SpellsPlain (fluent_names domain problem) (action_names domain problem) text plan
+  pub tight : (task : Task) × IsTaskOf domain problem task
+      × IsTightForPlan asked.plan.kind asked.plan.options.nodes task plan
+
+-- what is shown where there is no plan of a class, and the certificate of that is wanted: that, and then
+-- the text of a certificate of the class, which is accepted and which the text spells
+pub record IsCertificateShown (kind : PlanKind) (domain : DomainTree) (problem : ProblemTree)
+    (text : Bytes) : Type 0 where
+  pub certificate : PlainCertificate
+  pub of_class : kind ≡ of_class certificate.class
+  pub accepted : IsAccepted (system domain problem) certificate
+  pub spelled : SpellsCertificate (fluent_names domain problem)
+      (certificate_text (fluent_names domain problem) certificate) certificate
+  pub written : text
+      ≡ no_plan_text ++ certificate_text (fluent_names domain problem) certificate
+
+-- what is shown where there is no plan, and a certificate of that is wanted or isn't
+abbrev pub IsNoPlanShown : Bool → PlanKind → DomainTree → ProblemTree → Bytes → Type 0
+IsNoPlanShown false kind domain problem text = text ≡ no_plan_text
+IsNoPlanShown true kind domain problem text = IsCertificateShown kind domain problem text
+
+-- there is no plan of the kind, since a certificate of that is accepted
+pub record IsRefuted (asked : ControlWords) (domain : DomainTree) (problem : ProblemTree)
+    (answer : Answer) : Type 0 where
+  pub certificate : PlainCertificate
+  pub of_class : asked.plan.kind ≡ of_class certificate.class
+  pub accepted : IsAccepted (system domain problem) certificate
+  pub none : HasNoPlan asked.plan.kind domain problem
+  pub text : Bytes
+  pub shown : answer ≡ denied text
+  pub told : IsNoPlanShown asked.plan.certified asked.plan.kind domain problem text
 
 -- the answer affirms nothing
 abbrev pub AffirmsNothing : Answer → Type 0
 AffirmsNothing answer = (text : Bytes) → answer ≡ affirmed text → ⊥
 
 -- what follows once both are read and within the limits: a controller is shown, or a limit is
--- passed, or the answer is that of `plan`, where it is no plan
+-- passed, or the table of nodes is full while the table that `plan` finds is judged, or a certificate
+-- says that there is no plan, or the answer is that of `plan`, where it is no plan
 abbrev pub ControlThen : ControlWords → DomainTree → ProblemTree → Answer → Type 0
 ControlThen asked domain problem answer =
     IsControllerShown asked domain problem answer
     ⊎ ((name : Bytes) × IsLimitPassed asked domain problem name
     × (answer ≡ refused (over_limit name)))
+    ⊎ (HasNoRoomToJudge asked domain problem
+    × (answer ≡ refused (full asked.plan.options.nodes)))
+    ⊎ IsRefuted asked domain problem answer
     ⊎ (PlanThen asked.plan domain problem answer × AffirmsNothing answer)
 
 -- what follows once both are read: the goal is of the kind that is wanted, the limits of grounding

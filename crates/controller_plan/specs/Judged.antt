@@ -1,23 +1,32 @@
 -- Private: that a plan was judged, over its task.
-use Rattle.std.specs.Prelude.{◌≡◌, ◌≢◌, ◌⊎◌, Bool, false, true, List, [], Option, codes}
+use Rattle.std.specs.Prelude.{◌≡◌, ◌≢◌, ◌++◌, ◌⊎◌, ℕ, Bool, false, true, List, [], Option, codes}
 use Rattle.controller_rules.specs.AsRun.{HasNoDeadRule, HasOneMove, NamesLastContext}
 use Rattle.ctl_syntax.specs.declared.goals.Ctl.{Ctl}
+use Rattle.exec_graph.specs.Executions.{ReachesMoreThan}
 use Rattle.exec_graph.specs.Initials.{HasTooManyInitial}
+use Rattle.first_match.specs.FirstMatch.{AreGoodAsRun}
 use Rattle.pddl_ast.specs.Trees.{DomainTree, ProblemTree}
+use Rattle.plan_certs.specs.Certificates.{PlainCertificate}
+use Rattle.plan_certs.specs.Readings.{SpellsPlain as SpellsCertificate}
+use Rattle.plan_certs.specs.Texts.{certificate_text}
 use Rattle.plan_check.specs.Verdicts.{SaysYes}
 use Rattle.plan_check.specs.declared.verdicts.Verdict.{Verdict}
 use Rattle.plan_document.specs.Documents.{document_text}
 use Rattle.plan_document.specs.Faithful.{IsToldInFull}
-use Rattle.plan_rules.specs.Rules.{PlainPlan}
+use Rattle.plan_rules.specs.Rules.{PlainPlan, PlanRule, automaton, table}
 use Rattle.task_core.specs.Names.{Name}
 use Rattle.task_core.specs.Tasks.{initial_states, system_of}
+use Rattle.task_core.specs.declared.classes.Class.{Class}
 use Rattle.task_core.specs.declared.tasks.Task.{Task}
-use Rattle.command_base.specs.Answers.{Refusal, no_memory, over_limit}
+use Rattle.command_base.specs.Answers.{Refusal, full, no_memory, over_limit}
 use Rattle.command_base.specs.Following.{most_followed}
 use Rattle.check_command.specs.Judged.{IsTaskVerdict}
-use Rattle.plan_command.specs.PlanCommand.{IsWrittenFor}
-use Rattle.command_base.specs.Words.{Bytes, PlanKind}
-use Rattle.controller_plan.specs.Controllers.{IsLimitPassed}
+use Rattle.plan_command.specs.PlanCommand.{IsWrittenFor, no_plan_text}
+use Rattle.command_base.specs.Values.{bytes_of}
+use Rattle.command_base.specs.declared.answers.Text.{Text}
+use Rattle.command_base.specs.Words.{Bytes, PlanKind, of_class, with_contexts}
+use Rattle.controller_plan.specs.Controllers.{HasNoRoomToJudge, IsLimitPassed}
+use Rattle.controller_plan.specs.SetRoom.{IsTightForPlan}
 use Rattle.controller_plan.specs.Words.{ControlWords}
 
 -- the verdict on a plan of a task is yes
@@ -28,12 +37,35 @@ pub record IsYesFor (kind : PlanKind) (task : Task) (goal : Option Ctl) (plan : 
   pub says_yes : SaysYes verdict
 
 -- what is found of a plan along its graph: it begins somewhere, its verdict is yes, and its rules serve
-pub record IsFoundGood (kind : PlanKind) (task : Task) (goal : Option Ctl) (plan : PlainPlan)
+pub record IsGoodAlong (kind : PlanKind) (task : Task) (goal : Option Ctl) (plan : PlainPlan)
     : Type 0 where
   pub begins : initial_states task ≢ []
   pub good : IsYesFor kind task goal plan
   pub one_move : HasOneMove (system_of task) plan
   pub no_dead_rule : HasNoDeadRule (system_of task) plan
+
+-- what is found of the rules of a table on sets of states: they begin somewhere, and they are good as
+-- they are run
+pub record IsGoodOnSets (class : Class) (task : Task) (rules : List PlanRule) : Type 0 where
+  pub begins : initial_states task ≢ []
+  pub good : AreGoodAsRun class (system_of task) rules
+
+-- a table of a class is found good on sets
+abbrev pub IsTableGoodOnSets : PlanKind → Task → PlainPlan → Type 0
+IsTableGoodOnSets (of_class class) task (table written rules) = IsGoodOnSets class task rules
+IsTableGoodOnSets (of_class class) task (automaton contexts rules) = ⊥
+IsTableGoodOnSets with_contexts task plan = ⊥
+
+-- a plan has no graph: there are too many initial states, or it reaches too many configurations
+abbrev pub HasNoGraph : Task → PlainPlan → Type 0
+HasNoGraph task plan =
+    HasTooManyInitial task most_followed ⊎ ReachesMoreThan (system_of task) plan most_followed
+
+-- a plan is found good: along its graph, or where it has none, on sets
+abbrev pub IsFoundGood : PlanKind → Task → Option Ctl → PlainPlan → Type 0
+IsFoundGood kind task goal plan =
+    IsGoodAlong kind task goal plan
+    ⊎ (HasNoGraph task plan × IsTableGoodOnSets kind task plan)
 
 -- all that a controller is
 pub record IsJudged (kind : PlanKind) (task : Task) (goal : Option Ctl) (plan : PlainPlan)
@@ -43,17 +75,26 @@ pub record IsJudged (kind : PlanKind) (task : Task) (goal : Option Ctl) (plan : 
   pub contexts : NamesLastContext plan
   pub found : IsFoundGood kind task goal plan
 
--- want of memory, or too many initial states
-abbrev pub IsJudgeRefusal : Task → Refusal → Type 0
-IsJudgeRefusal task refusal =
+-- want of memory, or a table for so many nodes that may be too small to judge the plan
+abbrev pub IsJudgeRefusal : PlanKind → ℕ → Task → PlainPlan → Refusal → Type 0
+IsJudgeRefusal kind nodes task plan refusal =
     (refusal ≡ no_memory)
-    ⊎ (HasTooManyInitial task most_followed × (refusal ≡ over_limit (codes "initial")))
+    ⊎ (IsTightForPlan kind nodes task plan × (refusal ≡ full nodes))
 
--- want of memory, or a limit that is passed, for its cause
+-- want of memory, or a limit that is passed, for its cause, or a full table
 abbrev pub IsControlRefusal : ControlWords → DomainTree → ProblemTree → Refusal → Type 0
 IsControlRefusal asked domain problem refusal =
     (refusal ≡ no_memory)
     ⊎ ((name : Bytes) × IsLimitPassed asked domain problem name × (refusal ≡ over_limit name))
+    ⊎ (HasNoRoomToJudge asked domain problem × (refusal ≡ full asked.plan.options.nodes))
+
+-- the same, where the plan in hand is judged
+abbrev pub IsShownRefusal : ControlWords → DomainTree → ProblemTree → Task → PlainPlan → Refusal
+    → Type 0
+IsShownRefusal asked domain problem task plan refusal =
+    IsControlRefusal asked domain problem refusal
+    ⊎ (IsTightForPlan asked.plan.kind asked.plan.options.nodes task plan
+    × (refusal ≡ full asked.plan.options.nodes))
 
 -- what is shown: the text, or the document of the plan
 abbrev pub bytes_as : Bool → List Name → List Name → PlainPlan → Bytes → Bytes
@@ -67,3 +108,10 @@ IsReachRefusal task TooMany refusal =
     (refusal ≡ no_memory)
     ⊎ (HasTooManyInitial task most_followed × (refusal ≡ over_limit (codes "initial")))
     ⊎ (TooMany × (refusal ≡ over_limit (codes "configurations")))
+
+-- that there is no plan is told, with the text of a certificate, which spells it, or without
+abbrev pub IsNoPlanTold : Bool → List Name → PlainCertificate → Text → Type 0
+IsNoPlanTold false fluents certificate text = bytes_of text ≡ no_plan_text
+IsNoPlanTold true fluents certificate text =
+    (bytes_of text ≡ no_plan_text ++ certificate_text fluents certificate)
+    × SpellsCertificate fluents (certificate_text fluents certificate) certificate

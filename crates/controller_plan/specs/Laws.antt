@@ -5,9 +5,9 @@ use Rattle.std.specs.Io.KnownBytes.{append_known}
 use Rattle.pddl_ast.specs.Trees.{DomainTree, ProblemTree}
 use Rattle.plan_io.specs.Held.{Held}
 use Rattle.command_base.specs.PddlTexts.{HoldBoth}
-use Rattle.plan_command.specs.PlanCommand.{HasNoPlan, no_plan_text}
+use Rattle.plan_command.specs.PlanCommand.{HasNoPlan}
 use Rattle.command_base.specs.Words.{Bytes}
-use Rattle.controller_plan.specs.Controllers.{IsControllerText, shown_bytes}
+use Rattle.controller_plan.specs.Controllers.{IsControllerText, IsNoPlanShown, shown_bytes}
 use Rattle.plan_rules.specs.Rules.{PlainPlan}
 use Rattle.controller_plan.specs.Runs.{ControlRun, HasControlled}
 use Rattle.controller_plan.specs.Words.{ControlWords, SaysControl}
@@ -30,11 +30,12 @@ IsControllerRun {S} held run =
     ≡ append_known run.out.written (shown_bytes asked.json domain problem plan steps))
 
 -- status 1: there is no plan of the kind for the problem that the two files spell, and that is what
--- was written
+-- was written, with a certificate that is accepted where one is wanted
 abbrev pub IsNoPlanRun : {S : Type 0} → (S → Bytes → Held) → ControlRun S → Type 0
 IsNoPlanRun {S} held run =
     (asked : ControlWords) → SaysControl run.words asked → run.status ≡ 1
-    → (domain : DomainTree) × (problem : ProblemTree)
+    → (domain : DomainTree) × (problem : ProblemTree) × (text : Bytes)
     × HoldBoth (held run.shelf) asked.plan.domain asked.plan.problem domain problem
     × HasNoPlan asked.plan.kind domain problem
-    × (run.out_after.written ≡ append_known run.out.written no_plan_text)
+    × IsNoPlanShown asked.plan.certified asked.plan.kind domain problem text
+    × (run.out_after.written ≡ append_known run.out.written text)

@@ -3,5 +3,6 @@ pub mod Followed
 pub mod Judged
 pub mod Laws
 pub mod Runs
+pub mod SetRoom
 pub mod Values
 pub mod Words

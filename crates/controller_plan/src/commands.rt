@@ -6,8 +6,15 @@ ghost use Rattle.controller_plan.specs.Controllers.{
   IsControlAnswer,
   IsControlled,
   IsControllerShown,
+  IsRefuted,
 };
-ghost use Rattle.controller_plan.specs.Judged.{IsControlRefusal, IsJudged, bytes_as};
+ghost use Rattle.controller_plan.specs.Judged.{
+  IsControlRefusal,
+  IsJudgeRefusal,
+  IsJudged,
+  IsShownRefusal,
+  bytes_as,
+};
 ghost use Rattle.controller_plan.specs.Runs.{HasControlCause};
 ghost use Rattle.controller_plan.specs.Values.{control_words_of};
 ghost use Rattle.controller_plan.specs.Words.{AskNothing, ControlWords as AskedControl, SaysControl};
@@ -18,7 +25,7 @@ ghost use Rattle.command_base.specs.Grounded.{IsGroundedOf};
 ghost use Rattle.command_base.specs.Grounding.{has_goal_for};
 ghost use Rattle.plan_command.specs.PlanCommand.{MayBeTooFew, PlanThen};
 ghost use Rattle.command_base.specs.Values.{answer_of, bytes_of, kind_of, plan_words_of, refusal_of, shown_of};
-ghost use Rattle.command_base.specs.Words.{IsNodeLimit};
+ghost use Rattle.command_base.specs.Words.{IsNodeLimit, of_class, with_contexts};
 ghost use Rattle.pddl_ast.specs.Fits.{FitsDomain, FitsProblem};
 ghost use Rattle.pddl_ast.specs.Values.{domain_value, problem_value};
 ghost use Rattle.pddl_system.specs.Names.{NamesAreWords};
@@ -34,6 +41,7 @@ ghost use Rattle.std.specs.Prelude.{
   IfErr,
   IfOk,
   IfSome,
+  IsSome,
   IsTrue,
   List,
   map,
@@ -45,24 +53,28 @@ ghost use Rattle.task_core.specs.Tasks.{action_count, action_names, fluent_count
 
 use crate::followed::Followed;
 use crate::judged::is_controller;
+use crate::own_states::rules_with_own_states;
 use crate::plans::{plan_of, steps_of};
 use crate::reach::{check_reached, plan_in};
+use crate::refuted::{certificate_of, is_accepted, is_certificate_of, text_of_no_plan};
 use crate::rules::{Length, rules_of};
-use crate::searches::{Sought, follow_found, seek};
+use crate::searches::{Effort, Searched, follow_found, seek};
+use crate::served::served_rules;
 use crate::words::{ControlWords, read_words};
-use command_base::{Limit, Refusal, Shown, Text, check_goal, ground_both, read_both};
-use controller_rules::write_controller;
+use command_base::{Limit, PlanKind, Refusal, Shown, Text, check_goal, ground_both, read_both};
+use controller_rules::{good_rules_control, is_plan_of, write_controller};
 use ground_task::Grounded;
 use pddl_ast::{Domain, Problem};
 use pddl_system::grounded_goals_are_true;
+use plan_certs::{Certificate, accepted_certificates_mean_no_plan};
 use plan_check::yes_is_solution;
 use plan_command::plan_grounded;
 use plan_document::plan_document;
 use plan_io::Shelf;
-use plan_rules::Plan;
+use plan_rules::{Plan, Rule, TablePlan};
 use sexpr_text::MAX_BYTES;
 use std::alloc::{AllocError, Global};
-use task_core::Task;
+use task_core::{Lit, Task};
 
 /// Does what the words say, and gives the answer.
 pub(crate) fn answer<S: Shelf>(
@@ -151,19 +163,138 @@ fn control_grounded(
         ⊎ ControlThen asked (domain_value domain.now) (problem_value problem.now)
         (answer_of result) }
 {
-    if let Some(shown) = shown_sought(alloc, asked, domain, problem, grounded)? {
-        return Ok(shown);
+    match shown_sought(alloc, asked, domain, problem, grounded, Effort::Little)? {
+        Some(shown) => Ok(shown),
+        None => after_little(alloc, asked, domain, problem, grounded),
     }
-    without_controller(alloc, asked, domain, problem, grounded)
 }
 
-/// The controller for what the plan reaches that is found, if there is one.
+/// The same, where little work found nothing.
+fn after_little(
+    alloc: Global,
+    asked: &ControlWords,
+    domain: &Domain,
+    problem: &Problem,
+    grounded: &Grounded,
+) -> Result<Shown, Refusal>
+    requires room { IsNodeLimit asked.now.plan.options.nodes }
+    requires goal { has_goal_for (kind_of asked.now.plan.kind) (problem_value problem.now)
+        ≡ true }
+    requires grounded { IsGroundedOf (domain_value domain.now) (problem_value problem.now)
+        grounded.now }
+    ensures { let asked = control_words_of asked.now in
+        (answer_of result ≡ refused no_memory)
+        ⊎ (MayBeTooFew asked.plan (domain_value domain.now) (problem_value problem.now)
+        × (answer_of result ≡ refused (full asked.plan.options.nodes)))
+        ⊎ ControlThen asked (domain_value domain.now) (problem_value problem.now)
+        (answer_of result) }
+{
+    match shown_sought(alloc, asked, domain, problem, grounded, Effort::Thorough)? {
+        Some(shown) => Ok(shown),
+        None => without_controller(alloc, asked, domain, problem, grounded),
+    }
+}
+
+/// What is shown of what a search finds with this effort, if it finds anything.
 fn shown_sought(
     alloc: Global,
     asked: &ControlWords,
     domain: &Domain,
     problem: &Problem,
     grounded: &Grounded,
+    effort: Effort,
+) -> Result<Option<Shown>, Refusal>
+    requires room { IsNodeLimit asked.now.plan.options.nodes }
+    requires goal { has_goal_for (kind_of asked.now.plan.kind) (problem_value problem.now)
+        ≡ true }
+    requires grounded { IsGroundedOf (domain_value domain.now) (problem_value problem.now)
+        grounded.now }
+    ensures shown { IfOk result (λ found. IfSome found (λ shown.
+        ControlThen (control_words_of asked.now)
+        (domain_value domain.now) (problem_value problem.now) (shown_of shown))) }
+    ensures refused { IfErr result (λ refusal. IsControlRefusal (control_words_of asked.now)
+        (domain_value domain.now) (problem_value problem.now) (refusal_of refusal)) }
+{
+    match seek(alloc, &asked.plan, grounded, effort)? {
+        Searched::Followed(followed) => {
+            shown_controller(alloc, asked, domain, problem, grounded, &followed)
+        }
+        Searched::Rules(rules) => shown_table(alloc, asked, domain, problem, grounded, rules),
+        Searched::NoPlan(sets) => shown_refuted(alloc, asked, domain, problem, grounded, sets),
+        Searched::Nothing => Ok(None),
+    }
+}
+
+/// That there is no plan, where these sets of cubes are a certificate of that for the class.
+fn shown_refuted(
+    alloc: Global,
+    asked: &ControlWords,
+    domain: &Domain,
+    problem: &Problem,
+    grounded: &Grounded,
+    sets: Vec<Vec<Vec<Lit>>>,
+) -> Result<Option<Shown>, Refusal>
+    requires room { IsNodeLimit asked.now.plan.options.nodes }
+    requires goal { has_goal_for (kind_of asked.now.plan.kind) (problem_value problem.now)
+        ≡ true }
+    requires grounded { IsGroundedOf (domain_value domain.now) (problem_value problem.now)
+        grounded.now }
+    ensures shown { IfOk result (λ found. IfSome found (λ shown.
+        IsRefuted (control_words_of asked.now) (domain_value domain.now)
+        (problem_value problem.now) (shown_of shown))) }
+    ensures refused { IfErr result (λ refusal. refusal_of refusal ≡ no_memory) }
+{
+    match asked.plan.kind {
+        PlanKind::Class(class) => {
+            let certificate = certificate_of(alloc, class, sets)?;
+            let shown = shown_no_plan(alloc, asked, domain, problem, grounded, &certificate)?;
+            Ok(shown)
+        }
+        PlanKind::Contexts => Ok(None),
+    }
+}
+
+/// That there is no plan of a class, where a certificate of it is accepted.
+fn shown_no_plan(
+    alloc: Global,
+    asked: &ControlWords,
+    domain: &Domain,
+    problem: &Problem,
+    grounded: &Grounded,
+    certificate: &Certificate,
+) -> Result<Option<Shown>, AllocError>
+    requires room { IsNodeLimit asked.now.plan.options.nodes }
+    requires goal { IsSome grounded.now.task.goal }
+    requires grounded { IsGroundedOf (domain_value domain.now) (problem_value problem.now)
+        grounded.now }
+    requires of_class { kind_of asked.now.plan.kind ≡ of_class certificate.now.class }
+    ensures { IfOk result (λ found. IfSome found (λ shown. IsRefuted (control_words_of asked.now)
+        (domain_value domain.now) (problem_value problem.now) (shown_of shown))) }
+{
+    // This does nothing: that there is no plan where a certificate is accepted rests on what it
+    // promises.
+    accepted_certificates_mean_no_plan();
+    let task = &grounded.task;
+    if !is_certificate_of(task.fluents.len(), certificate) {
+        return Ok(None);
+    }
+    if !is_accepted(alloc, asked.plan.options.nodes, task, certificate) {
+        return Ok(None);
+    }
+    let text = text_of_no_plan(alloc, asked.plan.certified, certificate, task)?;
+    Ok(Some(Shown::Denied(text)))
+}
+
+/// The controller with the rules of a table, of which the first that matches counts, if they make one:
+/// with those of them that are wanted where it leads, or with shorter ones; or with all of them where
+/// it leads to more than may be followed.
+fn shown_table(
+    alloc: Global,
+    asked: &ControlWords,
+    domain: &Domain,
+    problem: &Problem,
+    grounded: &Grounded,
+    rules: Vec<Rule>,
 ) -> Result<Option<Shown>, Refusal>
     requires room { IsNodeLimit asked.now.plan.options.nodes }
     requires goal { has_goal_for (kind_of asked.now.plan.kind) (problem_value problem.now)
@@ -176,11 +307,148 @@ fn shown_sought(
     ensures refused { IfErr result (λ refusal. IsControlRefusal (control_words_of asked.now)
         (domain_value domain.now) (problem_value problem.now) (refusal_of refusal)) }
 {
-    match seek(alloc, &asked.plan, grounded)? {
-        Sought::Followed(followed) => {
-            shown_controller(alloc, asked, domain, problem, grounded, &followed)
+    match asked.plan.kind {
+        PlanKind::Class(class) => {
+            let plan = Plan::Table(TablePlan { class, rules });
+            shown_found(alloc, asked, domain, problem, grounded, &plan)
         }
-        Sought::Nothing => Ok(None),
+        PlanKind::Contexts => Ok(None),
+    }
+}
+
+/// The same for a plan that may be one for another task.
+fn shown_found(
+    alloc: Global,
+    asked: &ControlWords,
+    domain: &Domain,
+    problem: &Problem,
+    grounded: &Grounded,
+    plan: &Plan,
+) -> Result<Option<Shown>, Refusal>
+    requires room { IsNodeLimit asked.now.plan.options.nodes }
+    requires goal { has_goal_for (kind_of asked.now.plan.kind) (problem_value problem.now)
+        ≡ true }
+    requires grounded { IsGroundedOf (domain_value domain.now) (problem_value problem.now)
+        grounded.now }
+    ensures shown { IfOk result (λ found. IfSome found (λ shown.
+        IsControllerShown (control_words_of asked.now)
+        (domain_value domain.now) (problem_value problem.now) (shown_of shown))) }
+    ensures refused { IfErr result (λ refusal. IsControlRefusal (control_words_of asked.now)
+        (domain_value domain.now) (problem_value problem.now) (refusal_of refusal)) }
+{
+    if !is_plan_of(
+        grounded.task.fluents.len(),
+        grounded.task.actions.len(),
+        plan,
+    ) {
+        return Ok(None);
+    }
+    match follow_found(alloc, &grounded.task, plan)? {
+        Some(followed) => shown_followed(alloc, asked, domain, problem, grounded, plan, &followed),
+        None => shown_unfollowed(alloc, asked, domain, problem, grounded, plan),
+    }
+}
+
+/// The controller with those rules of a table that match something that no rule before them does.
+fn shown_unfollowed(
+    alloc: Global,
+    asked: &ControlWords,
+    domain: &Domain,
+    problem: &Problem,
+    grounded: &Grounded,
+    plan: &Plan,
+) -> Result<Option<Shown>, Refusal>
+    requires room { IsNodeLimit asked.now.plan.options.nodes }
+    requires goal { has_goal_for (kind_of asked.now.plan.kind) (problem_value problem.now)
+        ≡ true }
+    requires grounded { IsGroundedOf (domain_value domain.now) (problem_value problem.now)
+        grounded.now }
+    ensures shown { IfOk result (λ found. IfSome found (λ shown.
+        IsControllerShown (control_words_of asked.now)
+        (domain_value domain.now) (problem_value problem.now) (shown_of shown))) }
+    ensures refused { IfErr result (λ refusal. IsControlRefusal (control_words_of asked.now)
+        (domain_value domain.now) (problem_value problem.now) (refusal_of refusal)) }
+{
+    match plan {
+        Plan::Table(table) => {
+            let plan = Plan::Table(TablePlan {
+                class: table.class,
+                rules: rules_with_own_states(alloc, &table.rules)?,
+            });
+            shown_made(alloc, asked, domain, problem, grounded, &plan, &[])
+        }
+        Plan::Auto(_) => Ok(None),
+    }
+}
+
+/// The controller for a plan that was followed: with those of its rules that are wanted, or with rules
+/// for what it does where it reaches.
+fn shown_followed(
+    alloc: Global,
+    asked: &ControlWords,
+    domain: &Domain,
+    problem: &Problem,
+    grounded: &Grounded,
+    plan: &Plan,
+    followed: &Followed,
+) -> Result<Option<Shown>, Refusal>
+    requires room { IsNodeLimit asked.now.plan.options.nodes }
+    requires goal { has_goal_for (kind_of asked.now.plan.kind) (problem_value problem.now)
+        ≡ true }
+    requires grounded { IsGroundedOf (domain_value domain.now) (problem_value problem.now)
+        grounded.now }
+    ensures shown { IfOk result (λ found. IfSome found (λ shown.
+        IsControllerShown (control_words_of asked.now)
+        (domain_value domain.now) (problem_value problem.now) (shown_of shown))) }
+    ensures refused { IfErr result (λ refusal. IsControlRefusal (control_words_of asked.now)
+        (domain_value domain.now) (problem_value problem.now) (refusal_of refusal)) }
+{
+    let served = shown_served(alloc, asked, domain, problem, grounded, plan, followed)?;
+    if served.is_some() {
+        return Ok(served);
+    }
+    shown_controller(alloc, asked, domain, problem, grounded, followed)
+}
+
+/// The controller with those rules of a table that are wanted where it leads, if they make one.
+fn shown_served(
+    alloc: Global,
+    asked: &ControlWords,
+    domain: &Domain,
+    problem: &Problem,
+    grounded: &Grounded,
+    plan: &Plan,
+    followed: &Followed,
+) -> Result<Option<Shown>, Refusal>
+    requires room { IsNodeLimit asked.now.plan.options.nodes }
+    requires goal { has_goal_for (kind_of asked.now.plan.kind) (problem_value problem.now)
+        ≡ true }
+    requires grounded { IsGroundedOf (domain_value domain.now) (problem_value problem.now)
+        grounded.now }
+    ensures shown { IfOk result (λ found. IfSome found (λ shown.
+        IsControllerShown (control_words_of asked.now)
+        (domain_value domain.now) (problem_value problem.now) (shown_of shown))) }
+    ensures refused { IfErr result (λ refusal. IsControlRefusal (control_words_of asked.now)
+        (domain_value domain.now) (problem_value problem.now) (refusal_of refusal)) }
+{
+    match plan {
+        Plan::Table(table) => {
+            let served = served_rules(alloc, &table.rules, followed)?;
+            let plan = Plan::Table(TablePlan {
+                class: table.class,
+                rules: served.rules,
+            });
+            shown_made(
+                alloc,
+                asked,
+                domain,
+                problem,
+                grounded,
+                &plan,
+                &served.steps,
+            )
+        }
+        Plan::Auto(_) => Ok(None),
     }
 }
 
@@ -224,7 +492,8 @@ fn found_text(found: Result<Shown, Refusal>) -> Result<Text, Result<Shown, Refus
     }
 }
 
-/// The controller for the plan that `plan` finds, or the limit that keeps it from being made.
+/// The controller for the plan that `plan` finds, or what much work finds, or the limit that keeps it from
+/// being made.
 fn controller_of_text(
     alloc: Global,
     asked: &ControlWords,
@@ -233,20 +502,81 @@ fn controller_of_text(
     grounded: &Grounded,
     text: &[u8],
 ) -> Result<Shown, Refusal>
+    requires room { IsNodeLimit asked.now.plan.options.nodes }
     requires goal { has_goal_for (kind_of asked.now.plan.kind) (problem_value problem.now)
         ≡ true }
     requires grounded { IsGroundedOf (domain_value domain.now) (problem_value problem.now)
         grounded.now }
     requires found { PlanThen (plan_words_of asked.now.plan) (domain_value domain.now)
         (problem_value problem.now) (affirmed text.now) }
-    ensures shown { IfOk result (λ shown. IsControllerShown (control_words_of asked.now)
+    ensures shown { IfOk result (λ shown. ControlThen (control_words_of asked.now)
         (domain_value domain.now) (problem_value problem.now) (shown_of shown)) }
     ensures refused { IfErr result (λ refusal. IsControlRefusal (control_words_of asked.now)
         (domain_value domain.now) (problem_value problem.now) (refusal_of refusal)) }
 {
-    match made_of_text(alloc, asked, domain, problem, grounded, text)? {
+    match made_of_text(alloc, asked, domain, problem, grounded, text) {
+        Ok(Some(shown)) => Ok(shown),
+        Ok(None) => {
+            let limit = limit_for(asked, domain, problem, text);
+            at_last(alloc, asked, domain, problem, grounded, limit)
+        }
+        Err(refusal) => {
+            if is_full(&refusal) {
+                at_last(alloc, asked, domain, problem, grounded, refusal)
+            } else {
+                Err(refusal)
+            }
+        }
+    }
+}
+
+/// Whether a refusal is that the table of nodes is full.
+fn is_full(refusal: &Refusal) -> bool {
+    match refusal {
+        Refusal::Full(_) => true,
+        _ => false,
+    }
+}
+
+/// What much work finds, where no controller was made of the plan that `plan` finds; else the refusal for
+/// that.
+fn at_last(
+    alloc: Global,
+    asked: &ControlWords,
+    domain: &Domain,
+    problem: &Problem,
+    grounded: &Grounded,
+    last: Refusal,
+) -> Result<Shown, Refusal>
+    requires room { IsNodeLimit asked.now.plan.options.nodes }
+    requires goal { has_goal_for (kind_of asked.now.plan.kind) (problem_value problem.now)
+        ≡ true }
+    requires grounded { IsGroundedOf (domain_value domain.now) (problem_value problem.now)
+        grounded.now }
+    requires last { IsControlRefusal (control_words_of asked.now) (domain_value domain.now)
+        (problem_value problem.now) (refusal_of last) }
+    ensures shown { IfOk result (λ shown. ControlThen (control_words_of asked.now)
+        (domain_value domain.now) (problem_value problem.now) (shown_of shown)) }
+    ensures refused { IfErr result (λ refusal. IsControlRefusal (control_words_of asked.now)
+        (domain_value domain.now) (problem_value problem.now) (refusal_of refusal)) }
+{
+    match shown_sought(alloc, asked, domain, problem, grounded, Effort::Much)? {
         Some(shown) => Ok(shown),
-        None => Err(Refusal::OverLimit(Limit::Configurations)),
+        None => Err(last),
+    }
+}
+
+/// The limit that keeps a controller from being made of the plan that `plan` finds.
+fn limit_for(asked: &ControlWords, domain: &Domain, problem: &Problem, text: &[u8]) -> Refusal
+    requires found { PlanThen (plan_words_of asked.now.plan) (domain_value domain.now)
+        (problem_value problem.now) (affirmed text.now) }
+    ensures { IsControlRefusal (control_words_of asked.now) (domain_value domain.now)
+        (problem_value problem.now) (refusal_of result) }
+{
+    if text.len() > MAX_BYTES {
+        Refusal::OverLimit(Limit::File)
+    } else {
+        Refusal::OverLimit(Limit::Configurations)
     }
 }
 
@@ -259,6 +589,7 @@ fn made_of_text(
     grounded: &Grounded,
     text: &[u8],
 ) -> Result<Option<Shown>, Refusal>
+    requires room { IsNodeLimit asked.now.plan.options.nodes }
     requires goal { has_goal_for (kind_of asked.now.plan.kind) (problem_value problem.now)
         ≡ true }
     requires grounded { IsGroundedOf (domain_value domain.now) (problem_value problem.now)
@@ -277,7 +608,8 @@ fn made_of_text(
     }
 }
 
-/// The controller for a plan that `plan` finds, if one can be made of it.
+/// The controller for a plan that `plan` finds, if one can be made of it. One with contexts is to reach
+/// no more than may be followed.
 fn made_of_plan(
     alloc: Global,
     asked: &ControlWords,
@@ -287,6 +619,7 @@ fn made_of_plan(
     text: &[u8],
     plan: &Plan,
 ) -> Result<Option<Shown>, Refusal>
+    requires room { IsNodeLimit asked.now.plan.options.nodes }
     requires goal { has_goal_for (kind_of asked.now.plan.kind) (problem_value problem.now)
         ≡ true }
     requires grounded { IsGroundedOf (domain_value domain.now) (problem_value problem.now)
@@ -303,14 +636,83 @@ fn made_of_plan(
     ensures refused { IfErr result (λ refusal. IsControlRefusal (control_words_of asked.now)
         (domain_value domain.now) (problem_value problem.now) (refusal_of refusal)) }
 {
-    check_found(alloc, asked, domain, problem, grounded, text, plan)?;
-    match follow_found(alloc, &grounded.task, plan)? {
-        Some(followed) => shown_controller(alloc, asked, domain, problem, grounded, &followed),
-        None => Ok(None),
+    match asked.plan.kind {
+        PlanKind::Class(_) => {
+            made_of_good_plan(alloc, asked, domain, problem, grounded, text, plan)
+        }
+        PlanKind::Contexts => {
+            check_found(alloc, asked, domain, problem, grounded, text, plan)?;
+            made_of_good_plan(alloc, asked, domain, problem, grounded, text, plan)
+        }
     }
 }
 
-/// Refuses where a plan that `plan` finds reaches more than may be followed.
+/// The controller for what a plan that `plan` finds does where it reaches; or where that is too much to be
+/// followed, with the rules of the plan.
+fn made_of_good_plan(
+    alloc: Global,
+    asked: &ControlWords,
+    domain: &Domain,
+    problem: &Problem,
+    grounded: &Grounded,
+    text: &[u8],
+    plan: &Plan,
+) -> Result<Option<Shown>, Refusal>
+    requires room { IsNodeLimit asked.now.plan.options.nodes }
+    requires goal { has_goal_for (kind_of asked.now.plan.kind) (problem_value problem.now)
+        ≡ true }
+    requires grounded { IsGroundedOf (domain_value domain.now) (problem_value problem.now)
+        grounded.now }
+    requires found { PlanThen (plan_words_of asked.now.plan) (domain_value domain.now)
+        (problem_value problem.now) (affirmed text.now) }
+    requires spelled { SpellsPlain (fluent_names grounded.now.task)
+        (action_names grounded.now.task) text.now (plain_of plan.now) }
+    requires in_task { IsPlanOf (fluent_count grounded.now.task) (action_count grounded.now.task)
+        plan.now }
+    ensures shown { IfOk result (λ found. IfSome found (λ shown.
+        IsControllerShown (control_words_of asked.now)
+        (domain_value domain.now) (problem_value problem.now) (shown_of shown))) }
+    ensures refused { IfErr result (λ refusal. IsControlRefusal (control_words_of asked.now)
+        (domain_value domain.now) (problem_value problem.now) (refusal_of refusal)) }
+{
+    match follow_found(alloc, &grounded.task, plan)? {
+        Some(followed) => shown_controller(alloc, asked, domain, problem, grounded, &followed),
+        None => shown_as_found(alloc, asked, domain, problem, grounded, text, plan),
+    }
+}
+
+/// The plan that `plan` finds as a controller, if it is one.
+fn shown_as_found(
+    alloc: Global,
+    asked: &ControlWords,
+    domain: &Domain,
+    problem: &Problem,
+    grounded: &Grounded,
+    text: &[u8],
+    plan: &Plan,
+) -> Result<Option<Shown>, Refusal>
+    requires room { IsNodeLimit asked.now.plan.options.nodes }
+    requires goal { has_goal_for (kind_of asked.now.plan.kind) (problem_value problem.now)
+        ≡ true }
+    requires grounded { IsGroundedOf (domain_value domain.now) (problem_value problem.now)
+        grounded.now }
+    requires found { PlanThen (plan_words_of asked.now.plan) (domain_value domain.now)
+        (problem_value problem.now) (affirmed text.now) }
+    requires spelled { SpellsPlain (fluent_names grounded.now.task)
+        (action_names grounded.now.task) text.now (plain_of plan.now) }
+    ensures shown { IfOk result (λ found. IfSome found (λ shown.
+        IsControllerShown (control_words_of asked.now)
+        (domain_value domain.now) (problem_value problem.now) (shown_of shown))) }
+    ensures refused { IfErr result (λ refusal. IsControlRefusal (control_words_of asked.now)
+        (domain_value domain.now) (problem_value problem.now) (refusal_of refusal)) }
+{
+    match shown_plan(alloc, asked, domain, problem, grounded, plan, &[]) {
+        Ok(found) => Ok(found),
+        Err(refusal) => Err(refusal),
+    }
+}
+
+/// Refuses where a plan with contexts that `plan` finds reaches more than may be followed.
 fn check_found(
     alloc: Global,
     asked: &ControlWords,
@@ -328,6 +730,7 @@ fn check_found(
         (action_names grounded.now.task) text.now (plain_of plan.now) }
     requires in_task { IsPlanOf (fluent_count grounded.now.task) (action_count grounded.now.task)
         plan.now }
+    requires contexts { kind_of asked.now.plan.kind ≡ with_contexts }
     ensures { IfErr result (λ refusal. IsControlRefusal (control_words_of asked.now)
         (domain_value domain.now) (problem_value problem.now) (refusal_of refusal)) }
 {
@@ -347,6 +750,7 @@ fn shown_controller(
     grounded: &Grounded,
     followed: &Followed,
 ) -> Result<Option<Shown>, Refusal>
+    requires room { IsNodeLimit asked.now.plan.options.nodes }
     requires goal { has_goal_for (kind_of asked.now.plan.kind) (problem_value problem.now)
         ≡ true }
     requires grounded { IsGroundedOf (domain_value domain.now) (problem_value problem.now)
@@ -390,6 +794,7 @@ fn shown_rules(
     followed: &Followed,
     length: Length,
 ) -> Result<Option<Shown>, Refusal>
+    requires room { IsNodeLimit asked.now.plan.options.nodes }
     requires goal { has_goal_for (kind_of asked.now.plan.kind) (problem_value problem.now)
         ≡ true }
     requires grounded { IsGroundedOf (domain_value domain.now) (problem_value problem.now)
@@ -403,7 +808,62 @@ fn shown_rules(
     let rules = rules_of(alloc, followed, grounded.task.fluents.len() as u32, length)?;
     let plan = plan_of(alloc, asked.plan.kind, &rules)?;
     let steps = steps_of(alloc, &rules)?;
-    shown_plan(alloc, asked, domain, problem, grounded, &plan, &steps)
+    shown_made(alloc, asked, domain, problem, grounded, &plan, &steps)
+}
+
+/// A plan that a search made as a controller, if it is one and there is room to judge it.
+fn shown_made(
+    alloc: Global,
+    asked: &ControlWords,
+    domain: &Domain,
+    problem: &Problem,
+    grounded: &Grounded,
+    plan: &Plan,
+    steps: &[u32],
+) -> Result<Option<Shown>, Refusal>
+    requires room { IsNodeLimit asked.now.plan.options.nodes }
+    requires goal { has_goal_for (kind_of asked.now.plan.kind) (problem_value problem.now)
+        ≡ true }
+    requires grounded { IsGroundedOf (domain_value domain.now) (problem_value problem.now)
+        grounded.now }
+    ensures shown { IfOk result (λ found. IfSome found (λ shown.
+        IsControllerShown (control_words_of asked.now)
+        (domain_value domain.now) (problem_value problem.now) (shown_of shown))) }
+    ensures refused { IfErr result (λ refusal. IsControlRefusal (control_words_of asked.now)
+        (domain_value domain.now) (problem_value problem.now) (refusal_of refusal)) }
+{
+    if !is_judged_good(alloc, asked, domain, problem, grounded, plan)? {
+        return Ok(None);
+    }
+    let shown = shown_judged(alloc, asked, domain, problem, grounded, plan, steps)?;
+    Ok(Some(shown))
+}
+
+/// Whether a plan is judged to be a controller. It isn't where there is no room to judge it.
+fn is_judged_good(
+    alloc: Global,
+    asked: &ControlWords,
+    domain: &Domain,
+    problem: &Problem,
+    grounded: &Grounded,
+    plan: &Plan,
+) -> Result<bool, Refusal>
+    requires room { IsNodeLimit asked.now.plan.options.nodes }
+    requires goal { has_goal_for (kind_of asked.now.plan.kind) (problem_value problem.now)
+        ≡ true }
+    requires grounded { IsGroundedOf (domain_value domain.now) (problem_value problem.now)
+        grounded.now }
+    ensures judged { IfOk result (λ is. IsTrue is → IsJudged (kind_of asked.now.plan.kind)
+        grounded.now.task grounded.now.ctl (plain_of plan.now)) }
+    ensures in_task { IfOk result (λ is. IsTrue is
+        → IsPlanOf (fluent_count grounded.now.task) (action_count grounded.now.task) plan.now) }
+    ensures refused { IfErr result (λ refusal. refusal_of refusal ≡ no_memory) }
+{
+    match is_good(alloc, asked, domain, problem, grounded, plan) {
+        Ok(is) => Ok(is),
+        Err(Refusal::NoMemory) => Err(Refusal::NoMemory),
+        Err(_) => Ok(false),
+    }
 }
 
 /// A plan as a controller, if it is one.
@@ -416,6 +876,7 @@ fn shown_plan(
     plan: &Plan,
     steps: &[u32],
 ) -> Result<Option<Shown>, Refusal>
+    requires room { IsNodeLimit asked.now.plan.options.nodes }
     requires goal { has_goal_for (kind_of asked.now.plan.kind) (problem_value problem.now)
         ≡ true }
     requires grounded { IsGroundedOf (domain_value domain.now) (problem_value problem.now)
@@ -423,8 +884,9 @@ fn shown_plan(
     ensures shown { IfOk result (λ found. IfSome found (λ shown.
         IsControllerShown (control_words_of asked.now)
         (domain_value domain.now) (problem_value problem.now) (shown_of shown))) }
-    ensures refused { IfErr result (λ refusal. IsControlRefusal (control_words_of asked.now)
-        (domain_value domain.now) (problem_value problem.now) (refusal_of refusal)) }
+    ensures refused { IfErr result (λ refusal. IsShownRefusal (control_words_of asked.now)
+        (domain_value domain.now) (problem_value problem.now) grounded.now.task
+        (plain_of plan.now) (refusal_of refusal)) }
 {
     if !is_good(alloc, asked, domain, problem, grounded, plan)? {
         return Ok(None);
@@ -442,6 +904,7 @@ fn is_good(
     grounded: &Grounded,
     plan: &Plan,
 ) -> Result<bool, Refusal>
+    requires room { IsNodeLimit asked.now.plan.options.nodes }
     requires goal { has_goal_for (kind_of asked.now.plan.kind) (problem_value problem.now)
         ≡ true }
     requires grounded { IsGroundedOf (domain_value domain.now) (problem_value problem.now)
@@ -450,13 +913,16 @@ fn is_good(
         grounded.now.task grounded.now.ctl (plain_of plan.now)) }
     ensures in_task { IfOk result (λ is. IsTrue is
         → IsPlanOf (fluent_count grounded.now.task) (action_count grounded.now.task) plan.now) }
-    ensures refused { IfErr result (λ refusal. IsControlRefusal (control_words_of asked.now)
-        (domain_value domain.now) (problem_value problem.now) (refusal_of refusal)) }
+    ensures refused { IfErr result (λ refusal. IsJudgeRefusal (kind_of asked.now.plan.kind)
+        asked.now.plan.options.nodes grounded.now.task (plain_of plan.now) (refusal_of refusal)) }
 {
-    match is_controller(alloc, asked.plan.kind, grounded, plan) {
-        Ok(is) => Ok(is),
-        Err(refusal) => Err(refusal),
-    }
+    is_controller(
+        alloc,
+        asked.plan.kind,
+        asked.plan.options.nodes,
+        grounded,
+        plan,
+    )
 }
 
 /// A plan that was judged to be a controller, as it is shown, unless its text is too long.
@@ -482,10 +948,10 @@ fn shown_judged(
     ensures refused { IfErr result (λ refusal. IsControlRefusal (control_words_of asked.now)
         (domain_value domain.now) (problem_value problem.now) (refusal_of refusal)) }
 {
-    // These do nothing: that what the checker says yes to meets the problem rests on what they
-    // promise.
+    // These do nothing: that what is judged to be good meets the problem rests on what they promise.
     grounded_goals_are_true();
     yes_is_solution();
+    good_rules_control();
     match write_controller(alloc, plan, steps, &grounded.task, MAX_BYTES)? {
         Some(text) => {
             let shown = shown_as(alloc, asked.json, text, plan, &grounded.task)?;

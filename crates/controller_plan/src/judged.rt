@@ -1,6 +1,16 @@
 //! Judging a plan: nothing is shown that isn't a controller.
 
-ghost use Rattle.controller_plan.specs.Judged.{IsFoundGood, IsJudgeRefusal, IsJudged, IsYesFor};
+ghost use Rattle.controller_plan.specs.Judged.{
+  HasNoGraph,
+  IsFoundGood,
+  IsGoodAlong,
+  IsJudgeRefusal,
+  IsJudged,
+  IsTableGoodOnSets,
+  IsYesFor,
+};
+ghost use Rattle.command_base.specs.Answers.{no_memory};
+ghost use Rattle.command_base.specs.Words.{IsNodeLimit};
 ghost use Rattle.ctl_syntax.specs.Values.{NamesBelow, ctl_value};
 ghost use Rattle.exec_graph.specs.Graphs.{IsGraphOf};
 ghost use Rattle.exec_graph.specs.Values.{plain_graph};
@@ -12,12 +22,26 @@ ghost use Rattle.command_base.specs.Words.{with_contexts};
 ghost use Rattle.plan_check.specs.Verdicts.{SaysYes};
 ghost use Rattle.plan_rules.specs.Plans.{IsPlanOf};
 ghost use Rattle.plan_rules.specs.Rules.{ContextRule, PlainPlan, automaton, plain_of};
-ghost use Rattle.std.specs.Prelude.{◌≡◌, ◌↔◌, IfErr, IfOk, IfSome, IsSome, IsTrue, List, true, ℕ};
+ghost use Rattle.std.specs.Prelude.{
+  ◌≡◌,
+  ◌↔◌,
+  IfErr,
+  IfNone,
+  IfOk,
+  IfSome,
+  IsSome,
+  IsTrue,
+  List,
+  true,
+  ℕ,
+};
 ghost use Rattle.task_core.specs.Tasks.{action_count, fluent_count, system_of};
 
-use command_base::{Limit, PlanKind, Refusal};
+use crate::set_judge::are_good_rules;
+use command_base::{PlanKind, Refusal};
 use controller_rules::{is_plan_of, names_last_context, rules_serve};
 use ctl_syntax::Ctl;
+use dd_sets::SetErr;
 use exec_graph::{Graph, GraphErr, explore};
 use ground_task::Grounded;
 use plan_check::{Verdict, judge_class, judge_ctl};
@@ -25,14 +49,17 @@ use plan_document::is_told_in_full;
 use plan_rules::{Class, Plan};
 use std::alloc::{AllocError, Global};
 
-/// Whether a plan is a controller for a task and its goals. It isn't where it reaches more than may be
-/// followed, nor where there is no initial state.
+/// Whether a plan is a controller for a task and its goals. It isn't where there is no initial state. A
+/// plan that reaches more than may be followed is judged on sets of states, in a table for so many
+/// nodes.
 pub(crate) fn is_controller(
     alloc: Global,
     kind: PlanKind,
+    nodes: u32,
     grounded: &Grounded,
     plan: &Plan,
 ) -> Result<bool, Refusal>
+    requires room { IsNodeLimit nodes }
     requires goal { HasGoalIn (kind_of kind) grounded.now.task grounded.now.ctl }
     requires goal_names { IfSome grounded.now.ctl
         (λ goal. NamesBelow (fluent_count grounded.now.task) (ctl_value goal)) }
@@ -40,8 +67,8 @@ pub(crate) fn is_controller(
         → IsJudged (kind_of kind) grounded.now.task grounded.now.ctl (plain_of plan.now)) }
     ensures in_task { IfOk result (λ is. IsTrue is
         → IsPlanOf (fluent_count grounded.now.task) (action_count grounded.now.task) plan.now) }
-    ensures refused { IfErr result
-        (λ refusal. IsJudgeRefusal grounded.now.task (refusal_of refusal)) }
+    ensures refused { IfErr result (λ refusal. IsJudgeRefusal (kind_of kind) nodes
+        grounded.now.task (plain_of plan.now) (refusal_of refusal)) }
 {
     let task = &grounded.task;
     if !is_plan_of(task.fluents.len(), task.actions.len(), plan) {
@@ -50,16 +77,18 @@ pub(crate) fn is_controller(
     if !is_written_for(kind, plan) || !names_last_context(plan) || !is_told_in_full(plan) {
         return Ok(false);
     }
-    is_found_good(alloc, kind, grounded, plan)
+    is_found_good(alloc, kind, nodes, grounded, plan)
 }
 
-/// Whether a plan of the kind begins somewhere, has the verdict yes, and has rules that serve.
+/// Whether a plan of the kind is found good: along its graph, or where it has none, on sets.
 fn is_found_good(
     alloc: Global,
     kind: PlanKind,
+    nodes: u32,
     grounded: &Grounded,
     plan: &Plan,
 ) -> Result<bool, Refusal>
+    requires room { IsNodeLimit nodes }
     requires goal { HasGoalIn (kind_of kind) grounded.now.task grounded.now.ctl }
     requires goal_names { IfSome grounded.now.ctl
         (λ goal. NamesBelow (fluent_count grounded.now.task) (ctl_value goal)) }
@@ -68,19 +97,75 @@ fn is_found_good(
     requires of_kind { is_of_kind (kind_of kind) (plain_of plan.now) ≡ true }
     ensures yes { IfOk result (λ is. IsTrue is
         → IsFoundGood (kind_of kind) grounded.now.task grounded.now.ctl (plain_of plan.now)) }
-    ensures refused { IfErr result
-        (λ refusal. IsJudgeRefusal grounded.now.task (refusal_of refusal)) }
+    ensures refused { IfErr result (λ refusal. IsJudgeRefusal (kind_of kind) nodes
+        grounded.now.task (plain_of plan.now) (refusal_of refusal)) }
+{
+    match is_good_along(alloc, kind, grounded, plan)? {
+        Some(is) => Ok(is),
+        None => is_good_on_sets(alloc, kind, nodes, grounded, plan),
+    }
+}
+
+/// Whether a plan of the kind begins somewhere, has the verdict yes, and has rules that serve. `None`
+/// where it has no graph.
+fn is_good_along(
+    alloc: Global,
+    kind: PlanKind,
+    grounded: &Grounded,
+    plan: &Plan,
+) -> Result<Option<bool>, Refusal>
+    requires goal { HasGoalIn (kind_of kind) grounded.now.task grounded.now.ctl }
+    requires goal_names { IfSome grounded.now.ctl
+        (λ goal. NamesBelow (fluent_count grounded.now.task) (ctl_value goal)) }
+    requires in_task { IsPlanOf (fluent_count grounded.now.task) (action_count grounded.now.task)
+        plan.now }
+    requires of_kind { is_of_kind (kind_of kind) (plain_of plan.now) ≡ true }
+    ensures yes { IfOk result (λ found. IfSome found (λ is. IsTrue is
+        → IsGoodAlong (kind_of kind) grounded.now.task grounded.now.ctl (plain_of plan.now))) }
+    ensures none { IfOk result (λ found. IfNone found
+        (HasNoGraph grounded.now.task (plain_of plan.now))) }
+    ensures refused { IfErr result (λ refusal. refusal_of refusal ≡ no_memory) }
 {
     match explore(alloc, &grounded.task, plan) {
         Ok(graph) => {
             if graph.len() == 0 || !is_yes(alloc, kind, grounded, &graph)? {
-                return Ok(false);
+                return Ok(Some(false));
             }
-            Ok(rules_serve(alloc, &grounded.task, plan, &graph)?)
+            let serve = rules_serve(alloc, &grounded.task, plan, &graph)?;
+            Ok(Some(serve))
         }
-        Err(GraphErr::Initial) => Err(Refusal::OverLimit(Limit::Initial)),
-        Err(GraphErr::TooLarge) => Ok(false),
+        Err(GraphErr::Initial) => Ok(None),
+        Err(GraphErr::TooLarge) => Ok(None),
         Err(GraphErr::Memory) => Err(Refusal::NoMemory),
+    }
+}
+
+/// Whether a plan of the kind is a table that is found good on sets, with so many nodes.
+fn is_good_on_sets(
+    alloc: Global,
+    kind: PlanKind,
+    nodes: u32,
+    grounded: &Grounded,
+    plan: &Plan,
+) -> Result<bool, Refusal>
+    requires room { IsNodeLimit nodes }
+    requires goal { HasGoalIn (kind_of kind) grounded.now.task grounded.now.ctl }
+    requires in_task { IsPlanOf (fluent_count grounded.now.task) (action_count grounded.now.task)
+        plan.now }
+    ensures yes { IfOk result (λ is. IsTrue is
+        → IsTableGoodOnSets (kind_of kind) grounded.now.task (plain_of plan.now)) }
+    ensures refused { IfErr result (λ refusal. IsJudgeRefusal (kind_of kind) nodes
+        grounded.now.task (plain_of plan.now) (refusal_of refusal)) }
+{
+    match (kind, plan) {
+        (PlanKind::Class(class), Plan::Table(table)) => {
+            match are_good_rules(alloc, nodes, &grounded.task, class, &table.rules) {
+                Ok(are) => Ok(are),
+                Err(SetErr::Full) => Err(Refusal::Full(nodes)),
+                Err(SetErr::Memory) => Err(Refusal::NoMemory),
+            }
+        }
+        _ => Ok(false),
     }
 }
 

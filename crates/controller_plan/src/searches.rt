@@ -20,11 +20,11 @@ use exec_graph::MAX_CONFIGURATIONS;
 use ground_task::Grounded;
 use guided_plan::{Allowance, GuidedAnswer, plan_guided};
 use plan_guide::Guide;
-use plan_rules::{Class, Plan};
+use plan_rules::{Class, Plan, Rule};
 use reach_plan::{Takers, find_takers};
 use reached_plan::plan_reached;
 use std::alloc::{AllocError, AllocFailed, Global};
-use task_core::{ActionId, InitErr, Task, init_states};
+use task_core::{ActionId, InitErr, Lit, Task, init_states};
 use task_sets::encode_ordered;
 
 /// How many states are gone through before anything else is tried.
@@ -42,11 +42,27 @@ const MUCH: Allowance = Allowance {
     states: 4_000_000,
 };
 
+/// How much a search may do.
+#[derive(Clone, Copy)]
+pub(crate) enum Effort {
+    /// It goes through a few states, or by estimates from a few.
+    Little,
+    /// It goes through all states that can be reached, or over sets of states, or where these don't fit
+    /// by estimates from many states.
+    Thorough,
+    /// It goes by estimates from many states.
+    Much,
+}
+
 /// What came of a search.
 #[derive(Drop)]
-pub(crate) enum Sought {
+pub(crate) enum Searched {
     /// This is what a plan reaches, and what it does there.
     Followed(Followed),
+    /// The rules of a table, of which the first that matches counts.
+    Rules(Vec<Rule>),
+    /// There is no plan, as far as the search knows: these sets, of cubes, are to be a certificate.
+    NoPlan(Vec<Vec<Vec<Lit>>>),
     /// No plan was found, or more is reached than may be followed, or for whatever other reason there is
     /// nothing to be shown.
     Nothing,
@@ -92,64 +108,96 @@ impl From<InitErr> for Stop {
     }
 }
 
-/// Looks for a plan of the kind for a task and its goals, and follows it. Fails only where memory
-/// runs out.
+/// Looks for a plan of the kind for a task and its goals. Fails only where memory runs out.
 pub(crate) fn seek(
     alloc: Global,
     asked: &PlanWords,
     grounded: &Grounded,
-) -> Result<Sought, AllocError>
+    effort: Effort,
+) -> Result<Searched, AllocError>
     requires room { IsNodeLimit asked.now.options.nodes }
     requires goal_names { IfSome grounded.now.ctl
         (λ goal. NamesBelow (fluent_count grounded.now.task) (ctl_value goal)) }
     requires shallow { IfSome grounded.now.ctl (λ goal. IsAtMostDeep 199 (ctl_value goal)) }
 {
     let nodes = asked.options.nodes;
-    let found = match asked.kind {
-        PlanKind::Class(class) => follow_class(alloc, class, nodes, &grounded.task),
-        PlanKind::Contexts => follow_contexts(alloc, nodes, grounded),
-    };
-    match found {
-        Ok(Some(followed)) => Ok(Sought::Followed(followed)),
-        Ok(None) | Err(Stop::Full | Stop::TooMany) => Ok(Sought::Nothing),
-        Err(Stop::Memory) => Err(AllocError),
+    match asked.kind {
+        PlanKind::Class(class) => seek_class(alloc, class, nodes, &grounded.task, effort),
+        PlanKind::Contexts => seek_contexts(alloc, nodes, grounded, effort),
     }
 }
 
-/// What a plan of a class reaches, if one is found: state by state where very few can be reached; then by
-/// a heuristic search that may do little; then state by state once more, and over sets of states; and
-/// where these find nothing, by a heuristic search that may do much.
-fn follow_class(
+/// Looks for a plan with contexts: over sets of states alone.
+fn seek_contexts(
+    alloc: Global,
+    nodes: u32,
+    grounded: &Grounded,
+    effort: Effort,
+) -> Result<Searched, AllocError>
+    requires room { IsNodeLimit nodes }
+    requires goal_names { IfSome grounded.now.ctl
+        (λ goal. NamesBelow (fluent_count grounded.now.task) (ctl_value goal)) }
+    requires shallow { IfSome grounded.now.ctl (λ goal. IsAtMostDeep 199 (ctl_value goal)) }
+{
+    match effort {
+        Effort::Thorough => outcome_of(follow_contexts(alloc, nodes, grounded)),
+        Effort::Little | Effort::Much => Ok(Searched::Nothing),
+    }
+}
+
+/// Looks for a plan of a class: with little work state by state where very few can be reached, and else
+/// by a heuristic search; thoroughly state by state, then over sets of states, and where the table of
+/// nodes is full by a heuristic search; with much work by a heuristic search.
+fn seek_class(
     alloc: Global,
     class: Class,
     nodes: u32,
     task: &Task,
-) -> Result<Option<Followed>, Stop>
+    effort: Effort,
+) -> Result<Searched, AllocError>
     requires room { IsNodeLimit nodes }
 {
-    if let Some(plan) = plan_quickly(alloc, class, task)? {
-        return follow_states(alloc, task, &plan);
-    }
-    match follow_thoroughly(alloc, class, nodes, task) {
-        Ok(Some(followed)) => Ok(Some(followed)),
-        Ok(None) => Ok(None),
-        Err(Stop::Memory) => Err(Stop::Memory),
-        Err(Stop::Full | Stop::TooMany) => match plan_guided_by(alloc, class, task, &MUCH)? {
-            Some(plan) => follow_states(alloc, task, &plan),
-            None => Ok(None),
-        },
+    match effort {
+        Effort::Little => seek_quickly(alloc, class, task),
+        Effort::Thorough => seek_thoroughly(alloc, class, nodes, task),
+        Effort::Much => seek_guided(alloc, class, task, &MUCH),
     }
 }
 
-/// A plan of a class that is found with little work, if one is.
-fn plan_quickly(alloc: Global, class: Class, task: &Task) -> Result<Option<StatePlan>, AllocError> {
+/// Looks for a plan of a class with little work.
+fn seek_quickly(alloc: Global, class: Class, task: &Task) -> Result<Searched, AllocError> {
     match plan_reached(alloc, task, class, FEW_STATES)? {
-        Some(plan) => Ok(Some(StatePlan::Reached(plan))),
-        None => plan_guided_by(alloc, class, task, &LITTLE),
+        Some(plan) => outcome_of(follow_states(alloc, task, &StatePlan::Reached(plan))),
+        None => seek_guided(alloc, class, task, &LITTLE),
     }
 }
 
-/// What a plan reaches that is found among all states that can be reached, or over sets of states.
+/// Looks for a plan of a class thoroughly.
+fn seek_thoroughly(
+    alloc: Global,
+    class: Class,
+    nodes: u32,
+    task: &Task,
+) -> Result<Searched, AllocError>
+    requires room { IsNodeLimit nodes }
+{
+    match follow_thoroughly(alloc, class, nodes, task) {
+        Err(Stop::Full) => seek_guided(alloc, class, task, &MUCH),
+        found => outcome_of(found),
+    }
+}
+
+/// What came of following a plan that was looked for.
+fn outcome_of(found: Result<Option<Followed>, Stop>) -> Result<Searched, AllocError> {
+    match found {
+        Ok(Some(followed)) => Ok(Searched::Followed(followed)),
+        Ok(None) | Err(Stop::Full | Stop::TooMany) => Ok(Searched::Nothing),
+        Err(Stop::Memory) => Err(AllocError),
+    }
+}
+
+/// What a plan reaches that is found among all states that can be reached, or over sets of states. Where
+/// there are too many initial states neither is tried.
 fn follow_thoroughly(
     alloc: Global,
     class: Class,
@@ -158,23 +206,27 @@ fn follow_thoroughly(
 ) -> Result<Option<Followed>, Stop>
     requires room { IsNodeLimit nodes }
 {
+    let _initial = init_states(alloc, task, MAX_CONFIGURATIONS)?;
     match plan_reached(alloc, task, class, MAX_CONFIGURATIONS)? {
         Some(plan) => follow_states(alloc, task, &StatePlan::Reached(plan)),
         None => follow_encoded(alloc, class, nodes, task),
     }
 }
 
-/// A plan of a class that a heuristic search finds which may do so much, if it is one for states that can
-/// be listed. That there is none isn't taken from it.
-fn plan_guided_by(
+/// Looks for a plan of a class by a heuristic search which may do so much.
+fn seek_guided(
     alloc: Global,
     class: Class,
     task: &Task,
     allowance: &Allowance,
-) -> Result<Option<StatePlan>, AllocError> {
+) -> Result<Searched, AllocError> {
     match plan_guided(alloc, task, class, allowance)? {
-        GuidedAnswer::States(plan) => Ok(Some(StatePlan::Guided(plan))),
-        GuidedAnswer::Rules(_) | GuidedAnswer::NoPlan(_) | GuidedAnswer::GaveUp => Ok(None),
+        GuidedAnswer::States(plan) => {
+            outcome_of(follow_states(alloc, task, &StatePlan::Guided(plan)))
+        }
+        GuidedAnswer::Rules(rules) => Ok(Searched::Rules(rules)),
+        GuidedAnswer::NoPlan(sets) => Ok(Searched::NoPlan(sets)),
+        GuidedAnswer::GaveUp => Ok(Searched::Nothing),
     }
 }
 

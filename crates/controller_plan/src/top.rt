@@ -19,9 +19,9 @@ use std::alloc::Global;
 /// - 0: a controller is on `out`: a plan of the kind that meets the problem, with rules for the
 ///   states alone that it reaches, as text or as a JSON document;
 /// - 1: there is no plan of the kind;
-/// - 4: a limit is passed, one of those of `plan`, or: there are more than 262,144 initial states,
-///   more than 262,144 configurations are reached, or the text would be longer than 1,048,576
-///   bytes;
+/// - 4: a limit is passed, one of those of `plan`, or: the text would be longer than 1,048,576 bytes;
+///   of a plan with contexts, there are more than 262,144 initial states, or more than 262,144
+///   configurations are reached; or no controller was judged to be good;
 /// - 2, 3, 5, 6, 7, 8: as for `plan`.
 pub fn control<S: Shelf, O: Sink, E: Sink>(
     alloc: Global,

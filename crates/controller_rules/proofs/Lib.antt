@@ -5,3 +5,4 @@ pub mod Graphs
 pub mod Noted
 pub mod RunCubes
 pub mod Spelled
+pub mod Unlisted

@@ -2,34 +2,16 @@
 -- too, although it denotes the pairs of each rule that matches: Cimatti, Pistore, Roveri, Traverso
 -- 2003). So these say when both readings agree, and that no rule is for nothing.
 use Rattle.std.specs.Prelude.{◌≡◌, ◌⊎◌, ◌<◌, ◌==◌, ◌&&◌, ℕ, Bool, true, false, List, length, map, ⊤}
-use Rattle.std.specs.Prelude.{find, slice_index_or}
-use Rattle.std.specs.List.{Contains, filter, flat_map, range_with_len}
-use Rattle.std.specs.Option.{option_map_or}
+use Rattle.std.specs.Prelude.{slice_index_or}
+use Rattle.std.specs.List.{Contains}
 use Rattle.exec_graph.specs.Executions.{IsReachedBy}
 use Rattle.plan_guide.specs.RunRules.{run_rules}
-use Rattle.plan_rules.specs.Denoted.{can_execute}
-use Rattle.plan_rules.specs.Rules.{ContextRule, PlainPlan, PlanRule, always, automaton, table}
+use Rattle.plan_rules.specs.Rules.{ContextRule, PlainPlan, always, automaton, table}
 use Rattle.task_core.specs.ContextPlans.{Configuration}
 use Rattle.task_core.specs.Cubes.{matches}
-use Rattle.task_core.specs.Systems.{System}
-use Rattle.task_core.specs.Tables.{Table}
-use Rattle.task_core.specs.Vectors.{Vector, all_vectors}
-
--- the first rule that matches v has this action
-abbrev pub begins_with_action : List PlanRule → Vector → ℕ → Bool
-begins_with_action rules v a =
-    option_map_or (λ (rule : PlanRule). rule.action == a)
-    (find (λ (rule : PlanRule). matches rule.cube v) rules) false
-
--- the pair of one state: the action of the first rule that matches it, if it can be executed there
-abbrev pub run_at : System → List PlanRule → Vector → Table
-run_at sys rules v =
-    map (λ a. (v, a)) (filter (λ a. begins_with_action rules v a && can_execute sys v a)
-    (range_with_len 0 sys.actions))
-
+use Rattle.task_core.specs.Systems.{System, IsState}
 -- the table of the rules as they are run: at most one action for each state
-abbrev pub run_table : System → List PlanRule → Table
-run_table sys rules = flat_map (run_at sys rules) (all_vectors sys.fluents)
+pub use Rattle.first_match.specs.FirstMatch.{run_table}
 
 -- a rule counts in a configuration: it is one of the context, and matches the state
 abbrev pub counts_at : Configuration → ContextRule → Bool
@@ -67,6 +49,18 @@ pub record Serves (sys : System) (plan : PlainPlan) (number : ℕ) : Type 0 wher
 -- no rule is dead: each of them serves
 abbrev pub HasNoDeadRule : System → PlainPlan → Type 0
 HasNoDeadRule sys plan = (k : ℕ) → k < length (run_rules plan) → Serves sys plan k
+
+-- the rule of a number counts somewhere: in some state of the system, whether the plan may reach it
+-- or not, it is the first that counts in its context
+pub record CountsSomewhere (sys : System) (plan : PlainPlan) (number : ℕ) : Type 0 where
+  pub place : Configuration
+  pub is_state : IsState sys place.state
+  pub first : IsFirstAt (run_rules plan) place number
+
+-- no rule is hidden by those before it. This is what can be said of each rule where the states that a
+-- plan may reach aren't listed
+abbrev pub HasNoHiddenRule : System → PlainPlan → Type 0
+HasNoHiddenRule sys plan = (k : ℕ) → k < length (run_rules plan) → CountsSomewhere sys plan k
 
 -- a rule names a context: it is the rule's own, or the next one
 abbrev pub NamesContext : ℕ → ContextRule → Type 0

@@ -1,3 +1,4 @@
 pub mod AsRun
 pub mod Checks
 pub mod Texts
+pub mod Unlisted

@@ -7,16 +7,20 @@
 //! at all. `write_controller` writes the text, with a comment before the rules that are first wanted after
 //! as many steps.
 //!
-//! `specs/AsRun` says what a plan is as it is run, and `specs/Texts` which bytes are printed.
+//! `specs/AsRun` says what a plan is as it is run, `specs/Unlisted` what is asked of rules whose states
+//! are too many to be listed (`good_rules_control` is the law that carries a verdict on them to it), and
+//! `specs/Texts` which bytes are printed.
 #![tactic(auto)]
 
 mod contexts;
 mod fits;
+mod laws;
 mod run_rules;
 mod served;
 mod texts;
 
 pub use contexts::names_last_context;
 pub use fits::is_plan_of;
+pub use laws::good_rules_control;
 pub use served::rules_serve;
 pub use texts::write_controller;

@@ -20,15 +20,15 @@ use Rattle.plan_theory.specs.declared.answers.Found.TheVariants.{NoPlan, Plan}
 use Rattle.plan_theory.specs.Found.{IfNoPlan, IfPlan}
 use Rattle.encode_task.specs.Made.{MadeOf}
 use Rattle.plan_theory.proofs.PrintedWithin.{printed_within}
-use Rattle.plan_theory.proofs.WeakDenoted.{denoted-table}
-use Rattle.plan_theory.proofs.WeakLists.{list_all-agree, list_all-at, list_all-from}
+use Rattle.plan_rules.proofs.DenotedPairs.{denoted-table}
+use Rattle.list_laws.proofs.Elements.{list_all-agree, list_all-at, list_all-from}
 use Rattle.plan_theory.proofs.RoundSteps.{later_rounds, rounds_end, rounds_shrink_to}
 use Rattle.task_core.specs.Systems.{IsVector}
 use Rattle.task_core.specs.Vectors.{Vector, value_of}
 use Rattle.task_core.specs.Cubes.{SetOfVectors}
 use Rattle.cyclic_plan.specs.Answers.{Ends, IsAnswer, IsPlanOf, RoundsEnd}
 use Rattle.cyclic_plan.specs.Stages.{HasNear, HasRounds, Takings, kept_system, none_taken, takers_within}
-use Rattle.cyclic_plan.specs.Steps.{Follows}
+use Rattle.cyclic_plan.specs.Steps.{AreStepsFrom}
 use Rattle.slot_board.specs.declared.steps.Step.{Step}
 use Rattle.cyclic_plan.proofs.PlanMade.{covered_is, near_stays}
 use Rattle.cyclic_plan.specs.Takers.{HasTable, start_of}
@@ -38,7 +38,7 @@ use Rattle.dd_sets.proofs.RoomSteps.{room_wider}
 use Rattle.slot_board.specs.Board as board
 use Rattle.slot_board.specs.Board.{At, HasNoRoom, Left, Start, Stayed, set_at}
 use Rattle.cyclic_plan.specs.Stages.{AreTakersSmall, HasNothing, IsFit, place_count, rough_places}
-use Rattle.cyclic_plan.specs.WorkingSets.{IsWide}
+use Rattle.cyclic_plan.specs.WorkingSets.{BoundsCyclicSets}
 use Rattle.cyclic_plan.proofs.Fitting.{all_wide, takers_small}
 use Rattle.plan_theory.specs.LargestSets.{covers, goal_or_pair}
 use Rattle.plan_theory.specs.Pairs.{restricted}
@@ -94,7 +94,7 @@ pub near_covered_is : (start : Start) (enc : Encoded) (slots : List SetId) (left
 near_covered_is start enc slots left taken near h =
     list_all-agree (λ state. set_at enc.sets slots 3 (value_of state)) near (initial_states start.task) (λ s c. h.holds_near s ((is_system start.task).initial s c).vector)
 
-pub rounds_ended : (start : Start) (enc now : Encoded) (slots : List SetId) (steps : List Step) (r : ℕ) (result : Result Bool SetErr) → IsLastRound (system_of start.task) r → HasRounds start enc slots r → Follows start (round (system_of start.task) r) 0 0 steps → Left start now slots (Stayed start enc.sets now slots) result
+pub rounds_ended : (start : Start) (enc now : Encoded) (slots : List SetId) (steps : List Step) (r : ℕ) (result : Result Bool SetErr) → IsLastRound (system_of start.task) r → HasRounds start enc slots r → AreStepsFrom start (round (system_of start.task) r) 0 0 steps → Left start now slots (Stayed start enc.sets now slots) result
     → IfOk result (λ covered. covered ≡ list_all (λ state. set_at enc.sets slots 1 (value_of state)) (initial_states start.task)) → RoundsEnd start now slots steps result
 rounds_ended start enc now slots steps r (Ok true) last h follows left answer = (
   r,
@@ -110,7 +110,7 @@ rounds_ended start enc now slots steps r (Ok false) last h follows left answer =
 rounds_ended start enc now slots steps r (Err e) last h follows left answer = left
 
 pub rounds_found : (start : Start) (now : Encoded) (slots : List SetId) (steps : List Step) (result : Result Bool SetErr) (covered : Bool) → result ≡ Ok covered → covered ≡ true → RoundsEnd start now slots steps result
-    → (r : ℕ) × IsLastRound (system_of start.task) r × (list_all (round (system_of start.task) r) (system_of start.task).initial ≡ true) × HasRounds start now slots r × Follows start (round (system_of start.task) r) 0 0 steps
+    → (r : ℕ) × IsLastRound (system_of start.task) r × (list_all (round (system_of start.task) r) (system_of start.task).initial ≡ true) × HasRounds start now slots r × AreStepsFrom start (round (system_of start.task) r) 0 0 steps
 rounds_found start now slots steps result covered was is ends = subst (RoundsEnd start now slots steps) (was ∙ ap Ok is) ends
 
 pub rounds_lost : (start : Start) (now : Encoded) (slots : List SetId) (steps : List Step) (result : Result Bool SetErr) (covered : Bool) → result ≡ Ok covered → covered ≡ false → RoundsEnd start now slots steps result → At start now slots × HasNoSolution Cyclic (system_of start.task)
@@ -193,7 +193,7 @@ answer_no_plan task (Ok NoPlan) is = is
 answer_no_plan task (Err e) is = tt
 
 -- the new board's places
-pub first_places : (task : Task) (enc now : Encoded) (made : MadeOf task enc) (width : ℕ) (wide : IsWide width task) (places : ℕ) (slots : List SetId) → places ≡ place_count (action_count task)
+pub first_places : (task : Task) (enc now : Encoded) (made : MadeOf task enc) (width : ℕ) (wide : BoundsCyclicSets width task) (places : ℕ) (slots : List SetId) → places ≡ place_count (action_count task)
     → board.HasNothing (record { task = task; enc = enc; made = made; places = places; spare = action_count task + 17; width = width; wide = wide.wide; rough = rough_places }) now slots → HasNothing (start_of task enc made width wide.wide) now slots
 first_places task enc now made width wide places slots e h =
     let new : board.HasNothing (start_of task enc made width wide.wide) now slots =

@@ -32,13 +32,13 @@ use Rattle.plan_theory.specs.PairRounds.{IsLastRound, kept, round}
 use Rattle.plan_theory.specs.Pairs.{Pairs, restricted}
 use Rattle.plan_theory.proofs.Cubes.{all_vectors-holds, all_vectors-length}
 use Rattle.plan_theory.proofs.CyclicPrinted.{cyclic_solves}
-use Rattle.plan_theory.proofs.Ranges.{range-more}
+use Rattle.list_laws.proofs.Ranges.{range-more}
 use Rattle.plan_theory.proofs.Restricted.{outcome_of_pair}
 use Rattle.plan_theory.proofs.RoundSteps.{held}
 use Rattle.plan_theory.proofs.Survives.{last_is_largest}
 use Rattle.plan_theory.proofs.Weak.{HasOutcome-Exec, same_vector-true}
-use Rattle.plan_theory.proofs.WeakDenoted.{denoted-table}
-use Rattle.plan_theory.proofs.WeakLists.{list_all-at, list_all-from, list_any-from, list_any-witness}
+use Rattle.plan_rules.proofs.DenotedPairs.{denoted-table}
+use Rattle.list_laws.proofs.Elements.{list_all-at, list_all-from, list_any-from, list_any-witness}
 use Rattle.slot_board.specs.Board.{At, Fits, HasNoRoom, IsSmall, Left, Moved, Start, Stayed, set_at}
 use Rattle.slot_board.proofs.BoardSlots.{depends, made_at}
 use Rattle.cyclic_plan.specs.Certificates.{CertificateEnds, Certifies, HasAllSets, HasLost, HasLostSets, HasSolution, LosesNoState, LosesSome}

@@ -31,12 +31,12 @@ use Rattle.plan_theory.specs.Layers.{layer, may_lead}
 use Rattle.plan_theory.specs.LayerPlans.{takers}
 use Rattle.plan_theory.specs.PairRounds.{kept, progress, round}
 use Rattle.plan_theory.specs.Pairs.{Pairs, is_goal, restricted}
-use Rattle.plan_theory.proofs.Ranges.{range-more}
+use Rattle.list_laws.proofs.Ranges.{range-more}
 use Rattle.slot_board.specs.Board.{At, Fits, IsSmall, LeadFits, Start, TestFits, first_of, set_at}
 use Rattle.slot_board.specs.declared.board.Outcomes.{Outcomes as HowMany}
 use Rattle.slot_board.specs.declared.board.Outcomes.TheVariants as Outcomes
 use Rattle.cyclic_plan.specs.Stages.{Agrees, IsFit, IsLeft, IsNear, IsSmallSet, kept_system, next_by, rough_places}
-use Rattle.cyclic_plan.specs.WorkingSets.{IsWide, near_set, pair_hits, pair_set, pairs_in, states_in}
+use Rattle.cyclic_plan.specs.WorkingSets.{BoundsCyclicSets, near_set, pair_hits, pair_set, pairs_in, states_in}
 use Rattle.cyclic_plan.specs.WorkingSets.IsTaskRound.{initial_round, space_round}
 use Rattle.cyclic_plan.specs.WorkingSets.IsWorkingSet.{by_near, by_rounds, paired, taken}
 use Rattle.cyclic_plan.proofs.StageSteps.{may_restricted, weak_agrees}
@@ -46,7 +46,7 @@ more_lists : (n : ℕ) → n + 2 ≤ 2 ^ n + 1
 more_lists zero = omega arith
 more_lists (suc n) = let h : n + 2 ≤ 2 ^ n + 1 = more_lists n in let e : 2 ^ suc n ≡ 2 ^ n + 2 ^ n = omega arith in omega arith
 
-pub all_wide : (task : Task) → IsWide (2 ^ fluent_count task + 1) task
+pub all_wide : (task : Task) → BoundsCyclicSets (2 ^ fluent_count task + 1) task
 all_wide task = record {
   wide = more_lists (fluent_count task);
   each = λ set working. every_small (fluent_count task) set;

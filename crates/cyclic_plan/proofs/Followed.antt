@@ -23,7 +23,7 @@ use Rattle.plan_theory.specs.PairRounds.{connected, kept}
 use Rattle.plan_theory.proofs.Restricted.{restricted_system}
 use Rattle.slot_board.specs.Board.{At, Left, Moved, Start, set_at}
 use Rattle.cyclic_plan.specs.Stages.{AddsToSmall, AreTakersSmall, HasHits, HasNear, HasNext, IsFit, IsLeft, IsSmallSet, Takings, kept_system, next_by, none_taken, taken_also, taken_by, takers_within}
-use Rattle.cyclic_plan.specs.Steps.{AddsNothing, AreAll, BeginsStep, Follows, HasGrown, HasJoined, HasLed, HasRetraced, RetracedOn, near_at, next_at}
+use Rattle.cyclic_plan.specs.Steps.{AddsNothing, AreAll, BeginsStep, AreStepsFrom, HasGrown, HasJoined, HasLed, HasRetraced, RetracedOn, near_at, next_at}
 use Rattle.slot_board.specs.declared.steps.Step.{Step}
 use Rattle.slot_board.specs.declared.steps.Step.TheVariants.{Advance, Grow}
 use Rattle.cyclic_plan.proofs.Growth.{adds_small, chosen_same, layer_last, near_as, next_as, next_more, next_none, step_small, taken_more, taken_none, takers_none, takers_step}
@@ -106,7 +106,7 @@ module _ (start : Start) (left : SetOfVectors) (k : ℕ) where
       next_as start now slots left _ _ (near_at start left k) _ _ h (λ a v within is. taken_skip (takers_within true (kept_system start left) k) n m l none a v is) (λ v is. next_skip n m l none v is)
 
   -- what follows after an action that adds nothing, follows before it
-  follows_skip : (n : ℕ) (rest : List Step) → AddsNothing start left k n → Follows start left k (n + 1) rest → Follows start left k n rest
+  follows_skip : (n : ℕ) (rest : List Step) → AddsNothing start left k n → AreStepsFrom start left k (n + 1) rest → AreStepsFrom start left k n rest
   follows_skip n [] none f = let e : n + 1 ≡ 0 = f.0 in absurd (omega arith)
   follows_skip n (Grow a ∷ rest) none f =
       let l : n + 1 ≤ a.0 = f.0 in (
@@ -127,13 +127,13 @@ module _ (start : Start) (left : SetOfVectors) (k : ℕ) where
 
   -- the steps with one more, and all of them
   pub led_grow : (a : ActionId) (steps : List Step) → a.0 < action_count start.task → HasLed start left k a.0 steps → HasLed start left k (a.0 + 1) (steps ++ Grow a ∷ [])
-  led_grow a steps within led rest f = subst (Follows start left 0 0) (sym (append_assoc steps (Grow a ∷ []) rest)) (led (Grow a ∷ rest) (omega arith, within, (λ b low high. absurd (omega arith)), f))
+  led_grow a steps within led rest f = subst (AreStepsFrom start left 0 0) (sym (append_assoc steps (Grow a ∷ []) rest)) (led (Grow a ∷ rest) (omega arith, within, (λ b low high. absurd (omega arith)), f))
 
   pub led_advance : (steps : List Step) → HasLed start left k (action_count start.task) steps → HasLed start left (suc k) 0 (steps ++ Advance ∷ [])
-  led_advance steps led rest f = subst (Follows start left 0 0) (sym (append_assoc steps (Advance ∷ []) rest)) (led (Advance ∷ rest) (omega arith, (λ b low high. absurd (omega arith)), f))
+  led_advance steps led rest f = subst (AreStepsFrom start left 0 0) (sym (append_assoc steps (Advance ∷ []) rest)) (led (Advance ∷ rest) (omega arith, (λ b low high. absurd (omega arith)), f))
 
-  pub led_all : (steps : List Step) → HasLed start left k 0 steps → AreAll start left k → Follows start left 0 0 steps
-  led_all steps led all = subst (Follows start left 0 0) (append-nil steps) (led [] (refl, all))
+  pub led_all : (steps : List Step) → HasLed start left k 0 steps → AreAll start left k → AreStepsFrom start left 0 0 steps
+  led_all steps led all = subst (AreStepsFrom start left 0 0) (append-nil steps) (led [] (refl, all))
 
 pub led_none : (start : Start) (left : SetOfVectors) → HasLed start left 0 0 []
 led_none start left rest f = f
@@ -228,11 +228,11 @@ all_near start now slots left k steps spent h same =
 -- the first pass ends
 pub spread_end : (start : Start) (now : Encoded) (slots : List SetId) (left : SetOfVectors) (k : ℕ) (steps more : List Step) (spent : List Bool) → HasGrown start now slots left k (action_count start.task) steps spent
     → set_at now.sets slots 4 ≡ set_at now.sets slots 3 → more ≡ steps ++ Advance ∷ []
-    → HasNear start now slots left none_taken (connected (system_of start.task) (kept (system_of start.task) left)) × Follows start left 0 0 more
+    → HasNear start now slots left none_taken (connected (system_of start.task) (kept (system_of start.task) left)) × AreStepsFrom start left 0 0 more
 spread_end start now slots left k steps more spent h same done =
     let all = all_near start now slots left k steps spent h same in (
       near_as start now slots left none_taken none_taken (near_at start left k) _ h.by_next.by_near (λ a v within is. refl) all.0,
-      subst (Follows start left 0 0) (sym done) (led_all start left (suc k) (steps ++ Advance ∷ []) (led_advance start left k steps h.led) all.1),
+      subst (AreStepsFrom start left 0 0) (sym done) (led_all start left (suc k) (steps ++ Advance ∷ []) (led_advance start left k steps h.led) all.1),
     )
 
 -- and the second
@@ -250,7 +250,7 @@ retraced_all start now slots left at =
     h.follows.1
 
 -- an action taken, and the next states in the place of the near ones
-pub retraced_grow : (start : Start) (now : Encoded) (slots : List SetId) (left : SetOfVectors) (k : ℕ) (a : ℕ) (rest : List Step) → Follows start left k (a + 1) rest
+pub retraced_grow : (start : Start) (now : Encoded) (slots : List SetId) (left : SetOfVectors) (k : ℕ) (a : ℕ) (rest : List Step) → AreStepsFrom start left k (a + 1) rest
     → HasNext start now slots left (taken_also (taken_by true (kept_system start left) (near_at start left k) (takers_within true (kept_system start left) k) a) a (λ v. may_lead (kept_system start left) (near_at start left k) v a && not (next_at start left k a v))) (near_at start left k) (λ v. next_at start left k a v || may_lead (kept_system start left) (near_at start left k) v a)
     → RetracedOn start now slots left rest
 retraced_grow start now slots left k a rest f h =
@@ -263,7 +263,7 @@ retraced_grow start now slots left k a rest f h =
       },
     )
 
-pub retraced_begin : (start : Start) (now : Encoded) (slots : List SetId) (left : SetOfVectors) (k : ℕ) (rest : List Step) → Follows start left k 0 rest
+pub retraced_begin : (start : Start) (now : Encoded) (slots : List SetId) (left : SetOfVectors) (k : ℕ) (rest : List Step) → AreStepsFrom start left k 0 rest
     → HasNext start now slots left (takers_within true (kept_system start left) k) (near_at start left k) (near_at start left k)
     → RetracedOn start now slots left rest
 retraced_begin start now slots left k rest f h =
@@ -356,7 +356,7 @@ retraced_advance start enc now old new left k n rest h m =
 
 -- the second pass begins with the goal states
 pub retraced_first : (start : Start) (enc mid now : Encoded) (old half new : List SetId) (left near : SetOfVectors) (steps : List Step) → HasNear start enc old left none_taken near
-    → Moved start enc.sets old mid half 3 (set_at enc.sets old 0) → Moved start mid.sets half now new 4 (set_at mid.sets half 3) → Follows start left 0 0 steps → RetracedOn start now new left steps
+    → Moved start enc.sets old mid half 3 (set_at enc.sets old 0) → Moved start mid.sets half now new 4 (set_at mid.sets half 3) → AreStepsFrom start left 0 0 steps → RetracedOn start now new left steps
 retraced_first start enc mid now old half new left near steps h m w f =
     let first = near_copied start enc mid old half left none_taken near (near_at start left 0) _ h m h.round.holds_goal in
     retraced_begin start now new left 0 steps f

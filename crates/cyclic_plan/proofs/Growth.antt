@@ -20,9 +20,9 @@ use Rattle.plan_theory.specs.Classes.{IsStable}
 use Rattle.plan_theory.specs.Layers.{action_numbers, layer, may_lead}
 use Rattle.plan_theory.specs.LayerPlans.{action_of_rank, chosen_action, is_action, takers}
 use Rattle.plan_theory.proofs.ClassLayers.{chosen_kept, chosen_zero, layer-stable, rank_within-None, step_choice}
-use Rattle.plan_theory.proofs.Ranges.{find-first, range-more}
+use Rattle.list_laws.proofs.Ranges.{find-first, range-more}
 use Rattle.plan_theory.proofs.LeastBounds.{stands_still}
-use Rattle.plan_theory.proofs.WeakLists.{find-None, find-Some, find-found, Contains-range_with_len-below}
+use Rattle.list_laws.proofs.Elements.{find-None, find-Some, find-found, Contains-range_with_len-below}
 use Rattle.plan_theory.proofs.WeakPrinted.{is_action-Some, is_action-from}
 use Rattle.plan_theory.proofs.Cubes.{all_vectors-agree, all_vectors-length}
 use Rattle.plan_theory.proofs.RoundSteps.{held, holds_fewer}

@@ -13,10 +13,10 @@ use Rattle.plan_theory.specs.PairRounds.{kept, progress, round}
 use Rattle.plan_theory.specs.Pairs.{Pairs, restricted}
 use Rattle.plan_theory.proofs.Restricted.{more_pairs, progress_connected, progress_step}
 use Rattle.plan_theory.proofs.RoundSteps.{kept_more, round_shrinks}
-use Rattle.plan_theory.proofs.WeakLists.{Contains-range_with_len-below, list_any-agree, list_any-witness}
+use Rattle.list_laws.proofs.Elements.{Contains-range_with_len-below, list_any-agree, list_any-witness}
 use Rattle.slot_board.specs.Board.{Start}
 use Rattle.cyclic_plan.specs.Rounds.{LosesNone}
-use Rattle.cyclic_plan.specs.Steps.{AddsNothing, AreAll, Follows, near_at, next_at}
+use Rattle.cyclic_plan.specs.Steps.{AddsNothing, AreAll, AreStepsFrom, near_at, next_at}
 use Rattle.slot_board.specs.declared.steps.Step.{Step}
 use Rattle.slot_board.specs.declared.steps.Step.TheVariants.{Advance, Grow}
 use Rattle.cyclic_plan.proofs.Narrowing.{stays}
@@ -78,7 +78,7 @@ module _ (start : Start) (r : ℕ) (none : (a : ℕ) → a < action_count start.
   all_on : (k : ℕ) → AreAll start (round (system_of start.task) r) k → AreAll start (round (system_of start.task) (suc r)) k
   all_on k all v is = let sys = system_of start.task in sym (near_same k v is) ∙ all v is ∙ near_same (2 ^ sys.fluents) v is
 
-  pub follows_on : (k n : ℕ) (steps : List Step) → Follows start (round (system_of start.task) r) k n steps → Follows start (round (system_of start.task) (suc r)) k n steps
+  pub follows_on : (k n : ℕ) (steps : List Step) → AreStepsFrom start (round (system_of start.task) r) k n steps → AreStepsFrom start (round (system_of start.task) (suc r)) k n steps
   follows_on k n [] f = (f.0, all_on k f.1)
   follows_on k n (Grow a ∷ rest) f = (f.0, f.1, (λ b low high. adds_on k b (let l = f.1 in omega arith) (f.2 b low high)), follows_on k (a.0 + 1) rest f.3)
   follows_on k n (Advance ∷ rest) f = (f.0, (λ b low high. adds_on k b high (f.1 b low high)), follows_on (suc k) 0 rest f.2)

@@ -17,7 +17,7 @@ use Rattle.plan_theory.specs.PairRounds.{IsLastRound, kept, progress, round}
 use Rattle.plan_theory.specs.Pairs.{Pairs, is_goal, restricted}
 use Rattle.plan_theory.proofs.Restricted.{outcome_of_pair, progress_connected, progress_step}
 use Rattle.plan_theory.proofs.RoundSteps.{kept_more, round_shrinks}
-use Rattle.plan_theory.proofs.WeakLists.{Contains-range_with_len-below, list_any-witness}
+use Rattle.list_laws.proofs.Elements.{Contains-range_with_len-below, list_any-witness}
 use Rattle.slot_board.proofs.BoardSlots.{depends}
 use Rattle.slot_board.specs.Board.{Moved, Start, led, set_at}
 use Rattle.slot_board.specs.declared.board.Outcomes.TheVariants as Outcomes

@@ -6,7 +6,7 @@ use Rattle.std.proofs.lemmas.Grind.{flat_map-append}
 use Rattle.std.proofs.lemmas.List.{append-nil}
 use Rattle.std.proofs.lemmas.Bool.{and_from, and_parts}
 use Rattle.plan_rules.specs.Rules.{PlanRule}
-use Rattle.plan_theory.proofs.Ranges.{range-more}
+use Rattle.list_laws.proofs.Ranges.{range-more}
 use Rattle.plan_theory.specs.LayerPlans.{rules_of_action, takers}
 use Rattle.task_core.specs.declared.classes.Class.TheVariants.{Weak}
 use Rattle.dd_nodes.specs.Subfunctions.{Function}
@@ -24,7 +24,7 @@ use Rattle.task_core.specs.declared.tasks.Task.{Task}
 use Rattle.task_core.proofs.TaskSystem.{is_system, states_where_has, states_where_holds}
 use Rattle.plan_theory.proofs.Cubes.{all_vectors-length}
 use Rattle.plan_theory.proofs.Weak.{same_vector-itself, same_vector-true}
-use Rattle.plan_theory.proofs.WeakLists.{list_all-agree, list_any-agree, list_any-from, list_any-witness}
+use Rattle.list_laws.proofs.Elements.{list_all-agree, list_any-agree, list_any-from, list_any-witness}
 use Rattle.slot_board.specs.Rules.{rule_for}
 use Rattle.slot_board.specs.Board.{set_at}
 use Rattle.slot_board.specs.Board.{At, Moved, Start, Stayed}

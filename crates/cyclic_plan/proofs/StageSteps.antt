@@ -15,7 +15,7 @@ use Rattle.task_core.specs.Vectors.{Vector, value_of}
 use Rattle.task_core.proofs.TaskSystem.{exec_executable, executable_exec, is_system}
 use Rattle.plan_theory.specs.Layers.{may_lead, must_lead}
 use Rattle.plan_theory.proofs.Weak.{HasOutcome-Exec}
-use Rattle.plan_theory.proofs.WeakLists.{Contains-head, list_all-agree, list_any-agree, list_any-from, list_any-witness, list_all-at}
+use Rattle.list_laws.proofs.Elements.{Contains-head, list_all-agree, list_any-agree, list_any-from, list_any-witness, list_all-at}
 use Rattle.slot_board.proofs.BoardSlots.{depends}
 use Rattle.slot_board.specs.Board.{led, set_at}
 use Rattle.slot_board.specs.Board.{Moved, Start}

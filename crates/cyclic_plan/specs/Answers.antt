@@ -23,7 +23,7 @@ use Rattle.plan_theory.specs.CyclicPlans.{cyclic_rules}
 use Rattle.plan_theory.specs.PairRounds.{IsLastRound}
 use Rattle.plan_theory.specs.PairRounds.{round as round_of}
 use Rattle.cyclic_plan.specs.Stages.{HasRounds}
-use Rattle.cyclic_plan.specs.Steps.{Follows}
+use Rattle.cyclic_plan.specs.Steps.{AreStepsFrom}
 use Rattle.cyclic_plan.specs.Takers.{HasTable}
 use Rattle.slot_board.specs.declared.steps.Step.{Step}
 
@@ -54,7 +54,7 @@ abbrev pub RoundsEnd : Start → Encoded → List SetId → List Step → Result
 RoundsEnd start now slots steps (Ok true) = (r : ℕ) × IsLastRound (system_of start.task) r
     × (list_all (round_of (system_of start.task) r) (system_of start.task).initial ≡ true)
     × HasRounds start now slots r
-    × Follows start (round_of (system_of start.task) r) 0 0 steps
+    × AreStepsFrom start (round_of (system_of start.task) r) 0 0 steps
 RoundsEnd start now slots steps (Ok false) =
     At start now slots × HasNoSolution Cyclic (system_of start.task)
 RoundsEnd start now slots steps (Err e) = At start now slots × (e ≡ Full → HasNoRoom start now)

@@ -21,7 +21,7 @@ use Rattle.plan_theory.specs.LayerPlans.{takers}
 use Rattle.slot_board.specs.Board.{AllNothing, At, IsSmall, Start, set_at}
 use Rattle.plan_theory.specs.Pairs.{is_goal, restricted}
 use Rattle.plan_theory.specs.PairRounds.{kept, round}
-use Rattle.cyclic_plan.specs.WorkingSets.{IsWide}
+use Rattle.cyclic_plan.specs.WorkingSets.{BoundsCyclicSets}
 
 -- a set on diagrams has the states of a set
 abbrev pub Agrees : Start → Function → SetOfVectors → Type 0
@@ -48,7 +48,7 @@ rough_places = 2 ∷ 6 ∷ []
 
 -- the width of a search is one for its working sets, and other sets stand at these places alone
 pub record IsFit (start : Start) : Type 0 where
-  pub wide : IsWide start.width start.task
+  pub wide : BoundsCyclicSets start.width start.task
   pub rough : start.rough ≡ rough_places
 
 -- a set of vectors is small by the width of a search

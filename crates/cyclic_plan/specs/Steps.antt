@@ -42,21 +42,21 @@ AreAll start left k = (v : Vector) → IsVector (system_of start.task) v
 
 -- after the first n actions of step k, these steps leave out only what adds nothing, and they end
 -- where the states within so many steps are all
-abbrev pub Follows : Start → SetOfVectors → ℕ → ℕ → List Step → Type 0
-Follows start left k n [] = (n ≡ 0) × AreAll start left k
-Follows start left k n (Grow a ∷ rest) =
+abbrev pub AreStepsFrom : Start → SetOfVectors → ℕ → ℕ → List Step → Type 0
+AreStepsFrom start left k n [] = (n ≡ 0) × AreAll start left k
+AreStepsFrom start left k n (Grow a ∷ rest) =
     (n ≤ a.0) × (a.0 < action_count start.task)
     × ((b : ℕ) → n ≤ b → b < a.0 → AddsNothing start left k b)
-    × Follows start left k (a.0 + 1) rest
-Follows start left k n (Advance ∷ rest) =
+    × AreStepsFrom start left k (a.0 + 1) rest
+AreStepsFrom start left k n (Advance ∷ rest) =
     (n ≤ action_count start.task)
     × ((b : ℕ) → n ≤ b → b < action_count start.task → AddsNothing start left k b)
-    × Follows start left (suc k) 0 rest
+    × AreStepsFrom start left (suc k) 0 rest
 
 -- these steps lead from the goal to there: what follows there follows them from the goal on
 abbrev pub HasLed : Start → SetOfVectors → ℕ → ℕ → List Step → Type 0
 HasLed start left k n steps =
-    (rest : List Step) → Follows start left k n rest → Follows start left 0 0 (steps ++ rest)
+    (rest : List Step) → AreStepsFrom start left k n rest → AreStepsFrom start left 0 0 (steps ++ rest)
 
 -- the states of the kept pairs of each action that is spent are among some states
 pub record AreSpent (start : Start) (left set : SetOfVectors) (spent : List Bool) : Type 0 where
@@ -95,7 +95,7 @@ pub record HasRetraced (start : Start) (now : Encoded) (slots : List SetId) (lef
   pub by_next : HasNext start now slots left (taken_by true (kept_system start left)
       (near_at start left k) (takers_within true (kept_system start left) k) n)
       (near_at start left k) (next_at start left k n)
-  pub follows : Follows start left k n rest
+  pub follows : AreStepsFrom start left k n rest
 
 -- the second pass is somewhere, from which the rest follows
 abbrev pub RetracedOn : Start → Encoded → List SetId → SetOfVectors → List Step → Type 0

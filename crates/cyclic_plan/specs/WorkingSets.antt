@@ -61,7 +61,7 @@ pub data IsWorkingSet (task : Task) : Function → Type 0 where
       → IsWorkingSet task (states_in task (takers Weak (restricted (system_of task) pairs) k a))
 
 -- each working set is small by a width, which is more than the fluents by two at least
-pub record IsWide (width : ℕ) (task : Task) : Type 0 where
+pub record BoundsCyclicSets (width : ℕ) (task : Task) : Type 0 where
   pub wide : fluent_count task + 2 ≤ width
   pub each : (set : Function) → IsWorkingSet task set
       → Small (fluent_count task) width set

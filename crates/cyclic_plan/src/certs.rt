@@ -19,7 +19,7 @@ ghost use Rattle.cyclic_plan.specs.Certificates.{CertificateEnds, Certifies, Has
 ghost use Rattle.cyclic_plan.specs.Certificates.{HasLost, HasSolution};
 ghost use Rattle.plan_certs.specs.Printed.{IsPrinted, lost_set};
 ghost use Rattle.cyclic_plan.specs.Stages.{HasNothing, HasRounds};
-ghost use Rattle.cyclic_plan.specs.WorkingSets.{IsWide};
+ghost use Rattle.cyclic_plan.specs.WorkingSets.{BoundsCyclicSets};
 
 use crate::plan::{begin, places};
 use crate::rounds::{LEFT, NEAR, NEW, next_round, round};
@@ -198,7 +198,7 @@ pub fn cert_cyclic(alloc: Global, task: &Task, enc: &mut Enc) -> Result<Option<C
     ensures no_plan { IfOk result (λ found. IfSome found (λ certificate.
         HasNoSolution Cyclic (system_of task.now))) }
     ensures plan { IfOk result (λ found. IfNone found (HasSolution (system_of task.now))) }
-    ensures full { IsErrOf result SetErr.Full → (width : ℕ) → IsWide width task.now
+    ensures full { IsErrOf result SetErr.Full → (width : ℕ) → BoundsCyclicSets width task.now
         → NoRoom width (3 * action_count task.now + 32) 16 enc.old.sets enc.new.sets }
     ensures slots { Owns enc.old.sets enc.new.sets [] }
     ensures same_slots { enc.new ≡ record enc.old { sets = enc.new.sets } }

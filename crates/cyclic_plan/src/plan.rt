@@ -23,7 +23,7 @@ ghost use Rattle.plan_theory.specs.CyclicPlans.{cyclic_rules};
 ghost use Rattle.plan_theory.specs.PairRounds.{round as round_of};
 ghost use Rattle.cyclic_plan.specs.Stages.{HasRound, none_taken};
 ghost use Rattle.cyclic_plan.specs.Takers.{HasTable, start_of};
-ghost use Rattle.cyclic_plan.specs.WorkingSets.{IsWide};
+ghost use Rattle.cyclic_plan.specs.WorkingSets.{BoundsCyclicSets};
 
 use crate::retrace::retrace;
 use crate::rounds::{GOAL, LEFT, last_round, takers_of};
@@ -117,12 +117,12 @@ fn search(
 pub fn cyclic_takers(alloc: Global, task: &Task, enc: &mut Enc) -> Result<Option<Board>, SetErr>
     requires made { MadeOf task.now enc.old }
     requires goal { IsSome task.now.goal }
-    ensures table { (made : MadeOf task.now enc.old) (width : ℕ) (wide : IsWide width task.now)
+    ensures table { (made : MadeOf task.now enc.old) (width : ℕ) (wide : BoundsCyclicSets width task.now)
         → IfOk result (λ found. IfSome found (λ board.
         HasTable (start_of task.now enc.old made width wide.wide) enc.new board.slots.items)) }
     ensures no_plan { IfOk result
         (λ found. IfNone found (HasNoSolution Cyclic (system_of task.now))) }
-    ensures full { IsErrOf result SetErr.Full → (width : ℕ) → IsWide width task.now
+    ensures full { IsErrOf result SetErr.Full → (width : ℕ) → BoundsCyclicSets width task.now
         → NoRoom width (3 * action_count task.now + 32) 16 enc.old.sets enc.new.sets }
     ensures closed { IfOk result (λ found. IfNone found (Owns enc.old.sets enc.new.sets [])) }
     ensures refused { OnErr result (Owns enc.old.sets enc.new.sets []) }
@@ -177,7 +177,7 @@ fn find_plan(alloc: Global, task: &Task, enc: &mut Enc) -> Result<Found, SetErr>
     requires made { MadeOf task.now enc.old }
     requires goal { IsSome task.now.goal }
     ensures answer { IfOk result (IsAnswer task.now) }
-    ensures full { IsErrOf result SetErr.Full → (width : ℕ) → IsWide width task.now
+    ensures full { IsErrOf result SetErr.Full → (width : ℕ) → BoundsCyclicSets width task.now
         → NoRoom width (3 * action_count task.now + 32) 16 enc.old.sets enc.new.sets }
     ensures slots { Owns enc.old.sets enc.new.sets [] }
     ensures same_slots { enc.new ≡ record enc.old { sets = enc.new.sets } }
@@ -216,7 +216,7 @@ pub fn plan_cyclic(alloc: Global, task: &Task, enc: &mut Enc) -> Result<Found, S
         IfOk result (λ found. IfPlan found (λ plan. IsExecutable sys (rules_of plan))) }
     ensures no_plan { IfOk result
         (λ found. IfNoPlan found (HasNoSolution Cyclic (system_of task.now))) }
-    ensures full { IsErrOf result SetErr.Full → (width : ℕ) → IsWide width task.now
+    ensures full { IsErrOf result SetErr.Full → (width : ℕ) → BoundsCyclicSets width task.now
         → NoRoom width (3 * action_count task.now + 32) 16 enc.old.sets enc.new.sets }
     ensures slots { Owns enc.old.sets enc.new.sets [] }
     ensures same_slots { enc.new ≡ record enc.old { sets = enc.new.sets } }

@@ -9,7 +9,7 @@ ghost use Rattle.slot_board.specs.Board.{Left, Start};
 ghost use Rattle.cyclic_plan.specs.Stages.{AddsToSmall, AreTakersSmall, HasHits, HasNear, HasNext};
 ghost use Rattle.cyclic_plan.specs.Stages.{IsSmallSet, Takings, kept_system, none_taken};
 ghost use Rattle.cyclic_plan.specs.Stages.{taken_also, takers_within};
-ghost use Rattle.cyclic_plan.specs.Steps.{Follows, HasRetraced, RetracedOn};
+ghost use Rattle.cyclic_plan.specs.Steps.{AreStepsFrom, HasRetraced, RetracedOn};
 ghost use Rattle.slot_board.specs.declared.steps.Step.{Step as Noted};
 
 use crate::rounds::{GOAL, HITS, NEAR, NEW, NEXT, hit, takers_of};
@@ -89,11 +89,11 @@ pub(crate) fn retrace(
 ) -> Result<(), SetErr>
     requires ready { (start : Start) × (left : SetOfVectors) × (near : SetOfVectors)
         × HasNear start enc.old board.old.slots.items left none_taken near
-        × AreTakersSmall start true left × Follows start left 0 0 steps.now }
+        × AreTakersSmall start true left × AreStepsFrom start left 0 0 steps.now }
     requires actions { actions ≡ length enc.old.actions }
     ensures { (start : Start) (left : SetOfVectors) (near : SetOfVectors)
         → HasNear start enc.old board.old.slots.items left none_taken near
-        → AreTakersSmall start true left → Follows start left 0 0 steps.now
+        → AreTakersSmall start true left → AreStepsFrom start left 0 0 steps.now
         → Left start enc.new board.new.slots.items
         (HasNear start enc.new board.new.slots.items left
         (takers_within true (kept_system start left) (2 ^ fluent_count start.task))

@@ -11,7 +11,7 @@ ghost use Rattle.cyclic_plan.specs.Rounds.{HasDropped, HasMet, LosesNone};
 ghost use Rattle.cyclic_plan.specs.Answers.{RoundsEnd};
 ghost use Rattle.cyclic_plan.specs.Stages.{HasHits, HasNear, HasNext, HasPairs, HasRound, HasRounds};
 ghost use Rattle.cyclic_plan.specs.Stages.{IsSmallSet, Takings, kept_system, none_taken};
-ghost use Rattle.cyclic_plan.specs.Steps.{BeginsStep, Follows, HasGrown, HasJoined};
+ghost use Rattle.cyclic_plan.specs.Steps.{BeginsStep, AreStepsFrom, HasGrown, HasJoined};
 ghost use Rattle.cyclic_plan.specs.Takers.{takers_place};
 
 use dd_sets::SetErr;
@@ -241,7 +241,7 @@ fn spread(
         → Left start enc.new board.new.slots.items
         (HasNear start enc.new board.new.slots.items left none_taken
         (connected (system_of start.task) (kept (system_of start.task) left))
-        × Follows start left 0 0 steps.new.items) result }
+        × AreStepsFrom start left 0 0 steps.new.items) result }
 {
     steps.clear();
     let mut spent = none_spent(alloc, actions)?;
@@ -271,7 +271,7 @@ pub(crate) fn round(
         → Left start enc.new board.new.slots.items
         (HasNear start enc.new board.new.slots.items left none_taken
         (connected (system_of start.task) (kept (system_of start.task) left))
-        × Follows start left 0 0 steps.new.items) result }
+        × AreStepsFrom start left 0 0 steps.new.items) result }
 {
     keep_pairs(enc, board, actions)?;
     spread(alloc, enc, board, steps, actions)
@@ -362,8 +362,8 @@ pub(crate) fn next_round(
     ensures { (start : Start) (r : ℕ) → HasRounds start enc.old board.old.slots.items r
         → Left start enc.new board.new.slots.items
         (HasRounds start enc.new board.new.slots.items (suc r)
-        × (Follows start (round_of (system_of start.task) r) 0 0 steps.old.items
-        → Follows start (round_of (system_of start.task) (suc r)) 0 0 steps.new.items)) result }
+        × (AreStepsFrom start (round_of (system_of start.task) r) 0 0 steps.old.items
+        → AreStepsFrom start (round_of (system_of start.task) (suc r)) 0 0 steps.new.items)) result }
 {
     board.copy_of(enc, LEFT, NEAR)?;
     if !drop_pairs(enc, board, actions)? {

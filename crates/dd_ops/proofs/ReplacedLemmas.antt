@@ -11,7 +11,7 @@ use Rattle.dd_nodes.specs.Table.{NodeTable, IsNodeTable}
 use Rattle.dd_nodes.proofs.NodeLemmas.{function_node, function_false, function_true, node_place}
 use Rattle.dd_nodes.proofs.Extending.{extends_number}
 use Rattle.dd_nodes.proofs.Dependence.{depends_function}
-use Rattle.dd_ops.specs.Answers.{AreNumbers, Follows, IsFullFor, IsIndexed, IsReplaced, Keeps, StayFrom}
+use Rattle.dd_ops.specs.Answers.{AreNumbers, IsChosenChild, IsFullFor, IsIndexed, IsReplaced, Keeps, StayFrom}
 use Rattle.dd_ops.specs.Growth.{AddsParts, pieces_of_subst}
 use Rattle.dd_ops.specs.Operations.{listed, replaced, subst_of}
 use Rattle.dd_ops.proofs.GrowthOps.{adds_one, full_one}
@@ -46,7 +46,7 @@ module _ (t : NodeTable) (table : IsNodeTable t) (map : List (ℕ × Ref)) where
     place = (node_place t.nodes f node there).1
 
     -- the child that a constant chooses has the node's answer
-    module _ (child : Ref) (follows : Follows node (listed map node.var) child) where
+    module _ (child : Ref) (follows : IsChosenChild node (listed map node.var) child) where
       pub followed_number : IsNumber t.nodes child.0
       followed_number =
           let within : IsNumber t.nodes f = place in

@@ -136,8 +136,8 @@ pub record IsIndexed (nodes : List Node) (map : List (ℕ × Ref)) (by_var : Lis
   pub stay : StayFrom nodes map end
 
 -- a node's child is followed alone where a constant replaces the node's variable
-abbrev pub Follows : Node → Option Ref → Ref → Type 0
-Follows node image child =
+abbrev pub IsChosenChild : Node → Option Ref → Ref → Type 0
+IsChosenChild node image child =
     ((image ≡ Some (record { 0 = 0 })) × (child ≡ node.lo))
     ⊎ ((image ≡ Some (record { 0 = 1 })) × (child ≡ node.hi))
 

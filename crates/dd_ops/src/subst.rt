@@ -3,7 +3,7 @@ ghost use Rattle.std.specs.Prelude.{◌≡◌, ◌<◌, All, IfOk, IfErr, IfSome
 ghost use Rattle.std.specs.Prelude.{Option};
 ghost use Rattle.dd_nodes.specs.NodeList.{Values, IsNumber, node_at, function, StandsBelow};
 ghost use Rattle.dd_nodes.specs.Table.{IsNodeTable};
-ghost use Rattle.dd_ops.specs.Answers.{Follows, IsIndexed, IsReplaced};
+ghost use Rattle.dd_ops.specs.Answers.{IsChosenChild, IsIndexed, IsReplaced};
 ghost use Rattle.dd_ops.specs.Answers.{IsFullFor, pieces_of_variable, Keeps};
 ghost use Rattle.dd_ops.specs.Cached.{Remembers, RemembersReplaced};
 ghost use Rattle.dd_ops.specs.Cached.{IsQuestion, MayAdd, AddsPairs};
@@ -148,7 +148,7 @@ fn first_replaced(dd: &Dd, f: Ref, images: &Replacements) -> Option<Node>
 
 /// The child of a node that is followed alone, where a constant replaces the node's variable.
 fn follow(node: Node, image: Option<Ref>) -> Option<Ref>
-    ensures { IfSome result (λ child. Follows node image child) }
+    ensures { IfSome result (λ child. IsChosenChild node image child) }
 {
     match image {
         Some(Ref(0)) => Some(node.lo),

@@ -1,6 +1,7 @@
 -- The words decide the answer of `drill`, unless the table of nodes is full.
 use Rattle.std.proofs.Common.{◌≡◌, List, length, inl, inr, sym, subst, ap, ◌∙◌}
 use Rattle.domain_read.specs.Domains.{SpellsDomain}
+use Rattle.pddl_ast.specs.Trees.{DomainTree, ProblemTree}
 use Rattle.pddl_system.specs.Systems.{system}
 use Rattle.pddl_system.proofs.States.{they_have_a_system}
 use Rattle.plan_check.specs.Verdicts.{IsVerdict}
@@ -13,7 +14,7 @@ use Rattle.task_core.specs.declared.classes.Class.TheVariants.{Weak, Strong, Cyc
 use Rattle.command_base.specs.Answers.{Answer, Refusal, affirmed, refused}
 use Rattle.check_command.specs.CheckCommand.{ExploreThen}
 use Rattle.command_base.specs.Following.{HasTooManyStates}
-use Rattle.drill_command.specs.DrillCommand.{DrillThen, IsClassLine, IsDrilled, IsNotFollowed, LineThen, TextThen, TextsThen, domain_name, drill_domain, drill_problem, drill_text, problem_name, rules_line}
+use Rattle.drill_command.specs.DrillCommand.{DrillThen, IsClassLine, IsDrilled, IsNotFollowed, LineThen, SpellBoth, TextThen, TextsThen, domain_name, drill_domain, drill_problem, drill_text, problem_name, rules_line}
 use Rattle.command_base.specs.Grounding.{GroundThen}
 use Rattle.command_base.specs.OneReading.{OneReading}
 use Rattle.command_base.specs.PddlTexts.{IsFaultyDomain, IsFaultyProblem, SpellsProblemOf}
@@ -33,6 +34,20 @@ text_decides name text Spells Wrong Then grammar next a b (inl (r, is, wrong)) (
 text_decides name text Spells Wrong Then grammar next a b (inr (t, spelled, then)) (inl (s, is', wrong')) = absurd (grammar.not_both name text s t wrong' spelled)
 text_decides name text Spells Wrong Then grammar next a b (inr (t, spelled, then)) (inr (u, spelled', then')) =
     next t a b then (subst (λ x. Then x b) (grammar.one_tree text u t spelled' spelled) then')
+
+-- a text that spells a tree is read as that
+text_as : {X : Type 0} (name text : Bytes) (Spells : Bytes → X → Type 0) (Wrong : Bytes → Bytes → Refusal → Type 0) (Then : X → Answer → Type 0) (t : X) (a : Answer)
+    → IsGrammar Spells Wrong → Spells text t → TextThen name text Spells Wrong Then a → Then t a
+text_as name text Spells Wrong Then t a grammar spelled (inl (r, is, wrong)) = absurd (grammar.not_both name text r t wrong spelled)
+text_as name text Spells Wrong Then t a grammar spelled (inr (u, spelled', then)) = subst (λ x. Then x a) (grammar.one_tree text u t spelled' spelled) then
+
+-- where the texts spell a domain and a problem of it, the answer is for these
+pub texts_as : OneReading → (asked : DrillWords) (Then : DomainTree → ProblemTree → Answer → Type 0) (d : DomainTree) (p : ProblemTree) (a : Answer) → SpellBoth asked d p → TextsThen asked Then a → Then d p a
+texts_as one asked Then d p a both answer =
+    text_as problem_name (drill_problem asked.kind asked.size) (SpellsProblemOf d) (IsFaultyProblem d) (λ q. Then d q) p a (problem_grammar one d) both.spells_problem
+    (text_as domain_name (drill_domain asked.kind) SpellsDomain IsFaultyDomain
+    (λ (e : DomainTree). TextThen problem_name (drill_problem asked.kind asked.size) (SpellsProblemOf e) (IsFaultyProblem e) (λ q. Then e q)) d a
+    (domain_grammar one) both.spells_domain answer)
 
 module _ (sys : System) (ok : IsSystem sys) (TooMany : Type 0) (class : Class) where
   -- a class whose rules are followed has no refusal

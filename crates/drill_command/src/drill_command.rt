@@ -5,7 +5,6 @@ ghost use Rattle.command_base.specs.Answers.{full, no_memory, refused};
 ghost use Rattle.command_base.specs.Following.{most_followed};
 ghost use Rattle.command_base.specs.Values.{answer_of, drill_kind_of, drill_words_of, refusal_of};
 ghost use Rattle.command_base.specs.Words.{IsDrillSize, default_nodes};
-ghost use Rattle.dd_sets.specs.Rooms.{NoRoom};
 ghost use Rattle.drill_command.specs.DrillCommand.{
   DrillThen,
   IsClassLine,
@@ -32,15 +31,13 @@ ghost use Rattle.pddl_ast.specs.Fits.{FitsDomain, FitsProblem};
 ghost use Rattle.pddl_ast.specs.Values.{domain_value, problem_value};
 ghost use Rattle.pddl_system.specs.Names.{NamesAreWords};
 ghost use Rattle.plan_check.specs.Verdicts.{IsVerdict};
-ghost use Rattle.plan_command.specs.Enough.{BoundsSets, IsTightForClass};
+ghost use Rattle.plan_command.specs.Enough.{IsTightForClass, LacksClassRoom};
 ghost use Rattle.plan_command.specs.FoundPlans.{IsFoundPlan, IsSearched};
 ghost use Rattle.plan_rules.specs.Rules.{PlainPlan, PlanRule, rules_of};
 ghost use Rattle.std.specs.Prelude.{
   ◌≡◌,
   ◌++◌,
   ◌⊎◌,
-  ◌+◌,
-  ◌*◌,
   IfErr,
   IfOk,
   IsErrOf,
@@ -51,7 +48,7 @@ ghost use Rattle.std.specs.Prelude.{
   string_bytes,
   ℕ,
 };
-ghost use Rattle.task_core.specs.Tasks.{action_count, fluent_count, system_of};
+ghost use Rattle.task_core.specs.Tasks.{fluent_count, system_of};
 
 use check_command::show_verdict;
 use command_base::{
@@ -189,7 +186,10 @@ fn search_classes(alloc: Global, task: &Task) -> Result<ClassPlans, SetErr>
     no_room_is_small();
     kept_sets_bound_nodes();
     let mut enc = encode(alloc, task, DEFAULT_NODES)?;
-    find_classes(alloc, task, &mut enc)
+    let found = find_classes(alloc, task, &mut enc);
+    // Nor does this: that the table is one rests on it.
+    enc.sets().sound();
+    found
 }
 
 /// What is found for each class, over the sets of the task: each search leaves them as they were.
@@ -199,9 +199,8 @@ fn find_classes(alloc: Global, task: &Task, enc: &mut Enc) -> Result<ClassPlans,
     ensures weak { IfOk result (λ plans. IsSearched Class.Weak task.now (Ok plans.weak)) }
     ensures strong { IfOk result (λ plans. IsSearched Class.Strong task.now (Ok plans.strong)) }
     ensures cyclic { IfOk result (λ plans. IsSearched Class.Cyclic task.now (Ok plans.cyclic)) }
-    ensures full { IsErrOf result SetErr.Full → (class : Class) × ((w : ℕ)
-        → BoundsSets class task.now w
-        → NoRoom w (3 * action_count task.now + 32) 16 enc.old.sets enc.new.sets) }
+    ensures full { IsErrOf result SetErr.Full
+        → (class : Class) × LacksClassRoom class task.now enc.old enc.new }
 {
     let weak = find_plan(alloc, Class::Weak, task, enc)?;
     let strong = find_plan(alloc, Class::Strong, task, enc)?;

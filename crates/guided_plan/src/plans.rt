@@ -9,7 +9,7 @@ use crate::planner::Planner;
 use crate::policy::Policy;
 use crate::states::States;
 use crate::stops::Stop;
-use crate::strong::Graph;
+use crate::strong::AndOrGraph;
 use crate::world::World;
 use plan_rules::Rule;
 use std::alloc::{AllocError, Global};
@@ -113,35 +113,35 @@ fn seek(
         Class::Strong => seek_strong(&mut world)?,
     };
     match found {
-        Sought::Policy(policy) => answered(world, policy),
-        Sought::Nothing(last) => refused(&world, class, last),
+        SearchEnd::Policy(policy) => answered(world, policy),
+        SearchEnd::Nothing(last) => refused(&world, class, last),
     }
 }
 
 /// What a search found.
 #[derive(Drop)]
-enum Sought {
+enum SearchEnd {
     Policy(Policy),
     /// No plan; this set, with the dead ends that are known, says why.
     Nothing(Vec<Part>),
 }
 
 /// A weak policy, if there is one.
-fn seek_weak(world: &mut World<'_>) -> Result<Sought, Stop> {
+fn seek_weak(world: &mut World<'_>) -> Result<SearchEnd, Stop> {
     let mut planner = Planner::new(world.alloc, world.actions.label_count(), false)?;
     if solve_weak(world, &mut planner)? {
-        return Ok(Sought::Policy(planner.policy));
+        return Ok(SearchEnd::Policy(planner.policy));
     }
-    Ok(Sought::Nothing(planner.closed_region(world)?))
+    Ok(SearchEnd::Nothing(planner.closed_region(world)?))
 }
 
 /// A strong policy, if there is one.
-fn seek_strong(world: &mut World<'_>) -> Result<Sought, Stop> {
-    let mut graph = Graph::new(world.alloc, world.actions.count())?;
+fn seek_strong(world: &mut World<'_>) -> Result<SearchEnd, Stop> {
+    let mut graph = AndOrGraph::new(world.alloc, world.actions.count())?;
     if graph.solve(world)? {
-        return Ok(Sought::Policy(graph.policy));
+        return Ok(SearchEnd::Policy(graph.policy));
     }
-    Ok(Sought::Nothing(graph.unsolved(world)?))
+    Ok(SearchEnd::Nothing(graph.unsolved(world)?))
 }
 
 /// That there is no plan, by what is known of dead ends and a last set.
@@ -184,11 +184,11 @@ fn push_cubes(alloc: Global, parts: &[Part], cubes: &mut Vec<Vec<Lit>>) -> Resul
 /// A strong cyclic policy, if there is one: with an action for each state where few states are
 /// reached, else with actions for partial states, and where that fails with one for each state after
 /// all.
-fn seek_cyclic(world: &mut World<'_>) -> Result<Sought, Stop> {
+fn seek_cyclic(world: &mut World<'_>) -> Result<SearchEnd, Stop> {
     let mut planner = Planner::new(world.alloc, world.actions.label_count(), false)?;
     match try_cyclic(world, &mut planner, FEW_LISTED) {
-        Ok(true) => return Ok(Sought::Policy(planner.policy)),
-        Ok(false) => return Ok(Sought::Nothing(Vec::new(world.alloc))),
+        Ok(true) => return Ok(SearchEnd::Policy(planner.policy)),
+        Ok(false) => return Ok(SearchEnd::Nothing(Vec::new(world.alloc))),
         Err(Stop::TooMany) => {}
         Err(stop) => return Err(stop),
     }
@@ -199,19 +199,19 @@ fn seek_cyclic(world: &mut World<'_>) -> Result<Sought, Stop> {
         }
     }
     if try_cyclic(world, &mut planner, MOST_LISTED)? {
-        return Ok(Sought::Policy(planner.policy));
+        return Ok(SearchEnd::Policy(planner.policy));
     }
-    Ok(Sought::Nothing(Vec::new(world.alloc)))
+    Ok(SearchEnd::Nothing(Vec::new(world.alloc)))
 }
 
 /// A strong cyclic policy with actions for partial states.
-fn seek_parts(world: &mut World<'_>) -> Result<Sought, Stop> {
+fn seek_parts(world: &mut World<'_>) -> Result<SearchEnd, Stop> {
     world.find_exclusions()?;
     let mut planner = Planner::new(world.alloc, world.actions.label_count(), true)?;
     if try_cyclic(world, &mut planner, MOST_LISTED)? {
-        return Ok(Sought::Policy(planner.policy));
+        return Ok(SearchEnd::Policy(planner.policy));
     }
-    Ok(Sought::Nothing(Vec::new(world.alloc)))
+    Ok(SearchEnd::Nothing(Vec::new(world.alloc)))
 }
 
 /// Makes a strong cyclic policy with at most so many states that are reached. False where there is

@@ -58,7 +58,7 @@ impl Path {
 
 /// The search for a strong plan.
 #[derive(Drop)]
-pub(crate) struct Graph {
+pub(crate) struct AndOrGraph {
     alloc: Global,
     pub(crate) policy: Policy,
     lessons: Lessons,
@@ -74,9 +74,9 @@ pub(crate) struct Graph {
     is_exhausted: bool,
 }
 
-impl Graph {
-    pub(crate) fn new(alloc: Global, actions: u32) -> Result<Graph, AllocError> {
-        Ok(Graph {
+impl AndOrGraph {
+    pub(crate) fn new(alloc: Global, actions: u32) -> Result<AndOrGraph, AllocError> {
+        Ok(AndOrGraph {
             alloc,
             policy: Policy::new(alloc, true)?,
             lessons: Lessons::new(alloc),
@@ -637,7 +637,7 @@ impl Graph {
     }
 }
 
-impl Graph {
+impl AndOrGraph {
     /// Where all actions were tried, the open states that were met: each action may lead from one to
     /// another, or to a dead end.
     pub(crate) fn unsolved(&self, world: &mut World<'_>) -> Result<Vec<Part>, Stop> {

@@ -29,7 +29,7 @@ use Rattle.list_laws.proofs.Elements.{list_all-at, list_all-from}
 use Rattle.board_steps.specs.Steps.{CanMakeAll, Shows, after_steps}
 use Rattle.board_steps.specs.declared.steps.Step.{Step}
 use Rattle.board_steps.specs.declared.steps.Step.TheVariants.{Combine, Copy, Whole}
-use Rattle.judge_sets.specs.FirstMatch.{RulesAgree, SolvesAsRun}
+use Rattle.first_match.specs.FirstMatch.{RulesAgree, SolvesAsRun}
 use Rattle.judge_sets.specs.Fixpoints.{IsBegin, outcomes_of}
 use Rattle.judge_sets.specs.Fixpoints.IsBegin.{agreeing, followed, good}
 use Rattle.judge_sets.specs.Fixpoints.IsGrown.{begun}

@@ -8,4 +8,3 @@ pub mod SettleSteps
 pub mod GrowSteps
 pub mod ShrinkSteps
 pub mod JudgeSteps
-pub mod Agreeing

@@ -5,7 +5,7 @@ use Rattle.std.proofs.lemmas.List.{length-map}
 use Rattle.task_core.specs.Systems.{System}
 use Rattle.plan_rules.specs.Rules.{PlanRule, rule_of}
 use Rattle.plan_rules.specs.declared.rules.Rule.{Rule}
-use Rattle.judge_sets.specs.FirstMatch.{CountsBehind, EachRuleCounts}
+use Rattle.first_match.specs.FirstMatch.{CountsBehind, EachRuleCounts}
 use Rattle.judge_sets.specs.Places.{IsNextRule, Scene}
 
 split_at : {X : Type 0} (xs : List X) (i : ℕ) (d : X) → i < length xs → xs ≡ take i xs ++ get_or xs i d ∷ drop (suc i) xs

@@ -27,7 +27,7 @@ use Rattle.board_steps.specs.Steps.{CanMakeAll, Placed, Shows, after_steps, with
 use Rattle.board_steps.specs.declared.steps.Step.{Step}
 use Rattle.board_steps.specs.declared.steps.Step.TheVariants.{Combine, Fluent, Kept, Whole}
 use Rattle.board_steps.proofs.StepLemmas.{with_here, with_other}
-use Rattle.judge_sets.specs.FirstMatch.{CountsBehind}
+use Rattle.first_match.specs.FirstMatch.{CountsBehind}
 use Rattle.judge_sets.specs.Places.{HasCube, HasJoined, HasRead, HasTold, IsNextRule, Scene, sign_of}
 use Rattle.judge_sets.specs.TableSets.{cube_set, differ_set, matched_set, taken_set}
 use Rattle.judge_sets.specs.WorkingSets.IsRuleSet.{counts, counts_in_states, differs, first_literals, other_counts}

@@ -1,143 +1,36 @@
 -- Runs of a table of first matching rules: what each class asks, one state at a time.
-use Rattle.std.proofs.Common.{◌≡◌, ℕ, zero, suc, ◌+◌, ◌^◌, Bool, true, false, ◌&&◌, ◌==◌, List, [], ◌∷◌, ◌++◌, Option, Some, None, length, refl, sym, ap, ◌∙◌, subst, arith}
-use Rattle.std.specs.List.{Contains, filter, list_any, range_with_len}
-use Rattle.std.specs.Option.{option_map_or}
-use Rattle.std.proofs.lemmas.Bool.{and_from, and_parts, eq-eqb, eqb-true, false≢true}
+use Rattle.std.proofs.Common.{◌≡◌, ℕ, zero, suc, ◌+◌, ◌^◌, Bool, true, List, [], ◌∷◌, ◌++◌, Option, Some, None, length, refl, sym, ap, ◌∙◌, subst, arith}
+use Rattle.std.specs.List.{Contains}
 use Rattle.std.proofs.lemmas.List.{length-append}
 use Rattle.task_core.specs.Paths.{IsPath, last_of}
 use Rattle.task_core.specs.Solutions.{IsReached, MayEnd, MayReachGoal}
 use Rattle.task_core.specs.Systems.{System, Exec, HasOutcome, IsSystem, IsVector, goal_states}
-use Rattle.task_core.specs.Tables.{IsTable, IsTerminal, Leads, Reaches}
-use Rattle.task_core.specs.Vectors.{Vector, all_vectors}
+use Rattle.task_core.specs.Tables.{IsTerminal, Leads, Reaches}
+use Rattle.task_core.specs.Vectors.{Vector}
 use Rattle.task_core.specs.declared.classes.Class.TheVariants.{Weak, Strong, Cyclic}
-use Rattle.task_core.proofs.Paths.{last_onward, path_keeps, path_onward}
-use Rattle.plan_rules.specs.Denoted.{can_execute}
+use Rattle.task_core.proofs.Paths.{last_onward, path_onward}
 use Rattle.plan_rules.specs.Rules.{PlanRule}
-use Rattle.task_core.proofs.Vectors.{all_vectors_has as all_vectors-holds, all_vectors_length as all_vectors-length}
-use Rattle.plan_theory.proofs.NoStrong.{reach_more, strong_is_bounded}
-use Rattle.plan_rules.proofs.DenotedPairs.{can_execute-Exec}
-use Rattle.list_laws.proofs.Elements.{Contains-filter, Contains-filter-witness, Contains-flat_map, Contains-flat_map-witness, Contains-map, Contains-map-witness, Contains-range_with_len}
-use Rattle.judge_sets.specs.FirstMatch.{CanFollowFirst, SolvesAsRun, first_advises, first_rule, first_table, first_table_at}
-
--- the rule that counts in a state has the action
-pub record IsAdvised (rules : List PlanRule) (v : Vector) (a : ℕ) : Type 0 where
-  pub rule : PlanRule
-  pub is : first_rule rules v ≡ Some rule
-  pub action : rule.action ≡ a
-
-pub advised_from : (rules : List PlanRule) (v : Vector) (rule : PlanRule) (a : ℕ) → first_rule rules v ≡ Some rule → rule.action ≡ a → first_advises rules v a ≡ true
-advised_from rules v rule a is same =
-    ap (λ (o : Option PlanRule). option_map_or (λ (r : PlanRule). r.action == a) o false) is ∙ eq-eqb rule.action a same
-
-pub advised_parts : (rules : List PlanRule) (v : Vector) (a : ℕ) → first_advises rules v a ≡ true → IsAdvised rules v a
-advised_parts rules v a h = go (first_rule rules v) refl
-  where
-    go : (o : Option PlanRule) → first_rule rules v ≡ o → IsAdvised rules v a
-    go None e = absurd (false≢true (sym (ap (λ (o : Option PlanRule). option_map_or (λ (r : PlanRule). r.action == a) o false) e) ∙ h))
-    go (Some rule) e = record {
-      rule = rule;
-      is = e;
-      action = eqb-true rule.action a (sym (ap (λ (o : Option PlanRule). option_map_or (λ (r : PlanRule). r.action == a) o false) e) ∙ h);
-    }
-
--- what makes (s, a) a pair of the table
-pub record IsPair (sys : System) (rules : List PlanRule) (s : Vector) (a : ℕ) : Type 0 where
-  pub vector : IsVector sys s
-  pub advised : first_advises rules s a ≡ true
-  pub executable : Exec sys s a
-
-module _ (sys : System) (ok : IsSystem sys) (rules : List PlanRule) where
-  pub exec_can : (s : Vector) (a : ℕ) → Exec sys s a → can_execute sys s a ≡ true
-  exec_can s a exec = go (sys.next s a) exec
-    where
-      go : (ts : List Vector) → (ts ≡ [] → ⊥) → list_any (λ (t : Vector). true) ts ≡ true
-      go [] some = absurd (some refl)
-      go (t ∷ ts) some = refl
-
-  pub pair_in : (s : Vector) (a : ℕ) → IsPair sys rules s a → Contains (first_table sys rules) (s, a)
-  pair_in s a p =
-      let test = λ (b : ℕ). first_advises rules s b && can_execute sys s b in
-      Contains-flat_map (first_table_at sys rules) (all_vectors sys.fluents) s (s, a) (all_vectors-holds sys.fluents s p.vector)
-      (Contains-map (λ b. (s, b)) (filter test (range_with_len 0 sys.actions)) a
-      (Contains-filter test (range_with_len 0 sys.actions) a (Contains-range_with_len sys.actions a (ok.actions s a p.executable)) (and_from (first_advises rules s a) (can_execute sys s a) p.advised (exec_can s a p.executable))))
-
-  pub pair_of : (s : Vector) (a : ℕ) → Contains (first_table sys rules) (s, a) → IsPair sys rules s a
-  pair_of s a c =
-      let at = Contains-flat_map-witness (first_table_at sys rules) (all_vectors sys.fluents) (s, a) c in
-      let v = at.0 in
-      let test = λ (b : ℕ). first_advises rules v b && can_execute sys v b in
-      let pair = Contains-map-witness (λ b. (v, b)) (filter test (range_with_len 0 sys.actions)) (s, a) at.2 in
-      let b = pair.0 in
-      let passes = Contains-filter-witness test (range_with_len 0 sys.actions) b pair.1 in
-      let both = and_parts (first_advises rules v b) (can_execute sys v b) passes.1 in
-      let here : IsPair sys rules v b = record { vector = all_vectors-length sys.fluents v at.1; advised = both.0; executable = can_execute-Exec sys v b both.1 } in
-      subst (λ (p : Vector × ℕ). IsPair sys rules p.0 p.1) pair.2 here
-
-  pub is_table : IsTable sys (first_table sys rules)
-  is_table s a c = let p = pair_of s a c in (record { vector = p.vector; inside = ok.inside s a p.executable }, p.executable)
-
-  -- a state has one pair at most, with the action of the rule that counts
-  pub pair_action : (s : Vector) (a : ℕ) (rule : PlanRule) → Contains (first_table sys rules) (s, a) → first_rule rules s ≡ Some rule → rule.action ≡ a
-  pair_action s a rule c is =
-      let p = advised_parts rules s a (pair_of s a c).advised in
-      let same : rule ≡ p.rule = (let e : Some rule ≡ Some p.rule = sym is ∙ p.is in cc) in
-      ap (λ (r : PlanRule). r.action) same ∙ p.action
-
-  pub single : (s : Vector) (a b : ℕ) → Contains (first_table sys rules) (s, a) → Contains (first_table sys rules) (s, b) → a ≡ b
-  single s a b one two =
-      let p = advised_parts rules s a (pair_of s a one).advised in
-      sym p.action ∙ pair_action s b p.rule two p.is
-
-  pub no_pair : (s : Vector) → first_rule rules s ≡ None → IsTerminal (first_table sys rules) s
-  no_pair s free a c = let p = advised_parts rules s a (pair_of s a c).advised in (let e : None ≡ Some p.rule = sym free ∙ p.is in absurd (cc))
-
-  pub pair_executable : (s : Vector) (a : ℕ) (rule : PlanRule) → Contains (first_table sys rules) (s, a) → first_rule rules s ≡ Some rule → Exec sys s rule.action
-  pair_executable s a rule c is = subst (λ b. Exec sys s b) (sym (pair_action s a rule c is)) (pair_of s a c).executable
-
-  pub rule_pair : (s : Vector) (rule : PlanRule) → IsVector sys s → first_rule rules s ≡ Some rule → Exec sys s rule.action → Contains (first_table sys rules) (s, rule.action)
-  rule_pair s rule vector is exec = pair_in s rule.action (record { vector = vector; advised = advised_from rules s rule rule.action is refl; executable = exec })
-
-  -- reached states
-  pub reached_first : (s : Vector) → Contains sys.initial s → IsReached sys (first_table sys rules) s
-  reached_first s initial = record { start = s; initial = initial; path = record { rest = []; path = tt; ends = refl } }
-
-  pub reached_more : (s t : Vector) → IsReached sys (first_table sys rules) s → Leads sys (first_table sys rules) s t → IsReached sys (first_table sys rules) t
-  reached_more s t reached lead = record {
-    start = reached.start;
-    initial = reached.initial;
-    path = reach_more sys (first_table sys rules) reached.start s t reached.path lead;
-  }
-
-  pub reached_on : (s t : Vector) → IsReached sys (first_table sys rules) s → Reaches sys (first_table sys rules) s t → IsReached sys (first_table sys rules) t
-  reached_on s t reached r =
-      subst (IsReached sys (first_table sys rules)) r.ends
-      (path_keeps (Leads sys (first_table sys rules)) (IsReached sys (first_table sys rules)) (λ x y. reached_more x y) s r.rest reached r.path)
-
-  -- a property that initial states have and steps keep
-  pub reached_keeps : (P : Vector → Type 0) → ((s : Vector) → Contains sys.initial s → P s) → ((s t : Vector) → P s → Leads sys (first_table sys rules) s t → P t) → (s : Vector) → IsReached sys (first_table sys rules) s → P s
-  reached_keeps P first keeps s reached =
-      subst P reached.path.ends (path_keeps (Leads sys (first_table sys rules)) P keeps reached.start reached.path.rest (first reached.start reached.initial) reached.path.path)
-
-  pub reached_vector : (s : Vector) → IsReached sys (first_table sys rules) s → IsVector sys s
-  reached_vector = reached_keeps (IsVector sys) (λ s initial. (ok.initial s initial).vector) (λ s t is lead. (ok.next s lead.action t lead.outcome).vector)
+use Rattle.plan_theory.proofs.NoStrong.{strong_is_bounded}
+use Rattle.first_match.specs.FirstMatch.{CanFollowFirst, SolvesAsRun, first_rule, run_table}
+use Rattle.first_match.proofs.RunPairs.{no_pair, pair_executable, reached_first, reached_keeps, reached_on, reached_vector, rule_pair, single}
 
 -- from a state the rules may come to their end: to a goal state that none of them matches
 pub record MayStop (sys : System) (rules : List PlanRule) (s : Vector) : Type 0 where
   pub end : Vector
-  pub reached : Reaches sys (first_table sys rules) s end
+  pub reached : Reaches sys (run_table sys rules) s end
   pub free : first_rule rules end ≡ None
   pub goal : Contains (goal_states sys) end
 
 -- from a state they are sure to
 pub data SureToStop (sys : System) (rules : List PlanRule) : Vector → Type 0 where
   stops : (s : Vector) → first_rule rules s ≡ None → Contains (goal_states sys) s → SureToStop sys rules s
-  goes : (s : Vector) (a : ℕ) → Contains (first_table sys rules) (s, a) → ((t : Vector) → HasOutcome sys s a t → SureToStop sys rules t) → SureToStop sys rules s
+  goes : (s : Vector) (a : ℕ) → Contains (run_table sys rules) (s, a) → ((t : Vector) → HasOutcome sys s a t → SureToStop sys rules t) → SureToStop sys rules s
 
 module _ (sys : System) (ok : IsSystem sys) (rules : List PlanRule) where
   pub stop_here : (s : Vector) → first_rule rules s ≡ None → Contains (goal_states sys) s → MayStop sys rules s
   stop_here s free goal = record { end = s; reached = record { rest = []; path = tt; ends = refl }; free = free; goal = goal }
 
-  pub stop_later : (s : Vector) (a : ℕ) (t : Vector) → Contains (first_table sys rules) (s, a) → HasOutcome sys s a t → MayStop sys rules t → MayStop sys rules s
+  pub stop_later : (s : Vector) (a : ℕ) (t : Vector) → Contains (run_table sys rules) (s, a) → HasOutcome sys s a t → MayStop sys rules t → MayStop sys rules s
   stop_later s a t pair outcome may = record {
     end = may.end;
     reached = record { rest = t ∷ may.reached.rest; path = (record { action = a; pair = pair; outcome = outcome }, may.reached.path); ends = may.reached.ends };
@@ -149,19 +42,19 @@ module _ (sys : System) (ok : IsSystem sys) (rules : List PlanRule) where
   pub stop_follows : (s : Vector) (rule : PlanRule) → MayStop sys rules s → first_rule rules s ≡ Some rule → Exec sys s rule.action
   stop_follows s rule may is = go may.reached.rest may.reached.path may.reached.ends
     where
-      go : (rest : List Vector) → IsPath (Leads sys (first_table sys rules)) s rest → last_of s rest ≡ may.end → Exec sys s rule.action
+      go : (rest : List Vector) → IsPath (Leads sys (run_table sys rules)) s rest → last_of s rest ≡ may.end → Exec sys s rule.action
       go [] path ends = (let e : None ≡ Some rule = sym may.free ∙ ap (first_rule rules) (sym ends) ∙ is in absurd (cc))
       go (t ∷ rest) path ends = pair_executable sys ok rules s path.0.action rule path.0.pair is
 
-  pub stop_goal : (s : Vector) → MayStop sys rules s → IsTerminal (first_table sys rules) s → Contains (goal_states sys) s
+  pub stop_goal : (s : Vector) → MayStop sys rules s → IsTerminal (run_table sys rules) s → Contains (goal_states sys) s
   stop_goal s may terminal = go may.reached.rest may.reached.path may.reached.ends
     where
-      go : (rest : List Vector) → IsPath (Leads sys (first_table sys rules)) s rest → last_of s rest ≡ may.end → Contains (goal_states sys) s
+      go : (rest : List Vector) → IsPath (Leads sys (run_table sys rules)) s rest → last_of s rest ≡ may.end → Contains (goal_states sys) s
       go [] path ends = subst (Contains (goal_states sys)) (sym ends) may.goal
       go (t ∷ rest) path ends = absurd (terminal path.0.action path.0.pair)
 
   -- where rules can be followed, a terminal state has no rule
-  pub terminal_free : CanFollowFirst sys rules → (s : Vector) → IsReached sys (first_table sys rules) s → IsTerminal (first_table sys rules) s → first_rule rules s ≡ None
+  pub terminal_free : CanFollowFirst sys rules → (s : Vector) → IsReached sys (run_table sys rules) s → IsTerminal (run_table sys rules) s → first_rule rules s ≡ None
   terminal_free follow s reached terminal = go (first_rule rules s) refl
     where
       go : (o : Option PlanRule) → first_rule rules s ≡ o → first_rule rules s ≡ None
@@ -177,11 +70,11 @@ module _ (sys : System) (ok : IsSystem sys) (rules : List PlanRule) where
 
   pub weak_to : SolvesAsRun Weak sys rules → (s : Vector) → Contains sys.initial s → MayStop sys rules s
   weak_to run s initial =
-      let m : MayReachGoal sys (first_table sys rules) s = run.solves s initial in
+      let m : MayReachGoal sys (run_table sys rules) s = run.solves s initial in
       record { end = m.end; reached = m.reached; free = terminal_free run.followed m.end (reached_on sys ok rules s m.end (reached_first sys ok rules s initial) m.reached) m.terminal; goal = m.goal }
 
   -- strong cyclic solutions
-  pub cyclic_from : ((s : Vector) → IsReached sys (first_table sys rules) s → MayStop sys rules s) → SolvesAsRun Cyclic sys rules
+  pub cyclic_from : ((s : Vector) → IsReached sys (run_table sys rules) s → MayStop sys rules s) → SolvesAsRun Cyclic sys rules
   cyclic_from may = record {
     followed = λ s rule reached is. stop_follows s rule (may s reached) is;
     solves = record {
@@ -190,24 +83,24 @@ module _ (sys : System) (ok : IsSystem sys) (rules : List PlanRule) where
     };
   }
 
-  pub cyclic_to : SolvesAsRun Cyclic sys rules → (s : Vector) → IsReached sys (first_table sys rules) s → MayStop sys rules s
+  pub cyclic_to : SolvesAsRun Cyclic sys rules → (s : Vector) → IsReached sys (run_table sys rules) s → MayStop sys rules s
   cyclic_to run s reached =
-      let m : MayEnd sys (first_table sys rules) s = run.solves.may_end s reached in
+      let m : MayEnd sys (run_table sys rules) s = run.solves.may_end s reached in
       let there = reached_on sys ok rules s m.end reached m.reached in
       record { end = m.end; reached = m.reached; free = terminal_free run.followed m.end there m.terminal; goal = run.solves.ends_in_goal m.end there m.terminal }
 
   -- strong solutions
-  pub sure_step : (s t : Vector) → SureToStop sys rules s → Leads sys (first_table sys rules) s t → SureToStop sys rules t
+  pub sure_step : (s t : Vector) → SureToStop sys rules s → Leads sys (run_table sys rules) s t → SureToStop sys rules t
   sure_step _ t (stops s free goal) lead = absurd (no_pair sys ok rules s free lead.action lead.pair)
   sure_step _ t (goes s a pair on) lead = on t (subst (λ b. HasOutcome sys s b t) (single sys ok rules s lead.action a lead.pair pair) lead.outcome)
 
-  no_round : (s : Vector) → SureToStop sys rules s → (t : Vector) (rest : List Vector) → IsPath (Leads sys (first_table sys rules)) s (t ∷ rest) → last_of t rest ≡ s → ⊥
+  no_round : (s : Vector) → SureToStop sys rules s → (t : Vector) (rest : List Vector) → IsPath (Leads sys (run_table sys rules)) s (t ∷ rest) → last_of t rest ≡ s → ⊥
   no_round _ (stops s free goal) t rest path back = no_pair sys ok rules s free path.0.action path.0.pair
   no_round _ (goes s a pair on) t rest path back =
-      turned rest (path_onward (Leads sys (first_table sys rules)) t rest t path.1 (subst (λ v. Leads sys (first_table sys rules) v t) (sym back) path.0)) (no_round t (on t (subst (λ b. HasOutcome sys s b t) (single sys ok rules s path.0.action a path.0.pair pair) path.0.outcome)))
+      turned rest (path_onward (Leads sys (run_table sys rules)) t rest t path.1 (subst (λ v. Leads sys (run_table sys rules) v t) (sym back) path.0)) (no_round t (on t (subst (λ b. HasOutcome sys s b t) (single sys ok rules s path.0.action a path.0.pair pair) path.0.outcome)))
     where
-      turned : (more : List Vector) → IsPath (Leads sys (first_table sys rules)) t (more ++ t ∷ [])
-          → ((u : Vector) (rest : List Vector) → IsPath (Leads sys (first_table sys rules)) t (u ∷ rest) → last_of u rest ≡ t → ⊥) → ⊥
+      turned : (more : List Vector) → IsPath (Leads sys (run_table sys rules)) t (more ++ t ∷ [])
+          → ((u : Vector) (rest : List Vector) → IsPath (Leads sys (run_table sys rules)) t (u ∷ rest) → last_of u rest ≡ t → ⊥) → ⊥
       turned [] around none = none t [] around refl
       turned (u ∷ more) around none = none u (more ++ t ∷ []) around (last_onward u more t)
 
@@ -215,13 +108,13 @@ module _ (sys : System) (ok : IsSystem sys) (rules : List PlanRule) where
   sure_follows _ rule (stops s free goal) is = (let e : None ≡ Some rule = sym free ∙ is in absurd (cc))
   sure_follows _ rule (goes s a pair on) is = pair_executable sys ok rules s a rule pair is
 
-  sure_goal : (s : Vector) → SureToStop sys rules s → IsTerminal (first_table sys rules) s → Contains (goal_states sys) s
+  sure_goal : (s : Vector) → SureToStop sys rules s → IsTerminal (run_table sys rules) s → Contains (goal_states sys) s
   sure_goal _ (stops s free goal) terminal = goal
   sure_goal _ (goes s a pair on) terminal = absurd (terminal a pair)
 
   pub strong_from : ((s : Vector) → Contains sys.initial s → SureToStop sys rules s) → SolvesAsRun Strong sys rules
   strong_from sure =
-      let all : (s : Vector) → IsReached sys (first_table sys rules) s → SureToStop sys rules s = reached_keeps sys ok rules (SureToStop sys rules) sure sure_step in
+      let all : (s : Vector) → IsReached sys (run_table sys rules) s → SureToStop sys rules s = reached_keeps sys ok rules (SureToStop sys rules) sure sure_step in
       record {
         followed = λ s rule reached is. sure_follows s rule (all s reached) is;
         solves = record {
@@ -234,7 +127,7 @@ module _ (sys : System) (ok : IsSystem sys) (rules : List PlanRule) where
 -- outcome of a pair lies in the set
 pub record IsClosed (sys : System) (rules : List PlanRule) (X : Vector → Bool) (Into : Vector → ℕ → Type 0) : Type 0 where
   pub ends : (s : Vector) → IsVector sys s → first_rule rules s ≡ None → Contains (goal_states sys) s → X s ≡ true
-  pub steps : (s : Vector) (a : ℕ) → Contains (first_table sys rules) (s, a) → Into s a → X s ≡ true
+  pub steps : (s : Vector) (a : ℕ) → Contains (run_table sys rules) (s, a) → Into s a → X s ≡ true
 
 abbrev pub SomeInto : System → (Vector → Bool) → Vector → ℕ → Type 0
 SomeInto sys X s a = (t : Vector) × HasOutcome sys s a t × (X t ≡ true)
@@ -247,7 +140,7 @@ module _ (sys : System) (ok : IsSystem sys) (rules : List PlanRule) (X : Vector 
   pub stop_in : IsClosed sys rules X (SomeInto sys X) → (s : Vector) → IsVector sys s → MayStop sys rules s → X s ≡ true
   stop_in closed s is may = go may.reached.rest s is may.reached.path may.reached.ends
     where
-      go : (rest : List Vector) (x : Vector) → IsVector sys x → IsPath (Leads sys (first_table sys rules)) x rest → last_of x rest ≡ may.end → X x ≡ true
+      go : (rest : List Vector) (x : Vector) → IsVector sys x → IsPath (Leads sys (run_table sys rules)) x rest → last_of x rest ≡ may.end → X x ≡ true
       go [] x is path ends = closed.ends x is (ap (first_rule rules) ends ∙ may.free) (subst (Contains (goal_states sys)) (sym ends) may.goal)
       go (t ∷ rest) x is path ends =
           closed.steps x path.0.action path.0.pair (t, path.0.outcome, go rest t (ok.next x path.0.action t path.0.outcome).vector path.1 ends)
@@ -256,16 +149,16 @@ module _ (sys : System) (ok : IsSystem sys) (rules : List PlanRule) (X : Vector 
   pub sure_in : IsClosed sys rules X (AllInto sys X) → SolvesAsRun Strong sys rules → (s : Vector) → Contains sys.initial s → X s ≡ true
   sure_in closed run s initial = go (suc (2 ^ sys.fluents)) s [] tt refl (omega arith)
     where
-      go : (fuel : ℕ) (x : Vector) (rest : List Vector) → IsPath (Leads sys (first_table sys rules)) s rest → last_of s rest ≡ x → length rest + fuel ≡ suc (2 ^ sys.fluents) → X x ≡ true
-      go zero x rest path ends count = let few = strong_is_bounded sys ok (first_table sys rules) run.solves s initial rest path in absurd (omega arith)
+      go : (fuel : ℕ) (x : Vector) (rest : List Vector) → IsPath (Leads sys (run_table sys rules)) s rest → last_of s rest ≡ x → length rest + fuel ≡ suc (2 ^ sys.fluents) → X x ≡ true
+      go zero x rest path ends count = let few = strong_is_bounded sys ok (run_table sys rules) run.solves s initial rest path in absurd (omega arith)
       go (suc fuel) x rest path ends count =
-          let reached : IsReached sys (first_table sys rules) x = record { start = s; initial = initial; path = record { rest = rest; path = path; ends = ends } } in
+          let reached : IsReached sys (run_table sys rules) x = record { start = s; initial = initial; path = record { rest = rest; path = path; ends = ends } } in
           let vector = reached_vector sys ok rules x reached in
-          let next : (t : Vector) → Leads sys (first_table sys rules) x t → X t ≡ true =
-          λ t lead. go fuel t (rest ++ t ∷ []) (path_onward (Leads sys (first_table sys rules)) s rest t path (subst (λ v. Leads sys (first_table sys rules) v t) (sym ends) lead)) (last_onward s rest t) (let e = length-append rest (t ∷ []) in omega arith) in
+          let next : (t : Vector) → Leads sys (run_table sys rules) x t → X t ≡ true =
+          λ t lead. go fuel t (rest ++ t ∷ []) (path_onward (Leads sys (run_table sys rules)) s rest t path (subst (λ v. Leads sys (run_table sys rules) v t) (sym ends) lead)) (last_onward s rest t) (let e = length-append rest (t ∷ []) in omega arith) in
           by_rule x reached vector next (first_rule rules x) refl
         where
-          by_rule : (x : Vector) → IsReached sys (first_table sys rules) x → IsVector sys x → ((t : Vector) → Leads sys (first_table sys rules) x t → X t ≡ true) → (o : Option PlanRule) → first_rule rules x ≡ o → X x ≡ true
+          by_rule : (x : Vector) → IsReached sys (run_table sys rules) x → IsVector sys x → ((t : Vector) → Leads sys (run_table sys rules) x t → X t ≡ true) → (o : Option PlanRule) → first_rule rules x ≡ o → X x ≡ true
           by_rule x reached vector next None e = closed.ends x vector e (run.solves.ends_in_goal x reached (no_pair sys ok rules x e))
           by_rule x reached vector next (Some rule) e =
               let pair = rule_pair sys ok rules x rule vector e (run.followed x rule reached e) in

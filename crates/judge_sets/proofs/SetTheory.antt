@@ -29,12 +29,13 @@ use Rattle.task_core.proofs.TaskSystem.{exec_executable, executable_exec, is_sys
 use Rattle.plan_rules.specs.Plans.{IsRuleOf}
 use Rattle.plan_rules.specs.Rules.{PlanRule}
 use Rattle.list_laws.proofs.Elements.{Contains-cases, Contains-nil, find-None, find-Some, find-found, list_all-agree, list_all-at, list_all-from, list_any-false, list_any-from, list_any-none, list_any-witness}
-use Rattle.judge_sets.specs.FirstMatch.{CanFollowFirst, RulesAgree, SolvesAsRun, first_rule, first_table}
+use Rattle.first_match.specs.FirstMatch.{CanFollowFirst, RulesAgree, SolvesAsRun, first_rule, run_table}
 use Rattle.judge_sets.specs.Fixpoints.{IsGrown, IsShrunk, hits_of, lost_of, rest_of}
 use Rattle.judge_sets.specs.Fixpoints.IsGrown.{begun, grown}
 use Rattle.judge_sets.specs.Fixpoints.IsShrunk.{whole, shrunk}
 use Rattle.judge_sets.specs.TableSets.{differ_set, end_set, followed_by, goal_states_set, matched_set, step_set, taken_set}
-use Rattle.judge_sets.proofs.RunTheory.{AllInto, IsClosed, MayStop, SomeInto, SureToStop, advised_from, advised_parts, cyclic_from, cyclic_to, goes, pair_in, pair_of, reached_first, reached_keeps, reached_more, reached_vector, stop_here, stop_in, stop_later, stops, strong_from, sure_in, weak_from, weak_to}
+use Rattle.first_match.proofs.RunPairs.{advised_from, advised_parts, pair_in, pair_of, reached_first, reached_keeps, reached_more, reached_vector}
+use Rattle.judge_sets.proofs.RunTheory.{AllInto, IsClosed, MayStop, SomeInto, SureToStop, cyclic_from, cyclic_to, goes, stop_here, stop_in, stop_later, stops, strong_from, sure_in, weak_from, weak_to}
 
 not_true : (b : Bool) → not b ≡ true → b ≡ false
 not_true true h = absurd (false≢true h)
@@ -72,7 +73,7 @@ module _ (task : Task) (rules : List PlanRule) where
   ok = is_system task
 
   abbrev Reached : Vector → Type 0
-  Reached s = IsReached (system_of task) (first_table (system_of task) rules) s
+  Reached s = IsReached (system_of task) (run_table (system_of task) rules) s
 
   -- where an action can be executed
   exec_at : (v : Vector) (a : ℕ) → exec_set task a (value_of v) ≡ is_executable task v a
@@ -91,17 +92,17 @@ module _ (task : Task) (rules : List PlanRule) where
   exec_to v a h = exec_at v a ∙ exec_executable task v a h
 
   -- the steps are the pairs of the table
-  step_pair : (v : Vector) (a : ℕ) → IsVector (system_of task) v → step_set task rules a (value_of v) ≡ true → Contains (first_table (system_of task) rules) (v, a)
+  step_pair : (v : Vector) (a : ℕ) → IsVector (system_of task) v → step_set task rules a (value_of v) ≡ true → Contains (run_table (system_of task) rules) (v, a)
   step_pair v a is h =
       let parts = and_parts (taken_set rules a (value_of v)) (exec_set task a (value_of v)) h in
       pair_in (system_of task) ok rules v a (record { vector = is; advised = parts.0; executable = exec_of v a parts.1 })
 
-  pair_step : (v : Vector) (a : ℕ) → Contains (first_table (system_of task) rules) (v, a) → step_set task rules a (value_of v) ≡ true
+  pair_step : (v : Vector) (a : ℕ) → Contains (run_table (system_of task) rules) (v, a) → step_set task rules a (value_of v) ≡ true
   pair_step v a c =
       let p = pair_of (system_of task) ok rules v a c in
       and_from (taken_set rules a (value_of v)) (exec_set task a (value_of v)) p.advised (exec_to v a p.executable)
 
-  pair_below : (v : Vector) (a : ℕ) → Contains (first_table (system_of task) rules) (v, a) → a < action_count task
+  pair_below : (v : Vector) (a : ℕ) → Contains (run_table (system_of task) rules) (v, a) → a < action_count task
   pair_below v a c = ok.actions v a (pair_of (system_of task) ok rules v a c).executable
 
   -- where the goal holds

@@ -1,4 +1,3 @@
-pub mod FirstMatch
 pub mod TableSets
 pub mod Fixpoints
 pub mod WorkingSets

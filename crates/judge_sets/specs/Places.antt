@@ -24,7 +24,7 @@ use Rattle.plan_rules.specs.Plans.{IsRuleOf}
 use Rattle.plan_rules.specs.Rules.{PlanRule}
 use Rattle.judge_sets.specs.Fixpoints.{IsBegin, IsGrown, IsShrunk}
 use Rattle.judge_sets.specs.Fixpoints.{here_of, hits_of, lost_of, rest_of}
-use Rattle.judge_sets.specs.FirstMatch.{EachRuleCounts, RulesAgree, SolvesAsRun, first_table}
+use Rattle.first_match.specs.FirstMatch.{EachRuleCounts, RulesAgree, SolvesAsRun, run_table}
 use Rattle.judge_sets.specs.declared.verdict.TableVerdict.{TableVerdict}
 use Rattle.judge_sets.specs.TableSets.{cube_set, differ_set, end_set, followed_by, matched_set, step_set, taken_set}
 use Rattle.judge_sets.specs.WorkingSets.{BoundsTableSets}
@@ -226,7 +226,7 @@ has_initial scene set =
 abbrev pub HoldsAsReached : Scene → Function → Type 0
 HoldsAsReached scene set =
     (s : Vector) → IsReached (system_of scene.start.task)
-    (first_table (system_of scene.start.task) scene.rules) s → set (value_of s) ≡ true
+    (run_table (system_of scene.start.task) scene.rules) s → set (value_of s) ≡ true
 
 -- all that a verdict says
 pub record IsJudged (class : Class) (sys : System) (rules : List PlanRule) (verdict : TableVerdict)

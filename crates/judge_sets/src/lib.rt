@@ -1,19 +1,17 @@
 //! Judges a table of rules as they are run, the first that matches counting, on sets of states: whether
 //! it is a solution of a class, with no list of what is reached.
 //!
-//! `specs/FirstMatch.antt` has the definitions that a verdict speaks of: the table of first matching
-//! rules, and when such rules are a solution, agree and are not dead. `reading` makes the set in which
+//! `FirstMatch.antt` of the crate `first_match` has the definitions that a verdict speaks of: the table of
+//! first matching rules, and when such rules are a solution, agree and are not dead. `reading` makes the set in which
 //! each action is taken, `settling` the steps of the table, `fixpoints` the least and largest sets
 //! (`TableSets`, `Fixpoints`), and `verdict` asks these of the initial states. `WorkingSets` has the
 //! sets of which the nodes bound what a verdict needs, and `Places` what the slots hold.
 #![tactic(auto)]
 
 mod fixpoints;
-mod laws;
 mod places;
 mod reading;
 mod settling;
 mod verdict;
 
-pub use laws::agreeing_rules_solve;
 pub use verdict::{TableVerdict, judge_table};

@@ -5,7 +5,7 @@ ghost use Rattle.slot_board.specs.Board.{Ends, HasNothing, IsSmall, Left};
 ghost use Rattle.task_core.specs.Cubes.{Cube};
 ghost use Rattle.task_core.specs.Tasks.{fluent_count, system_of};
 ghost use Rattle.plan_rules.specs.Rules.{PlanRule, rule_of};
-ghost use Rattle.judge_sets.specs.FirstMatch.{CountsBehind, EachRuleCounts};
+ghost use Rattle.first_match.specs.FirstMatch.{CountsBehind, EachRuleCounts};
 ghost use Rattle.judge_sets.specs.Places.{HasCube, HasJoined, HasRead, HasTold, IsNextRule, Scene, sign_of};
 ghost use Rattle.judge_sets.specs.TableSets.{cube_set};
 

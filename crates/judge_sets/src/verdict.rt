@@ -10,7 +10,7 @@ ghost use Rattle.task_core.specs.Tasks.{action_count, fluent_count, system_of};
 ghost use Rattle.task_core.specs.declared.tasks.Task.{Task as TaskOf};
 ghost use Rattle.plan_rules.specs.Plans.{IsRuleOf};
 ghost use Rattle.plan_rules.specs.Rules.{rule_of};
-ghost use Rattle.judge_sets.specs.FirstMatch.{EachRuleCounts, RulesAgree, SolvesAsRun};
+ghost use Rattle.first_match.specs.FirstMatch.{EachRuleCounts, RulesAgree, SolvesAsRun};
 ghost use Rattle.judge_sets.specs.Fixpoints.{IsBegin, outcomes_of};
 ghost use Rattle.judge_sets.specs.Places.{HasAllGrown, HasPart, HasSteps, HoldsAsReached};
 ghost use Rattle.judge_sets.specs.Places.{IsJudged, Scene, has_initial};

@@ -2,6 +2,7 @@ pub mod AllFetched
 pub mod ByCommand
 pub mod CertificateWritten
 pub mod CheckWritten
+pub mod DrillStatuses
 pub mod DrillWritten
 pub mod MemoryFetches
 pub mod GroundWritten

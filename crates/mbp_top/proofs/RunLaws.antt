@@ -14,7 +14,7 @@ use Rattle.command_base.specs.Delivery.{IsDelivered}
 use Rattle.plan_command.specs.Enough.{IsTightPlan}
 use Rattle.mbp_top.specs.Fetching.{FetchesFiles}
 use Rattle.command_base.specs.Grounding.{has_goal_for}
-use Rattle.mbp_top.specs.Laws.{AreQuietSinks, ComesToJudged, ComesToListing, ComesToReplay, HasStatus, IsAcceptance, IsFullRefutation, IsRejection, IsAnswered, IsCertified, IsCutOff, IsDrillOf, IsDueAnswer, IsDueStatus, IsFullAtLimit, IsFullDrill, IsListing, IsNo, IsQuietShelf, IsReplayOf, IsYes}
+use Rattle.mbp_top.specs.Laws.{AreQuietSinks, ComesToDrill, ComesToJudged, ComesToListing, ComesToReplay, HasStatus, IsAcceptance, IsFullRefutation, IsRejection, IsAnswered, IsCertified, IsCutOff, IsDrillOf, IsDueAnswer, IsDueStatus, IsFullAtLimit, IsFullDrill, IsListing, IsNo, IsNoPlan, IsPlan, IsQuietShelf, IsReplayOf, IsYes}
 use Rattle.plan_meets.specs.Meets.{PlanMeets}
 use Rattle.command_base.specs.OneReading.{OneReading}
 use Rattle.command_base.specs.PddlTexts.{HoldBoth}
@@ -30,6 +30,7 @@ use Rattle.mbp_top.proofs.CertificateWritten.{PrintedIsAccepted, certificate_wri
 use Rattle.check_command.proofs.YesMeets.{YesSolves}
 use Rattle.mbp_top.proofs.CheckWritten.{check_no_written, check_status, check_yes_written}
 use Rattle.mbp_top.proofs.MemoryFetches.{fetched_for_memory}
+use Rattle.mbp_top.proofs.DrillStatuses.{drill_status}
 use Rattle.mbp_top.proofs.DrillWritten.{drill_written, full_drill}
 use Rattle.mbp_top.proofs.GroundWritten.{listing_status, listing_written}
 use Rattle.mbp_top.proofs.PlanWritten.{NoPlanWritten, PlanWritten, full_written, no_plan_written, plan_status, plan_written}
@@ -80,6 +81,16 @@ module _ {S : Type 0} (held : S → Bytes → Held) (faults : S → ℕ) (fetche
 
     pub no_plan_is_written : (asked : PlanWords) → SaysPlan run.words asked → run.status ≡ 1 → NoPlanWritten (held run.shelf) asked run.out run.out_after
     no_plan_is_written asked says one = no_plan_written _ _ _ _ _ _ _ _ _ _ _ _ asked it_is says one
+
+    pub is_plan : IsPlan held run
+    is_plan asked says zero =
+        let w = plan_is_written asked says zero in
+        (w.domain, w.problem, w.text, w.both, w.good, w.short, w.printed, w.written)
+
+    pub is_no_plan : IsNoPlan held run
+    is_no_plan asked says one =
+        let w = no_plan_is_written asked says one in
+        (w.domain, w.problem, w.text, w.both, w.none, w.is_text, w.written)
 
     pub is_certified : AcceptedMeansNone → PrintedIsAccepted → IsCertified held run
     is_certified law accepted asked says wanted one =
@@ -161,6 +172,10 @@ module _ {S : Type 0} (held : S → Bytes → Held) (faults : S → ℕ) (fetche
       pub comes_to_listing : ComesToListing held faults run
       comes_to_listing asked domain problem says both kept u =
           listing_status one _ _ _ _ _ _ _ _ _ _ _ _ asked domain problem it_is says both kept u.files.told (not_failed u.files.shelf) u.out u.err
+
+      pub comes_to_drill : ComesToDrill run
+      comes_to_drill asked domain problem says both goal kept few small room no_out no_err =
+          drill_status one _ _ _ _ _ _ _ _ _ _ _ _ asked domain problem it_is says both goal kept few small room no_out no_err
 
       pub comes_to_replay : ComesToReplay held faults run
       comes_to_replay asked domain problem plan recorded first says both kept few files u =

@@ -3,6 +3,7 @@
 use Rattle.std.specs.Prelude.{◌≡◌, ◌≢◌, ◌<◌, ◌⊎◌, ℕ, [], ◌∷◌, ◌++◌, Contains, List, None, Option}
 use Rattle.std.specs.Prelude.{length, slice_index_or, true}
 use Rattle.std.specs.Io.KnownBytes.{append_known}
+use Rattle.exec_graph.specs.Executions.{ReachesMoreThan}
 use Rattle.pddl_ast.specs.Trees.{DomainTree, ProblemTree}
 use Rattle.pddl_system.specs.Sizes.{first_passed}
 use Rattle.pddl_system.specs.Systems.{action_names, fluent_names, system}
@@ -13,7 +14,7 @@ use Rattle.plan_check.specs.declared.verdicts.Reason.{Reason}
 use Rattle.plan_check.specs.declared.verdicts.Verdict.TheVariants.{Yes, No}
 use Rattle.plan_io.specs.Fetches.{Fetches}
 use Rattle.plan_io.specs.Held.{Held, Missing}
-use Rattle.plan_rules.specs.Rules.{PlainPlan}
+use Rattle.plan_rules.specs.Rules.{PlainPlan, PlanRule, table}
 use Rattle.refute_cert.specs.Judgements.{IsVerdict}
 use Rattle.refute_cert.specs.declared.verdict.Flaw.{Flaw}
 use Rattle.refute_cert.specs.declared.verdict.Judged.TheVariants.{Accepted, Rejected}
@@ -21,18 +22,22 @@ use Rattle.run_replay.specs.Records.{RecordTree}
 use Rattle.run_replay.specs.declared.worlds.Step.{Step}
 use Rattle.task_core.specs.Solutions.{HasNoSolution}
 use Rattle.task_core.specs.Vectors.{Vector}
+use Rattle.task_core.specs.declared.classes.Class.{Class}
 use Rattle.task_core.specs.declared.classes.Class.TheVariants.{Weak, Strong, Cyclic}
 use Rattle.command_base.specs.Answers.{Answer, full, read_fault, refused, status_of, text_of}
 use Rattle.mbp_top.specs.Causes.{HasCause}
-use Rattle.command_base.specs.Faults.{IsQuietAt}
+use Rattle.command_base.specs.Faults.{IsQuietAt, NoFault}
 use Rattle.check_command.specs.CheckCommand.{HasBound, IsFirstAgainst, verdict_answer}
-use Rattle.command_base.specs.Following.{HasTooManyStates}
+use Rattle.command_base.specs.Following.{HasTooManyStates, most_followed}
 use Rattle.command_base.specs.Delivery.{IsCut, IsDelivered, IsWhole}
-use Rattle.drill_command.specs.DrillCommand.{IsClassLine, MayDrillRunOut, SpellBoth, drill_text}
+use Rattle.drill_command.specs.DrillCommand.{IsClassLine, MayDrillRunOut, SolvePrinted, SpellBoth}
+use Rattle.drill_command.specs.DrillCommand.{drill_text}
 use Rattle.ground_command.specs.GroundCommand.{listing_of}
 use Rattle.plan_meets.specs.Meets.{PlanMeets}
 use Rattle.command_base.specs.PddlTexts.{HoldBoth}
-use Rattle.plan_command.specs.PlanCommand.{MayRunOut, no_plan_text}
+use Rattle.plan_command.specs.Enough.{IsTightPlan}
+use Rattle.plan_command.specs.PlanCommand.{HasNoPlan, IsGoodText, IsNoPlanText, IsShortText}
+use Rattle.plan_command.specs.PlanCommand.{IsTextPrinted, MayRunOut, no_plan_text}
 use Rattle.command_base.specs.PlanFiles.{HoldsPlan}
 use Rattle.command_base.specs.Reading.{IsFile}
 use Rattle.command_base.specs.Grounding.{for_tables, has_goal_for}
@@ -78,8 +83,31 @@ IsCutOff {S} held faults fetched run =
     × IsQuietAt answer (faults run.shelf) (faults run.shelf_after)
     × IsCut answer run.out run.out_after run.err run.err_after
 
--- `plan`, status 5: the number of nodes may be too small for the problem that the two files spell,
--- and it is what was written
+-- `plan`, status 0: the text that was written spells a plan whose meaning meets the problem that the two
+-- files spell; it is as short as any; and it is the text that is printed
+abbrev pub IsPlan : {S : Type 0} → (S → Bytes → Held) → Run S → Type 0
+IsPlan {S} held run =
+    (asked : PlanWords) → SaysPlan run.words asked → run.status ≡ 0
+    → (domain : DomainTree) × (problem : ProblemTree) × (text : Bytes)
+    × HoldBoth (held run.shelf) asked.domain asked.problem domain problem
+    × IsGoodText asked.kind domain problem text
+    × IsShortText asked.kind domain problem text
+    × IsTextPrinted asked.kind domain problem text
+    × (run.out_after.written ≡ append_known run.out.written text)
+
+-- `plan`, status 1: nothing that a plan can mean meets the problem that the two files spell; and the
+-- text that was written says so, with the certificate of that where it was asked for
+abbrev pub IsNoPlan : {S : Type 0} → (S → Bytes → Held) → Run S → Type 0
+IsNoPlan {S} held run =
+    (asked : PlanWords) → SaysPlan run.words asked → run.status ≡ 1
+    → (domain : DomainTree) × (problem : ProblemTree) × (text : Bytes)
+    × HoldBoth (held run.shelf) asked.domain asked.problem domain problem
+    × HasNoPlan asked.kind domain problem
+    × IsNoPlanText asked.certified asked.kind domain problem text
+    × (run.out_after.written ≡ append_known run.out.written text)
+
+-- `plan`, status 5: the number of nodes may be too small for the problem that the two files spell, a
+-- table for so many was full, and the number is what was written
 abbrev pub IsFullAtLimit : {S : Type 0} → (S → Bytes → Held) → Run S → Type 0
 IsFullAtLimit {S} held run =
     (asked : PlanWords) → SaysPlan run.words asked → run.status ≡ 5
@@ -195,8 +223,23 @@ IsDrillOf {S} run =
     × (run.out_after.written ≡ append_known run.out.written
     (drill_text asked (system domain problem) weak strong cyclic))
 
--- `drill`, status 5: the number of nodes may be too small for the problem that the two texts spell,
--- and it is what was written
+-- `drill` of a problem that is made, whose two texts spell one within the limits, with a goal and few
+-- initial states, and of enough nodes: it is drilled if the printed rules of no class reach too many
+-- configurations, and if no fault comes
+abbrev pub ComesToDrill : {S : Type 0} → Run S → Type 0
+ComesToDrill {S} run =
+    (asked : DrillWords) (domain : DomainTree) (problem : ProblemTree) → SaysDrill run.words asked
+    → SpellBoth asked domain problem
+    → has_goal_for (of_class Weak) problem ≡ true → first_passed domain problem ≡ None
+    → (HasTooManyStates domain problem → ⊥)
+    → ((class : Class) (rules : List PlanRule) → SolvePrinted class (system domain problem) rules
+    → ReachesMoreThan (system domain problem) (table class rules) most_followed → ⊥)
+    → ((class : Class) → IsTightPlan (of_class class) default_nodes domain problem → ⊥)
+    → NoFault run.out.faults run.out_after.faults → NoFault run.err.faults run.err_after.faults
+    → (run.status ≡ 0) ⊎ (run.status ≡ 8)
+
+-- `drill`, status 5: the number of nodes may be too small for the problem that the two texts spell, a
+-- table for so many was full, and the number is what was written
 abbrev pub IsFullDrill : {S : Type 0} → Run S → Type 0
 IsFullDrill {S} run =
     (asked : DrillWords) → SaysDrill run.words asked → run.status ≡ 5
@@ -233,8 +276,8 @@ IsRejection {S} held run =
     × (run.out_after.written
     ≡ append_known run.out.written (text_of (judged_answer (Rejected flaw))))
 
--- `refute`, status 5: the number of nodes may be too small for the verdict on the certificate, and it
--- is what was written
+-- `refute`, status 5: the number of nodes may be too small for the verdict on the certificate, a table
+-- for so many was full, and the number is what was written
 abbrev pub IsFullRefutation : {S : Type 0} → (S → Bytes → Held) → Run S → Type 0
 IsFullRefutation {S} held run =
     (asked : RefuteWords) → SaysRefute run.words asked → run.status ≡ 5

@@ -3,6 +3,7 @@
 ghost use Rattle.mbp_top.specs.Laws.{
   AreAllFetched,
   AreQuietSinks,
+  ComesToDrill,
   ComesToJudged,
   ComesToListing,
   ComesToReplay,
@@ -19,6 +20,8 @@ ghost use Rattle.mbp_top.specs.Laws.{
   IsFullRefutation,
   IsListing,
   IsNo,
+  IsNoPlan,
+  IsPlan,
   IsQuietShelf,
   IsRejection,
   IsReplayOf,
@@ -47,7 +50,17 @@ pub fn answers_are_cut<S: Shelf>()
     ensures { OfRuns S.held S.faults S.fetched (IsCutOff S.held S.faults S.fetched) }
 {}
 
-/// Status 5 of `plan` comes where the number of nodes may be too small.
+/// Status 0 of `plan` comes with the plan that is printed, which meets the problem.
+pub fn plans_are_written<S: Shelf>()
+    ensures { OfRuns S.held S.faults S.fetched (IsPlan S.held) }
+{}
+
+/// Status 1 of `plan` comes where no plan meets the problem.
+pub fn missing_plans_are_told<S: Shelf>()
+    ensures { OfRuns S.held S.faults S.fetched (IsNoPlan S.held) }
+{}
+
+/// Status 5 of `plan` comes where the number of nodes may be too small, and a table was full.
 pub fn full_tables_are_tight<S: Shelf>()
     ensures { OfRuns S.held S.faults S.fetched (IsFullAtLimit S.held) }
 {}
@@ -106,7 +119,15 @@ pub fn drills_are_written<S: Shelf>()
     ensures { OfRuns S.held S.faults S.fetched IsDrillOf }
 {}
 
-/// Status 5 of `drill` comes where the number of nodes may be too small.
+/// `drill` gives the lines of a problem that is made.
+pub fn problems_are_drilled<S: Shelf>()
+    ensures { OfRuns S.held S.faults S.fetched ComesToDrill }
+{
+    // This does nothing: all rests on what it promises.
+    texts_are_read_one_way();
+}
+
+/// Status 5 of `drill` comes where the number of nodes may be too small, and a table was full.
 pub fn full_drills_are_tight<S: Shelf>()
     ensures { OfRuns S.held S.faults S.fetched IsFullDrill }
 {}
@@ -124,7 +145,7 @@ pub fn certificates_are_rejected<S: Shelf>()
     ensures { OfRuns S.held S.faults S.fetched (IsRejection S.held) }
 {}
 
-/// Status 5 of `refute` comes where the number of nodes may be too small.
+/// Status 5 of `refute` comes where the number of nodes may be too small, and a table was full.
 pub fn full_refutations_are_tight<S: Shelf>()
     ensures { OfRuns S.held S.faults S.fetched (IsFullRefutation S.held) }
 {}

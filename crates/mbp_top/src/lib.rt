@@ -15,7 +15,8 @@ pub use laws::{
     answered_files_are_fetched, answers_are_cut, answers_are_whole, certificates_are_accepted,
     certificates_are_judged, certificates_are_rejected, drills_are_written, due_answers_come,
     due_statuses_come, full_drills_are_tight, full_refutations_are_tight, full_tables_are_tight,
-    listings_are_written, plans_are_replayed, plans_meet_at_yes, printed_certificates_are_accepted,
+    listings_are_written, missing_plans_are_told, plans_are_replayed, plans_are_written,
+    plans_meet_at_yes, printed_certificates_are_accepted, problems_are_drilled,
     problems_are_listed, reasons_come_at_no, shelves_stay_quiet, sinks_stay_quiet,
     statuses_are_ten, traces_are_written, unread_files_are_named,
 };

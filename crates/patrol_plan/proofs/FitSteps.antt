@@ -31,7 +31,7 @@ use Rattle.patrol_plan.specs.Rounds.{first_lead, from_stage, turning_at}
 use Rattle.patrol_plan.specs.Scenes.{IsReady, SameStates, Scene, Start, board_of, guarded, met_place, states_at, sys_in, sys_of, takers_place, win_place}
 use Rattle.patrol_plan.specs.Sizes.{ClimbsFit, ConditionsFit, EndFits, IsSmall, RoundFits, SearchFits, ShareFits, StageFits, TurnsFit, UntilFits}
 use Rattle.patrol_plan.specs.Steps.{HasTakers, HasWins}
-use Rattle.patrol_plan.specs.WorkingSets.{IsRoundSet, IsWide, function_of, guard_first, guard_in, hits_inside, kept_states, met_first, met_in, near_in, taken_at_end, taken_within, turning_from, turning_to}
+use Rattle.patrol_plan.specs.WorkingSets.{IsRoundSet, BoundsUntilSets, function_of, guard_first, guard_in, hits_inside, kept_states, met_first, met_in, near_in, taken_at_end, taken_within, turning_from, turning_to}
 use Rattle.patrol_plan.specs.WorkingSets.IsRoundSet.{all_states, initial_states, left, near_stage}
 use Rattle.patrol_plan.specs.WorkingSets.IsWorkingSet.{of_guard, of_keep, of_round, of_target, taken, taken_last, turned, turned_later}
 use Rattle.patrol_plan.specs.declared.rounds.Way.TheVariants.{Growing, Shrinking}
@@ -61,7 +61,7 @@ no_less c j k =
     (λ h. let e : suc j ≤ suc c + k = leb-true (suc j) (suc c + k) h in le-leb j (c + k) (omega arith))
     (λ h. let e : j ≤ c + k = leb-true j (c + k) h in le-leb (suc j) (suc c + k) (omega arith))
 
-module _ (start : Start) (chain : UntilChain) (long : start.stages ≡ length chain.stages.items) (wide : IsWide start.width start.task chain) where
+module _ (start : Start) (chain : UntilChain) (long : start.stages ≡ length chain.stages.items) (wide : BoundsUntilSets start.width start.task chain) where
   abbrev n : ℕ
   n = fluent_count start.task
 
@@ -249,7 +249,7 @@ test_fits start x place chain is ready fits =
     (fits.initial, placed_small start x ready.at place (let low = long_enough start x ready.at 8 (omega arith) in omega arith) (inr (omega arith)))
 
 -- by a large width every set is small
-pub widest : (task : Task) (chain : UntilChain) → IsWide (2 ^ fluent_count task + 1) task chain
+pub widest : (task : Task) (chain : UntilChain) → BoundsUntilSets (2 ^ fluent_count task + 1) task chain
 widest task chain = record {
   fluents = let p = powers (fluent_count task) in omega arith;
   small = λ set is. every_small (fluent_count task) set;

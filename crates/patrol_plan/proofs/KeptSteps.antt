@@ -7,7 +7,7 @@ use Rattle.plan_theory.specs.Layers.{action_numbers, may_lead, must_lead}
 use Rattle.plan_theory.specs.Safe.{safe_round, safe_set, some_must_lead}
 use Rattle.plan_theory.proofs.SafeSets.{rounds_shrink}
 use Rattle.plan_theory.proofs.Weak.{HasOutcome-Exec}
-use Rattle.plan_theory.proofs.WeakLists.{list_all-agree, list_any-agree, list_any-witness}
+use Rattle.list_laws.proofs.Elements.{list_all-agree, list_any-agree, list_any-witness}
 use Rattle.task_core.specs.Cubes.{SetOfVectors}
 use Rattle.task_core.specs.Systems.{HasOutcome, IsSystem, System}
 use Rattle.task_core.specs.Vectors.{Vector}

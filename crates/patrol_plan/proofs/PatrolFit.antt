@@ -17,7 +17,7 @@ use Rattle.ctl_syntax.specs.Conditions.{states_of}
 use Rattle.patrol_plan.specs.Chains.{visit_sets}
 use Rattle.patrol_plan.specs.Guards.{anywhere}
 use Rattle.patrol_plan.specs.PatrolSizes.{PatrolFits, made_in, round_of, within_round}
-use Rattle.patrol_plan.specs.PatrolWorkingSets.{IsRoundSet, IsWide, near_visit_in}
+use Rattle.patrol_plan.specs.PatrolWorkingSets.{IsRoundSet, BoundsPatrolSets, near_visit_in}
 use Rattle.patrol_plan.specs.PatrolWorkingSets.IsRoundSet.{all_states, initial_states, left, near_visit}
 use Rattle.patrol_plan.specs.PatrolWorkingSets.IsWorkingSet.{first_visits, of_round, of_visit, taken}
 use Rattle.patrol_plan.specs.Scenes.{Start, guarded, sys_in, sys_of}
@@ -28,7 +28,7 @@ use Rattle.patrol_plan.proofs.KeptSteps.{powers}
 use Rattle.patrol_plan.proofs.SetFits.{rounds_fit}
 use Rattle.patrol_plan.proofs.SizeSteps.{round_fits_same}
 
-module _ (start : Start) (conds : List Cond) (wide : IsWide start.width start.task conds) where
+module _ (start : Start) (conds : List Cond) (wide : BoundsPatrolSets start.width start.task conds) where
   abbrev n : ℕ
   n = fluent_count start.task
 
@@ -62,7 +62,7 @@ module _ (start : Start) (conds : List Cond) (wide : IsWide start.width start.ta
   }
 
 -- by a large width every set is small
-pub widest_patrol : (task : Task) (conds : List Cond) → IsWide (2 ^ fluent_count task + 1) task conds
+pub widest_patrol : (task : Task) (conds : List Cond) → BoundsPatrolSets (2 ^ fluent_count task + 1) task conds
 widest_patrol task conds = record {
   fluents = let p = powers (fluent_count task) in omega arith;
   small = λ set is. every_small (fluent_count task) set;

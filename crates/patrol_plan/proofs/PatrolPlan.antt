@@ -12,7 +12,7 @@ use Rattle.slot_board.specs.Board.{HasNoRoom, set_at}
 use Rattle.ctl_syntax.specs.Conditions.{states_of}
 use Rattle.plan_theory.proofs.PatrolRules.{acts_as_patrol, patrol_rules_within}
 use Rattle.plan_theory.proofs.PatrolSound.{plan_solves}
-use Rattle.plan_theory.proofs.WeakLists.{list_all-agree}
+use Rattle.list_laws.proofs.Elements.{list_all-agree}
 use Rattle.plan_theory.specs.PatrolPlans.{HasNoPatrolPlan, IsPatrolPlan}
 use Rattle.plan_theory.specs.PatrolPrinted.{patrol_rules}
 use Rattle.plan_theory.specs.Patrols.{covers_patrol, patrol_set}

@@ -23,7 +23,7 @@ use Rattle.plan_rules.specs.Denoted.{denoted_contexts}
 use Rattle.plan_rules.specs.Plans.{IsContextRuleOf}
 use Rattle.plan_rules.specs.Rules.{ContextRule, context_rules_of}
 use Rattle.plan_rules.specs.declared.rules.AutoPlan.{AutoPlan}
-use Rattle.plan_theory.proofs.WeakLists.{list_all-agree}
+use Rattle.list_laws.proofs.Elements.{list_all-agree}
 use Rattle.task_core.specs.Cubes.{SetOfVectors}
 use Rattle.task_core.specs.Tasks.{action_count, fluent_count, system_of}
 use Rattle.task_core.specs.Vectors.{value_of}

@@ -12,7 +12,7 @@ use Rattle.plan_theory.proofs.SafeSets.{last_round}
 use Rattle.plan_theory.proofs.StageSets.{last_near}
 use Rattle.plan_theory.specs.Layers.{must_lead}
 use Rattle.plan_theory.proofs.Cubes.{all_vectors-agree, all_vectors-length}
-use Rattle.plan_theory.proofs.Ranges.{range-more}
+use Rattle.list_laws.proofs.Ranges.{range-more}
 use Rattle.task_core.specs.Cubes.{SetOfVectors}
 use Rattle.task_core.specs.Systems.{IsVector, System}
 use Rattle.task_core.specs.Tasks.{action_count, fluent_count}

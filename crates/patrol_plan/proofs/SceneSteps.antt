@@ -10,7 +10,7 @@ use Rattle.patrol_plan.proofs.SetSteps.{strong_agrees}
 use Rattle.preimage.specs.Preimages.{strong_preimage}
 use Rattle.plan_theory.specs.Safe.{some_must_lead}
 use Rattle.plan_theory.specs.Layers.{action_numbers, must_lead}
-use Rattle.plan_theory.proofs.WeakLists.{list_all-agree, list_any-agree}
+use Rattle.list_laws.proofs.Elements.{list_all-agree, list_any-agree}
 use Rattle.task_core.specs.Cubes.{SetOfVectors}
 use Rattle.task_core.specs.Systems.{HasOutcome, IsVector}
 use Rattle.task_core.specs.Tasks.{action_count, fluent_count}

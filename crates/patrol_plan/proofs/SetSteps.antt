@@ -20,9 +20,9 @@ use Rattle.task_core.proofs.TaskSystem.{exec_executable, executable_exec, is_sys
 use Rattle.plan_theory.specs.Layers.{must_lead}
 use Rattle.plan_theory.specs.LayerPlans.{is_action}
 use Rattle.plan_theory.proofs.Cubes.{all_vectors-length}
-use Rattle.plan_theory.proofs.Ranges.{find-first, range-more}
+use Rattle.list_laws.proofs.Ranges.{find-first, range-more}
 use Rattle.plan_theory.proofs.Weak.{HasOutcome-Exec}
-use Rattle.plan_theory.proofs.WeakLists.{Contains-head, Contains-range_with_len-below, find-None, find-Some, find-found, list_all-agree, list_all-at, list_any-agree, list_any-from, list_any-witness}
+use Rattle.list_laws.proofs.Elements.{Contains-head, Contains-range_with_len-below, find-None, find-Some, find-found, list_all-agree, list_all-at, list_any-agree, list_any-from, list_any-witness}
 use Rattle.plan_theory.proofs.WeakPrinted.{is_action-Some, is_action-from}
 use Rattle.slot_board.specs.Board.{Start}
 

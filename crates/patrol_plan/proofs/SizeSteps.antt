@@ -23,7 +23,7 @@ use Rattle.slot_board.specs.declared.board.Outcomes.TheVariants as Outcomes
 use Rattle.plan_theory.specs.Layers.{action_numbers, must_lead}
 use Rattle.plan_theory.specs.LayerPlans.{is_action}
 use Rattle.plan_theory.specs.StageSets.{near, stage_action}
-use Rattle.plan_theory.proofs.WeakLists.{list_any-agree}
+use Rattle.list_laws.proofs.Elements.{list_any-agree}
 use Rattle.task_core.specs.Cubes.{SetOfVectors}
 use Rattle.task_core.specs.Systems.{IsVector}
 use Rattle.task_core.specs.Tasks.{action_count, fluent_count}

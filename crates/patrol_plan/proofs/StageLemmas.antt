@@ -8,7 +8,7 @@ use Rattle.std.proofs.lemmas.Bool.{or_left, true≢false}
 use Rattle.plan_theory.specs.Safe.{some_must_lead}
 use Rattle.plan_theory.specs.StageSets.{action_at_rank, near, stage_action, stage_rank, stage_set}
 use Rattle.plan_theory.proofs.StageSets.{action-next, no_action-met}
-use Rattle.plan_theory.proofs.WeakLists.{find-None}
+use Rattle.list_laws.proofs.Elements.{find-None}
 use Rattle.plan_theory.specs.Layers.{action_numbers, must_lead}
 use Rattle.plan_theory.specs.LayerPlans.{is_action}
 use Rattle.task_core.specs.Cubes.{SetOfVectors}

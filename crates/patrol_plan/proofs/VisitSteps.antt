@@ -15,7 +15,7 @@ use Rattle.slot_board.specs.Board as board
 use Rattle.slot_board.specs.Board.{set_at}
 use Rattle.plan_theory.proofs.Cubes.{all_vectors-agree, all_vectors-length}
 use Rattle.plan_theory.proofs.PatrolSets.{last_round, patrol_set-largest, within_rounds}
-use Rattle.plan_theory.proofs.WeakLists.{list_all-at, list_all-from}
+use Rattle.list_laws.proofs.Elements.{list_all-at, list_all-from}
 use Rattle.plan_theory.proofs.RoundSteps.{held, holds_fewer}
 use Rattle.plan_theory.specs.Patrols.{covers_patrol, patrol_set, visit_set, visited}
 use Rattle.plan_theory.specs.Safe.{some_must_lead}

@@ -70,6 +70,6 @@ pub data IsWorkingSet (task : Task) (conds : List Cond) : Function → Type 0 wh
       (visit_taken_in (system_of task) (visit_sets conds) i k a))
 
 -- w is greater by two than the number of fluents, and than the nodes of each of these sets, at least
-pub record IsWide (w : ℕ) (task : Task) (conds : List Cond) : Type 0 where
+pub record BoundsPatrolSets (w : ℕ) (task : Task) (conds : List Cond) : Type 0 where
   pub fluents : fluent_count task + 2 ≤ w
   pub small : (set : Function) → IsWorkingSet task conds set → Small (fluent_count task) w set

@@ -119,6 +119,6 @@ pub data IsWorkingSet (task : Task) (chain : UntilChain) : Function → Type 0 w
       (turning_from (system_of task) (until_sets chain) c j))
 
 -- w is greater by two than the number of fluents, and than the nodes of each of these sets, at least
-pub record IsWide (w : ℕ) (task : Task) (chain : UntilChain) : Type 0 where
+pub record BoundsUntilSets (w : ℕ) (task : Task) (chain : UntilChain) : Type 0 where
   pub fluents : fluent_count task + 2 ≤ w
   pub small : (set : Function) → IsWorkingSet task chain set → Small (fluent_count task) w set

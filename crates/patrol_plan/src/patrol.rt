@@ -19,7 +19,7 @@ ghost use Rattle.patrol_plan.specs.Found.{IfNoPlan, IfPlan};
 ghost use Rattle.patrol_plan.specs.PatrolAnswers.{IsPatrolAnswer, IsPatrolPlanOf, PatrolEnds};
 ghost use Rattle.patrol_plan.specs.PatrolSizes.{PatrolFits};
 ghost use Rattle.patrol_plan.specs.PatrolSteps.{HasPatrol};
-ghost use Rattle.patrol_plan.specs.PatrolWorkingSets.{IsWide};
+ghost use Rattle.patrol_plan.specs.PatrolWorkingSets.{BoundsPatrolSets};
 ghost use Rattle.patrol_plan.specs.Scenes.{HasNothing, IsAt, Left, Start};
 ghost use Rattle.plan_theory.specs.Patrols.{covers_patrol};
 ghost use Rattle.patrol_plan.specs.Scenes.{sys_of};
@@ -115,7 +115,7 @@ fn find_patrol(
     requires made { MadeOf task.now enc.old }
     requires visits { IsPatrolOver (fluent_count task.now) visits.now }
     ensures answer { IfOk result (IsPatrolAnswer task.now (visit_sets visits.now)) }
-    ensures full { IsErrOf result SetErr.Full → (w : ℕ) → IsWide w task.now visits.now
+    ensures full { IsErrOf result SetErr.Full → (w : ℕ) → BoundsPatrolSets w task.now visits.now
         → NoRoom w (action_count task.now * (length visits.now + 3) + 8 * length visits.now + 236)
         16 enc.old.sets enc.new.sets }
     ensures slots { Owns enc.old.sets enc.new.sets [] }
@@ -169,7 +169,7 @@ pub fn plan_patrol(
         → HasGoal sys (denoted_contexts (context_rules_of plan)) (visit_sets visits.now) x)) }
     ensures no_plan { IfOk result (λ found. IfNoPlan found (HasNoPatrolPlan
         (system_of task.now) (visit_sets visits.now))) }
-    ensures full { IsErrOf result SetErr.Full → (w : ℕ) → IsWide w task.now visits.now
+    ensures full { IsErrOf result SetErr.Full → (w : ℕ) → BoundsPatrolSets w task.now visits.now
         → NoRoom w (action_count task.now * (length visits.now + 3) + 8 * length visits.now + 236)
         16 enc.old.sets enc.new.sets }
     ensures slots { Owns enc.old.sets enc.new.sets [] }

@@ -23,7 +23,7 @@ ghost use Rattle.patrol_plan.specs.Scenes.{HasNothing, IsAt, Left, Start};
 ghost use Rattle.patrol_plan.specs.Scenes.{board_of};
 ghost use Rattle.patrol_plan.specs.Sizes.{SearchFits};
 ghost use Rattle.patrol_plan.specs.Tables.{HasTable, start_of};
-ghost use Rattle.patrol_plan.specs.WorkingSets.{IsWide};
+ghost use Rattle.patrol_plan.specs.WorkingSets.{BoundsUntilSets};
 
 use crate::found::FoundAuto;
 use crate::places::{places, win_at};
@@ -93,13 +93,13 @@ pub fn until_takers(
 ) -> Result<Option<Board>, SetErr>
     requires made { MadeOf task.now enc.old }
     requires chain { IsUntilOver (fluent_count task.now) chain.now }
-    ensures table { (made : MadeOf task.now enc.old) (w : ℕ) (wide : IsWide w task.now chain.now)
+    ensures table { (made : MadeOf task.now enc.old) (w : ℕ) (wide : BoundsUntilSets w task.now chain.now)
         → IfOk result (λ found. IfSome found (λ board. HasTable
         (start_of task.now enc.old made (length chain.now.stages.items) w wide.fluents)
         (enc.new, board.slots.items) (until_sets chain.now))) }
     ensures no_plan { IfOk result (λ found. IfNone found (HasNoUntilPlan
         (system_of task.now) (until_sets chain.now))) }
-    ensures full { IsErrOf result SetErr.Full → (w : ℕ) → IsWide w task.now chain.now
+    ensures full { IsErrOf result SetErr.Full → (w : ℕ) → BoundsUntilSets w task.now chain.now
         → NoRoom w (action_count task.now * (length chain.now.stages.items + 3)
         + 8 * length chain.now.stages.items + 236) 16 enc.old.sets enc.new.sets }
     ensures closed { IfOk result (λ found. IfNone found (Owns enc.old.sets enc.new.sets [])) }
@@ -190,7 +190,7 @@ fn find_until(
     requires made { MadeOf task.now enc.old }
     requires chain { IsUntilOver (fluent_count task.now) chain.now }
     ensures answer { IfOk result (IsAnswer task.now (until_sets chain.now)) }
-    ensures full { IsErrOf result SetErr.Full → (w : ℕ) → IsWide w task.now chain.now
+    ensures full { IsErrOf result SetErr.Full → (w : ℕ) → BoundsUntilSets w task.now chain.now
         → NoRoom w (action_count task.now * (length chain.now.stages.items + 3)
         + 8 * length chain.now.stages.items + 236) 16 enc.old.sets enc.new.sets }
     ensures slots { Owns enc.old.sets enc.new.sets [] }
@@ -235,7 +235,7 @@ pub fn plan_until(
         → HasUntil sys (denoted_contexts (context_rules_of plan)) (until_sets chain.now) x)) }
     ensures no_plan { IfOk result (λ found. IfNoPlan found (HasNoUntilPlan
         (system_of task.now) (until_sets chain.now))) }
-    ensures full { IsErrOf result SetErr.Full → (w : ℕ) → IsWide w task.now chain.now
+    ensures full { IsErrOf result SetErr.Full → (w : ℕ) → BoundsUntilSets w task.now chain.now
         → NoRoom w (action_count task.now * (length chain.now.stages.items + 3)
         + 8 * length chain.now.stages.items + 236) 16 enc.old.sets enc.new.sets }
     ensures slots { Owns enc.old.sets enc.new.sets [] }

@@ -7,7 +7,6 @@ use Rattle.pddl_system.specs.Sizes.{first_passed}
 use Rattle.pddl_system.specs.Systems.{action_names, fluent_names, system}
 use Rattle.pddl_system.specs.Tasks.{task_of}
 use Rattle.pddl_system.specs.Values.{task_value}
-use Rattle.plan_io.specs.Fetches.{Fetches}
 use Rattle.plan_io.specs.Held.{Held}
 use Rattle.plan_picture.specs.Pictures.{IsPictureOf, PlainNode, configurations}
 use Rattle.plan_rules.specs.Rules.{PlainPlan, table, automaton}
@@ -20,89 +19,104 @@ use Rattle.task_core.specs.declared.tasks.Task.{Task}
 use Rattle.command_base.specs.Answers.{Answer, Refusal, no_memory, refused}
 use Rattle.command_base.specs.Faults.{IsQuietAt}
 use Rattle.command_base.specs.Following.{HasTooManyStates, most_followed}
-use Rattle.command_base.specs.Delivery.{IsDelivered}
-use Rattle.command_base.specs.Grounding.{GroundThen}
 use Rattle.command_base.specs.InitialStates.{InitialThen, empty_init}
 use Rattle.command_base.specs.PlanFiles.{IsFaultyPlan, PlacedPlan, SpellsPlaced}
-use Rattle.command_base.specs.Reading.{Holds, IsRefusedFile}
+use Rattle.command_base.specs.Reading.{ReadThen}
 use Rattle.command_base.specs.Words.{Bytes}
 use Rattle.command_base.proofs.TooMany.{too_many as too_many_states, too_many_back as too_many_states_back}
-use Rattle.command_base.proofs.Fetched.{after_files, both_stop, one_decides}
-use Rattle.command_base.proofs.Frames.{IsGivenFor, is_run}
-use Rattle.command_base.proofs.PddlDecides.{refused_both}
-use Rattle.command_base.specs.Fetching.{FetchDomain, RefusesBoth, Stops}
+use Rattle.command_base.proofs.Frames.{IsGivenFor}
 use Rattle.command_base.specs.Frame.{FailedIn}
-use Rattle.command_base.specs.PddlTexts.{HoldBoth, ReadBoth}
-use Rattle.picture_plan.specs.Fetching.{AsksForPlan, FetchesToPicture}
+use Rattle.picture_plan.specs.Fetching.{FetchesToPicture}
 use Rattle.command_base.proofs.Initials.{initial_over}
 use Rattle.command_base.proofs.Later.{read_over}
 use Rattle.command_base.proofs.TaskNames.{same_actions, same_fluents}
-use Rattle.picture_plan.specs.Pictures.{DrawThen, DrawnThen, IsPictureAnswer, IsPictured, ShowsPicture, most_for}
+use Rattle.picture_plan.specs.Pictures.{DrawnOf, DrawnThen, IsFaultyRun, IsPictureAnswer, IsPictured, RunThen, ShowsPicture, SpellsRun, TaskThen, most_for}
 use Rattle.picture_plan.specs.Runs.{HasPictureCause, HasPictured, PictureRun}
-use Rattle.picture_plan.specs.Words.{AskNothing, PictureWords, SaysPicture, page_words}
+use Rattle.picture_plan.specs.Words.{AskNothing, PictureForm, PictureWords, SaysPicture, as_graph, as_page, as_page_with, form_words, wrong_picture}
+use Rattle.plan_page.specs.Pages.{no_run}
+use Rattle.picture_plan.proofs.PictureFetched.{over_picture, picture_for_memory}
+use Rattle.answer_help.specs.Helped.{IsHelpFor, IsHelpedDelivery}
+use Rattle.answer_help.specs.Keeping.{AreToldAs, KeepsAfter, held_by, kept_in}
+use Rattle.answer_help.specs.declared.keeping.KeepingShelf.{KeepingShelf}
+use Rattle.answer_help.proofs.HelpedFrames.{IsTold, is_helped_run, told_fetch}
+
+-- what follows the reading of a file, or of a run
+read_map : {X : Type 0} (held : Bytes → Held) (failed : Bytes → Type 0) (name : Bytes) (Spells : Bytes → X → Type 0) (Wrong : Bytes → Bytes → Refusal → Type 0)
+    (Then Then' : X → Answer → Type 0) (a : Answer) → ((x : X) → Then x a → Then' x a) → ReadThen held failed name Spells Wrong Then a → ReadThen held failed name Spells Wrong Then' a
+read_map held failed name Spells Wrong Then Then' a over (inl why) = inl why
+read_map held failed name Spells Wrong Then Then' a over (inr (x, holds, then)) = inr (x, holds, over x then)
+
+run_map : (held : Bytes → Held) (failed : Bytes → Type 0) (form : PictureForm) (Then Then' : Bytes → Answer → Type 0) (a : Answer)
+    → ((run : Bytes) → Then run a → Then' run a) → RunThen held failed form Then a → RunThen held failed form Then' a
+run_map held failed as_graph Then Then' a over then = over no_run then
+run_map held failed as_page Then Then' a over then = over no_run then
+run_map held failed (as_page_with file) Then Then' a over then = read_map held failed file SpellsRun IsFaultyRun Then Then' a over then
 
 -- what is said from a later state of the shelf holds from the start
+pub run_later : (held held' : Bytes → Held) (failed failed' : Bytes → Type 0) (form : PictureForm) (Then : Bytes → Answer → Type 0) (a : Answer)
+    → ((file : Bytes) → held' file ≡ held file) → ((file : Bytes) → failed' file → failed file) → RunThen held' failed' form Then a → RunThen held failed form Then a
+run_later held held' failed failed' as_graph Then a same over then = then
+run_later held held' failed failed' as_page Then a same over then = then
+run_later held held' failed failed' (as_page_with file) Then a same over then = read_over held held' failed failed' file SpellsRun IsFaultyRun Then a same (over file) then
+
+pub run_later_or : (held held' : Bytes → Held) (failed failed' : Bytes → Type 0) (form : PictureForm) (Then : Bytes → Answer → Type 0) (a : Answer)
+    → ((file : Bytes) → held' file ≡ held file) → ((file : Bytes) → failed' file → failed file)
+    → (a ≡ refused no_memory) ⊎ RunThen held' failed' form Then a → (a ≡ refused no_memory) ⊎ RunThen held failed form Then a
+run_later_or held held' failed failed' form Then a same over (inl memory) = inl memory
+run_later_or held held' failed failed' form Then a same over (inr then) = inr (run_later held held' failed failed' form Then a same over then)
+
 pub pictured_later : (held held' : Bytes → Held) (failed failed' : Bytes → Type 0) (asked : PictureWords) (d : DomainTree) (p : ProblemTree) (a : Answer)
-    → ((file : Bytes) → held' file ≡ held file) → (failed' asked.plan → failed asked.plan)
+    → ((file : Bytes) → held' file ≡ held file) → ((file : Bytes) → failed' file → failed file)
     → (a ≡ refused no_memory) ⊎ IsPictured held' failed' asked d p a → (a ≡ refused no_memory) ⊎ IsPictured held failed asked d p a
 pictured_later held held' failed failed' asked d p a same over (inl memory) = inl memory
 pictured_later held held' failed failed' asked d p a same over (inr (inl passed)) = inr (inl passed)
 pictured_later held held' failed failed' asked d p a same over (inr (inr (within, then))) =
+    let Spells = SpellsPlaced (fluent_names d p) (action_names d p) in
+    let Wrong = IsFaultyPlan (fluent_names d p) (action_names d p) in
     inr (inr (
       within,
-      read_over held held' failed failed' asked.plan (SpellsPlaced (fluent_names d p) (action_names d p)) (IsFaultyPlan (fluent_names d p) (action_names d p))
-          (DrawnThen asked d p) a same over then,
+      read_map held failed asked.plan Spells Wrong (λ placed. RunThen held' failed' asked.form (DrawnThen asked d p placed)) (λ placed. RunThen held failed asked.form (DrawnThen asked d p placed)) a
+          (λ placed. run_later held held' failed failed' asked.form (DrawnThen asked d p placed) a same over)
+          (read_over held held' failed failed' asked.plan Spells Wrong (λ placed. RunThen held' failed' asked.form (DrawnThen asked d p placed)) a same (over asked.plan) then),
     ))
 
--- the file of the plan is refused
-pub plan_refused : (held : Bytes → Held) (failed : Bytes → Type 0) (asked : PictureWords) (d : DomainTree) (p : ProblemTree) (t : Task) (r : Refusal)
-    → task_value t ≡ task_of d p → first_passed d p ≡ None
-    → (r ≡ no_memory) ⊎ IsRefusedFile held failed (IsFaultyPlan (names_of_fluents t) (names_of_actions t)) asked.plan r
-    → (refused r ≡ refused no_memory) ⊎ IsPictured held failed asked d p (refused r)
-plan_refused held failed asked d p t r is within (inl memory) = inl (ap refused memory)
-plan_refused held failed asked d p t r is within (inr why) =
-    let fluents_named = subst (λ (ns : List Name). IsRefusedFile held failed (IsFaultyPlan ns (names_of_actions t)) asked.plan r) (same_fluents d p t is) why in
-    let named = subst (λ (ns : List Name). IsRefusedFile held failed (IsFaultyPlan (fluent_names d p) ns) asked.plan r) (same_actions d p t is) fluents_named in
-    inr (inr (within, inl (r, refl, named)))
-
 -- what is drawn of a task is drawn of the domain and the problem
-shows_for : (page : Bool) (t : Task) (d : DomainTree) (p : ProblemTree) (plan : PlainPlan) (a : Answer) → task_value t ≡ task_of d p → system_of t ≡ system d p
-    → ShowsPicture page (names_of_fluents t) (names_of_actions t) (system_of t) plan a → ShowsPicture page (fluent_names d p) (action_names d p) (system d p) plan a
-shows_for page t d p plan a is system_is shows =
-    subst (λ (sys : System). ShowsPicture page (fluent_names d p) (action_names d p) sys plan a) system_is
-    (subst (λ (ns : List Name). ShowsPicture page (fluent_names d p) ns (system_of t) plan a) (same_actions d p t is)
-    (subst (λ (ns : List Name). ShowsPicture page ns (names_of_actions t) (system_of t) plan a) (same_fluents d p t is) shows))
+shows_for : (form : PictureForm) (t : Task) (d : DomainTree) (p : ProblemTree) (plan : PlainPlan) (run : Bytes) (a : Answer) → task_value t ≡ task_of d p → system_of t ≡ system d p
+    → ShowsPicture form (names_of_fluents t) (names_of_actions t) (system_of t) plan run a → ShowsPicture form (fluent_names d p) (action_names d p) (system d p) plan run a
+shows_for form t d p plan run a is system_is shows =
+    subst (λ (sys : System). ShowsPicture form (fluent_names d p) (action_names d p) sys plan run a) system_is
+    (subst (λ (ns : List Name). ShowsPicture form (fluent_names d p) ns (system_of t) plan run a) (same_actions d p t is)
+    (subst (λ (ns : List Name). ShowsPicture form ns (names_of_actions t) (system_of t) plan run a) (same_fluents d p t is) shows))
 
 too_many_back : (d : DomainTree) (p : ProblemTree) (t : Task) → task_value t ≡ task_of d p → HasTooManyStates d p → HasTooManyInitial t most_followed
 too_many_back d p t is many =
     let back = too_many_states_back d p t is many in
     record { entries = many.entries; first = back.0; more = back.1 }
 
-drawn_for : (asked : PictureWords) (d : DomainTree) (p : ProblemTree) (t : Task) (placed : PlacedPlan) (a : Answer) → task_value t ≡ task_of d p → system_of t ≡ system d p
-    → DrawThen (HasTooManyInitial t most_followed) (most_for asked.page) (system_of t) placed.plan (InitialThen (empty_init asked.problem p) (initial_states t)
-    (ShowsPicture asked.page (names_of_fluents t) (names_of_actions t) (system_of t) placed.plan)) a
-    → DrawnThen asked d p placed a
-drawn_for asked d p t placed a is system_is (inl (many, refused_is)) = inl (too_many_states d p t is many.entries many.first many.more, refused_is)
-drawn_for asked d p t placed a is system_is (inr (inl (few, more, refused_is))) =
-    inr (inl (λ many. few (too_many_back d p t is many), subst (λ (s : System). ReachesMoreThan s placed.plan (most_for asked.page)) system_is more, refused_is))
-drawn_for asked d p t placed a is system_is (inr (inr then)) =
+drawn_for : (asked : PictureWords) (d : DomainTree) (p : ProblemTree) (t : Task) (placed : PlacedPlan) (run : Bytes) (a : Answer) → task_value t ≡ task_of d p → system_of t ≡ system d p
+    → DrawnOf asked p t placed.plan run a → DrawnThen asked d p placed run a
+drawn_for asked d p t placed run a is system_is (inl (many, refused_is)) = inl (too_many_states d p t is many.entries many.first many.more, refused_is)
+drawn_for asked d p t placed run a is system_is (inr (inl (few, more, refused_is))) =
+    inr (inl (λ many. few (too_many_back d p t is many), subst (λ (s : System). ReachesMoreThan s placed.plan (most_for asked.form)) system_is more, refused_is))
+drawn_for asked d p t placed run a is system_is (inr (inr then)) =
     inr (inr (initial_over (empty_init asked.problem p) (initial_states t) (system d p).initial
-    (ShowsPicture asked.page (names_of_fluents t) (names_of_actions t) (system_of t) placed.plan)
-    (ShowsPicture asked.page (fluent_names d p) (action_names d p) (system d p) placed.plan) a (ap (λ (s : System). s.initial) system_is)
-    (shows_for asked.page t d p placed.plan a is system_is) then))
+    (ShowsPicture asked.form (names_of_fluents t) (names_of_actions t) (system_of t) placed.plan run)
+    (ShowsPicture asked.form (fluent_names d p) (action_names d p) (system d p) placed.plan run) a (ap (λ (s : System). s.initial) system_is)
+    (shows_for asked.form t d p placed.plan run a is system_is) then))
 
--- the answer for a plan that was read
-pub pictured_answer : (held : Bytes → Held) (failed : Bytes → Type 0) (asked : PictureWords) (d : DomainTree) (p : ProblemTree) (t : Task) (placed : PlacedPlan) (a : Answer)
+-- the answer for a task is that for the domain and the problem
+pub task_answer : (held : Bytes → Held) (failed : Bytes → Type 0) (asked : PictureWords) (d : DomainTree) (p : ProblemTree) (t : Task) (a : Answer)
     → task_value t ≡ task_of d p → system_of t ≡ system d p → first_passed d p ≡ None
-    → Holds held (SpellsPlaced (names_of_fluents t) (names_of_actions t)) asked.plan placed
-    → (a ≡ refused no_memory) ⊎ DrawThen (HasTooManyInitial t most_followed) (most_for asked.page) (system_of t) placed.plan
-    (InitialThen (empty_init asked.problem p) (initial_states t) (ShowsPicture asked.page (names_of_fluents t) (names_of_actions t) (system_of t) placed.plan)) a
-    → (a ≡ refused no_memory) ⊎ IsPictured held failed asked d p a
-pictured_answer held failed asked d p t placed a is system_is within holds (inl memory) = inl memory
-pictured_answer held failed asked d p t placed a is system_is within holds (inr then) =
-    let fluents_named = subst (λ (ns : List Name). Holds held (SpellsPlaced ns (names_of_actions t)) asked.plan placed) (same_fluents d p t is) holds in
-    let named = subst (λ (ns : List Name). Holds held (SpellsPlaced (fluent_names d p) ns) asked.plan placed) (same_actions d p t is) fluents_named in
-    inr (inr (within, inr (placed, named, drawn_for asked d p t placed a is system_is then)))
+    → (a ≡ refused no_memory) ⊎ TaskThen held failed asked p t a → (a ≡ refused no_memory) ⊎ IsPictured held failed asked d p a
+task_answer held failed asked d p t a is system_is within (inl memory) = inl memory
+task_answer held failed asked d p t a is system_is within (inr then) =
+    let Then : PlacedPlan → Answer → Type 0 = λ placed. RunThen held failed asked.form (DrawnThen asked d p placed) in
+    let drawn : ReadThen held failed asked.plan (SpellsPlaced (names_of_fluents t) (names_of_actions t)) (IsFaultyPlan (names_of_fluents t) (names_of_actions t)) Then a =
+    read_map held failed asked.plan (SpellsPlaced (names_of_fluents t) (names_of_actions t)) (IsFaultyPlan (names_of_fluents t) (names_of_actions t))
+    (λ placed. RunThen held failed asked.form (DrawnOf asked p t placed.plan)) Then a
+    (λ placed. run_map held failed asked.form (DrawnOf asked p t placed.plan) (DrawnThen asked d p placed) a (λ run. drawn_for asked d p t placed run a is system_is)) then in
+    let fluents_named = subst (λ (ns : List Name). ReadThen held failed asked.plan (SpellsPlaced ns (names_of_actions t)) (IsFaultyPlan ns (names_of_actions t)) Then a) (same_fluents d p t is) drawn in
+    inr (inr (within, subst (λ (ns : List Name). ReadThen held failed asked.plan (SpellsPlaced (fluent_names d p) ns) (IsFaultyPlan (fluent_names d p) ns) Then a) (same_actions d p t is) fluents_named))
 
 -- a picture has nodes exactly where there is an initial state
 reached_first : (sys : System) (plan : PlainPlan) (s : Vector) → Contains sys.initial s → IsReachedBy sys plan (record { state = s; context = first_context })
@@ -146,11 +160,17 @@ pub some_nodes : {X Y : Type 0} (f : X → Y) (xs : List X) → (length xs ≡ 0
 some_nodes f [] some none = some refl
 some_nodes f (x ∷ xs) some none = cc none
 
-same_page : (a b : Bool) → page_words a ≡ page_words b → a ≡ b
-same_page false false same = refl
-same_page false true same = absurd (cc same)
-same_page true false same = absurd (cc same)
-same_page true true same = refl
+-- the words ask for one form at most
+same_form : (v w : PictureForm) → form_words v ≡ form_words w → v ≡ w
+same_form as_graph as_graph same = refl
+same_form as_graph as_page same = absurd (cc same)
+same_form as_graph (as_page_with x) same = absurd (cc same)
+same_form as_page as_graph same = absurd (cc same)
+same_form as_page as_page same = refl
+same_form as_page (as_page_with x) same = absurd (cc same)
+same_form (as_page_with x) as_graph same = absurd (cc same)
+same_form (as_page_with x) as_page same = absurd (cc same)
+same_form (as_page_with x) (as_page_with y) same = ap as_page_with (ap (λ (ws : List Bytes). get_or ws 1 []) same)
 
 -- the words ask for one picture at most
 pub one_asked : (words : List Bytes) (v w : PictureWords) → SaysPicture words v → SaysPicture words w → v ≡ w
@@ -159,50 +179,33 @@ one_asked words v w says says' =
     let domains : v.domain ≡ w.domain = ap (λ (ws : List Bytes). get_or ws 0 []) both in
     let problems : v.problem ≡ w.problem = ap (λ (ws : List Bytes). get_or ws 1 []) both in
     let plans : v.plan ≡ w.plan = ap (λ (ws : List Bytes). get_or ws 2 []) both in
-    let pages : v.page ≡ w.page = same_page v.page w.page (ap (drop 3) both) in
-    λ i. record { domain = domains i; problem = problems i; plan = plans i; page = pages i }
-
--- one of the first two files is refused
-pub picture_stopped : {S : Type 0} (held : Bytes → Held) (failed : Bytes → Type 0) (fetched : S → Bytes → S → Type 0) (asked : PictureWords) (r : Refusal) (before after : S)
-    → RefusesBoth held failed asked.domain asked.problem (refused r) → FetchDomain held failed fetched asked.domain (refused r) (Fetches fetched (asked.problem ∷ [])) before after
-    → FetchesToPicture held failed fetched asked (refused r) before after
-picture_stopped held failed fetched asked r before after refuses f =
-    let Then : DomainTree → ProblemTree → Answer → Type 0 = λ domain problem. GroundThen domain problem (λ answer. ⊥) in
-    one_decides held failed fetched asked.domain asked.problem (ReadBoth held failed asked.domain asked.problem Then) (AsksForPlan held asked) (Fetches fetched (asked.plan ∷ [])) (refused r) before after
-    (refused_both held failed asked.domain asked.problem Then r refuses) f
-
--- both were read
-pub picture_fetched : {S : Type 0} (held : Bytes → Held) (failed : Bytes → Type 0) (fetched : S → Bytes → S → Type 0) (asked : PictureWords) (domain : DomainTree) (problem : ProblemTree) (a : Answer) (before between after : S)
-    → HoldBoth held asked.domain asked.problem domain problem → Fetches fetched (asked.domain ∷ asked.problem ∷ []) before between
-    → (Stops (GroundThen domain problem (λ answer. ⊥)) a × (after ≡ between)) ⊎ ((first_passed domain problem ≡ None) × Fetches fetched (asked.plan ∷ []) between after)
-    → FetchesToPicture held failed fetched asked a before after
-picture_fetched {S} held failed fetched asked domain problem a before between after both came then =
-    after_files held failed fetched asked.domain asked.problem
-    (Stops (ReadBoth held failed asked.domain asked.problem (λ domain problem. GroundThen domain problem (λ answer. ⊥))) a)
-    (AsksForPlan held asked) (Fetches fetched (asked.plan ∷ [])) a before between after (domain, both.holds_domain) came (go then)
-  where
-    go : (Stops (GroundThen domain problem (λ answer. ⊥)) a × (after ≡ between)) ⊎ ((first_passed domain problem ≡ None) × Fetches fetched (asked.plan ∷ []) between after)
-        → (Stops (ReadBoth held failed asked.domain asked.problem (λ domain problem. GroundThen domain problem (λ answer. ⊥))) a × (after ≡ between))
-        ⊎ (AsksForPlan held asked × Fetches fetched (asked.plan ∷ []) between after)
-    go (inl (stops, same)) =
-        inl (both_stop held failed asked.domain asked.problem (λ domain problem. GroundThen domain problem (λ answer. ⊥)) domain problem a both stops, same)
-    go (inr (within, fetch)) = inr ((domain, problem, both, within), fetch)
-
--- want of memory may come in place of an answer
-picture_for_memory : {S : Type 0} (held : Bytes → Held) (failed : Bytes → Type 0) (fetched : S → Bytes → S → Type 0) (asked : PictureWords) (a : Answer) (before after : S)
-    → FetchesToPicture held failed fetched asked a before after → FetchesToPicture held failed fetched asked (refused no_memory) before after
-picture_for_memory held failed fetched asked a before after (x, first, inl (was, same)) = (x, first, inl (inl refl, same))
-picture_for_memory held failed fetched asked a before after (x, first, inr (holds, (y, second, inl (was, same)))) = (x, first, inr (holds, (y, second, inl (inl refl, same))))
-picture_for_memory held failed fetched asked a before after (x, first, inr (holds, (y, second, inr (needed, rest)))) = (x, first, inr (holds, (y, second, inr (needed, rest))))
+    let forms : v.form ≡ w.form = same_form v.form w.form (ap (drop 3) both) in
+    λ i. record { domain = domains i; problem = problems i; plan = plans i; form = forms i }
 
 -- what was found for the words, and what was given for it
 module _ {S : Type 0} (held : S → Bytes → Held) (faults : S → ℕ) (fetched : S → Bytes → S → Type 0) (run : PictureRun S) where
-  pub has_pictured : (found given : Answer) → HasPictureCause (held run.shelf) (FailedIn faults fetched run) run.words found
+  pub has_pictured : (found given : Answer) (help : Bytes) → HasPictureCause (held run.shelf) (FailedIn faults fetched run) run.words found
       → ((asked : PictureWords) → SaysPicture run.words asked → FetchesToPicture (held run.shelf) (FailedIn faults fetched run) fetched asked found run.shelf run.shelf_after)
       → (AskNothing run.words → run.shelf_after ≡ run.shelf) → IsQuietAt found (faults run.shelf) (faults run.shelf_after)
       → ((file : Bytes) → held run.shelf_after file ≡ held run.shelf file) → faults run.shelf ≤ faults run.shelf_after
-      → IsGivenFor found given → IsDelivered given run.out run.out_after run.err run.err_after run.status → HasPictured held faults fetched run
+      → IsGivenFor found given → IsHelpFor (held run.shelf_after) (wrong_picture run.words) given help
+      → IsHelpedDelivery help given run.out run.out_after run.err run.err_after run.status → HasPictured held faults fetched run
   has_pictured =
-      is_run SaysPicture (IsPictureAnswer (held run.shelf) (FailedIn faults fetched run))
-      (FetchesToPicture (held run.shelf) (FailedIn faults fetched run) fetched) held faults run
+      is_helped_run SaysPicture (IsPictureAnswer (held run.shelf) (FailedIn faults fetched run))
+      (FetchesToPicture (held run.shelf) (FailedIn faults fetched run) fetched) wrong_picture held faults run
       (λ asked a was. picture_for_memory (held run.shelf) (FailedIn faults fetched run) fetched asked a run.shelf run.shelf_after was)
+
+-- what is kept after a run can be what is told
+module _ {S : Type 0} (held : S → Bytes → Held) (failed : Bytes → Type 0) (fetched : S → Bytes → S → Type 0) where
+  pub told_after : (words : List Bytes) (answer : Answer) (before after : KeepingShelf S) → kept_in before ≡ []
+      → HasPictureCause (held_by held before) failed words answer
+      → ((asked : PictureWords) → SaysPicture words asked → FetchesToPicture (held_by held before) failed (KeepsAfter held fetched) asked answer before after)
+      → (AskNothing words → after ≡ before) → IsTold held after
+  told_after words answer before after none cause fetches unfetched = go cause where
+    begun : IsTold held before
+    begun = subst (AreToldAs (held_by held before)) (sym none) tt
+
+    go : HasPictureCause (held_by held before) failed words answer → IsTold held after
+    go (inl (nothing, is)) = subst (IsTold held) (sym (unfetched nothing)) begun
+    go (inr (asked, says, why)) =
+        over_picture (IsTold held) (held_by held before) failed (KeepsAfter held fetched) (told_fetch held fetched) asked answer before after (fetches asked says) begun

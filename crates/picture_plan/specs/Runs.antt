@@ -2,11 +2,12 @@
 use Rattle.std.specs.Prelude.{ℕ, List, ⊤}
 use Rattle.plan_io.specs.Held.{Held}
 use Rattle.command_base.specs.Answers.{Answer}
-use Rattle.command_base.specs.Frame.{FailedIn, HasCauseOf, IsRunOf, Run}
+use Rattle.answer_help.specs.HelpedRuns.{IsHelpedRunOf}
+use Rattle.command_base.specs.Frame.{FailedIn, HasCauseOf, Run}
 use Rattle.command_base.specs.Words.{Bytes}
 use Rattle.picture_plan.specs.Fetching.{FetchesToPicture}
 use Rattle.picture_plan.specs.Pictures.{IsPictureAnswer}
-use Rattle.picture_plan.specs.Words.{SaysPicture}
+use Rattle.picture_plan.specs.Words.{SaysPicture, wrong_picture}
 
 -- the words ask for nothing; or they ask for a picture, and the answer is the one to that, or want
 -- of memory, which has no further cause
@@ -18,12 +19,13 @@ HasPictureCause held failed words answer =
 abbrev pub PictureRun : Type 0 → Type 0
 PictureRun S = Run S ⊤
 
--- an answer was given that has its cause, and was delivered. The files were fetched in their order,
--- each once, up to the one that decided the answer, and none where nothing was asked for. The shelf's
--- count of faults is as it was, but at the answers that may have had one; it never falls, and what is
--- held stays
+-- an answer was given that has its cause, and was delivered, with help where it is a refusal. The files
+-- were fetched in their order, each once, up to the one that decided the answer, and none where nothing
+-- was asked for. The shelf's count of faults is as it was, but at the answers that may have had one; it
+-- never falls, and what is held stays
 abbrev pub HasPictured : {S : Type 0} → (S → Bytes → Held) → (S → ℕ) → (S → Bytes → S → Type 0)
     → PictureRun S → Type 0
 HasPictured {S} held faults fetched run =
-    IsRunOf SaysPicture (IsPictureAnswer (held run.shelf) (FailedIn faults fetched run))
-    (FetchesToPicture (held run.shelf) (FailedIn faults fetched run) fetched) held faults run
+    IsHelpedRunOf SaysPicture (IsPictureAnswer (held run.shelf) (FailedIn faults fetched run))
+    (FetchesToPicture (held run.shelf) (FailedIn faults fetched run) fetched) wrong_picture held
+    faults run

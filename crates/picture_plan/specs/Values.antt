@@ -1,11 +1,18 @@
 -- Private: what the code's own types stand for.
-use Rattle.picture_plan.specs.Words.{PictureWords}
+use Rattle.picture_plan.specs.Words.{PictureForm, PictureWords, as_graph, as_page, as_page_with}
+use Rattle.picture_plan.specs.declared.words.PictureForm.{PictureForm as CodePictureForm}
+use Rattle.picture_plan.specs.declared.words.PictureForm.TheVariants.{Graph, Page, PageWith}
 use Rattle.picture_plan.specs.declared.words.PictureWords.{PictureWords as CodePictureWords}
+
+abbrev pub form_value : CodePictureForm → PictureForm
+form_value Graph = as_graph
+form_value Page = as_page
+form_value (PageWith run) = as_page_with run.now
 
 abbrev pub picture_words_of : CodePictureWords → PictureWords
 picture_words_of words = record {
   domain = words.domain.now;
   problem = words.problem.now;
   plan = words.plan.now;
-  page = words.page;
+  form = form_value words.form;
 }

@@ -1,25 +1,53 @@
--- The words: which picture is wanted.
-use Rattle.std.specs.Prelude.{◌≡◌, Bool, false, true, List, [], ◌∷◌, codes}
+-- The words: which picture is wanted, and what is wrong with words that ask for none.
+use Rattle.std.specs.Prelude.{◌≡◌, if◌then◌else◌, List, [], ◌∷◌, codes}
+use Rattle.std.specs.Str.{bytes_eq}
 use Rattle.command_base.specs.Words.{Bytes}
+use Rattle.answer_help.specs.WrongWords.{WrongWords, too_few, wrong}
+use Rattle.answer_help.specs.declared.wrong_words.TheConstants.{NO_OPTION, ONE_TOO_MANY}
 
--- what is asked: a picture of the plan, for the domain and the problem, in the files of these
--- names; as a page to step through the plan, or as a text in the DOT language
+-- how a plan is shown: as a text in the DOT language; as a page to step through it; or as a page that
+-- plays the run in the file of this name when it opens
+pub data PictureForm : Type 0 where
+  as_graph : PictureForm
+  as_page : PictureForm
+  as_page_with : Bytes → PictureForm
+
+-- what is asked: a picture of the plan, for the domain and the problem, in the files of these names,
+-- in this form
 pub record PictureWords : Type 0 where
   pub domain : Bytes
   pub problem : Bytes
   pub plan : Bytes
-  pub page : Bool
+  pub form : PictureForm
 
--- the word that asks for a page
-abbrev pub page_words : Bool → List Bytes
-page_words false = []
-page_words true = codes "--page" ∷ []
+-- the words that ask for a form
+abbrev pub form_words : PictureForm → List Bytes
+form_words as_graph = []
+form_words as_page = codes "--page" ∷ []
+form_words (as_page_with run) = codes "--page" ∷ run ∷ []
 
--- `DOMAIN PROBLEM PLAN`, and `--page` after it for a page
+-- `DOMAIN PROBLEM PLAN`, and `--page` after it for a page, and RUN after that for a run to play
 abbrev pub SaysPicture : List Bytes → PictureWords → Type 0
 SaysPicture words asked =
-    words ≡ asked.domain ∷ asked.problem ∷ asked.plan ∷ page_words asked.page
+    words ≡ asked.domain ∷ asked.problem ∷ asked.plan ∷ form_words asked.form
 
 -- the words ask for no picture
 abbrev pub AskNothing : List Bytes → Type 0
 AskNothing words = (asked : PictureWords) → SaysPicture words asked → ⊥
+
+-- what is wrong with the words after a page was asked for
+abbrev pub wrong_after_page : List Bytes → WrongWords
+wrong_after_page [] = too_few
+wrong_after_page (run ∷ []) = too_few
+wrong_after_page (run ∷ word ∷ words) = wrong word ONE_TOO_MANY.now
+
+-- what is wrong with words that ask for no picture: there are less than three; the fourth is no option;
+-- or there is one too many
+abbrev pub wrong_picture : List Bytes → WrongWords
+wrong_picture [] = too_few
+wrong_picture (domain ∷ []) = too_few
+wrong_picture (domain ∷ problem ∷ []) = too_few
+wrong_picture (domain ∷ problem ∷ plan ∷ []) = too_few
+wrong_picture (domain ∷ problem ∷ plan ∷ option ∷ words) =
+    if bytes_eq option (codes "--page") then wrong_after_page words
+    else wrong option NO_OPTION.now

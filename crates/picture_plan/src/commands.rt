@@ -2,29 +2,31 @@
 
 ghost use Rattle.command_base.specs.Answers.{no_memory, refused};
 ghost use Rattle.command_base.specs.Faults.{IsQuietAt};
-ghost use Rattle.command_base.specs.Fetching.{Stops};
-ghost use Rattle.command_base.specs.Following.{most_followed};
+ghost use Rattle.command_base.specs.Fetching.{HoldsSomePlan, RefusesPlan, Stops};
 ghost use Rattle.command_base.specs.Grounding.{GroundThen};
-ghost use Rattle.command_base.specs.InitialStates.{InitialThen, empty_init};
 ghost use Rattle.command_base.specs.Values.{answer_of};
-ghost use Rattle.exec_graph.specs.Initials.{HasTooManyInitial};
 ghost use Rattle.pddl_ast.specs.Fits.{FitsDomain, FitsProblem};
 ghost use Rattle.pddl_ast.specs.Values.{domain_value, problem_value};
 ghost use Rattle.pddl_system.specs.Names.{NamesAreWords};
 ghost use Rattle.pddl_system.specs.Sizes.{first_passed};
-ghost use Rattle.picture_plan.specs.Fetching.{FetchesToPicture};
+ghost use Rattle.pddl_system.specs.Systems.{
+  action_names as names_of_actions,
+  fluent_names as names_of_fluents,
+};
+ghost use Rattle.picture_plan.specs.Fetching.{FetchPlan, FetchesRun, FetchesToPicture};
 ghost use Rattle.picture_plan.specs.Pictures.{
-  DrawThen,
+  DrawnOf,
   IsPictureAnswer,
   IsPictured,
-  ShowsPicture,
+  RunThen,
+  TaskThen,
   most_for,
   shown_text as text_of,
 };
 ghost use Rattle.picture_plan.specs.Runs.{HasPictureCause};
-ghost use Rattle.picture_plan.specs.Values.{picture_words_of};
+ghost use Rattle.picture_plan.specs.Values.{form_value, picture_words_of};
 ghost use Rattle.picture_plan.specs.Words.{AskNothing, PictureWords as AskedPicture, SaysPicture};
-ghost use Rattle.plan_io.specs.Fetches.{FailedLast, Fetches};
+ghost use Rattle.plan_io.specs.Fetches.{FailedLast};
 ghost use Rattle.plan_picture.specs.Values.{nodes_of};
 ghost use Rattle.plan_rules.specs.Plans.{IsPlanOf};
 ghost use Rattle.plan_rules.specs.Rules.{plain_of};
@@ -33,8 +35,6 @@ ghost use Rattle.std.specs.Prelude.{
   ◌≤◌,
   ◌⊎◌,
   ◌↔◌,
-  ◌∷◌,
-  [],
   None,
   IfOk,
   IsTrue,
@@ -49,17 +49,15 @@ ghost use Rattle.task_core.specs.Tasks.{
   action_names,
   fluent_count,
   fluent_names,
-  initial_states,
   system_of,
 };
 
-use crate::words::{PictureWords, read_words};
-use command_base::{
-    Limit, Refusal, Shown, Text, ground_both, no_initial, read_both, read_plan_file,
-};
+use crate::run_files::read_run_file;
+use crate::words::{PictureForm, PictureWords, read_words};
+use command_base::{Limit, Refusal, Shown, Text, grounded, no_initial, read_both, read_plan_file};
 use pddl_ast::{Domain, Problem};
 use plan_io::Shelf;
-use plan_page::page_text;
+use plan_page::{NO_RUN, page_text};
 use plan_picture::{MAX_NODES, Picture, PictureErr, dot_text, picture_of};
 use plan_rules::Plan;
 use std::alloc::{AllocError, Global};
@@ -128,41 +126,113 @@ fn picture_problem<S: Shelf>(
         (answer_of result ≡ refused no_memory)
         ⊎ IsPictured (S.held shelf.old) failed (picture_words_of asked.now)
         (domain_value domain.now) (problem_value problem.now) (answer_of result) }
-    ensures fetches { (Stops (GroundThen (domain_value domain.now) (problem_value problem.now) (λ answer. ⊥))
-        (answer_of result) × (shelf.new ≡ shelf.old))
-        ⊎ ((first_passed (domain_value domain.now) (problem_value problem.now) ≡ None)
-        × Fetches S.fetched (asked.now.plan.now ∷ []) shelf.old shelf.new) }
+    ensures fetches { let failed = FailedLast S.fetched S.faults shelf.old shelf.new in
+        let domain = domain_value domain.now in
+        let problem = problem_value problem.now in
+        let fluents = names_of_fluents domain problem in
+        let actions = names_of_actions domain problem in
+        (Stops (GroundThen domain problem (λ answer. ⊥)) (answer_of result)
+        × (shelf.new ≡ shelf.old))
+        ⊎ ((first_passed domain problem ≡ None)
+        × FetchPlan S.fetched (picture_words_of asked.now)
+        (RefusesPlan (S.held shelf.old) failed fluents actions asked.now.plan.now)
+        (HoldsSomePlan (S.held shelf.old) fluents actions asked.now.plan.now)
+        (answer_of result) shelf.old shelf.new) }
     ensures quiet_at { IsQuietAt (answer_of result) (S.faults shelf.old) (S.faults shelf.new) }
     ensures kept { (file : List ℕ) → S.held shelf.new file ≡ S.held shelf.old file }
     ensures later { S.faults shelf.old ≤ S.faults shelf.new }
 {
-    let grounded = ground_both(alloc, domain, problem)?;
-    let read = read_plan_file(alloc, shelf, asked.plan, &grounded.task)?;
-    drawn(alloc, asked, problem, &grounded.task, &read.plan)
+    let task = grounded(alloc, domain, problem)?;
+    picture_task(alloc, shelf, asked, problem, &task)
+}
+
+/// The picture of the plan in a file, for a task.
+fn picture_task<S: Shelf>(
+    alloc: Global,
+    shelf: &mut S,
+    asked: &PictureWords,
+    problem: &Problem,
+    task: &Task,
+) -> Result<Shown, Refusal>
+    ensures answer { let failed = FailedLast S.fetched S.faults shelf.old shelf.new in
+        (answer_of result ≡ refused no_memory)
+        ⊎ TaskThen (S.held shelf.old) failed (picture_words_of asked.now)
+        (problem_value problem.now) task.now (answer_of result) }
+    ensures fetches { let failed = FailedLast S.fetched S.faults shelf.old shelf.new in
+        FetchPlan S.fetched (picture_words_of asked.now)
+        (RefusesPlan (S.held shelf.old) failed (fluent_names task.now) (action_names task.now)
+        asked.now.plan.now)
+        (HoldsSomePlan (S.held shelf.old) (fluent_names task.now) (action_names task.now)
+        asked.now.plan.now) (answer_of result) shelf.old shelf.new }
+    ensures quiet_at { IsQuietAt (answer_of result) (S.faults shelf.old) (S.faults shelf.new) }
+    ensures kept { (file : List ℕ) → S.held shelf.new file ≡ S.held shelf.old file }
+    ensures later { S.faults shelf.old ≤ S.faults shelf.new }
+{
+    let read = read_plan_file(alloc, shelf, asked.plan, task)?;
+    let wanted = Wanted {
+        problem,
+        task,
+        plan: &read.plan,
+    };
+    picture_plan(alloc, shelf, asked, &wanted)
+}
+
+/// A plan for the task of a problem.
+#[derive(Clone, Copy)]
+struct Wanted<'a> {
+    problem: &'a Problem,
+    task: &'a Task,
+    plan: &'a Plan,
+}
+
+/// The picture of a plan, and of the run in a file, where there is one.
+fn picture_plan<S: Shelf>(
+    alloc: Global,
+    shelf: &mut S,
+    asked: &PictureWords,
+    wanted: &Wanted<'_>,
+) -> Result<Shown, Refusal>
+    requires in_task { IsPlanOf (fluent_count wanted.now.task.now)
+        (action_count wanted.now.task.now) wanted.now.plan.now }
+    ensures answer { let failed = FailedLast S.fetched S.faults shelf.old shelf.new in
+        (answer_of result ≡ refused no_memory)
+        ⊎ RunThen (S.held shelf.old) failed (form_value asked.now.form)
+        (DrawnOf (picture_words_of asked.now) (problem_value wanted.now.problem.now)
+        wanted.now.task.now (plain_of wanted.now.plan.now)) (answer_of result) }
+    ensures fetches { FetchesRun S.fetched (form_value asked.now.form) shelf.old shelf.new }
+    ensures quiet_at { IsQuietAt (answer_of result) (S.faults shelf.old) (S.faults shelf.new) }
+    ensures kept { (file : List ℕ) → S.held shelf.new file ≡ S.held shelf.old file }
+    ensures later { S.faults shelf.old ≤ S.faults shelf.new }
+{
+    match asked.form {
+        PictureForm::Graph => drawn(alloc, asked, wanted, NO_RUN),
+        PictureForm::Page => drawn(alloc, asked, wanted, NO_RUN),
+        PictureForm::PageWith(file) => {
+            let run = read_run_file(alloc, shelf, file)?;
+            drawn(alloc, asked, wanted, &run)
+        }
+    }
 }
 
 /// The picture of a plan.
 fn drawn(
     alloc: Global,
     asked: &PictureWords,
-    problem: &Problem,
-    task: &Task,
-    plan: &Plan,
+    wanted: &Wanted<'_>,
+    run: &[u8],
 ) -> Result<Shown, Refusal>
-    requires in_task { IsPlanOf (fluent_count task.now) (action_count task.now) plan.now }
+    requires in_task { IsPlanOf (fluent_count wanted.now.task.now)
+        (action_count wanted.now.task.now) wanted.now.plan.now }
     ensures { (answer_of result ≡ refused no_memory)
-        ⊎ DrawThen (HasTooManyInitial task.now most_followed) (most_for asked.now.page)
-        (system_of task.now) (plain_of plan.now)
-        (InitialThen (empty_init asked.now.problem.now (problem_value problem.now))
-        (initial_states task.now) (ShowsPicture asked.now.page (fluent_names task.now)
-        (action_names task.now) (system_of task.now) (plain_of plan.now))) (answer_of result) }
+        ⊎ DrawnOf (picture_words_of asked.now) (problem_value wanted.now.problem.now)
+        wanted.now.task.now (plain_of wanted.now.plan.now) run.now (answer_of result) }
 {
-    match picture_of(alloc, task, plan, most_shown(asked.page)) {
+    match picture_of(alloc, wanted.task, wanted.plan, most_shown(asked.form)) {
         Ok(picture) => {
             if is_blank(&picture) {
-                return Err(no_initial(alloc, asked.problem, problem)?);
+                return Err(no_initial(alloc, asked.problem, wanted.problem)?);
             }
-            let text = shown_text(alloc, task, plan, &picture, asked.page)?;
+            let text = shown_text(alloc, wanted, &picture, asked.form, run)?;
             Ok(Shown::Affirmed(Text::Made(text)))
         }
         Err(PictureErr::Initial) => Err(Refusal::OverLimit(Limit::Initial)),
@@ -172,29 +242,34 @@ fn drawn(
 }
 
 /// How many configurations a picture may show.
-fn most_shown(page: bool) -> u32
-    ensures { result ≡ most_for page }
+fn most_shown(form: PictureForm<'_>) -> u32
+    ensures { result ≡ most_for (form_value form.entry) }
 {
-    if page { MAX_PAGE_NODES } else { MAX_NODES }
+    match form {
+        PictureForm::Graph => MAX_NODES,
+        PictureForm::Page => MAX_PAGE_NODES,
+        PictureForm::PageWith(_) => MAX_PAGE_NODES,
+    }
 }
 
-/// The text of a picture, in the DOT language or as a page.
+/// The text of a picture in a form, to which the bytes of a run are handed in.
 fn shown_text(
     alloc: Global,
-    task: &Task,
-    plan: &Plan,
+    wanted: &Wanted<'_>,
     picture: &Picture,
-    page: bool,
+    form: PictureForm<'_>,
+    run: &[u8],
 ) -> Result<Vec<u8>, AllocError>
     requires few { length picture.now.nodes.items ≤ 262144 }
-    ensures { IfOk result (λ text. text.items
-        ≡ text_of page (fluent_names task.now) (action_names task.now) (system_of task.now)
-        (plain_of plan.now) (nodes_of (fluent_count task.now) picture.now)) }
+    ensures { let task = wanted.now.task.now in IfOk result (λ text. text.items
+        ≡ text_of (form_value form.entry) (fluent_names task) (action_names task) (system_of task)
+        (plain_of wanted.now.plan.now) (nodes_of (fluent_count task) picture.now) run.now) }
 {
-    if page {
-        return page_text(alloc, task, plan, picture);
+    match form {
+        PictureForm::Graph => dot_text(alloc, wanted.task, wanted.plan, picture),
+        PictureForm::Page => page_text(alloc, wanted.task, wanted.plan, picture, run),
+        PictureForm::PageWith(_) => page_text(alloc, wanted.task, wanted.plan, picture, run),
     }
-    dot_text(alloc, task, plan, picture)
 }
 
 /// Whether a picture has no nodes.

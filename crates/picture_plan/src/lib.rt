@@ -7,6 +7,7 @@
 #![tactic(auto)]
 
 mod commands;
+mod run_files;
 mod top;
 mod words;
 

@@ -1,20 +1,24 @@
 //! The call.
 
+ghost use Rattle.answer_help.specs.Keeping.{KeepsAfter, faults_by, held_by, kept_in};
 ghost use Rattle.command_base.specs.Delivery.{seen};
 ghost use Rattle.picture_plan.specs.Runs.{HasPictured};
-ghost use Rattle.std.specs.Prelude.{map, string_bytes};
+ghost use Rattle.std.specs.Prelude.{◌≡◌, [], map, string_bytes};
 
 use crate::commands::answer;
-use command_base::deliver;
+use crate::words::wrong_picture;
+use answer_help::{HelpSource, KeepingShelf, deliver_helped};
 use plan_io::{Shelf, Sink};
 use std::alloc::Global;
 
 /// Writes the picture that the words ask for, and gives the exit status.
 ///
 /// The words are `DOMAIN PROBLEM PLAN`, and `--page` after them for a page to step through the plan in
-/// place of a text in the DOT language. The picture goes to `out`; every other answer is one line on
-/// `err`. The statuses are those of `mbp_top::run`'s `check`, but that the plan may be of
-/// either kind, and no goal is asked for:
+/// place of a text in the DOT language; after that RUN, a file with a run as JSON, for a page that
+/// plays it when it opens. The picture goes to `out`. Every other answer goes to `err`: one line, and
+/// below it, where it is a fault in a file or in the words, what helps to find it. The statuses are
+/// those of `mbp_top::run`'s `check`, but that the plan may be of either kind, and no goal is asked
+/// for:
 ///
 /// - 0: the picture is on `out`;
 /// - 4: a limit is passed, one of those of `check`, or: the plan may reach more than 400
@@ -23,11 +27,12 @@ use std::alloc::Global;
 pub fn picture<S: Shelf, O: Sink, E: Sink>(
     alloc: Global,
     words: &[String],
-    shelf: &mut S,
+    shelf: &mut KeepingShelf<S>,
     out: &mut O,
     err: &mut E,
 ) -> u8
-    ensures { HasPictured S.held S.faults S.fetched (record {
+    requires { kept_in shelf.old ≡ [] }
+    ensures { HasPictured (held_by S.held) (faults_by S.faults) (KeepsAfter S.held S.fetched) (record {
       words = map string_bytes words.now;
       handed = tt;
       shelf = shelf.old;
@@ -40,5 +45,9 @@ pub fn picture<S: Shelf, O: Sink, E: Sink>(
     }) }
 {
     let found = answer(alloc, words, shelf);
-    deliver(alloc, &found, out, err)
+    let source = HelpSource {
+        shelf,
+        words: wrong_picture(words),
+    };
+    deliver_helped(alloc, &found, &source, out, err)
 }

@@ -35,6 +35,7 @@ use Rattle.task_core.specs.declared.tasks.Task.{Task}
 use Rattle.command_base.specs.Answers.{Answer, affirmed, over_limit, refused, text_fault}
 use Rattle.plan_command.specs.ContextGoals.{context_goal, is_short_goal, most_parts, part_count, stage_count}
 use Rattle.plan_command.specs.Enough.{IsTightForGoal, IsTightPlan}
+use Rattle.task_sets.specs.FullTables.{IsTightToEncode}
 use Rattle.task_sets.specs.NodeRoom.{IsTightLimit}
 use Rattle.plan_command.specs.FoundGoals.{IsGoalMissing, IsGoalResult, IsGoalShown, IsPlanFor, StandsForGoal}
 use Rattle.plan_command.specs.GoalConditions.{HasSomeVisit, IsGoalOver, count_of, grounded_parts, grounded_formula, limit_of_goal, most_of, sets_of_goal}
@@ -52,6 +53,7 @@ use Rattle.plan_command.proofs.GoalSets.{same_counts, same_sets}
 use Rattle.command_base.proofs.TaskNames.{same_actions, same_fluents}
 use Rattle.plan_meets.proofs.Meetings.{contexts_meet}
 use Rattle.plan_command.proofs.Meetings.{no_contexts}
+use Rattle.plan_command.proofs.PlanAnswers.{tight_to_encode}
 
 -- what the task's goal and that of the text have in common
 record Pair (d : DomainTree) (p : ProblemTree) (tree : GoalTree) (theirs : Option (PlainGoal FormulaTree)) : Type 0 where
@@ -213,15 +215,17 @@ module _ (d : DomainTree) (p : ProblemTree) (goal : ContextGoal) (s : StandsForG
 
   -- the nodes may be too few
   pub few_nodes : (asked : PlanWords) (t : Task) → asked.kind ≡ with_contexts → IsTaskOf d p t → count_of goal ≤ most_of goal
-      → IsTightForGoal goal asked.options.nodes t → MayBeTooFew asked d p
-  few_nodes asked t kind of few tight = record {
+      → IsTightForGoal goal asked.options.nodes t → (initial_states t ≡ [] → IsTightToEncode asked.options.nodes t) → MayBeTooFew asked d p
+  few_nodes asked t kind of few tight alone = record {
     goal = subst (λ (k : PlanKind). is_sought k p ≡ true) (sym kind) (short few);
     within = of.within;
     tight = subst (λ (k : PlanKind). IsTightPlan k asked.options.nodes d p) (sym kind) (record {
       by_sizes = subst (λ n. IsTightLimit n asked.options.nodes (system d p)) counted
           (subst (λ (y : System). IsTightLimit (count_of goal) asked.options.nodes y) of.system_is tight.by_sizes);
       by_sets = (t, goal, of, s.conditions, tight.by_sets);
+      full = (t, of, tight.full);
     });
+    not_begun = tight_to_encode asked.options.nodes d p t of alone;
   }
 
 -- the goal is none of them

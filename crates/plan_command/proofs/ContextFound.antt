@@ -15,7 +15,7 @@ use Rattle.dd_sets.specs.declared.errors.SetErr.{SetErr}
 use Rattle.dd_sets.specs.declared.errors.SetErr.TheVariants.{Full}
 use Rattle.patrol_plan.specs.Chains.{until_sets, visit_sets}
 use Rattle.patrol_plan.specs.Found.{IfNoPlan, IfPlan}
-use Rattle.patrol_plan.specs.PatrolWorkingSets.{IsWide as BoundsPatrolSets}
+use Rattle.patrol_plan.specs.PatrolWorkingSets.{BoundsPatrolSets}
 use Rattle.patrol_plan.specs.declared.found.FoundAuto.{FoundAuto}
 use Rattle.patrol_plan.specs.declared.found.FoundAuto.TheVariants.{NoPlan, Plan}
 use Rattle.plan_rules.specs.Denoted.{denoted_contexts}

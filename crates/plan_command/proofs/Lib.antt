@@ -1,11 +1,12 @@
 pub mod CertificateFound
 pub mod ContextAnswers
 pub mod ContextFound
-pub mod SearchRooms
 pub mod EnoughNodes
+pub mod FromInitial
 pub mod GoalParts
 pub mod GoalSets
 pub mod Meetings
 pub mod OneCyclicPlan
 pub mod PlanAnswers
 pub mod PlanDecides
+pub mod SearchRooms

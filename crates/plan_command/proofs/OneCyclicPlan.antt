@@ -10,7 +10,7 @@ use Rattle.task_core.specs.declared.classes.Class.TheVariants.{Weak}
 use Rattle.plan_rules.specs.Rules.{PlanRule}
 use Rattle.plan_theory.specs.Layers.{action_numbers, may_lead, rank_within}
 use Rattle.plan_theory.specs.LayerPlans.{action_of_rank, chosen_action, is_action, rules_of_action, takers}
-use Rattle.plan_theory.proofs.WeakLists.{list_any-from, list_any-witness}
+use Rattle.list_laws.proofs.Elements.{list_any-from, list_any-witness}
 use Rattle.plan_theory.specs.LargestSets.{IsLargestSet}
 use Rattle.plan_theory.specs.Pairs.{Pairs, restricted}
 use Rattle.plan_theory.specs.CyclicPlans.{cyclic_rules}

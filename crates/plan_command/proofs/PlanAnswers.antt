@@ -34,6 +34,7 @@ use Rattle.plan_theory.specs.Layers.{IsLastLayer}
 use Rattle.plan_theory.specs.LayerPlans.{printed_rules}
 use Rattle.command_base.specs.Answers.{Answer, affirmed, denied, full, no_memory, refused}
 use Rattle.plan_command.specs.Enough.{IsTightForClass, IsTightPlan}
+use Rattle.task_sets.specs.FullTables.{IsTightToEncode, IsTightToEncodeBoth}
 use Rattle.task_sets.specs.NodeRoom.{IsTightLimit}
 use Rattle.plan_command.specs.FoundPlans.{IsFoundCertificate, IsFoundPlan, IsSearched, IsTableResult}
 use Rattle.command_base.specs.Grounded.{IsTaskOf}
@@ -94,14 +95,24 @@ without_initial asked class d p t a kind of none is =
 
 -- the nodes may be too few for the problem where they may be for its task
 pub tight_class : (class : Class) (nodes : ℕ) (d : DomainTree) (p : ProblemTree) (t : Task) → IsTaskOf d p t → IsTightForClass class nodes t → IsTightPlan (of_class class) nodes d p
-tight_class class nodes d p t of tight = record { by_sizes = subst (IsTightLimit 0 nodes) of.system_is tight.by_sizes; by_sets = (t, of, tight.by_sets) }
+tight_class class nodes d p t of tight = record {
+  by_sizes = subst (IsTightLimit 0 nodes) of.system_is tight.by_sizes;
+  by_sets = (t, of, tight.by_sets);
+  full = (t, of, tight.full);
+}
+
+-- without an initial state they are for its sets alone
+pub tight_to_encode : (nodes : ℕ) (d : DomainTree) (p : ProblemTree) (t : Task) → IsTaskOf d p t → (initial_states t ≡ [] → IsTightToEncode nodes t)
+    → (system d p).initial ≡ [] → IsTightToEncodeBoth nodes d p
+tight_to_encode nodes d p t of tight none = (t, of, tight (ap (λ (y : System). y.initial) of.system_is ∙ none))
 
 pub too_few : (asked : PlanWords) (class : Class) (d : DomainTree) (p : ProblemTree) (t : Task) → asked.kind ≡ of_class class → IsTaskOf d p t → IsSome p.goal
-    → IsTightForClass class asked.options.nodes t → MayBeTooFew asked d p
-too_few asked class d p t kind of goal tight = record {
+    → IsTightForClass class asked.options.nodes t → (initial_states t ≡ [] → IsTightToEncode asked.options.nodes t) → MayBeTooFew asked d p
+too_few asked class d p t kind of goal tight alone = record {
   goal = subst (λ (k : PlanKind). is_sought k p ≡ true) (sym kind) goal;
   within = of.within;
   tight = subst (λ (k : PlanKind). IsTightPlan k asked.options.nodes d p) (sym kind) (tight_class class asked.options.nodes d p t of tight);
+  not_begun = tight_to_encode asked.options.nodes d p t of alone;
 }
 
 -- no other table is shorter than that of the printed rules

@@ -31,6 +31,7 @@ use Rattle.task_core.specs.Vectors.{Vector}
 use Rattle.command_base.specs.Answers.{Answer, affirmed, denied, refused, full}
 use Rattle.command_base.specs.Grounding.{GoalThen, GroundThen}
 use Rattle.plan_command.specs.Enough.{IsTightPlan}
+use Rattle.task_sets.specs.FullTables.{IsTightToEncodeBoth}
 use Rattle.command_base.specs.InitialStates.{InitialThen, empty_init}
 use Rattle.plan_meets.specs.Meets.{Meaning, Meets, PlanMeets}
 use Rattle.command_base.specs.PddlTexts.{HoldBoth, ReadBoth}
@@ -219,12 +220,15 @@ IsPlanned asked domain problem =
     (GroundThen domain problem (PlanThen asked domain problem))
 
 -- a plan is looked for of this domain and problem, since the goal is of the kind that is wanted and
--- the limits are kept; and the nodes that are asked for may be too few for it
+-- the limits are kept; and the nodes that are asked for may be too few for it. Where there is no
+-- initial state, nothing is searched, and they are too few for the sets of the task alone
 pub record MayBeTooFew (asked : PlanWords) (domain : DomainTree) (problem : ProblemTree)
     : Type 0 where
   pub goal : is_sought asked.kind problem ≡ true
   pub within : first_passed domain problem ≡ None
   pub tight : IsTightPlan asked.kind asked.options.nodes domain problem
+  pub not_begun : (system domain problem).initial ≡ []
+      → IsTightToEncodeBoth asked.options.nodes domain problem
 
 -- the same of what the two files spell
 pub record MayRunOut (held : Bytes → Held) (asked : PlanWords) : Type 0 where

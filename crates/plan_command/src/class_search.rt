@@ -1,4 +1,4 @@
-//! The search for the plan of a class, or for the certificate that there is none, in two tries.
+//! The search for the plan of a class, or for the certificate that there is none.
 
 ghost use Rattle.command_base.specs.Words.{IsNodeLimit};
 ghost use Rattle.dd_sets.specs.Frames.{Owns};
@@ -12,19 +12,20 @@ ghost use Rattle.plan_command.specs.FoundPlans.{
   IsSought,
   IsSoughtFrom,
 };
-ghost use Rattle.std.specs.Prelude.{◌+◌, ◌*◌, [], IsErrOf, IsSome, false, true, ℕ};
-ghost use Rattle.task_core.specs.Tasks.{action_count, system_of};
+ghost use Rattle.std.specs.Prelude.{◌≡◌, ◌+◌, ◌*◌, [], IsErrOf, IsSome, false, true, ℕ};
+ghost use Rattle.task_core.specs.Tasks.{action_count, initial_states, system_of};
+ghost use Rattle.task_sets.specs.FullTables.{IsTightToEncode};
 
 use cyclic_plan::{cert_cyclic, plan_cyclic};
 use dd_sets::{SetErr, no_room_is_small, no_room_is_tight, no_room_of_fewer, tight_is_monotone};
-use encode_task::{Enc, encode, kept_sets_bound_nodes};
+use encode_task::{Enc, kept_sets_bound_nodes};
 use plan_certs::Certificate;
 use plan_rules::{Class, TablePlan};
 use plan_theory::{Found, printed_plan_is_shortest};
 use reach_plan::{cert_strong, cert_weak, plan_strong, plan_weak};
 use std::alloc::Global;
 use task_core::{Task, tasks_have_systems};
-use task_sets::{encode_ordered, has_no_initial};
+use task_sets::{SetSearch, search_in_tries};
 
 /// What is found where the certificate that there is no plan is wanted, too, or isn't.
 #[derive(Drop)]
@@ -37,57 +38,53 @@ pub(crate) enum Sought {
     Certified(Certificate),
 }
 
-/// What is found for a task, in a table for so many nodes: over variables in an order that is chosen
-/// for the task, and where that fails, once more from nothing, over the fluents in their own order.
-/// What is found is the same in either order, and a refusal is that of the second. `None` where there
-/// is no initial state.
-pub(crate) fn search_task(
-    alloc: Global,
-    class: Class,
-    certified: bool,
-    nodes: u32,
-    task: &Task,
-) -> Result<Option<Sought>, SetErr>
-    requires room { IsNodeLimit nodes }
-    requires goal { IsSome task.now.goal }
-    ensures found { IsSoughtFrom certified class task.now result }
-    ensures full { IsErrOf result SetErr.Full → IsTightForClass class nodes task.now }
-{
-    match search_in_order(alloc, class, certified, nodes, task) {
-        Ok(found) => Ok(found),
-        Err(_) => search_plainly(alloc, class, certified, nodes, task),
+/// The search for the plan of a class in a table for so many nodes, and for the certificate that there
+/// is none, if that is wanted.
+#[derive(Clone, Copy)]
+pub(crate) struct ClassSearch {
+    pub(crate) class: Class,
+    pub(crate) certified: bool,
+    pub(crate) nodes: u32,
+}
+
+impl SetSearch for ClassSearch {
+    ghost use Rattle.plan_command.specs.Enough.{LacksClassRoom};
+    ghost use Rattle.plan_command.specs.FoundPlans.{IsSought};
+    ghost use Rattle.std.specs.Prelude.{IsSome, Ok};
+
+    type Found = Sought;
+
+    ghost nodes = { λ self. self.nodes };
+
+    ghost fits = { λ self task. IsSome task.goal };
+
+    ghost finds = { λ self task found. IsSought self.certified self.class task (Ok found) };
+
+    ghost lacks_room = { λ self task. LacksClassRoom self.class task };
+
+    fn nodes(&self) -> u32 {
+        self.nodes
+    }
+
+    fn find(&self, alloc: Global, task: &Task, enc: &mut Enc) -> Result<Sought, SetErr> {
+        find_sought(alloc, self.class, self.certified, task, enc)
     }
 }
 
-/// The first try: over variables in an order that is chosen for the task. Nothing is said of why it
-/// fails.
-fn search_in_order(
+/// What is found for a task; `None` where there is no initial state. It is the same over variables in
+/// any order.
+pub(crate) fn search_task(
     alloc: Global,
-    class: Class,
-    certified: bool,
-    nodes: u32,
+    wanted: &ClassSearch,
     task: &Task,
 ) -> Result<Option<Sought>, SetErr>
-    requires room { IsNodeLimit nodes }
+    requires room { IsNodeLimit wanted.now.nodes }
     requires goal { IsSome task.now.goal }
-    ensures found { IsSoughtFrom certified class task.now result }
-{
-    let mut enc = encode_ordered(alloc, task, nodes)?;
-    find_from_initial(alloc, class, certified, task, &mut enc)
-}
-
-/// The second try: over the fluents in their own order.
-fn search_plainly(
-    alloc: Global,
-    class: Class,
-    certified: bool,
-    nodes: u32,
-    task: &Task,
-) -> Result<Option<Sought>, SetErr>
-    requires room { IsNodeLimit nodes }
-    requires goal { IsSome task.now.goal }
-    ensures found { IsSoughtFrom certified class task.now result }
-    ensures full { IsErrOf result SetErr.Full → IsTightForClass class nodes task.now }
+    ensures found { IsSoughtFrom wanted.now.certified wanted.now.class task.now result }
+    ensures full { IsErrOf result SetErr.Full
+        → IsTightForClass wanted.now.class wanted.now.nodes task.now }
+    ensures not_begun { IsErrOf result SetErr.Full → initial_states task.now ≡ []
+        → IsTightToEncode wanted.now.nodes task.now }
 {
     // These do nothing: that few nodes are too few for more sets, and for sets of their sizes, rests
     // on what they promise.
@@ -95,29 +92,7 @@ fn search_plainly(
     no_room_is_tight();
     no_room_is_small();
     kept_sets_bound_nodes();
-    let mut enc = encode(alloc, task, nodes)?;
-    find_from_initial(alloc, class, certified, task, &mut enc)
-}
-
-/// What is found for a task, over its sets, or `None` where there is no initial state.
-fn find_from_initial(
-    alloc: Global,
-    class: Class,
-    certified: bool,
-    task: &Task,
-    enc: &mut Enc,
-) -> Result<Option<Sought>, SetErr>
-    requires made { MadeOf task.now enc.old }
-    requires goal { IsSome task.now.goal }
-    ensures found { IsSoughtFrom certified class task.now result }
-    ensures full { IsErrOf result SetErr.Full → (w : ℕ) → BoundsSets class task.now w
-        → NoRoom w (3 * action_count task.now + 32) 16 enc.old.sets enc.new.sets }
-{
-    if has_no_initial(task, enc) {
-        return Ok(None);
-    }
-    let found = find_sought(alloc, class, certified, task, enc)?;
-    Ok(Some(found))
+    search_in_tries(alloc, task, wanted)
 }
 
 /// The plan for a task, over its sets, or that there is none, with the certificate where it is wanted.
@@ -133,6 +108,8 @@ fn find_sought(
     ensures found { IsSought certified class task.now result }
     ensures full { IsErrOf result SetErr.Full → (w : ℕ) → BoundsSets class task.now w
         → NoRoom w (3 * action_count task.now + 32) 16 enc.old.sets enc.new.sets }
+    ensures still_made { MadeOf task.now enc.new }
+    ensures slots { Owns enc.old.sets enc.new.sets [] }
 {
     if certified {
         find_certified(alloc, class, task, enc)
@@ -153,6 +130,8 @@ fn find_uncertified(
     ensures found { IsSought false class task.now result }
     ensures full { IsErrOf result SetErr.Full → (w : ℕ) → BoundsSets class task.now w
         → NoRoom w (3 * action_count task.now + 32) 16 enc.old.sets enc.new.sets }
+    ensures still_made { MadeOf task.now enc.new }
+    ensures slots { Owns enc.old.sets enc.new.sets [] }
 {
     match find_plan(alloc, class, task, enc)? {
         Found::Plan(plan) => Ok(Sought::Table(plan)),
@@ -168,6 +147,8 @@ fn find_certified(alloc: Global, class: Class, task: &Task, enc: &mut Enc) -> Re
     ensures found { IsSought true class task.now result }
     ensures full { IsErrOf result SetErr.Full → (w : ℕ) → BoundsSets class task.now w
         → NoRoom w (3 * action_count task.now + 32) 16 enc.old.sets enc.new.sets }
+    ensures still_made { MadeOf task.now enc.new }
+    ensures slots { Owns enc.old.sets enc.new.sets [] }
 {
     match find_certificate(alloc, class, task, enc)? {
         Some(certificate) => Ok(Sought::Certified(certificate)),
@@ -183,6 +164,8 @@ fn find_existing(alloc: Global, class: Class, task: &Task, enc: &mut Enc) -> Res
     ensures found { IsSought true class task.now result }
     ensures full { IsErrOf result SetErr.Full → (w : ℕ) → BoundsSets class task.now w
         → NoRoom w (3 * action_count task.now + 32) 16 enc.old.sets enc.new.sets }
+    ensures still_made { MadeOf task.now enc.new }
+    ensures slots { Owns enc.old.sets enc.new.sets [] }
 {
     match find_plan(alloc, class, task, enc)? {
         Found::Plan(table) => Ok(Sought::Table(table)),

@@ -27,16 +27,16 @@ ghost use Rattle.std.specs.Prelude.{
   ℕ,
 };
 ghost use Rattle.task_core.specs.Tasks.{fluent_count, initial_states, system_of};
+ghost use Rattle.task_sets.specs.FullTables.{IsTightToEncode};
 
 use crate::context_goals::{most_parts, part_count, part_limit};
 use crate::context_search::search_goal;
-use crate::plan_command::text_of_plan;
-use command_base::{PlanWords, Refusal, Shown, Text, goal_in, no_initial};
+use crate::plan_command::{PlanRequest, text_of_plan};
+use command_base::{Refusal, Shown, Text, goal_in, no_initial};
 use ctl_syntax::{ContextGoal, Ctl, as_context_goal};
 use dd_sets::SetErr;
 use ground_task::Grounded;
 use patrol_plan::FoundAuto;
-use pddl_ast::{Domain, Problem};
 use pddl_system::grounded_goals_are_true;
 use plan_rules::Plan;
 use sexpr_text::{FaultKind, InputFault};
@@ -47,66 +47,59 @@ use task_core::Task;
 /// domain and the problem.
 pub(crate) fn plan_contexts(
     alloc: Global,
-    asked: &PlanWords,
-    domain: &Domain,
-    problem: &Problem,
+    request: &PlanRequest<'_>,
     grounded: &Grounded,
 ) -> Result<Shown, Refusal>
-    requires room { IsNodeLimit asked.now.options.nodes }
-    requires kind { kind_of asked.now.kind ≡ with_contexts }
+    requires room { IsNodeLimit request.now.asked.now.options.nodes }
+    requires kind { kind_of request.now.asked.now.kind ≡ with_contexts }
     requires goal { IsSome grounded.now.ctl }
-    requires grounded { IsGroundedOf (domain_value domain.now) (problem_value problem.now)
-        grounded.now }
-    ensures { let asked = plan_words_of asked.now in
+    requires grounded { IsGroundedOf (domain_value request.now.domain.now)
+        (problem_value request.now.problem.now) grounded.now }
+    ensures { let asked = plan_words_of request.now.asked.now in
+        let domain = domain_value request.now.domain.now in
+        let problem = problem_value request.now.problem.now in
         (answer_of result ≡ refused no_memory)
-        ⊎ (MayBeTooFew asked (domain_value domain.now) (problem_value problem.now)
+        ⊎ (MayBeTooFew asked domain problem
         × (answer_of result ≡ refused (full asked.options.nodes)))
-        ⊎ PlanThen asked (domain_value domain.now) (problem_value problem.now)
-        (answer_of result) }
+        ⊎ PlanThen asked domain problem (answer_of result) }
 {
-    plan_goal(
-        alloc,
-        asked,
-        domain,
-        problem,
-        &grounded.task,
-        goal_in(grounded),
-    )
+    plan_goal(alloc, request, &grounded.task, goal_in(grounded))
 }
 
 /// The plan with contexts for a goal.
 fn plan_goal(
     alloc: Global,
-    asked: &PlanWords,
-    domain: &Domain,
-    problem: &Problem,
+    request: &PlanRequest<'_>,
     task: &Task,
     goal: &Ctl,
 ) -> Result<Shown, Refusal>
-    requires room { IsNodeLimit asked.now.options.nodes }
-    requires kind { kind_of asked.now.kind ≡ with_contexts }
-    requires task { IsTaskOf (domain_value domain.now) (problem_value problem.now) task.now }
+    requires room { IsNodeLimit request.now.asked.now.options.nodes }
+    requires kind { kind_of request.now.asked.now.kind ≡ with_contexts }
+    requires task { IsTaskOf (domain_value request.now.domain.now)
+        (problem_value request.now.problem.now) task.now }
     requires goal { Some (goal_value goal.now)
-        ≡ ctl_goal_of (domain_value domain.now) (problem_value problem.now) }
+        ≡ ctl_goal_of (domain_value request.now.domain.now)
+        (problem_value request.now.problem.now) }
     requires names { NamesBelow (fluent_count task.now) (ctl_value goal.now) }
     requires shallow { IsAtMostDeep 199 (ctl_value goal.now) }
-    ensures { let asked = plan_words_of asked.now in
+    ensures { let asked = plan_words_of request.now.asked.now in
+        let domain = domain_value request.now.domain.now in
+        let problem = problem_value request.now.problem.now in
         (answer_of result ≡ refused no_memory)
-        ⊎ (MayBeTooFew asked (domain_value domain.now) (problem_value problem.now)
+        ⊎ (MayBeTooFew asked domain problem
         × (answer_of result ≡ refused (full asked.options.nodes)))
-        ⊎ PlanThen asked (domain_value domain.now) (problem_value problem.now)
-        (answer_of result) }
+        ⊎ PlanThen asked domain problem (answer_of result) }
 {
     // This does nothing: that the goal's sets are those of the problem's formulas rests on what it
     // promises.
     grounded_goals_are_true();
     match as_context_goal(alloc, goal)? {
-        Some(goal) => plan_parts(alloc, asked, domain, problem, task, &goal),
+        Some(goal) => plan_parts(alloc, request, task, &goal),
         None => Err(Refusal::TextFault(
-            String::from_str(alloc, asked.problem)?,
+            String::from_str(alloc, request.asked.problem)?,
             InputFault {
                 kind: FaultKind::NotChain,
-                place: problem.ctl_place,
+                place: request.problem.ctl_place,
             },
         )),
     }
@@ -115,32 +108,33 @@ fn plan_goal(
 /// The plan with contexts for an until-chain or a patrol goal that stands for the problem's goal.
 fn plan_parts(
     alloc: Global,
-    asked: &PlanWords,
-    domain: &Domain,
-    problem: &Problem,
+    request: &PlanRequest<'_>,
     task: &Task,
     goal: &ContextGoal,
 ) -> Result<Shown, Refusal>
-    requires room { IsNodeLimit asked.now.options.nodes }
-    requires kind { kind_of asked.now.kind ≡ with_contexts }
-    requires task { IsTaskOf (domain_value domain.now) (problem_value problem.now) task.now }
-    requires goal { StandsForGoal (domain_value domain.now) (problem_value problem.now) goal.now }
+    requires room { IsNodeLimit request.now.asked.now.options.nodes }
+    requires kind { kind_of request.now.asked.now.kind ≡ with_contexts }
+    requires task { IsTaskOf (domain_value request.now.domain.now)
+        (problem_value request.now.problem.now) task.now }
+    requires goal { StandsForGoal (domain_value request.now.domain.now)
+        (problem_value request.now.problem.now) goal.now }
     requires names { GoalNamesBelow (fluent_count task.now) goal.now }
     requires shallow { GoalIsAtMostDeep 200 goal.now }
-    ensures { let asked = plan_words_of asked.now in
+    ensures { let asked = plan_words_of request.now.asked.now in
+        let domain = domain_value request.now.domain.now in
+        let problem = problem_value request.now.problem.now in
         (answer_of result ≡ refused no_memory)
-        ⊎ (MayBeTooFew asked (domain_value domain.now) (problem_value problem.now)
+        ⊎ (MayBeTooFew asked domain problem
         × (answer_of result ≡ refused (full asked.options.nodes)))
-        ⊎ PlanThen asked (domain_value domain.now) (problem_value problem.now)
-        (answer_of result) }
+        ⊎ PlanThen asked domain problem (answer_of result) }
 {
     if part_count(goal) > most_parts(goal) {
         return Err(Refusal::OverLimit(part_limit(goal)));
     }
-    match plan_for_task(alloc, asked.options.nodes, task, goal) {
+    match plan_for_task(alloc, request.asked.options.nodes, task, goal) {
         Ok(Some(shown)) => Ok(shown),
-        Ok(None) => Err(no_initial(alloc, asked.problem, problem)?),
-        Err(SetErr::Full) => Err(Refusal::Full(asked.options.nodes)),
+        Ok(None) => Err(no_initial(alloc, request.asked.problem, request.problem)?),
+        Err(SetErr::Full) => Err(Refusal::Full(request.asked.options.nodes)),
         Err(SetErr::Memory) => Err(Refusal::NoMemory),
     }
 }
@@ -160,6 +154,8 @@ fn plan_for_task(
     ensures plan { IfOk result (λ found. IfSome found
         (λ shown. IsGoalResult task.now (sets_of_goal goal.now) (shown_of shown))) }
     ensures full { IsErrOf result SetErr.Full → IsTightForGoal goal.now nodes task.now }
+    ensures not_begun { IsErrOf result SetErr.Full → initial_states task.now ≡ []
+        → IsTightToEncode nodes task.now }
 {
     match search_goal(alloc, nodes, task, goal)? {
         Some(FoundAuto::Plan(plan)) => {

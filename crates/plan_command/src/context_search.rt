@@ -1,30 +1,63 @@
-//! The search for the plan with contexts for a goal, in two tries.
+//! The search for the plan with contexts for a goal.
 
 ghost use Rattle.command_base.specs.Words.{IsNodeLimit};
+ghost use Rattle.dd_sets.specs.Frames.{Owns};
 ghost use Rattle.dd_sets.specs.Rooms.{NoRoom};
 ghost use Rattle.encode_task.specs.Made.{MadeOf};
 ghost use Rattle.patrol_plan.specs.Chains.{IsPatrolOver, IsUntilOver, until_sets, visit_sets};
-ghost use Rattle.patrol_plan.specs.PatrolWorkingSets.{IsWide as BoundsPatrolSets};
-ghost use Rattle.patrol_plan.specs.WorkingSets.{IsWide as BoundsUntilSets};
+ghost use Rattle.patrol_plan.specs.PatrolWorkingSets.{BoundsPatrolSets};
+ghost use Rattle.patrol_plan.specs.WorkingSets.{BoundsUntilSets};
 ghost use Rattle.plan_command.specs.Enough.{BoundsGoalSets, IsTightForGoal};
 ghost use Rattle.plan_command.specs.FoundGoals.{IsGoalSearched, IsGoalSearchedFrom};
 ghost use Rattle.plan_command.specs.GoalConditions.{IsGoalOver, count_of, sets_of_goal};
 ghost use Rattle.plan_command.specs.GoalSets.{of_patrol, of_until};
-ghost use Rattle.std.specs.Prelude.{◌+◌, ◌*◌, IsErrOf, length, ℕ};
-ghost use Rattle.task_core.specs.Tasks.{action_count, fluent_count};
+ghost use Rattle.std.specs.Prelude.{◌≡◌, ◌+◌, ◌*◌, [], IsErrOf, length, ℕ};
+ghost use Rattle.task_core.specs.Tasks.{action_count, fluent_count, initial_states};
+ghost use Rattle.task_sets.specs.FullTables.{IsTightToEncode};
 
 use ctl_syntax::{ContextGoal, UntilChain};
 use dd_sets::{SetErr, no_room_is_small, no_room_is_tight, tight_is_monotone};
-use encode_task::{Enc, encode, kept_sets_bound_nodes};
+use encode_task::{Enc, kept_sets_bound_nodes};
 use patrol_plan::{FoundAuto, plan_patrol, plan_until};
 use std::alloc::Global;
 use task_core::{Cond, Task};
-use task_sets::{encode_ordered, has_no_initial};
+use task_sets::{SetSearch, search_in_tries};
 
-/// What is found for a task and a goal, in a table for so many nodes: over variables in an order
-/// that is chosen for the task, and where that fails, once more from nothing, over the fluents in
-/// their own order. What is found is the same in either order, and a refusal is that of the second.
-/// `None` where there is no initial state.
+/// The search for the plan with contexts for a goal, in a table for so many nodes.
+#[derive(Clone, Copy)]
+pub(crate) struct GoalSearch<'a> {
+    pub(crate) goal: &'a ContextGoal,
+    pub(crate) nodes: u32,
+}
+
+impl SetSearch for GoalSearch<'_> {
+    ghost use Rattle.plan_command.specs.Enough.{LacksGoalRoom};
+    ghost use Rattle.plan_command.specs.FoundGoals.{IsGoalSearched};
+    ghost use Rattle.plan_command.specs.GoalConditions.{IsGoalOver, sets_of_goal};
+    ghost use Rattle.std.specs.Prelude.{Ok};
+    ghost use Rattle.task_core.specs.Tasks.{fluent_count};
+
+    type Found = FoundAuto;
+
+    ghost nodes = { λ self. self.nodes };
+
+    ghost fits = { λ self task. IsGoalOver (fluent_count task) self.goal.now };
+
+    ghost finds = { λ self task found. IsGoalSearched task (sets_of_goal self.goal.now) (Ok found) };
+
+    ghost lacks_room = { λ self task. LacksGoalRoom self.goal.now task };
+
+    fn nodes(&self) -> u32 {
+        self.nodes
+    }
+
+    fn find(&self, alloc: Global, task: &Task, enc: &mut Enc) -> Result<FoundAuto, SetErr> {
+        find_contexts(alloc, task, enc, self.goal)
+    }
+}
+
+/// What is found for a task and a goal; `None` where there is no initial state. It is the same over
+/// variables in any order.
 pub(crate) fn search_goal(
     alloc: Global,
     nodes: u32,
@@ -35,40 +68,8 @@ pub(crate) fn search_goal(
     requires goal { IsGoalOver (fluent_count task.now) goal.now }
     ensures found { IsGoalSearchedFrom task.now (sets_of_goal goal.now) result }
     ensures full { IsErrOf result SetErr.Full → IsTightForGoal goal.now nodes task.now }
-{
-    match search_in_order(alloc, nodes, task, goal) {
-        Ok(found) => Ok(found),
-        Err(_) => search_plainly(alloc, nodes, task, goal),
-    }
-}
-
-/// The first try: over variables in an order that is chosen for the task. Nothing is said of why it
-/// fails.
-fn search_in_order(
-    alloc: Global,
-    nodes: u32,
-    task: &Task,
-    goal: &ContextGoal,
-) -> Result<Option<FoundAuto>, SetErr>
-    requires room { IsNodeLimit nodes }
-    requires goal { IsGoalOver (fluent_count task.now) goal.now }
-    ensures found { IsGoalSearchedFrom task.now (sets_of_goal goal.now) result }
-{
-    let mut enc = encode_ordered(alloc, task, nodes)?;
-    plan_from_initial(alloc, task, &mut enc, goal)
-}
-
-/// The second try: over the fluents in their own order.
-fn search_plainly(
-    alloc: Global,
-    nodes: u32,
-    task: &Task,
-    goal: &ContextGoal,
-) -> Result<Option<FoundAuto>, SetErr>
-    requires room { IsNodeLimit nodes }
-    requires goal { IsGoalOver (fluent_count task.now) goal.now }
-    ensures found { IsGoalSearchedFrom task.now (sets_of_goal goal.now) result }
-    ensures full { IsErrOf result SetErr.Full → IsTightForGoal goal.now nodes task.now }
+    ensures not_begun { IsErrOf result SetErr.Full → initial_states task.now ≡ []
+        → IsTightToEncode nodes task.now }
 {
     // These do nothing: that few nodes are too few for more sets, and for sets of their sizes, rests
     // on what they promise.
@@ -76,31 +77,7 @@ fn search_plainly(
     no_room_is_tight();
     no_room_is_small();
     kept_sets_bound_nodes();
-    let mut enc = encode(alloc, task, nodes)?;
-    plan_from_initial(alloc, task, &mut enc, goal)
-}
-
-/// The plan with contexts of a task for a goal, over the task's sets, or `None` where there is no
-/// initial state.
-fn plan_from_initial(
-    alloc: Global,
-    task: &Task,
-    enc: &mut Enc,
-    goal: &ContextGoal,
-) -> Result<Option<FoundAuto>, SetErr>
-    requires made { MadeOf task.now enc.old }
-    requires goal { IsGoalOver (fluent_count task.now) goal.now }
-    ensures found { IsGoalSearchedFrom task.now (sets_of_goal goal.now) result }
-    ensures full { let parts = count_of goal.now in
-        IsErrOf result SetErr.Full → (w : ℕ) → BoundsGoalSets goal.now task.now w
-        → NoRoom w (action_count task.now * (parts + 3) + 8 * parts + 236) 16
-        enc.old.sets enc.new.sets }
-{
-    if has_no_initial(task, enc) {
-        return Ok(None);
-    }
-    let found = find_contexts(alloc, task, enc, goal)?;
-    Ok(Some(found))
+    search_in_tries(alloc, task, &GoalSearch { goal, nodes })
 }
 
 /// The plan with contexts of a task for a goal, over the task's sets.
@@ -117,6 +94,8 @@ fn find_contexts(
         IsErrOf result SetErr.Full → (w : ℕ) → BoundsGoalSets goal.now task.now w
         → NoRoom w (action_count task.now * (parts + 3) + 8 * parts + 236) 16
         enc.old.sets enc.new.sets }
+    ensures still_made { MadeOf task.now enc.new }
+    ensures slots { Owns enc.old.sets enc.new.sets [] }
 {
     match goal {
         ContextGoal::Until(chain) => find_until(alloc, task, enc, chain),
@@ -138,6 +117,8 @@ fn find_until(
         IsErrOf result SetErr.Full → (w : ℕ) → BoundsUntilSets w task.now chain.now
         → NoRoom w (action_count task.now * (parts + 3) + 8 * parts + 236) 16
         enc.old.sets enc.new.sets }
+    ensures still_made { MadeOf task.now enc.new }
+    ensures slots { Owns enc.old.sets enc.new.sets [] }
 {
     plan_until(alloc, task, enc, chain)
 }
@@ -156,6 +137,8 @@ fn find_patrol(
         IsErrOf result SetErr.Full → (w : ℕ) → BoundsPatrolSets w task.now visits.now
         → NoRoom w (action_count task.now * (parts + 3) + 8 * parts + 236) 16
         enc.old.sets enc.new.sets }
+    ensures still_made { MadeOf task.now enc.new }
+    ensures slots { Owns enc.old.sets enc.new.sets [] }
 {
     plan_patrol(alloc, task, enc, visits)
 }

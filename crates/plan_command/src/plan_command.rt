@@ -49,8 +49,9 @@ ghost use Rattle.task_core.specs.Tasks.{
   initial_states,
   system_of,
 };
+ghost use Rattle.task_sets.specs.FullTables.{IsTightToEncode};
 
-use crate::class_search::{Sought, search_task};
+use crate::class_search::{ClassSearch, Sought, search_task};
 use crate::context_command::plan_contexts;
 use command_base::{
     PlanKind, PlanWords, Refusal, Shown, Text, check_goal, ground_both, no_initial, read_both,
@@ -63,6 +64,14 @@ use plan_io::Shelf;
 use plan_rules::{Class, Plan, write_plan};
 use std::alloc::{AllocError, Global};
 use task_core::{Task, tasks_have_systems};
+
+/// What was asked for, and the domain and the problem that are to be planned.
+#[derive(Clone, Copy)]
+pub(crate) struct PlanRequest<'a> {
+    pub(crate) asked: &'a PlanWords<'a>,
+    pub(crate) domain: &'a Domain,
+    pub(crate) problem: &'a Problem,
+}
 
 /// The plan for the domain and the problem in two files, or that there is none.
 pub fn plan_files<S: Shelf>(
@@ -127,61 +136,68 @@ pub fn plan_grounded(
         ⊎ PlanThen asked (domain_value domain.now) (problem_value problem.now)
         (answer_of result) }
 {
+    let request = PlanRequest {
+        asked,
+        domain,
+        problem,
+    };
     match asked.kind {
-        PlanKind::Class(class) => plan_class(alloc, asked, class, domain, problem, &grounded.task),
-        PlanKind::Contexts => plan_contexts(alloc, asked, domain, problem, grounded),
+        PlanKind::Class(class) => plan_class(alloc, &request, class, &grounded.task),
+        PlanKind::Contexts => plan_contexts(alloc, &request, grounded),
     }
 }
 
 /// The table of a class for a task.
 fn plan_class(
     alloc: Global,
-    asked: &PlanWords,
+    request: &PlanRequest<'_>,
     class: Class,
-    domain: &Domain,
-    problem: &Problem,
     task: &Task,
 ) -> Result<Shown, Refusal>
-    requires room { IsNodeLimit asked.now.options.nodes }
-    requires class { kind_of asked.now.kind ≡ of_class class }
-    requires goal { has_goal_for (of_class class) (problem_value problem.now) ≡ true }
-    requires task { IsTaskOf (domain_value domain.now) (problem_value problem.now) task.now }
-    ensures { let asked = plan_words_of asked.now in
+    requires room { IsNodeLimit request.now.asked.now.options.nodes }
+    requires class { kind_of request.now.asked.now.kind ≡ of_class class }
+    requires goal { has_goal_for (of_class class) (problem_value request.now.problem.now) ≡ true }
+    requires task { IsTaskOf (domain_value request.now.domain.now)
+        (problem_value request.now.problem.now) task.now }
+    ensures { let asked = plan_words_of request.now.asked.now in
+        let domain = domain_value request.now.domain.now in
+        let problem = problem_value request.now.problem.now in
         (answer_of result ≡ refused no_memory)
-        ⊎ (MayBeTooFew asked (domain_value domain.now) (problem_value problem.now)
+        ⊎ (MayBeTooFew asked domain problem
         × (answer_of result ≡ refused (full asked.options.nodes)))
-        ⊎ PlanThen asked (domain_value domain.now) (problem_value problem.now)
-        (answer_of result) }
+        ⊎ PlanThen asked domain problem (answer_of result) }
 {
-    match plan_task(alloc, class, asked.certified, asked.options.nodes, task) {
+    let wanted = ClassSearch {
+        class,
+        certified: request.asked.certified,
+        nodes: request.asked.options.nodes,
+    };
+    match plan_task(alloc, &wanted, task) {
         Ok(Some(shown)) => Ok(shown),
-        Ok(None) => Err(no_initial(alloc, asked.problem, problem)?),
-        Err(SetErr::Full) => Err(Refusal::Full(asked.options.nodes)),
+        Ok(None) => Err(no_initial(alloc, request.asked.problem, request.problem)?),
+        Err(SetErr::Full) => Err(Refusal::Full(request.asked.options.nodes)),
         Err(SetErr::Memory) => Err(Refusal::NoMemory),
     }
 }
 
-/// The plan for a task, found in a table for so many nodes, or that there is none, with the certificate
-/// of that where it is wanted; or `None` where there is no initial state.
-fn plan_task(
-    alloc: Global,
-    class: Class,
-    certified: bool,
-    nodes: u32,
-    task: &Task,
-) -> Result<Option<Shown>, SetErr>
-    requires room { IsNodeLimit nodes }
+/// The plan for a task, or that there is none, with the certificate of that where it is wanted; or
+/// `None` where there is no initial state.
+fn plan_task(alloc: Global, wanted: &ClassSearch, task: &Task) -> Result<Option<Shown>, SetErr>
+    requires room { IsNodeLimit wanted.now.nodes }
     requires goal { IsSome task.now.goal }
     ensures none { IfOk result (λ found. found ≡ None → initial_states task.now ≡ []) }
     ensures some { IfOk result (λ found. IfSome found (λ _. initial_states task.now ≢ [])) }
     ensures plan { IfOk result (λ found. IfSome found
-        (λ shown. IsTableResult certified class (system_of task.now) (fluent_names task.now)
-        (action_names task.now) (shown_of shown))) }
-    ensures full { IsErrOf result SetErr.Full → IsTightForClass class nodes task.now }
+        (λ shown. IsTableResult wanted.now.certified wanted.now.class (system_of task.now)
+        (fluent_names task.now) (action_names task.now) (shown_of shown))) }
+    ensures full { IsErrOf result SetErr.Full
+        → IsTightForClass wanted.now.class wanted.now.nodes task.now }
+    ensures not_begun { IsErrOf result SetErr.Full → initial_states task.now ≡ []
+        → IsTightToEncode wanted.now.nodes task.now }
 {
     // This does nothing: that the rules can be followed rests on what it promises.
     tasks_have_systems(task);
-    match search_task(alloc, class, certified, nodes, task)? {
+    match search_task(alloc, wanted, task)? {
         Some(Sought::Table(table)) => {
             let text = text_of_plan(alloc, &Plan::Table(table), task)?;
             Ok(Some(Shown::Affirmed(text)))

@@ -3,8 +3,9 @@
 // The data: names of fluents and actions, how many outcomes each action has, the rules of the plan,
 // and a node for each configuration (a state with a context) that the plan may reach. Places in
 // these lists are the numbers by which all else speaks of them. The first nodes are the initial
-// states, in the order in which `mbp replay` counts them.
+// states, in the order in which `mbp replay` counts them. And the run that was handed in, or null.
 const data = JSON.parse(document.getElementById("data").textContent);
+const handed = JSON.parse(document.getElementById("handed").textContent);
 const { nodes, rules } = data;
 const isTable = data.class !== "ctl";
 const initialCount = nodes.filter((node) => node.initial).length;
@@ -595,5 +596,5 @@ function listen() {
 
 listen();
 render("");
-if (data.witness) tryToPlay(() => data.witness);
+if (handed !== null) tryToPlay(() => handed);
 countAll(0, new Set(), []);

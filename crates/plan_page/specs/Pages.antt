@@ -1,6 +1,6 @@
--- The text of a page: its head, the data of a plan and of its picture as JSON, and its tail. Fluents,
--- actions and nodes are named by their numbers, which are their places in the lists of the data. An
--- object has its members in the order of their keys.
+-- The text of a page: its head, the data of a plan and of its picture as JSON, a run that is handed in
+-- to be played, and its tail. Fluents, actions and nodes are named by their numbers, which are their
+-- places in the lists of the data. An object has its members in the order of their keys.
 use Rattle.std.specs.Prelude.{ℕ, zero, suc, ◌==◌, ◌||◌, Bool, List, [], ◌∷◌, ◌++◌, codes, map}
 use Rattle.std.specs.Prelude.{if◌then◌else◌}
 use Rattle.std.specs.List.{flat_map}
@@ -17,7 +17,7 @@ use Rattle.plan_picture.specs.Pictures.{PlainNode, PlainStep}
 use Rattle.plan_rules.specs.Rules.{ContextRule, PlainPlan, PlanCase, PlanNext, PlanRule, always}
 use Rattle.plan_rules.specs.Rules.{automaton, by_cases, table}
 use Rattle.plan_rules.specs.Texts.{atom_text, class_word}
-use Rattle.plan_page.specs.Frame.{head_text, tail_text}
+use Rattle.plan_page.specs.Frame.{head_text, middle_text, tail_text}
 
 abbrev pub count_data : ℕ → Data
 count_data count = number (unsigned count)
@@ -138,11 +138,15 @@ escaped_byte byte =
 abbrev pub escaped : List ℕ → List ℕ
 escaped = flat_map escaped_byte
 
--- a page with these data
-abbrev pub framed_text : List ℕ → List ℕ
-framed_text json = head_text ++ escaped json ++ tail_text
+-- a page with these data, and with this run
+abbrev pub framed_text : List ℕ → List ℕ → List ℕ
+framed_text json run = head_text ++ escaped json ++ middle_text ++ escaped run ++ tail_text
 
--- the text of the page
-abbrev pub page_of : List Name → List Name → System → PlainPlan → List PlainNode → List ℕ
-page_of fluents actions sys plan nodes =
-    framed_text (compact_text (page_data fluents actions sys plan nodes))
+-- what stands in the place of a run where none is handed in
+abbrev pub no_run : List ℕ
+no_run = codes "null"
+
+-- the text of the page, to which the bytes of a run are handed in
+abbrev pub page_of : List Name → List Name → System → PlainPlan → List PlainNode → List ℕ → List ℕ
+page_of fluents actions sys plan nodes run =
+    framed_text (compact_text (page_data fluents actions sys plan nodes)) run

@@ -1,7 +1,7 @@
-//! The frame of a page: what stands before and after the data. `page/make` wrote this file from
-//! `page/page.html`, `page/page.css` and `page/page.js`.
+//! The frame of a page: what stands around the data and the run that is handed in. `page/make` wrote
+//! this file from `page/page.html`, `page/page.css` and `page/page.js`.
 
-ghost use Rattle.plan_page.specs.Frame.{head_text, tail_text};
+ghost use Rattle.plan_page.specs.Frame.{head_text, middle_text, tail_text};
 ghost use Rattle.std.specs.Prelude.{◌≡◌};
 
 const HEAD: &str = r##"<!doctype html>
@@ -320,6 +320,9 @@ svg [tabindex]:focus-visible {
 <p class="keys">Keys: 1 to 9 take an outcome, Backspace goes back.</p>
 <script type="application/json" id="data">"##;
 
+const MIDDLE: &str = r##"</script>
+<script type="application/json" id="handed">"##;
+
 const TAIL: &str = r##"</script>
 <script>
 "use strict";
@@ -327,8 +330,9 @@ const TAIL: &str = r##"</script>
 // The data: names of fluents and actions, how many outcomes each action has, the rules of the plan,
 // and a node for each configuration (a state with a context) that the plan may reach. Places in
 // these lists are the numbers by which all else speaks of them. The first nodes are the initial
-// states, in the order in which `mbp replay` counts them.
+// states, in the order in which `mbp replay` counts them. And the run that was handed in, or null.
 const data = JSON.parse(document.getElementById("data").textContent);
+const handed = JSON.parse(document.getElementById("handed").textContent);
 const { nodes, rules } = data;
 const isTable = data.class !== "ctl";
 const initialCount = nodes.filter((node) => node.initial).length;
@@ -919,7 +923,7 @@ function listen() {
 
 listen();
 render("");
-if (data.witness) tryToPlay(() => data.witness);
+if (handed !== null) tryToPlay(() => handed);
 countAll(0, new Set(), []);
 </script>
 </body>
@@ -933,7 +937,14 @@ pub(crate) fn page_head() -> &'static str
     HEAD
 }
 
-/// What stands after the data.
+/// What stands between the data and the run.
+pub(crate) fn page_middle() -> &'static str
+    ensures { result.now ≡ middle_text }
+{
+    MIDDLE
+}
+
+/// What stands after the run.
 pub(crate) fn page_tail() -> &'static str
     ensures { result.now ≡ tail_text }
 {

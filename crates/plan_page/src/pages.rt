@@ -8,7 +8,7 @@ ghost use Rattle.std.specs.Prelude.{◌≡◌, IfOk};
 ghost use Rattle.task_core.specs.Tasks.{action_names, fluent_count, fluent_names, system_of};
 
 use crate::escaped::{push_escaped, push_text};
-use crate::frame::{page_head, page_tail};
+use crate::frame::{page_head, page_middle, page_tail};
 use crate::plans::plan_values;
 use crate::values::{
     action_names as action_values, fluent_names as fluent_values, node_values, outcome_counts,
@@ -19,7 +19,11 @@ use serde_json::{Map, Value, put};
 use std::alloc::{AllocError, Global};
 use task_core::Task;
 
-/// The page of a plan for a task, with the plan's picture: the text of an HTML file.
+/// What stands in the place of a run where none is handed in.
+pub const NO_RUN: &[u8] = b"null";
+
+/// The page of a plan for a task, with the plan's picture: the text of an HTML file. The bytes of a
+/// run are played when it opens.
 ///
 /// The page takes the first nodes of the picture for the initial states in the order of the task's.
 pub fn page_text(
@@ -27,23 +31,26 @@ pub fn page_text(
     task: &Task,
     plan: &Plan,
     picture: &Picture,
+    run: &[u8],
 ) -> Result<Vec<u8>, AllocError>
     ensures { IfOk result (λ text. text.items
         ≡ page_of (fluent_names task.now) (action_names task.now) (system_of task.now)
-        (plain_of plan.now) (nodes_of (fluent_count task.now) picture.now)) }
+        (plain_of plan.now) (nodes_of (fluent_count task.now) picture.now) run.now) }
 {
     let value = page_value(alloc, task, plan, picture)?;
     let text = value.to_string(alloc)?;
-    framed(alloc, text.as_bytes())
+    framed(alloc, text.as_bytes(), run)
 }
 
-/// A page with these data.
-fn framed(alloc: Global, json: &[u8]) -> Result<Vec<u8>, AllocError>
-    ensures { IfOk result (λ text. text.items ≡ framed_text json.now) }
+/// A page with these data and this run.
+fn framed(alloc: Global, json: &[u8], run: &[u8]) -> Result<Vec<u8>, AllocError>
+    ensures { IfOk result (λ text. text.items ≡ framed_text json.now run.now) }
 {
     let mut out = Vec::new(alloc);
     push_text(&mut out, page_head())?;
     push_escaped(&mut out, json)?;
+    push_text(&mut out, page_middle())?;
+    push_escaped(&mut out, run)?;
     push_text(&mut out, page_tail())?;
     Ok(out)
 }

@@ -1,3 +1,4 @@
+pub mod AmongActions
 pub mod Found
 pub mod Goals
 pub mod Stepped

@@ -2,6 +2,8 @@
 
 ghost use Rattle.plan_picture.specs.Places.{
   AreWithin,
+  action_if_matched,
+  advised_actions,
   configuration_of,
   configurations_of,
   outcome_steps,
@@ -13,13 +15,15 @@ ghost use Rattle.plan_picture.specs.Places.{
 };
 ghost use Rattle.plan_picture.specs.Values.{step_value};
 ghost use Rattle.plan_rules.specs.Advices.{AreCasesOf, IsAdviceOf, advice_value, advised_by, onward_value};
-ghost use Rattle.plan_rules.specs.Denoted.{advises, rule_at};
+ghost use Rattle.plan_rules.specs.Denoted.{rule_at};
 ghost use Rattle.plan_rules.specs.Named.{NamesRule};
 ghost use Rattle.plan_rules.specs.Plans.{IsPlanOf, IsRuleOf};
 ghost use Rattle.plan_rules.specs.Rules.{context_rule_of, plain_of, rule_of};
+ghost use Rattle.std.specs.List.{list_any};
 ghost use Rattle.std.specs.Option.{option_map};
 ghost use Rattle.std.specs.Prelude.{
   ◌≡◌,
+  ◌==◌,
   ◌<◌,
   ◌++◌,
   All,
@@ -85,9 +89,10 @@ fn table_steps(
         (configurations_of n places.now) (map rule_of rules.now) (vector n state.now)
         (action_count task.now)) }
 {
+    let advised = actions_at(alloc, task, rules, state)?;
     let mut steps = Vec::new(alloc);
     for number in 0..task.actions.len() as u32 {
-        if has_rule(task, rules, state, number) {
+        if is_among(&advised, number) {
             let advice = Advice {
                 action: ActionId(number),
                 onward: Onward::Always(FIRST_CONTEXT),
@@ -98,19 +103,47 @@ fn table_steps(
     Ok(steps)
 }
 
-/// Whether some rule that matches the state has the action.
-fn has_rule(task: &Task, rules: &[Rule], state: &State, action: u32) -> bool
+/// The actions of the rules that match the state, in the order of the rules.
+fn actions_at(
+    alloc: Global,
+    task: &Task,
+    rules: &[Rule],
+    state: &State,
+) -> Result<Vec<u32>, AllocError>
     requires in_task { let n = fluent_count task.now in let m = action_count task.now in
         All (λ rule. IsRuleOf n m (rule_of rule)) rules.now }
-    ensures { result
-        ≡ advises (map rule_of rules.now) (vector (fluent_count task.now) state.now) action }
+    ensures { IfOk result (λ actions. actions.items
+        ≡ advised_actions (map rule_of rules.now) (vector (fluent_count task.now) state.now)) }
 {
+    let mut actions = Vec::new(alloc);
     for rule in rules {
-        if rule.action.0 == action && has_all(task, &rule.cube, state) {
-            return true;
-        }
+        push_action(&mut actions, task, rule, state)?;
     }
-    false
+    Ok(actions)
+}
+
+/// Appends the action of the rule, if it matches the state.
+fn push_action(
+    actions: &mut Vec<u32>,
+    task: &Task,
+    rule: &Rule,
+    state: &State,
+) -> Result<(), AllocError>
+    requires in_task { IsRuleOf (fluent_count task.now) (action_count task.now) (rule_of rule.now) }
+    ensures { OnOk result (actions.new.items ≡ actions.old.items
+        ++ action_if_matched (vector (fluent_count task.now) state.now) (rule_of rule.now)) }
+{
+    if has_all(task, &rule.cube, state) {
+        actions.push(rule.action.0)?;
+    }
+    Ok(())
+}
+
+/// Whether the action is among these.
+fn is_among(actions: &[u32], action: u32) -> bool
+    ensures { result ≡ list_any (λ other. other == action) actions.now }
+{
+    actions.iter().any(|other| *other == action)
 }
 
 /// What the rule of an automaton says that counts in a configuration: the first of the context that

@@ -12,4 +12,6 @@ mod places;
 mod text;
 
 pub use pictures::{MAX_NODES, Node, Picture, PictureErr, Step, picture_of};
-pub use text::dot_text;
+pub use text::{
+    action_name, border_words, dot_text, push_context, push_label, push_text, shape_word,
+};

@@ -79,7 +79,7 @@ fn tells_contexts(plan: &Plan) -> bool
 }
 
 /// Appends a text.
-fn push_text(out: &mut Vec<u8>, text: &str) -> Result<(), AllocError>
+pub fn push_text(out: &mut Vec<u8>, text: &str) -> Result<(), AllocError>
     ensures { OnOk result (out.new.items ≡ out.old.items ++ text.now) }
 {
     out.extend_from_slice(text.as_bytes())?;
@@ -124,7 +124,7 @@ fn push_bytes(out: &mut Vec<u8>, bytes: &[u8]) -> Result<(), AllocError>
 }
 
 /// Appends a name within quotes.
-fn push_label(alloc: Global, out: &mut Vec<u8>, words: &[RcStr]) -> Result<(), AllocError>
+pub fn push_label(alloc: Global, out: &mut Vec<u8>, words: &[RcStr]) -> Result<(), AllocError>
     ensures { OnOk result (out.new.items
         ≡ out.old.items ++ quoted (atom_text (map rc_str_bytes words.now))) }
 {
@@ -168,7 +168,7 @@ fn push_fluents(
 }
 
 /// Appends the line with a context, where contexts are told.
-fn push_context(out: &mut Vec<u8>, is_told: bool, context: u32) -> Result<(), AllocError>
+pub fn push_context(out: &mut Vec<u8>, is_told: bool, context: u32) -> Result<(), AllocError>
     ensures { OnOk result (out.new.items ≡ out.old.items ++ context_line is_told context) }
 {
     if !is_told {
@@ -187,7 +187,7 @@ fn is_stuck(node: &Node) -> bool
 }
 
 /// The word for a node's shape.
-fn shape_word(is_initial: bool, is_stuck: bool) -> &'static str
+pub fn shape_word(is_initial: bool, is_stuck: bool) -> &'static str
     ensures { result.now ≡ word_of_shape is_initial is_stuck }
 {
     match (is_initial, is_stuck) {
@@ -198,7 +198,7 @@ fn shape_word(is_initial: bool, is_stuck: bool) -> &'static str
 }
 
 /// What is said of a node's border.
-fn border_words(is_goal: bool, is_stuck: bool) -> &'static str
+pub fn border_words(is_goal: bool, is_stuck: bool) -> &'static str
     ensures { result.now ≡ words_of_border is_goal is_stuck }
 {
     match (is_goal, is_stuck) {
@@ -278,7 +278,7 @@ fn push_nodes(
 }
 
 /// The name of an action; the empty one past the last.
-fn action_name(task: &Task, action: ActionId) -> &[RcStr]
+pub fn action_name(task: &Task, action: ActionId) -> &[RcStr]
     ensures { map rc_str_bytes result.now ≡ name_at (action_names task.now) action.0 }
 {
     match task.actions.get(action.0 as usize) {

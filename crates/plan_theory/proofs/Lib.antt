@@ -1,8 +1,5 @@
-pub mod WeakLists
-pub mod Ranges
 pub mod Tests
 pub mod Cubes
-pub mod WeakDenoted
 pub mod ClassLayers
 pub mod Weak
 pub mod WeakPrinted

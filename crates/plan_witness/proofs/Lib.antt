@@ -1,6 +1,9 @@
 pub mod Visits
 pub mod Taken
-pub mod Shortest
+pub mod LeastWays
+pub mod Walks
+pub mod GraphRuns
+pub mod Counting
 pub mod Meanings
+pub mod FoundRuns
 pub mod Leads
-pub mod Reaches

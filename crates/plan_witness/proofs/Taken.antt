@@ -17,7 +17,7 @@ use Rattle.task_core.proofs.Vectors.{same_vector_refl, same_vector_equal}
 use Rattle.plan_rules.specs.Rules.{PlanRule}
 use Rattle.plan_rules.specs.Denoted.{denoted}
 use Rattle.plan_rules.proofs.DenotedPairs.{denoted-pair}
-use Rattle.list_laws.proofs.Elements.{Contains-cases, Contains-head, Contains-cons, Contains-nil, Contains-range_with_len-below, list_any-witness}
+use Rattle.list_laws.proofs.Elements.{Contains-cases, Contains-head, Contains-cons, Contains-nil, Contains-range_with_len, Contains-range_with_len-below, list_any-witness}
 
 pub filter_map_witness : {X Y : Type 0} (f : X → Option Y) (xs : List X) (y : Y) → Contains (filter_map f xs) y → (x : X) × Contains xs x × (f x ≡ Some y)
 filter_map_witness f [] y c = absurd (Contains-nil y c)
@@ -77,3 +77,20 @@ rule_leads sys rules s t l =
     let parts = and_parts _ _ w.2 in
     let at = get_contained rules rule w.1 in
     (at.0, rule, at.1, at.2, parts.1, subst (λ a. HasOutcome sys s a t) (sym (eqb-true _ _ parts.0)) l.outcome)
+
+-- and the other way round
+filter_map_has : {X Y : Type 0} (f : X → Option Y) (xs : List X) (x : X) (y : Y) → Contains xs x → f x ≡ Some y → Contains (filter_map f xs) y
+filter_map_has f [] x y c e = absurd (Contains-nil x c)
+filter_map_has {X} {Y} f (z ∷ zs) x y c e = ⊎_elim (λ (same : z ≡ x). here (ap f same ∙ e)) (λ (d : Contains zs x). there (f z) (filter_map_has f zs x y d e)) (Contains-cases z zs x c)
+  where
+    here : f z ≡ Some y → Contains (filter_map f (z ∷ zs)) y
+    here h = subst (λ (o : Option Y). Contains (cons_option o (filter_map f zs)) y) (sym h) (Contains-head y (filter_map f zs))
+
+    there : (o : Option Y) → Contains (filter_map f zs) y → Contains (cons_option o (filter_map f zs)) y
+    there None d = d
+    there (Some w) d = Contains-cons w (filter_map f zs) y d
+
+pub number_outcome : (task : Task) (s : Vector) (a : ℕ) (t : Vector) (k : ℕ) → k < (system_of task).outcomes a → (system_of task).after s a k ≡ Some t → HasOutcome (system_of task) s a t
+number_outcome task s a t k l e =
+    let sys = system_of task in
+    subst (λ ts. Contains ts t) (sym (are_numbered task s a)) (filter_map_has (sys.after s a) (range_with_len 0 (sys.outcomes a)) k t (Contains-range_with_len (sys.outcomes a) k l) e)

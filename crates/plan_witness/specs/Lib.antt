@@ -1,4 +1,5 @@
 pub mod Runs
+pub mod Lassos
 pub mod Ends
 pub mod Values
 pub mod Ways

@@ -1,6 +1,7 @@
 -- What a Run says, over n fluents.
-use Rattle.std.specs.Prelude.{ℕ, map}
+use Rattle.std.specs.Prelude.{ℕ, List, map}
 use Rattle.task_core.specs.States.{vector}
+use Rattle.exec_graph.specs.Orders.{in_first}
 use Rattle.plan_witness.specs.Runs.{PlainRun, PlainStep}
 use Rattle.plan_witness.specs.declared.runs.Run.{Run}
 use Rattle.plan_witness.specs.declared.runs.RunStep.{RunStep}
@@ -10,8 +11,12 @@ step_value n step = record {
   rule = step.rule;
   action = step.action.0;
   outcome = step.outcome;
-  after = vector n step.state;
+  after = record { state = vector n step.state; context = step.context };
 }
 
+abbrev pub steps_value : ℕ → List RunStep → List PlainStep
+steps_value n = map (step_value n)
+
 abbrev pub run_value : ℕ → Run → PlainRun
-run_value n run = record { start = vector n run.start; steps = map (step_value n) run.steps.items }
+run_value n run =
+    record { start = in_first (vector n run.start); steps = steps_value n run.steps.items }

@@ -1,9 +1,9 @@
 -- Private: the shortest ways through a finite graph whose nodes are the numbers below n, each with
 -- the list of those that follow it.
-use Rattle.std.specs.Prelude.{◌≡◌, ◌<◌, ◌≤◌, ◌+◌, ◌==◌, ◌↔◌, ℕ, Bool, true, false, List, length, count_by}
-use Rattle.std.specs.Prelude.{slice_index_or}
+use Rattle.std.specs.Prelude.{◌≡◌, ◌<◌, ◌≤◌, ◌+◌, ◌==◌, ◌↔◌, ℕ, Bool, true, false, List, ◌∷◌}
+use Rattle.std.specs.Prelude.{count_by, length, slice_index_or}
 use Rattle.std.specs.List.{Contains}
-use Rattle.plan_check.specs.Walks.{IsMarked}
+use Rattle.plan_check.specs.Walks.{IsMarked, IsWalk, last_number}
 
 -- Private: the length of a way to a number that none leads to
 abbrev pub far : ℕ
@@ -70,3 +70,52 @@ pub record IsNearest (lengths : List ℕ) (marks : List Bool) (i : ℕ) : Type 0
 abbrev pub AreWaysFromSome : ℕ → (ℕ → List ℕ) → List ℕ → List ℕ → Type 0
 AreWaysFromSome n next lengths before =
     (starts : List Bool) × AreWays n next starts lengths before
+
+-- Private: a way to the number `end` from one to which the way has no step, in no more steps than the
+-- way to it has
+pub record IsWayBack (n : ℕ) (next : ℕ → List ℕ) (lengths : List ℕ) (end start : ℕ)
+    (numbers : List ℕ) : Type 0 where
+  pub below : start < n
+  pub first : at lengths start ≡ 0
+  pub walk : IsWalk next start numbers
+  pub ends : last_number start numbers ≡ end
+  pub long : length numbers ≤ at lengths end
+
+-- Private: a way from a number with a mark to one with a property, to which none is shorter
+pub record IsShortestWay (next : ℕ → List ℕ) (starts : List Bool) (P : ℕ → Type 0) (start : ℕ)
+    (numbers : List ℕ) : Type 0 where
+  pub begins : IsMarked starts start
+  pub walk : IsWalk next start numbers
+  pub shows : P (last_number start numbers)
+  pub least : (i : ℕ) (rest : List ℕ) → IsMarked starts i → IsWalk next i rest
+      → P (last_number i rest)
+      → length numbers ≤ length rest
+
+-- Private: no way leads from a number with a mark to one with a property
+abbrev pub NoneLeads : (ℕ → List ℕ) → List Bool → (ℕ → Type 0) → Type 0
+NoneLeads next starts P = (i : ℕ) (rest : List ℕ) → IsMarked starts i → IsWalk next i rest
+    → P (last_number i rest) → ⊥
+
+-- Private: some walk of one step or more from i ends at i
+pub record IsOnRound (next : ℕ → List ℕ) (i : ℕ) : Type 0 where
+  pub follower : ℕ
+  pub rest : List ℕ
+  pub walk : IsWalk next i (follower ∷ rest)
+  pub round : last_number follower rest ≡ i
+
+-- Private: a walk from i back to i, by the follower `start`, than which none is shorter
+pub record IsShortestRoundAt (next : ℕ → List ℕ) (i start : ℕ) (numbers : List ℕ) : Type 0 where
+  pub follows : Contains (next i) start
+  pub walk : IsWalk next start numbers
+  pub round : last_number start numbers ≡ i
+  pub least : (follower : ℕ) (rest : List ℕ) → IsWalk next i (follower ∷ rest)
+      → last_number follower rest ≡ i
+      → length numbers ≤ length rest
+
+-- Private: ranks never fall from a number below n to those that follow it
+abbrev pub NeverFall : ℕ → (ℕ → List ℕ) → List ℕ → Type 0
+NeverFall n next ranks = (i j : ℕ) → i < n → Contains (next i) j → at ranks i ≤ at ranks j
+
+-- Private: each follower of a number has a higher rank
+abbrev pub AllHigher : (ℕ → List ℕ) → List ℕ → ℕ → Type 0
+AllHigher next ranks i = (j : ℕ) → Contains (next i) j → at ranks i < at ranks j

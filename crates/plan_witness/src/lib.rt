@@ -1,18 +1,23 @@
-//! Runs that show why a plan is no plan of its class.
+//! Runs that show why a plan is no plan of its class, or that it is one.
 //!
 //! A run is a list of steps of the plan from an initial state, each with the number of the rule in
-//! the plan's text, the action, the number of the outcome, and the state to which it leads. No other
-//! run that shows the same is shorter. `specs/Runs.antt` says what a run is, and `specs/Reasons.antt`
-//! what the end of a run shows.
+//! the plan's text, the action, the number of the outcome, and the state and the context to which it
+//! leads. No other run that shows the same is shorter. `specs/Runs.antt` says what a run is,
+//! and `specs/Ends.antt` what its end shows.
 #![tactic(auto)]
 
 mod leading;
 mod reasons;
+mod rules;
 mod runs;
+mod shortest;
 mod steps;
+mod stuck;
 mod unreachable;
 mod ways;
 
 pub use reasons::{terminal_run, unexecutable_run};
+pub use rules::counting_rule;
 pub use runs::{Run, RunStep};
-pub use unreachable::{endless_run, lost_run};
+pub use stuck::stuck_run;
+pub use unreachable::{endless_run, goal_run, lost_run};

@@ -1,4 +1,4 @@
-//! The shortest runs that show why a table plan is no plan of its class.
+//! The shortest runs to configurations in which a plan can't be followed, or ends outside the goal.
 
 ghost use Rattle.std.specs.Prelude.{
   ◌≡◌,
@@ -10,7 +10,6 @@ ghost use Rattle.std.specs.Prelude.{
   IfSome,
   IsSome,
   IsTrue,
-  MatchBool,
   Some,
   false,
   length,
@@ -23,92 +22,126 @@ ghost use Rattle.task_core.specs.Cubes.{matches};
 ghost use Rattle.task_core.specs.States.{IsWithin, vector};
 ghost use Rattle.task_core.specs.Systems.{Exec};
 ghost use Rattle.task_core.specs.Tasks.{action_count, fluent_count, system_of};
-ghost use Rattle.plan_check.specs.Verdicts.{MayEndOutside, ReachesBadRule};
 ghost use Rattle.plan_check.specs.Walks.{IsMarked};
-ghost use Rattle.plan_rules.specs.Denoted.{denoted};
-ghost use Rattle.plan_rules.specs.Plans.{IsRuleOf};
-ghost use Rattle.plan_rules.specs.Rules.{rule_of};
-ghost use Rattle.exec_graph.specs.Executions.{HasBadRule};
-ghost use Rattle.exec_graph.specs.Values.{IsWithinFluents, graph_size, state_at};
+ghost use Rattle.plan_guide.specs.RunRules.{IsRunRuleOf};
+ghost use Rattle.plan_rules.specs.Denoted.{denoted_contexts};
+ghost use Rattle.plan_rules.specs.Plans.{IsPlanOf, IsRuleOf};
+ghost use Rattle.plan_rules.specs.Rules.{context_rule_of, plain_of, rule_of};
+ghost use Rattle.exec_graph.specs.Executions.{
+  HasBadAction,
+  HasBadRule,
+  HasLostOutcome,
+  IsStuckAt,
+  IsUnexecutableAt,
+};
+ghost use Rattle.exec_graph.specs.Values.{IsWithinFluents, graph_size};
 ghost use Rattle.plan_witness.specs.Ends.{IsEndOutside, IsNumberOutside};
-ghost use Rattle.plan_witness.specs.Marked.{IsGraphOfRules};
-ghost use Rattle.plan_witness.specs.Runs.{IsShortestRun};
+ghost use Rattle.plan_witness.specs.Marked.{IsGraphIn, place_at};
+ghost use Rattle.plan_witness.specs.Runs.{IsShortestRun, NoneReached};
 ghost use Rattle.plan_witness.specs.Values.{run_value};
 
+use crate::rules::counting_rule;
 use crate::runs::{Run, shortest_run};
 use exec_graph::{Graph, Steps};
-use plan_rules::{Rule, has_all};
+use plan_rules::{AutoRule, Plan, Rule, has_all};
 use std::alloc::{AllocError, Global};
 use std::sync::ledger::Ledger;
 use task_core::{Cond, State, Task, cond_holds, is_exec};
 
-/// A shortest run to a state that some rule matches whose action can't be executed there; `None`
-/// exactly where the plan may reach no such state.
+/// A shortest run to a configuration in which a rule counts whose action can't be executed there;
+/// `None` exactly where the plan may reach no such configuration. In a table every rule that matches
+/// the state counts, in a plan with contexts the first one of the context.
 pub fn unexecutable_run<L: Ledger>(
     alloc: Global,
     task: &Task,
-    rules: &[Rule],
+    plan: &Plan,
     graph: &Graph,
     steps: &mut Steps<L>,
 ) -> Result<Option<Run>, AllocError>
-    requires rules { let n = fluent_count task.now in let m = action_count task.now in
-        All (λ rule. IsRuleOf n m (rule_of rule)) rules.now }
-    requires graph { IsGraphOfRules task.now (map rule_of rules.now) graph.now }
+    requires plan { IsPlanOf (fluent_count task.now) (action_count task.now) plan.now }
+    requires graph { IsGraphIn task.now plan.now graph.now }
     requires within { IsWithinFluents (fluent_count task.now) graph.now }
     ensures shortest { let n = fluent_count task.now in let sys = system_of task.now in
-        IfOk result (λ found. IfSome found (λ run. IsShortestRun sys (map rule_of rules.now)
-        (HasBadRule sys (map rule_of rules.now)) (run_value n run))) }
+        IfOk result (λ found. IfSome found (λ run. IsShortestRun sys (plain_of plan.now)
+        (IsUnexecutableAt sys (plain_of plan.now)) (run_value n run))) }
     ensures none { let sys = system_of task.now in IfOk result (λ found.
-        IfNone found (ReachesBadRule sys (map rule_of rules.now) → ⊥)) }
+        IfNone found (NoneReached sys (plain_of plan.now) (IsUnexecutableAt sys (plain_of plan.now)))) }
 {
-    let marks = bad_states(alloc, task, rules, graph)?;
-    shortest_run(alloc, task, rules, graph, &marks, steps)
+    let marks = unexecutable_marks(alloc, task, plan, graph)?;
+    shortest_run(alloc, task, plan, graph, &marks, steps)
 }
 
-/// A shortest run to a state outside the goal that no rule which can be followed matches; `None`
-/// exactly where the plan may reach no such state.
+/// A shortest run to a state outside the goal in which the plan ends; `None` exactly where the plan
+/// may reach no such state.
 pub fn terminal_run<L: Ledger>(
     alloc: Global,
     task: &Task,
-    rules: &[Rule],
+    plan: &Plan,
     graph: &Graph,
     steps: &mut Steps<L>,
 ) -> Result<Option<Run>, AllocError>
     requires goal { IsSome task.now.goal }
-    requires rules { let n = fluent_count task.now in let m = action_count task.now in
-        All (λ rule. IsRuleOf n m (rule_of rule)) rules.now }
-    requires graph { IsGraphOfRules task.now (map rule_of rules.now) graph.now }
+    requires plan { IsPlanOf (fluent_count task.now) (action_count task.now) plan.now }
+    requires graph { IsGraphIn task.now plan.now graph.now }
     requires within { IsWithinFluents (fluent_count task.now) graph.now }
     ensures shortest { let n = fluent_count task.now in let sys = system_of task.now in
-        IfOk result (λ found. IfSome found (λ run. IsShortestRun sys (map rule_of rules.now)
-        (IsEndOutside sys (denoted sys (map rule_of rules.now))) (run_value n run))) }
+        IfOk result (λ found. IfSome found (λ run. IsShortestRun sys (plain_of plan.now)
+        (IsEndOutside sys (plain_of plan.now)) (run_value n run))) }
     ensures none { let sys = system_of task.now in IfOk result (λ found.
-        IfNone found (MayEndOutside sys (denoted sys (map rule_of rules.now)) → ⊥)) }
+        IfNone found (NoneReached sys (plain_of plan.now) (IsEndOutside sys (plain_of plan.now)))) }
 {
     let marks = ends_outside(alloc, task.goal.as_ref().unwrap(), graph)?;
-    shortest_run(alloc, task, rules, graph, &marks, steps)
+    shortest_run(alloc, task, plan, graph, &marks, steps)
 }
 
-/// A mark for each configuration whose state some rule matches whose action can't be executed there.
-fn bad_states(
+/// A mark for each configuration in which a rule counts whose action can't be executed there.
+fn unexecutable_marks(
     alloc: Global,
     task: &Task,
-    rules: &[Rule],
+    plan: &Plan,
     graph: &Graph,
 ) -> Result<Vec<bool>, AllocError>
-    requires rules { let n = fluent_count task.now in let m = action_count task.now in
-        All (λ rule. IsRuleOf n m (rule_of rule)) rules.now }
+    requires plan { IsPlanOf (fluent_count task.now) (action_count task.now) plan.now }
     requires within { IsWithinFluents (fluent_count task.now) graph.now }
     ensures count { IfOk result (λ marks. length marks.items ≡ graph_size graph.now) }
     ensures marked { let n = fluent_count task.now in IfOk result (λ marks. (i : ℕ)
         → i < graph_size graph.now → IsMarked marks.items i
-        ↔ HasBadRule (system_of task.now) (map rule_of rules.now) (state_at n graph.now i)) }
+        ↔ IsUnexecutableAt (system_of task.now) (plain_of plan.now) (place_at n graph.now i)) }
 {
     let mut marks = Vec::new(alloc);
     for i in 0..graph.len() {
-        marks.push(has_bad_rule(task, rules, graph.state(i)))?;
+        marks.push(is_unexecutable_at(task, plan, graph.state(i), graph.context(i)))?;
     }
     Ok(marks)
+}
+
+/// Whether a rule counts in a state and a context whose action can't be executed there.
+fn is_unexecutable_at(task: &Task, plan: &Plan, state: &State, context: u32) -> bool
+    requires plan { IsPlanOf (fluent_count task.now) (action_count task.now) plan.now }
+    requires within { IsWithin (fluent_count task.now) state.now }
+    ensures { let sys = system_of task.now in let v = vector (fluent_count task.now) state.now in
+        (result ≡ true) ↔ IsUnexecutableAt sys (plain_of plan.now)
+        (record { state = v; context = context }) }
+{
+    match plan {
+        Plan::Table(table) => has_bad_rule(task, &table.rules, state),
+        Plan::Auto(auto) => has_bad_action(task, &auto.rules, state, context),
+    }
+}
+
+/// Whether the rule of an automaton that counts has an action that can't be executed.
+fn has_bad_action(task: &Task, rules: &[AutoRule], state: &State, context: u32) -> bool
+    requires rules { let n = fluent_count task.now in let m = action_count task.now in
+        All (λ rule. IsRunRuleOf n m (context_rule_of rule)) rules.now }
+    requires within { IsWithin (fluent_count task.now) state.now }
+    ensures { let sys = system_of task.now in let v = vector (fluent_count task.now) state.now in
+        (result ≡ true) ↔ HasBadAction sys (denoted_contexts (map context_rule_of rules.now))
+        (record { state = v; context = context }) }
+{
+    match counting_rule(task, rules, state, context) {
+        Some(number) => !is_exec(task, state, rules[number].action),
+        None => false,
+    }
 }
 
 /// Whether some rule matches the state, and its action can't be executed there.

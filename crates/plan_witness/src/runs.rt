@@ -1,90 +1,90 @@
-//! Runs of a table plan.
+//! Runs of a plan along ways through its graph.
 
 ghost use Rattle.std.specs.Prelude.{
   ◌≡◌,
-  ◌≤◌,
   ◌<◌,
-  All,
   IfNone,
   IfOk,
   IfSome,
+  false,
   length,
   nat_lt,
   slice_index_or,
-  false,
-  map,
   ℕ,
 };
 ghost use Rattle.std.specs.List.{Contains};
 ghost use Rattle.task_core.specs.States.{vector};
 ghost use Rattle.task_core.specs.Tasks.{action_count, fluent_count, system_of};
-ghost use Rattle.task_core.specs.declared.classes.Class.{Class};
-ghost use Rattle.plan_check.specs.Plain.{HasFollowersInside};
-ghost use Rattle.plan_check.specs.Walks.{IsMarked};
-ghost use Rattle.plan_rules.specs.Plans.{IsRuleOf};
-ghost use Rattle.plan_rules.specs.Rules.{rule_of};
+ghost use Rattle.plan_check.specs.Walks.{IsMarked, IsWalk};
+ghost use Rattle.plan_rules.specs.Plans.{IsPlanOf};
+ghost use Rattle.plan_rules.specs.Rules.{plain_of};
 ghost use Rattle.exec_graph.specs.Values.{
   IsWithinFluents,
   followers_at,
   graph_size,
   state_at,
 };
-ghost use Rattle.plan_witness.specs.Marked.{IsGraphOfRules, IsMarkedState, LeadsBack};
+ghost use Rattle.plan_witness.specs.Marked.{
+  IsGraphIn,
+  IsMarkedPlace,
+  IsRunAlong,
+  place_at,
+};
 ghost use Rattle.plan_witness.specs.Runs.{IsShortestRun, IsStepOf};
-ghost use Rattle.plan_witness.specs.Values.{run_value, step_value};
-ghost use Rattle.plan_witness.specs.Ways.{AreWaysFromSome, at};
+ghost use Rattle.plan_witness.specs.Values.{run_value, step_value, steps_value};
 
-use crate::steps::step_between;
-use crate::ways::{FAR, Ways, ways_from};
+use crate::shortest::{Way, shortest_way};
+use crate::steps::taken_between;
 use exec_graph::{Graph, Steps};
-use plan_rules::Rule;
+use plan_rules::Plan;
 use std::alloc::{AllocError, Global};
 use std::collections::VecDeque;
 use std::sync::ledger::Ledger;
 use task_core::{ActionId, State, Task};
 
 /// A step of a run: the number of the rule in the plan's text, the action, the number of the outcome
-/// among all outcomes of the action, both counted from 0, and the state to which it leads.
+/// among all outcomes of the action, all counted from 0, and the state and the context to which it
+/// leads. A table stays in context 1.
 #[derive(Clone, Copy)]
 pub struct RunStep {
     pub rule: usize,
     pub action: ActionId,
     pub outcome: u32,
     pub state: State,
+    pub context: u32,
 }
 
-/// A run: the state in which it begins, and its steps.
+/// A run: the state in which it begins, in context 1, and its steps.
 #[derive(Drop)]
 pub struct Run {
     pub start: State,
     pub steps: VecDeque<RunStep>,
 }
 
-/// A shortest run from an initial state to the state of a number with a mark; `None` where no number
-/// has a mark.
+/// A shortest run from an initial state to the configuration of a number with a mark; `None` where no
+/// number has a mark.
 pub(crate) fn shortest_run<L: Ledger>(
     alloc: Global,
     task: &Task,
-    rules: &[Rule],
+    plan: &Plan,
     graph: &Graph,
     ends: &[bool],
     steps: &mut Steps<L>,
 ) -> Result<Option<Run>, AllocError>
-    requires rules { let n = fluent_count task.now in let m = action_count task.now in
-        All (λ rule. IsRuleOf n m (rule_of rule)) rules.now }
-    requires graph { IsGraphOfRules task.now (map rule_of rules.now) graph.now }
+    requires plan { IsPlanOf (fluent_count task.now) (action_count task.now) plan.now }
+    requires graph { IsGraphIn task.now plan.now graph.now }
     requires within { IsWithinFluents (fluent_count task.now) graph.now }
     requires count { length ends.now ≡ graph_size graph.now }
     ensures shortest { let n = fluent_count task.now in IfOk result (λ found. IfSome found (λ run.
-        IsShortestRun (system_of task.now) (map rule_of rules.now)
-        (IsMarkedState n graph.now ends.now) (run_value n run))) }
+        IsShortestRun (system_of task.now) (plain_of plan.now)
+        (IsMarkedPlace n graph.now ends.now) (run_value n run))) }
     ensures none { IfOk result (λ found. IfNone found ((i : ℕ) → IsMarked ends.now i → ⊥)) }
 {
     let starts = starts_of(alloc, graph)?;
-    let ways = ways_from(alloc, graph, &starts, steps)?;
-    match ways.nearest(ends) {
-        Some(end) => {
-            let run = run_to(alloc, task, rules, graph, &ways, end)?;
+    let found = shortest_way(alloc, graph, &starts, ends, steps)?;
+    match found {
+        Some(way) => {
+            let run = run_along(alloc, task, plan, graph, &way)?;
             Ok(Some(run))
         }
         None => Ok(None),
@@ -92,7 +92,7 @@ pub(crate) fn shortest_run<L: Ledger>(
 }
 
 /// A mark for each configuration in which an execution may begin.
-fn starts_of(alloc: Global, graph: &Graph) -> Result<Vec<bool>, AllocError>
+pub(crate) fn starts_of(alloc: Global, graph: &Graph) -> Result<Vec<bool>, AllocError>
     ensures count { IfOk result (λ marks. length marks.items ≡ graph_size graph.now) }
     ensures marked { IfOk result (λ marks. (i : ℕ) → i < graph_size graph.now
         → slice_index_or marks.items i false ≡ nat_lt i graph.now.initials) }
@@ -104,60 +104,93 @@ fn starts_of(alloc: Global, graph: &Graph) -> Result<Vec<bool>, AllocError>
     Ok(marks)
 }
 
-/// The run along the way to a number.
-fn run_to(
+/// The run along a way.
+fn run_along(
     alloc: Global,
     task: &Task,
-    rules: &[Rule],
+    plan: &Plan,
     graph: &Graph,
-    ways: &Ways,
-    end: u32,
+    way: &Way,
 ) -> Result<Run, AllocError>
-    requires rules { let n = fluent_count task.now in let m = action_count task.now in
-        All (λ rule. IsRuleOf n m (rule_of rule)) rules.now }
-    requires graph { IsGraphOfRules task.now (map rule_of rules.now) graph.now }
+    requires plan { IsPlanOf (fluent_count task.now) (action_count task.now) plan.now }
+    requires graph { IsGraphIn task.now plan.now graph.now }
     requires within { IsWithinFluents (fluent_count task.now) graph.now }
-    requires ways { AreWaysFromSome (graph_size graph.now) (followers_at graph.now)
-        ways.now.lengths.items ways.now.before.items }
-    requires end { end < graph_size graph.now }
-    requires reached { at ways.now.lengths.items end < FAR }
-    ensures { let n = fluent_count task.now in IfOk result (λ run. LeadsBack task.now
-        (map rule_of rules.now) graph.now ways.now.lengths.items end (run_value n run)) }
+    requires start { way.now.start < graph_size graph.now }
+    requires walk { IsWalk (followers_at graph.now) way.now.start way.now.numbers.items }
+    ensures start { let n = fluent_count task.now in IfOk result (λ run.
+        vector n run.start ≡ state_at n graph.now way.now.start) }
+    ensures steps { let n = fluent_count task.now in IfOk result (λ run.
+        IsRunAlong (system_of task.now) (plain_of plan.now) (place_at n graph.now)
+        way.now.start way.now.numbers.items (steps_value n run.steps.items)) }
 {
-    let mut steps = VecDeque::new(alloc);
-    let mut number = end;
-    'back: while ways.length_at(number) > 0 {
-        let before = ways.before_at(number);
-        let step = step_at(task, rules, graph, before, number);
-        steps.push_front(step)?;
-        number = before;
-    }
+    let steps = steps_along(alloc, task, plan, graph, way.start, &way.numbers)?;
     Ok(Run {
-        start: *graph.state(number),
+        start: *graph.state(way.start),
         steps,
     })
 }
 
+/// The steps along a way from a number.
+fn steps_along(
+    alloc: Global,
+    task: &Task,
+    plan: &Plan,
+    graph: &Graph,
+    start: u32,
+    numbers: &[u32],
+) -> Result<VecDeque<RunStep>, AllocError>
+    requires plan { IsPlanOf (fluent_count task.now) (action_count task.now) plan.now }
+    requires graph { IsGraphIn task.now plan.now graph.now }
+    requires within { IsWithinFluents (fluent_count task.now) graph.now }
+    requires start { start < graph_size graph.now }
+    requires walk { IsWalk (followers_at graph.now) start numbers.now }
+    ensures { let n = fluent_count task.now in IfOk result (λ steps.
+        IsRunAlong (system_of task.now) (plain_of plan.now) (place_at n graph.now)
+        start numbers.now (steps_value n steps.items)) }
+{
+    let mut steps = VecDeque::new(alloc);
+    let mut from = start;
+    for k in 0..numbers.len() {
+        let number = number_at(numbers, k);
+        let step = step_at(task, plan, graph, from, number);
+        steps.push_back(step)?;
+        from = number;
+    }
+    Ok(steps)
+}
+
+/// The number at a place.
+fn number_at(numbers: &[u32], k: usize) -> u32
+    requires { k < length numbers.now }
+    ensures { result ≡ slice_index_or numbers.now k 0 }
+{
+    numbers[k]
+}
+
 /// The step from a number to one that follows it.
-fn step_at(task: &Task, rules: &[Rule], graph: &Graph, from: u32, to: u32) -> RunStep
-    requires rules { let n = fluent_count task.now in let m = action_count task.now in
-        All (λ rule. IsRuleOf n m (rule_of rule)) rules.now }
-    requires graph { IsGraphOfRules task.now (map rule_of rules.now) graph.now }
+fn step_at(task: &Task, plan: &Plan, graph: &Graph, from: u32, to: u32) -> RunStep
+    requires plan { IsPlanOf (fluent_count task.now) (action_count task.now) plan.now }
+    requires graph { IsGraphIn task.now plan.now graph.now }
     requires within { IsWithinFluents (fluent_count task.now) graph.now }
     requires from { from < graph_size graph.now }
     requires to { to < graph_size graph.now }
     requires follows { Contains (followers_at graph.now from) to }
     ensures step { let n = fluent_count task.now in
-        IsStepOf (system_of task.now) (map rule_of rules.now) (state_at n graph.now from)
+        IsStepOf (system_of task.now) (plain_of plan.now) (place_at n graph.now from)
         (step_value n result) }
     ensures after { let n = fluent_count task.now in
-        vector n result.state ≡ state_at n graph.now to }
+        (step_value n result).after ≡ place_at n graph.now to }
 {
-    let taken = step_between(task, rules, graph.state(from), graph.state(to)).unwrap();
+    let source = graph.state(from);
+    let target = graph.state(to);
+    let context = graph.context(from);
+    let next = graph.context(to);
+    let taken = taken_between(task, plan, source, context, target, next);
     RunStep {
         rule: taken.rule,
         action: taken.action,
         outcome: taken.outcome,
-        state: *graph.state(to),
+        state: *target,
+        context: next,
     }
 }

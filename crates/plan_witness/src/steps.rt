@@ -1,4 +1,4 @@
-//! The step that a plan takes from a state to another.
+//! The step that a plan takes from a configuration to another.
 
 ghost use Rattle.std.specs.Prelude.{
   ◌≡◌,
@@ -6,23 +6,29 @@ ghost use Rattle.std.specs.Prelude.{
   All,
   IfNone,
   IfSome,
+  None,
   OnSome,
-  true,
   Some,
+  length,
   map,
+  true,
   ℕ,
 };
+ghost use Rattle.task_core.specs.ContextPlans.{Follows, first_context};
 ghost use Rattle.task_core.specs.Cubes.{matches};
 ghost use Rattle.task_core.specs.States.{IsWithin, vector};
 ghost use Rattle.task_core.specs.Systems.{Exec, HasOutcome};
 ghost use Rattle.task_core.specs.Tables.{Leads};
 ghost use Rattle.task_core.specs.Tasks.{action_count, fluent_count, system_of};
-ghost use Rattle.plan_rules.specs.Denoted.{denoted};
-ghost use Rattle.plan_rules.specs.Plans.{IsRuleOf};
-ghost use Rattle.plan_rules.specs.Rules.{rule_of};
-ghost use Rattle.plan_witness.specs.Runs.{IsStepOf};
+ghost use Rattle.plan_rules.specs.Denoted.{denoted, denoted_contexts, rule_at};
+ghost use Rattle.plan_guide.specs.RunRules.{IsRunRuleOf};
+ghost use Rattle.plan_rules.specs.Plans.{IsPlanOf, IsRuleOf};
+ghost use Rattle.plan_rules.specs.Rules.{ContextRule, context_rule_of, plain_of, rule_of};
+ghost use Rattle.exec_graph.specs.Executions.{GoesTo};
+ghost use Rattle.plan_witness.specs.Runs.{IsContextStep, IsCounting, IsStepOf, IsTableStep};
 
-use plan_rules::{Rule, has_all};
+use crate::rules::counting_rule;
+use plan_rules::{AutoRule, Plan, Rule, has_all};
 use task_core::{ActionId, State, Task, in_space, is_exec, outcome_count, step};
 
 /// A rule by its number, its action, and an outcome by its number.
@@ -33,20 +39,74 @@ pub(crate) struct Taken {
     pub(crate) outcome: u32,
 }
 
-/// The first rule and its first outcome that lead from a state to another.
-pub(crate) fn step_between(task: &Task, rules: &[Rule], from: &State, to: &State) -> Option<Taken>
+/// The step that the plan takes from a state and a context to others that follow.
+pub(crate) fn taken_between(
+    task: &Task,
+    plan: &Plan,
+    from: &State,
+    context: u32,
+    to: &State,
+    next: u32,
+) -> Taken
+    requires plan { IsPlanOf (fluent_count task.now) (action_count task.now) plan.now }
+    requires from { IsWithin (fluent_count task.now) from.now }
+    requires to { IsWithin (fluent_count task.now) to.now }
+    requires follows { let n = fluent_count task.now in
+        GoesTo (system_of task.now) (plain_of plan.now)
+        (record { state = vector n from.now; context = context })
+        (record { state = vector n to.now; context = next }) }
+    ensures step { let n = fluent_count task.now in
+        IsStepOf (system_of task.now) (plain_of plan.now)
+        (record { state = vector n from.now; context = context })
+        (record {
+          rule = result.rule;
+          action = result.action.0;
+          outcome = result.outcome;
+          after = record { state = vector n to.now; context = next };
+        }) }
+{
+    match plan {
+        Plan::Table(table) => in_table(task, &table.rules, from, to),
+        Plan::Auto(auto) => context_step(task, &auto.rules, from, context, to, next),
+    }
+}
+
+/// The first rule of a table and its first outcome that lead from a state to one that follows.
+fn in_table(task: &Task, rules: &[Rule], from: &State, to: &State) -> Taken
     requires rules { let n = fluent_count task.now in let m = action_count task.now in
         All (λ rule. IsRuleOf n m (rule_of rule)) rules.now }
     requires from { IsWithin (fluent_count task.now) from.now }
     requires to { IsWithin (fluent_count task.now) to.now }
-    ensures found { let n = fluent_count task.now in IfSome result (λ taken.
-        IsStepOf (system_of task.now) (map rule_of rules.now) (vector n from.now) (record {
+    requires follows { let n = fluent_count task.now in let sys = system_of task.now in
+        Leads sys (denoted sys (map rule_of rules.now)) (vector n from.now) (vector n to.now) }
+    ensures { let n = fluent_count task.now in (context : ℕ)
+        → IsTableStep (system_of task.now) (map rule_of rules.now)
+        (record { state = vector n from.now; context = context })
+        (record {
+          rule = result.rule;
+          action = result.action.0;
+          outcome = result.outcome;
+          after = record { state = vector n to.now; context = first_context };
+        }) }
+{
+    table_step(task, rules, from, to).unwrap()
+}
+
+/// The first rule of a table and its first outcome that lead from a state to another.
+fn table_step(task: &Task, rules: &[Rule], from: &State, to: &State) -> Option<Taken>
+    requires rules { let n = fluent_count task.now in let m = action_count task.now in
+        All (λ rule. IsRuleOf n m (rule_of rule)) rules.now }
+    requires from { IsWithin (fluent_count task.now) from.now }
+    requires to { IsWithin (fluent_count task.now) to.now }
+    ensures found { let n = fluent_count task.now in (context : ℕ) → IfSome result (λ taken.
+        IsTableStep (system_of task.now) (map rule_of rules.now)
+        (record { state = vector n from.now; context = context })
+        (record {
           rule = taken.rule;
           action = taken.action.0;
           outcome = taken.outcome;
-          after = vector n to.now;
+          after = record { state = vector n to.now; context = first_context };
         })) }
-    ensures action { IfSome result (λ taken. taken.action.0 < action_count task.now) }
     ensures none { let n = fluent_count task.now in let sys = system_of task.now in IfNone result
         (Leads sys (denoted sys (map rule_of rules.now)) (vector n from.now) (vector n to.now) → ⊥) }
 {
@@ -90,6 +150,72 @@ fn outcome_by(task: &Task, rule: &Rule, from: &State, to: &State) -> Option<u32>
         return None;
     }
     outcome_to(task, from, rule.action, to)
+}
+
+/// The rule of an automaton that counts in a state and a context, and its first outcome that leads to
+/// another state, which follows with the context `next`.
+fn context_step(
+    task: &Task,
+    rules: &[AutoRule],
+    from: &State,
+    context: u32,
+    to: &State,
+    next: u32,
+) -> Taken
+    requires rules { let n = fluent_count task.now in let m = action_count task.now in
+        All (λ rule. IsRunRuleOf n m (context_rule_of rule)) rules.now }
+    requires from { IsWithin (fluent_count task.now) from.now }
+    requires to { IsWithin (fluent_count task.now) to.now }
+    requires follows { let n = fluent_count task.now in
+        Follows (system_of task.now) (denoted_contexts (map context_rule_of rules.now))
+        (record { state = vector n from.now; context = context })
+        (record { state = vector n to.now; context = next }) }
+    ensures { let n = fluent_count task.now in
+        IsContextStep (system_of task.now) (map context_rule_of rules.now)
+        (record { state = vector n from.now; context = context })
+        (record {
+          rule = result.rule;
+          action = result.action.0;
+          outcome = result.outcome;
+          after = record { state = vector n to.now; context = next };
+        }) }
+{
+    let number = counting_number(task, rules, from, context);
+    let action = rules[number].action;
+    let outcome = outcome_between(task, from, action, to);
+    Taken {
+        rule: number,
+        action,
+        outcome,
+    }
+}
+
+/// The number of the rule that counts in a state and a context where one does.
+fn counting_number(task: &Task, rules: &[AutoRule], state: &State, context: u32) -> usize
+    requires rules { let n = fluent_count task.now in let m = action_count task.now in
+        All (λ rule. IsRunRuleOf n m (context_rule_of rule)) rules.now }
+    requires some { let v = vector (fluent_count task.now) state.now in
+        rule_at (map context_rule_of rules.now) v context ≡ None → ⊥ }
+    ensures within { result < length rules.now }
+    ensures counts { (rule : ContextRule) × IsCounting (map context_rule_of rules.now)
+        (record { state = vector (fluent_count task.now) state.now; context = context })
+        result rule }
+{
+    counting_rule(task, rules, state, context).unwrap()
+}
+
+/// The first outcome of an action that leads from a state to one to which some outcome leads.
+fn outcome_between(task: &Task, from: &State, action: ActionId, to: &State) -> u32
+    requires action { action.0 < action_count task.now }
+    requires from { IsWithin (fluent_count task.now) from.now }
+    requires to { IsWithin (fluent_count task.now) to.now }
+    requires some { let n = fluent_count task.now in
+        HasOutcome (system_of task.now) (vector n from.now) action.0 (vector n to.now) }
+    ensures below { result < (system_of task.now).outcomes action.0 }
+    ensures leads { let n = fluent_count task.now in
+        (system_of task.now).after (vector n from.now) action.0 result ≡ Some (vector n to.now) }
+{
+    outcome_to(task, from, action, to).unwrap()
 }
 
 /// The first outcome of an action that leads from a state to another.

@@ -1,10 +1,9 @@
-//! The shortest runs that show that the goal, or an end, is out of reach.
+//! The shortest runs that show that the goal, or an end, is out of reach, or in reach.
 
 ghost use Rattle.std.specs.Prelude.{
   ◌≡◌,
   ◌<◌,
   ◌↔◌,
-  All,
   IfNone,
   IfOk,
   IfSome,
@@ -13,7 +12,6 @@ ghost use Rattle.std.specs.Prelude.{
   [],
   false,
   length,
-  map,
   nat_lt,
   slice_index_or,
   true,
@@ -22,74 +20,93 @@ ghost use Rattle.std.specs.Prelude.{
 ghost use Rattle.task_core.specs.Conditions.{ids_below};
 ghost use Rattle.task_core.specs.Tasks.{action_count, fluent_count, system_of};
 ghost use Rattle.plan_check.specs.Plain.{HasFollowersInside, IsGoalEnd};
-ghost use Rattle.plan_check.specs.Verdicts.{MayMissGoal, MayNeverEnd};
 ghost use Rattle.plan_check.specs.Walks.{IsMarked, LeadsToMarked};
-ghost use Rattle.plan_rules.specs.Denoted.{denoted};
-ghost use Rattle.plan_rules.specs.Plans.{IsRuleOf};
-ghost use Rattle.plan_rules.specs.Rules.{rule_of};
+ghost use Rattle.plan_rules.specs.Plans.{IsPlanOf};
+ghost use Rattle.plan_rules.specs.Rules.{plain_of};
 ghost use Rattle.exec_graph.specs.Values.{IsWithinFluents, followers_at, graph_size};
-ghost use Rattle.plan_witness.specs.Ends.{IsEndless, IsLostStart};
+ghost use Rattle.plan_witness.specs.Ends.{IsEndInside, IsEndless, IsLostStart};
 ghost use Rattle.plan_witness.specs.Leading.{IsMarkedStart};
-ghost use Rattle.plan_witness.specs.Marked.{IsGraphOfRules};
-ghost use Rattle.plan_witness.specs.Runs.{IsShortestRun};
+ghost use Rattle.plan_witness.specs.Marked.{IsGraphIn};
+ghost use Rattle.plan_witness.specs.Runs.{IsShortestRun, NoneReached};
 ghost use Rattle.plan_witness.specs.Values.{run_value};
 
 use crate::leading::leading;
 use crate::runs::{Run, shortest_run};
 use exec_graph::{Graph, Steps};
-use plan_rules::Rule;
+use plan_rules::Plan;
 use std::alloc::{AllocError, Global};
 use std::sync::ledger::Ledger;
 use task_core::{Cond, Task, cond_holds};
 
-/// A shortest run to a state from which no path of the plan leads to a terminal state; `None`
-/// exactly where the plan may reach no such state.
+/// A shortest run to a configuration from which no path of the plan leads to an end; `None` exactly
+/// where the plan may reach no such configuration.
 pub fn endless_run<L: Ledger>(
     alloc: Global,
     task: &Task,
-    rules: &[Rule],
+    plan: &Plan,
     graph: &Graph,
     steps: &mut Steps<L>,
 ) -> Result<Option<Run>, AllocError>
-    requires rules { let n = fluent_count task.now in let m = action_count task.now in
-        All (λ rule. IsRuleOf n m (rule_of rule)) rules.now }
-    requires graph { IsGraphOfRules task.now (map rule_of rules.now) graph.now }
+    requires plan { IsPlanOf (fluent_count task.now) (action_count task.now) plan.now }
+    requires graph { IsGraphIn task.now plan.now graph.now }
     requires within { IsWithinFluents (fluent_count task.now) graph.now }
     ensures shortest { let n = fluent_count task.now in let sys = system_of task.now in
-        IfOk result (λ found. IfSome found (λ run. IsShortestRun sys (map rule_of rules.now)
-        (IsEndless sys (denoted sys (map rule_of rules.now))) (run_value n run))) }
+        IfOk result (λ found. IfSome found (λ run. IsShortestRun sys (plain_of plan.now)
+        (IsEndless sys (plain_of plan.now)) (run_value n run))) }
     ensures none { let sys = system_of task.now in IfOk result (λ found.
-        IfNone found (MayNeverEnd sys (denoted sys (map rule_of rules.now)) → ⊥)) }
+        IfNone found (NoneReached sys (plain_of plan.now) (IsEndless sys (plain_of plan.now)))) }
 {
     let ends = ends_of(alloc, graph)?;
     let marks = not_leading(alloc, graph, &ends, steps)?;
-    shortest_run(alloc, task, rules, graph, &marks, steps)
+    shortest_run(alloc, task, plan, graph, &marks, steps)
 }
 
-/// The run of no step in an initial state from which no path of the plan leads to a terminal goal
+/// The run of no step in an initial state from which no path of the plan leads to an end in a goal
 /// state; `None` exactly where there is no such state.
 pub fn lost_run<L: Ledger>(
     alloc: Global,
     task: &Task,
-    rules: &[Rule],
+    plan: &Plan,
     graph: &Graph,
     steps: &mut Steps<L>,
 ) -> Result<Option<Run>, AllocError>
     requires goal { IsSome task.now.goal }
-    requires rules { let n = fluent_count task.now in let m = action_count task.now in
-        All (λ rule. IsRuleOf n m (rule_of rule)) rules.now }
-    requires graph { IsGraphOfRules task.now (map rule_of rules.now) graph.now }
+    requires plan { IsPlanOf (fluent_count task.now) (action_count task.now) plan.now }
+    requires graph { IsGraphIn task.now plan.now graph.now }
     requires within { IsWithinFluents (fluent_count task.now) graph.now }
     ensures shortest { let n = fluent_count task.now in let sys = system_of task.now in
-        IfOk result (λ found. IfSome found (λ run. IsShortestRun sys (map rule_of rules.now)
-        (IsLostStart sys (denoted sys (map rule_of rules.now))) (run_value n run))) }
+        IfOk result (λ found. IfSome found (λ run. IsShortestRun sys (plain_of plan.now)
+        (IsLostStart sys (plain_of plan.now)) (run_value n run))) }
     ensures none { let sys = system_of task.now in IfOk result (λ found.
-        IfNone found (MayMissGoal sys (denoted sys (map rule_of rules.now)) → ⊥)) }
+        IfNone found (NoneReached sys (plain_of plan.now) (IsLostStart sys (plain_of plan.now)))) }
 {
     let ends = goal_ends(alloc, task.goal.as_ref().unwrap(), graph)?;
     let lost = not_leading(alloc, graph, &ends, steps)?;
     let marks = starts_among(alloc, graph, &lost)?;
-    shortest_run(alloc, task, rules, graph, &marks, steps)
+    shortest_run(alloc, task, plan, graph, &marks, steps)
+}
+
+/// A shortest run to a goal state in which the plan ends; `None` exactly where the plan may reach no
+/// such state.
+pub fn goal_run<L: Ledger>(
+    alloc: Global,
+    task: &Task,
+    plan: &Plan,
+    graph: &Graph,
+    steps: &mut Steps<L>,
+) -> Result<Option<Run>, AllocError>
+    requires goal { IsSome task.now.goal }
+    requires plan { IsPlanOf (fluent_count task.now) (action_count task.now) plan.now }
+    requires graph { IsGraphIn task.now plan.now graph.now }
+    requires within { IsWithinFluents (fluent_count task.now) graph.now }
+    ensures shortest { let n = fluent_count task.now in let sys = system_of task.now in
+        IfOk result (λ found. IfSome found (λ run. IsShortestRun sys (plain_of plan.now)
+        (IsEndInside sys (plain_of plan.now)) (run_value n run))) }
+    ensures none { let sys = system_of task.now in IfOk result (λ found.
+        IfNone found (NoneReached sys (plain_of plan.now) (IsEndInside sys (plain_of plan.now)))) }
+{
+    let marks = goal_ends(alloc, task.goal.as_ref().unwrap(), graph)?;
+    shortest_run(alloc, task, plan, graph, &marks, steps)
 }
 
 /// A mark for each configuration that none follows.

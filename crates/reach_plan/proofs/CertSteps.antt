@@ -17,7 +17,7 @@ use Rattle.plan_theory.specs.Classes.{IsFoundByLayers, IsStable}
 use Rattle.plan_theory.specs.Layers.{IsLastLayer, layer}
 use Rattle.plan_theory.specs.LayerPlans.{printed_rules}
 use Rattle.plan_theory.proofs.PrintedWithin.{cubes_below}
-use Rattle.plan_theory.proofs.WeakDenoted.{denoted-table}
+use Rattle.plan_rules.proofs.DenotedPairs.{denoted-table}
 use Rattle.plan_theory.proofs.ClassLayers.{layer-stable}
 use Rattle.plan_theory.proofs.LeastBounds.{solves_by_class, stands_still}
 use Rattle.preimage.specs.WorkingSets.IsMadeByRound.{itself}
@@ -38,7 +38,7 @@ use Rattle.plan_certs.specs.declared.certificates.Certificate.{Certificate}
 use Rattle.plan_rules.specs.Denoted.{denoted}
 use Rattle.reach_plan.specs.Certs.{AreCubesLeft, HasRest, HasSolution, IsLeft}
 use Rattle.reach_plan.specs.Searches.{FoundNone}
-use Rattle.reach_plan.specs.WorkingSets.{IsWide}
+use Rattle.reach_plan.specs.WorkingSets.{BoundsReachSets}
 use Rattle.reach_plan.proofs.PlanSteps.{start_of}
 use Rattle.reach_plan.proofs.PlaceFits.{fits_small}
 use Rattle.reach_plan.proofs.SetLayers.{cubes_agree}
@@ -55,7 +55,7 @@ last_layer class sys ok k stable v long =
     (cases_lt k other.0)
 
 -- all states fit at their place
-pub space_fits : (class : Class) (start : Start) (x : Encoded) (slots : List SetId) (slot : SetId) (place : ℕ) → At start x slots → IsWide start.width class start.task → slot ≡ x.space → Fits start place (set_of x.sets slot.0)
+pub space_fits : (class : Class) (start : Start) (x : Encoded) (slots : List SetId) (slot : SetId) (place : ℕ) → At start x slots → BoundsReachSets start.width class start.task → slot ≡ x.space → Fits start place (set_of x.sets slot.0)
 space_fits class start x slots slot place at wide is =
     fits_small start place _ (space_set start.task) (ap (λ (s : SetId). set_of x.sets s.0) is ∙ (made_at start x slots at).space.holds) (space_small start.width class start.task wide (space_set start.task) itself)
 
@@ -73,7 +73,7 @@ module _ (class : Class) (start : Start) (x mid : Encoded) (old half : List SetI
   rest_is = ap (λ (s : Function). minus_of s (set_at mid.sets half 0)) space_there ∙ ap (minus_of (space_set start.task)) layer_there
 
   -- so does what the layer leaves of them
-  pub rest_fits : IsWide start.width class start.task → Contains start.rough 2 → Fits start 2 (minus_of (set_at mid.sets half 1) (set_at mid.sets half 0))
+  pub rest_fits : BoundsReachSets start.width class start.task → Contains start.rough 2 → Fits start 2 (minus_of (set_at mid.sets half 1) (set_at mid.sets half 0))
   rest_fits wide rough =
       subst (Fits start 2) (sym rest_is)
       (inr (

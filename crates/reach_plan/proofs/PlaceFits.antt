@@ -21,7 +21,7 @@ use Rattle.task_core.specs.declared.literals.ActionId.{ActionId}
 use Rattle.reach_plan.specs.LayerSets.{IsLayerSet, class_preimage, grown}
 use Rattle.reach_plan.specs.Searches.{HasGrown, HasHits, HasLayer, HasProgress, IsKnown, MayRetrace, MayStep, MayTake}
 use Rattle.reach_plan.specs.Steps.{IsWithinRound, Progress, after_step, after_steps, at_goal, untaken}
-use Rattle.reach_plan.specs.WorkingSets.{IsWide, first_of}
+use Rattle.reach_plan.specs.WorkingSets.{BoundsReachSets, first_of}
 use Rattle.reach_plan.specs.WorkingSets.IsWorkingSet.{by_task}
 use Rattle.slot_board.specs.declared.steps.Step.{Step}
 use Rattle.slot_board.specs.declared.steps.Step.TheVariants.{Advance, Grow}
@@ -35,7 +35,7 @@ fits_small start place set small is few = inl (subst (IsSmall start) (sym is) fe
 -- an action may be led into a layer
 pub lead_fits : (class : Class) (start : Start) (x : Encoded) (slots : List SetId) (n k a : ℕ) (f : Function) (h : ℕ → Function) (outcomes : Outcomes)
     → ((start : Start) (a : ℕ) (set : Function) → PreimageFits start.width start.task a (first_of class) set → LeadFits start outcomes a set)
-    → HasLayer start x slots n f h → IsWide start.width class start.task → IsLayerSet class start.task k f → a < action_count start.task → LeadFits start outcomes a (set_at x.sets slots n)
+    → HasLayer start x slots n f h → BoundsReachSets start.width class start.task → IsLayerSet class start.task k f → a < action_count start.task → LeadFits start outcomes a (set_at x.sets slots n)
 lead_fits class start x slots n k a f h outcomes give has wide is within =
     give start a (set_at x.sets slots n) (subst (PreimageFits start.width start.task a (first_of class)) (sym has.holds_layer) (layer_fits start.width class start.task wide k f is a within))
 
@@ -68,13 +68,13 @@ pub next_layer_small : {k : ℕ} (class : Class) (start : Start) (f : Function) 
 next_layer_small {k} class start f h m known few = grown_small start.width class start.task known.wide k f known.is_layer m few
 
 -- the goal's states
-pub goal_fits : (class : Class) (start : Start) (x : Encoded) (slot : SetId) (place : ℕ) → IsWide start.width class start.task → MadeOf start.task x → x.goal ≡ Some slot → Fits start place (set_of x.sets slot.0)
+pub goal_fits : (class : Class) (start : Start) (x : Encoded) (slot : SetId) (place : ℕ) → BoundsReachSets start.width class start.task → MadeOf start.task x → x.goal ≡ Some slot → Fits start place (set_of x.sets slot.0)
 goal_fits class start x slot place wide made is =
     let goal = goal_slot start.task x slot made is in
     fits_small start place _ (goal_set start.task goal.0) goal.2.holds (wide.each (goal_set start.task goal.0) (by_task (goal_set start.task goal.0) (goal_states goal.0 goal.1)))
 
 -- and a copy of them
-pub goal_copy_fits : (class : Class) (start : Start) (x mid : Encoded) (old half : List SetId) (slot : SetId) (n place : ℕ) → IsWide start.width class start.task → MadeOf start.task x → x.goal ≡ Some slot → Moved start x.sets old mid half n (set_of x.sets slot.0) → Fits start place (set_at mid.sets half n)
+pub goal_copy_fits : (class : Class) (start : Start) (x mid : Encoded) (old half : List SetId) (slot : SetId) (n place : ℕ) → BoundsReachSets start.width class start.task → MadeOf start.task x → x.goal ≡ Some slot → Moved start x.sets old mid half n (set_of x.sets slot.0) → Fits start place (set_at mid.sets half n)
 goal_copy_fits class start x mid old half slot n place wide made is m = subst (Fits start place) (sym m.here) (goal_fits class start x slot place wide made is)
 
 -- what is new of the hits, and what an action takes with that

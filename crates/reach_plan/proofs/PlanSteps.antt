@@ -37,14 +37,14 @@ use Rattle.slot_board.specs.declared.steps.Step.{Step}
 use Rattle.reach_plan.specs.SetRules.{rules_of_place}
 use Rattle.slot_board.specs.Rules.{rule_for}
 use Rattle.reach_plan.specs.Takers.{HoldTakers, IsDecided}
-use Rattle.reach_plan.specs.WorkingSets.{IsWide}
+use Rattle.reach_plan.specs.WorkingSets.{BoundsReachSets}
 use Rattle.plan_theory.proofs.ClassLayers.{printed_executable}
 use Rattle.plan_theory.proofs.LeastBounds.{solves_by_class}
 use Rattle.plan_theory.proofs.PrintedWithin.{printed_within}
-use Rattle.plan_theory.proofs.Ranges.{range-more}
+use Rattle.list_laws.proofs.Ranges.{range-more}
 use Rattle.reach_plan.proofs.SetLayers.{cubes_agree}
-use Rattle.plan_theory.proofs.WeakDenoted.{denoted-table}
-use Rattle.plan_theory.proofs.WeakLists.{Contains-cons, Contains-head, Contains-range_with_len-below}
+use Rattle.plan_rules.proofs.DenotedPairs.{denoted-table}
+use Rattle.list_laws.proofs.Elements.{Contains-cons, Contains-head, Contains-range_with_len-below}
 
 -- the rules of one number more
 pub rules_more : (f : ℕ → List PlanRule) (a : ℕ) (old new : List PlanRule) → old ≡ flat_map f (range_with_len 0 a) → new ≡ old ++ f a → new ≡ flat_map f (range_with_len 0 (a + 1))
@@ -187,5 +187,5 @@ abbrev pub second_pass : (task : Task) (enc : Encoded) → MadeOf task enc → �
 second_pass task enc made actions width wide = start_of task enc made (actions + 4) 12 width wide ((actions + 3) ∷ [])
 
 -- the second pass may make the steps of the first
-pub may_retrace : (class : Class) (task : Task) (enc : Encoded) (made : MadeOf task enc) (actions width : ℕ) (wide : IsWide width class task) (steps : List Step) → LeadToLast class task steps → MayRetrace class (second_pass task enc made actions width wide.wide) actions steps
+pub may_retrace : (class : Class) (task : Task) (enc : Encoded) (made : MadeOf task enc) (actions width : ℕ) (wide : BoundsReachSets width class task) (steps : List Step) → LeadToLast class task steps → MayRetrace class (second_pass task enc made actions width wide.wide) actions steps
 may_retrace class task enc made actions width wide steps leads = record { wide = wide; rough = Contains-head (actions + 3) []; layers = leads.layers; last = leads.last; along = leads.led.along }

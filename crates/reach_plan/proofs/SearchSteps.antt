@@ -37,11 +37,11 @@ use Rattle.reach_plan.specs.Steps.{HaveLed, IsWithinRound, Progress, after_step,
 use Rattle.slot_board.specs.declared.steps.Step.{Step}
 use Rattle.slot_board.specs.declared.steps.Step.TheVariants.{Advance, Grow}
 use Rattle.plan_theory.proofs.LeastBounds.{none_once_stable}
-use Rattle.plan_theory.proofs.Ranges.{range-more}
-use Rattle.reach_plan.specs.WorkingSets.{IsWide}
+use Rattle.list_laws.proofs.Ranges.{range-more}
+use Rattle.reach_plan.specs.WorkingSets.{BoundsReachSets}
 use Rattle.reach_plan.proofs.SmallSets.{at_layer, grown_none, within_round}
 use Rattle.reach_plan.proofs.SetLayers.{fewer_next, goal_is_layer, missed, next_layer_set, next_takers, none_take, stable_same}
-use Rattle.plan_theory.proofs.WeakLists.{list_all-agree}
+use Rattle.list_laws.proofs.Elements.{list_all-agree}
 
 -- what is left of an answer, and of a refusal that is passed on
 pub found_of : {T : Type 0} (start : Start) (now : Encoded) (slots : List SetId) (P : T → Type 0) (result : Result T SetErr) (x : T) → result ≡ Ok x → Ends start now slots P result → P x
@@ -478,7 +478,7 @@ take_none : (i : ℕ) → take {A = Step} i [] ≡ []
 take_none zero = refl
 take_none (suc i) = refl
 
-pub first_round : (class : Class) (start : Start) (x now : Encoded) (old new : List SetId) (slot : SetId) (steps : List Step) (spent : List Bool) → IsWide start.width class start.task → length old ≡ 4 → HasNothing start x old → x.goal ≡ Some slot → steps ≡ [] → length spent ≡ length x.actions
+pub first_round : (class : Class) (start : Start) (x now : Encoded) (old new : List SetId) (slot : SetId) (steps : List Step) (spent : List Bool) → BoundsReachSets start.width class start.task → length old ≡ 4 → HasNothing start x old → x.goal ≡ Some slot → steps ≡ [] → length spent ≡ length x.actions
     → ((a : ℕ) → a < length x.actions → slice_index_or spent a false ≡ false) → Moved start x.sets old now new 0 (set_of x.sets slot.0) → HasRound class start now new 0 steps spent
 first_round class start x now old new slot steps spent wide long has is no_steps marks none m =
     let goal = goal_slot start.task x slot (made_at start x old has.at) is in

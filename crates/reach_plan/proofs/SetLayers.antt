@@ -27,8 +27,8 @@ use Rattle.reach_plan.specs.LayerSets.{AreTakers, IsLayerSet, class_preimage, gr
 use Rattle.plan_theory.specs.LayerPlans.{action_of_rank, chosen_action, is_action, takers}
 use Rattle.plan_theory.proofs.ClassLayers.{chosen_zero, layer-zero, layer-zero_goal, rank_within-None, step_choice}
 use Rattle.plan_theory.proofs.Cubes.{all_vectors-holds, all_vectors-length}
-use Rattle.plan_theory.proofs.Ranges.{find-first, range_split}
-use Rattle.plan_theory.proofs.WeakLists.{Contains-cons, Contains-head, Contains-range_with_len-below, find-None, find-Some, find-found, list_all-agree, list_any-agree}
+use Rattle.list_laws.proofs.Ranges.{find-first, range_split}
+use Rattle.list_laws.proofs.Elements.{Contains-cons, Contains-head, Contains-range_with_len-below, find-None, find-Some, find-found, list_all-agree, list_any-agree}
 use Rattle.plan_theory.proofs.WeakPrinted.{is_action-Some}
 
 -- a state's values are its own

@@ -25,10 +25,10 @@ use Rattle.task_core.specs.declared.classes.Class.TheVariants.{Weak, Strong, Cyc
 use Rattle.task_core.specs.declared.tasks.Task.{Task}
 use Rattle.plan_theory.specs.Layers.{IsLastLayer, layer}
 use Rattle.plan_theory.specs.LayerPlans.{takers}
-use Rattle.plan_theory.proofs.Ranges.{range-more}
+use Rattle.list_laws.proofs.Ranges.{range-more}
 use Rattle.reach_plan.specs.LayerSets.{AreTakers, IsLayerSet, class_preimage, grown, taken_by}
 use Rattle.reach_plan.specs.Steps.{IsTaken, IsWithinRound, Progress}
-use Rattle.reach_plan.specs.WorkingSets.{IsWide, first_of, states_in}
+use Rattle.reach_plan.specs.WorkingSets.{BoundsReachSets, first_of, states_in}
 use Rattle.reach_plan.specs.WorkingSets.IsRoundSet.{initial_round, layer_round, space_round}
 use Rattle.reach_plan.specs.WorkingSets.IsWorkingSet.{by_rounds, taken}
 use Rattle.reach_plan.proofs.SetLayers.{at_state, next_takers, own_values, state_of}
@@ -86,7 +86,7 @@ fits_by Weak width task a set within wide own states = some_fits width task a se
 fits_by Strong width task a set within wide own states = every_fits width task a set (hits_at first_every task set) (hits_at first_every task (space_set task)) wide within own states
 fits_by Cyclic width task a set within wide own states = some_fits width task a set (hits_at first_some task set) (hits_at first_some task (space_set task)) wide within own states
 
-module _ (width : ℕ) (class : Class) (task : Task) (wide : IsWide width class task) where
+module _ (width : ℕ) (class : Class) (task : Task) (wide : BoundsReachSets width class task) where
   -- what belongs to the states is small
   pub space_small : (f : Function) → IsMadeByRound task (first_of class) (hits_at (first_of class) task (space_set task)) (space_set task) f → Small (fluent_count task) width f
   space_small f made = wide.each f (by_rounds f (space_set task, space_round, made))
@@ -165,7 +165,7 @@ at_layer class task k set h is takes = record {
 }
 
 -- from within a round, what a search makes next is small
-module _ (width : ℕ) (class : Class) (task : Task) (wide : IsWide width class task) (here : Progress) (layers : ℕ) (last : IsLastLayer class (system_of task) layers) (at : IsWithinRound class task layers here) where
+module _ (width : ℕ) (class : Class) (task : Task) (wide : BoundsReachSets width class task) (here : Progress) (layers : ℕ) (last : IsLastLayer class (system_of task) layers) (at : IsWithinRound class task layers here) where
   pub now_small : Small (fluent_count task) width here.layer
   now_small = layer_small width class task wide at.rank here.layer at.is_layer
 
@@ -180,5 +180,5 @@ below_power : (n : ℕ) → n + 2 ≤ 2 ^ n + 1
 below_power zero = omega arith
 below_power (suc n) = let less : n + 2 ≤ 2 ^ n + 1 = below_power n in omega (arith, pow-succ' 2 n)
 
-pub wide_enough : (class : Class) (task : Task) → IsWide (2 ^ fluent_count task + 1) class task
+pub wide_enough : (class : Class) (task : Task) → BoundsReachSets (2 ^ fluent_count task + 1) class task
 wide_enough class task = record { wide = below_power (fluent_count task); each = λ set made. every_small (fluent_count task) set }

@@ -22,7 +22,7 @@ use Rattle.plan_theory.specs.Layers.{IsLastLayer, covers}
 use Rattle.reach_plan.specs.LayerSets.{AreTakers, IsLayerSet, IsRound, grown, taken_by}
 use Rattle.reach_plan.specs.Steps.{HaveLed, IsWithinRound, LeadToLast, Progress, after_step}
 use Rattle.reach_plan.specs.Steps.{after_steps, at_goal, untaken}
-use Rattle.reach_plan.specs.WorkingSets.{IsWide}
+use Rattle.reach_plan.specs.WorkingSets.{BoundsReachSets}
 use Rattle.reach_plan.specs.declared.search.Round.{Round}
 use Rattle.reach_plan.specs.declared.search.Round.TheVariants.{Covered, Stable, More}
 use Rattle.slot_board.specs.declared.steps.Step.{Step}
@@ -69,7 +69,7 @@ pub record AreSpent (task : Task) (set : Function) (spent : List Bool) : Type 0 
 -- f is layer k, the actions take h within it, and a search makes working sets alone, which are small
 pub record IsKnown (class : Class) (start : Start) (k : ℕ) (f : Function) (h : ℕ → Function)
     : Type 0 where
-  pub wide : IsWide start.width class start.task
+  pub wide : BoundsReachSets start.width class start.task
   pub is_layer : IsLayerSet class start.task k f
   pub are_takers : AreTakers class start.task k h
 
@@ -160,7 +160,7 @@ pub record MayTake (start : Start) (n a : ℕ) (before g hits : Function) : Type
 -- is new of the hits may hold a rough set
 pub record MayStep (class : Class) (start : Start) (n : ℕ) (here : Progress) (step : Step)
     : Type 0 where
-  pub wide : IsWide start.width class start.task
+  pub wide : BoundsReachSets start.width class start.task
   pub rough : Contains start.rough (n + 3)
   pub layers : ℕ
   pub last : IsLastLayer class (system_of start.task) layers
@@ -169,7 +169,7 @@ pub record MayStep (class : Class) (start : Start) (n : ℕ) (here : Progress) (
 
 -- it may make all of these
 pub record MayRetrace (class : Class) (start : Start) (n : ℕ) (steps : List Step) : Type 0 where
-  pub wide : IsWide start.width class start.task
+  pub wide : BoundsReachSets start.width class start.task
   pub rough : Contains start.rough (n + 3)
   pub layers : ℕ
   pub last : IsLastLayer class (system_of start.task) layers

@@ -42,7 +42,7 @@ pub data IsWorkingSet (class : Class) (task : Task) : Function → Type 0 where
       → IsWorkingSet class task (states_in task (takers class (system_of task) k a))
 
 -- each working set is small by a width, which is more than the fluents by two at least
-pub record IsWide (width : ℕ) (class : Class) (task : Task) : Type 0 where
+pub record BoundsReachSets (width : ℕ) (class : Class) (task : Task) : Type 0 where
   pub wide : fluent_count task + 2 ≤ width
   pub each : (set : Function) → IsWorkingSet class task set
       → Small (fluent_count task) width set

@@ -18,7 +18,7 @@ ghost use Rattle.task_core.specs.declared.tasks.Task.{Task as TaskOf};
 ghost use Rattle.plan_theory.specs.Classes.{IsFoundByLayers};
 ghost use Rattle.reach_plan.specs.Certs.{AreCubesLeft, HasRest, HasSolution, IsLeft};
 ghost use Rattle.reach_plan.specs.Searches.{FoundNone};
-ghost use Rattle.reach_plan.specs.WorkingSets.{IsWide};
+ghost use Rattle.reach_plan.specs.WorkingSets.{BoundsReachSets};
 
 use crate::search::search_back;
 use dd_sets::SetErr;
@@ -56,7 +56,7 @@ pub fn cert_weak(alloc: Global, task: &Task, enc: &mut Enc) -> Result<Option<Cer
     ensures no_plan { IfOk result (λ found. IfSome found
         (λ certificate. HasNoSolution Weak (system_of task.now))) }
     ensures plan { IfOk result (λ found. IfNone found (HasSolution Weak (system_of task.now))) }
-    ensures full { IsErrOf result SetErr.Full → (width : ℕ) → IsWide width Weak task.now
+    ensures full { IsErrOf result SetErr.Full → (width : ℕ) → BoundsReachSets width Weak task.now
         → NoRoom width (action_count task.now + 24) 16 enc.old.sets enc.new.sets }
     ensures slots { Owns enc.old.sets enc.new.sets [] }
     ensures same_slots { enc.new ≡ record enc.old { sets = enc.new.sets } }
@@ -84,7 +84,7 @@ pub fn cert_strong(alloc: Global, task: &Task, enc: &mut Enc) -> Result<Option<C
     ensures no_plan { IfOk result (λ found. IfSome found
         (λ certificate. HasNoSolution Strong (system_of task.now))) }
     ensures plan { IfOk result (λ found. IfNone found (HasSolution Strong (system_of task.now))) }
-    ensures full { IsErrOf result SetErr.Full → (width : ℕ) → IsWide width Strong task.now
+    ensures full { IsErrOf result SetErr.Full → (width : ℕ) → BoundsReachSets width Strong task.now
         → NoRoom width (action_count task.now + 24) 16 enc.old.sets enc.new.sets }
     ensures slots { Owns enc.old.sets enc.new.sets [] }
     ensures same_slots { enc.new ≡ record enc.old { sets = enc.new.sets } }
@@ -110,7 +110,7 @@ fn certify(
     ensures no_plan { IfOk result (λ found. IfSome found
         (λ certificate. HasNoSolution class (system_of task.now))) }
     ensures plan { IfOk result (λ found. IfNone found (HasSolution class (system_of task.now))) }
-    ensures full { IsErrOf result SetErr.Full → (width : ℕ) → IsWide width class task.now
+    ensures full { IsErrOf result SetErr.Full → (width : ℕ) → BoundsReachSets width class task.now
         → NoRoom width (action_count task.now + 24) 16 enc.old.sets enc.new.sets }
     ensures slots { Owns enc.old.sets enc.new.sets [] }
     ensures same_slots { enc.new ≡ record enc.old { sets = enc.new.sets } }
@@ -152,7 +152,7 @@ fn states_left(
     requires actions { actions ≡ length enc.old.actions }
     ensures answer { (task : TaskOf) → MadeOf task enc.old → IfOk result (IsLeft class task) }
     ensures full { IsErrOf result SetErr.Full → (task : TaskOf) → MadeOf task enc.old
-        → (width : ℕ) → IsWide width class task
+        → (width : ℕ) → BoundsReachSets width class task
         → NoRoom width (actions + 24) 16 enc.old.sets enc.new.sets }
     ensures slots { Owns enc.old.sets enc.new.sets [] }
     ensures same_slots { enc.new ≡ record enc.old { sets = enc.new.sets } }
@@ -174,11 +174,11 @@ fn search_and_leave(
     requires class { IsFoundByLayers class }
     requires goal { IsSome enc.old.goal }
     requires ready { (start : Start) × HasNothing start enc.old board.old.slots.items
-        × IsWide start.width class start.task × Contains start.rough 2 }
+        × BoundsReachSets start.width class start.task × Contains start.rough 2 }
     requires places { length board.old.slots.items ≡ 4 }
     requires actions { actions ≡ length enc.old.actions }
     ensures { (start : Start) → HasNothing start enc.old board.old.slots.items
-        → IsWide start.width class start.task → Contains start.rough 2
+        → BoundsReachSets start.width class start.task → Contains start.rough 2
         → Ends start enc.new board.new.slots.items
         (AreCubesLeft class start enc.new board.new.slots.items) result }
 {
@@ -195,11 +195,11 @@ fn search_and_leave(
 fn leave_out(enc: &mut Enc, board: &mut Board) -> Result<(), SetErr>
     requires ready { (class : ClassOf) × (start : Start)
         × FoundNone class start enc.old board.old.slots.items
-        × IsWide start.width class start.task × Contains start.rough 2 }
+        × BoundsReachSets start.width class start.task × Contains start.rough 2 }
     requires places { length board.old.slots.items ≡ 4 }
     ensures { (class : ClassOf) (start : Start)
         → FoundNone class start enc.old board.old.slots.items
-        → IsWide start.width class start.task → Contains start.rough 2
+        → BoundsReachSets start.width class start.task → Contains start.rough 2
         → Left start enc.new board.new.slots.items
         (HasRest class start enc.new board.new.slots.items) result }
 {

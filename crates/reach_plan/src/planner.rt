@@ -16,7 +16,7 @@ ghost use Rattle.plan_theory.specs.Classes.{IsFoundByLayers};
 ghost use Rattle.plan_theory.specs.Found.{IfNoPlan, IfPlan};
 ghost use Rattle.plan_theory.specs.Layers.{IsLastLayer};
 ghost use Rattle.plan_theory.specs.LayerPlans.{printed_rules};
-ghost use Rattle.reach_plan.specs.WorkingSets.{IsWide};
+ghost use Rattle.reach_plan.specs.WorkingSets.{BoundsReachSets};
 
 use crate::set_rules::write_rules;
 use crate::takers::{Takers, find_takers};
@@ -58,7 +58,7 @@ pub fn plan_weak(alloc: Global, task: &Task, enc: &mut Enc) -> Result<Found, Set
         IfOk result (λ found. IfPlan found (λ plan. IsExecutable sys (rules_of plan))) }
     ensures no_plan { IfOk result
         (λ found. IfNoPlan found (HasNoSolution Weak (system_of task.now))) }
-    ensures full { IsErrOf result SetErr.Full → (width : ℕ) → IsWide width Weak task.now
+    ensures full { IsErrOf result SetErr.Full → (width : ℕ) → BoundsReachSets width Weak task.now
         → NoRoom width (action_count task.now + 24) 16 enc.old.sets enc.new.sets }
     ensures slots { Owns enc.old.sets enc.new.sets [] }
     ensures same_slots { enc.new ≡ record enc.old { sets = enc.new.sets } }
@@ -98,7 +98,7 @@ pub fn plan_strong(alloc: Global, task: &Task, enc: &mut Enc) -> Result<Found, S
         IfOk result (λ found. IfPlan found (λ plan. IsExecutable sys (rules_of plan))) }
     ensures no_plan { IfOk result
         (λ found. IfNoPlan found (HasNoSolution Strong (system_of task.now))) }
-    ensures full { IsErrOf result SetErr.Full → (width : ℕ) → IsWide width Strong task.now
+    ensures full { IsErrOf result SetErr.Full → (width : ℕ) → BoundsReachSets width Strong task.now
         → NoRoom width (action_count task.now + 24) 16 enc.old.sets enc.new.sets }
     ensures slots { Owns enc.old.sets enc.new.sets [] }
     ensures same_slots { enc.new ≡ record enc.old { sets = enc.new.sets } }
@@ -128,7 +128,7 @@ fn plan(alloc: Global, task: &Task, enc: &mut Enc, class: Class) -> Result<Found
         IfOk result (λ found. IfPlan found (λ plan. IsExecutable sys (rules_of plan))) }
     ensures no_plan { IfOk result
         (λ found. IfNoPlan found (HasNoSolution class (system_of task.now))) }
-    ensures full { IsErrOf result SetErr.Full → (width : ℕ) → IsWide width class task.now
+    ensures full { IsErrOf result SetErr.Full → (width : ℕ) → BoundsReachSets width class task.now
         → NoRoom width (action_count task.now + 24) 16 enc.old.sets enc.new.sets }
     ensures slots { Owns enc.old.sets enc.new.sets [] }
     ensures same_slots { enc.new ≡ record enc.old { sets = enc.new.sets } }

@@ -11,7 +11,7 @@ ghost use Rattle.reach_plan.specs.LayerSets.{class_preimage};
 ghost use Rattle.reach_plan.specs.Searches.{BeginsRound, HasGrown, HasHits, HasJoined, HasLayer};
 ghost use Rattle.reach_plan.specs.Searches.{HasNext, HasRound, RoundLeft, SearchLeft};
 ghost use Rattle.reach_plan.specs.Steps.{untaken};
-ghost use Rattle.reach_plan.specs.WorkingSets.{IsWide, first_of};
+ghost use Rattle.reach_plan.specs.WorkingSets.{BoundsReachSets, first_of};
 ghost use Rattle.slot_board.specs.declared.steps.Step.{Step as Noted};
 ghost use Rattle.slot_board.specs.declared.steps.Step.TheVariants.{Advance};
 
@@ -196,12 +196,12 @@ pub(crate) fn search_back(
     requires class { IsFoundByLayers class }
     requires goal { IsSome enc.old.goal }
     requires ready { (start : Start) × HasNothing start enc.old board.old.slots.items
-        × IsWide start.width class start.task }
+        × BoundsReachSets start.width class start.task }
     requires places { length board.old.slots.items ≡ 4 }
     requires actions { actions ≡ length enc.old.actions }
     requires no_steps { steps.old.items ≡ [] }
     ensures { (start : Start) → HasNothing start enc.old board.old.slots.items
-        → IsWide start.width class start.task
+        → BoundsReachSets start.width class start.task
         → Ends start enc.new board.new.slots.items
         (SearchLeft class start enc.new board.new.slots.items steps.new.items) result }
 {

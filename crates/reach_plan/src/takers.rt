@@ -11,7 +11,7 @@ ghost use Rattle.task_core.specs.declared.tasks.Task.{Task as TaskOf};
 ghost use Rattle.plan_theory.specs.Classes.{IsFoundByLayers};
 ghost use Rattle.reach_plan.specs.Steps.{LeadToLast};
 ghost use Rattle.reach_plan.specs.Takers.{AreFound, HoldTakers, IsDecided, slots_of};
-ghost use Rattle.reach_plan.specs.WorkingSets.{IsWide};
+ghost use Rattle.reach_plan.specs.WorkingSets.{BoundsReachSets};
 
 use crate::retrace::retrace;
 use crate::search::search_back;
@@ -48,7 +48,7 @@ fn is_covered(
     ensures answer { (task : TaskOf) → MadeOf task enc.old
         → IfOk result (IsDecided class task steps.new.items) }
     ensures full { IsErrOf result SetErr.Full → (task : TaskOf) → MadeOf task enc.old
-        → (width : ℕ) → IsWide width class task
+        → (width : ℕ) → BoundsReachSets width class task
         → NoRoom width (actions + 24) 16 enc.old.sets enc.new.sets }
     ensures slots { Owns enc.old.sets enc.new.sets [] }
     ensures same_slots { enc.new ≡ record enc.old { sets = enc.new.sets } }
@@ -74,7 +74,7 @@ fn take_all(
     ensures answer { (task : TaskOf) → MadeOf task enc.old → LeadToLast class task steps.now
         → IfOk result (λ board. HoldTakers class task enc.new.sets board.slots.items) }
     ensures full { IsErrOf result SetErr.Full → (task : TaskOf) → MadeOf task enc.old
-        → LeadToLast class task steps.now → (width : ℕ) → IsWide width class task
+        → LeadToLast class task steps.now → (width : ℕ) → BoundsReachSets width class task
         → NoRoom width (actions + 24) 16 enc.old.sets enc.new.sets }
     ensures slots { IfOk result (λ board. Working enc.old.sets enc.new.sets board.slots.items) }
     ensures refused { OnErr result (Owns enc.old.sets enc.new.sets []) }
@@ -114,7 +114,7 @@ pub fn find_takers(
     requires made { MadeOf task.now enc.old }
     requires goal { IsSome task.now.goal }
     ensures found { IfOk result (AreFound class task.now enc.new.sets) }
-    ensures full { IsErrOf result SetErr.Full → (width : ℕ) → IsWide width class task.now
+    ensures full { IsErrOf result SetErr.Full → (width : ℕ) → BoundsReachSets width class task.now
         → NoRoom width (action_count task.now + 24) 16 enc.old.sets enc.new.sets }
     ensures slots { IfOk result (λ found. Working enc.old.sets enc.new.sets (slots_of found)) }
     ensures refused { OnErr result (Owns enc.old.sets enc.new.sets []) }

@@ -12,12 +12,12 @@ use Rattle.task_core.specs.declared.literals.Lit.{Lit}
 use Rattle.plan_rules.specs.Plans.{IsCubeOf}
 use Rattle.plan_rules.proofs.MappedItems.{mapped_item}
 use Rattle.plan_certs.specs.Named.{cube_of}
-use Rattle.plan_theory.proofs.WeakLists.{range_with_len-last}
+use Rattle.list_laws.proofs.Elements.{range_with_len-last}
 use Rattle.slot_board.specs.Board.{Start}
 use Rattle.plan_certs.specs.Certificates.{CubeSet}
 use Rattle.refute_cert.specs.Sets.{states_in, way_out_set}
 use Rattle.refute_cert.specs.Sizes.{CubesFit, LeaveFits}
-use Rattle.refute_cert.proofs.MakeLemmas.{drop_item, drop_none}
+use Rattle.board_steps.proofs.MakeLemmas.{drop_item, drop_none}
 
 pub cube_fits : (start : Start) (b : Function) (cubes : List (Vec Lit Global)) (i : ℕ) (x : Vec Lit Global) → CubesFit start b (map cube_of cubes) → i < length cubes → x ≡ get_or cubes i x → CubesFit start b (cube_of x ∷ [])
 cube_fits start b cubes i x fits within is = record {

@@ -20,7 +20,7 @@ use Rattle.plan_certs.specs.Named.{AreSetsOf, IsSetOf}
 use Rattle.slot_board.specs.Board.{At, Ends, HasNoRoom, IsSmall, Start}
 use Rattle.refute_cert.specs.Sets.{states_in, states_of}
 use Rattle.refute_cert.specs.Sizes.{AreFit, IsBoard, JudgeFits, LeaveFits, SetsFit}
-use Rattle.refute_cert.proofs.MakeLemmas.{at_any, drop_none, drop_suc}
+use Rattle.board_steps.proofs.MakeLemmas.{at_any, drop_none, drop_suc}
 use Rattle.refute_cert.proofs.VerdictLemmas.{union_next}
 
 -- where a verdict begins

@@ -19,12 +19,12 @@ use Rattle.slot_board.proofs.BoardSlots.{action_within, depends, left_with}
 use Rattle.refute_cert.specs.Programs.{common_steps, fix_steps, set_steps, way_out_steps}
 use Rattle.refute_cert.specs.Sets.{contradicts, cube_set, meets, states_in, way_out_set}
 use Rattle.refute_cert.specs.Sizes.{CommonFits, CubesFit, HasLeft, HasSet, HasUnion, LeaveFits, SetFits}
-use Rattle.refute_cert.specs.Steps.{CanMakeAll, Placed, Shows, after_steps, with_set}
-use Rattle.refute_cert.specs.declared.steps.Step.{Step}
+use Rattle.board_steps.specs.Steps.{CanMakeAll, Placed, Shows, after_steps, with_set}
+use Rattle.board_steps.specs.declared.steps.Step.{Step}
 use Rattle.refute_cert.proofs.LeftLemmas.{common_can, common_is, common_kept, fix_can, fix_kept, literals_fixed, way_can, way_is, way_kept}
 use Rattle.refute_cert.proofs.LookLemmas.{common_found, cube_found, fixed}
 use Rattle.refute_cert.proofs.ProgramLemmas.{set_can, set_joined, set_kept}
-use Rattle.refute_cert.proofs.StepLemmas.{left_shown, of_left, of_set, of_union, set_shown, union_shown}
+use Rattle.refute_cert.proofs.KnownSets.{left_shown, of_left, of_set, of_union, set_shown, union_shown}
 
 pub run_can : (start : Start) (placed : Placed) (steps wanted : List Step) → steps ≡ wanted → CanMakeAll start placed wanted → CanMakeAll start placed steps
 run_can start placed steps wanted is can = subst (CanMakeAll start placed) (sym is) can

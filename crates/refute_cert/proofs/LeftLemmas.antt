@@ -23,8 +23,8 @@ use Rattle.slot_board.specs.declared.board.Outcomes.{Outcomes}
 use Rattle.refute_cert.specs.Programs.{common_steps, fix_step, fix_steps, way_out_steps}
 use Rattle.refute_cert.specs.Sets.{states_in, way_out_set}
 use Rattle.refute_cert.specs.Sizes.{CommonFits, IsBoard, LeaveFits}
-use Rattle.refute_cert.specs.Steps.{CanMakeAll, Placed, after_step, after_steps, with_set}
-use Rattle.refute_cert.proofs.StepLemmas.{with_other}
+use Rattle.board_steps.specs.Steps.{CanMakeAll, Placed, after_step, after_steps, with_set}
+use Rattle.board_steps.proofs.StepLemmas.{with_other}
 use Rattle.refute_cert.proofs.LookLemmas.{fixed}
 
 -- what the union has in common with a set that is kept

@@ -1,8 +1,7 @@
-mod StepLemmas
+mod KnownSets
 mod ProgramLemmas
 mod LookLemmas
 mod LeftLemmas
-mod MakeLemmas
 mod JudgeLemmas
 mod LoopLemmas
 mod CubeLoops

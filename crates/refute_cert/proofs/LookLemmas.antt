@@ -19,7 +19,7 @@ use Rattle.task_core.specs.Vectors.{Vector, all_vectors, same_value, value_of}
 use Rattle.task_core.specs.declared.literals.Lit.{Lit}
 use Rattle.task_core.proofs.Vectors.{all_vectors_has, all_vectors_length}
 use Rattle.plan_rules.specs.Plans.{IsCubeOf}
-use Rattle.plan_theory.proofs.WeakLists.{Contains-cases, Contains-nil, list_all-at, list_all-from, list_any-false, list_any-from, list_any-none, list_any-witness}
+use Rattle.list_laws.proofs.Elements.{Contains-cases, Contains-nil, list_all-at, list_all-from, list_any-false, list_any-from, list_any-none, list_any-witness}
 use Rattle.refute_cert.specs.Sets.{contradicts, cube_set, is_opposite, meets}
 
 length_first : (n : ℕ) (values : Values) → length (first_values n values) ≡ n

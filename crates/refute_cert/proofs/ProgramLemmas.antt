@@ -24,9 +24,9 @@ use Rattle.slot_board.proofs.BoardSizes.{nothing_small}
 use Rattle.refute_cert.specs.Programs.{cube_steps, literal_steps, set_steps, sign_of, state_steps}
 use Rattle.refute_cert.specs.Sets.{cube_set, states_in}
 use Rattle.refute_cert.specs.Sizes.{IsBoard, SetFits}
-use Rattle.refute_cert.specs.Steps.{CanMakeAll, Placed, after_step, after_steps, with_set}
-use Rattle.refute_cert.specs.declared.steps.Step.TheVariants.{Fluent, Combine}
-use Rattle.refute_cert.proofs.StepLemmas.{after_append, can_append, with_other}
+use Rattle.board_steps.specs.Steps.{CanMakeAll, Placed, after_step, after_steps, with_set}
+use Rattle.board_steps.specs.declared.steps.Step.TheVariants.{Fluent, Combine}
+use Rattle.board_steps.proofs.StepLemmas.{after_append, can_append, with_other}
 
 same_true : (x : Bool) → x ≡ (same_value x true && true)
 same_true true = refl

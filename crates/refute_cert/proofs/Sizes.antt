@@ -20,9 +20,9 @@ use Rattle.task_core.specs.declared.classes.Class.TheVariants.{Weak, Strong, Cyc
 use Rattle.task_core.specs.declared.tasks.Task.{Task}
 use Rattle.plan_certs.specs.Certificates.{CubeSet, PlainCertificate, set_at}
 use Rattle.refute_cert.specs.Sets.{cube_set, goal_states_set, states_in, states_of, way_out_set}
-use Rattle.refute_cert.specs.Sizes.{AreFit, IsRoundSet, IsWide, WayFits}
+use Rattle.refute_cert.specs.Sizes.{AreFit, IsRoundSet, BoundsJudgedSets, WayFits}
 use Rattle.refute_cert.proofs.CubeNodes.{cube_small}
-use Rattle.refute_cert.proofs.MakeLemmas.{at_any}
+use Rattle.board_steps.proofs.MakeLemmas.{at_any}
 use Rattle.refute_cert.proofs.VerdictLemmas.{union_next}
 use Rattle.refute_cert.specs.Sizes.IsRoundSet.{initial, space, one_set, first_sets}
 use Rattle.refute_cert.specs.Sizes.IsWorkingSet.{goal, first_cubes, by_some, by_every}
@@ -136,7 +136,7 @@ wider_way w r Weak task f g a wider fits = wider_preimage w r task a first_every
 wider_way w r Strong task f g a wider fits = wider_preimage w r task a first_some g wider fits
 wider_way w r Cyclic task f g a wider fits = (wider_preimage w r task a first_some f wider fits.0, wider_preimage w r task a first_every (or_of f g) wider fits.1)
 
-module _ (w : ℕ) (task : Task) (certificate : PlainCertificate) (wide : IsWide w task certificate) where
+module _ (w : ℕ) (task : Task) (certificate : PlainCertificate) (wide : BoundsJudgedSets w task certificate) where
   by_round : (set : Function) → IsRoundSet task certificate set → (f : Function) → IsMadeByRound task first_some (hits_at first_some task set) set f → Small (fluent_count task) w f
   by_round set round f made = wide.each f (by_some f (set, round, made))
 
@@ -224,7 +224,7 @@ pred_suc zero one = absurd (omega (arith, one))
 pred_suc (suc n) one = refl
 
 -- so a verdict that found no room has this bound by w
-pub room_by_sets : (w : ℕ) (task : Task) (certificate : PlainCertificate) → IsWide w task certificate → (before after : LiveSets)
+pub room_by_sets : (w : ℕ) (task : Task) (certificate : PlainCertificate) → BoundsJudgedSets w task certificate → (before after : LiveSets)
     → ((r : ℕ) → AreFit r certificate.class task certificate.sets → NoRoom r 13 6 before after) → before.order ≡ []
     → before.limit < nodes before.vars (live_sets before) + 24 * w + 17 * (w * w * w)
 room_by_sets w task certificate wide before after none order =

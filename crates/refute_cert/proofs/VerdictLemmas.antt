@@ -29,7 +29,7 @@ use Rattle.task_core.specs.declared.conditions.Cond.{Cond}
 use Rattle.task_core.specs.declared.tasks.Task.{Task}
 use Rattle.task_core.proofs.TaskSystem.{exec_executable, executable_exec, is_system, states_where_has, states_where_holds}
 use Rattle.task_core.proofs.Vectors.{all_vectors_has, all_vectors_length, same_vector_equal, same_vector_refl}
-use Rattle.plan_theory.proofs.WeakLists.{Contains-range_with_len, list_all-agree, list_any-agree, list_any-false, list_any-from, list_any-witness}
+use Rattle.list_laws.proofs.Elements.{Contains-range_with_len, list_all-agree, list_any-agree, list_any-false, list_any-from, list_any-witness}
 use Rattle.plan_certs.specs.Certificates.{CanAct, CubeSet, HasNoWayOut, HoldsInitial, HoldsNoGoal, IsWayOut, PlainCertificate, holds_state, is_no_way_out, set_at, some_holds}
 use Rattle.plan_rules.specs.Plans.{IsCubeOf}
 use Rattle.plan_certs.specs.Named.{AreSetsOf, IsSetOf}

@@ -1,4 +1,3 @@
-pub mod Steps
 pub mod Programs
 pub mod Sets
 pub mod Sizes

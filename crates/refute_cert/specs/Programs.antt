@@ -14,8 +14,8 @@ use Rattle.slot_board.specs.declared.board.Operation.{Operation}
 use Rattle.slot_board.specs.declared.board.Operation.TheVariants.{Join, Meet, Minus}
 use Rattle.slot_board.specs.declared.board.Outcomes.{Outcomes}
 use Rattle.plan_certs.specs.Certificates.{CubeSet}
-use Rattle.refute_cert.specs.declared.steps.Step.{Step}
-use Rattle.refute_cert.specs.declared.steps.Step.TheVariants.{Whole, Fluent, Fix, Kept, Copy, Combine, Lead}
+use Rattle.board_steps.specs.declared.steps.Step.{Step}
+use Rattle.board_steps.specs.declared.steps.Step.TheVariants.{Whole, Fluent, Fix, Kept, Copy, Combine, Lead}
 
 -- a cube is met with a fluent, or the fluent is taken from it
 abbrev pub sign_of : Bool → Operation

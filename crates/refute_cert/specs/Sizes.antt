@@ -41,7 +41,7 @@ pub data IsWorkingSet (task : Task) (certificate : PlainCertificate) : Function 
       → IsWorkingSet task certificate set
 
 -- each working set is small by a width
-pub record IsWide (width : ℕ) (task : Task) (certificate : PlainCertificate) : Type 0 where
+pub record BoundsJudgedSets (width : ℕ) (task : Task) (certificate : PlainCertificate) : Type 0 where
   pub wide : fluent_count task + 2 ≤ width
   pub each : (set : Function) → IsWorkingSet task certificate set
       → Small (fluent_count task) width set

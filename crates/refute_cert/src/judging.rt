@@ -15,8 +15,8 @@ ghost use Rattle.refute_cert.specs.Sizes.{CommonFits, CubesFit, HasLeft, HasSet,
 ghost use Rattle.refute_cert.specs.Sizes.{IsBoard, IsLookedAt, LeaveFits, SetFits, SetsFit};
 ghost use Rattle.refute_cert.specs.Sizes.{union_after};
 
-use crate::making::make_all;
 use crate::programs::{CUBE, LEFT, SET, UNION, common_steps, fix_steps, set_steps, way_out_steps};
+use board_steps::make_all;
 use dd_sets::{SetErr, SetId};
 use encode_task::Enc;
 use plan_certs::StateSet;

@@ -6,14 +6,12 @@
 //! the preimages and the slots of a board. What the verdict means is said in `plan_certs`, with the
 //! law that no table is a solution where a certificate is accepted.
 //!
-//! `steps` has what is done on a board as plain data, `making` does it, `programs` says which steps
-//! make the sets of a certificate, and `judging` looks at these sets.
+//! `programs` says which steps on a board make the sets of a certificate, and `judging` looks at these
+//! sets.
 #![tactic(auto)]
 
 mod judging;
-mod making;
 mod programs;
-mod steps;
 mod verdict;
 
 pub use verdict::{Flaw, Judged, refute};

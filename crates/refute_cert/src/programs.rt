@@ -6,7 +6,7 @@ ghost use Rattle.plan_certs.specs.Named.{set_of};
 ghost use Rattle.refute_cert.specs.Programs.{common_steps, cube_steps, fix_steps, literal_steps};
 ghost use Rattle.refute_cert.specs.Programs.{set_steps, sign_of, way_out_steps};
 
-use crate::steps::{Step, note};
+use board_steps::Step;
 use dd_sets::{SetErr, SetId};
 use plan_certs::StateSet;
 use slot_board::{Operation, Outcomes};
@@ -25,6 +25,17 @@ const PART: usize = 3;
 pub(crate) const LEFT: usize = 4;
 /// How many places there are.
 pub(crate) const PLACES: usize = 5;
+
+/// Notes a step behind the others.
+fn note(steps: &mut Vec<Step>, step: Step) -> Result<(), SetErr>
+    ensures noted { OnOk result (steps.new.items ≡ steps.old.items ++ step ∷ []) }
+    ensures never_full { IfErr result (λ e. e ≡ SetErr.Memory) }
+{
+    match steps.push(step) {
+        Ok(()) => Ok(()),
+        Err(_) => Err(SetErr::Memory),
+    }
+}
 
 /// How a cube is put together with a fluent.
 fn sign_of(positive: bool) -> Operation

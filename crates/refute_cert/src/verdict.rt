@@ -14,7 +14,7 @@ ghost use Rattle.task_core.specs.Tasks.{fluent_count, system_of};
 ghost use Rattle.task_core.specs.declared.tasks.Task.{Task as TaskOf};
 ghost use Rattle.refute_cert.specs.Judgements.{IsVerdict, judged_actions, judgement};
 ghost use Rattle.refute_cert.specs.Sets.{goal_states_set, meets, states_of};
-ghost use Rattle.refute_cert.specs.Sizes.{HasUnion, IsWide, JudgeFits};
+ghost use Rattle.refute_cert.specs.Sizes.{HasUnion, BoundsJudgedSets, JudgeFits};
 
 use crate::judging::{clear_union, has_common, join_sets, some_set_is_left};
 use crate::programs::PLACES;
@@ -177,7 +177,7 @@ pub fn refute(
     ensures full { IsErrOf result SetErr.Full → IsTightFor 24 enc.old.sets }
     ensures at_limit { IsErrOf result SetErr.Full → IsAtLimit enc.new.sets }
     ensures full_by_sets { IsErrOf result SetErr.Full → enc.old.sets.order ≡ [] → (w : ℕ)
-        → IsWide w task.now (plain_certificate certificate.now) → enc.old.sets.limit
+        → BoundsJudgedSets w task.now (plain_certificate certificate.now) → enc.old.sets.limit
         < nodes enc.old.sets.vars (live_sets enc.old.sets) + 24 * w + 17 * (w * w * w) }
     ensures slots { Owns enc.old.sets enc.new.sets [] }
     ensures same_slots { enc.new ≡ record enc.old { sets = enc.new.sets } }

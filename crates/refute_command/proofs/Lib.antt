@@ -1,3 +1,4 @@
 pub mod RefuteAnswers
 pub mod RefuteDecides
 pub mod RefuteSizes
+pub mod FromInitial

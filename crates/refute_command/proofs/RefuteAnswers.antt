@@ -1,6 +1,6 @@
 -- The verdict on a certificate for a task is that for the domain and the problem that the task comes
 -- from; and what is known once more is read.
-use Rattle.std.proofs.Common.{◌≡◌, ◌⊎◌, ℕ, List, inl, inr, refl, subst, ap, None, true}
+use Rattle.std.proofs.Common.{◌≡◌, ◌⊎◌, ◌∙◌, ℕ, List, inl, inr, refl, subst, ap, None, true}
 use Rattle.pddl_ast.specs.Trees.{DomainTree, ProblemTree}
 use Rattle.pddl_system.specs.Sizes.{first_passed}
 use Rattle.pddl_system.specs.Systems.{fluent_names, system}
@@ -14,6 +14,7 @@ use Rattle.task_core.specs.Systems.{System}
 use Rattle.task_core.specs.Tasks.{fluent_names as names_of_fluents, initial_states, system_of}
 use Rattle.task_core.specs.declared.tasks.Task.{Task}
 use Rattle.command_base.specs.Answers.{Answer, Refusal, full, no_memory, refused}
+use Rattle.task_sets.specs.FullTables.{IsTightToEncode}
 use Rattle.task_sets.specs.NodeRoom.{IsTightLimit}
 use Rattle.refute_command.specs.FoundVerdicts.{IsRefutedOrFull}
 use Rattle.command_base.specs.Grounded.{IsTaskOf}
@@ -65,6 +66,7 @@ few_over held held' asked d p same few = record {
   certificate = few.certificate;
   file = holds_over held held' (SpellsPlain (fluent_names d p)) asked.certificate few.certificate same few.file;
   tight = few.tight;
+  not_begun = few.not_begun;
 }
 
 -- after both files were read
@@ -110,20 +112,30 @@ tight_over : (nodes : ℕ) (d : DomainTree) (p : ProblemTree) (t : Task) (certif
 tight_over nodes d p t certificate of tight = record {
   by_sizes = subst (λ (s : System). IsTightLimit 0 nodes s) of.system_is tight.by_sizes;
   by_sets = (t, of, tight.by_sets);
+  full = (t, of, tight.full);
 }
 
 -- the answer for a certificate that was read
 pub refuted_answer : (held : Bytes → Held) (failed : Bytes → Type 0) (asked : RefuteWords) (d : DomainTree) (p : ProblemTree) (t : Task) (certificate : PlainCertificate) (a : Answer)
     → task_value t ≡ task_of d p → system_of t ≡ system d p → first_passed d p ≡ None → has_goal_for for_tables p ≡ true
     → HoldsCertificate held (names_of_fluents t) asked.certificate certificate
-    → (a ≡ refused no_memory) ⊎ (IsTightToJudge asked.options.nodes t certificate × (a ≡ refused (full asked.options.nodes)))
+    → (a ≡ refused no_memory)
+    ⊎ (IsTightToJudge asked.options.nodes t certificate × (initial_states t ≡ [] → IsTightToEncode asked.options.nodes t) × (a ≡ refused (full asked.options.nodes)))
     ⊎ InitialThen (empty_init asked.problem p) (initial_states t) (ShowsJudged (system_of t) certificate) a
     → IsRefutedOrFull held failed asked d p a
 refuted_answer held failed asked d p t certificate a is system_is within goal holds (inl memory) = inl memory
-refuted_answer held failed asked d p t certificate a is system_is within goal holds (inr (inl (tight, full_is))) =
+refuted_answer held failed asked d p t certificate a is system_is within goal holds (inr (inl (tight, alone, full_is))) =
     let of : IsTaskOf d p t = record { task_is = is; system_is = system_is; within = within } in
     let named = subst (λ (ns : List Name). HoldsCertificate held ns asked.certificate certificate) (same_fluents d p t is) holds in
-    inr (inl (record { goal = goal; within = within; certificate = certificate; file = named; tight = tight_over asked.options.nodes d p t certificate of tight }, full_is))
+    let few : MayJudgeTooFew held asked d p = record {
+      goal = goal;
+      within = within;
+      certificate = certificate;
+      file = named;
+      tight = tight_over asked.options.nodes d p t certificate of tight;
+      not_begun = λ none. (t, of, alone (ap (λ (s : System). s.initial) system_is ∙ none));
+    } in
+    inr (inl (few, full_is))
 refuted_answer held failed asked d p t certificate a is system_is within goal holds (inr (inr then)) =
     let named = subst (λ (ns : List Name). HoldsCertificate held ns asked.certificate certificate) (same_fluents d p t is) holds in
     inr (inr (inr (

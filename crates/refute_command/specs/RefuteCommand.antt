@@ -1,16 +1,23 @@
 -- The command `refute`: the verdict on a certificate that there is no plan of a class.
-use Rattle.std.specs.Prelude.{◌≡◌, ℕ, ◌+◌, ◌*◌, ◌<◌, ◌⊎◌, ◌++◌, List, None, codes, true}
+use Rattle.std.specs.Prelude.{◌≡◌, ℕ, ◌+◌, ◌*◌, ◌<◌, ◌⊎◌, ◌++◌, List, [], IsSome, None, codes, true}
+use Rattle.dd_nodes.specs.Subfunctions.{nodes as node_count}
+use Rattle.dd_sets.specs.Frames.{Owns}
+use Rattle.dd_sets.specs.LiveSets.{live_sets}
+use Rattle.dd_sets.specs.Rooms.{IsAtLimit, IsTightFor}
 use Rattle.encode_task.specs.KeptSets.{kept_nodes}
+use Rattle.encode_task.specs.Made.{MadeOf}
+use Rattle.encode_task.specs.Slots.{Encoded}
 use Rattle.encode_task.specs.WorkingSets.{AreSmall, IsMadeByEncode}
 use Rattle.pddl_ast.specs.Trees.{DomainTree, ProblemTree}
 use Rattle.pddl_system.specs.Sizes.{first_passed}
 use Rattle.pddl_system.specs.Systems.{fluent_names, system}
 use Rattle.plan_certs.specs.Certificates.{PlainCertificate}
+use Rattle.plan_certs.specs.Named.{AreSetsOf}
 use Rattle.plan_certs.specs.Readings.{HasCertificateFault, SpellsPlain}
 use Rattle.plan_io.specs.Held.{Held}
 use Rattle.plan_rules.specs.Texts.{line_feed}
 use Rattle.refute_cert.specs.Judgements.{IsVerdict}
-use Rattle.refute_cert.specs.Sizes.{IsWide}
+use Rattle.refute_cert.specs.Sizes.{BoundsJudgedSets}
 use Rattle.refute_cert.specs.declared.verdict.Flaw.{Flaw}
 use Rattle.refute_cert.specs.declared.verdict.Flaw.TheVariants.{Initial, Goal, Action}
 use Rattle.refute_cert.specs.declared.verdict.Judged.{Judged}
@@ -21,6 +28,7 @@ use Rattle.task_core.specs.Systems.{System}
 use Rattle.task_core.specs.Tasks.{action_count, fluent_count, system_of}
 use Rattle.task_core.specs.declared.tasks.Task.{Task}
 use Rattle.command_base.specs.Answers.{Answer, Refusal, affirmed, denied, full, refused, text_fault}
+use Rattle.task_sets.specs.FullTables.{IsFull, IsFullForBoth, IsTightToEncodeBoth}
 use Rattle.task_sets.specs.NodeRoom.{IsTightLimit}
 use Rattle.command_base.specs.Grounded.{IsTaskOf}
 use Rattle.command_base.specs.Grounding.{GoalThen, GroundThen, for_tables, has_goal_for}
@@ -87,29 +95,50 @@ enough_to_judge task w =
 -- w bounds the sets that are made for a task and for the verdict on a certificate
 pub record BoundsVerdict (task : Task) (certificate : PlainCertificate) (w : ℕ) : Type 0 where
   pub of_task : AreSmall (fluent_count task) w (IsMadeByEncode task)
-  pub of_verdict : IsWide w task certificate
+  pub of_verdict : BoundsJudgedSets w task certificate
 
 -- so many nodes are fewer than are enough by each such bound
 abbrev pub IsTightByVerdict : ℕ → Task → PlainCertificate → Type 0
 IsTightByVerdict nodes task certificate =
     (w : ℕ) → BoundsVerdict task certificate w → nodes < enough_to_judge task w
 
--- Private: they are fewer than are enough for a task by both numbers
+-- Private: they are fewer than are enough for a task by both numbers, and a table for so many was full
 pub record IsTightToJudge (nodes : ℕ) (task : Task) (certificate : PlainCertificate)
     : Type 0 where
   pub by_sizes : IsTightLimit 0 nodes (system_of task)
   pub by_sets : IsTightByVerdict nodes task certificate
+  pub full : IsFull nodes task
+
+-- Private: a task has a goal, and the sets of a certificate are sets of its states
+pub record IsToBeJudged (task : Task) (certificate : PlainCertificate) : Type 0 where
+  pub goal : IsSome task.goal
+  pub in_task : AreSetsOf (fluent_count task) certificate.sets
+
+-- Private: a verdict over the sets of a task found no room: the limit is tight for 24 sets more, and
+-- for those of the verdict by their sizes; the table holds as many nodes as it may; and the sets of
+-- the task are in their slots, and no others
+pub record LacksJudgingRoom (task : Task) (certificate : PlainCertificate) (before after : Encoded)
+    : Type 0 where
+  pub tight : IsTightFor 24 before.sets
+  pub by_sets : before.sets.order ≡ [] → (w : ℕ) → BoundsJudgedSets w task certificate → before.sets.limit
+      < node_count before.sets.vars (live_sets before.sets) + 24 * w + 17 * (w * w * w)
+  pub at_limit : IsAtLimit after.sets
+  pub made : MadeOf task after
+  pub slots : Owns before.sets after.sets []
 
 -- a table for so many nodes may be too small for the verdict: they are fewer than are enough by both
--- numbers
+-- numbers. And one over the fluents in their own order was full: it had no room for the sets of the
+-- task, or it holds them, and as many nodes as it may
 pub record IsTightVerdict (nodes : ℕ) (domain : DomainTree) (problem : ProblemTree)
     (certificate : PlainCertificate) : Type 0 where
   pub by_sizes : IsTightLimit 0 nodes (system domain problem)
   pub by_sets : (task : Task) × IsTaskOf domain problem task
       × IsTightByVerdict nodes task certificate
+  pub full : IsFullForBoth nodes domain problem
 
 -- a certificate is judged, since there is a goal and the limits are kept; and the nodes that are
--- asked for may be too few for it
+-- asked for may be too few for it. Where there is no initial state, it isn't judged, and they are too
+-- few for the sets of the task alone
 pub record MayJudgeTooFew (held : Bytes → Held) (asked : RefuteWords) (domain : DomainTree)
     (problem : ProblemTree) : Type 0 where
   pub goal : has_goal_for for_tables problem ≡ true
@@ -117,6 +146,8 @@ pub record MayJudgeTooFew (held : Bytes → Held) (asked : RefuteWords) (domain 
   pub certificate : PlainCertificate
   pub file : HoldsCertificate held (fluent_names domain problem) asked.certificate certificate
   pub tight : IsTightVerdict asked.options.nodes domain problem certificate
+  pub not_begun : (system domain problem).initial ≡ []
+      → IsTightToEncodeBoth asked.options.nodes domain problem
 
 -- the same of what the two files spell
 pub record MayRefuteRunOut (held : Bytes → Held) (asked : RefuteWords) : Type 0 where

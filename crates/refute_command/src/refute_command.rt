@@ -7,32 +7,25 @@ ghost use Rattle.command_base.specs.Grounding.{GoalThen, GroundThen, for_tables,
 ghost use Rattle.command_base.specs.InitialStates.{InitialThen, empty_init};
 ghost use Rattle.command_base.specs.Values.{answer_of, refute_words_of, shown_of};
 ghost use Rattle.command_base.specs.Words.{IsNodeLimit};
-ghost use Rattle.dd_nodes.specs.Subfunctions.{nodes as node_count};
-ghost use Rattle.dd_sets.specs.LiveSets.{live_sets};
-ghost use Rattle.dd_sets.specs.Rooms.{IsTightFor};
-ghost use Rattle.encode_task.specs.Made.{MadeOf};
 ghost use Rattle.pddl_ast.specs.Fits.{FitsDomain, FitsProblem};
 ghost use Rattle.pddl_ast.specs.Values.{domain_value, problem_value};
 ghost use Rattle.pddl_system.specs.Names.{NamesAreWords};
 ghost use Rattle.pddl_system.specs.Sizes.{first_passed};
-ghost use Rattle.plan_certs.specs.Named.{AreSetsOf, IsCertificateOf, plain_certificate};
+ghost use Rattle.plan_certs.specs.Named.{IsCertificateOf, plain_certificate};
 ghost use Rattle.plan_io.specs.Fetches.{FailedLast, Fetches};
-ghost use Rattle.refute_cert.specs.Sizes.{IsWide};
 ghost use Rattle.refute_command.specs.FoundVerdicts.{IsJudgedFrom, IsRefutedOrFull};
 ghost use Rattle.refute_command.specs.RefuteCommand.{
   IsRefuteAnswer,
   IsTightToJudge,
+  IsToBeJudged,
   ShowsJudged,
   judged_answer,
 };
 ghost use Rattle.refute_command.specs.RefuteFetches.{FetchesToRefute};
 ghost use Rattle.std.specs.Prelude.{
   ◌≡◌,
-  ◌<◌,
   ◌≤◌,
   ◌⊎◌,
-  ◌+◌,
-  ◌*◌,
   [],
   ◌∷◌,
   IsErrOf,
@@ -43,13 +36,14 @@ ghost use Rattle.std.specs.Prelude.{
   ℕ,
 };
 ghost use Rattle.task_core.specs.Tasks.{fluent_count, initial_states, system_of};
+ghost use Rattle.task_sets.specs.FullTables.{IsTightToEncode};
 
 use crate::certificate_files::read_certificate_file;
 use command_base::{
     PlanKind, Refusal, RefuteWords, Shown, Text, check_goal, ground_both, no_initial, read_both,
 };
 use dd_sets::{SetErr, tight_is_monotone};
-use encode_task::{Enc, encode, kept_sets_bound_nodes};
+use encode_task::{Enc, kept_sets_bound_nodes};
 use pddl_ast::{Domain, Problem};
 use plan_certs::Certificate;
 use plan_io::Shelf;
@@ -57,7 +51,7 @@ use plan_rules::Class;
 use refute_cert::{Flaw, Judged, refute};
 use std::alloc::Global;
 use task_core::Task;
-use task_sets::{encode_ordered, has_no_initial};
+use task_sets::{SetSearch, search_in_tries};
 
 /// The verdict on the certificate in a file, for the domain and the problem in two files.
 pub fn refute_files<S: Shelf>(
@@ -126,12 +120,17 @@ fn judge_certificate(
     requires in_task { IsCertificateOf (fluent_count task.now) certificate.now }
     ensures { (answer_of result ≡ refused no_memory)
         ⊎ (IsTightToJudge asked.now.options.nodes task.now (plain_certificate certificate.now)
+        × (initial_states task.now ≡ [] → IsTightToEncode asked.now.options.nodes task.now)
         × (answer_of result ≡ refused (full asked.now.options.nodes)))
         ⊎ InitialThen (empty_init asked.now.problem.now (problem_value problem.now))
         (initial_states task.now) (ShowsJudged (system_of task.now) (plain_certificate certificate.now))
         (answer_of result) }
 {
-    match judge_task(alloc, asked.options.nodes, task, certificate) {
+    let wanted = Judging {
+        certificate,
+        nodes: asked.options.nodes,
+    };
+    match judge_task(alloc, &wanted, task) {
         Ok(Some(judged)) => Ok(show_judged(judged)),
         Ok(None) => Err(no_initial(alloc, asked.problem, problem)?),
         Err(SetErr::Full) => Err(Refusal::Full(asked.options.nodes)),
@@ -153,85 +152,51 @@ fn show_judged(judged: Judged) -> Shown
     }
 }
 
-/// The verdict on a certificate for a task, in a table for so many nodes: over variables in an order
-/// that is chosen for the task, and where that fails, once more from nothing, over the fluents in
-/// their own order. A refusal is that of the second. `None` where there is no initial state.
-fn judge_task(
-    alloc: Global,
+/// The verdict on a certificate, in a table for so many nodes.
+#[derive(Clone, Copy)]
+struct Judging<'a> {
+    certificate: &'a Certificate,
     nodes: u32,
-    task: &Task,
-    certificate: &Certificate,
-) -> Result<Option<Judged>, SetErr>
-    requires room { IsNodeLimit nodes }
-    requires goal { IsSome task.now.goal }
-    requires in_task { AreSetsOf (fluent_count task.now) (plain_certificate certificate.now).sets }
-    ensures judged { IsJudgedFrom task.now (plain_certificate certificate.now) result }
-    ensures full { IsErrOf result SetErr.Full
-        → IsTightToJudge nodes task.now (plain_certificate certificate.now) }
-{
-    match judge_in_order(alloc, nodes, task, certificate) {
-        Ok(judged) => Ok(judged),
-        Err(_) => judge_plainly(alloc, nodes, task, certificate),
+}
+
+impl SetSearch for Judging<'_> {
+    ghost use Rattle.plan_certs.specs.Named.{plain_certificate};
+    ghost use Rattle.refute_cert.specs.Judgements.{IsVerdict};
+    ghost use Rattle.refute_command.specs.RefuteCommand.{IsToBeJudged, LacksJudgingRoom};
+    ghost use Rattle.task_core.specs.Tasks.{system_of};
+
+    type Found = Judged;
+
+    ghost nodes = { λ self. self.nodes };
+
+    ghost fits = { λ self task. IsToBeJudged task (plain_certificate self.certificate.now) };
+
+    ghost finds = { λ self task. IsVerdict (system_of task) (plain_certificate self.certificate.now) };
+
+    ghost lacks_room = { λ self task. LacksJudgingRoom task (plain_certificate self.certificate.now) };
+
+    fn nodes(&self) -> u32 {
+        self.nodes
+    }
+
+    fn find(&self, alloc: Global, task: &Task, enc: &mut Enc) -> Result<Judged, SetErr> {
+        refute(alloc, task, enc, self.certificate)
     }
 }
 
-/// The first try: over variables in an order that is chosen for the task. Nothing is said of why it
-/// fails.
-fn judge_in_order(
-    alloc: Global,
-    nodes: u32,
-    task: &Task,
-    certificate: &Certificate,
-) -> Result<Option<Judged>, SetErr>
-    requires room { IsNodeLimit nodes }
-    requires goal { IsSome task.now.goal }
-    requires in_task { AreSetsOf (fluent_count task.now) (plain_certificate certificate.now).sets }
-    ensures judged { IsJudgedFrom task.now (plain_certificate certificate.now) result }
-{
-    let mut enc = encode_ordered(alloc, task, nodes)?;
-    judge_from_initial(alloc, task, &mut enc, certificate)
-}
-
-/// The second try: over the fluents in their own order.
-fn judge_plainly(
-    alloc: Global,
-    nodes: u32,
-    task: &Task,
-    certificate: &Certificate,
-) -> Result<Option<Judged>, SetErr>
-    requires room { IsNodeLimit nodes }
-    requires goal { IsSome task.now.goal }
-    requires in_task { AreSetsOf (fluent_count task.now) (plain_certificate certificate.now).sets }
-    ensures judged { IsJudgedFrom task.now (plain_certificate certificate.now) result }
+/// The verdict on a certificate for a task; `None` where there is no initial state. It is the same over
+/// variables in any order.
+fn judge_task(alloc: Global, wanted: &Judging<'_>, task: &Task) -> Result<Option<Judged>, SetErr>
+    requires room { IsNodeLimit wanted.now.nodes }
+    requires fits { IsToBeJudged task.now (plain_certificate wanted.now.certificate.now) }
+    ensures judged { IsJudgedFrom task.now (plain_certificate wanted.now.certificate.now) result }
     ensures full { IsErrOf result SetErr.Full
-        → IsTightToJudge nodes task.now (plain_certificate certificate.now) }
+        → IsTightToJudge wanted.now.nodes task.now (plain_certificate wanted.now.certificate.now) }
+    ensures not_begun { IsErrOf result SetErr.Full → initial_states task.now ≡ []
+        → IsTightToEncode wanted.now.nodes task.now }
 {
     // These do nothing: that few nodes are too few for more sets rests on what they promise.
     tight_is_monotone();
     kept_sets_bound_nodes();
-    let mut enc = encode(alloc, task, nodes)?;
-    judge_from_initial(alloc, task, &mut enc, certificate)
-}
-
-/// The verdict on a certificate for a task, over its sets, or `None` where there is no initial state.
-fn judge_from_initial(
-    alloc: Global,
-    task: &Task,
-    enc: &mut Enc,
-    certificate: &Certificate,
-) -> Result<Option<Judged>, SetErr>
-    requires made { MadeOf task.now enc.old }
-    requires goal { IsSome task.now.goal }
-    requires in_task { AreSetsOf (fluent_count task.now) (plain_certificate certificate.now).sets }
-    ensures judged { IsJudgedFrom task.now (plain_certificate certificate.now) result }
-    ensures full { IsErrOf result SetErr.Full → IsTightFor 24 enc.old.sets }
-    ensures full_by_sets { IsErrOf result SetErr.Full → enc.old.sets.order ≡ [] → (w : ℕ)
-        → IsWide w task.now (plain_certificate certificate.now) → enc.old.sets.limit
-        < node_count enc.old.sets.vars (live_sets enc.old.sets) + 24 * w + 17 * (w * w * w) }
-{
-    if has_no_initial(task, enc) {
-        return Ok(None);
-    }
-    let judged = refute(alloc, task, enc, certificate)?;
-    Ok(Some(judged))
+    search_in_tries(alloc, task, wanted)
 }

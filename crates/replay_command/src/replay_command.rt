@@ -73,6 +73,14 @@ use task_core::{InitErr, State, Task};
 /// How many initial states a record may choose from.
 const MOST_INITIAL: usize = 262_144;
 
+/// What was asked for, the problem, and the task that it is grounded to.
+#[derive(Clone, Copy)]
+struct ReplayRequest<'a> {
+    asked: &'a ReplayWords<'a>,
+    problem: &'a Problem,
+    task: &'a Task,
+}
+
 /// The run of the plan under the record, for the domain and the problem, all in files, with what
 /// the monitors show of it. The world gives the record's outcome numbers.
 pub fn replay_files<S: Shelf>(
@@ -136,129 +144,136 @@ fn replay_problem<S: Shelf>(
     ensures later { S.faults shelf.old ≤ S.faults shelf.new }
 {
     let task = grounded(alloc, domain, problem)?;
-    replay_task(alloc, shelf, asked, problem, &task, world, monitors)
+    let request = ReplayRequest {
+        asked,
+        problem,
+        task: &task,
+    };
+    replay_task(alloc, shelf, &request, world, monitors)
 }
 
 /// The run for a task.
 fn replay_task<S: Shelf>(
     alloc: Global,
     shelf: &mut S,
-    asked: &ReplayWords,
-    problem: &Problem,
-    task: &Task,
+    request: &ReplayRequest<'_>,
     world: &mut Box<dyn World>,
     monitors: &mut Vec<Box<dyn Monitor>>,
 ) -> Result<Shown, Refusal>
     requires untold { All (λ monitor. (shown monitor).counted ≡ 0) monitors.old.items }
     ensures answer { let failed = FailedLast S.fetched S.faults shelf.old shelf.new in
+        let task = request.now.task.now in
+        let asked = request.now.asked.now in
         (answer_of result ≡ refused no_memory)
         ⊎ ReplayThen (S.held shelf.old) failed
         (tallies_of (map (λ monitor. shown monitor) monitors.old.items))
-        (replay_words_of asked.now) (fluent_names task.now) (action_names task.now)
-        (HasTooManyInitial task.now most_followed)
-        (empty_init asked.now.problem.now (problem_value problem.now)) (system_of task.now)
+        (replay_words_of asked) (fluent_names task) (action_names task)
+        (HasTooManyInitial task most_followed)
+        (empty_init asked.problem.now (problem_value request.now.problem.now)) (system_of task)
         (answer_of result) }
     ensures fetches { let failed = FailedLast S.fetched S.faults shelf.old shelf.new in
-        FetchRecord S.fetched (replay_words_of asked.now)
-        (RefusesPlan (S.held shelf.old) failed (fluent_names task.now) (action_names task.now)
-        asked.now.plan.now)
-        (HoldsSomePlan (S.held shelf.old) (fluent_names task.now) (action_names task.now)
-        asked.now.plan.now) (answer_of result) shelf.old shelf.new }
+        let task = request.now.task.now in
+        let asked = request.now.asked.now in
+        FetchRecord S.fetched (replay_words_of asked)
+        (RefusesPlan (S.held shelf.old) failed (fluent_names task) (action_names task)
+        asked.plan.now)
+        (HoldsSomePlan (S.held shelf.old) (fluent_names task) (action_names task) asked.plan.now)
+        (answer_of result) shelf.old shelf.new }
     ensures quiet_at { IsQuietAt (answer_of result) (S.faults shelf.old) (S.faults shelf.new) }
     ensures kept { (file : List ℕ) → S.held shelf.new file ≡ S.held shelf.old file }
     ensures later { S.faults shelf.old ≤ S.faults shelf.new }
 {
-    let read = read_plan_file(alloc, shelf, asked.plan, task)?;
-    replay_plan(
-        alloc, shelf, asked, problem, task, &read.plan, world, monitors,
-    )
+    let read = read_plan_file(alloc, shelf, request.asked.plan, request.task)?;
+    replay_plan(alloc, shelf, request, &read.plan, world, monitors)
 }
 
 /// The run of a plan of the task, under the record in its file.
 fn replay_plan<S: Shelf>(
     alloc: Global,
     shelf: &mut S,
-    asked: &ReplayWords,
-    problem: &Problem,
-    task: &Task,
+    request: &ReplayRequest<'_>,
     plan: &Plan,
     world: &mut Box<dyn World>,
     monitors: &mut Vec<Box<dyn Monitor>>,
 ) -> Result<Shown, Refusal>
-    requires in_task { IsPlanOf (fluent_count task.now) (action_count task.now) plan.now }
+    requires in_task { let task = request.now.task.now in
+        IsPlanOf (fluent_count task) (action_count task) plan.now }
     requires untold { All (λ monitor. (shown monitor).counted ≡ 0) monitors.old.items }
     ensures answer { let failed = FailedLast S.fetched S.faults shelf.old shelf.new in
+        let task = request.now.task.now in
+        let asked = request.now.asked.now in
         (answer_of result ≡ refused no_memory)
         ⊎ RecordThen (S.held shelf.old) failed
         (tallies_of (map (λ monitor. shown monitor) monitors.old.items))
-        asked.now.recorded.now (action_names task.now) (HasTooManyInitial task.now most_followed)
-        (empty_init asked.now.problem.now (problem_value problem.now))
-        (system_of task.now) (plain_of plan.now) (answer_of result) }
-    ensures fetches { Fetches S.fetched (asked.now.recorded.now ∷ []) shelf.old shelf.new }
+        asked.recorded.now (action_names task) (HasTooManyInitial task most_followed)
+        (empty_init asked.problem.now (problem_value request.now.problem.now))
+        (system_of task) (plain_of plan.now) (answer_of result) }
+    ensures fetches { Fetches S.fetched (request.now.asked.now.recorded.now ∷ []) shelf.old shelf.new }
     ensures quiet_at { IsQuietAt (answer_of result) (S.faults shelf.old) (S.faults shelf.new) }
     ensures kept { (file : List ℕ) → S.held shelf.new file ≡ S.held shelf.old file }
     ensures later { S.faults shelf.old ≤ S.faults shelf.new }
 {
-    let recorded = read_record_file(alloc, shelf, asked.recorded)?;
-    replay_record(alloc, asked, problem, task, plan, recorded, world, monitors)
+    let recorded = read_record_file(alloc, shelf, request.asked.recorded)?;
+    replay_record(alloc, request, plan, recorded, world, monitors)
 }
 
 /// The run of a plan of the task, under a record that was read out of its file.
 fn replay_record(
     alloc: Global,
-    asked: &ReplayWords,
-    problem: &Problem,
-    task: &Task,
+    request: &ReplayRequest<'_>,
     plan: &Plan,
     recorded: Recorded,
     world: &mut Box<dyn World>,
     monitors: &mut Vec<Box<dyn Monitor>>,
 ) -> Result<Shown, Refusal>
-    requires in_task { IsPlanOf (fluent_count task.now) (action_count task.now) plan.now }
+    requires in_task { let task = request.now.task.now in
+        IsPlanOf (fluent_count task) (action_count task) plan.now }
     requires untold { All (λ monitor. (shown monitor).counted ≡ 0) monitors.old.items }
-    ensures { let sys = system_of task.now in
+    ensures { let task = request.now.task.now in
+        let asked = request.now.asked.now in
+        let sys = system_of task in
         (answer_of result ≡ refused no_memory)
-        ⊎ FirstThen (HasTooManyInitial task.now most_followed)
-        (empty_init asked.now.problem.now (problem_value problem.now)) sys.initial
-        asked.now.recorded.now (record_value recorded)
+        ⊎ FirstThen (HasTooManyInitial task most_followed)
+        (empty_init asked.problem.now (problem_value request.now.problem.now)) sys.initial
+        asked.recorded.now (record_value recorded)
         (λ first. IsReplayed
         (tallies_of (map (λ monitor. shown monitor) monitors.old.items))
-        sys (action_names task.now)
+        sys (action_names task)
         (trace_under sys (plain_of plan.now) first recorded.words.items)) (answer_of result) }
 {
-    let first = first_state(alloc, asked, problem, task, &recorded)?;
+    let first = first_state(alloc, request, &recorded)?;
     load_world(alloc, world, recorded.words)?;
-    show_run(alloc, task, plan, first, world, monitors)
+    show_run(alloc, request.task, plan, first, world, monitors)
 }
 
 /// The initial state whose number begins a record that was read out of its file.
 fn first_state(
     alloc: Global,
-    asked: &ReplayWords,
-    problem: &Problem,
-    task: &Task,
+    request: &ReplayRequest<'_>,
     recorded: &Recorded,
 ) -> Result<State, Refusal>
-    ensures first { IfOk result (λ state. IsFirstState (initial_states task.now)
-        (record_value recorded.now) (vector (fluent_count task.now) state)) }
-    ensures within { IfOk result (IsWithin (fluent_count task.now)) }
-    ensures few { OnOk result (HasTooManyInitial task.now most_followed → ⊥) }
-    ensures refused { IfErr result (λ refusal. (refused (refusal_of refusal) ≡ refused no_memory)
-        ⊎ FirstThen (HasTooManyInitial task.now most_followed)
-        (empty_init asked.now.problem.now (problem_value problem.now)) (initial_states task.now)
-        asked.now.recorded.now (record_value recorded.now) (λ first answer. ⊥)
+    ensures first { IfOk result (λ state. IsFirstState (initial_states request.now.task.now)
+        (record_value recorded.now) (vector (fluent_count request.now.task.now) state)) }
+    ensures within { IfOk result (IsWithin (fluent_count request.now.task.now)) }
+    ensures few { OnOk result (HasTooManyInitial request.now.task.now most_followed → ⊥) }
+    ensures refused { let task = request.now.task.now in
+        let asked = request.now.asked.now in
+        IfErr result (λ refusal. (refused (refusal_of refusal) ≡ refused no_memory)
+        ⊎ FirstThen (HasTooManyInitial task most_followed)
+        (empty_init asked.problem.now (problem_value request.now.problem.now))
+        (initial_states task) asked.recorded.now (record_value recorded.now) (λ first answer. ⊥)
         (refused (refusal_of refusal))) }
 {
-    match numbered_initial(alloc, task, recorded.first as usize, MOST_INITIAL) {
+    match numbered_initial(alloc, request.task, recorded.first as usize, MOST_INITIAL) {
         Ok(Numbered::Found(state)) => Ok(state),
         Ok(Numbered::Beyond) => Err(Refusal::TextFault(
-            String::from_str(alloc, asked.recorded)?,
+            String::from_str(alloc, request.asked.recorded)?,
             InputFault {
                 kind: FaultKind::BadNumber,
                 place: recorded.first_place,
             },
         )),
-        Ok(Numbered::NoInitial) => Err(no_initial(alloc, asked.problem, problem)?),
+        Ok(Numbered::NoInitial) => Err(no_initial(alloc, request.asked.problem, request.problem)?),
         Err(InitErr::TooMany) => Err(Refusal::OverLimit(Limit::Initial)),
         Err(InitErr::Memory) => Err(Refusal::NoMemory),
     }

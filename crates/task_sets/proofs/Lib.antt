@@ -1,2 +1,3 @@
+pub mod FullTables
 pub mod NodeRooms
 pub mod NoInitial

@@ -1,1 +1,2 @@
+pub mod FullTables
 pub mod NodeRoom

@@ -1,4 +1,3 @@
-use Rattle.std.proofs.Common.{inl}
 use Rattle.pddl_ast.specs.Values.{domain_value, problem_value}
 use Rattle.controller_plan.specs.Values.{control_words_of}
 use Rattle.exec_graph.specs.Executions.{ReachesMoreThan}
@@ -16,5 +15,5 @@ returns-in-Err c =
     let p = problem_value c.args.problem.now in
     let task = c.args.grounded.now.task in
     let plan = plain_of c.args.plan.now in
-    reach_refusal asked d p task (ReachesMoreThan (system_of task) plan most_followed) (refusal_of c.in-Err.refusal) c.requires.grounded.of_task
-    (λ more. inl (plan_reaches asked d p task c.args.text.now plan c.requires.grounded.of_task c.requires.found c.requires.spelled more)) c.in-Err.ensures
+    reach_refusal asked d p task (ReachesMoreThan (system_of task) plan most_followed) (refusal_of c.in-Err.refusal) c.requires.grounded.of_task c.requires.contexts
+    (λ more. plan_reaches asked d p task c.args.text.now plan c.requires.grounded.of_task c.requires.found c.requires.spelled more) c.in-Err.ensures

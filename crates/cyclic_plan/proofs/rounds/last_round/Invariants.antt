@@ -5,12 +5,12 @@ use Rattle.slot_board.specs.Board.{set_at}
 use Rattle.slot_board.specs.Board.{Start}
 use Rattle.plan_theory.specs.PairRounds.{round}
 use Rattle.cyclic_plan.specs.Stages.{HasRound, HasRounds, none_taken}
-use Rattle.cyclic_plan.specs.Steps.{Follows}
+use Rattle.cyclic_plan.specs.Steps.{AreStepsFrom}
 use Rattle.plan_theory.proofs.RoundSteps.{held}
 use Rattle.cyclic_plan.proofs.rounds.last_round.Given as goal
 
 abbrev pub invariant-loop-alloc : goal.invariant-loop-alloc
-invariant-loop-alloc l = (start : Start) → HasRound start l.fn.enc l.fn.board.slots.items (round (system_of start.task) 0) none_taken → (r : ℕ) × HasRounds start l.enc l.board.slots.items r × Follows start (round (system_of start.task) r) 0 0 l.steps.items
+invariant-loop-alloc l = (start : Start) → HasRound start l.fn.enc l.fn.board.slots.items (round (system_of start.task) 0) none_taken → (r : ℕ) × HasRounds start l.enc l.board.slots.items r × AreStepsFrom start (round (system_of start.task) r) 0 0 l.steps.items
 
 -- how many states are left
 abbrev pub decreases-loop-alloc : goal.decreases-loop-alloc

@@ -2,7 +2,7 @@
 -- the table grows.
 use Rattle.std.proofs.Common.{◌≡◌, ◌<◌, ◌-◌, Option, Some, refl, sym, subst, arith}
 use Rattle.dd_nodes.specs.declared.node.Ref.{Ref}
-use Rattle.dd_ops.specs.Answers.{Follows}
+use Rattle.dd_ops.specs.Answers.{IsChosenChild}
 use Rattle.dd_nodes.specs.NodeList.{node_at}
 use Rattle.dd_nodes.proofs.Extending.{extends_same, extends_more}
 use Rattle.dd_ops.specs.Answers.{level_of}
@@ -21,15 +21,15 @@ use Rattle.dd_ops.proofs.subst.+replace.Goals as goal
 pub returns-in-Some-follow-clause-answer : goal.returns-in-Some-follow-clause-answer
 returns-in-Some-follow-clause-answer t c = ok_then c.replace.result c.replace.ensures.answer
     (λ r answer. followed_answer c.args.dd.now c.requires.table c.args.images.now.map.now c.requires.images.numbers c.args.f.0 c.in-Some.node c.in-Some.ensures.node
-    c.in-Some-follow.child (subst (λ (o : Option Ref). Follows c.in-Some.node o c.in-Some-follow.child) c.get-image.ensures c.in-Some-follow.ensures) c.replace.new.dd c.replace.ensures.kept r.0 answer)
+    c.in-Some-follow.child (subst (λ (o : Option Ref). IsChosenChild c.in-Some.node o c.in-Some-follow.child) c.get-image.ensures c.in-Some-follow.ensures) c.replace.new.dd c.replace.ensures.kept r.0 answer)
 
 pub returns-in-Some-follow-clause-adds : goal.returns-in-Some-follow-clause-adds
 returns-in-Some-follow-clause-adds t c = followed_adds c.args.dd.now c.requires.table c.args.images.now.map.now c.requires.images.numbers c.args.f.0 c.in-Some.node c.in-Some.ensures.node
-    c.in-Some-follow.child (subst (λ (o : Option Ref). Follows c.in-Some.node o c.in-Some-follow.child) c.get-image.ensures c.in-Some-follow.ensures) c.replace.new.dd c.replace.ensures.kept c.replace.ensures.adds
+    c.in-Some-follow.child (subst (λ (o : Option Ref). IsChosenChild c.in-Some.node o c.in-Some-follow.child) c.get-image.ensures c.in-Some-follow.ensures) c.replace.new.dd c.replace.ensures.kept c.replace.ensures.adds
 
 pub returns-in-Some-follow-clause-full : goal.returns-in-Some-follow-clause-full
 returns-in-Some-follow-clause-full t c is = followed_full c.args.dd.now c.requires.table c.args.images.now.map.now c.requires.images.numbers c.args.f.0 c.in-Some.node c.in-Some.ensures.node
-    c.in-Some-follow.child (subst (λ (o : Option Ref). Follows c.in-Some.node o c.in-Some-follow.child) c.get-image.ensures c.in-Some-follow.ensures) c.replace.new.dd c.replace.ensures.kept (c.replace.ensures.full is)
+    c.in-Some-follow.child (subst (λ (o : Option Ref). IsChosenChild c.in-Some.node o c.in-Some-follow.child) c.get-image.ensures c.in-Some-follow.ensures) c.replace.new.dd c.replace.ensures.kept (c.replace.ensures.full is)
 
 pub remember_choice-requires-clause-images : goal.remember_choice-requires-clause-images
 remember_choice-requires-clause-images t c =

@@ -1,7 +1,7 @@
 use Rattle.std.proofs.Common.{◌≡◌, ◌↔◌, IsTrue, [], map, take}
 use Rattle.task_core.specs.Tasks.{system_of}
 use Rattle.plan_rules.specs.Rules.{rule_of}
-use Rattle.judge_sets.specs.FirstMatch.{EachRuleCounts}
+use Rattle.first_match.specs.FirstMatch.{EachRuleCounts}
 use Rattle.judge_sets.specs.Places.{HasRead, Scene}
 use Rattle.judge_sets.proofs.reading.read_rules.Given as goal
 

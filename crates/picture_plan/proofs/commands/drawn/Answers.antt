@@ -8,20 +8,20 @@ use Rattle.picture_plan.proofs.commands.drawn.Goals as goal
 
 pub returns-then-is_blank : goal.returns-then-is_blank
 returns-then-is_blank c =
-    let n = fluent_count c.args.task.now in
+    let n = fluent_count c.args.wanted.now.task.now in
     let picture = c.in-Ok.picture in
     let none : length picture.nodes.items ≡ 0 = search rules in
     inr (inr (inr (inl (
-      shows_nothing (system_of c.args.task.now) (plain_of c.args.plan.now) (nodes_of n picture) c.in-Ok.ensures.picture (no_nodes (node_value n) picture.nodes.items none),
+      shows_nothing (system_of c.args.wanted.now.task.now) (plain_of c.args.wanted.now.plan.now) (nodes_of n picture) c.in-Ok.ensures.picture (no_nodes (node_value n) picture.nodes.items none),
       ap refused c.in_ok-no_initial-in-Ok.ensures,
     ))))
 
 pub returns-in_ok-text-in-Ok : goal.returns-in_ok-text-in-Ok
 returns-in_ok-text-in-Ok c =
-    let n = fluent_count c.args.task.now in
+    let n = fluent_count c.args.wanted.now.task.now in
     let picture = c.in-Ok.picture in
     let some : length picture.nodes.items ≡ 0 → ⊥ = search rules in
     inr (inr (inr (inr (
-      shows_some (system_of c.args.task.now) (plain_of c.args.plan.now) (nodes_of n picture) c.in-Ok.ensures.picture (some_nodes (node_value n) picture.nodes.items some),
+      shows_some (system_of c.args.wanted.now.task.now) (plain_of c.args.wanted.now.plan.now) (nodes_of n picture) c.in-Ok.ensures.picture (some_nodes (node_value n) picture.nodes.items some),
       record { nodes = nodes_of n picture; picture = c.in-Ok.ensures.picture; shown = search rules },
     ))))

@@ -5,7 +5,8 @@ use Rattle.command_base.proofs.Later.{failed_after_two}
 use Rattle.command_base.proofs.PddlDecides.{after_both, refused_both}
 use Rattle.picture_plan.specs.Pictures.{IsPictured}
 use Rattle.picture_plan.specs.Values.{picture_words_of}
-use Rattle.picture_plan.proofs.Answers.{picture_fetched, picture_stopped, pictured_later}
+use Rattle.picture_plan.proofs.Answers.{pictured_later}
+use Rattle.picture_plan.proofs.PictureFetched.{picture_fetched, picture_stopped}
 use Rattle.picture_plan.proofs.commands.picture_files.Goals as goal
 
 pub returns-in_err-domain-clause-answer : goal.returns-in_err-domain-clause-answer
@@ -23,10 +24,11 @@ returns-clause-answer g c =
     let failed = FailedLast g.S.Shelf.fetched g.S.Shelf.faults c.args.shelf.now c.picture_problem.new.shelf in
     let failed' = FailedLast g.S.Shelf.fetched g.S.Shelf.faults c.read_both.new.shelf c.picture_problem.new.shelf in
     let asked = picture_words_of c.args.asked.now in
-    let over = failed_after_two g.S.Shelf.fetched g.S.Shelf.faults asked.domain asked.problem c.args.shelf.now c.read_both.new.shelf c.picture_problem.new.shelf asked.plan
-    c.in_ok-domain.ensures.fetched c.in_ok-domain.ensures.quiet in
     after_both held failed asked.domain asked.problem (IsPictured held failed asked) _ _ _ c.in_ok-domain.ensures.holds
-    (pictured_later held held' failed failed' asked _ _ _ c.in_ok-domain.ensures.kept over c.picture_problem.ensures.answer)
+    (pictured_later held held' failed failed' asked _ _ _ c.in_ok-domain.ensures.kept
+    (λ file. failed_after_two g.S.Shelf.fetched g.S.Shelf.faults asked.domain asked.problem c.args.shelf.now c.read_both.new.shelf c.picture_problem.new.shelf file
+    c.in_ok-domain.ensures.fetched c.in_ok-domain.ensures.quiet)
+    c.picture_problem.ensures.answer)
 
 pub returns-in_err-domain-clause-fetches : goal.returns-in_err-domain-clause-fetches
 returns-in_err-domain-clause-fetches g c =
@@ -39,6 +41,9 @@ returns-in_err-domain-clause-fetches g c =
 pub returns-clause-fetches : goal.returns-clause-fetches
 returns-clause-fetches g c =
     let held = g.S.Shelf.held c.args.shelf.now in
-    let failed = FailedLast g.S.Shelf.fetched g.S.Shelf.faults c.args.shelf.now c.picture_problem.new.shelf in
-    picture_fetched held failed g.S.Shelf.fetched (picture_words_of c.args.asked.now) _ _ _ c.args.shelf.now c.read_both.new.shelf c.picture_problem.new.shelf
-    c.in_ok-domain.ensures.holds c.in_ok-domain.ensures.fetched c.picture_problem.ensures.fetches
+    let held' = g.S.Shelf.held c.read_both.new.shelf in
+    let asked = picture_words_of c.args.asked.now in
+    let both = c.in_ok-domain.ensures in
+    picture_fetched held held' g.S.Shelf.fetched g.S.Shelf.faults asked _ _ _ c.args.shelf.now c.read_both.new.shelf c.picture_problem.new.shelf
+    both.holds both.kept (λ late. failed_after_two g.S.Shelf.fetched g.S.Shelf.faults asked.domain asked.problem c.args.shelf.now c.read_both.new.shelf c.picture_problem.new.shelf asked.plan
+    both.fetched both.quiet late) both.fetched c.picture_problem.ensures.fetches

@@ -1,37 +1,25 @@
-use Rattle.std.proofs.Common.{inr, refl}
-use Rattle.std.proofs.lemmas.Result.{err_from_is_err_and}
+use Rattle.std.proofs.Common.{inr}
 use Rattle.pddl_ast.specs.Values.{domain_value, problem_value}
 use Rattle.plan_io.specs.Fetches.{FailedLast}
-use Rattle.command_base.specs.Values.{answer_of, placed_of, refusal_of}
+use Rattle.command_base.specs.Values.{answer_of}
 use Rattle.picture_plan.specs.Values.{picture_words_of}
-use Rattle.picture_plan.proofs.Answers.{pictured_answer, plan_refused}
+use Rattle.picture_plan.proofs.Answers.{task_answer}
+use Rattle.picture_plan.proofs.PictureFetched.{task_fetched}
 use Rattle.picture_plan.proofs.commands.picture_problem.Goals as goal
-
-pub returns-in_err-read-clause-answer : goal.returns-in_err-read-clause-answer
-returns-in_err-read-clause-answer g c =
-    let p = err_from_is_err_and c.from_residual-in_err-read.result c.from_residual-in_err-read.ensures.1 in
-    let held = g.S.Shelf.held c.args.shelf.now in
-    let failed = FailedLast g.S.Shelf.fetched g.S.Shelf.faults c.args.shelf.now c.read_plan_file.new.shelf in
-    let domain = domain_value c.args.domain.now in
-    let problem = problem_value c.args.problem.now in
-    rw (p.1, p.2) (plan_refused held failed (picture_words_of c.args.asked.now) domain problem c.in_ok-grounded.grounded.task (refusal_of c.in_err-read.field-0.0)
-    c.in_ok-grounded.ensures.task c.in_ok-grounded.ensures.within c.in_err-read.ensures.refused)
 
 pub returns-clause-answer : goal.returns-clause-answer
 returns-clause-answer g c =
     let held = g.S.Shelf.held c.args.shelf.now in
-    let failed = FailedLast g.S.Shelf.fetched g.S.Shelf.faults c.args.shelf.now c.read_plan_file.new.shelf in
-    let domain = domain_value c.args.domain.now in
-    let problem = problem_value c.args.problem.now in
-    pictured_answer held failed (picture_words_of c.args.asked.now) domain problem c.in_ok-grounded.grounded.task
-    (placed_of c.in_ok-read.read) (answer_of c.drawn.result)
-    c.in_ok-grounded.ensures.task c.in_ok-grounded.ensures.system c.in_ok-grounded.ensures.within
-    c.in_ok-read.ensures.holds c.drawn.ensures
-
-pub returns-in_err-read-clause-fetches : goal.returns-in_err-read-clause-fetches
-returns-in_err-read-clause-fetches g c =
-    inr (c.in_ok-grounded.ensures.within, (c.read_plan_file.new.shelf, c.in_err-read.ensures.fetch, refl))
+    let failed = FailedLast g.S.Shelf.fetched g.S.Shelf.faults c.args.shelf.now c.picture_task.new.shelf in
+    task_answer held failed (picture_words_of c.args.asked.now) (domain_value c.args.domain.now) (problem_value c.args.problem.now) c.in_ok-task.task (answer_of c.picture_task.result)
+    c.in_ok-task.ensures.task c.in_ok-task.ensures.system c.in_ok-task.ensures.within c.picture_task.ensures.answer
 
 pub returns-clause-fetches : goal.returns-clause-fetches
 returns-clause-fetches g c =
-    inr (c.in_ok-grounded.ensures.within, (c.read_plan_file.new.shelf, c.in_ok-read.ensures.fetch, refl))
+    let held = g.S.Shelf.held c.args.shelf.now in
+    let failed = FailedLast g.S.Shelf.fetched g.S.Shelf.faults c.args.shelf.now c.picture_task.new.shelf in
+    inr (
+      c.in_ok-task.ensures.within,
+      task_fetched held failed g.S.Shelf.fetched (picture_words_of c.args.asked.now) (domain_value c.args.domain.now) (problem_value c.args.problem.now) c.in_ok-task.task _
+          c.args.shelf.now c.picture_task.new.shelf c.in_ok-task.ensures.task c.picture_task.ensures.fetches,
+    )

@@ -6,16 +6,16 @@ use Rattle.plan_command.proofs.context_command.plan_parts.Goals as goal
 
 pub returns-in-Ok-Some : goal.returns-in-Ok-Some
 returns-in-Ok-Some c =
-    let domain = domain_value c.args.domain.now in
-    let problem = problem_value c.args.problem.now in
-    inr (inr (goal_then domain problem c.args.goal.now c.requires.goal (plan_words_of c.args.asked.now) c.args.task.now (shown_of c.in-Ok-Some.shown)
+    let domain = domain_value c.args.request.now.domain.now in
+    let problem = problem_value c.args.request.now.problem.now in
+    inr (inr (goal_then domain problem c.args.goal.now c.requires.goal (plan_words_of c.args.request.now.asked.now) c.args.task.now (shown_of c.in-Ok-Some.shown)
     c.requires.kind c.requires.task (search rules) (search rules) (search rules)))
 
 pub returns-in-Err-Full : goal.returns-in-Err-Full
 returns-in-Err-Full c =
-    let domain = domain_value c.args.domain.now in
-    let problem = problem_value c.args.problem.now in
+    let domain = domain_value c.args.request.now.domain.now in
+    let problem = problem_value c.args.request.now.problem.now in
     inr (inl (
-      few_nodes domain problem c.args.goal.now c.requires.goal (plan_words_of c.args.asked.now) c.args.task.now c.requires.kind c.requires.task (search rules) (search rules),
+      few_nodes domain problem c.args.goal.now c.requires.goal (plan_words_of c.args.request.now.asked.now) c.args.task.now c.requires.kind c.requires.task (search rules) (search rules) (search rules),
       search rules,
     ))

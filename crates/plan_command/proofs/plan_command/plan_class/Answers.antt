@@ -6,14 +6,14 @@ use Rattle.plan_command.proofs.plan_command.plan_class.Goals as goal
 
 pub returns-in-Ok-Some : goal.returns-in-Ok-Some
 returns-in-Ok-Some c =
-    let asked = plan_words_of c.args.asked.now in
-    let domain = domain_value c.args.domain.now in
-    let problem = problem_value c.args.problem.now in
+    let asked = plan_words_of c.args.request.now.asked.now in
+    let domain = domain_value c.args.request.now.domain.now in
+    let problem = problem_value c.args.request.now.problem.now in
     inr (inr (planned_answer asked c.args.class domain problem c.args.task.now (shown_of c.in-Ok-Some.shown) c.requires.class c.requires.task (search rules) (search rules)))
 
 pub returns-in-Err-Full : goal.returns-in-Err-Full
 returns-in-Err-Full c =
-    let asked = plan_words_of c.args.asked.now in
-    let domain = domain_value c.args.domain.now in
-    let problem = problem_value c.args.problem.now in
-    inr (inl (too_few asked c.args.class domain problem c.args.task.now c.requires.class c.requires.task (search rules) (search rules), search rules))
+    let asked = plan_words_of c.args.request.now.asked.now in
+    let domain = domain_value c.args.request.now.domain.now in
+    let problem = problem_value c.args.request.now.problem.now in
+    inr (inl (too_few asked c.args.class domain problem c.args.task.now c.requires.class c.requires.task (search rules) (search rules) (search rules), search rules))

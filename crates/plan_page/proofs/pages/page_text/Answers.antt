@@ -19,4 +19,4 @@ returns c =
     let wanted = page_data fluents actions (system_of task) plan nodes in
     let free : has_float (view c.in_ok-value.value) ≡ false = rw c.in_ok-value.ensures (data_free fluents actions (system_of task) plan nodes) in
     let text : string_bytes c.in_ok-text.text ≡ compact_text wanted = c.in_ok-text.ensures.text free ∙ ap compact_text c.in_ok-value.ensures in
-    subst (λ json. IfOk c.framed.result (λ out. out.items ≡ framed_text json)) (c.as_bytes.ensures.value ∙ text) c.framed.ensures
+    subst (λ json. IfOk c.framed.result (λ out. out.items ≡ framed_text json c.args.run.now)) (c.as_bytes.ensures.value ∙ text) c.framed.ensures

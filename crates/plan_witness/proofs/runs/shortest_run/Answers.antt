@@ -1,25 +1,29 @@
-use Rattle.std.proofs.Common.{◌<◌, false, map, get_or, ap, ◌∙◌, subst}
-use Rattle.task_core.specs.Tasks.{fluent_count}
-use Rattle.plan_rules.specs.Rules.{rule_of}
-use Rattle.plan_check.proofs.MarkFacts.{marked_below}
-use Rattle.plan_witness.specs.Values.{run_value}
-use Rattle.plan_witness.proofs.Shortest.{each_reached, shortest}
+use Rattle.std.specs.Prelude.{IfNone, IfSome, Option}
+use Rattle.std.proofs.Common.{sym, subst}
+use Rattle.exec_graph.specs.Values.{followers_at}
+use Rattle.plan_check.specs.Walks.{IsMarked, last_number}
+use Rattle.plan_witness.specs.Ways.{IsShortestWay, NoneLeads}
+use Rattle.plan_witness.specs.declared.shortest.Way.{Way}
+use Rattle.plan_witness.proofs.FoundRuns.{marked_none, marked_run, start_below}
 use Rattle.plan_witness.proofs.runs.shortest_run.Goals as goal
+
+pub run_along-requires-clause-start : goal.run_along-requires-clause-start
+run_along-requires-clause-start g c =
+    let way = subst (λ (o : Option Way). IfSome o (λ x. IsShortestWay (followers_at c.args.graph.now) c.deref.result.now (IsMarked c.args.ends.now) x.start x.numbers.items)) c.in-Some.is c.in_ok-found.ensures.shortest in
+    start_below c.args.task.now c.args.plan.now c.args.graph.now c.requires.graph c.in_ok-starts.starts.items c.deref.result.now c.deref.ensures.value c.in_ok-starts.ensures.count c.in_ok-starts.ensures.marked c.in-Some.way.start way.begins
+
+pub run_along-requires-clause-walk : goal.run_along-requires-clause-walk
+run_along-requires-clause-walk g c =
+    (subst (λ (o : Option Way). IfSome o (λ x. IsShortestWay (followers_at c.args.graph.now) c.deref.result.now (IsMarked c.args.ends.now) x.start x.numbers.items)) c.in-Some.is c.in_ok-found.ensures.shortest).walk
 
 pub returns-in-Some-clause-shortest : goal.returns-in-Some-clause-shortest
 returns-in-Some-clause-shortest g c =
-    let near = c.in-Some.ensures.some in
-    shortest c.args.task.now (map rule_of c.args.rules.now) c.args.graph.now c.requires.graph c.deref.result.now c.in_ok-ways.ways.lengths.items c.in_ok-ways.ways.before.items c.in_ok-ways.ensures
-    (λ i l. ap (λ xs. get_or xs i false) c.deref.ensures.value ∙ c.in_ok-starts.ensures.marked i l)
-    c.args.ends.now c.in-Some.end
-    (subst (λ k. c.in-Some.end < k) c.requires.count (marked_below c.args.ends.now c.in-Some.end near.marked))
-    near
-    (run_value (fluent_count c.args.task.now) c.in_ok-run-in-Some.run')
-    c.in_ok-run-in-Some.ensures
+    let way = subst (λ (o : Option Way). IfSome o (λ x. IsShortestWay (followers_at c.args.graph.now) c.deref.result.now (IsMarked c.args.ends.now) x.start x.numbers.items)) c.in-Some.is c.in_ok-found.ensures.shortest in
+    marked_run c.args.task.now c.args.plan.now c.args.graph.now c.requires.graph c.in_ok-starts.starts.items c.deref.result.now c.deref.ensures.value c.in_ok-starts.ensures.count c.in_ok-starts.ensures.marked
+    c.args.ends.now c.in-Some.way.start c.in-Some.way.numbers.items c.in_ok-run-in-Some.run' way c.in_ok-run-in-Some.ensures.start c.in_ok-run-in-Some.ensures.steps
 
 pub returns-clause-none : goal.returns-clause-none
-returns-clause-none g c = λ i m.
-    c.in-None.ensures.none i m
-    (each_reached c.args.task.now (map rule_of c.args.rules.now) c.args.graph.now c.requires.graph c.deref.result.now c.in_ok-ways.ways.lengths.items c.in_ok-ways.ways.before.items c.in_ok-ways.ensures
-    (λ j l. ap (λ xs. get_or xs j false) c.deref.ensures.value ∙ c.in_ok-starts.ensures.marked j l)
-    i (subst (λ k. i < k) c.requires.count (marked_below c.args.ends.now i m)))
+returns-clause-none g c =
+    let none = subst (λ (o : Option Way). IfNone o (NoneLeads (followers_at c.args.graph.now) c.deref.result.now (IsMarked c.args.ends.now))) c.in-None.is c.in_ok-found.ensures.none in
+    marked_none c.args.task.now c.args.plan.now c.args.graph.now c.requires.graph c.in_ok-starts.starts.items c.deref.result.now c.deref.ensures.value c.in_ok-starts.ensures.count c.in_ok-starts.ensures.marked
+    c.args.ends.now c.requires.count none

@@ -1,6 +1,6 @@
 use Rattle.std.proofs.Common.{◌↔◌, ◌+◌, ℕ, length, not, sym, ap, ◌∙◌, subst}
 use Rattle.std.proofs.lemmas.List.{length_push}
-use Rattle.plan_witness.proofs.Reaches.{not_marked}
+use Rattle.plan_witness.proofs.Meanings.{not_marked}
 use Rattle.plan_check.specs.Walks.{IsMarked}
 use Rattle.plan_check.proofs.MarkFacts.{marked_push}
 use Rattle.plan_witness.proofs.unreachable.negated.Goals as goal

@@ -4,7 +4,7 @@ use Rattle.std.specs.Prelude.{IsSome}
 use Rattle.encode_task.specs.Slots.{Encoded}
 use Rattle.slot_board.proofs.BoardSlots.{same_chain}
 use Rattle.dd_sets.proofs.RoomSteps.{room_wider}
-use Rattle.plan_theory.proofs.WeakLists.{Contains-head}
+use Rattle.list_laws.proofs.Elements.{Contains-head}
 use Rattle.reach_plan.proofs.CertSteps.{cert_pass, left_by}
 use Rattle.reach_plan.proofs.PlanSteps.{full_at}
 use Rattle.reach_plan.proofs.SearchSteps.{ends_at}

@@ -2,7 +2,7 @@ use Rattle.std.proofs.Common.{arith, refl}
 use Rattle.std.proofs.lemmas.Result.{err_from_is_err_and}
 use Rattle.slot_board.proofs.BoardSlots.{passed, went}
 use Rattle.refute_cert.proofs.LoopLemmas.{joined_all, joined_more, next_fits}
-use Rattle.refute_cert.proofs.MakeLemmas.{drop_item, drop_none}
+use Rattle.board_steps.proofs.MakeLemmas.{drop_item, drop_none}
 use Rattle.refute_cert.proofs.judging.join_sets.Goals as goal
 
 pub loop-set-init : goal.loop-set-init

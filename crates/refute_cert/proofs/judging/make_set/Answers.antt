@@ -2,10 +2,11 @@ use Rattle.std.proofs.Common.{◌≡◌, ◌∙◌, ap, subst, sym}
 use Rattle.dd_sets.specs.declared.slots.SetId.{SetId}
 use Rattle.plan_certs.specs.Named.{set_of as cubes_in}
 use Rattle.refute_cert.specs.Programs.{set_steps}
-use Rattle.refute_cert.specs.Steps.{CanMakeAll}
+use Rattle.board_steps.specs.Steps.{CanMakeAll}
 use Rattle.std.proofs.lemmas.Result.{err_from_is_err_and}
 use Rattle.refute_cert.proofs.JudgeLemmas.{run_can, run_left, set_done, set_program}
-use Rattle.refute_cert.proofs.StepLemmas.{of_union, shows_union, wants_memory}
+use Rattle.board_steps.proofs.StepLemmas.{wants_memory}
+use Rattle.refute_cert.proofs.KnownSets.{of_union, shows_union}
 use Rattle.refute_cert.proofs.judging.make_set.Goals as goal
 
 pub returns-in_err-steps : goal.returns-in_err-steps

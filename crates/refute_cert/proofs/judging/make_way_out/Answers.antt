@@ -5,7 +5,8 @@ use Rattle.encode_task.specs.Slots.{exec_slot}
 use Rattle.refute_cert.specs.Programs.{way_out_steps}
 use Rattle.refute_cert.specs.Sets.{states_in}
 use Rattle.refute_cert.proofs.JudgeLemmas.{run_can, run_left, way_done, way_program}
-use Rattle.refute_cert.proofs.StepLemmas.{of_set, shows_set, wants_memory}
+use Rattle.board_steps.proofs.StepLemmas.{wants_memory}
+use Rattle.refute_cert.proofs.KnownSets.{of_set, shows_set}
 use Rattle.refute_cert.proofs.judging.make_way_out.Goals as goal
 
 pub returns-in_err-steps : goal.returns-in_err-steps

@@ -5,7 +5,7 @@ use Rattle.task_core.specs.Tasks.{fluent_count}
 use Rattle.refute_cert.specs.Sizes.{CubesFit}
 use Rattle.refute_cert.specs.Sets.{cube_set, meets}
 use Rattle.refute_cert.proofs.CubeLoops.{cube_fits, cubes_ended, cubes_found, cubes_more}
-use Rattle.refute_cert.proofs.StepLemmas.{found_of, passed_on}
+use Rattle.board_steps.proofs.StepLemmas.{found_of, passed_on}
 use Rattle.refute_cert.proofs.judging.some_matches_left.Goals as goal
 
 pub loop-cube-init : goal.loop-cube-init

@@ -3,7 +3,7 @@ use Rattle.std.proofs.lemmas.Result.{err_from_is_err_and}
 use Rattle.slot_board.proofs.BoardSlots.{same_actions, went}
 use Rattle.refute_cert.specs.declared.verdict.Flaw.TheVariants.{Action}
 use Rattle.refute_cert.specs.declared.verdict.Judged.TheVariants.{Accepted, Rejected}
-use Rattle.refute_cert.proofs.StepLemmas.{found_of, passed_on}
+use Rattle.board_steps.proofs.StepLemmas.{found_of, passed_on}
 use Rattle.refute_cert.proofs.verdict.judge_actions.Goals as goal
 
 pub clear_union-requires : goal.clear_union-requires

@@ -21,27 +21,27 @@ returns-in_err-read-clause-answer g c =
     let held = g.S.Shelf.held c.args.shelf.now in
     let failed = FailedLast g.S.Shelf.fetched g.S.Shelf.faults c.args.shelf.now c.read_plan_file.new.shelf in
     let tallies : Tallies = tallies_of (map (λ monitor. (goal.Monitor-dyn g (monitor.vtable, monitor.value)).shown monitor.value) c.args.monitors.now.items) in
-    let task = c.args.task.now in
-    let empty = empty_init c.args.asked.now.problem.now (problem_value c.args.problem.now) in
-    rw (p.1, p.2) (plan_refused held failed tallies (replay_words_of c.args.asked.now) (fluent_names task) (action_names task) (HasTooManyInitial task most_followed) empty (system_of task)
+    let task = c.args.request.now.task.now in
+    let empty = empty_init c.args.request.now.asked.now.problem.now (problem_value c.args.request.now.problem.now) in
+    rw (p.1, p.2) (plan_refused held failed tallies (replay_words_of c.args.request.now.asked.now) (fluent_names task) (action_names task) (HasTooManyInitial task most_followed) empty (system_of task)
     (refusal_of c.in_err-read.field-0.0) c.in_err-read.ensures.refused)
 
 pub returns-clause-answer : goal.returns-clause-answer
 returns-clause-answer g c =
-    let task = c.args.task.now in
-    let empty = empty_init c.args.asked.now.problem.now (problem_value c.args.problem.now) in
+    let task = c.args.request.now.task.now in
+    let empty = empty_init c.args.request.now.asked.now.problem.now (problem_value c.args.request.now.problem.now) in
     let held = g.S.Shelf.held c.args.shelf.now in
     let held' = g.S.Shelf.held c.read_plan_file.new.shelf in
     let failed = FailedLast g.S.Shelf.fetched g.S.Shelf.faults c.args.shelf.now c.replay_plan.new.shelf in
     let failed' = FailedLast g.S.Shelf.fetched g.S.Shelf.faults c.read_plan_file.new.shelf c.replay_plan.new.shelf in
     let tallies : Tallies = tallies_of (map (λ monitor. (goal.Monitor-dyn g (monitor.vtable, monitor.value)).shown monitor.value) c.args.monitors.now.items) in
-    let name = c.args.asked.now.recorded.now in
-    let over = failed_over g.S.Shelf.fetched g.S.Shelf.faults c.args.shelf.now c.read_plan_file.new.shelf c.replay_plan.new.shelf c.args.asked.now.plan.now name
+    let name = c.args.request.now.asked.now.recorded.now in
+    let over = failed_over g.S.Shelf.fetched g.S.Shelf.faults c.args.shelf.now c.read_plan_file.new.shelf c.replay_plan.new.shelf c.args.request.now.asked.now.plan.now name
     c.in_ok-read.ensures.fetch c.in_ok-read.ensures.quiet in
     let sys = system_of task in
     let actions = action_names task in
     let many = HasTooManyInitial task most_followed in
-    plan_answer held failed tallies (replay_words_of c.args.asked.now) (fluent_names task) actions many empty sys (placed_of c.in_ok-read.read) (answer_of c.replay_plan.result) c.in_ok-read.ensures.holds
+    plan_answer held failed tallies (replay_words_of c.args.request.now.asked.now) (fluent_names task) actions many empty sys (placed_of c.in_ok-read.read) (answer_of c.replay_plan.result) c.in_ok-read.ensures.holds
     (record_later held held' failed failed' tallies name actions many empty sys (plain_of c.in_ok-read.read.plan) (answer_of c.replay_plan.result) c.in_ok-read.ensures.kept over c.replay_plan.ensures.answer)
 
 pub returns-in_err-read-clause-fetches : goal.returns-in_err-read-clause-fetches
@@ -49,11 +49,11 @@ returns-in_err-read-clause-fetches g c =
     let p = err_from_is_err_and c.from_residual.result c.from_residual.ensures.1 in
     let held = g.S.Shelf.held c.args.shelf.now in
     let failed = FailedLast g.S.Shelf.fetched g.S.Shelf.faults c.args.shelf.now c.read_plan_file.new.shelf in
-    let task = c.args.task.now in
+    let task = c.args.request.now.task.now in
     rw (p.1, p.2) (
       c.read_plan_file.new.shelf,
       c.in_err-read.ensures.fetch,
-      inl (plan_stops held failed (fluent_names task) (action_names task) c.args.asked.now.plan.now (refusal_of c.in_err-read.field-0.0) c.in_err-read.ensures.refused, refl),
+      inl (plan_stops held failed (fluent_names task) (action_names task) c.args.request.now.asked.now.plan.now (refusal_of c.in_err-read.field-0.0) c.in_err-read.ensures.refused, refl),
     )
 
 pub returns-clause-fetches : goal.returns-clause-fetches

@@ -1,0 +1,3 @@
+pub mod Deliveries
+pub mod HelpedFrames
+pub mod Kept

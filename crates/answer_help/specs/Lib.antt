@@ -1,0 +1,7 @@
+pub mod FaultHelp
+pub mod FaultKinds
+pub mod Helped
+pub mod HelpedRuns
+pub mod Keeping
+pub mod Values
+pub mod WrongWords

@@ -1,0 +1,6 @@
+-- What was known stays known.
+use Rattle.controller_code.proofs.StepLemmas.{known_kept}
+use Rattle.controller_code.proofs.growing.Growth.add.Goals as goal
+
+pub returns-clause-known : goal.returns-clause-known
+returns-clause-known c = known_kept c.add.result c.args.self.now.steps.list.items c.add.new.self.list.items c.args.self.now.known.items c.add.ensures.kept c.requires.known

@@ -1,0 +1,4 @@
+pub mod Steps
+pub mod FirstMoves
+pub mod Frames
+pub mod Texts

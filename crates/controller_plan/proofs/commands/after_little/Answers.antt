@@ -1,0 +1,11 @@
+use Rattle.std.proofs.lemmas.Result.{err_from_is_err_and}
+use Rattle.pddl_ast.specs.Values.{domain_value, problem_value}
+use Rattle.command_base.specs.Values.{refusal_of}
+use Rattle.controller_plan.specs.Values.{control_words_of}
+use Rattle.controller_plan.proofs.Answers.{limited}
+use Rattle.controller_plan.proofs.commands.after_little.Goals as goal
+
+pub returns-in_err-shown : goal.returns-in_err-shown
+returns-in_err-shown c =
+    let p = err_from_is_err_and c.from_residual.result c.from_residual.ensures.1 in
+    rw (p.1, p.2) (limited (control_words_of c.args.asked.now) (domain_value c.args.domain.now) (problem_value c.args.problem.now) (refusal_of c.in_err-shown.field-0.0) c.in_err-shown.ensures.refused)

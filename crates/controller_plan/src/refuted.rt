@@ -1,0 +1,223 @@
+//! That there is no plan, by a certificate that a search hands on and that is judged here.
+
+ghost use Rattle.command_base.specs.Values.{bytes_of};
+ghost use Rattle.command_base.specs.Words.{IsNodeLimit};
+ghost use Rattle.encode_task.specs.Made.{MadeOf};
+ghost use Rattle.plan_certs.specs.Certificates.{IsAccepted};
+ghost use Rattle.controller_plan.specs.Judged.{IsNoPlanTold};
+ghost use Rattle.plan_certs.specs.Named.{
+  AreSetsOf,
+  IsCertificateOf,
+  IsSetOf,
+  MayHave,
+  cube_of,
+  plain_certificate,
+  set_of,
+};
+ghost use Rattle.plan_certs.specs.Readings.{SpellsPlain as SpellsCertificate};
+ghost use Rattle.plan_certs.specs.Texts.{certificate_text};
+ghost use Rattle.plan_command.specs.PlanCommand.{no_plan_text};
+ghost use Rattle.plan_rules.specs.Plans.{IsCubeOf};
+ghost use Rattle.std.specs.Prelude.{◌≡◌, ◌++◌, All, IfOk, IsSome, IsTrue, map, true};
+ghost use Rattle.task_core.specs.Tasks.{fluent_count, fluent_names, system_of};
+
+use command_base::Text;
+use dd_sets::SetErr;
+use encode_task::{Enc, encode};
+use plan_certs::{Certificate, StateSet, write_cert};
+use refute_cert::{Judged, refute};
+use std::alloc::{AllocError, Global};
+use task_core::{Class, Lit, Task};
+use task_sets::encode_ordered;
+
+/// The certificate of a class with these sets, of cubes.
+pub(crate) fn certificate_of(
+    alloc: Global,
+    class: Class,
+    sets: Vec<Vec<Vec<Lit>>>,
+) -> Result<Certificate, AllocError>
+    ensures { IfOk result (λ certificate. certificate.class ≡ class) }
+{
+    let mut state_sets = Vec::new(alloc);
+    for cubes in sets {
+        state_sets.push(StateSet { cubes })?;
+    }
+    Ok(Certificate {
+        class,
+        sets: state_sets,
+    })
+}
+
+/// Whether a certificate is accepted, in a table for so many nodes: over variables in an order that is
+/// chosen for the task, and where that fails, once more from nothing, over the fluents in their own
+/// order. It isn't where these fail.
+pub(crate) fn is_accepted(alloc: Global, nodes: u32, task: &Task, certificate: &Certificate) -> bool
+    requires room { IsNodeLimit nodes }
+    requires goal { IsSome task.now.goal }
+    requires in_task { AreSetsOf (fluent_count task.now) (plain_certificate certificate.now).sets }
+    ensures { IsTrue result
+        → IsAccepted (system_of task.now) (plain_certificate certificate.now) }
+{
+    match is_accepted_in_order(alloc, nodes, task, certificate) {
+        Ok(is) => is,
+        Err(_) => match is_accepted_plainly(alloc, nodes, task, certificate) {
+            Ok(is) => is,
+            Err(_) => false,
+        },
+    }
+}
+
+/// The first try: over variables in an order that is chosen for the task.
+fn is_accepted_in_order(
+    alloc: Global,
+    nodes: u32,
+    task: &Task,
+    certificate: &Certificate,
+) -> Result<bool, SetErr>
+    requires room { IsNodeLimit nodes }
+    requires goal { IsSome task.now.goal }
+    requires in_task { AreSetsOf (fluent_count task.now) (plain_certificate certificate.now).sets }
+    ensures { IfOk result (λ is. IsTrue is
+        → IsAccepted (system_of task.now) (plain_certificate certificate.now)) }
+{
+    let mut enc = encode_ordered(alloc, task, nodes)?;
+    is_accepted_over(alloc, task, &mut enc, certificate)
+}
+
+/// The second try: over the fluents in their own order.
+fn is_accepted_plainly(
+    alloc: Global,
+    nodes: u32,
+    task: &Task,
+    certificate: &Certificate,
+) -> Result<bool, SetErr>
+    requires room { IsNodeLimit nodes }
+    requires goal { IsSome task.now.goal }
+    requires in_task { AreSetsOf (fluent_count task.now) (plain_certificate certificate.now).sets }
+    ensures { IfOk result (λ is. IsTrue is
+        → IsAccepted (system_of task.now) (plain_certificate certificate.now)) }
+{
+    let mut enc = encode(alloc, task, nodes)?;
+    is_accepted_over(alloc, task, &mut enc, certificate)
+}
+
+/// The same over the task's sets.
+fn is_accepted_over(
+    alloc: Global,
+    task: &Task,
+    enc: &mut Enc,
+    certificate: &Certificate,
+) -> Result<bool, SetErr>
+    requires made { MadeOf task.now enc.old }
+    requires goal { IsSome task.now.goal }
+    requires in_task { AreSetsOf (fluent_count task.now) (plain_certificate certificate.now).sets }
+    ensures { IfOk result (λ is. IsTrue is
+        → IsAccepted (system_of task.now) (plain_certificate certificate.now)) }
+{
+    match refute(alloc, task, enc, certificate)? {
+        Judged::Accepted => Ok(true),
+        Judged::Rejected(_) => Ok(false),
+    }
+}
+
+/// What is shown where there is no plan, and where it is wanted the certificate of that.
+pub(crate) fn text_of_no_plan(
+    alloc: Global,
+    certified: bool,
+    certificate: &Certificate,
+    task: &Task,
+) -> Result<Text, AllocError>
+    requires { IsCertificateOf (fluent_count task.now) certificate.now }
+    ensures { IfOk result (IsNoPlanTold certified (fluent_names task.now)
+        (plain_certificate certificate.now)) }
+{
+    if !certified {
+        return Ok(Text::Fixed("no plan\n"));
+    }
+    certified_text(alloc, certificate, task)
+}
+
+/// The same with the certificate.
+fn certified_text(alloc: Global, certificate: &Certificate, task: &Task) -> Result<Text, AllocError>
+    requires { IsCertificateOf (fluent_count task.now) certificate.now }
+    ensures { IfOk result (IsNoPlanTold true (fluent_names task.now)
+        (plain_certificate certificate.now)) }
+{
+    joined_text(alloc, certificate, task)
+}
+
+/// That there is no plan, and then the text of a certificate.
+fn joined_text(alloc: Global, certificate: &Certificate, task: &Task) -> Result<Text, AllocError>
+    requires { IsCertificateOf (fluent_count task.now) certificate.now }
+    ensures text { IfOk result (λ text. bytes_of text ≡ no_plan_text
+        ++ certificate_text (fluent_names task.now) (plain_certificate certificate.now)) }
+    ensures spells { IfOk result (λ text. SpellsCertificate (fluent_names task.now)
+        (certificate_text (fluent_names task.now) (plain_certificate certificate.now))
+        (plain_certificate certificate.now)) }
+{
+    let written = write_cert(alloc, certificate, task)?;
+    let mut text = Vec::from_slice(alloc, b"no plan\n")?;
+    text.extend_from_slice(&written)?;
+    Ok(Text::Made(text))
+}
+
+/// Whether a certificate is over so many fluents, and has as many sets as its class may have.
+pub(crate) fn is_certificate_of(fluents: usize, certificate: &Certificate) -> bool
+    ensures { IsTrue result → IsCertificateOf fluents certificate.now }
+{
+    may_have(certificate.class, certificate.sets.len()) && are_sets_of(fluents, &certificate.sets)
+}
+
+/// Whether a certificate of a class may have so many sets.
+fn may_have(class: Class, sets: usize) -> bool
+    ensures { IsTrue result → MayHave class sets }
+{
+    match class {
+        Class::Weak => sets == 1,
+        Class::Strong => sets == 1,
+        Class::Cyclic => sets >= 1,
+    }
+}
+
+/// Whether sets are over so many fluents.
+fn are_sets_of(fluents: usize, sets: &[StateSet]) -> bool
+    ensures { IsTrue result → AreSetsOf fluents (map set_of sets.now) }
+{
+    for set in sets {
+        if !is_set_of(fluents, set) {
+            return false;
+        }
+    }
+    true
+}
+
+/// Whether a set is.
+fn is_set_of(fluents: usize, set: &StateSet) -> bool
+    ensures { IsTrue result → IsSetOf fluents (set_of set.now) }
+{
+    are_cubes_of(fluents, &set.cubes)
+}
+
+/// Whether cubes are.
+fn are_cubes_of(fluents: usize, cubes: &[Vec<Lit>]) -> bool
+    ensures { IsTrue result → IsSetOf fluents (map cube_of cubes.now) }
+{
+    for cube in cubes {
+        if !is_cube_of(fluents, cube) {
+            return false;
+        }
+    }
+    true
+}
+
+/// Whether literals are.
+fn is_cube_of(fluents: usize, cube: &[Lit]) -> bool
+    ensures { IsTrue result → IsCubeOf fluents cube.now }
+{
+    for literal in cube {
+        if literal.fluent.0 as usize >= fluents {
+            return false;
+        }
+    }
+    true
+}

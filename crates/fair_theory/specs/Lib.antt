@@ -1,0 +1,4 @@
+pub mod FairGoals
+pub mod FairSets
+pub mod FairPlans
+pub mod FairRuns

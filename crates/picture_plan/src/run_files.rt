@@ -1,0 +1,39 @@
+//! Reading a run out of its file.
+
+ghost use Rattle.command_base.specs.Answers.{no_memory, refused};
+ghost use Rattle.command_base.specs.Faults.{IsQuietAt};
+ghost use Rattle.command_base.specs.Reading.{Holds, IsRefusedFile};
+ghost use Rattle.command_base.specs.Values.{refusal_of};
+ghost use Rattle.picture_plan.specs.Pictures.{IsFaultyRun, SpellsRun};
+ghost use Rattle.plan_io.specs.Fetches.{FailedLast};
+ghost use Rattle.std.specs.Prelude.{◌≡◌, ◌≤◌, ◌⊎◌, IfErr, IfOk, List, OnOk, ℕ};
+
+use command_base::{Refusal, fetch, misread};
+use plan_io::Shelf;
+use plan_page::check_run;
+use std::alloc::Global;
+
+/// The bytes of the run in a file.
+pub(crate) fn read_run_file<S: Shelf>(
+    alloc: Global,
+    shelf: &mut S,
+    name: &str,
+) -> Result<Vec<u8>, Refusal>
+    ensures holds { IfOk result (λ run. Holds (S.held shelf.old) SpellsRun name.now run.items) }
+    ensures refused { let failed = FailedLast S.fetched S.faults shelf.old shelf.new in
+        IfErr result (λ refusal. (refusal_of refusal ≡ no_memory)
+        ⊎ IsRefusedFile (S.held shelf.old) failed IsFaultyRun name.now (refusal_of refusal)) }
+    ensures fetch { S.fetched shelf.old name.now shelf.new }
+    ensures quiet { OnOk result (S.faults shelf.new ≡ S.faults shelf.old) }
+    ensures quiet_at { IfErr result
+        (λ refusal. IsQuietAt (refused (refusal_of refusal)) (S.faults shelf.old)
+        (S.faults shelf.new)) }
+    ensures kept { (file : List ℕ) → S.held shelf.new file ≡ S.held shelf.old file }
+    ensures later { S.faults shelf.old ≤ S.faults shelf.new }
+{
+    let bytes = fetch(alloc, shelf, name)?;
+    match check_run(alloc, &bytes) {
+        Ok(()) => Ok(bytes),
+        Err(error) => Err(misread(alloc, name, error)?),
+    }
+}
