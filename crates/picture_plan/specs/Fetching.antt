@@ -9,7 +9,7 @@ use Rattle.command_base.specs.Words.{Bytes}
 use Rattle.pddl_ast.specs.Trees.{DomainTree, ProblemTree}
 use Rattle.pddl_system.specs.Sizes.{first_passed}
 use Rattle.pddl_system.specs.Systems.{action_names, fluent_names}
-use Rattle.picture_plan.specs.Words.{PictureForm, PictureWords, as_graph, as_page, as_page_with}
+use Rattle.picture_plan.specs.Words.{PictureForm, PictureWords, as_graph, as_page, as_page_with, as_rules}
 use Rattle.plan_io.specs.Fetches.{Fetches}
 use Rattle.plan_io.specs.Held.{Held}
 
@@ -30,6 +30,7 @@ AsksForRun held asked =
 -- the file of the run is fetched, where there is one
 abbrev pub FetchesRun : {S : Type 0} → (S → Bytes → S → Type 0) → PictureForm → S → S → Type 0
 FetchesRun fetched as_graph before after = after ≡ before
+FetchesRun fetched as_rules before after = after ≡ before
 FetchesRun fetched as_page before after = after ≡ before
 FetchesRun fetched (as_page_with run) before after = Fetches fetched (run ∷ []) before after
 

@@ -23,7 +23,8 @@ use Rattle.command_base.specs.Words.{Bytes}
 use Rattle.plan_page.specs.Handed.{HasRunFault, IsRunText}
 use Rattle.plan_page.specs.Pages.{no_run, page_of}
 use Rattle.plan_picture.specs.Texts.{picture_text}
-use Rattle.picture_plan.specs.Words.{PictureForm, PictureWords, as_graph, as_page, as_page_with}
+use Rattle.rule_picture.specs.Texts.{rules_text}
+use Rattle.picture_plan.specs.Words.{PictureForm, PictureWords, as_graph, as_page, as_page_with, as_rules}
 use Rattle.sexpr_text.specs.declared.faults.InputFault.{InputFault}
 
 -- how many configurations a picture may show as a text in the DOT language, and on a page
@@ -35,6 +36,7 @@ most_on_page = 20000
 
 abbrev pub most_for : PictureForm → ℕ
 most_for as_graph = most_shown
+most_for as_rules = most_shown
 most_for as_page = most_on_page
 most_for (as_page_with run) = most_on_page
 
@@ -42,12 +44,13 @@ most_for (as_page_with run) = most_on_page
 abbrev pub shown_text : PictureForm → List Name → List Name → System → PlainPlan → List PlainNode
     → Bytes → List ℕ
 shown_text as_graph fluents actions sys plan nodes run = picture_text fluents actions plan nodes
+shown_text as_rules fluents actions sys plan nodes run = rules_text fluents actions plan nodes
 shown_text as_page fluents actions sys plan nodes run = page_of fluents actions sys plan nodes run
 shown_text (as_page_with file) fluents actions sys plan nodes run =
     page_of fluents actions sys plan nodes run
 
 -- the text of the picture of a plan is shown: a node for exactly each configuration that it may
--- reach, and an edge for exactly each step that it may take there
+-- reach, and an edge for exactly each step that it may take there; rule by rule those of a rule are one
 pub record ShowsPicture (form : PictureForm) (fluents actions : List Name) (sys : System)
     (plan : PlainPlan) (run : Bytes) (answer : Answer) : Type 0 where
   pub nodes : List PlainNode
@@ -76,6 +79,7 @@ IsFaultyRun name bytes refusal =
 abbrev pub RunThen : (Bytes → Held) → (Bytes → Type 0) → PictureForm → (Bytes → Answer → Type 0)
     → Answer → Type 0
 RunThen held failed as_graph Then = Then no_run
+RunThen held failed as_rules Then = Then no_run
 RunThen held failed as_page Then = Then no_run
 RunThen held failed (as_page_with file) Then =
     ReadThen held failed file SpellsRun IsFaultyRun Then

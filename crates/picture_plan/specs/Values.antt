@@ -1,11 +1,12 @@
 -- Private: what the code's own types stand for.
-use Rattle.picture_plan.specs.Words.{PictureForm, PictureWords, as_graph, as_page, as_page_with}
+use Rattle.picture_plan.specs.Words.{PictureForm, PictureWords, as_graph, as_page, as_page_with, as_rules}
 use Rattle.picture_plan.specs.declared.words.PictureForm.{PictureForm as CodePictureForm}
-use Rattle.picture_plan.specs.declared.words.PictureForm.TheVariants.{Graph, Page, PageWith}
+use Rattle.picture_plan.specs.declared.words.PictureForm.TheVariants.{Graph, Page, PageWith, Rules}
 use Rattle.picture_plan.specs.declared.words.PictureWords.{PictureWords as CodePictureWords}
 
 abbrev pub form_value : CodePictureForm → PictureForm
 form_value Graph = as_graph
+form_value Rules = as_rules
 form_value Page = as_page
 form_value (PageWith run) = as_page_with run.now
 

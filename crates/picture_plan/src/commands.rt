@@ -60,6 +60,7 @@ use plan_io::Shelf;
 use plan_page::{NO_RUN, page_text};
 use plan_picture::{MAX_NODES, Picture, PictureErr, dot_text, picture_of};
 use plan_rules::Plan;
+use rule_picture::rules_text;
 use std::alloc::{AllocError, Global};
 use task_core::Task;
 
@@ -206,6 +207,7 @@ fn picture_plan<S: Shelf>(
 {
     match asked.form {
         PictureForm::Graph => drawn(alloc, asked, wanted, NO_RUN),
+        PictureForm::Rules => drawn(alloc, asked, wanted, NO_RUN),
         PictureForm::Page => drawn(alloc, asked, wanted, NO_RUN),
         PictureForm::PageWith(file) => {
             let run = read_run_file(alloc, shelf, file)?;
@@ -247,6 +249,7 @@ fn most_shown(form: PictureForm<'_>) -> u32
 {
     match form {
         PictureForm::Graph => MAX_NODES,
+        PictureForm::Rules => MAX_NODES,
         PictureForm::Page => MAX_PAGE_NODES,
         PictureForm::PageWith(_) => MAX_PAGE_NODES,
     }
@@ -260,6 +263,8 @@ fn shown_text(
     form: PictureForm<'_>,
     run: &[u8],
 ) -> Result<Vec<u8>, AllocError>
+    requires in_task { IsPlanOf (fluent_count wanted.now.task.now)
+        (action_count wanted.now.task.now) wanted.now.plan.now }
     requires few { length picture.now.nodes.items ≤ 262144 }
     ensures { let task = wanted.now.task.now in IfOk result (λ text. text.items
         ≡ text_of (form_value form.entry) (fluent_names task) (action_names task) (system_of task)
@@ -267,6 +272,7 @@ fn shown_text(
 {
     match form {
         PictureForm::Graph => dot_text(alloc, wanted.task, wanted.plan, picture),
+        PictureForm::Rules => rules_text(alloc, wanted.task, wanted.plan, picture),
         PictureForm::Page => page_text(alloc, wanted.task, wanted.plan, picture, run),
         PictureForm::PageWith(_) => page_text(alloc, wanted.task, wanted.plan, picture, run),
     }

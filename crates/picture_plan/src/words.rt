@@ -9,17 +9,31 @@ ghost use Rattle.picture_plan.specs.Words.{
   SaysPicture,
   form_words,
   wrong_after_page as wrong_in_rest,
+  wrong_after_rules as wrong_in_rules,
   wrong_picture as wrong_in,
 };
-ghost use Rattle.std.specs.Prelude.{◌≡◌, ◌∷◌, List, MatchOption, map, string_bytes};
+ghost use Rattle.std.specs.Prelude.{
+  ◌≡◌,
+  ◌∷◌,
+  List,
+  MatchOption,
+  codes,
+  false,
+  map,
+  string_bytes,
+  true,
+};
+ghost use Rattle.std.specs.Str.{bytes_eq};
 
 use answer_help::{NO_OPTION, ONE_TOO_MANY, WrongWords};
 
 /// How a plan is shown.
 #[derive(Clone, Copy)]
 pub(crate) enum PictureForm<'a> {
-    /// As a text in the DOT language.
+    /// As a text in the DOT language, state by state.
     Graph,
+    /// As a text in the DOT language, rule by rule.
+    Rules,
     /// As a page to step through it.
     Page,
     /// As a page that plays the run in the file of this name when it opens.
@@ -36,8 +50,8 @@ pub(crate) struct PictureWords<'a> {
     pub(crate) form: PictureForm<'a>,
 }
 
-/// What the words ask: `DOMAIN PROBLEM PLAN`, and `--page` after it for a page, and RUN after that
-/// for a run to play.
+/// What the words ask: `DOMAIN PROBLEM PLAN`, and `--by-rule` after it for a picture rule by rule, or
+/// `--page` for a page, and RUN after that for a run to play.
 pub(crate) fn read_words<'a>(words: &'a [String]) -> Option<PictureWords<'a>>
     ensures { let said = map string_bytes words.now in
         MatchOption result (AskNothing said) (λ asked. SaysPicture said (picture_words_of asked)) }
@@ -61,12 +75,39 @@ fn form_of<'a>(words: &'a [String]) -> Option<PictureForm<'a>>
 {
     match words {
         [] => Some(PictureForm::Graph),
-        [option, rest @ ..] => page_form(option, rest),
+        [option, rest @ ..] => form_with(option, rest),
     }
 }
 
 /// The form that the word of an option and the words after it ask for.
+fn form_with<'a>(option: &str, rest: &'a [String]) -> Option<PictureForm<'a>>
+    ensures { let said : List Bytes = option.now ∷ map string_bytes rest.now in
+        MatchOption result ((form : AskedForm) → said ≡ form_words form → ⊥)
+        (λ form. said ≡ form_words (form_value form)) }
+{
+    if option == "--by-rule" {
+        return rules_form(option, rest);
+    }
+    page_form(option, rest)
+}
+
+/// The form that is asked for rule by rule, if no words follow.
+fn rules_form<'a>(option: &str, rest: &'a [String]) -> Option<PictureForm<'a>>
+    requires { bytes_eq option.now (codes "--by-rule") ≡ true }
+    ensures { let said : List Bytes = option.now ∷ map string_bytes rest.now in
+        MatchOption result ((form : AskedForm) → said ≡ form_words form → ⊥)
+        (λ form. said ≡ form_words (form_value form)) }
+{
+    if rest.is_empty() {
+        Some(PictureForm::Rules)
+    } else {
+        None
+    }
+}
+
+/// The form of a page that the word of an option and the words after it ask for.
 fn page_form<'a>(option: &str, rest: &'a [String]) -> Option<PictureForm<'a>>
+    requires { bytes_eq option.now (codes "--by-rule") ≡ false }
     ensures { let said : List Bytes = option.now ∷ map string_bytes rest.now in
         MatchOption result ((form : AskedForm) → said ≡ form_words form → ⊥)
         (λ form. said ≡ form_words (form_value form)) }
@@ -91,9 +132,25 @@ pub(crate) fn wrong_picture<'a>(words: &'a [String]) -> WrongWords<'a>
     if option.as_str() == "--page" {
         return wrong_after_page(rest);
     }
+    if option.as_str() == "--by-rule" {
+        return wrong_after_rules(rest);
+    }
     WrongWords::Word {
         word: option,
         why: NO_OPTION,
+    }
+}
+
+/// What is wrong with the words after a picture rule by rule was asked for.
+fn wrong_after_rules<'a>(words: &'a [String]) -> WrongWords<'a>
+    ensures { wrong_of result ≡ wrong_in_rules (map string_bytes words.now) }
+{
+    let [word, ..] = words else {
+        return WrongWords::TooFew;
+    };
+    WrongWords::Word {
+        word,
+        why: ONE_TOO_MANY,
     }
 }
 

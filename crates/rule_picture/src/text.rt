@@ -1,0 +1,421 @@
+//! The text of a picture of a plan by its rules, in the DOT language.
+
+ghost use Rattle.indexmap.specs.IndexSet.{insert_all};
+ghost use Rattle.plan_picture.specs.Texts.{label_break, quoted};
+ghost use Rattle.plan_picture.specs.Values.{node_value, nodes_of, step_value};
+ghost use Rattle.plan_rules.specs.Plans.{IsCubeOf, IsPlanOf};
+ghost use Rattle.plan_rules.specs.Rules.{plain_of};
+ghost use Rattle.plan_rules.specs.Texts.{atom_text, literal_text, name_at};
+ghost use Rattle.rule_picture.specs.Texts.{
+  change_line,
+  change_lines,
+  context_line,
+  cube_lines,
+  edge_line,
+  edge_lines,
+  label_at,
+  lines_for,
+  literal_line,
+  place_line,
+  place_marks,
+  place_name,
+  name_for as name_of_node,
+  rule_label,
+  rules_text as text_by_rules,
+  start_line,
+  start_lines,
+  step_lines,
+};
+ghost use Rattle.rule_picture.specs.Values.{bytes_of, seen_value, seen_values};
+ghost use Rattle.std.specs.List.{flat_map};
+ghost use Rattle.std.specs.Prelude.{
+  ◌≡◌,
+  ◌<◌,
+  ◌≤◌,
+  ◌++◌,
+  [],
+  All,
+  IfOk,
+  OnOk,
+  decimal,
+  length,
+  map,
+  suc,
+};
+ghost use Rattle.std.specs.Rc.{rc_str_bytes};
+ghost use Rattle.std.specs.Str.{bytes_eq};
+ghost use Rattle.task_core.specs.Names.{name_bytes};
+ghost use Rattle.task_core.specs.States.{vector};
+ghost use Rattle.task_core.specs.Tasks.{action_count, action_names, fluent_count, fluent_names};
+
+use crate::lines::{add_line, push_lines};
+use crate::rules::{Seen, number_at, rules_of};
+use itoa::Buffer;
+use plan_picture::{Node, Picture, Step, action_name, push_label, push_text};
+use plan_rules::Plan;
+use std::alloc::{AllocError, Global};
+use std::rc::RcStr;
+use task_core::{FluentId, Lit, State, Task};
+
+/// The text of a picture of the plan by its rules, in the DOT language: a node for what each rule
+/// serves, and an edge for each change that a step makes between these.
+pub fn rules_text(
+    alloc: Global,
+    task: &Task,
+    plan: &Plan,
+    picture: &Picture,
+) -> Result<Vec<u8>, AllocError>
+    requires plan_of_task { IsPlanOf (fluent_count task.now) (action_count task.now) plan.now }
+    ensures { IfOk result (λ text. text.items
+        ≡ text_by_rules (fluent_names task.now) (action_names task.now) (plain_of plan.now)
+        (nodes_of (fluent_count task.now) picture.now)) }
+{
+    let rules = rules_of(alloc, plan)?;
+    let lines = all_lines(alloc, task, &rules, &picture.nodes)?;
+    let mut out = Vec::new(alloc);
+    push_text(&mut out, "digraph plan {\n  start [shape=point];\n")?;
+    push_lines(&mut out, &lines)?;
+    push_text(&mut out, "}\n")?;
+    Ok(out)
+}
+
+/// The lines for all nodes of a picture, each once.
+fn all_lines(
+    alloc: Global,
+    task: &Task,
+    rules: &[Seen<'_>],
+    nodes: &[Node],
+) -> Result<Vec<Vec<u8>>, AllocError>
+    requires { All (λ rule. IsCubeOf (fluent_count task.now) rule.cube) (seen_values rules.now) }
+    ensures { let n = fluent_count task.now in let shown = map (node_value n) nodes.now in
+        IfOk result (λ lines. bytes_of lines.items ≡ insert_all bytes_eq []
+        (flat_map (lines_for (fluent_names task.now) (action_names task.now)
+        (seen_values rules.now) shown) shown)) }
+{
+    let mut lines = Vec::new(alloc);
+    for node in nodes {
+        add_lines_for(alloc, &mut lines, task, rules, nodes, node)?;
+    }
+    Ok(lines)
+}
+
+/// Adds the lines for a node.
+fn add_lines_for(
+    alloc: Global,
+    lines: &mut Vec<Vec<u8>>,
+    task: &Task,
+    rules: &[Seen<'_>],
+    nodes: &[Node],
+    node: &Node,
+) -> Result<(), AllocError>
+    requires { All (λ rule. IsCubeOf (fluent_count task.now) rule.cube) (seen_values rules.now) }
+    ensures { let n = fluent_count task.now in let shown = map (node_value n) nodes.now in
+        OnOk result (bytes_of lines.new.items ≡ insert_all bytes_eq (bytes_of lines.old.items)
+        (lines_for (fluent_names task.now) (action_names task.now)
+        (seen_values rules.now) shown (node_value n node.now))) }
+{
+    add_line(lines, place_text(alloc, task, rules, node)?)?;
+    add_start(alloc, lines, task, rules, node)?;
+    add_steps(alloc, lines, task, rules, nodes, node)
+}
+
+/// Adds the line of an edge to a node where an execution may begin.
+fn add_start(
+    alloc: Global,
+    lines: &mut Vec<Vec<u8>>,
+    task: &Task,
+    rules: &[Seen<'_>],
+    node: &Node,
+) -> Result<(), AllocError>
+    requires { All (λ rule. IsCubeOf (fluent_count task.now) rule.cube) (seen_values rules.now) }
+    ensures { OnOk result (bytes_of lines.new.items ≡ insert_all bytes_eq (bytes_of lines.old.items)
+        (start_lines (seen_values rules.now) node.now.is_initial
+        (node_value (fluent_count task.now) node.now))) }
+{
+    if !node.is_initial {
+        return Ok(());
+    }
+    add_line(lines, start_text(alloc, task, rules, node)?)
+}
+
+/// Adds the lines of the steps from a node.
+fn add_steps(
+    alloc: Global,
+    lines: &mut Vec<Vec<u8>>,
+    task: &Task,
+    rules: &[Seen<'_>],
+    nodes: &[Node],
+    node: &Node,
+) -> Result<(), AllocError>
+    requires { All (λ rule. IsCubeOf (fluent_count task.now) rule.cube) (seen_values rules.now) }
+    ensures { let n = fluent_count task.now in let shown = map (node_value n) nodes.now in
+        OnOk result (bytes_of lines.new.items ≡ insert_all bytes_eq (bytes_of lines.old.items)
+        (flat_map (step_lines (fluent_names task.now) (seen_values rules.now) shown
+        (node_value n node.now)) (map step_value node.now.steps.items))) }
+{
+    for step in &node.steps {
+        add_step(alloc, lines, task, rules, nodes, node, step)?;
+    }
+    Ok(())
+}
+
+/// Adds the line of a step from a node.
+fn add_step(
+    alloc: Global,
+    lines: &mut Vec<Vec<u8>>,
+    task: &Task,
+    rules: &[Seen<'_>],
+    nodes: &[Node],
+    node: &Node,
+    step: &Step,
+) -> Result<(), AllocError>
+    requires { All (λ rule. IsCubeOf (fluent_count task.now) rule.cube) (seen_values rules.now) }
+    ensures { let n = fluent_count task.now in let shown = map (node_value n) nodes.now in
+        OnOk result (bytes_of lines.new.items ≡ insert_all bytes_eq (bytes_of lines.old.items)
+        (step_lines (fluent_names task.now) (seen_values rules.now) shown
+        (node_value n node.now) (step_value step.now))) }
+{
+    match nodes.get(step.target as usize) {
+        Some(target) => add_line(lines, edge_text(alloc, task, rules, node, target)?),
+        None => Ok(()),
+    }
+}
+
+/// The line of the node for a configuration.
+fn place_text(
+    alloc: Global,
+    task: &Task,
+    rules: &[Seen<'_>],
+    node: &Node,
+) -> Result<Vec<u8>, AllocError>
+    requires { All (λ rule. IsCubeOf (fluent_count task.now) rule.cube) (seen_values rules.now) }
+    ensures { IfOk result (λ line. line.items ≡ place_line (fluent_names task.now)
+        (action_names task.now) (seen_values rules.now) (node_value (fluent_count task.now) node.now)) }
+{
+    let number = number_at(task, rules, &node.state, node.context);
+    let mut line = Vec::from_slice(alloc, b"  ")?;
+    push_place(&mut line, number, node.is_goal)?;
+    push_marks(alloc, &mut line, task, rules, number, node.is_goal)?;
+    push_text(&mut line, "\n")?;
+    Ok(line)
+}
+
+/// The line of an edge to where an execution may begin.
+fn start_text(
+    alloc: Global,
+    task: &Task,
+    rules: &[Seen<'_>],
+    node: &Node,
+) -> Result<Vec<u8>, AllocError>
+    requires { All (λ rule. IsCubeOf (fluent_count task.now) rule.cube) (seen_values rules.now) }
+    ensures { IfOk result (λ line. line.items
+        ≡ start_line (seen_values rules.now) (node_value (fluent_count task.now) node.now)) }
+{
+    let mut line = Vec::from_slice(alloc, b"  start -> ")?;
+    push_name_for(&mut line, task, rules, node)?;
+    push_text(&mut line, ";\n")?;
+    Ok(line)
+}
+
+/// The line of an edge between the nodes for two configurations.
+fn edge_text(
+    alloc: Global,
+    task: &Task,
+    rules: &[Seen<'_>],
+    from: &Node,
+    to: &Node,
+) -> Result<Vec<u8>, AllocError>
+    requires { All (λ rule. IsCubeOf (fluent_count task.now) rule.cube) (seen_values rules.now) }
+    ensures { let n = fluent_count task.now in IfOk result (λ line. line.items
+        ≡ edge_line (fluent_names task.now) (seen_values rules.now) (node_value n from.now)
+        (node_value n to.now)) }
+{
+    let mut line = Vec::from_slice(alloc, b"  ")?;
+    push_name_for(&mut line, task, rules, from)?;
+    push_text(&mut line, " -> ")?;
+    push_name_for(&mut line, task, rules, to)?;
+    push_text(&mut line, " [label=\"")?;
+    push_changes(alloc, &mut line, &task.fluents, &from.state, &to.state)?;
+    push_text(&mut line, "\"];\n")?;
+    Ok(line)
+}
+
+/// Appends the name of the node for a configuration.
+fn push_name_for(
+    out: &mut Vec<u8>,
+    task: &Task,
+    rules: &[Seen<'_>],
+    node: &Node,
+) -> Result<(), AllocError>
+    requires { All (λ rule. IsCubeOf (fluent_count task.now) rule.cube) (seen_values rules.now) }
+    ensures { OnOk result (out.new.items ≡ out.old.items
+        ++ name_of_node (seen_values rules.now) (node_value (fluent_count task.now) node.now)) }
+{
+    let number = number_at(task, rules, &node.state, node.context);
+    push_place(out, number, node.is_goal)
+}
+
+/// Appends the name of the node for what the rule of a number serves.
+fn push_place(out: &mut Vec<u8>, number: Option<usize>, is_goal: bool) -> Result<(), AllocError>
+    requires { IfSome number (λ number. number < 18446744073709551615) }
+    ensures { OnOk result (out.new.items ≡ out.old.items ++ place_name number is_goal) }
+{
+    match (number, is_goal) {
+        (Some(number), _) => {
+            push_text(out, "r")?;
+            push_number(out, number + 1)
+        }
+        (None, true) => push_text(out, "goal"),
+        (None, false) => push_text(out, "end"),
+    }
+}
+
+/// Appends a number in decimal.
+fn push_number(out: &mut Vec<u8>, number: usize) -> Result<(), AllocError>
+    ensures { OnOk result (out.new.items ≡ out.old.items ++ decimal number) }
+{
+    let mut buffer = Buffer::new();
+    push_text(out, buffer.format(number))
+}
+
+/// Appends what a node looks like.
+fn push_marks(
+    alloc: Global,
+    out: &mut Vec<u8>,
+    task: &Task,
+    rules: &[Seen<'_>],
+    number: Option<usize>,
+    is_goal: bool,
+) -> Result<(), AllocError>
+    requires cubes { All (λ rule. IsCubeOf (fluent_count task.now) rule.cube)
+        (seen_values rules.now) }
+    requires within { IfSome number (λ number. number < length rules.now) }
+    ensures { OnOk result (out.new.items ≡ out.old.items
+        ++ place_marks (fluent_names task.now) (action_names task.now) (seen_values rules.now)
+        number is_goal) }
+{
+    match (number, is_goal) {
+        (Some(number), _) => {
+            push_text(out, " [label=\"")?;
+            push_rule(alloc, out, task, number, &rules[number])?;
+            push_text(out, "\"];")
+        }
+        (None, true) => push_text(out, " [peripheries=2];"),
+        (None, false) => push_text(out, " [shape=octagon style=dashed];"),
+    }
+}
+
+/// Appends what is said of a rule.
+fn push_rule(
+    alloc: Global,
+    out: &mut Vec<u8>,
+    task: &Task,
+    number: usize,
+    rule: &Seen<'_>,
+) -> Result<(), AllocError>
+    requires cube { IsCubeOf (fluent_count task.now) rule.now.cube.now }
+    requires number { number < 18446744073709551615 }
+    ensures { OnOk result (out.new.items ≡ out.old.items
+        ++ rule_label (fluent_names task.now) (action_names task.now) number
+        (seen_value rule.now)) }
+{
+    push_text(out, "rule ")?;
+    push_number(out, number + 1)?;
+    push_text(out, "\\n")?;
+    push_context_of(out, rule.context)?;
+    push_cube(alloc, out, &task.fluents, rule.cube)?;
+    push_label(alloc, out, action_name(task, rule.action))?;
+    push_text(out, "\\n")
+}
+
+/// Appends a line of a label with the context of a rule, where the plan has contexts.
+fn push_context_of(out: &mut Vec<u8>, context: Option<u32>) -> Result<(), AllocError>
+    ensures { OnOk result (out.new.items ≡ out.old.items ++ context_line context) }
+{
+    match context {
+        Some(context) => {
+            push_text(out, "context ")?;
+            push_number(out, context as usize)?;
+            push_text(out, "\\n")
+        }
+        None => Ok(()),
+    }
+}
+
+/// Appends a line of a label for each literal.
+fn push_cube(
+    alloc: Global,
+    out: &mut Vec<u8>,
+    fluents: &[Vec<RcStr>],
+    cube: &[Lit],
+) -> Result<(), AllocError>
+    requires { IsCubeOf (length fluents.now) cube.now }
+    ensures { OnOk result (out.new.items
+        ≡ out.old.items ++ cube_lines (map name_bytes fluents.now) cube.now) }
+{
+    for lit in cube {
+        push_literal(alloc, out, fluents, lit)?;
+    }
+    Ok(())
+}
+
+/// Appends a line of a label with a literal.
+fn push_literal(
+    alloc: Global,
+    out: &mut Vec<u8>,
+    fluents: &[Vec<RcStr>],
+    lit: &Lit,
+) -> Result<(), AllocError>
+    requires { lit.now.fluent.0 < length fluents.now }
+    ensures { OnOk result (out.new.items
+        ≡ out.old.items ++ literal_line (map name_bytes fluents.now) lit.now) }
+{
+    let name = &fluents[lit.fluent.0 as usize];
+    if lit.positive {
+        push_label(alloc, out, name)?;
+        return push_text(out, "\\n");
+    }
+    push_text(out, "(not ")?;
+    push_label(alloc, out, name)?;
+    push_text(out, ")\\n")
+}
+
+/// Appends what changes from one state to another.
+fn push_changes(
+    alloc: Global,
+    out: &mut Vec<u8>,
+    fluents: &[Vec<RcStr>],
+    old: &State,
+    new: &State,
+) -> Result<(), AllocError>
+    requires { length fluents.now ≤ 256 }
+    ensures { OnOk result (out.new.items ≡ out.old.items
+        ++ change_lines (map name_bytes fluents.now) (vector (length fluents.now) old.now)
+        (vector (length fluents.now) new.now)) }
+{
+    for (i, name) in fluents.iter().enumerate() {
+        let fluent = FluentId(i as u32);
+        push_change(alloc, out, name, old.get(fluent), new.get(fluent))?;
+    }
+    Ok(())
+}
+
+/// Appends a line of a label where a fluent changes.
+fn push_change(
+    alloc: Global,
+    out: &mut Vec<u8>,
+    name: &[RcStr],
+    old: bool,
+    new: bool,
+) -> Result<(), AllocError>
+    ensures { OnOk result (out.new.items
+        ≡ out.old.items ++ change_line (map rc_str_bytes name.now) old new) }
+{
+    match (old, new) {
+        (false, true) => push_text(out, "+ ")?,
+        (true, false) => push_text(out, "- ")?,
+        _ => return Ok(()),
+    }
+    push_label(alloc, out, name)?;
+    push_text(out, "\\n")
+}
