@@ -1,6 +1,5 @@
 -- The rules of a plan as a picture shows them, and which of them counts where.
-use Rattle.std.specs.Prelude.{ℕ, ◌==◌, ◌&&◌, Bool, true, List, Option, None, Some, map}
-use Rattle.std.specs.List.{position}
+use Rattle.std.specs.Prelude.{ℕ, suc, ◌==◌, ◌&&◌, if◌then◌else◌, Bool, true, List, [], ◌∷◌, Option, None, Some, map}
 use Rattle.task_core.specs.ContextPlans.{Configuration}
 use Rattle.task_core.specs.Cubes.{Cube, matches}
 use Rattle.plan_rules.specs.Rules.{ContextRule, PlainPlan, PlanRule, table, automaton}
@@ -32,6 +31,11 @@ is_in_context (Some own) context = own == context
 abbrev pub is_for : Configuration → SeenRule → Bool
 is_for x rule = is_in_context rule.context x.context && matches rule.cube x.state
 
+-- the number of the first rule that is for a configuration, where the rules are counted from k on
+abbrev pub first_for : Configuration → ℕ → List SeenRule → Option ℕ
+first_for x k [] = None
+first_for x k (rule ∷ rules) = if is_for x rule then Some k else first_for x (suc k) rules
+
 -- the number of the rule that counts at a configuration, from 0: the first that is for it
 abbrev pub rule_number : List SeenRule → Configuration → Option ℕ
-rule_number rules x = position (is_for x) rules
+rule_number rules x = first_for x 0 rules
