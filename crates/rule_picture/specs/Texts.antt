@@ -55,21 +55,26 @@ rule_label fluents actions number rule =
     ++ cube_lines fluents rule.cube
     ++ quoted (atom_text (name_at actions rule.action)) ++ label_break
 
--- what is said of the rule of a number; nothing past the last
-abbrev pub label_at : List Name → List Name → List SeenRule → ℕ → List ℕ
-label_at fluents actions rules number =
-    label_of (slice_get rules number)
-  where
-    label_of : Option SeenRule → List ℕ
-    label_of None = []
-    label_of (Some rule) = rule_label fluents actions number rule
+-- the same, where there is such a rule
+abbrev pub label_of : List Name → List Name → ℕ → Option SeenRule → List ℕ
+label_of fluents actions number None = []
+label_of fluents actions number (Some rule) = rule_label fluents actions number rule
+
+-- what the node for a rule looks like
+abbrev pub rule_marks : List Name → List Name → ℕ → Option SeenRule → List ℕ
+rule_marks fluents actions number rule =
+    codes " [label=\"" ++ label_of fluents actions number rule ++ codes "\"];"
+
+-- what the node for the goal states, or for the other states, looks like in which no rule counts
+abbrev pub end_marks : (goal : Bool) → List ℕ
+end_marks true = codes " [peripheries=2];"
+end_marks false = codes " [shape=octagon style=dashed];"
 
 -- what a node looks like
 abbrev pub place_marks : List Name → List Name → List SeenRule → Option ℕ → Bool → List ℕ
 place_marks fluents actions rules (Some number) goal =
-    codes " [label=\"" ++ label_at fluents actions rules number ++ codes "\"];"
-place_marks fluents actions rules None true = codes " [peripheries=2];"
-place_marks fluents actions rules None false = codes " [shape=octagon style=dashed];"
+    rule_marks fluents actions number (slice_get rules number)
+place_marks fluents actions rules None goal = end_marks goal
 
 -- the line of the node for a configuration
 abbrev pub place_line : List Name → List Name → List SeenRule → PlainNode → List ℕ
@@ -98,10 +103,15 @@ abbrev pub change_lines : List Name → (old new : Vector) → List ℕ
 change_lines fluents old new =
     numbered (λ i name. change_line name (value_of old i) (value_of new i)) 0 fluents
 
--- the line of an edge between the nodes for two configurations
+-- an edge between the nodes for two configurations, up to its label
+abbrev pub edge_front : List SeenRule → PlainNode → PlainNode → List ℕ
+edge_front rules from to =
+    codes "  " ++ name_for rules from ++ codes " -> " ++ name_for rules to ++ codes " [label=\""
+
+-- the line of an edge
 abbrev pub edge_line : List Name → List SeenRule → PlainNode → PlainNode → List ℕ
 edge_line fluents rules from to =
-    codes "  " ++ name_for rules from ++ codes " -> " ++ name_for rules to ++ codes " [label=\""
+    edge_front rules from to
     ++ change_lines fluents from.configuration.state to.configuration.state
     ++ codes "\"];" ++ line_feed
 

@@ -28,8 +28,9 @@ pub(crate) struct Seen<'a> {
 }
 
 /// The rules of a plan, in the order of its text.
+
 pub(crate) fn rules_of<'a>(alloc: Global, plan: &'a Plan) -> Result<Vec<Seen<'a>>, AllocError>
-    ensures { IfOk result (λ rules. seen_values rules.items ≡ seen_rules (plain_of plan.now)) }
+    ensures rules { IfOk result (λ rules. seen_values rules.items ≡ seen_rules (plain_of plan.now)) }
 {
     match plan {
         Plan::Table(table) => rules_of_table(alloc, &table.rules),
@@ -90,7 +91,7 @@ pub(crate) fn number_at(
     state: &State,
     context: u32,
 ) -> Option<usize>
-    requires { All (λ rule. IsCubeOf (fluent_count task.now) rule.cube) (seen_values rules.now) }
+    requires { All (λ rule. IsCubeOf (fluent_count task.now) rule.cube.now) rules.now }
     ensures number { result ≡ rule_number (seen_values rules.now)
         (record { state = vector (fluent_count task.now) state.now; context = context }) }
     ensures within { IfSome result (λ number. number < length rules.now) }

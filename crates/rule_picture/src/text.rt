@@ -7,13 +7,15 @@ ghost use Rattle.plan_rules.specs.Plans.{IsCubeOf, IsPlanOf};
 ghost use Rattle.plan_rules.specs.Rules.{plain_of};
 ghost use Rattle.plan_rules.specs.Texts.{atom_text, literal_text, name_at};
 ghost use Rattle.rule_picture.specs.Texts.{
+  all_lines as lines_of_all,
   change_line,
   change_lines,
   context_line,
   cube_lines,
+  edge_front,
   edge_line,
   edge_lines,
-  label_at,
+  end_marks,
   lines_for,
   literal_line,
   place_line,
@@ -21,6 +23,7 @@ ghost use Rattle.rule_picture.specs.Texts.{
   place_name,
   name_for as name_of_node,
   rule_label,
+  rule_marks,
   rules_text as text_by_rules,
   start_line,
   start_lines,
@@ -36,11 +39,15 @@ ghost use Rattle.std.specs.Prelude.{
   [],
   All,
   IfOk,
+  IfSome,
+  List,
   OnOk,
+  Some,
   decimal,
   length,
   map,
   suc,
+  ℕ,
 };
 ghost use Rattle.std.specs.Rc.{rc_str_bytes};
 ghost use Rattle.std.specs.Str.{bytes_eq};
@@ -59,6 +66,7 @@ use task_core::{FluentId, Lit, State, Task};
 
 /// The text of a picture of the plan by its rules, in the DOT language: a node for what each rule
 /// serves, and an edge for each change that a step makes between these.
+#[tactic(auto, using(crate::proofs::Cubes::cubes_in_task))]
 pub fn rules_text(
     alloc: Global,
     task: &Task,
@@ -71,12 +79,29 @@ pub fn rules_text(
         (nodes_of (fluent_count task.now) picture.now)) }
 {
     let rules = rules_of(alloc, plan)?;
-    let lines = all_lines(alloc, task, &rules, &picture.nodes)?;
     let mut out = Vec::new(alloc);
-    push_text(&mut out, "digraph plan {\n  start [shape=point];\n")?;
-    push_lines(&mut out, &lines)?;
+    push_text(&mut out, "digraph plan {\n")?;
+    push_text(&mut out, "  start [shape=point];\n")?;
+    push_all(alloc, &mut out, task, &rules, &picture.nodes)?;
     push_text(&mut out, "}\n")?;
     Ok(out)
+}
+
+/// Appends the lines for all nodes of a picture, each once.
+fn push_all(
+    alloc: Global,
+    out: &mut Vec<u8>,
+    task: &Task,
+    rules: &[Seen<'_>],
+    nodes: &[Node],
+) -> Result<(), AllocError>
+    requires { All (λ rule. IsCubeOf (fluent_count task.now) rule.cube.now) rules.now }
+    ensures { OnOk result (out.new.items ≡ out.old.items ++ flat_map (λ (line : List ℕ). line)
+        (lines_of_all (fluent_names task.now) (action_names task.now) (seen_values rules.now)
+        (map (node_value (fluent_count task.now)) nodes.now))) }
+{
+    let lines = all_lines(alloc, task, rules, nodes)?;
+    push_lines(out, &lines)
 }
 
 /// The lines for all nodes of a picture, each once.
@@ -86,11 +111,10 @@ fn all_lines(
     rules: &[Seen<'_>],
     nodes: &[Node],
 ) -> Result<Vec<Vec<u8>>, AllocError>
-    requires { All (λ rule. IsCubeOf (fluent_count task.now) rule.cube) (seen_values rules.now) }
+    requires { All (λ rule. IsCubeOf (fluent_count task.now) rule.cube.now) rules.now }
     ensures { let n = fluent_count task.now in let shown = map (node_value n) nodes.now in
-        IfOk result (λ lines. bytes_of lines.items ≡ insert_all bytes_eq []
-        (flat_map (lines_for (fluent_names task.now) (action_names task.now)
-        (seen_values rules.now) shown) shown)) }
+        IfOk result (λ lines. bytes_of lines.items ≡ lines_of_all (fluent_names task.now)
+        (action_names task.now) (seen_values rules.now) shown) }
 {
     let mut lines = Vec::new(alloc);
     for node in nodes {
@@ -108,7 +132,7 @@ fn add_lines_for(
     nodes: &[Node],
     node: &Node,
 ) -> Result<(), AllocError>
-    requires { All (λ rule. IsCubeOf (fluent_count task.now) rule.cube) (seen_values rules.now) }
+    requires { All (λ rule. IsCubeOf (fluent_count task.now) rule.cube.now) rules.now }
     ensures { let n = fluent_count task.now in let shown = map (node_value n) nodes.now in
         OnOk result (bytes_of lines.new.items ≡ insert_all bytes_eq (bytes_of lines.old.items)
         (lines_for (fluent_names task.now) (action_names task.now)
@@ -127,7 +151,7 @@ fn add_start(
     rules: &[Seen<'_>],
     node: &Node,
 ) -> Result<(), AllocError>
-    requires { All (λ rule. IsCubeOf (fluent_count task.now) rule.cube) (seen_values rules.now) }
+    requires { All (λ rule. IsCubeOf (fluent_count task.now) rule.cube.now) rules.now }
     ensures { OnOk result (bytes_of lines.new.items ≡ insert_all bytes_eq (bytes_of lines.old.items)
         (start_lines (seen_values rules.now) node.now.is_initial
         (node_value (fluent_count task.now) node.now))) }
@@ -147,7 +171,7 @@ fn add_steps(
     nodes: &[Node],
     node: &Node,
 ) -> Result<(), AllocError>
-    requires { All (λ rule. IsCubeOf (fluent_count task.now) rule.cube) (seen_values rules.now) }
+    requires { All (λ rule. IsCubeOf (fluent_count task.now) rule.cube.now) rules.now }
     ensures { let n = fluent_count task.now in let shown = map (node_value n) nodes.now in
         OnOk result (bytes_of lines.new.items ≡ insert_all bytes_eq (bytes_of lines.old.items)
         (flat_map (step_lines (fluent_names task.now) (seen_values rules.now) shown
@@ -169,7 +193,7 @@ fn add_step(
     node: &Node,
     step: &Step,
 ) -> Result<(), AllocError>
-    requires { All (λ rule. IsCubeOf (fluent_count task.now) rule.cube) (seen_values rules.now) }
+    requires { All (λ rule. IsCubeOf (fluent_count task.now) rule.cube.now) rules.now }
     ensures { let n = fluent_count task.now in let shown = map (node_value n) nodes.now in
         OnOk result (bytes_of lines.new.items ≡ insert_all bytes_eq (bytes_of lines.old.items)
         (step_lines (fluent_names task.now) (seen_values rules.now) shown
@@ -188,7 +212,7 @@ fn place_text(
     rules: &[Seen<'_>],
     node: &Node,
 ) -> Result<Vec<u8>, AllocError>
-    requires { All (λ rule. IsCubeOf (fluent_count task.now) rule.cube) (seen_values rules.now) }
+    requires { All (λ rule. IsCubeOf (fluent_count task.now) rule.cube.now) rules.now }
     ensures { IfOk result (λ line. line.items ≡ place_line (fluent_names task.now)
         (action_names task.now) (seen_values rules.now) (node_value (fluent_count task.now) node.now)) }
 {
@@ -207,7 +231,7 @@ fn start_text(
     rules: &[Seen<'_>],
     node: &Node,
 ) -> Result<Vec<u8>, AllocError>
-    requires { All (λ rule. IsCubeOf (fluent_count task.now) rule.cube) (seen_values rules.now) }
+    requires { All (λ rule. IsCubeOf (fluent_count task.now) rule.cube.now) rules.now }
     ensures { IfOk result (λ line. line.items
         ≡ start_line (seen_values rules.now) (node_value (fluent_count task.now) node.now)) }
 {
@@ -225,19 +249,53 @@ fn edge_text(
     from: &Node,
     to: &Node,
 ) -> Result<Vec<u8>, AllocError>
-    requires { All (λ rule. IsCubeOf (fluent_count task.now) rule.cube) (seen_values rules.now) }
+    requires { All (λ rule. IsCubeOf (fluent_count task.now) rule.cube.now) rules.now }
     ensures { let n = fluent_count task.now in IfOk result (λ line. line.items
         ≡ edge_line (fluent_names task.now) (seen_values rules.now) (node_value n from.now)
         (node_value n to.now)) }
 {
-    let mut line = Vec::from_slice(alloc, b"  ")?;
-    push_name_for(&mut line, task, rules, from)?;
-    push_text(&mut line, " -> ")?;
-    push_name_for(&mut line, task, rules, to)?;
-    push_text(&mut line, " [label=\"")?;
-    push_changes(alloc, &mut line, &task.fluents, &from.state, &to.state)?;
-    push_text(&mut line, "\"];\n")?;
+    let mut line = Vec::new(alloc);
+    push_edge(alloc, &mut line, task, rules, from, to)?;
     Ok(line)
+}
+
+/// Appends the line of an edge between the nodes for two configurations.
+fn push_edge(
+    alloc: Global,
+    out: &mut Vec<u8>,
+    task: &Task,
+    rules: &[Seen<'_>],
+    from: &Node,
+    to: &Node,
+) -> Result<(), AllocError>
+    requires { All (λ rule. IsCubeOf (fluent_count task.now) rule.cube.now) rules.now }
+    ensures { let n = fluent_count task.now in OnOk result (out.new.items ≡ out.old.items
+        ++ edge_line (fluent_names task.now) (seen_values rules.now) (node_value n from.now)
+        (node_value n to.now)) }
+{
+    push_edge_front(out, task, rules, from, to)?;
+    push_changes(alloc, out, &task.fluents, &from.state, &to.state)?;
+    push_text(out, "\"];\n")?;
+    Ok(())
+}
+
+/// Appends an edge between the nodes for two configurations, up to its label.
+fn push_edge_front(
+    out: &mut Vec<u8>,
+    task: &Task,
+    rules: &[Seen<'_>],
+    from: &Node,
+    to: &Node,
+) -> Result<(), AllocError>
+    requires { All (λ rule. IsCubeOf (fluent_count task.now) rule.cube.now) rules.now }
+    ensures { let n = fluent_count task.now in OnOk result (out.new.items ≡ out.old.items
+        ++ edge_front (seen_values rules.now) (node_value n from.now) (node_value n to.now)) }
+{
+    push_text(out, "  ")?;
+    push_name_for(out, task, rules, from)?;
+    push_text(out, " -> ")?;
+    push_name_for(out, task, rules, to)?;
+    push_text(out, " [label=\"")
 }
 
 /// Appends the name of the node for a configuration.
@@ -247,7 +305,7 @@ fn push_name_for(
     rules: &[Seen<'_>],
     node: &Node,
 ) -> Result<(), AllocError>
-    requires { All (λ rule. IsCubeOf (fluent_count task.now) rule.cube) (seen_values rules.now) }
+    requires { All (λ rule. IsCubeOf (fluent_count task.now) rule.cube.now) rules.now }
     ensures { OnOk result (out.new.items ≡ out.old.items
         ++ name_of_node (seen_values rules.now) (node_value (fluent_count task.now) node.now)) }
 {
@@ -279,6 +337,7 @@ fn push_number(out: &mut Vec<u8>, number: usize) -> Result<(), AllocError>
 }
 
 /// Appends what a node looks like.
+#[tactic(auto, using(crate::proofs::Counting::got))]
 fn push_marks(
     alloc: Global,
     out: &mut Vec<u8>,
@@ -287,21 +346,46 @@ fn push_marks(
     number: Option<usize>,
     is_goal: bool,
 ) -> Result<(), AllocError>
-    requires cubes { All (λ rule. IsCubeOf (fluent_count task.now) rule.cube)
-        (seen_values rules.now) }
+    requires cubes { All (λ rule. IsCubeOf (fluent_count task.now) rule.cube.now) rules.now }
     requires within { IfSome number (λ number. number < length rules.now) }
     ensures { OnOk result (out.new.items ≡ out.old.items
         ++ place_marks (fluent_names task.now) (action_names task.now) (seen_values rules.now)
         number is_goal) }
 {
-    match (number, is_goal) {
-        (Some(number), _) => {
-            push_text(out, " [label=\"")?;
-            push_rule(alloc, out, task, number, &rules[number])?;
-            push_text(out, "\"];")
-        }
-        (None, true) => push_text(out, " [peripheries=2];"),
-        (None, false) => push_text(out, " [shape=octagon style=dashed];"),
+    match number {
+        Some(number) => push_rule_marks(alloc, out, task, number, &rules[number]),
+        None => push_end_marks(out, is_goal),
+    }
+}
+
+/// Appends what the node for a rule looks like.
+fn push_rule_marks(
+    alloc: Global,
+    out: &mut Vec<u8>,
+    task: &Task,
+    number: usize,
+    rule: &Seen<'_>,
+) -> Result<(), AllocError>
+    requires cube { IsCubeOf (fluent_count task.now) rule.now.cube.now }
+    requires number { number < 18446744073709551615 }
+    ensures { OnOk result (out.new.items ≡ out.old.items
+        ++ rule_marks (fluent_names task.now) (action_names task.now) number
+        (Some (seen_value rule.now))) }
+{
+    push_text(out, " [label=\"")?;
+    push_rule(alloc, out, task, number, rule)?;
+    push_text(out, "\"];")
+}
+
+/// Appends what the node for the goal states, or for the other states, looks like in which no rule
+/// counts.
+fn push_end_marks(out: &mut Vec<u8>, is_goal: bool) -> Result<(), AllocError>
+    ensures { OnOk result (out.new.items ≡ out.old.items ++ end_marks is_goal) }
+{
+    if is_goal {
+        push_text(out, " [peripheries=2];")
+    } else {
+        push_text(out, " [shape=octagon style=dashed];")
     }
 }
 

@@ -8,5 +8,5 @@ use Rattle.rule_picture.proofs.rules.number_at.Given as goal
 
 abbrev pub invariant-loop-number : goal.invariant-loop-number
 invariant-loop-number l =
-    first_for (record { state = vector (fluent_count l.task) l.state; context = l.context }) l.number (drop l.number (seen_values l.rules))
+    first_for (record { state = vector (fluent_count l.task) l.state; context = l.context }) l.number (seen_values (drop l.number l.rules))
     ≡ rule_number (seen_values l.rules) (record { state = vector (fluent_count l.task) l.state; context = l.context })

@@ -1,0 +1,4 @@
+mod Counting
+mod Cubes
+mod Inserted
+mod Joined
