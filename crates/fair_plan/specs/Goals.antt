@@ -1,5 +1,5 @@
 -- Which goals a search takes.
-use Rattle.std.specs.Prelude.{◌≡◌, ℕ, ◌≤◌, true, All, List, length}
+use Rattle.std.specs.Prelude.{◌≡◌, ℕ, ◌+◌, ◌≤◌, true, All, List, length}
 use Rattle.ctl_syntax.specs.GoalValues.{EachInUntil}
 use Rattle.ctl_syntax.specs.declared.context_goals.ContextGoal.{ContextGoal}
 use Rattle.ctl_syntax.specs.declared.context_goals.ContextGoal.TheVariants.{Until, Patrol}
@@ -34,3 +34,12 @@ pub record IsPatrolOver (fluents : ℕ) (visits : List Cond) : Type 0 where
 abbrev pub IsFairGoalOver : ℕ → ContextGoal → Type 0
 IsFairGoalOver fluents (Until chain) = IsChainOver fluents chain
 IsFairGoalOver fluents (Patrol visits) = IsPatrolOver fluents visits.items
+
+-- how many stages or visits a goal has, and how many contexts a plan for it
+abbrev pub count_of : ContextGoal → ℕ
+count_of (Until chain) = length chain.stages.items
+count_of (Patrol visits) = length visits.items
+
+abbrev pub contexts_of : ContextGoal → ℕ
+contexts_of (Until chain) = length chain.stages.items + 1
+contexts_of (Patrol visits) = length visits.items

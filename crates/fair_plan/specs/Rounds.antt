@@ -2,19 +2,26 @@
 -- before a pass, at 2 those from which a target can be come to, at 3 those from which one can stay
 -- among those of the round, at 4 the states of the round, at 5 those that are left, and at 6 the
 -- guard; and from 8 on, for each action, the states in which it may be taken.
-use Rattle.std.specs.Prelude.{◌≡◌, ℕ, ◌+◌, ◌<◌, ◌≤◌, Bool, true, ◌&&◌, ◌||◌, length, get_or, List}
+use Rattle.std.specs.Prelude.{◌≡◌, ℕ, ◌+◌, ◌<◌, ◌≤◌, Bool, true, false, ◌&&◌, ◌||◌, length, get_or, List, All, map}
 use Rattle.std.specs.List.{Contains}
+use Rattle.ctl_syntax.specs.Conditions.{states_of}
 use Rattle.dd_nodes.specs.NodeList.{Values}
 use Rattle.dd_nodes.specs.Subfunctions.{Function}
-use Rattle.dd_ops.specs.Operations.{and_of}
+use Rattle.dd_ops.specs.Operations.{and_of, or_of}
 use Rattle.fair_theory.specs.FairSets.{Asked, CanComeTo, HasAllComing, IsFairBound, anywhere}
-use Rattle.preimage.specs.Preimages.{strong_preimage}
+use Rattle.preimage.specs.Preimages.{strong_preimage, weak_preimage}
 use Rattle.preimage.specs.WorkingSets.{some_below}
 use Rattle.plan_theory.specs.Layers.{may_lead, must_lead}
 use Rattle.plan_theory.specs.Safe.{some_must_lead}
 use Rattle.task_core.specs.Cubes.{SetOfVectors}
 use Rattle.task_core.specs.Systems.{IsVector}
+use Rattle.plan_theory.specs.UntilChains.{SetStage}
+use Rattle.plan_rules.specs.Plans.{IsContextRuleOf}
+use Rattle.plan_rules.specs.Rules.{context_rule_of}
+use Rattle.plan_rules.specs.declared.rules.AutoRule.{AutoRule}
+use Rattle.task_core.specs.Tasks.{fluent_count}
 use Rattle.task_core.specs.Vectors.{Vector, value_of}
+use Rattle.task_core.specs.declared.conditions.Cond.{Cond}
 use Rattle.fair_plan.specs.Boards.{Scene, Search, actions_of, set_in, states_in, sys_of}
 use Rattle.fair_plan.specs.Places.{pairs_end}
 
@@ -27,6 +34,14 @@ Keeps search x y from changed =
 abbrev pub led_at : Search → Scene → ℕ → Function
 led_at search x a = strong_preimage search.start.task a (set_in x 4)
 
+-- the states in which one action may be taken stand at its place, and those from which it stays among
+-- those of the round are joined to what stood at 3
+pub record PairsOne (search : Search) (x y : Scene) (a : ℕ) : Type 0 where
+  pub others : (k : ℕ) → k < search.start.places → (k ≡ 3 → ⊥) → (k ≡ 8 + a → ⊥)
+      → set_in y k ≡ set_in x k
+  pub pairs : set_in y (8 + a) ≡ and_of (led_at search x a) (set_in x 6)
+  pub stay : set_in y 3 ≡ or_of (set_in x 3) (led_at search x a)
+
 -- for the first n actions there are the states in which they may be taken, and the states from which
 -- one of them stays among those of the round are joined to what stood at 3
 pub record Pairs (search : Search) (x y : Scene) (n : ℕ) : Type 0 where
@@ -36,6 +51,27 @@ pub record Pairs (search : Search) (x y : Scene) (n : ℕ) : Type 0 where
   pub pairs : (a : ℕ) → a < n → set_in y (8 + a) ≡ and_of (led_at search x a) (set_in x 6)
   pub stay : (values : Values) → set_in y 3 values
       ≡ (set_in x 3 values || some_below (led_at search x) n values)
+
+-- a round began: its states are those that were left, and from those at 3 one can stay among them
+pub record BeginsRound (search : Search) (x y : Scene) : Type 0 where
+  pub kept : (k : ℕ) → 5 ≤ k → k < 8 → set_in y k ≡ set_in x k
+  pub high : (k : ℕ) → k < search.start.places → pairs_end (actions_of search) ≤ k
+      → set_in y k ≡ set_in x k
+  pub last : set_in y 4 ≡ set_in x 5
+  pub pairs : (a : ℕ) → a < actions_of search → set_in y (8 + a)
+      ≡ and_of (strong_preimage search.start.task a (set_in x 5)) (set_in x 6)
+  pub stay : (values : Values) → set_in y 3 values
+      ≡ some_below (λ a. strong_preimage search.start.task a (set_in x 5)) (actions_of search) values
+
+-- what is kept of a set: its part in another one, where that is asked for
+abbrev pub kept_of : Bool → Function → Function → Function
+kept_of true f g = and_of f g
+kept_of false f g = f
+
+-- of what is left that part is left from which one can stay, where that is asked for
+pub record KeepsStaying (search : Search) (x y : Scene) (stays : Bool) : Type 0 where
+  pub keeps : Keeps search x y 0 5
+  pub left : set_in y 5 ≡ kept_of stays (set_in x 5) (set_in x 3)
 
 -- an action may be taken in the states of a guard from which every outcome lies in a set
 abbrev pub HasPairs : Search → Scene → SetOfVectors → SetOfVectors → Type 0
@@ -52,6 +88,13 @@ IsNear search x left guard target =
 -- a set has all that another has
 abbrev pub IsPart : Function → Function → Type 0
 IsPart f g = (values : Values) → f values ≡ true → g values ≡ true
+
+-- the states are added from which an action that may be taken leads to one that is near
+pub record AddsNear (search : Search) (x y : Scene) (a : ℕ) : Type 0 where
+  pub keeps : (k : ℕ) → k < search.start.places → (k ≡ 0 → ⊥) → (k ≡ 2 → ⊥)
+      → set_in y k ≡ set_in x k
+  pub near : set_in y 2 ≡ or_of (set_in x 2)
+      (and_of (weak_preimage search.start.task a (set_in x 2)) (set_in x (8 + a)))
 
 -- the states that are near are added from which one of the first n actions may lead to a state that
 -- was near before
@@ -102,6 +145,12 @@ pub record HasAims (search : Search) (asked : Asked) (first : ℕ) (x : Scene) :
   pub targets : (i : ℕ) → i < length asked.targets → (v : Vector) → IsVector (sys_of search) v
       → states_in x (first + i) v ≡ get_or asked.targets i anywhere v
 
+-- the targets of a round are to be looked at
+pub record HasTargets (search : Search) (asked : Asked) (first count : ℕ) (x : Scene) : Type 0 where
+  pub pairs : HasPairs search x (states_in x 4) asked.guard
+  pub aims : HasAims search asked first x
+  pub count : length asked.targets ≡ count
+
 -- the first i targets were looked at
 pub record ComesToAll (search : Search) (asked : Asked) (first : ℕ) (x y : Scene) (i : ℕ)
     : Type 0 where
@@ -139,3 +188,32 @@ pub record HasRound (search : Search) (asked : Asked) (first : ℕ) (x : Scene) 
   pub comes : (target : SetOfVectors) → Contains asked.targets target → (v : Vector)
       → IsVector (sys_of search) v → states_in x 5 v ≡ true
       → CanComeTo (sys_of search) (states_in x 4) asked.guard target v
+
+-- the states of the first n visits stand from a place on
+abbrev pub HasVisits : Search → List Cond → ℕ → Scene → ℕ → Type 0
+HasVisits search visits first x n =
+    (i : ℕ) → i < n → (v : Vector) → IsVector (sys_of search) v
+    → states_in x (first + i) v ≡ get_or (map states_of visits) i anywhere v
+
+-- the guard of a stage stands at its place, all states are left, and where the stage is met stands at a
+-- place
+pub record AimsAt (search : Search) (stage : SetStage) (x y : Scene) (later met : ℕ) : Type 0 where
+  pub guard : (v : Vector) → IsVector (sys_of search) v → states_in y 6 v ≡ stage.guard v
+  pub left : (v : Vector) → IsVector (sys_of search) v → states_in y 5 v ≡ true
+  pub met : (v : Vector) → IsVector (sys_of search) v
+      → states_in y met v ≡ (stage.target v && states_in x later v)
+
+-- more states are near
+pub record Climbs (x y : Scene) : Type 0 where
+  pub before : set_in y 1 ≡ set_in x 1
+  pub more : IsPart (set_in x 2) (set_in y 2)
+
+pub record ClimbsOnce (x y : Scene) : Type 0 where
+  pub before : set_in y 1 ≡ set_in x 2
+  pub more : IsPart (set_in x 2) (set_in y 2)
+
+-- rules are those of a plan for the task with so many contexts
+abbrev pub AreRules : Search → ℕ → List AutoRule → Type 0
+AreRules search contexts rules =
+    All (IsContextRuleOf (fluent_count search.start.task) (actions_of search) contexts)
+    (map context_rule_of rules)

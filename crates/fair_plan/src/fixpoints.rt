@@ -1,13 +1,11 @@
 //! The largest set of states from which something can be had by actions that stay in the set.
 
-ghost use Rattle.std.specs.Prelude.{◌≡◌, ◌+◌, ◌<◌, ◌≤◌, ◌&&◌, length};
-ghost use Rattle.dd_ops.specs.Operations.{and_of};
+ghost use Rattle.std.specs.Prelude.{◌≡◌, ◌+◌, ◌<◌, ◌≤◌, length};
 ghost use Rattle.fair_theory.specs.FairSets.{Asked, IsLargestFairSet};
-ghost use Rattle.task_core.specs.Cubes.{SetOfVectors};
 ghost use Rattle.fair_plan.specs.Boards.{IsThere, Leaves, Search, actions_of, set_in, states_in, sys_of};
-ghost use Rattle.fair_plan.specs.Places.{pairs_end};
-ghost use Rattle.fair_plan.specs.Rounds.{Begins, ComesTo, ComesToAll, GoesOn, HasAims, HasNear};
-ghost use Rattle.fair_plan.specs.Rounds.{HasPairs, HasRound, Keeps, Pairs, Passes, RoundBegins, Stays};
+ghost use Rattle.fair_plan.specs.Rounds.{AddsNear, Begins, BeginsRound, ComesTo, ComesToAll, GoesOn};
+ghost use Rattle.fair_plan.specs.Rounds.{HasNear, HasRound, HasTargets, KeepsStaying, Pairs, PairsOne};
+ghost use Rattle.fair_plan.specs.Rounds.{Passes};
 
 use crate::places::{BEFORE, GUARD, LAST, LEFT, NEAR, PART, STAY, pairs_at};
 use crate::steps::make;
@@ -60,7 +58,7 @@ fn near_by(enc: &mut Enc, board: &mut Board, a: ActionId) -> Result<(), SetErr>
     requires action { a.0 < length enc.old.actions }
     ensures { (search : Search) → IsThere search (enc.old, board.old.slots.items)
         → Leaves search (enc.new, board.new.slots.items)
-        (NearBy search (enc.old, board.old.slots.items) (enc.new, board.new.slots.items) a.0)
+        (AddsNear search (enc.old, board.old.slots.items) (enc.new, board.new.slots.items) a.0)
         result }
 {
     let pairs = pairs_at(a);
@@ -118,7 +116,11 @@ fn come_to(enc: &mut Enc, board: &mut Board, actions: u32, target: usize) -> Res
 {
     make(enc, board, &[Step::Copy(NEAR, target)])?;
     grow(enc, board, actions)?;
-    make(enc, board, &[Step::Combine(LEFT, Operation::Meet, LEFT, NEAR)])
+    make(
+        enc,
+        board,
+        &[Step::Combine(LEFT, Operation::Meet, LEFT, NEAR)],
+    )
 }
 
 /// Leaves the states from which each of some targets can be come to.
@@ -135,7 +137,7 @@ fn come_to_all(
     requires high { 8 ≤ first }
     ensures { (search : Search) (asked : Asked)
         → IsThere search (enc.old, board.old.slots.items)
-        → RoundBegins search asked first count (enc.old, board.old.slots.items)
+        → HasTargets search asked first count (enc.old, board.old.slots.items)
         → Leaves search (enc.new, board.new.slots.items)
         (ComesToAll search asked first (enc.old, board.old.slots.items)
         (enc.new, board.new.slots.items) count) result }
@@ -151,11 +153,15 @@ fn keep_staying(enc: &mut Enc, board: &mut Board, stays: bool) -> Result<(), Set
     requires ready { (search : Search) × IsThere search (enc.old, board.old.slots.items) }
     ensures { (search : Search) → IsThere search (enc.old, board.old.slots.items)
         → Leaves search (enc.new, board.new.slots.items)
-        (Stays search (enc.old, board.old.slots.items) (enc.new, board.new.slots.items) stays)
+        (KeepsStaying search (enc.old, board.old.slots.items) (enc.new, board.new.slots.items) stays)
         result }
 {
     if stays {
-        return make(enc, board, &[Step::Combine(LEFT, Operation::Meet, LEFT, STAY)]);
+        return make(
+            enc,
+            board,
+            &[Step::Combine(LEFT, Operation::Meet, LEFT, STAY)],
+        );
     }
     Ok(())
 }
@@ -166,7 +172,7 @@ fn begin_round(enc: &mut Enc, board: &mut Board, actions: u32) -> Result<(), Set
     requires actions { actions ≡ length enc.old.actions }
     ensures { (search : Search) → IsThere search (enc.old, board.old.slots.items)
         → Leaves search (enc.new, board.new.slots.items)
-        (HasPaired search (enc.old, board.old.slots.items) (enc.new, board.new.slots.items))
+        (BeginsRound search (enc.old, board.old.slots.items) (enc.new, board.new.slots.items))
         result }
 {
     make(

@@ -2,7 +2,7 @@
 
 ghost use Rattle.std.specs.Prelude.{◌≡◌, ◌+◌, ◌≤◌};
 ghost use Rattle.fair_plan.specs.Goals.{most_stages};
-ghost use Rattle.fair_plan.specs.Places.{met_place, pairs_end, place_count, takers_place, win_place};
+ghost use Rattle.fair_plan.specs.Places.{met_place, place_count, takers_place, win_place};
 
 use task_core::ActionId;
 
@@ -28,13 +28,6 @@ pub(crate) fn pairs_at(a: ActionId) -> usize
     ensures { result ≡ 8 + a.0 }
 {
     8 + a.0 as usize
-}
-
-/// The first place after these.
-pub(crate) fn pairs_end(actions: u32) -> usize
-    ensures { result ≡ pairs_end actions }
-{
-    8 + actions as usize
 }
 
 /// The place of the states of the context of a stage, counted from 0.
