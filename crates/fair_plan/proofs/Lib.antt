@@ -1,0 +1,5 @@
+pub mod Boards
+pub mod Leading
+pub mod Growth
+pub mod Rounds
+pub mod Goals

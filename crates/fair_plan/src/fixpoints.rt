@@ -150,7 +150,7 @@ fn come_to_all(
 
 /// Leaves the states from which one can stay among those of the round, where that is asked for.
 fn keep_staying(enc: &mut Enc, board: &mut Board, stays: bool) -> Result<(), SetErr>
-    requires ready { (search : Search) × IsThere search (enc.old, board.old.slots.items) }
+    requires { (search : Search) × IsThere search (enc.old, board.old.slots.items) }
     ensures { (search : Search) → IsThere search (enc.old, board.old.slots.items)
         → Leaves search (enc.new, board.new.slots.items)
         (KeepsStaying search (enc.old, board.old.slots.items) (enc.new, board.new.slots.items) stays)

@@ -54,7 +54,7 @@ fn list_part(
     next: u32,
     action: ActionId,
 ) -> Result<(), SetErr>
-    requires ready { (search : Search) × IsThere search (enc.now, board.now.slots.items) }
+    requires { (search : Search) × IsThere search (enc.now, board.now.slots.items) }
     ensures never_full { IfErr result (λ e. e ≡ SetErr.Memory) }
     ensures rules { (search : Search) (contexts : ℕ)
         → IsThere search (enc.now, board.now.slots.items) → IsContextOf contexts context

@@ -16,7 +16,7 @@ use task_core::Cond;
 
 /// Begins with a guard that asks for nothing.
 pub(crate) fn begin(enc: &mut Enc, board: &mut Board) -> Result<(), SetErr>
-    requires ready { (search : Search) × At search.start enc.old board.old.slots.items }
+    requires { (search : Search) × At search.start enc.old board.old.slots.items }
     ensures { (search : Search) → At search.start enc.old board.old.slots.items
         → Leaves search (enc.new, board.new.slots.items)
         (Puts search (enc.old, board.old.slots.items) (enc.new, board.new.slots.items) 6 everything)
@@ -27,7 +27,7 @@ pub(crate) fn begin(enc: &mut Enc, board: &mut Board) -> Result<(), SetErr>
 
 /// Makes steps in turn.
 pub(crate) fn make(enc: &mut Enc, board: &mut Board, steps: &[Step]) -> Result<(), SetErr>
-    requires ready { (search : Search) × IsThere search (enc.old, board.old.slots.items)
+    requires { (search : Search) × IsThere search (enc.old, board.old.slots.items)
         × AreStepsOf search steps.now }
     ensures { (search : Search) → IsThere search (enc.old, board.old.slots.items)
         → AreStepsOf search steps.now
