@@ -1,4 +1,5 @@
 -- Every set is small by the width of a search, so that each step can be made; and what a call leaves.
+use Rattle.std.specs.Prelude.{⊤}
 use Rattle.std.proofs.Common.{◌≡◌, ℕ, suc, ◌+◌, ◌*◌, ◌^◌, ◌<◌, ◌≤◌, List, [], ◌∷◌, length, Result, Ok, Err, refl, sym, ap, subst, ◌∙◌, inl, arith}
 use Rattle.dd_nodes.specs.Subfunctions.{DependsOnly, Function}
 use Rattle.dd_sets.specs.Rooms.{Small}
@@ -109,3 +110,23 @@ done search y Fact result x is left = went search.start y.0 y.1 (IsThere search 
 -- a fact from another one
 pub leaves_with : {T : Type 0} (search : Search) (y : Scene) (P Q : Type 0) (result : Result T SetErr) → (IsThere search y → P → Q) → Leaves search y P result → Leaves search y Q result
 leaves_with search y P Q result f left = left_with search.start y.0 y.1 (IsThere search y × P) (IsThere search y × Q) result (λ p. (p.0, f p.0 p.1)) left
+
+pub le_length : (search : Search) (x : Scene) → IsThere search x → (k : ℕ) → k ≤ search.start.places → k ≤ length x.1
+le_length search x there k l = let long : length x.1 ≡ search.start.places = there.at.long in omega arith
+
+-- what calls keep
+pub actions_same : (search : Search) (x y : Scene) → IsThere search x → IsThere search y → (n : ℕ) → n ≡ length x.0.actions → n ≡ length y.0.actions
+actions_same search x y first second n e = e ∙ actions_are search x first ∙ sym (actions_are search y second)
+
+pub action_still : (search : Search) (x y : Scene) → IsThere search x → IsThere search y → (a : ℕ) → a < length x.0.actions → a < length y.0.actions
+action_still search x y first second a l = let e = actions_are search x first in let f = actions_are search y second in omega (arith, e, f)
+
+pub place_still : (search : Search) (x y : Scene) → IsThere search x → IsThere search y → (k : ℕ) → k < length x.1 → k < length y.1
+place_still search x y first second k l = let e : length x.1 ≡ search.start.places = first.at.long in let f : length y.1 ≡ search.start.places = second.at.long in omega arith
+
+pub places_still : (search : Search) (x y : Scene) → IsThere search x → IsThere search y → (k : ℕ) → k ≤ length x.1 → k ≤ length y.1
+places_still search x y first second k l = let e : length x.1 ≡ search.start.places = first.at.long in let f : length y.1 ≡ search.start.places = second.at.long in omega arith
+
+-- an answer that says nothing more
+pub leaves_nothing : {T : Type 0} (search : Search) (y : Scene) (P : Type 0) (result : Result T SetErr) → Leaves search y P result → Leaves search y ⊤ result
+leaves_nothing search y P result left = leaves_with search y P ⊤ result (λ now p. tt) left

@@ -1,0 +1,236 @@
+-- The rounds of a search for a largest set.
+use Rattle.std.proofs.Common.{◌≡◌, ℕ, zero, suc, ◌+◌, ◌<◌, ◌≤◌, Bool, true, false, not, ◌&&◌, ◌||◌, List, [], ◌∷◌, length, get_or, refl, sym, ap, subst, ◌∙◌, ⊎_elim, arith}
+use Rattle.std.proofs.lemmas.Bool.{and_from, and_parts, cases_eq, false≢true, true≢false}
+use Rattle.std.proofs.lemmas.List.Elements.{Contains-get_or, at_from_Contains}
+use Rattle.std.specs.List.{Contains}
+use Rattle.dd_nodes.specs.NodeList.{Values}
+use Rattle.dd_nodes.specs.Subfunctions.{Function}
+use Rattle.dd_ops.specs.Operations.{and_of, minus_of}
+use Rattle.fair_theory.specs.FairSets.{Asked, CanComeTo, HasAllComing, IsFairBound, IsFairSet, IsLargestFairSet, all_coming, all_inside, all_staying, anywhere}
+use Rattle.preimage.specs.Preimages.{strong_preimage}
+use Rattle.preimage.specs.WorkingSets.{some_below}
+use Rattle.plan_theory.specs.Layers.{must_lead}
+use Rattle.plan_theory.specs.Safe.{some_must_lead}
+use Rattle.plan_theory.proofs.RoundSteps.{held}
+use Rattle.slot_board.specs.declared.board.Operation.TheVariants.{Meet, Minus}
+use Rattle.board_steps.specs.Steps.{Placed, after_step}
+use Rattle.board_steps.specs.declared.steps.Step.{Step}
+use Rattle.board_steps.specs.declared.steps.Step.TheVariants.{Combine, Copy}
+use Rattle.board_steps.proofs.StepLemmas.{with_here, with_other}
+use Rattle.task_core.specs.Cubes.{SetOfVectors}
+use Rattle.task_core.specs.Systems.{IsVector}
+use Rattle.task_core.specs.Tasks.{fluent_count}
+use Rattle.task_core.specs.Vectors.{Vector, all_vectors, value_of}
+use Rattle.task_core.proofs.TaskSystem.{is_system}
+use Rattle.fair_plan.specs.Boards.{IsAfter, IsThere, Scene, Search, actions_of, set_in, states_in, sys_of}
+use Rattle.fair_plan.specs.Places.{pairs_end}
+use Rattle.fair_plan.specs.Rounds.{Begins, BeginsRound, ComesNear, ComesTo, ComesToAll, GoesOn, HasAims, HasNear, HasPairs, HasRound, HasTargets, IsPart, Keeps, KeepsStaying, Pairs, kept_of, led_at}
+use Rattle.fair_plan.proofs.Boards.{low, only, pair_in, pairs_in}
+use Rattle.fair_plan.proofs.Leading.{comes_as, fewer, same_functions, some_from, some_to, strong_must}
+
+-- a target's states
+pub aimed : (search : Search) (x m n y : Scene) (target : ℕ) → target < search.start.places → IsAfter search x m (Copy 2 target ∷ []) → HasNear search m n → IsAfter search n y (Combine 5 Meet 5 2 ∷ []) → ComesTo search x y target
+aimed search x m n y target within first grown last =
+    let other : (k : ℕ) → k < search.start.places → 3 ≤ k → set_in n k ≡ set_in x k = λ k l high.
+    grown.keeps k l high (λ e. absurd (omega arith)) ∙ first k l ∙ with_other (set_in x) 2 _ k (λ e. absurd (omega arith)) in
+    record {
+      keeps = λ k l high d. last k l ∙ with_other (set_in n) 5 _ k d ∙ other k l high;
+      set = set_in n 2;
+      left = last 5 (low search 5 (omega arith)) ∙ with_here (set_in n) 5 _ 5 refl ∙ ap (λ (f : Function). and_of f (set_in n 2)) (other 5 (low search 5 (omega arith)) (omega arith));
+      near = λ left guard pairs.
+          let still : HasPairs search m left guard = λ a l v is.
+          ap (λ (f : Function). f (value_of v)) (first (8 + a) (pair_in search a l) ∙ with_other (set_in x) 2 _ (8 + a) (λ e. absurd (omega arith))) ∙ pairs a l v is in
+          subst (λ (f : Function). ComesNear search left guard (λ u. f (value_of u)) (states_in n 2)) (first 2 (low search 2 (omega arith)) ∙ with_here (set_in x) 2 _ 2 refl) (grown.near left guard still);
+    }
+
+-- no target yet, and one more
+pub comes_none : (search : Search) (asked : Asked) (first : ℕ) (x : Scene) → ComesToAll search asked first x x 0
+comes_none search asked first x = record {
+  keeps = λ k l high d. refl;
+  part = λ values h. h;
+  bound = λ within b. b;
+  comes = λ j l. absurd (omega arith);
+}
+
+pub comes_more : (search : Search) (asked : Asked) (first count : ℕ) (x y z : Scene) (i : ℕ) → i < count → 8 ≤ first → first + count ≤ search.start.places → HasTargets search asked first count x → ComesToAll search asked first x y i → ComesTo search y z (first + i) → ComesToAll search asked first x z (i + 1)
+comes_more search asked first count x y z i below high within has h one =
+    let sys = sys_of search in
+    let low_i : i < length asked.targets = let e : length asked.targets ≡ count = has.count in omega arith in
+    let target : SetOfVectors = get_or asked.targets i anywhere in
+    let left : SetOfVectors = states_in x 4 in
+    let near : SetOfVectors = λ v. one.set (value_of v) in
+    let aim : (v : Vector) → IsVector sys v → states_in y (first + i) v ≡ target v = λ v is.
+    ap (λ (f : Function). f (value_of v)) (h.keeps (first + i) (omega arith) (omega arith) (λ e. absurd (omega arith))) ∙ has.aims.targets i low_i v is in
+    let pairs : HasPairs search y left asked.guard = λ a l v is.
+    ap (λ (f : Function). f (value_of v)) (h.keeps (8 + a) (pair_in search a l) (omega arith) (λ e. absurd (omega arith))) ∙ has.pairs a l v is in
+    let comes = one.near left asked.guard pairs in
+    let all : HasAllComing sys left asked.guard target near = record {
+      made = λ v is t. comes.all.made v is (aim v is ∙ t);
+      closed = comes.all.closed;
+    } in
+    let both : (v : Vector) → states_in z 5 v ≡ (states_in y 5 v && near v) = λ v. ap (λ (f : Function). f (value_of v)) one.left in
+    record {
+      keeps = λ k l far d. one.keeps k l far d ∙ h.keeps k l far d;
+      part = λ values e. h.part values (and_parts (set_in y 5 values) (one.set values) (sym (ap (λ (f : Function). f values) one.left) ∙ e)).0;
+      bound = λ inside b. all_coming left (states_in y 5) near (states_in z 5) target (Contains-get_or asked.targets i anywhere low_i) inside (h.bound inside b) all
+          (λ v is s n. both v ∙ and_from (states_in y 5 v) (near v) s n);
+      comes = λ j l m v is e.
+          let parts = and_parts (states_in y 5 v) (near v) (sym (both v) ∙ e) in
+          ⊎_elim
+          (λ (same : j ≡ i).
+          subst (λ (k : ℕ). CanComeTo sys left asked.guard (get_or asked.targets k anywhere) v) (sym same)
+          (comes_as sys (is_system search.start.task) left asked.guard (states_in y (first + i)) target (λ u at t. sym (aim u at) ∙ t) v is (comes.each v is parts.1)))
+          (λ (d : j ≡ i → ⊥). h.comes j (let e2 = d in omega arith) m v is parts.0)
+          (cases_eq j i);
+    }
+
+pub comes_all : (search : Search) (asked : Asked) (first count i : ℕ) (x y : Scene) → i ≡ count → ComesToAll search asked first x y i → ComesToAll search asked first x y count
+comes_all search asked first count i x y e h = subst (ComesToAll search asked first x y) e h
+
+-- what stays
+pub stays_made : (search : Search) (x y : Scene) (stays : Bool) → stays ≡ true → IsAfter search x y (Combine 5 Meet 5 3 ∷ []) → KeepsStaying search x y stays
+stays_made search x y stays on after =
+    subst (KeepsStaying search x y) (sym on) (record {
+      keeps = λ k l high d. after k l ∙ with_other (set_in x) 5 _ k d;
+      left = after 5 (low search 5 (omega arith)) ∙ with_here (set_in x) 5 _ 5 refl;
+    })
+
+pub stays_not : (search : Search) (x : Scene) (stays : Bool) → stays ≡ false → KeepsStaying search x x stays
+stays_not search x stays off = subst (KeepsStaying search x x) (sym off) (record { keeps = λ k l high d. refl; left = refl })
+
+-- a round begins
+and_not : (b : Bool) → (b && not b) ≡ false
+and_not true = refl
+and_not false = refl
+
+pub round_begun : (search : Search) (x m y : Scene) → IsAfter search x m (Copy 4 5 ∷ Combine 3 Minus 4 4 ∷ []) → Pairs search m y (actions_of search) → BeginsRound search x y
+round_begun search x m y after pairs =
+    let task = search.start.task in
+    let p1 : Placed = after_step search.start (set_in x) (Copy 4 5) in
+    let last : set_in m 4 ≡ set_in x 5 = after 4 (low search 4 (omega arith)) ∙ with_other p1 3 _ 4 (λ e. absurd (omega arith)) ∙ with_here (set_in x) 4 _ 4 refl in
+    let other : (k : ℕ) → k < search.start.places → 5 ≤ k → set_in m k ≡ set_in x k = λ k l high.
+    after k l ∙ with_other p1 3 _ k (λ e. absurd (omega arith)) ∙ with_other (set_in x) 4 _ k (λ e. absurd (omega arith)) in
+    let none : (values : Values) → set_in m 3 values ≡ false = λ values.
+    ap (λ (f : Function). f values) (after 3 (low search 3 (omega arith)) ∙ with_here p1 3 _ 3 refl) ∙ and_not (p1 4 values) in
+    record {
+      kept = λ k high l. pairs.low k l (λ e. absurd (omega arith)) ∙ other k (low search k l) high;
+      high = λ k l far. pairs.high k l far ∙ other k l (omega arith);
+      last = pairs.low 4 (omega arith) (λ e. absurd (omega arith)) ∙ last;
+      pairs = λ a l.
+          pairs.pairs a l
+          ∙ ap (λ (f : Function). and_of (strong_preimage task a f) (set_in m 6)) last
+          ∙ ap (and_of (strong_preimage task a (set_in x 5))) (other 6 (low search 6 (omega arith)) (omega arith));
+      stay = λ values.
+          pairs.stay values
+          ∙ ap (λ (b : Bool). b || some_below (led_at search m) (actions_of search) values) (none values)
+          ∙ ap (λ (f : Function). some_below (λ a. strong_preimage task a f) (actions_of search) values) last;
+    }
+
+-- a round
+module _ (search : Search) (asked : Asked) (stays : Bool) (first count : ℕ) (x m n y : Scene) (high : pairs_end (actions_of search) ≤ first) (within : first + count ≤ search.start.places) (there : IsThere search x)
+    (same : asked.stays ≡ stays) (long : length asked.targets ≡ count) (on : GoesOn search asked first x) (begun : BeginsRound search x m) (kept : KeepsStaying search m n stays) where
+  left : SetOfVectors
+  left = states_in x 5
+
+  here_last : set_in n 4 ≡ set_in x 5
+  here_last = kept.keeps 4 (low search 4 (omega arith)) (omega arith) (λ e. absurd (omega arith)) ∙ begun.last
+
+  left_now : set_in m 5 ≡ set_in x 5
+  left_now = begun.kept 5 (omega arith) (omega arith)
+
+  aims_now : HasAims search asked first n
+  aims_now = record {
+    guard = λ v is. ap (λ (f : Function). f (value_of v)) (kept.keeps 6 (low search 6 (omega arith)) (omega arith) (λ e. absurd (omega arith)) ∙ begun.kept 6 (omega arith) (omega arith)) ∙ on.aims.guard v is;
+    targets = λ i l v is.
+        let in_places : first + i < search.start.places = omega arith in
+        ap (λ (f : Function). f (value_of v)) (kept.keeps (first + i) in_places (omega arith) (λ e. absurd (omega arith)) ∙ begun.high (first + i) in_places (omega arith)) ∙ on.aims.targets i l v is;
+  }
+
+  pub targets_now : HasTargets search asked first count n
+  targets_now = record {
+    pairs = λ a l v is.
+        ap (λ (f : Function). f (value_of v)) (kept.keeps (8 + a) (pair_in search a l) (omega arith) (λ e. absurd (omega arith)) ∙ begun.pairs a l)
+        ∙ ap (λ (b : Bool). b && states_in x 6 v) (strong_must search.start.task a (set_in x 5) v (only search x there 5))
+        ∙ ap (λ (b : Bool). must_lead (sys_of search) left v a && b) (on.aims.guard v is)
+        ∙ ap (λ (f : Function). must_lead (sys_of search) (λ u. f (value_of u)) v a && asked.guard v) (sym here_last);
+    aims = aims_now;
+    count = long;
+  }
+
+  -- those that stay
+  kept_bound : IsFairBound (sys_of search) asked (states_in n 5)
+  kept_bound = go stays refl
+    where
+      go : (b : Bool) → stays ≡ b → IsFairBound (sys_of search) asked (states_in n 5)
+      go true e =
+          let now : set_in n 5 ≡ and_of (set_in m 5) (set_in m 3) = kept.left ∙ ap (λ (c : Bool). kept_of c (set_in m 5) (set_in m 3)) e in
+          all_staying left left (states_in n 5) (same ∙ e) on.bound on.bound (λ v is inside some.
+          ap (λ (f : Function). f (value_of v)) now
+          ∙ and_from (states_in m 5 v) (states_in m 3 v) (ap (λ (f : Function). f (value_of v)) left_now ∙ inside)
+          (begun.stay (value_of v) ∙ some_to search.start.task (set_in x 5) v (only search x there 5) some))
+      go false e =
+          let now : set_in n 5 ≡ set_in x 5 = kept.left ∙ ap (λ (c : Bool). kept_of c (set_in m 5) (set_in m 3)) e ∙ left_now in
+          subst (λ (f : Function). IsFairBound (sys_of search) asked (λ v. f (value_of v))) (sym now) on.bound
+
+  kept_part : IsPart (set_in n 5) (set_in x 5)
+  kept_part values h = go stays refl
+    where
+      go : (b : Bool) → stays ≡ b → set_in x 5 values ≡ true
+      go true e =
+          let now : set_in n 5 ≡ and_of (set_in m 5) (set_in m 3) = kept.left ∙ ap (λ (c : Bool). kept_of c (set_in m 5) (set_in m 3)) e in
+          sym (ap (λ (f : Function). f values) left_now) ∙ (and_parts (set_in m 5 values) (set_in m 3 values) (sym (ap (λ (f : Function). f values) now) ∙ h)).0
+      go false e =
+          let now : set_in n 5 ≡ set_in x 5 = kept.left ∙ ap (λ (c : Bool). kept_of c (set_in m 5) (set_in m 3)) e ∙ left_now in
+          sym (ap (λ (f : Function). f values) now) ∙ h
+
+  kept_stays : asked.stays ≡ true → (v : Vector) → IsVector (sys_of search) v → states_in n 5 v ≡ true → some_must_lead (sys_of search) left v ≡ true
+  kept_stays on_stay v is h =
+      let now : set_in n 5 ≡ and_of (set_in m 5) (set_in m 3) = kept.left ∙ ap (λ (c : Bool). kept_of c (set_in m 5) (set_in m 3)) (sym same ∙ on_stay) in
+      some_from search.start.task (set_in x 5) v (only search x there 5)
+      (sym (begun.stay (value_of v)) ∙ (and_parts (states_in m 5 v) (states_in m 3 v) (sym (ap (λ (f : Function). f (value_of v)) now) ∙ h)).1)
+
+  pub round_made : ComesToAll search asked first n y count → (set_in y 4 ≡ set_in x 5) × HasRound search asked first y
+  round_made came =
+      let last : set_in y 4 ≡ set_in x 5 = came.keeps 4 (low search 4 (omega arith)) (omega arith) (λ e. absurd (omega arith)) ∙ here_last in
+      let round : HasRound search asked first y = record {
+        on = record {
+          aims = record {
+            guard = λ v is. ap (λ (f : Function). f (value_of v)) (came.keeps 6 (low search 6 (omega arith)) (omega arith) (λ e. absurd (omega arith))) ∙ aims_now.guard v is;
+            targets = λ i l v is. ap (λ (f : Function). f (value_of v)) (came.keeps (first + i) (omega arith) (omega arith) (λ e. absurd (omega arith))) ∙ aims_now.targets i l v is;
+          };
+          inside = λ v is h. on.inside v is (kept_part (value_of v) (came.part (value_of v) h));
+          bound = came.bound (subst (λ (f : Function). IsFairBound (sys_of search) asked (λ v. f (value_of v))) (sym here_last) on.bound) kept_bound;
+        };
+        part = λ values h. ap (λ (f : Function). f values) last ∙ kept_part values (came.part values h);
+        stays = λ stay v is h. subst (λ (f : Function). some_must_lead (sys_of search) (λ u. f (value_of u)) v ≡ true) (sym last) (kept_stays stay v is (came.part (value_of v) h));
+        comes = λ target among v is h.
+            let at = at_from_Contains asked.targets target among in
+            subst (λ (f : Function). CanComeTo (sys_of search) (λ u. f (value_of u)) asked.guard target v) (here_last ∙ sym last)
+            (subst (λ (t : SetOfVectors). CanComeTo (sys_of search) (states_in n 4) asked.guard t v) (at.2 anywhere) (came.comes at.0 (let l = at.1 in omega arith) at.1 v is h));
+      } in
+      (last, round)
+
+-- the first round, and the last one
+pub begun_on : (search : Search) (asked : Asked) (stays : Bool) (first count : ℕ) (x : Scene) → Begins search asked stays first count x → GoesOn search asked first x
+begun_on search asked stays first count x b = record {
+  aims = b.aims;
+  inside = λ v is h. sym (b.inside v is) ∙ h;
+  bound = all_inside (states_in x 5) (λ v is h. b.inside v is ∙ h);
+}
+
+pub is_largest : (search : Search) (asked : Asked) (first : ℕ) (x : Scene) → HasRound search asked first x → set_in x 5 ≡ set_in x 4 → IsLargestFairSet (sys_of search) asked (states_in x 5)
+is_largest search asked first x h same = record {
+  fair = λ v is inside. record {
+      inside = h.on.inside v is inside;
+      stays = λ stay. subst (λ (f : Function). some_must_lead (sys_of search) (λ u. f (value_of u)) v ≡ true) (sym same) (h.stays stay v is inside);
+      comes = λ target among. subst (λ (f : Function). CanComeTo (sys_of search) (λ u. f (value_of u)) asked.guard target v) (sym same) (h.comes target among v is inside);
+    };
+  bound = h.on.bound;
+}
+
+pub rounds_less : (search : Search) (y z : Scene) (n : ℕ) → n ≡ fluent_count search.start.task → IsThere search y → (set_in y 5 ≡ set_in y 4 → ⊥) → IsPart (set_in y 5) (set_in y 4) → set_in z 4 ≡ set_in y 5 → held (states_in z 4) (all_vectors n) < held (states_in y 4) (all_vectors n)
+rounds_less search y z n count there differ part next =
+    fewer n (states_in y 4) (states_in z 4)
+    (λ v h. part (value_of v) (sym (ap (λ (f : Function). f (value_of v)) next) ∙ h))
+    (λ same. differ (same_functions (fluent_count search.start.task) (set_in y 5) (set_in y 4) (only search y there 5) (only search y there 4)
+    (λ v is. sym (ap (λ (f : Function). f (value_of v)) next) ∙ same v (is ∙ sym count))))
