@@ -3,4 +3,4 @@ pub mod Leading
 pub mod Growth
 pub mod Rounds
 pub mod Goals
-pub mod Takers
+pub mod TakerSteps

@@ -17,19 +17,19 @@ use Rattle.task_core.specs.Vectors.{Vector, value_of}
 use Rattle.fair_plan.specs.Places.{place_count}
 
 -- where a search began, for so many stages or visits
-pub record Search : Type 0 where
+pub record Origin : Type 0 where
   pub start : board.Start
   pub widest : start.width ≡ 2 ^ fluent_count start.task + 1
   pub spare : 196 ≤ start.spare
   pub count : ℕ
   pub places : start.places ≡ place_count (action_count start.task) count
 
-abbrev pub sys_of : Search → System
-sys_of search = system_of search.start.task
+abbrev pub sys_of : Origin → System
+sys_of origin = system_of origin.start.task
 
 -- how many actions there are
-abbrev pub actions_of : Search → ℕ
-actions_of search = action_count search.start.task
+abbrev pub actions_of : Origin → ℕ
+actions_of origin = action_count origin.start.task
 
 -- the task's sets, and the slots of the board
 abbrev pub Scene : Type 0
@@ -43,40 +43,40 @@ abbrev pub states_in : Scene → ℕ → SetOfVectors
 states_in x k v = set_in x k (value_of v)
 
 -- the board is the search's, and the sets are sets
-pub record IsThere (search : Search) (x : Scene) : Type 0 where
-  pub at : board.At search.start x.0 x.1
+pub record IsThere (origin : Origin) (x : Scene) : Type 0 where
+  pub at : board.At origin.start x.0 x.1
   pub sound : IsSets x.0.sets
 
 -- what a call leaves: the board, and a fact
-abbrev pub Leaves : {T : Type 0} → Search → Scene → Type 0 → Result T SetErr → Type 0
-Leaves search y Fact = board.Left search.start y.0 y.1 (IsThere search y × Fact)
+abbrev pub Leaves : {T : Type 0} → Origin → Scene → Type 0 → Result T SetErr → Type 0
+Leaves origin y Fact = board.Left origin.start y.0 y.1 (IsThere origin y × Fact)
 
 -- the places and the action of a step are there
-abbrev pub IsStepOf : Search → Step → Type 0
-IsStepOf search (Whole k) = k < search.start.places
-IsStepOf search (Fluent k f) =
-    (k < search.start.places) × (f.0 < fluent_count search.start.task)
-IsStepOf search (Fix k f value) =
-    (k < search.start.places) × (f.0 < fluent_count search.start.task)
-IsStepOf search (Kept k slot) =
-    (k < search.start.places) × IsLive search.start.enc.sets slot.0
-IsStepOf search (Copy k from) = (k < search.start.places) × (from < search.start.places)
-IsStepOf search (Combine k operation a b) =
-    (k < search.start.places) × (a < search.start.places) × (b < search.start.places)
-IsStepOf search (Lead k outcomes action from) =
-    (k < search.start.places) × (from < search.start.places) × (action.0 < actions_of search)
+abbrev pub IsStepOf : Origin → Step → Type 0
+IsStepOf origin (Whole k) = k < origin.start.places
+IsStepOf origin (Fluent k f) =
+    (k < origin.start.places) × (f.0 < fluent_count origin.start.task)
+IsStepOf origin (Fix k f value) =
+    (k < origin.start.places) × (f.0 < fluent_count origin.start.task)
+IsStepOf origin (Kept k slot) =
+    (k < origin.start.places) × IsLive origin.start.enc.sets slot.0
+IsStepOf origin (Copy k from) = (k < origin.start.places) × (from < origin.start.places)
+IsStepOf origin (Combine k operation a b) =
+    (k < origin.start.places) × (a < origin.start.places) × (b < origin.start.places)
+IsStepOf origin (Lead k outcomes action from) =
+    (k < origin.start.places) × (from < origin.start.places) × (action.0 < actions_of origin)
 
-abbrev pub AreStepsOf : Search → List Step → Type 0
-AreStepsOf search [] = ⊤
-AreStepsOf search (step ∷ steps) = IsStepOf search step × AreStepsOf search steps
+abbrev pub AreStepsOf : Origin → List Step → Type 0
+AreStepsOf origin [] = ⊤
+AreStepsOf origin (step ∷ steps) = IsStepOf origin step × AreStepsOf origin steps
 
 -- the steps were made
-abbrev pub IsAfter : Search → Scene → Scene → List Step → Type 0
-IsAfter search x y steps =
-    (k : ℕ) → k < search.start.places
-    → set_in y k ≡ after_steps search.start (set_in x) steps k
+abbrev pub IsAfter : Origin → Scene → Scene → List Step → Type 0
+IsAfter origin x y steps =
+    (k : ℕ) → k < origin.start.places
+    → set_in y k ≡ after_steps origin.start (set_in x) steps k
 
 -- one place has another set, and the others have theirs
-pub record Puts (search : Search) (x y : Scene) (place : ℕ) (set : Function) : Type 0 where
+pub record Puts (origin : Origin) (x y : Scene) (place : ℕ) (set : Function) : Type 0 where
   pub here : set_in y place ≡ set
-  pub others : (k : ℕ) → k < search.start.places → (k ≡ place → ⊥) → set_in y k ≡ set_in x k
+  pub others : (k : ℕ) → k < origin.start.places → (k ≡ place → ⊥) → set_in y k ≡ set_in x k

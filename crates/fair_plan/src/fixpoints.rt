@@ -2,7 +2,7 @@
 
 ghost use Rattle.std.specs.Prelude.{◌≡◌, ◌+◌, ◌<◌, ◌≤◌, length};
 ghost use Rattle.fair_theory.specs.FairSets.{Asked, IsLargestFairSet};
-ghost use Rattle.fair_plan.specs.Boards.{IsThere, Leaves, Search, actions_of, set_in, states_in, sys_of};
+ghost use Rattle.fair_plan.specs.Boards.{IsThere, Leaves, Origin, actions_of, set_in, states_in, sys_of};
 ghost use Rattle.fair_plan.specs.Rounds.{AddsNear, Begins, BeginsRound, ComesTo, ComesToAll, GoesOn};
 ghost use Rattle.fair_plan.specs.Rounds.{HasNear, HasRound, HasTargets, KeepsStaying, Pairs, PairsOne};
 ghost use Rattle.fair_plan.specs.Rounds.{Passes};
@@ -18,11 +18,11 @@ use task_core::ActionId;
 /// Finds the states of the guard from which an action has every outcome in the states of a round, and
 /// joins to those from which one can stay there.
 fn pair_one(enc: &mut Enc, board: &mut Board, a: ActionId) -> Result<(), SetErr>
-    requires ready { (search : Search) × IsThere search (enc.old, board.old.slots.items) }
+    requires ready { (origin : Origin) × IsThere origin (enc.old, board.old.slots.items) }
     requires action { a.0 < length enc.old.actions }
-    ensures { (search : Search) → IsThere search (enc.old, board.old.slots.items)
-        → Leaves search (enc.new, board.new.slots.items)
-        (PairsOne search (enc.old, board.old.slots.items) (enc.new, board.new.slots.items) a.0)
+    ensures { (origin : Origin) → IsThere origin (enc.old, board.old.slots.items)
+        → Leaves origin (enc.new, board.new.slots.items)
+        (PairsOne origin (enc.old, board.old.slots.items) (enc.new, board.new.slots.items) a.0)
         result }
 {
     let pairs = pairs_at(a);
@@ -39,12 +39,12 @@ fn pair_one(enc: &mut Enc, board: &mut Board, a: ActionId) -> Result<(), SetErr>
 
 /// Does that for each action.
 pub(crate) fn pair_all(enc: &mut Enc, board: &mut Board, actions: u32) -> Result<(), SetErr>
-    requires ready { (search : Search) × IsThere search (enc.old, board.old.slots.items) }
+    requires ready { (origin : Origin) × IsThere origin (enc.old, board.old.slots.items) }
     requires actions { actions ≡ length enc.old.actions }
-    ensures { (search : Search) → IsThere search (enc.old, board.old.slots.items)
-        → Leaves search (enc.new, board.new.slots.items)
-        (Pairs search (enc.old, board.old.slots.items) (enc.new, board.new.slots.items)
-        (actions_of search)) result }
+    ensures { (origin : Origin) → IsThere origin (enc.old, board.old.slots.items)
+        → Leaves origin (enc.new, board.new.slots.items)
+        (Pairs origin (enc.old, board.old.slots.items) (enc.new, board.new.slots.items)
+        (actions_of origin)) result }
 {
     for a in 0..actions {
         pair_one(enc, board, ActionId(a))?;
@@ -54,11 +54,11 @@ pub(crate) fn pair_all(enc: &mut Enc, board: &mut Board, actions: u32) -> Result
 
 /// Adds to the states that are near those from which an action that may be taken leads to one.
 fn near_by(enc: &mut Enc, board: &mut Board, a: ActionId) -> Result<(), SetErr>
-    requires ready { (search : Search) × IsThere search (enc.old, board.old.slots.items) }
+    requires ready { (origin : Origin) × IsThere origin (enc.old, board.old.slots.items) }
     requires action { a.0 < length enc.old.actions }
-    ensures { (search : Search) → IsThere search (enc.old, board.old.slots.items)
-        → Leaves search (enc.new, board.new.slots.items)
-        (AddsNear search (enc.old, board.old.slots.items) (enc.new, board.new.slots.items) a.0)
+    ensures { (origin : Origin) → IsThere origin (enc.old, board.old.slots.items)
+        → Leaves origin (enc.new, board.new.slots.items)
+        (AddsNear origin (enc.old, board.old.slots.items) (enc.new, board.new.slots.items) a.0)
         result }
 {
     let pairs = pairs_at(a);
@@ -75,12 +75,12 @@ fn near_by(enc: &mut Enc, board: &mut Board, a: ActionId) -> Result<(), SetErr>
 
 /// Does that by each action.
 fn pass(enc: &mut Enc, board: &mut Board, actions: u32) -> Result<(), SetErr>
-    requires ready { (search : Search) × IsThere search (enc.old, board.old.slots.items) }
+    requires ready { (origin : Origin) × IsThere origin (enc.old, board.old.slots.items) }
     requires actions { actions ≡ length enc.old.actions }
-    ensures { (search : Search) → IsThere search (enc.old, board.old.slots.items)
-        → Leaves search (enc.new, board.new.slots.items)
-        (Passes search (enc.old, board.old.slots.items) (enc.new, board.new.slots.items)
-        (actions_of search)) result }
+    ensures { (origin : Origin) → IsThere origin (enc.old, board.old.slots.items)
+        → Leaves origin (enc.new, board.new.slots.items)
+        (Passes origin (enc.old, board.old.slots.items) (enc.new, board.new.slots.items)
+        (actions_of origin)) result }
 {
     make(enc, board, &[Step::Copy(BEFORE, NEAR)])?;
     for a in 0..actions {
@@ -91,11 +91,11 @@ fn pass(enc: &mut Enc, board: &mut Board, actions: u32) -> Result<(), SetErr>
 
 /// Does that until none is new.
 fn grow(enc: &mut Enc, board: &mut Board, actions: u32) -> Result<(), SetErr>
-    requires ready { (search : Search) × IsThere search (enc.old, board.old.slots.items) }
+    requires ready { (origin : Origin) × IsThere origin (enc.old, board.old.slots.items) }
     requires actions { actions ≡ length enc.old.actions }
-    ensures { (search : Search) → IsThere search (enc.old, board.old.slots.items)
-        → Leaves search (enc.new, board.new.slots.items)
-        (HasNear search (enc.old, board.old.slots.items) (enc.new, board.new.slots.items)) result }
+    ensures { (origin : Origin) → IsThere origin (enc.old, board.old.slots.items)
+        → Leaves origin (enc.new, board.new.slots.items)
+        (HasNear origin (enc.old, board.old.slots.items) (enc.new, board.new.slots.items)) result }
 {
     pass(enc, board, actions)?;
     while !board.is_same(enc, BEFORE, NEAR) {
@@ -106,12 +106,12 @@ fn grow(enc: &mut Enc, board: &mut Board, actions: u32) -> Result<(), SetErr>
 
 /// Leaves the states from which a target can be come to.
 fn come_to(enc: &mut Enc, board: &mut Board, actions: u32, target: usize) -> Result<(), SetErr>
-    requires ready { (search : Search) × IsThere search (enc.old, board.old.slots.items) }
+    requires ready { (origin : Origin) × IsThere origin (enc.old, board.old.slots.items) }
     requires actions { actions ≡ length enc.old.actions }
     requires target { target < length board.old.slots.items }
-    ensures { (search : Search) → IsThere search (enc.old, board.old.slots.items)
-        → Leaves search (enc.new, board.new.slots.items)
-        (ComesTo search (enc.old, board.old.slots.items) (enc.new, board.new.slots.items) target)
+    ensures { (origin : Origin) → IsThere origin (enc.old, board.old.slots.items)
+        → Leaves origin (enc.new, board.new.slots.items)
+        (ComesTo origin (enc.old, board.old.slots.items) (enc.new, board.new.slots.items) target)
         result }
 {
     make(enc, board, &[Step::Copy(NEAR, target)])?;
@@ -131,15 +131,15 @@ fn come_to_all(
     first: usize,
     count: u32,
 ) -> Result<(), SetErr>
-    requires ready { (search : Search) × IsThere search (enc.old, board.old.slots.items) }
+    requires ready { (origin : Origin) × IsThere origin (enc.old, board.old.slots.items) }
     requires actions { actions ≡ length enc.old.actions }
     requires targets { first + count ≤ length board.old.slots.items }
     requires high { 8 ≤ first }
-    ensures { (search : Search) (asked : Asked)
-        → IsThere search (enc.old, board.old.slots.items)
-        → HasTargets search asked first count (enc.old, board.old.slots.items)
-        → Leaves search (enc.new, board.new.slots.items)
-        (ComesToAll search asked first (enc.old, board.old.slots.items)
+    ensures { (origin : Origin) (asked : Asked)
+        → IsThere origin (enc.old, board.old.slots.items)
+        → HasTargets origin asked first count (enc.old, board.old.slots.items)
+        → Leaves origin (enc.new, board.new.slots.items)
+        (ComesToAll origin asked first (enc.old, board.old.slots.items)
         (enc.new, board.new.slots.items) count) result }
 {
     for i in 0..count {
@@ -150,10 +150,10 @@ fn come_to_all(
 
 /// Leaves the states from which one can stay among those of the round, where that is asked for.
 fn keep_staying(enc: &mut Enc, board: &mut Board, stays: bool) -> Result<(), SetErr>
-    requires { (search : Search) × IsThere search (enc.old, board.old.slots.items) }
-    ensures { (search : Search) → IsThere search (enc.old, board.old.slots.items)
-        → Leaves search (enc.new, board.new.slots.items)
-        (KeepsStaying search (enc.old, board.old.slots.items) (enc.new, board.new.slots.items) stays)
+    requires { (origin : Origin) × IsThere origin (enc.old, board.old.slots.items) }
+    ensures { (origin : Origin) → IsThere origin (enc.old, board.old.slots.items)
+        → Leaves origin (enc.new, board.new.slots.items)
+        (KeepsStaying origin (enc.old, board.old.slots.items) (enc.new, board.new.slots.items) stays)
         result }
 {
     if stays {
@@ -168,11 +168,11 @@ fn keep_staying(enc: &mut Enc, board: &mut Board, stays: bool) -> Result<(), Set
 
 /// Begins a round on the states that are left.
 fn begin_round(enc: &mut Enc, board: &mut Board, actions: u32) -> Result<(), SetErr>
-    requires ready { (search : Search) × IsThere search (enc.old, board.old.slots.items) }
+    requires ready { (origin : Origin) × IsThere origin (enc.old, board.old.slots.items) }
     requires actions { actions ≡ length enc.old.actions }
-    ensures { (search : Search) → IsThere search (enc.old, board.old.slots.items)
-        → Leaves search (enc.new, board.new.slots.items)
-        (BeginsRound search (enc.old, board.old.slots.items) (enc.new, board.new.slots.items))
+    ensures { (origin : Origin) → IsThere origin (enc.old, board.old.slots.items)
+        → Leaves origin (enc.new, board.new.slots.items)
+        (BeginsRound origin (enc.old, board.old.slots.items) (enc.new, board.new.slots.items))
         result }
 {
     make(
@@ -196,17 +196,17 @@ fn keep_round(
     first: usize,
     count: u32,
 ) -> Result<(), SetErr>
-    requires ready { (search : Search) × IsThere search (enc.old, board.old.slots.items) }
+    requires ready { (origin : Origin) × IsThere origin (enc.old, board.old.slots.items) }
     requires actions { actions ≡ length enc.old.actions }
     requires targets { first + count ≤ length board.old.slots.items }
     requires high { 8 + actions ≤ first }
-    ensures { (search : Search) (asked : Asked)
-        → IsThere search (enc.old, board.old.slots.items)
+    ensures { (origin : Origin) (asked : Asked)
+        → IsThere origin (enc.old, board.old.slots.items)
         → asked.stays ≡ stays → length asked.targets ≡ count
-        → GoesOn search asked first (enc.old, board.old.slots.items)
-        → Leaves search (enc.new, board.new.slots.items)
+        → GoesOn origin asked first (enc.old, board.old.slots.items)
+        → Leaves origin (enc.new, board.new.slots.items)
         ((set_in (enc.new, board.new.slots.items) 4 ≡ set_in (enc.old, board.old.slots.items) 5)
-        × HasRound search asked first (enc.new, board.new.slots.items)) result }
+        × HasRound origin asked first (enc.new, board.new.slots.items)) result }
 {
     begin_round(enc, board, actions)?;
     keep_staying(enc, board, stays)?;
@@ -224,17 +224,17 @@ pub(crate) fn find_largest(
     first: usize,
     count: u32,
 ) -> Result<(), SetErr>
-    requires ready { (search : Search) × (asked : Asked)
-        × IsThere search (enc.old, board.old.slots.items)
-        × Begins search asked stays first count (enc.old, board.old.slots.items) }
+    requires ready { (origin : Origin) × (asked : Asked)
+        × IsThere origin (enc.old, board.old.slots.items)
+        × Begins origin asked stays first count (enc.old, board.old.slots.items) }
     requires actions { actions ≡ length enc.old.actions }
     requires targets { first + count ≤ length board.old.slots.items }
     requires high { 8 + actions ≤ first }
-    ensures { (search : Search) (asked : Asked)
-        → IsThere search (enc.old, board.old.slots.items)
-        → Begins search asked stays first count (enc.old, board.old.slots.items)
-        → Leaves search (enc.new, board.new.slots.items)
-        (IsLargestFairSet (sys_of search) asked (states_in (enc.new, board.new.slots.items) 5))
+    ensures { (origin : Origin) (asked : Asked)
+        → IsThere origin (enc.old, board.old.slots.items)
+        → Begins origin asked stays first count (enc.old, board.old.slots.items)
+        → Leaves origin (enc.new, board.new.slots.items)
+        (IsLargestFairSet (sys_of origin) asked (states_in (enc.new, board.new.slots.items) 5))
         result }
 {
     keep_round(enc, board, actions, stays, first, count)?;

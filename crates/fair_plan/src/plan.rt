@@ -12,7 +12,7 @@ ghost use Rattle.task_core.specs.declared.tasks.Task.{Task as TaskOf};
 ghost use Rattle.fair_theory.specs.FairSets.{IsFairWin, covers_initial};
 ghost use Rattle.slot_board.specs.Board.{At, Ends};
 ghost use Rattle.task_core.specs.Cubes.{SetOfVectors};
-ghost use Rattle.fair_plan.specs.Boards.{IsThere, Search, actions_of, sys_of};
+ghost use Rattle.fair_plan.specs.Boards.{IsThere, Origin, actions_of, sys_of};
 ghost use Rattle.fair_plan.specs.Found.{CanBeHad, IfNoPlan, IfPlan, IsAnswer};
 ghost use Rattle.fair_plan.specs.Goals.{IsFairGoalOver, contexts_of, count_of, most_stages};
 
@@ -62,16 +62,16 @@ fn wins(
     goal: &ContextGoal,
     count: u32,
 ) -> Result<bool, SetErr>
-    requires ready { (search : Search) × At search.start enc.old board.old.slots.items
-        × (search.count ≡ count) }
+    requires ready { (origin : Origin) × At origin.start enc.old board.old.slots.items
+        × (origin.count ≡ count) }
     requires actions { actions ≡ length enc.old.actions }
     requires goal { IsFairGoalOver enc.old.sets.vars goal.now }
     requires count { count ≡ count_of goal.now }
-    ensures { (search : Search) → At search.start enc.old board.old.slots.items
-        → search.count ≡ count → Ends search.start enc.new board.new.slots.items
-        (λ won. IsThere search (enc.new, board.new.slots.items) × (set : SetOfVectors)
-        × IsFairWin (sys_of search) (sets_of_goal goal.now) set
-        × (won ≡ covers_initial (sys_of search) set)) result }
+    ensures { (origin : Origin) → At origin.start enc.old board.old.slots.items
+        → origin.count ≡ count → Ends origin.start enc.new board.new.slots.items
+        (λ won. IsThere origin (enc.new, board.new.slots.items) × (set : SetOfVectors)
+        × IsFairWin (sys_of origin) (sets_of_goal goal.now) set
+        × (won ≡ covers_initial (sys_of origin) set)) result }
 {
     begin(enc, board)?;
     win_goal(enc, board, actions, goal, count)?;
@@ -87,16 +87,16 @@ fn write_plan(
     goal: &ContextGoal,
     count: u32,
 ) -> Result<AutoPlan, SetErr>
-    requires ready { (search : Search) × IsThere search (enc.old, board.old.slots.items)
-        × (search.count ≡ count) }
+    requires ready { (origin : Origin) × IsThere origin (enc.old, board.old.slots.items)
+        × (origin.count ≡ count) }
     requires actions { actions ≡ length enc.old.actions }
     requires goal { IsFairGoalOver enc.old.sets.vars goal.now }
     requires count { count ≡ count_of goal.now }
     requires few { count ≤ most_stages }
-    ensures { (search : Search) → IsThere search (enc.old, board.old.slots.items)
-        → search.count ≡ count → Ends search.start enc.new board.new.slots.items
-        (λ plan. IsThere search (enc.new, board.new.slots.items)
-        × IsAutomatonOf (fluent_count search.start.task) (actions_of search) plan.contexts
+    ensures { (origin : Origin) → IsThere origin (enc.old, board.old.slots.items)
+        → origin.count ≡ count → Ends origin.start enc.new board.new.slots.items
+        (λ plan. IsThere origin (enc.new, board.new.slots.items)
+        × IsAutomatonOf (fluent_count origin.start.task) (actions_of origin) plan.contexts
         (context_rules_of plan)) result }
 {
     take_goal(enc, board, actions, goal, count)?;
@@ -117,16 +117,16 @@ fn search_goal(
     goal: &ContextGoal,
     count: u32,
 ) -> Result<FairFound, SetErr>
-    requires ready { (search : Search) × At search.start enc.old board.old.slots.items
-        × (search.count ≡ count) }
+    requires ready { (origin : Origin) × At origin.start enc.old board.old.slots.items
+        × (origin.count ≡ count) }
     requires actions { actions ≡ length enc.old.actions }
     requires goal { IsFairGoalOver enc.old.sets.vars goal.now }
     requires count { count ≡ count_of goal.now }
     requires few { count ≤ most_stages }
-    ensures { (search : Search) → At search.start enc.old board.old.slots.items
-        → search.count ≡ count → Ends search.start enc.new board.new.slots.items
-        (λ found. IsThere search (enc.new, board.new.slots.items)
-        × IsAnswer search.start.task (sets_of_goal goal.now) found) result }
+    ensures { (origin : Origin) → At origin.start enc.old board.old.slots.items
+        → origin.count ≡ count → Ends origin.start enc.new board.new.slots.items
+        (λ found. IsThere origin (enc.new, board.new.slots.items)
+        × IsAnswer origin.start.task (sets_of_goal goal.now) found) result }
 {
     if !wins(enc, board, actions, goal, count)? {
         return Ok(FairFound::NoPlan);

@@ -4,7 +4,7 @@ ghost use Rattle.std.specs.Prelude.{◌≡◌, ◌+◌, ◌<◌, ◌≤◌, ℕ,
 ghost use Rattle.plan_rules.specs.Plans.{IsContextOf};
 ghost use Rattle.plan_rules.specs.Plans.{IsContextRuleOf, IsCubeOf};
 ghost use Rattle.plan_rules.specs.Rules.{context_rule_of};
-ghost use Rattle.fair_plan.specs.Boards.{IsThere, Leaves, Search, actions_of};
+ghost use Rattle.fair_plan.specs.Boards.{IsThere, Leaves, Origin, actions_of};
 ghost use Rattle.fair_plan.specs.Goals.{contexts_of, count_of, most_stages};
 ghost use Rattle.fair_plan.specs.Rounds.{AreRules};
 
@@ -54,13 +54,13 @@ fn list_part(
     next: u32,
     action: ActionId,
 ) -> Result<(), SetErr>
-    requires { (search : Search) × IsThere search (enc.now, board.now.slots.items) }
+    requires { (origin : Origin) × IsThere origin (enc.now, board.now.slots.items) }
     ensures never_full { IfErr result (λ e. e ≡ SetErr.Memory) }
-    ensures rules { (search : Search) (contexts : ℕ)
-        → IsThere search (enc.now, board.now.slots.items) → IsContextOf contexts context
-        → IsContextOf contexts next → action.0 < actions_of search
-        → AreRules search contexts rules.old.items
-        → OnOk result (AreRules search contexts rules.new.items) }
+    ensures rules { (origin : Origin) (contexts : ℕ)
+        → IsThere origin (enc.now, board.now.slots.items) → IsContextOf contexts context
+        → IsContextOf contexts next → action.0 < actions_of origin
+        → AreRules origin contexts rules.old.items
+        → OnOk result (AreRules origin contexts rules.new.items) }
 {
     match board.only_cubes(enc, PART) {
         Ok(cubes) => match add_rules(rules, context, next, action, cubes) {
@@ -81,13 +81,13 @@ fn turn_to(
     stage: u32,
     next: u32,
 ) -> Result<(), SetErr>
-    requires ready { (search : Search) × IsThere search (enc.old, board.old.slots.items)
-        × (search.count ≡ count) }
+    requires ready { (origin : Origin) × IsThere origin (enc.old, board.old.slots.items)
+        × (origin.count ≡ count) }
     requires actions { actions ≡ length enc.old.actions }
     requires stage { stage ≤ next }
     requires next { next ≤ count }
-    ensures { (search : Search) → IsThere search (enc.old, board.old.slots.items)
-        → Leaves search (enc.new, board.new.slots.items) ⊤ result }
+    ensures { (origin : Origin) → IsThere origin (enc.old, board.old.slots.items)
+        → Leaves origin (enc.new, board.new.slots.items) ⊤ result }
 {
     make(enc, board, &[Step::Copy(REST, win_at(actions, stage))])?;
     for i in stage..next {
@@ -114,15 +114,15 @@ fn list_turned(
     takers: usize,
     action: ActionId,
 ) -> Result<(), SetErr>
-    requires ready { (search : Search) × IsThere search (enc.old, board.old.slots.items) }
+    requires ready { (origin : Origin) × IsThere origin (enc.old, board.old.slots.items) }
     requires action { action.0 < length enc.old.actions }
     requires places { takers + length enc.old.actions ≤ length board.old.slots.items }
-    ensures { (search : Search) (contexts : ℕ)
-        → IsThere search (enc.old, board.old.slots.items)
+    ensures { (origin : Origin) (contexts : ℕ)
+        → IsThere origin (enc.old, board.old.slots.items)
         → IsContextOf contexts context → IsContextOf contexts next
-        → AreRules search contexts rules.old.items
-        → Leaves search (enc.new, board.new.slots.items)
-        (AreRules search contexts rules.new.items) result }
+        → AreRules origin contexts rules.old.items
+        → Leaves origin (enc.new, board.new.slots.items)
+        (AreRules origin contexts rules.new.items) result }
 {
     let place = takers + action.0 as usize;
     make(
@@ -143,18 +143,18 @@ fn list_next(
     stage: u32,
     next: u32,
 ) -> Result<(), SetErr>
-    requires ready { (search : Search) × IsThere search (enc.old, board.old.slots.items)
-        × (search.count ≡ count) }
+    requires ready { (origin : Origin) × IsThere origin (enc.old, board.old.slots.items)
+        × (origin.count ≡ count) }
     requires actions { actions ≡ length enc.old.actions }
     requires few { count ≤ most_stages }
     requires stage { stage ≤ next }
     requires next { next ≤ count }
-    ensures { (search : Search) (contexts : ℕ)
-        → IsThere search (enc.old, board.old.slots.items)
+    ensures { (origin : Origin) (contexts : ℕ)
+        → IsThere origin (enc.old, board.old.slots.items)
         → count + 1 ≤ contexts
-        → AreRules search contexts rules.old.items
-        → Leaves search (enc.new, board.new.slots.items)
-        (AreRules search contexts rules.new.items) result }
+        → AreRules origin contexts rules.old.items
+        → Leaves origin (enc.new, board.new.slots.items)
+        (AreRules origin contexts rules.new.items) result }
 {
     turn_to(enc, board, actions, count, stage, next)?;
     let takers = takers_at(actions, count, next);
@@ -173,17 +173,17 @@ fn list_context(
     count: u32,
     stage: u32,
 ) -> Result<(), SetErr>
-    requires ready { (search : Search) × IsThere search (enc.old, board.old.slots.items)
-        × (search.count ≡ count) }
+    requires ready { (origin : Origin) × IsThere origin (enc.old, board.old.slots.items)
+        × (origin.count ≡ count) }
     requires actions { actions ≡ length enc.old.actions }
     requires few { count ≤ most_stages }
     requires stage { stage ≤ count }
-    ensures { (search : Search) (contexts : ℕ)
-        → IsThere search (enc.old, board.old.slots.items)
+    ensures { (origin : Origin) (contexts : ℕ)
+        → IsThere origin (enc.old, board.old.slots.items)
         → count + 1 ≤ contexts
-        → AreRules search contexts rules.old.items
-        → Leaves search (enc.new, board.new.slots.items)
-        (AreRules search contexts rules.new.items) result }
+        → AreRules origin contexts rules.old.items
+        → Leaves origin (enc.new, board.new.slots.items)
+        (AreRules origin contexts rules.new.items) result }
 {
     for next in stage..count + 1 {
         list_next(enc, board, rules, actions, count, stage, next)?;
@@ -199,16 +199,16 @@ fn list_chain(
     actions: u32,
     count: u32,
 ) -> Result<(), SetErr>
-    requires ready { (search : Search) × IsThere search (enc.old, board.old.slots.items)
-        × (search.count ≡ count) }
+    requires ready { (origin : Origin) × IsThere origin (enc.old, board.old.slots.items)
+        × (origin.count ≡ count) }
     requires actions { actions ≡ length enc.old.actions }
     requires few { count ≤ most_stages }
-    ensures { (search : Search) (contexts : ℕ)
-        → IsThere search (enc.old, board.old.slots.items)
+    ensures { (origin : Origin) (contexts : ℕ)
+        → IsThere origin (enc.old, board.old.slots.items)
         → count + 1 ≤ contexts
-        → AreRules search contexts rules.old.items
-        → Leaves search (enc.new, board.new.slots.items)
-        (AreRules search contexts rules.new.items) result }
+        → AreRules origin contexts rules.old.items
+        → Leaves origin (enc.new, board.new.slots.items)
+        (AreRules origin contexts rules.new.items) result }
 {
     for stage in 0..count + 1 {
         list_context(enc, board, rules, actions, count, stage)?;
@@ -228,16 +228,16 @@ fn list_taken(
     takers: usize,
     action: ActionId,
 ) -> Result<(), SetErr>
-    requires ready { (search : Search) × IsThere search (enc.old, board.old.slots.items) }
+    requires ready { (origin : Origin) × IsThere origin (enc.old, board.old.slots.items) }
     requires action { action.0 < length enc.old.actions }
     requires places { takers + length enc.old.actions ≤ length board.old.slots.items }
     requires met { met < length board.old.slots.items }
-    ensures { (search : Search) (contexts : ℕ)
-        → IsThere search (enc.old, board.old.slots.items)
+    ensures { (origin : Origin) (contexts : ℕ)
+        → IsThere origin (enc.old, board.old.slots.items)
         → IsContextOf contexts context → IsContextOf contexts next
-        → AreRules search contexts rules.old.items
-        → Leaves search (enc.new, board.new.slots.items)
-        (AreRules search contexts rules.new.items) result }
+        → AreRules origin contexts rules.old.items
+        → Leaves origin (enc.new, board.new.slots.items)
+        (AreRules origin contexts rules.new.items) result }
 {
     let place = takers + action.0 as usize;
     make(
@@ -273,17 +273,17 @@ fn list_visit(
     count: u32,
     visit: u32,
 ) -> Result<(), SetErr>
-    requires ready { (search : Search) × IsThere search (enc.old, board.old.slots.items)
-        × (search.count ≡ count) }
+    requires ready { (origin : Origin) × IsThere origin (enc.old, board.old.slots.items)
+        × (origin.count ≡ count) }
     requires actions { actions ≡ length enc.old.actions }
     requires few { count ≤ most_stages }
     requires visit { visit < count }
-    ensures { (search : Search) (contexts : ℕ)
-        → IsThere search (enc.old, board.old.slots.items)
+    ensures { (origin : Origin) (contexts : ℕ)
+        → IsThere origin (enc.old, board.old.slots.items)
         → count ≤ contexts
-        → AreRules search contexts rules.old.items
-        → Leaves search (enc.new, board.new.slots.items)
-        (AreRules search contexts rules.new.items) result }
+        → AreRules origin contexts rules.old.items
+        → Leaves origin (enc.new, board.new.slots.items)
+        (AreRules origin contexts rules.new.items) result }
 {
     let met = met_at(actions, count, visit);
     let takers = takers_at(actions, count, visit);
@@ -302,16 +302,16 @@ fn list_patrol(
     actions: u32,
     count: u32,
 ) -> Result<(), SetErr>
-    requires ready { (search : Search) × IsThere search (enc.old, board.old.slots.items)
-        × (search.count ≡ count) }
+    requires ready { (origin : Origin) × IsThere origin (enc.old, board.old.slots.items)
+        × (origin.count ≡ count) }
     requires actions { actions ≡ length enc.old.actions }
     requires few { count ≤ most_stages }
-    ensures { (search : Search) (contexts : ℕ)
-        → IsThere search (enc.old, board.old.slots.items)
+    ensures { (origin : Origin) (contexts : ℕ)
+        → IsThere origin (enc.old, board.old.slots.items)
         → count ≤ contexts
-        → AreRules search contexts rules.old.items
-        → Leaves search (enc.new, board.new.slots.items)
-        (AreRules search contexts rules.new.items) result }
+        → AreRules origin contexts rules.old.items
+        → Leaves origin (enc.new, board.new.slots.items)
+        (AreRules origin contexts rules.new.items) result }
 {
     for visit in 0..count {
         list_visit(enc, board, rules, actions, count, visit)?;
@@ -328,17 +328,17 @@ pub(crate) fn list_goal(
     goal: &ContextGoal,
     count: u32,
 ) -> Result<(), SetErr>
-    requires ready { (search : Search) × IsThere search (enc.old, board.old.slots.items)
-        × (search.count ≡ count) }
+    requires ready { (origin : Origin) × IsThere origin (enc.old, board.old.slots.items)
+        × (origin.count ≡ count) }
     requires actions { actions ≡ length enc.old.actions }
     requires few { count ≤ most_stages }
     requires count { count ≡ count_of goal.now }
-    ensures { (search : Search) (contexts : ℕ)
-        → IsThere search (enc.old, board.old.slots.items)
+    ensures { (origin : Origin) (contexts : ℕ)
+        → IsThere origin (enc.old, board.old.slots.items)
         → contexts ≡ contexts_of goal.now
-        → AreRules search contexts rules.old.items
-        → Leaves search (enc.new, board.new.slots.items)
-        (AreRules search contexts rules.new.items) result }
+        → AreRules origin contexts rules.old.items
+        → Leaves origin (enc.new, board.new.slots.items)
+        (AreRules origin contexts rules.new.items) result }
 {
     match goal {
         ContextGoal::Until(_) => list_chain(enc, board, rules, actions, count),

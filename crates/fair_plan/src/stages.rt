@@ -8,7 +8,7 @@ ghost use Rattle.fair_theory.specs.FairPlans.{sets_of_goal};
 ghost use Rattle.fair_theory.specs.FairSets.{IsChainWin, IsFairWin, IsLargestFairSet, patrol_asks};
 ghost use Rattle.plan_theory.specs.UntilChains.{SetStage};
 ghost use Rattle.task_core.specs.Cubes.{SetOfVectors};
-ghost use Rattle.fair_plan.specs.Boards.{IsThere, Leaves, Search, actions_of, states_in, sys_of};
+ghost use Rattle.fair_plan.specs.Boards.{IsThere, Leaves, Origin, actions_of, states_in, sys_of};
 ghost use Rattle.fair_plan.specs.Goals.{IsChainOver, IsConditionOver, IsFairGoalOver, IsPatrolOver};
 ghost use Rattle.fair_plan.specs.Goals.{count_of};
 ghost use Rattle.fair_plan.specs.Places.{win_place};
@@ -32,14 +32,14 @@ fn win_end(
     keep: &Cond,
     win: usize,
 ) -> Result<(), SetErr>
-    requires ready { (search : Search) × IsThere search (enc.old, board.old.slots.items) }
+    requires ready { (origin : Origin) × IsThere origin (enc.old, board.old.slots.items) }
     requires actions { actions ≡ length enc.old.actions }
     requires keep { IsConditionOver enc.old.sets.vars keep.now }
     requires place { win < length board.old.slots.items }
     requires high { 8 + actions ≤ win }
-    ensures { (search : Search) → IsThere search (enc.old, board.old.slots.items)
-        → Leaves search (enc.new, board.new.slots.items)
-        (IsChainWin (sys_of search) (states_of keep.now) []
+    ensures { (origin : Origin) → IsThere origin (enc.old, board.old.slots.items)
+        → Leaves origin (enc.new, board.new.slots.items)
+        (IsChainWin (sys_of origin) (states_of keep.now) []
         (states_in (enc.new, board.new.slots.items) win)) result }
 {
     put_condition(enc, board, LEFT, keep)?;
@@ -57,14 +57,14 @@ fn aim_at(
     win: usize,
     met: usize,
 ) -> Result<(), SetErr>
-    requires ready { (search : Search) × IsThere search (enc.old, board.old.slots.items) }
+    requires ready { (origin : Origin) × IsThere origin (enc.old, board.old.slots.items) }
     requires stage { EachInStage (IsConditionOver enc.old.sets.vars) stage.now }
     requires place { met < length board.old.slots.items }
     requires later { win + 1 < met }
     requires high { 8 ≤ win }
-    ensures { (search : Search) → IsThere search (enc.old, board.old.slots.items)
-        → Leaves search (enc.new, board.new.slots.items)
-        (AimsAt search (stage_sets stage.now) (enc.old, board.old.slots.items)
+    ensures { (origin : Origin) → IsThere origin (enc.old, board.old.slots.items)
+        → Leaves origin (enc.new, board.new.slots.items)
+        (AimsAt origin (stage_sets stage.now) (enc.old, board.old.slots.items)
         (enc.new, board.new.slots.items) (win + 1) met) result }
 {
     put_condition(enc, board, GUARD, &stage.guard)?;
@@ -88,18 +88,18 @@ fn win_stage(
     win: usize,
     met: usize,
 ) -> Result<(), SetErr>
-    requires ready { (search : Search) × IsThere search (enc.old, board.old.slots.items) }
+    requires ready { (origin : Origin) × IsThere origin (enc.old, board.old.slots.items) }
     requires actions { actions ≡ length enc.old.actions }
     requires stage { EachInStage (IsConditionOver enc.old.sets.vars) stage.now }
     requires place { met < length board.old.slots.items }
     requires later { win + 1 < met }
     requires high { 8 + actions ≤ win }
-    ensures { (search : Search) (keep : SetOfVectors) (rest : List SetStage)
-        → IsThere search (enc.old, board.old.slots.items)
-        → IsChainWin (sys_of search) keep rest
+    ensures { (origin : Origin) (keep : SetOfVectors) (rest : List SetStage)
+        → IsThere origin (enc.old, board.old.slots.items)
+        → IsChainWin (sys_of origin) keep rest
         (states_in (enc.old, board.old.slots.items) (win + 1))
-        → Leaves search (enc.new, board.new.slots.items)
-        (IsChainWin (sys_of search) keep (stage_sets stage.now ∷ rest)
+        → Leaves origin (enc.new, board.new.slots.items)
+        (IsChainWin (sys_of origin) keep (stage_sets stage.now ∷ rest)
         (states_in (enc.new, board.new.slots.items) win)) result }
 {
     aim_at(enc, board, stage, win, met)?;
@@ -115,16 +115,16 @@ fn win_chain(
     chain: &UntilChain,
     count: u32,
 ) -> Result<(), SetErr>
-    requires ready { (search : Search) × IsThere search (enc.old, board.old.slots.items)
-        × (search.count ≡ count) }
+    requires ready { (origin : Origin) × IsThere origin (enc.old, board.old.slots.items)
+        × (origin.count ≡ count) }
     requires actions { actions ≡ length enc.old.actions }
     requires chain { IsChainOver enc.old.sets.vars chain.now }
     requires count { count ≡ length chain.now.stages.items }
-    ensures { (search : Search) → IsThere search (enc.old, board.old.slots.items)
-        → search.count ≡ count → Leaves search (enc.new, board.new.slots.items)
-        (IsChainWin (sys_of search) (states_of chain.now.keep)
+    ensures { (origin : Origin) → IsThere origin (enc.old, board.old.slots.items)
+        → origin.count ≡ count → Leaves origin (enc.new, board.new.slots.items)
+        (IsChainWin (sys_of origin) (states_of chain.now.keep)
         (map stage_sets chain.now.stages.items) (states_in (enc.new, board.new.slots.items)
-        (win_place (actions_of search) 0))) result }
+        (win_place (actions_of origin) 0))) result }
 {
     win_end(enc, board, actions, &chain.keep, win_at(actions, count))?;
     for i in (0..count).rev() {
@@ -142,12 +142,12 @@ fn win_chain(
 
 /// Puts the states of each visit at its place.
 fn put_visits(enc: &mut Enc, board: &mut Board, visits: &[Cond], first: usize) -> Result<(), SetErr>
-    requires ready { (search : Search) × IsThere search (enc.old, board.old.slots.items) }
+    requires ready { (origin : Origin) × IsThere origin (enc.old, board.old.slots.items) }
     requires visits { All (IsConditionOver enc.old.sets.vars) visits.now }
     requires places { first + length visits.now ≤ length board.old.slots.items }
-    ensures { (search : Search) → IsThere search (enc.old, board.old.slots.items)
-        → Leaves search (enc.new, board.new.slots.items)
-        (HasVisits search visits.now first (enc.new, board.new.slots.items) (length visits.now))
+    ensures { (origin : Origin) → IsThere origin (enc.old, board.old.slots.items)
+        → Leaves origin (enc.new, board.new.slots.items)
+        (HasVisits origin visits.now first (enc.new, board.new.slots.items) (length visits.now))
         result }
 {
     for i in 0..visits.len() {
@@ -164,15 +164,15 @@ fn win_patrol(
     visits: &[Cond],
     count: u32,
 ) -> Result<(), SetErr>
-    requires ready { (search : Search) × IsThere search (enc.old, board.old.slots.items)
-        × (search.count ≡ count) }
+    requires ready { (origin : Origin) × IsThere origin (enc.old, board.old.slots.items)
+        × (origin.count ≡ count) }
     requires actions { actions ≡ length enc.old.actions }
     requires visits { IsPatrolOver enc.old.sets.vars visits.now }
     requires count { count ≡ length visits.now }
-    ensures { (search : Search) → IsThere search (enc.old, board.old.slots.items)
-        → search.count ≡ count → Leaves search (enc.new, board.new.slots.items)
-        (IsLargestFairSet (sys_of search) (patrol_asks (map states_of visits.now))
-        (states_in (enc.new, board.new.slots.items) (win_place (actions_of search) 0))) result }
+    ensures { (origin : Origin) → IsThere origin (enc.old, board.old.slots.items)
+        → origin.count ≡ count → Leaves origin (enc.new, board.new.slots.items)
+        (IsLargestFairSet (sys_of origin) (patrol_asks (map states_of visits.now))
+        (states_in (enc.new, board.new.slots.items) (win_place (actions_of origin) 0))) result }
 {
     let first = met_at(actions, count, 0);
     put_visits(enc, board, visits, first)?;
@@ -189,15 +189,15 @@ pub(crate) fn win_goal(
     goal: &ContextGoal,
     count: u32,
 ) -> Result<(), SetErr>
-    requires ready { (search : Search) × IsThere search (enc.old, board.old.slots.items)
-        × (search.count ≡ count) }
+    requires ready { (origin : Origin) × IsThere origin (enc.old, board.old.slots.items)
+        × (origin.count ≡ count) }
     requires actions { actions ≡ length enc.old.actions }
     requires goal { IsFairGoalOver enc.old.sets.vars goal.now }
     requires count { count ≡ count_of goal.now }
-    ensures { (search : Search) → IsThere search (enc.old, board.old.slots.items)
-        → search.count ≡ count → Leaves search (enc.new, board.new.slots.items)
-        (IsFairWin (sys_of search) (sets_of_goal goal.now)
-        (states_in (enc.new, board.new.slots.items) (win_place (actions_of search) 0))) result }
+    ensures { (origin : Origin) → IsThere origin (enc.old, board.old.slots.items)
+        → origin.count ≡ count → Leaves origin (enc.new, board.new.slots.items)
+        (IsFairWin (sys_of origin) (sets_of_goal goal.now)
+        (states_in (enc.new, board.new.slots.items) (win_place (actions_of origin) 0))) result }
 {
     match goal {
         ContextGoal::Until(chain) => win_chain(enc, board, actions, chain, count),

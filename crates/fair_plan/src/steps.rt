@@ -4,7 +4,7 @@ ghost use Rattle.std.specs.Prelude.{◌<◌, length};
 ghost use Rattle.dd_sets.specs.LiveSets.{everything};
 ghost use Rattle.slot_board.specs.Board.{At};
 ghost use Rattle.task_core.specs.Conditions.{holds};
-ghost use Rattle.fair_plan.specs.Boards.{AreStepsOf, IsAfter, IsThere, Leaves, Puts, Search};
+ghost use Rattle.fair_plan.specs.Boards.{AreStepsOf, IsAfter, IsThere, Leaves, Puts, Origin};
 ghost use Rattle.fair_plan.specs.Goals.{IsConditionOver};
 
 use crate::places::GUARD;
@@ -16,10 +16,10 @@ use task_core::Cond;
 
 /// Begins with a guard that asks for nothing.
 pub(crate) fn begin(enc: &mut Enc, board: &mut Board) -> Result<(), SetErr>
-    requires { (search : Search) × At search.start enc.old board.old.slots.items }
-    ensures { (search : Search) → At search.start enc.old board.old.slots.items
-        → Leaves search (enc.new, board.new.slots.items)
-        (Puts search (enc.old, board.old.slots.items) (enc.new, board.new.slots.items) 6 everything)
+    requires { (origin : Origin) × At origin.start enc.old board.old.slots.items }
+    ensures { (origin : Origin) → At origin.start enc.old board.old.slots.items
+        → Leaves origin (enc.new, board.new.slots.items)
+        (Puts origin (enc.old, board.old.slots.items) (enc.new, board.new.slots.items) 6 everything)
         result }
 {
     board.whole(enc, GUARD)
@@ -27,12 +27,12 @@ pub(crate) fn begin(enc: &mut Enc, board: &mut Board) -> Result<(), SetErr>
 
 /// Makes steps in turn.
 pub(crate) fn make(enc: &mut Enc, board: &mut Board, steps: &[Step]) -> Result<(), SetErr>
-    requires { (search : Search) × IsThere search (enc.old, board.old.slots.items)
-        × AreStepsOf search steps.now }
-    ensures { (search : Search) → IsThere search (enc.old, board.old.slots.items)
-        → AreStepsOf search steps.now
-        → Leaves search (enc.new, board.new.slots.items)
-        (IsAfter search (enc.old, board.old.slots.items) (enc.new, board.new.slots.items)
+    requires { (origin : Origin) × IsThere origin (enc.old, board.old.slots.items)
+        × AreStepsOf origin steps.now }
+    ensures { (origin : Origin) → IsThere origin (enc.old, board.old.slots.items)
+        → AreStepsOf origin steps.now
+        → Leaves origin (enc.new, board.new.slots.items)
+        (IsAfter origin (enc.old, board.old.slots.items) (enc.new, board.new.slots.items)
         steps.now) result }
 {
     make_all(enc, board, steps)
@@ -45,12 +45,12 @@ pub(crate) fn put_condition(
     place: usize,
     cond: &Cond,
 ) -> Result<(), SetErr>
-    requires ready { (search : Search) × IsThere search (enc.old, board.old.slots.items) }
+    requires ready { (origin : Origin) × IsThere origin (enc.old, board.old.slots.items) }
     requires place { place < length board.old.slots.items }
     requires cond { IsConditionOver enc.old.sets.vars cond.now }
-    ensures { (search : Search) → IsThere search (enc.old, board.old.slots.items)
-        → Leaves search (enc.new, board.new.slots.items)
-        (Puts search (enc.old, board.old.slots.items) (enc.new, board.new.slots.items) place
+    ensures { (origin : Origin) → IsThere origin (enc.old, board.old.slots.items)
+        → Leaves origin (enc.new, board.new.slots.items)
+        (Puts origin (enc.old, board.old.slots.items) (enc.new, board.new.slots.items) place
         (holds cond.now)) result }
 {
     board.condition(enc, place, cond)

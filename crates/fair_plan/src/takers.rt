@@ -3,7 +3,7 @@
 
 ghost use Rattle.std.specs.Prelude.{◌≡◌, ◌+◌, ◌<◌, ◌≤◌, ⊤, length};
 ghost use Rattle.ctl_syntax.specs.GoalValues.{EachInStage};
-ghost use Rattle.fair_plan.specs.Boards.{IsThere, Leaves, Search};
+ghost use Rattle.fair_plan.specs.Boards.{IsThere, Leaves, Origin};
 ghost use Rattle.fair_plan.specs.Goals.{IsChainOver, IsConditionOver, IsFairGoalOver, count_of};
 ghost use Rattle.fair_plan.specs.Goals.{most_stages};
 ghost use Rattle.fair_plan.specs.Rounds.{Climbs, ClimbsOnce};
@@ -20,11 +20,11 @@ use task_core::ActionId;
 
 /// Has an action taken by those states without one in which it may be.
 fn share_by(enc: &mut Enc, board: &mut Board, takers: usize, a: ActionId) -> Result<(), SetErr>
-    requires ready { (search : Search) × IsThere search (enc.old, board.old.slots.items) }
+    requires ready { (origin : Origin) × IsThere origin (enc.old, board.old.slots.items) }
     requires action { a.0 < length enc.old.actions }
     requires places { takers + length enc.old.actions ≤ length board.old.slots.items }
-    ensures { (search : Search) → IsThere search (enc.old, board.old.slots.items)
-        → Leaves search (enc.new, board.new.slots.items) ⊤ result }
+    ensures { (origin : Origin) → IsThere origin (enc.old, board.old.slots.items)
+        → Leaves origin (enc.new, board.new.slots.items) ⊤ result }
 {
     let place = takers + a.0 as usize;
     let pairs = pairs_at(a);
@@ -40,11 +40,11 @@ fn share_by(enc: &mut Enc, board: &mut Board, takers: usize, a: ActionId) -> Res
 
 /// Gives each of the states without an action the least-numbered one that may be taken.
 fn share(enc: &mut Enc, board: &mut Board, actions: u32, takers: usize) -> Result<(), SetErr>
-    requires ready { (search : Search) × IsThere search (enc.old, board.old.slots.items) }
+    requires ready { (origin : Origin) × IsThere origin (enc.old, board.old.slots.items) }
     requires actions { actions ≡ length enc.old.actions }
     requires places { takers + actions ≤ length board.old.slots.items }
-    ensures { (search : Search) → IsThere search (enc.old, board.old.slots.items)
-        → Leaves search (enc.new, board.new.slots.items) ⊤ result }
+    ensures { (origin : Origin) → IsThere origin (enc.old, board.old.slots.items)
+        → Leaves origin (enc.new, board.new.slots.items) ⊤ result }
 {
     for a in 0..actions {
         share_by(enc, board, takers, ActionId(a))?;
@@ -55,12 +55,12 @@ fn share(enc: &mut Enc, board: &mut Board, actions: u32, takers: usize) -> Resul
 /// Has an action taken by the states that aren't near yet, in which it may be taken, and from which it
 /// may lead to one that was near before.
 fn climb_by(enc: &mut Enc, board: &mut Board, takers: usize, a: ActionId) -> Result<(), SetErr>
-    requires ready { (search : Search) × IsThere search (enc.old, board.old.slots.items) }
+    requires ready { (origin : Origin) × IsThere origin (enc.old, board.old.slots.items) }
     requires action { a.0 < length enc.old.actions }
     requires places { takers + length enc.old.actions ≤ length board.old.slots.items }
     requires high { 8 ≤ takers }
-    ensures { (search : Search) → IsThere search (enc.old, board.old.slots.items)
-        → Leaves search (enc.new, board.new.slots.items)
+    ensures { (origin : Origin) → IsThere origin (enc.old, board.old.slots.items)
+        → Leaves origin (enc.new, board.new.slots.items)
         (Climbs (enc.old, board.old.slots.items) (enc.new, board.new.slots.items)) result }
 {
     let place = takers + a.0 as usize;
@@ -80,12 +80,12 @@ fn climb_by(enc: &mut Enc, board: &mut Board, takers: usize, a: ActionId) -> Res
 
 /// Does that by each action.
 fn climb_once(enc: &mut Enc, board: &mut Board, actions: u32, takers: usize) -> Result<(), SetErr>
-    requires ready { (search : Search) × IsThere search (enc.old, board.old.slots.items) }
+    requires ready { (origin : Origin) × IsThere origin (enc.old, board.old.slots.items) }
     requires actions { actions ≡ length enc.old.actions }
     requires places { takers + actions ≤ length board.old.slots.items }
     requires high { 8 ≤ takers }
-    ensures { (search : Search) → IsThere search (enc.old, board.old.slots.items)
-        → Leaves search (enc.new, board.new.slots.items)
+    ensures { (origin : Origin) → IsThere origin (enc.old, board.old.slots.items)
+        → Leaves origin (enc.new, board.new.slots.items)
         (ClimbsOnce (enc.old, board.old.slots.items) (enc.new, board.new.slots.items)) result }
 {
     make(enc, board, &[Step::Copy(BEFORE, NEAR)])?;
@@ -104,13 +104,13 @@ fn climb(
     target: usize,
     takers: usize,
 ) -> Result<(), SetErr>
-    requires ready { (search : Search) × IsThere search (enc.old, board.old.slots.items) }
+    requires ready { (origin : Origin) × IsThere origin (enc.old, board.old.slots.items) }
     requires actions { actions ≡ length enc.old.actions }
     requires places { takers + actions ≤ length board.old.slots.items }
     requires high { 8 ≤ takers }
     requires target { target < length board.old.slots.items }
-    ensures { (search : Search) → IsThere search (enc.old, board.old.slots.items)
-        → Leaves search (enc.new, board.new.slots.items) ⊤ result }
+    ensures { (origin : Origin) → IsThere origin (enc.old, board.old.slots.items)
+        → Leaves origin (enc.new, board.new.slots.items) ⊤ result }
 {
     make(enc, board, &[Step::Copy(NEAR, target)])?;
     climb_once(enc, board, actions, takers)?;
@@ -122,11 +122,11 @@ fn climb(
 
 /// Finds the states in which each action may be taken, with every outcome in the states at a place.
 fn pair_within(enc: &mut Enc, board: &mut Board, actions: u32, win: usize) -> Result<(), SetErr>
-    requires ready { (search : Search) × IsThere search (enc.old, board.old.slots.items) }
+    requires ready { (origin : Origin) × IsThere origin (enc.old, board.old.slots.items) }
     requires actions { actions ≡ length enc.old.actions }
     requires place { win < length board.old.slots.items }
-    ensures { (search : Search) → IsThere search (enc.old, board.old.slots.items)
-        → Leaves search (enc.new, board.new.slots.items) ⊤ result }
+    ensures { (origin : Origin) → IsThere origin (enc.old, board.old.slots.items)
+        → Leaves origin (enc.new, board.new.slots.items) ⊤ result }
 {
     make(enc, board, &[Step::Copy(LAST, win)])?;
     pair_all(enc, board, actions)
@@ -140,12 +140,12 @@ fn take_end(
     win: usize,
     takers: usize,
 ) -> Result<(), SetErr>
-    requires ready { (search : Search) × IsThere search (enc.old, board.old.slots.items) }
+    requires ready { (origin : Origin) × IsThere origin (enc.old, board.old.slots.items) }
     requires actions { actions ≡ length enc.old.actions }
     requires places { takers + actions ≤ length board.old.slots.items }
     requires place { win < length board.old.slots.items }
-    ensures { (search : Search) → IsThere search (enc.old, board.old.slots.items)
-        → Leaves search (enc.new, board.new.slots.items) ⊤ result }
+    ensures { (origin : Origin) → IsThere origin (enc.old, board.old.slots.items)
+        → Leaves origin (enc.new, board.new.slots.items) ⊤ result }
 {
     make(enc, board, &[Step::Whole(GUARD), Step::Copy(REST, win)])?;
     pair_within(enc, board, actions, win)?;
@@ -162,15 +162,15 @@ fn take_stage(
     met: usize,
     takers: usize,
 ) -> Result<(), SetErr>
-    requires ready { (search : Search) × IsThere search (enc.old, board.old.slots.items) }
+    requires ready { (origin : Origin) × IsThere origin (enc.old, board.old.slots.items) }
     requires actions { actions ≡ length enc.old.actions }
     requires stage { EachInStage (IsConditionOver enc.old.sets.vars) stage.now }
     requires places { takers + actions ≤ length board.old.slots.items }
     requires high { 8 ≤ takers }
     requires win { win < length board.old.slots.items }
     requires met { met < length board.old.slots.items }
-    ensures { (search : Search) → IsThere search (enc.old, board.old.slots.items)
-        → Leaves search (enc.new, board.new.slots.items) ⊤ result }
+    ensures { (origin : Origin) → IsThere origin (enc.old, board.old.slots.items)
+        → Leaves origin (enc.new, board.new.slots.items) ⊤ result }
 {
     put_condition(enc, board, GUARD, &stage.guard)?;
     pair_within(enc, board, actions, win)?;
@@ -185,13 +185,13 @@ fn take_chain(
     chain: &UntilChain,
     count: u32,
 ) -> Result<(), SetErr>
-    requires ready { (search : Search) × IsThere search (enc.old, board.old.slots.items)
-        × (search.count ≡ count) }
+    requires ready { (origin : Origin) × IsThere origin (enc.old, board.old.slots.items)
+        × (origin.count ≡ count) }
     requires actions { actions ≡ length enc.old.actions }
     requires chain { IsChainOver enc.old.sets.vars chain.now }
     requires count { count ≡ length chain.now.stages.items }
-    ensures { (search : Search) → IsThere search (enc.old, board.old.slots.items)
-        → Leaves search (enc.new, board.new.slots.items) ⊤ result }
+    ensures { (origin : Origin) → IsThere origin (enc.old, board.old.slots.items)
+        → Leaves origin (enc.new, board.new.slots.items) ⊤ result }
 {
     for i in 0..count {
         take_stage(
@@ -222,13 +222,13 @@ fn take_visit(
     met: usize,
     takers: usize,
 ) -> Result<(), SetErr>
-    requires ready { (search : Search) × IsThere search (enc.old, board.old.slots.items) }
+    requires ready { (origin : Origin) × IsThere origin (enc.old, board.old.slots.items) }
     requires actions { actions ≡ length enc.old.actions }
     requires places { takers + actions ≤ length board.old.slots.items }
     requires high { 8 ≤ takers }
     requires met { met < length board.old.slots.items }
-    ensures { (search : Search) → IsThere search (enc.old, board.old.slots.items)
-        → Leaves search (enc.new, board.new.slots.items) ⊤ result }
+    ensures { (origin : Origin) → IsThere origin (enc.old, board.old.slots.items)
+        → Leaves origin (enc.new, board.new.slots.items) ⊤ result }
 {
     make(enc, board, &[Step::Copy(REST, met)])?;
     share(enc, board, actions, takers)?;
@@ -237,12 +237,12 @@ fn take_visit(
 
 /// Has the actions towards all visits of a patrol taken.
 fn take_patrol(enc: &mut Enc, board: &mut Board, actions: u32, count: u32) -> Result<(), SetErr>
-    requires ready { (search : Search) × IsThere search (enc.old, board.old.slots.items)
-        × (search.count ≡ count) }
+    requires ready { (origin : Origin) × IsThere origin (enc.old, board.old.slots.items)
+        × (origin.count ≡ count) }
     requires actions { actions ≡ length enc.old.actions }
     requires count { count ≤ most_stages }
-    ensures { (search : Search) → IsThere search (enc.old, board.old.slots.items)
-        → Leaves search (enc.new, board.new.slots.items) ⊤ result }
+    ensures { (origin : Origin) → IsThere origin (enc.old, board.old.slots.items)
+        → Leaves origin (enc.new, board.new.slots.items) ⊤ result }
 {
     make(enc, board, &[Step::Whole(GUARD)])?;
     pair_within(enc, board, actions, win_at(actions, 0))?;
@@ -266,13 +266,13 @@ pub(crate) fn take_goal(
     goal: &ContextGoal,
     count: u32,
 ) -> Result<(), SetErr>
-    requires ready { (search : Search) × IsThere search (enc.old, board.old.slots.items)
-        × (search.count ≡ count) }
+    requires ready { (origin : Origin) × IsThere origin (enc.old, board.old.slots.items)
+        × (origin.count ≡ count) }
     requires actions { actions ≡ length enc.old.actions }
     requires goal { IsFairGoalOver enc.old.sets.vars goal.now }
     requires count { count ≡ count_of goal.now }
-    ensures { (search : Search) → IsThere search (enc.old, board.old.slots.items)
-        → Leaves search (enc.new, board.new.slots.items) ⊤ result }
+    ensures { (origin : Origin) → IsThere origin (enc.old, board.old.slots.items)
+        → Leaves origin (enc.new, board.new.slots.items) ⊤ result }
 {
     match goal {
         ContextGoal::Until(chain) => take_chain(enc, board, actions, chain, count),

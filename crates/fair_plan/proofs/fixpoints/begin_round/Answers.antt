@@ -4,21 +4,21 @@ use Rattle.slot_board.proofs.BoardSlots.{passed}
 use Rattle.slot_board.specs.declared.board.Operation.TheVariants.{Minus}
 use Rattle.board_steps.specs.declared.steps.Step.TheVariants.{Combine, Copy}
 use Rattle.std.proofs.Common.{[], ◌∷◌}
-use Rattle.fair_plan.specs.Boards.{AreStepsOf, Search, actions_of}
+use Rattle.fair_plan.specs.Boards.{AreStepsOf, Origin, Scene, actions_of}
 use Rattle.fair_plan.proofs.Boards.{actions_are, done, leaves_with, low}
 use Rattle.fair_plan.proofs.Rounds.{round_begun}
 use Rattle.fair_plan.proofs.fixpoints.begin_round.Goals as goal
 
-can : (search : Search) → AreStepsOf search (Copy 4 5 ∷ Combine 3 Minus 4 4 ∷ [])
-can search = ((low search 4 (omega arith), low search 5 (omega arith)), ((low search 3 (omega arith), low search 4 (omega arith), low search 4 (omega arith)), tt))
+can : (origin : Origin) → AreStepsOf origin (Copy 4 5 ∷ Combine 3 Minus 4 4 ∷ [])
+can origin = ((low origin 4 (omega arith), low origin 5 (omega arith)), ((low origin 3 (omega arith), low origin 4 (omega arith), low origin 4 (omega arith)), tt))
 
 pub make-requires : goal.make-requires
 make-requires c = let r = c.requires.ready in (r.0, r.1, can r.0)
 
 pub returns-in_err-make : goal.returns-in_err-make
-returns-in_err-make c search there =
-    passed search.start c.make.new.enc c.make.new.board.slots.items _ _ c.make.result c.from_residual.result _ c.in_err-make.was (err_from_is_err_and c.from_residual.result c.from_residual.ensures.1)
-    (c.make.ensures search there (can search))
+returns-in_err-make c origin there =
+    passed origin.start c.make.new.enc c.make.new.board.slots.items _ _ c.make.result c.from_residual.result _ c.in_err-make.was (err_from_is_err_and c.from_residual.result c.from_residual.ensures.1)
+    (c.make.ensures origin there (can origin))
 
 pub pair_all-requires-clause-ready : goal.pair_all-requires-clause-ready
 pair_all-requires-clause-ready c =
@@ -35,9 +35,9 @@ pair_all-requires-clause-actions c =
     omega (arith, c.requires.actions)
 
 pub returns : goal.returns
-returns c search there =
-    let x = (c.args.enc.now, c.args.board.now.slots.items) in
-    let m = (c.make.new.enc, c.make.new.board.slots.items) in
-    let y = (c.pair_all.new.enc, c.pair_all.new.board.slots.items) in
-    let first = done search m _ c.make.result _ c.in_ok-make.was (c.make.ensures search there (can search)) in
-    leaves_with search y _ _ c.pair_all.result (λ now pairs. round_begun search x m y first.1 pairs) (c.pair_all.ensures search first.0)
+returns c origin there =
+    let x : Scene = (c.args.enc.now, c.args.board.now.slots.items) in
+    let m : Scene = (c.make.new.enc, c.make.new.board.slots.items) in
+    let y : Scene = (c.pair_all.new.enc, c.pair_all.new.board.slots.items) in
+    let first = done origin m _ c.make.result _ c.in_ok-make.was (c.make.ensures origin there (can origin)) in
+    leaves_with origin y _ _ c.pair_all.result (λ now pairs. round_begun origin x m y first.1 pairs) (c.pair_all.ensures origin first.0)

@@ -1,14 +1,14 @@
 use Rattle.plan_theory.proofs.RoundSteps.{held}
 use Rattle.task_core.specs.Vectors.{all_vectors}
 use Rattle.fair_theory.specs.FairSets.{Asked}
-use Rattle.fair_plan.specs.Boards.{IsThere, Search, states_in}
+use Rattle.fair_plan.specs.Boards.{IsThere, Origin, states_in}
 use Rattle.fair_plan.specs.Rounds.{Begins, HasRound}
 use Rattle.fair_plan.proofs.fixpoints.find_largest.Given as goal
 
 abbrev pub invariant-loop-enc : goal.invariant-loop-enc
-invariant-loop-enc l = (search : Search) (asked : Asked) → IsThere search (l.fn.enc, l.fn.board.slots.items)
-    → Begins search asked l.fn.stays l.fn.first l.fn.count (l.fn.enc, l.fn.board.slots.items)
-    → IsThere search (l.enc, l.board.slots.items) × HasRound search asked l.fn.first (l.enc, l.board.slots.items)
+invariant-loop-enc l = (origin : Origin) (asked : Asked) → IsThere origin (l.fn.enc, l.fn.board.slots.items)
+    → Begins origin asked l.fn.stays l.fn.first l.fn.count (l.fn.enc, l.fn.board.slots.items)
+    → IsThere origin (l.enc, l.board.slots.items) × HasRound origin asked l.fn.first (l.enc, l.board.slots.items)
 
 -- how many states the last round began with
 abbrev pub decreases-loop-enc : goal.decreases-loop-enc

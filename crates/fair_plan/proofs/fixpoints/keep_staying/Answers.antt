@@ -1,4 +1,5 @@
 use Rattle.std.proofs.Common.{arith}
+use Rattle.fair_plan.specs.Boards.{Scene}
 use Rattle.fair_plan.proofs.Boards.{leaves_with, low}
 use Rattle.fair_plan.proofs.Rounds.{stays_made, stays_not}
 use Rattle.fair_plan.proofs.fixpoints.keep_staying.Goals as goal
@@ -7,11 +8,11 @@ pub make-requires : goal.make-requires
 make-requires c = let r = c.requires in (r.0, r.1, ((low r.0 5 (omega arith), low r.0 5 (omega arith), low r.0 3 (omega arith)), tt))
 
 pub returns-then-stays : goal.returns-then-stays
-returns-then-stays c search there =
-    let x = (c.args.enc.now, c.args.board.now.slots.items) in
-    let y = (c.make.new.enc, c.make.new.board.slots.items) in
-    leaves_with search y _ _ c.make.result (λ now after. stays_made search x y c.args.stays c.if-stays.true after)
-    (c.make.ensures search there ((low search 5 (omega arith), low search 5 (omega arith), low search 3 (omega arith)), tt))
+returns-then-stays c origin there =
+    let x : Scene = (c.args.enc.now, c.args.board.now.slots.items) in
+    let y : Scene = (c.make.new.enc, c.make.new.board.slots.items) in
+    leaves_with origin y _ _ c.make.result (λ now after. stays_made origin x y c.args.stays c.if-stays.true after)
+    (c.make.ensures origin there ((low origin 5 (omega arith), low origin 5 (omega arith), low origin 3 (omega arith)), tt))
 
 pub returns : goal.returns
-returns c search there = (there, stays_not search (c.args.enc.now, c.args.board.now.slots.items) c.args.stays c.if-stays.false)
+returns c origin there = (there, stays_not origin (c.args.enc.now, c.args.board.now.slots.items) c.args.stays c.if-stays.false)

@@ -1,6 +1,7 @@
 use Rattle.std.proofs.Common.{arith, ◌+◌}
 use Rattle.std.proofs.lemmas.Result.{err_from_is_err_and}
 use Rattle.slot_board.proofs.BoardSlots.{passed}
+use Rattle.fair_plan.specs.Boards.{Scene}
 use Rattle.fair_plan.proofs.Boards.{done, in_at, in_start, leaves_with, low_in}
 use Rattle.fair_plan.proofs.Goals.{aim_can, aims_at, cond_still}
 use Rattle.fair_plan.proofs.stages.aim_at.Goals as goal
@@ -12,8 +13,8 @@ pub put_condition-requires-clause-cond : goal.put_condition-requires-clause-cond
 put_condition-requires-clause-cond c = c.requires.stage.guard
 
 pub returns-in_err-put_condition : goal.returns-in_err-put_condition
-returns-in_err-put_condition c search there =
-    passed search.start c.put_condition.new.enc c.put_condition.new.board.slots.items _ _ c.put_condition.result c.from_residual.result _ c.in_err-put_condition.was (err_from_is_err_and c.from_residual.result c.from_residual.ensures.1) (c.put_condition.ensures search there)
+returns-in_err-put_condition c origin there =
+    passed origin.start c.put_condition.new.enc c.put_condition.new.board.slots.items _ _ c.put_condition.result c.from_residual.result _ c.in_err-put_condition.was (err_from_is_err_and c.from_residual.result c.from_residual.ensures.1) (c.put_condition.ensures origin there)
 
 pub put_condition-requires-2-clause-ready : goal.put_condition-requires-2-clause-ready
 put_condition-requires-2-clause-ready c =
@@ -34,9 +35,9 @@ put_condition-requires-2-clause-cond c =
     cond_still r.0 (c.args.enc.now, c.args.board.now.slots.items) (c.put_condition.new.enc, c.put_condition.new.board.slots.items) c.args.stage.now.target r.1 put.0 c.requires.stage.target
 
 pub returns-in_err-put_condition-2 : goal.returns-in_err-put_condition-2
-returns-in_err-put_condition-2 c search there =
-    let put = done search (c.put_condition.new.enc, c.put_condition.new.board.slots.items) _ c.put_condition.result _ c.in_ok-put_condition.was (c.put_condition.ensures search there) in
-    passed search.start c.put_condition-2.new.enc c.put_condition-2.new.board.slots.items _ _ c.put_condition-2.result c.from_residual-in_err-put_condition-2.result _ c.in_err-put_condition-2.was (err_from_is_err_and c.from_residual-in_err-put_condition-2.result c.from_residual-in_err-put_condition-2.ensures.1) (c.put_condition-2.ensures search put.0)
+returns-in_err-put_condition-2 c origin there =
+    let put = done origin (c.put_condition.new.enc, c.put_condition.new.board.slots.items) _ c.put_condition.result _ c.in_ok-put_condition.was (c.put_condition.ensures origin there) in
+    passed origin.start c.put_condition-2.new.enc c.put_condition-2.new.board.slots.items _ _ c.put_condition-2.result c.from_residual-in_err-put_condition-2.result _ c.in_err-put_condition-2.was (err_from_is_err_and c.from_residual-in_err-put_condition-2.result c.from_residual-in_err-put_condition-2.ensures.1) (c.put_condition-2.ensures origin put.0)
 
 pub make-requires : goal.make-requires
 make-requires c =
@@ -46,13 +47,13 @@ make-requires c =
     (r.0, more.0, aim_can r.0 c.args.met (c.args.win + 1) (in_start r.0 (c.args.enc.now, c.args.board.now.slots.items) r.1 c.args.met c.requires.place) c.requires.later)
 
 pub returns : goal.returns
-returns c search there =
-    let x = (c.args.enc.now, c.args.board.now.slots.items) in
-    let m = (c.put_condition.new.enc, c.put_condition.new.board.slots.items) in
-    let n = (c.put_condition-2.new.enc, c.put_condition-2.new.board.slots.items) in
-    let y = (c.make.new.enc, c.make.new.board.slots.items) in
-    let within = in_start search x there c.args.met c.requires.place in
-    let put = done search m _ c.put_condition.result _ c.in_ok-put_condition.was (c.put_condition.ensures search there) in
-    let more = done search n _ c.put_condition-2.result _ c.in_ok-put_condition-2.was (c.put_condition-2.ensures search put.0) in
-    leaves_with search y _ _ c.make.result (λ now after. aims_at search x m n y c.args.stage.now (c.args.win + 1) c.args.met within c.requires.later (omega (arith, c.requires.high)) put.1 more.1 after)
-    (c.make.ensures search more.0 (aim_can search c.args.met (c.args.win + 1) within c.requires.later))
+returns c origin there =
+    let x : Scene = (c.args.enc.now, c.args.board.now.slots.items) in
+    let m : Scene = (c.put_condition.new.enc, c.put_condition.new.board.slots.items) in
+    let n : Scene = (c.put_condition-2.new.enc, c.put_condition-2.new.board.slots.items) in
+    let y : Scene = (c.make.new.enc, c.make.new.board.slots.items) in
+    let within = in_start origin x there c.args.met c.requires.place in
+    let put = done origin m _ c.put_condition.result _ c.in_ok-put_condition.was (c.put_condition.ensures origin there) in
+    let more = done origin n _ c.put_condition-2.result _ c.in_ok-put_condition-2.was (c.put_condition-2.ensures origin put.0) in
+    leaves_with origin y _ _ c.make.result (λ now after. aims_at origin x m n y c.args.stage.now (c.args.win + 1) c.args.met within c.requires.later (omega (arith, c.requires.high)) put.1 more.1 after)
+    (c.make.ensures origin more.0 (aim_can origin c.args.met (c.args.win + 1) within c.requires.later))

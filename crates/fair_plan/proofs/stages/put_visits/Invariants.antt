@@ -1,7 +1,7 @@
-use Rattle.fair_plan.specs.Boards.{IsThere, Search}
+use Rattle.fair_plan.specs.Boards.{IsThere, Origin}
 use Rattle.fair_plan.specs.Rounds.{HasVisits}
 use Rattle.fair_plan.proofs.stages.put_visits.Given as goal
 
 abbrev pub invariant-loop-i : goal.invariant-loop-i
-invariant-loop-i l = (search : Search) → IsThere search (l.fn.enc, l.fn.board.slots.items)
-    → IsThere search (l.enc, l.board.slots.items) × HasVisits search l.fn.visits l.fn.first (l.enc, l.board.slots.items) l.i
+invariant-loop-i l = (origin : Origin) → IsThere origin (l.fn.enc, l.fn.board.slots.items)
+    → IsThere origin (l.enc, l.board.slots.items) × HasVisits origin l.fn.visits l.fn.first (l.enc, l.board.slots.items) l.i

@@ -3,7 +3,7 @@ use Rattle.std.proofs.lemmas.Result.{err_from_is_err_and}
 use Rattle.slot_board.proofs.BoardSlots.{passed}
 use Rattle.ctl_syntax.specs.Conditions.{states_of}
 use Rattle.ctl_syntax.specs.GoalValues.{stage_sets}
-use Rattle.fair_plan.specs.Boards.{actions_of}
+use Rattle.fair_plan.specs.Boards.{Scene, actions_of}
 use Rattle.fair_plan.specs.Places.{met_place, win_place}
 use Rattle.fair_plan.proofs.Boards.{actions_are, actions_same, done, in_at}
 use Rattle.fair_plan.proofs.Goals.{chain_last, chain_later, chain_more, chain_stage, met_in, win_in}
@@ -18,7 +18,7 @@ win_end-requires-clause-keep c = c.requires.chain.each.keep
 pub win_end-requires-clause-place : goal.win_end-requires-clause-place
 win_end-requires-clause-place c =
     let r = c.requires.ready in
-    let x = (c.args.enc.now, c.args.board.now.slots.items) in
+    let x : Scene = (c.args.enc.now, c.args.board.now.slots.items) in
     let n : c.args.actions ≡ actions_of r.0 = c.requires.actions ∙ actions_are r.0 x r.1 in
     let count : r.0.count ≡ c.args.count = r.2 in
     let w = win_in r.0 c.args.count (omega arith) in
@@ -28,16 +28,16 @@ pub win_end-requires-clause-high : goal.win_end-requires-clause-high
 win_end-requires-clause-high c = omega (arith, c.win_at.ensures)
 
 pub returns-in_err-win_end : goal.returns-in_err-win_end
-returns-in_err-win_end c search there count =
-    passed search.start c.win_end.new.enc c.win_end.new.board.slots.items _ _ c.win_end.result c.from_residual.result _ c.in_err-win_end.was (err_from_is_err_and c.from_residual.result c.from_residual.ensures.1) (c.win_end.ensures search there)
+returns-in_err-win_end c origin there count =
+    passed origin.start c.win_end.new.enc c.win_end.new.board.slots.items _ _ c.win_end.result c.from_residual.result _ c.in_err-win_end.was (err_from_is_err_and c.from_residual.result c.from_residual.ensures.1) (c.win_end.ensures origin there)
 
 pub loop-i-init : goal.loop-i-init
-loop-i-init c search there count =
-    let x = (c.args.enc.now, c.args.board.now.slots.items) in
-    let y = (c.win_end.new.enc, c.win_end.new.board.slots.items) in
-    let n : c.args.actions ≡ actions_of search = c.requires.actions ∙ actions_are search x there in
-    let won = done search y _ c.win_end.result _ c.in_ok-win_end.was (c.win_end.ensures search there) in
-    (won.0, chain_last search (states_of c.args.chain.now.keep) c.args.chain.now.stages.items y c.args.count c.win_at.result c.requires.count (let w : c.win_at.result ≡ win_place (actions_of search) c.args.count = omega (arith, c.win_at.ensures) in w) won.1)
+loop-i-init c origin there count =
+    let x : Scene = (c.args.enc.now, c.args.board.now.slots.items) in
+    let y : Scene = (c.win_end.new.enc, c.win_end.new.board.slots.items) in
+    let n : c.args.actions ≡ actions_of origin = c.requires.actions ∙ actions_are origin x there in
+    let won = done origin y _ c.win_end.result _ c.in_ok-win_end.was (c.win_end.ensures origin there) in
+    (won.0, chain_last origin (states_of c.args.chain.now.keep) c.args.chain.now.stages.items y c.args.count c.win_at.result c.requires.count (let w : c.win_at.result ≡ win_place (actions_of origin) c.args.count = omega (arith, c.win_at.ensures) in w) won.1)
 
 pub win_stage-requires-clause-ready : goal.win_stage-requires-clause-ready
 win_stage-requires-clause-ready c = let r = c.requires.ready in (r.0, (c.loop-i.invariant r.0 r.1 r.2).0)
@@ -55,7 +55,7 @@ win_stage-requires-clause-stage c =
 pub win_stage-requires-clause-place : goal.win_stage-requires-clause-place
 win_stage-requires-clause-place c =
     let r = c.requires.ready in
-    let x = (c.args.enc.now, c.args.board.now.slots.items) in
+    let x : Scene = (c.args.enc.now, c.args.board.now.slots.items) in
     let n : c.args.actions ≡ actions_of r.0 = c.requires.actions ∙ actions_are r.0 x r.1 in
     let count : r.0.count ≡ c.args.count = r.2 in
     let w = met_in r.0 (c.loop-i.i - 1) (omega arith) in
@@ -68,27 +68,27 @@ pub win_stage-requires-clause-high : goal.win_stage-requires-clause-high
 win_stage-requires-clause-high c = omega (arith, c.win_at-in-loop-i.ensures)
 
 pub returns-in_err-win_stage : goal.returns-in_err-win_stage
-returns-in_err-win_stage c search there count =
-    let x = (c.args.enc.now, c.args.board.now.slots.items) in
-    let y = (c.loop-i.enc, c.loop-i.board.slots.items) in
-    let n : c.args.actions ≡ actions_of search = c.requires.actions ∙ actions_are search x there in
-    let k = c.loop-i.invariant search there count in
-    let is : c.win_at-in-loop-i.result ≡ win_place (actions_of search) (c.loop-i.i - 1) = omega (arith, c.win_at-in-loop-i.ensures) in
-    let later = chain_later search (states_of c.args.chain.now.keep) _ y c.loop-i.i c.win_at-in-loop-i.result (omega arith) is k.1 in
-    passed search.start c.win_stage.new.enc c.win_stage.new.board.slots.items _ _ c.win_stage.result c.from_residual-in_err-win_stage.result _ c.in_err-win_stage.was (err_from_is_err_and c.from_residual-in_err-win_stage.result c.from_residual-in_err-win_stage.ensures.1)
-    (c.win_stage.ensures search (states_of c.args.chain.now.keep) (drop c.loop-i.i (map stage_sets c.args.chain.now.stages.items)) k.0 later)
+returns-in_err-win_stage c origin there count =
+    let x : Scene = (c.args.enc.now, c.args.board.now.slots.items) in
+    let y : Scene = (c.loop-i.enc, c.loop-i.board.slots.items) in
+    let n : c.args.actions ≡ actions_of origin = c.requires.actions ∙ actions_are origin x there in
+    let k = c.loop-i.invariant origin there count in
+    let is : c.win_at-in-loop-i.result ≡ win_place (actions_of origin) (c.loop-i.i - 1) = omega (arith, c.win_at-in-loop-i.ensures) in
+    let later = chain_later origin (states_of c.args.chain.now.keep) _ y c.loop-i.i c.win_at-in-loop-i.result (omega arith) is k.1 in
+    passed origin.start c.win_stage.new.enc c.win_stage.new.board.slots.items _ _ c.win_stage.result c.from_residual-in_err-win_stage.result _ c.in_err-win_stage.was (err_from_is_err_and c.from_residual-in_err-win_stage.result c.from_residual-in_err-win_stage.ensures.1)
+    (c.win_stage.ensures origin (states_of c.args.chain.now.keep) (drop c.loop-i.i (map stage_sets c.args.chain.now.stages.items)) k.0 later)
 
 pub loop-i-preserved : goal.loop-i-preserved
-loop-i-preserved c search there count =
-    let x = (c.args.enc.now, c.args.board.now.slots.items) in
-    let y = (c.loop-i.enc, c.loop-i.board.slots.items) in
-    let z = (c.win_stage.new.enc, c.win_stage.new.board.slots.items) in
-    let n : c.args.actions ≡ actions_of search = c.requires.actions ∙ actions_are search x there in
-    let k = c.loop-i.invariant search there count in
-    let is : c.win_at-in-loop-i.result ≡ win_place (actions_of search) (c.loop-i.i - 1) = omega (arith, c.win_at-in-loop-i.ensures) in
-    let later = chain_later search (states_of c.args.chain.now.keep) _ y c.loop-i.i c.win_at-in-loop-i.result (omega arith) is k.1 in
-    let more = done search z _ c.win_stage.result _ c.in_ok-win_stage.was (c.win_stage.ensures search (states_of c.args.chain.now.keep) (drop c.loop-i.i (map stage_sets c.args.chain.now.stages.items)) k.0 later) in
-    (more.0, chain_more search (states_of c.args.chain.now.keep) c.args.chain.now.stages.items c.index.result.now z c.loop-i.i c.win_at-in-loop-i.result (omega arith) (omega (arith, c.requires.count)) is c.index.ensures more.1)
+loop-i-preserved c origin there count =
+    let x : Scene = (c.args.enc.now, c.args.board.now.slots.items) in
+    let y : Scene = (c.loop-i.enc, c.loop-i.board.slots.items) in
+    let z : Scene = (c.win_stage.new.enc, c.win_stage.new.board.slots.items) in
+    let n : c.args.actions ≡ actions_of origin = c.requires.actions ∙ actions_are origin x there in
+    let k = c.loop-i.invariant origin there count in
+    let is : c.win_at-in-loop-i.result ≡ win_place (actions_of origin) (c.loop-i.i - 1) = omega (arith, c.win_at-in-loop-i.ensures) in
+    let later = chain_later origin (states_of c.args.chain.now.keep) _ y c.loop-i.i c.win_at-in-loop-i.result (omega arith) is k.1 in
+    let more = done origin z _ c.win_stage.result _ c.in_ok-win_stage.was (c.win_stage.ensures origin (states_of c.args.chain.now.keep) (drop c.loop-i.i (map stage_sets c.args.chain.now.stages.items)) k.0 later) in
+    (more.0, chain_more origin (states_of c.args.chain.now.keep) c.args.chain.now.stages.items c.index.result.now z c.loop-i.i c.win_at-in-loop-i.result (omega arith) (omega (arith, c.requires.count)) is c.index.ensures more.1)
 
 pub returns : goal.returns
-returns c search there count = let k = c.loop-i.invariant search there count in k
+returns c origin there count = let k = c.loop-i.invariant origin there count in k

@@ -1,7 +1,7 @@
 use Rattle.std.proofs.Common.{◌≡◌, ◌+◌, arith, length}
 use Rattle.std.proofs.lemmas.Result.{err_from_is_err_and}
 use Rattle.slot_board.proofs.BoardSlots.{passed}
-use Rattle.fair_plan.specs.Boards.{actions_of}
+use Rattle.fair_plan.specs.Boards.{Scene, actions_of}
 use Rattle.ctl_syntax.specs.Conditions.{states_of}
 use Rattle.fair_theory.specs.FairSets.{end_asks}
 use Rattle.fair_plan.proofs.Boards.{actions_are, done, in_at, in_start, le_length, leaves_with, low_in}
@@ -12,8 +12,8 @@ pub put_condition-requires-clause-place : goal.put_condition-requires-clause-pla
 put_condition-requires-clause-place c = let r = c.requires.ready in low_in r.0 c.args.enc.now c.args.board.now.slots.items r.1.at 5 (omega arith)
 
 pub returns-in_err-put_condition : goal.returns-in_err-put_condition
-returns-in_err-put_condition c search there =
-    passed search.start c.put_condition.new.enc c.put_condition.new.board.slots.items _ _ c.put_condition.result c.from_residual.result _ c.in_err-put_condition.was (err_from_is_err_and c.from_residual.result c.from_residual.ensures.1) (c.put_condition.ensures search there)
+returns-in_err-put_condition c origin there =
+    passed origin.start c.put_condition.new.enc c.put_condition.new.board.slots.items _ _ c.put_condition.result c.from_residual.result _ c.in_err-put_condition.was (err_from_is_err_and c.from_residual.result c.from_residual.ensures.1) (c.put_condition.ensures origin there)
 
 pub make-requires : goal.make-requires
 make-requires c =
@@ -22,16 +22,16 @@ make-requires c =
     (r.0, put.0, whole_can r.0)
 
 pub returns-in_err-make : goal.returns-in_err-make
-returns-in_err-make c search there =
-    let put = done search (c.put_condition.new.enc, c.put_condition.new.board.slots.items) _ c.put_condition.result _ c.in_ok-put_condition.was (c.put_condition.ensures search there) in
-    passed search.start c.make.new.enc c.make.new.board.slots.items _ _ c.make.result c.from_residual-in_err-make.result _ c.in_err-make.was (err_from_is_err_and c.from_residual-in_err-make.result c.from_residual-in_err-make.ensures.1) (c.make.ensures search put.0 (whole_can search))
+returns-in_err-make c origin there =
+    let put = done origin (c.put_condition.new.enc, c.put_condition.new.board.slots.items) _ c.put_condition.result _ c.in_ok-put_condition.was (c.put_condition.ensures origin there) in
+    passed origin.start c.make.new.enc c.make.new.board.slots.items _ _ c.make.result c.from_residual-in_err-make.result _ c.in_err-make.was (err_from_is_err_and c.from_residual-in_err-make.result c.from_residual-in_err-make.ensures.1) (c.make.ensures origin put.0 (whole_can origin))
 
 pub find_largest-requires-clause-ready : goal.find_largest-requires-clause-ready
 find_largest-requires-clause-ready c =
     let r = c.requires.ready in
-    let x = (c.args.enc.now, c.args.board.now.slots.items) in
-    let m = (c.put_condition.new.enc, c.put_condition.new.board.slots.items) in
-    let n = (c.make.new.enc, c.make.new.board.slots.items) in
+    let x : Scene = (c.args.enc.now, c.args.board.now.slots.items) in
+    let m : Scene = (c.put_condition.new.enc, c.put_condition.new.board.slots.items) in
+    let n : Scene = (c.make.new.enc, c.make.new.board.slots.items) in
     let put = done r.0 m _ c.put_condition.result _ c.in_ok-put_condition.was (c.put_condition.ensures r.0 r.1) in
     let whole = done r.0 n _ c.make.result _ c.in_ok-make.was (c.make.ensures r.0 put.0 (whole_can r.0)) in
     (r.0, end_asks (states_of c.args.keep.now), whole.0, end_begins r.0 x m n c.args.keep.now c.args.win put.1 whole.1)
@@ -39,9 +39,9 @@ find_largest-requires-clause-ready c =
 pub find_largest-requires-clause-actions : goal.find_largest-requires-clause-actions
 find_largest-requires-clause-actions c =
     let r = c.requires.ready in
-    let x = (c.args.enc.now, c.args.board.now.slots.items) in
-    let m = (c.put_condition.new.enc, c.put_condition.new.board.slots.items) in
-    let n = (c.make.new.enc, c.make.new.board.slots.items) in
+    let x : Scene = (c.args.enc.now, c.args.board.now.slots.items) in
+    let m : Scene = (c.put_condition.new.enc, c.put_condition.new.board.slots.items) in
+    let n : Scene = (c.make.new.enc, c.make.new.board.slots.items) in
     let put = done r.0 m _ c.put_condition.result _ c.in_ok-put_condition.was (c.put_condition.ensures r.0 r.1) in
     let whole = done r.0 n _ c.make.result _ c.in_ok-make.was (c.make.ensures r.0 put.0 (whole_can r.0)) in
     let e : length c.args.enc.now.actions ≡ actions_of r.0 = actions_are r.0 x r.1 in
@@ -51,29 +51,29 @@ find_largest-requires-clause-actions c =
 pub find_largest-requires-clause-targets : goal.find_largest-requires-clause-targets
 find_largest-requires-clause-targets c =
     let r = c.requires.ready in
-    let m = (c.put_condition.new.enc, c.put_condition.new.board.slots.items) in
-    let n = (c.make.new.enc, c.make.new.board.slots.items) in
+    let m : Scene = (c.put_condition.new.enc, c.put_condition.new.board.slots.items) in
+    let n : Scene = (c.make.new.enc, c.make.new.board.slots.items) in
     let put = done r.0 m _ c.put_condition.result _ c.in_ok-put_condition.was (c.put_condition.ensures r.0 r.1) in
     let whole = done r.0 n _ c.make.result _ c.in_ok-make.was (c.make.ensures r.0 put.0 (whole_can r.0)) in
     let within = in_start r.0 (c.args.enc.now, c.args.board.now.slots.items) r.1 c.args.win c.requires.place in
     le_length r.0 n whole.0 (c.args.win + 0) (omega arith)
 
 pub returns-in_err-find_largest : goal.returns-in_err-find_largest
-returns-in_err-find_largest c search there =
-    let x = (c.args.enc.now, c.args.board.now.slots.items) in
-    let m = (c.put_condition.new.enc, c.put_condition.new.board.slots.items) in
-    let n = (c.make.new.enc, c.make.new.board.slots.items) in
-    let put = done search m _ c.put_condition.result _ c.in_ok-put_condition.was (c.put_condition.ensures search there) in
-    let whole = done search n _ c.make.result _ c.in_ok-make.was (c.make.ensures search put.0 (whole_can search)) in
-    passed search.start c.find_largest.new.enc c.find_largest.new.board.slots.items _ _ c.find_largest.result c.from_residual-in_err-find_largest.result _ c.in_err-find_largest.was (err_from_is_err_and c.from_residual-in_err-find_largest.result c.from_residual-in_err-find_largest.ensures.1)
-    (c.find_largest.ensures search (end_asks (states_of c.args.keep.now)) whole.0 (end_begins search x m n c.args.keep.now c.args.win put.1 whole.1))
+returns-in_err-find_largest c origin there =
+    let x : Scene = (c.args.enc.now, c.args.board.now.slots.items) in
+    let m : Scene = (c.put_condition.new.enc, c.put_condition.new.board.slots.items) in
+    let n : Scene = (c.make.new.enc, c.make.new.board.slots.items) in
+    let put = done origin m _ c.put_condition.result _ c.in_ok-put_condition.was (c.put_condition.ensures origin there) in
+    let whole = done origin n _ c.make.result _ c.in_ok-make.was (c.make.ensures origin put.0 (whole_can origin)) in
+    passed origin.start c.find_largest.new.enc c.find_largest.new.board.slots.items _ _ c.find_largest.result c.from_residual-in_err-find_largest.result _ c.in_err-find_largest.was (err_from_is_err_and c.from_residual-in_err-find_largest.result c.from_residual-in_err-find_largest.ensures.1)
+    (c.find_largest.ensures origin (end_asks (states_of c.args.keep.now)) whole.0 (end_begins origin x m n c.args.keep.now c.args.win put.1 whole.1))
 
 pub make-requires-2 : goal.make-requires-2
 make-requires-2 c =
     let r = c.requires.ready in
-    let x = (c.args.enc.now, c.args.board.now.slots.items) in
-    let m = (c.put_condition.new.enc, c.put_condition.new.board.slots.items) in
-    let n = (c.make.new.enc, c.make.new.board.slots.items) in
+    let x : Scene = (c.args.enc.now, c.args.board.now.slots.items) in
+    let m : Scene = (c.put_condition.new.enc, c.put_condition.new.board.slots.items) in
+    let n : Scene = (c.make.new.enc, c.make.new.board.slots.items) in
     let put = done r.0 m _ c.put_condition.result _ c.in_ok-put_condition.was (c.put_condition.ensures r.0 r.1) in
     let whole = done r.0 n _ c.make.result _ c.in_ok-make.was (c.make.ensures r.0 put.0 (whole_can r.0)) in
     let found = done r.0 (c.find_largest.new.enc, c.find_largest.new.board.slots.items) _ c.find_largest.result _ c.in_ok-find_largest.was
@@ -81,16 +81,16 @@ make-requires-2 c =
     (r.0, found.0, kept_can r.0 c.args.win (in_start r.0 x r.1 c.args.win c.requires.place))
 
 pub returns : goal.returns
-returns c search there =
-    let x = (c.args.enc.now, c.args.board.now.slots.items) in
-    let m = (c.put_condition.new.enc, c.put_condition.new.board.slots.items) in
-    let n = (c.make.new.enc, c.make.new.board.slots.items) in
-    let p = (c.find_largest.new.enc, c.find_largest.new.board.slots.items) in
-    let y = (c.make-2.new.enc, c.make-2.new.board.slots.items) in
-    let within = in_start search x there c.args.win c.requires.place in
-    let put = done search m _ c.put_condition.result _ c.in_ok-put_condition.was (c.put_condition.ensures search there) in
-    let whole = done search n _ c.make.result _ c.in_ok-make.was (c.make.ensures search put.0 (whole_can search)) in
-    let found = done search p _ c.find_largest.result _ c.in_ok-find_largest.was
-    (c.find_largest.ensures search (end_asks (states_of c.args.keep.now)) whole.0 (end_begins search x m n c.args.keep.now c.args.win put.1 whole.1)) in
-    leaves_with search y _ _ c.make-2.result (λ now after. end_won search p y c.args.keep.now c.args.win within found.1 after)
-    (c.make-2.ensures search found.0 (kept_can search c.args.win within))
+returns c origin there =
+    let x : Scene = (c.args.enc.now, c.args.board.now.slots.items) in
+    let m : Scene = (c.put_condition.new.enc, c.put_condition.new.board.slots.items) in
+    let n : Scene = (c.make.new.enc, c.make.new.board.slots.items) in
+    let p : Scene = (c.find_largest.new.enc, c.find_largest.new.board.slots.items) in
+    let y : Scene = (c.make-2.new.enc, c.make-2.new.board.slots.items) in
+    let within = in_start origin x there c.args.win c.requires.place in
+    let put = done origin m _ c.put_condition.result _ c.in_ok-put_condition.was (c.put_condition.ensures origin there) in
+    let whole = done origin n _ c.make.result _ c.in_ok-make.was (c.make.ensures origin put.0 (whole_can origin)) in
+    let found = done origin p _ c.find_largest.result _ c.in_ok-find_largest.was
+    (c.find_largest.ensures origin (end_asks (states_of c.args.keep.now)) whole.0 (end_begins origin x m n c.args.keep.now c.args.win put.1 whole.1)) in
+    leaves_with origin y _ _ c.make-2.result (λ now after. end_won origin p y c.args.keep.now c.args.win within found.1 after)
+    (c.make-2.ensures origin found.0 (kept_can origin c.args.win within))

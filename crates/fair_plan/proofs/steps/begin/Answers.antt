@@ -10,5 +10,5 @@ pub whole-requires-clause-place : goal.whole-requires-clause-place
 whole-requires-clause-place c = let r = c.requires in low_in r.0 c.args.enc.now c.args.board.now.slots.items r.1 6 (omega arith)
 
 pub returns : goal.returns
-returns c search at =
-    puts search (c.args.enc.now, c.args.board.now.slots.items) (c.whole.new.enc, c.whole.new.self.slots.items) 6 everything c.whole.result (c.whole.ensures search.start at)
+returns c origin at =
+    puts origin (c.args.enc.now, c.args.board.now.slots.items) (c.whole.new.enc, c.whole.new.self.slots.items) 6 everything c.whole.result (c.whole.ensures origin.start at)
