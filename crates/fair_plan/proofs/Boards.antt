@@ -130,3 +130,10 @@ places_still origin x y first second k l = let e : length x.1 ≡ origin.start.p
 -- an answer that says nothing more
 pub leaves_nothing : {T : Type 0} (origin : Origin) (y : Scene) (P : Type 0) (result : Result T SetErr) → Leaves origin y P result → Leaves origin y ⊤ result
 leaves_nothing origin y P result left = leaves_with origin y P ⊤ result (λ now p. tt) left
+
+-- the same where it isn't known yet that the sets are sets
+pub actions_at : (origin : Origin) (enc now : Encoded) (old new : List SetId) → At origin.start enc old → At origin.start now new → (n : ℕ) → n ≡ length enc.actions → n ≡ length now.actions
+actions_at origin enc now old new first second n e = e ∙ (made_at origin.start enc old first).actions ∙ sym (made_at origin.start now new second).actions
+
+pub vars_at : (origin : Origin) (enc now : Encoded) (old new : List SetId) → At origin.start enc old → At origin.start now new → enc.sets.vars ≡ now.sets.vars
+vars_at origin enc now old new first second = first.working.kept.vars ∙ sym second.working.kept.vars

@@ -4,3 +4,5 @@ pub mod Growth
 pub mod Rounds
 pub mod Goals
 pub mod TakerSteps
+pub mod RuleSteps
+pub mod PlanSteps

@@ -13,11 +13,11 @@ use Rattle.preimage.specs.Preimages.{strong_preimage, weak_preimage}
 use Rattle.preimage.specs.WorkingSets.{some_below}
 use Rattle.plan_theory.specs.Layers.{may_lead, must_lead}
 use Rattle.plan_theory.specs.Safe.{some_must_lead}
-use Rattle.task_core.specs.Cubes.{SetOfVectors}
+use Rattle.task_core.specs.Cubes.{Cube, SetOfVectors, cubes_of}
 use Rattle.task_core.specs.Systems.{IsVector}
 use Rattle.plan_theory.specs.UntilChains.{SetStage}
 use Rattle.plan_rules.specs.Plans.{IsContextRuleOf}
-use Rattle.plan_rules.specs.Rules.{context_rule_of}
+use Rattle.plan_rules.specs.Rules.{ContextRule, always, context_rule_of}
 use Rattle.plan_rules.specs.declared.rules.AutoRule.{AutoRule}
 use Rattle.task_core.specs.Tasks.{fluent_count}
 use Rattle.task_core.specs.Vectors.{Vector, value_of}
@@ -212,8 +212,22 @@ pub record ClimbsOnce (x y : Scene) : Type 0 where
   pub before : set_in y 1 ≡ set_in x 2
   pub more : IsPart (set_in x 2) (set_in y 2)
 
+-- the rule for a cube, and those for all cubes of some states
+abbrev pub rule_for : ℕ → ℕ → ℕ → Cube → ContextRule
+rule_for context next a cube =
+    record { context = context; cube = cube; action = a; next = always next }
+
+abbrev pub rules_for : ℕ → ℕ → ℕ → ℕ → SetOfVectors → List ContextRule
+rules_for fluents context next a set = map (rule_for context next a) (cubes_of fluents set)
+
 -- rules are those of a plan for the task with so many contexts
 abbrev pub AreRules : Origin → ℕ → List AutoRule → Type 0
 AreRules origin contexts rules =
     All (IsContextRuleOf (fluent_count origin.start.task) (actions_of origin) contexts)
     (map context_rule_of rules)
+
+-- rules were added that are those of a plan with so many contexts, where the contexts fit
+abbrev pub Lists : Origin → (ℕ → Type 0) → List AutoRule → List AutoRule → Type 0
+Lists origin Fits before after =
+    (contexts : ℕ) → Fits contexts → AreRules origin contexts before
+    → AreRules origin contexts after

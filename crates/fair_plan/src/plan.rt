@@ -22,13 +22,29 @@ use crate::rules::list_goal;
 use crate::stages::win_goal;
 use crate::steps::begin;
 use crate::takers::take_goal;
-use ctl_syntax::ContextGoal;
+use ctl_syntax::{ContextGoal, UntilStage};
 use dd_sets::SetErr;
 use encode_task::Enc;
 use plan_rules::AutoPlan;
 use slot_board::Board;
 use std::alloc::Global;
-use task_core::Task;
+use task_core::{Cond, Task};
+
+/// How many stages there are.
+fn stages_of(stages: &[UntilStage]) -> u32
+    requires { length stages.now ≤ most_stages }
+    ensures { result ≡ length stages.now }
+{
+    stages.len() as u32
+}
+
+/// How many visits there are.
+fn visits_of(visits: &[Cond]) -> u32
+    requires { length visits.now ≤ most_stages }
+    ensures { result ≡ length visits.now }
+{
+    visits.len() as u32
+}
 
 /// How many stages or visits a goal has.
 fn count_of(goal: &ContextGoal) -> u32
@@ -37,8 +53,8 @@ fn count_of(goal: &ContextGoal) -> u32
     ensures few { result ≤ most_stages }
 {
     match goal {
-        ContextGoal::Until(chain) => chain.stages.len() as u32,
-        ContextGoal::Patrol(visits) => visits.len() as u32,
+        ContextGoal::Until(chain) => stages_of(chain.stages.as_slice()),
+        ContextGoal::Patrol(visits) => visits_of(visits.as_slice()),
     }
 }
 
@@ -135,6 +151,28 @@ fn search_goal(
     Ok(FairFound::Plan(plan))
 }
 
+/// Searches with the slots of a board of its own, which are ended.
+fn find_fair(
+    alloc: Global,
+    task: &Task,
+    enc: &mut Enc,
+    goal: &ContextGoal,
+) -> Result<FairFound, SetErr>
+    requires made { MadeOf task.now enc.old }
+    requires goal { IsFairGoalOver (fluent_count task.now) goal.now }
+    ensures answer { IfOk result (IsAnswer task.now (sets_of_goal goal.now)) }
+    ensures full { IsErrOf result SetErr.Full → IsAtLimit enc.new.sets }
+    ensures slots { Owns enc.old.sets enc.new.sets [] }
+    ensures same_slots { enc.new ≡ record enc.old { sets = enc.new.sets } }
+{
+    let actions = task.actions.len() as u32;
+    let count = count_of(goal);
+    let mut board = Board::new(alloc, enc, places(actions, count))?;
+    let found = search_goal(alloc, enc, &mut board, actions, goal, count);
+    board.close(enc);
+    found
+}
+
 /// A plan for an until-chain or a patrol goal whose actions may be tried again, or that there is none:
 /// no plan with contexts, whatever its contexts are and however many, goes on wherever it leads and
 /// has at each initial configuration the goal by which such plans are judged.
@@ -172,10 +210,5 @@ pub fn fair_plan(
     ensures same_slots { enc.new ≡ record enc.old { sets = enc.new.sets } }
     ensures made { (task : TaskOf) → MadeOf task enc.old → MadeOf task enc.new }
 {
-    let actions = task.actions.len() as u32;
-    let count = count_of(goal);
-    let mut board = Board::new(alloc, enc, places(actions, count))?;
-    let found = search_goal(alloc, enc, &mut board, actions, goal, count);
-    board.close(enc);
-    found
+    find_fair(alloc, task, enc, goal)
 }

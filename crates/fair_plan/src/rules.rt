@@ -1,12 +1,11 @@
 //! The rules of a plan, by context, next context and action.
 
-ghost use Rattle.std.specs.Prelude.{◌≡◌, ◌+◌, ◌<◌, ◌≤◌, ℕ, ⊤, All, IfErr, OnOk, length, map};
+ghost use Rattle.std.specs.Prelude.{◌≡◌, ◌+◌, ◌++◌, ◌<◌, ◌≤◌, ⊤, IfErr, OnOk, length, map};
 ghost use Rattle.plan_rules.specs.Plans.{IsContextOf};
-ghost use Rattle.plan_rules.specs.Plans.{IsContextRuleOf, IsCubeOf};
 ghost use Rattle.plan_rules.specs.Rules.{context_rule_of};
-ghost use Rattle.fair_plan.specs.Boards.{IsThere, Leaves, Origin, actions_of};
+ghost use Rattle.fair_plan.specs.Boards.{IsThere, Leaves, Origin, states_in};
 ghost use Rattle.fair_plan.specs.Goals.{contexts_of, count_of, most_stages};
-ghost use Rattle.fair_plan.specs.Rounds.{AreRules};
+ghost use Rattle.fair_plan.specs.Rounds.{Lists, rule_for, rules_for};
 
 use crate::places::{PART, REST, met_at, takers_at, win_at};
 use crate::steps::make;
@@ -27,12 +26,9 @@ fn add_rules(
     action: ActionId,
     cubes: Vec<Vec<Lit>>,
 ) -> Result<(), AllocError>
-    ensures { (fluents actions contexts : ℕ) → IsContextOf contexts context
-        → IsContextOf contexts next → action.0 < actions
-        → All (λ cube. IsCubeOf fluents cube.items) cubes.items
-        → All (IsContextRuleOf fluents actions contexts) (map context_rule_of rules.old.items)
-        → OnOk result (All (IsContextRuleOf fluents actions contexts)
-        (map context_rule_of rules.new.items)) }
+    ensures { OnOk result (map context_rule_of rules.new.items
+        ≡ map context_rule_of rules.old.items
+        ++ map (rule_for context next action.0) (map (λ cube. cube.items) cubes.items)) }
 {
     for cube in cubes {
         rules.push(AutoRule {
@@ -56,11 +52,9 @@ fn list_part(
 ) -> Result<(), SetErr>
     requires { (origin : Origin) × IsThere origin (enc.now, board.now.slots.items) }
     ensures never_full { IfErr result (λ e. e ≡ SetErr.Memory) }
-    ensures rules { (origin : Origin) (contexts : ℕ)
-        → IsThere origin (enc.now, board.now.slots.items) → IsContextOf contexts context
-        → IsContextOf contexts next → action.0 < actions_of origin
-        → AreRules origin contexts rules.old.items
-        → OnOk result (AreRules origin contexts rules.new.items) }
+    ensures listed { OnOk result (map context_rule_of rules.new.items
+        ≡ map context_rule_of rules.old.items ++ rules_for enc.now.sets.vars context next action.0
+        (states_in (enc.now, board.now.slots.items) 0)) }
 {
     match board.only_cubes(enc, PART) {
         Ok(cubes) => match add_rules(rules, context, next, action, cubes) {
@@ -71,8 +65,28 @@ fn list_part(
     }
 }
 
-/// Finds the states of a context of an until-chain, counted from 0, that turn to a next one: in which
-/// the stages before it are met, and its own isn't.
+/// Leaves of the states that are looked for those in which a stage is met.
+fn meet_rest(enc: &mut Enc, board: &mut Board, met: usize) -> Result<(), SetErr>
+    requires ready { (origin : Origin) × IsThere origin (enc.old, board.old.slots.items) }
+    requires place { met < length board.old.slots.items }
+    ensures { (origin : Origin) → IsThere origin (enc.old, board.old.slots.items)
+        → Leaves origin (enc.new, board.new.slots.items) ⊤ result }
+{
+    make(enc, board, &[Step::Combine(REST, Operation::Meet, REST, met)])
+}
+
+/// Leaves of them those in which it isn't.
+fn drop_rest(enc: &mut Enc, board: &mut Board, met: usize) -> Result<(), SetErr>
+    requires ready { (origin : Origin) × IsThere origin (enc.old, board.old.slots.items) }
+    requires place { met < length board.old.slots.items }
+    ensures { (origin : Origin) → IsThere origin (enc.old, board.old.slots.items)
+        → Leaves origin (enc.new, board.new.slots.items) ⊤ result }
+{
+    make(enc, board, &[Step::Combine(REST, Operation::Minus, REST, met)])
+}
+
+/// Looks for the states of a context of an until-chain, counted from 0, that turn to a next one: in
+/// which the stages before it are met, and its own isn't.
 fn turn_to(
     enc: &mut Enc,
     board: &mut Board,
@@ -91,17 +105,9 @@ fn turn_to(
 {
     make(enc, board, &[Step::Copy(REST, win_at(actions, stage))])?;
     for i in stage..next {
-        make(
-            enc,
-            board,
-            &[Step::Combine(REST, Operation::Meet, REST, met_at(actions, count, i))],
-        )?;
+        meet_rest(enc, board, met_at(actions, count, i))?;
     }
-    make(
-        enc,
-        board,
-        &[Step::Combine(REST, Operation::Minus, REST, met_at(actions, count, next))],
-    )
+    drop_rest(enc, board, met_at(actions, count, next))
 }
 
 /// The rules of an action in a context of an until-chain, of the states that turn to a next one.
@@ -117,12 +123,10 @@ fn list_turned(
     requires ready { (origin : Origin) × IsThere origin (enc.old, board.old.slots.items) }
     requires action { action.0 < length enc.old.actions }
     requires places { takers + length enc.old.actions ≤ length board.old.slots.items }
-    ensures { (origin : Origin) (contexts : ℕ)
-        → IsThere origin (enc.old, board.old.slots.items)
-        → IsContextOf contexts context → IsContextOf contexts next
-        → AreRules origin contexts rules.old.items
+    ensures { (origin : Origin) → IsThere origin (enc.old, board.old.slots.items)
         → Leaves origin (enc.new, board.new.slots.items)
-        (AreRules origin contexts rules.new.items) result }
+        (Lists origin (λ contexts. IsContextOf contexts context × IsContextOf contexts next) rules.old.items rules.new.items)
+        result }
 {
     let place = takers + action.0 as usize;
     make(
@@ -149,12 +153,10 @@ fn list_next(
     requires few { count ≤ most_stages }
     requires stage { stage ≤ next }
     requires next { next ≤ count }
-    ensures { (origin : Origin) (contexts : ℕ)
-        → IsThere origin (enc.old, board.old.slots.items)
-        → count + 1 ≤ contexts
-        → AreRules origin contexts rules.old.items
+    ensures { (origin : Origin) → IsThere origin (enc.old, board.old.slots.items)
         → Leaves origin (enc.new, board.new.slots.items)
-        (AreRules origin contexts rules.new.items) result }
+        (Lists origin (λ contexts. count + 1 ≤ contexts) rules.old.items rules.new.items)
+        result }
 {
     turn_to(enc, board, actions, count, stage, next)?;
     let takers = takers_at(actions, count, next);
@@ -178,12 +180,10 @@ fn list_context(
     requires actions { actions ≡ length enc.old.actions }
     requires few { count ≤ most_stages }
     requires stage { stage ≤ count }
-    ensures { (origin : Origin) (contexts : ℕ)
-        → IsThere origin (enc.old, board.old.slots.items)
-        → count + 1 ≤ contexts
-        → AreRules origin contexts rules.old.items
+    ensures { (origin : Origin) → IsThere origin (enc.old, board.old.slots.items)
         → Leaves origin (enc.new, board.new.slots.items)
-        (AreRules origin contexts rules.new.items) result }
+        (Lists origin (λ contexts. count + 1 ≤ contexts) rules.old.items rules.new.items)
+        result }
 {
     for next in stage..count + 1 {
         list_next(enc, board, rules, actions, count, stage, next)?;
@@ -203,12 +203,10 @@ fn list_chain(
         × (origin.count ≡ count) }
     requires actions { actions ≡ length enc.old.actions }
     requires few { count ≤ most_stages }
-    ensures { (origin : Origin) (contexts : ℕ)
-        → IsThere origin (enc.old, board.old.slots.items)
-        → count + 1 ≤ contexts
-        → AreRules origin contexts rules.old.items
+    ensures { (origin : Origin) → IsThere origin (enc.old, board.old.slots.items)
         → Leaves origin (enc.new, board.new.slots.items)
-        (AreRules origin contexts rules.new.items) result }
+        (Lists origin (λ contexts. count + 1 ≤ contexts) rules.old.items rules.new.items)
+        result }
 {
     for stage in 0..count + 1 {
         list_context(enc, board, rules, actions, count, stage)?;
@@ -232,12 +230,10 @@ fn list_taken(
     requires action { action.0 < length enc.old.actions }
     requires places { takers + length enc.old.actions ≤ length board.old.slots.items }
     requires met { met < length board.old.slots.items }
-    ensures { (origin : Origin) (contexts : ℕ)
-        → IsThere origin (enc.old, board.old.slots.items)
-        → IsContextOf contexts context → IsContextOf contexts next
-        → AreRules origin contexts rules.old.items
+    ensures { (origin : Origin) → IsThere origin (enc.old, board.old.slots.items)
         → Leaves origin (enc.new, board.new.slots.items)
-        (AreRules origin contexts rules.new.items) result }
+        (Lists origin (λ contexts. IsContextOf contexts context × IsContextOf contexts next) rules.old.items rules.new.items)
+        result }
 {
     let place = takers + action.0 as usize;
     make(
@@ -278,12 +274,10 @@ fn list_visit(
     requires actions { actions ≡ length enc.old.actions }
     requires few { count ≤ most_stages }
     requires visit { visit < count }
-    ensures { (origin : Origin) (contexts : ℕ)
-        → IsThere origin (enc.old, board.old.slots.items)
-        → count ≤ contexts
-        → AreRules origin contexts rules.old.items
+    ensures { (origin : Origin) → IsThere origin (enc.old, board.old.slots.items)
         → Leaves origin (enc.new, board.new.slots.items)
-        (AreRules origin contexts rules.new.items) result }
+        (Lists origin (λ contexts. count ≤ contexts) rules.old.items rules.new.items)
+        result }
 {
     let met = met_at(actions, count, visit);
     let takers = takers_at(actions, count, visit);
@@ -306,12 +300,10 @@ fn list_patrol(
         × (origin.count ≡ count) }
     requires actions { actions ≡ length enc.old.actions }
     requires few { count ≤ most_stages }
-    ensures { (origin : Origin) (contexts : ℕ)
-        → IsThere origin (enc.old, board.old.slots.items)
-        → count ≤ contexts
-        → AreRules origin contexts rules.old.items
+    ensures { (origin : Origin) → IsThere origin (enc.old, board.old.slots.items)
         → Leaves origin (enc.new, board.new.slots.items)
-        (AreRules origin contexts rules.new.items) result }
+        (Lists origin (λ contexts. count ≤ contexts) rules.old.items rules.new.items)
+        result }
 {
     for visit in 0..count {
         list_visit(enc, board, rules, actions, count, visit)?;
@@ -333,12 +325,10 @@ pub(crate) fn list_goal(
     requires actions { actions ≡ length enc.old.actions }
     requires few { count ≤ most_stages }
     requires count { count ≡ count_of goal.now }
-    ensures { (origin : Origin) (contexts : ℕ)
-        → IsThere origin (enc.old, board.old.slots.items)
-        → contexts ≡ contexts_of goal.now
-        → AreRules origin contexts rules.old.items
+    ensures { (origin : Origin) → IsThere origin (enc.old, board.old.slots.items)
         → Leaves origin (enc.new, board.new.slots.items)
-        (AreRules origin contexts rules.new.items) result }
+        (Lists origin (λ contexts. contexts ≡ contexts_of goal.now) rules.old.items rules.new.items)
+        result }
 {
     match goal {
         ContextGoal::Until(_) => list_chain(enc, board, rules, actions, count),

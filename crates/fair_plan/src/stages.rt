@@ -201,6 +201,6 @@ pub(crate) fn win_goal(
 {
     match goal {
         ContextGoal::Until(chain) => win_chain(enc, board, actions, chain, count),
-        ContextGoal::Patrol(visits) => win_patrol(enc, board, actions, visits, count),
+        ContextGoal::Patrol(visits) => win_patrol(enc, board, actions, visits.as_slice(), count),
     }
 }
