@@ -52,10 +52,10 @@ won_ends origin x now goal place win (Err e) is wins left answer = left
 
 -- what is said of what was found
 pub none_answer : (origin : Origin) (y : Scene) (goal : SetGoal) (won : Bool) → Won origin y goal won → won ≡ false → IsAnswer origin.start.task goal NoPlan
-none_answer origin y goal won w no = none_without_cover (sys_of origin) goal w.1 (is_system origin.start.task) w.2 (sym w.3 ∙ no)
+none_answer origin y goal won w lost = none_without_cover (sys_of origin) goal w.1 (is_system origin.start.task) w.2 (sym w.3 ∙ lost)
 
 pub can_be_had : (origin : Origin) (y : Scene) (goal : SetGoal) (won : Bool) → Won origin y goal won → won ≡ true → CanBeHad (sys_of origin) goal
-can_be_had origin y goal won w yes = (w.1, w.2, sym w.3 ∙ yes)
+can_be_had origin y goal won w found = (w.1, w.2, sym w.3 ∙ found)
 
 -- handed on by an answer of another kind
 pub ends_at : {T : Type 0} (start : Start) (now : Encoded) (slots : List SetId) (P : T → Type 0) (result : Result T SetErr) → ((x : T) → P x → At start now slots) → Ends start now slots P result → At start now slots
@@ -71,7 +71,7 @@ ends_full start now slots P (Ok x) ends full = absurd (let h : Ok x ≡ Err Full
 ends_full start now slots P (Err e) ends full = ends.1 (let h : Err e ≡ Err Full = full in cc)
 
 -- where a search begins
-pub origin_of : (task : Task) (enc : Encoded) → MadeOf task enc → (places count : ℕ) → places ≡ place_count (action_count task) count → Origin
+abbrev pub origin_of : (task : Task) (enc : Encoded) → MadeOf task enc → (places count : ℕ) → places ≡ place_count (action_count task) count → Origin
 origin_of task enc made places count are = record {
   start = record {
     task = task;

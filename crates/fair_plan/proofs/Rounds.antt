@@ -129,7 +129,7 @@ round_begun origin x m y after pairs =
 -- a round
 module _ (origin : Origin) (asked : Asked) (stays : Bool) (first count : ℕ) (x m n y : Scene) (high : pairs_end (actions_of origin) ≤ first) (within : first + count ≤ origin.start.places) (there : IsThere origin x)
     (same : asked.stays ≡ stays) (long : length asked.targets ≡ count) (on : GoesOn origin asked first x) (begun : BeginsRound origin x m) (kept : KeepsStaying origin m n stays) where
-  left : SetOfVectors
+  abbrev left : SetOfVectors
   left = states_in x 5
 
   here_last : set_in n 4 ≡ set_in x 5

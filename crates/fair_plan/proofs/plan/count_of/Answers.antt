@@ -16,5 +16,5 @@ visits_of-requires c =
     let r = c.requires in
     let over = subst (λ (g : ContextGoal). IsFairGoalOver r.0 g) c.in-Patrol.is r.1 in
     let few = over.few in
-    let e = c.as_slice.ensures.value in
+    let e = c.as_slice-in-Patrol.ensures.value in
     rw e (omega (arith, few))

@@ -42,11 +42,11 @@ write_plan-requires-clause-goal c =
 pub returns-in_err-plan : goal.returns-in_err-plan
 returns-in_err-plan c origin at count =
     let won = found_of origin.start c.wins.new.enc c.wins.new.board.slots.items _ c.wins.result _ c.in_ok-wins.was (c.wins.ensures origin at count) in
-    passed_on origin.start c.write_plan-plan.new.enc c.write_plan-plan.new.board.slots.items _ _ c.write_plan-plan.result c.from_residual-in_err-plan.result _ c.in_err-plan.was (err_from_is_err_and c.from_residual-in_err-plan.result c.from_residual-in_err-plan.ensures.1) (c.write_plan-plan.ensures origin won.0 count)
+    passed_on origin.start c.write_plan.new.enc c.write_plan.new.board.slots.items _ _ c.write_plan.result c.from_residual-in_err-plan.result _ c.in_err-plan.was (err_from_is_err_and c.from_residual-in_err-plan.result c.from_residual-in_err-plan.ensures.1) (c.write_plan.ensures origin won.0 count)
 
 pub returns : goal.returns
 returns c origin at count =
     let y : Scene = (c.wins.new.enc, c.wins.new.board.slots.items) in
     let won = found_of origin.start c.wins.new.enc c.wins.new.board.slots.items _ c.wins.result _ c.in_ok-wins.was (c.wins.ensures origin at count) in
-    let plan = found_of origin.start c.write_plan-plan.new.enc c.write_plan-plan.new.board.slots.items _ c.write_plan-plan.result _ c.in_ok-plan.was (c.write_plan-plan.ensures origin won.0 count) in
+    let plan = found_of origin.start c.write_plan.new.enc c.write_plan.new.board.slots.items _ c.write_plan.result _ c.in_ok-plan.was (c.write_plan.ensures origin won.0 count) in
     (plan.0, (can_be_had origin y (sets_of_goal c.args.goal.now) _ won (let f = c.if-not-branch.false in cc), plan.1))

@@ -1,9 +1,10 @@
-use Rattle.std.proofs.Common.{◌≡◌, ◌+◌, ◌-◌, ◌<◌, ◌≤◌, ◌∙◌, ap, arith, drop, length, map, sym}
+use Rattle.std.proofs.Common.{◌≡◌, ℕ, ◌+◌, ◌-◌, ◌<◌, ◌≤◌, ◌∙◌, subst, ap, arith, drop, length, map, sym}
 use Rattle.std.proofs.lemmas.Result.{err_from_is_err_and}
 use Rattle.slot_board.proofs.BoardSlots.{passed}
 use Rattle.ctl_syntax.specs.Conditions.{states_of}
+use Rattle.fair_theory.specs.FairSets.{IsChainWin}
 use Rattle.ctl_syntax.specs.GoalValues.{stage_sets}
-use Rattle.fair_plan.specs.Boards.{Scene, actions_of}
+use Rattle.fair_plan.specs.Boards.{Scene, actions_of, states_in, sys_of}
 use Rattle.fair_plan.specs.Places.{met_place, win_place}
 use Rattle.fair_plan.proofs.Boards.{actions_are, actions_same, done, in_at}
 use Rattle.fair_plan.proofs.Goals.{chain_last, chain_later, chain_more, chain_stage, met_in, win_in}
@@ -91,4 +92,8 @@ loop-i-preserved c origin there count =
     (more.0, chain_more origin (states_of c.args.chain.now.keep) c.args.chain.now.stages.items c.index.result.now z c.loop-i.i c.win_at-in-loop-i.result (omega arith) (omega (arith, c.requires.count)) is c.index.ensures more.1)
 
 pub returns : goal.returns
-returns c origin there count = let k = c.loop-i.invariant origin there count in k
+returns c origin there count =
+    let y : Scene = (c.loop-i.enc, c.loop-i.board.slots.items) in
+    let k = c.loop-i.invariant origin there count in
+    let zero : c.loop-i.i ≡ 0 = omega arith in
+    (k.0, subst (λ (i : ℕ). IsChainWin (sys_of origin) (states_of c.args.chain.now.keep) (drop i (map stage_sets c.args.chain.now.stages.items)) (states_in y (win_place (actions_of origin) i))) zero k.1)
