@@ -1,5 +1,5 @@
 -- The stages of an until-chain, and the visits of a patrol.
-use Rattle.std.proofs.Common.{◌≡◌, ℕ, zero, suc, ◌+◌, ◌*◌, ◌-◌, ◌<◌, ◌≤◌, Bool, true, false, ◌&&◌, List, [], ◌∷◌, All, drop, length, get_or, map, refl, sym, ap, subst, ◌∙◌, ⊎_elim, arith}
+use Rattle.std.proofs.Common.{◌≡◌, ℕ, zero, suc, ◌+◌, ◌*◌, ◌-◌, ◌<◌, ◌≤◌, true, false, ◌&&◌, List, [], ◌∷◌, All, drop, length, get_or, map, refl, sym, ap, subst, ◌∙◌, ⊎_elim, arith}
 use Rattle.std.proofs.lemmas.Bool.{cases_eq}
 use Rattle.std.proofs.lemmas.List.{length-map}
 use Rattle.std.proofs.lemmas.List.Elements.{All-get_or}
@@ -7,7 +7,7 @@ use Rattle.dd_nodes.specs.Subfunctions.{Function}
 use Rattle.dd_ops.specs.Operations.{and_of}
 use Rattle.dd_sets.specs.LiveSets.{everything}
 use Rattle.ctl_syntax.specs.Conditions.{states_of}
-use Rattle.ctl_syntax.specs.GoalValues.{EachInStage, EachInUntil, stage_sets}
+use Rattle.ctl_syntax.specs.GoalValues.{EachInStage, stage_sets}
 use Rattle.ctl_syntax.specs.declared.context_goals.UntilChain.{UntilChain}
 use Rattle.ctl_syntax.specs.declared.context_goals.UntilStage.{UntilStage}
 use Rattle.fair_theory.specs.FairSets.{IsChainWin, IsLargestFairSet, anywhere, at_end, at_stage, end_asks, patrol_asks, stage_asks}
@@ -20,11 +20,10 @@ use Rattle.board_steps.proofs.MakeLemmas.{drop_none}
 use Rattle.board_steps.proofs.StepLemmas.{with_here, with_other}
 use Rattle.task_core.specs.Conditions.{holds}
 use Rattle.task_core.specs.Cubes.{SetOfVectors}
-use Rattle.task_core.specs.Systems.{IsVector}
-use Rattle.task_core.specs.Vectors.{Vector, value_of}
+use Rattle.task_core.specs.Vectors.{value_of}
 use Rattle.task_core.specs.declared.conditions.Cond.{Cond}
 use Rattle.fair_plan.specs.Boards.{AreStepsOf, IsAfter, IsThere, Puts, Scene, Origin, actions_of, set_in, states_in, sys_of}
-use Rattle.fair_plan.specs.Goals.{IsChainOver, IsConditionOver, IsPatrolOver}
+use Rattle.fair_plan.specs.Goals.{IsChainOver, IsConditionOver}
 use Rattle.fair_plan.specs.Places.{met_place, pairs_end, win_place}
 use Rattle.fair_plan.specs.Rounds.{AimsAt, Begins, HasVisits}
 use Rattle.fair_plan.proofs.Boards.{low}

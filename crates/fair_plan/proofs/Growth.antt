@@ -1,35 +1,32 @@
 -- The states in which each action may be taken, and those from which a target can be come to.
-use Rattle.std.proofs.Common.{◌≡◌, ℕ, zero, suc, ◌+◌, ◌<◌, ◌≤◌, Bool, true, false, not, ◌&&◌, ◌||◌, List, [], ◌∷◌, refl, sym, ap, subst, ◌∙◌, ⊎_elim, arith}
+use Rattle.std.proofs.Common.{◌≡◌, ℕ, ◌+◌, ◌<◌, Bool, true, false, not, ◌&&◌, ◌||◌, List, [], ◌∷◌, refl, sym, ap, subst, ◌∙◌, ⊎_elim, arith}
 use Rattle.std.proofs.Math.Bool.{or_assoc}
 use Rattle.std.proofs.Math.Numerals.{add-one}
 use Rattle.std.proofs.lemmas.Bool.{and_from, and_parts, cases_eq, or_cases, or_left, or_right}
-use Rattle.std.specs.List.{list_any}
 use Rattle.dd_nodes.specs.NodeList.{Values}
 use Rattle.dd_nodes.specs.Subfunctions.{Function}
-use Rattle.dd_ops.specs.Operations.{and_of, minus_of, or_of}
-use Rattle.fair_theory.specs.FairSets.{CanComeTo, HasAllComing}
+use Rattle.dd_ops.specs.Operations.{and_of, or_of}
+use Rattle.fair_theory.specs.FairSets.{CanComeTo}
 use Rattle.fair_theory.specs.FairSets.CanComeTo.{here, by}
 use Rattle.list_laws.proofs.Elements.{list_any-witness}
 use Rattle.preimage.specs.Preimages.{strong_preimage, weak_preimage}
 use Rattle.preimage.specs.WorkingSets.{some_below}
 use Rattle.plan_theory.specs.Layers.{may_lead, must_lead}
 use Rattle.plan_theory.proofs.RoundSteps.{held}
-use Rattle.slot_board.specs.declared.board.Operation.TheVariants.{Join, Meet, Minus}
+use Rattle.slot_board.specs.declared.board.Operation.TheVariants.{Join, Meet}
 use Rattle.slot_board.specs.declared.board.Outcomes.{Outcomes}
-use Rattle.board_steps.specs.Steps.{Placed, after_step, after_steps}
+use Rattle.board_steps.specs.Steps.{Placed, after_step}
 use Rattle.board_steps.specs.declared.steps.Step.{Step}
 use Rattle.board_steps.specs.declared.steps.Step.TheVariants.{Combine, Copy, Lead}
 use Rattle.board_steps.proofs.StepLemmas.{with_here, with_other}
-use Rattle.task_core.specs.Cubes.{SetOfVectors}
 use Rattle.task_core.specs.Systems.{IsVector}
 use Rattle.task_core.specs.Tasks.{fluent_count}
 use Rattle.task_core.specs.Vectors.{Vector, all_vectors, value_of}
 use Rattle.task_core.specs.declared.literals.ActionId.{ActionId}
 use Rattle.task_core.proofs.TaskSystem.{is_system}
 use Rattle.fair_plan.specs.Boards.{AreStepsOf, IsAfter, IsThere, Scene, Origin, actions_of, set_in, states_in, sys_of}
-use Rattle.fair_plan.specs.Places.{pairs_end}
-use Rattle.fair_plan.specs.Rounds.{AddsNear, BeginsRound, Climbs, ClimbsOnce, ComesNear, Grows, HasNear, HasPairs, IsNear, IsPart, Keeps, Pairs, PairsOne, Passes, led_at}
-use Rattle.fair_plan.proofs.Boards.{low, only, pair_in, pairs_in}
+use Rattle.fair_plan.specs.Rounds.{AddsNear, Climbs, ClimbsOnce, Grows, HasNear, IsPart, Pairs, PairsOne, Passes, led_at}
+use Rattle.fair_plan.proofs.Boards.{low, only, pair_in}
 use Rattle.fair_plan.proofs.Leading.{fewer_outside, may_more, must_below, same_functions, weak_may}
 
 -- the steps of one action
@@ -198,15 +195,15 @@ pub grown_all : (origin : Origin) (x y : Scene) → Grows origin x y → set_in 
 grown_all origin x y g same = record {
   keeps = g.keeps;
   near = λ left guard pairs. record {
-      all = record {
-        made = λ v is h. g.more (value_of v) h;
-        closed = λ v a is inside leads may.
-            let below = must_below origin.start.task left v a leads in
-            g.has a below v is (pairs a below v is ∙ and_from (must_lead (sys_of origin) left v a) (guard v) leads inside)
-            (subst (λ (f : Function). may_lead (sys_of origin) (λ u. f (value_of u)) v a ≡ true) (sym same) may);
-      };
-      each = g.near left guard (states_in x 2) pairs (λ v is h. here v h);
+    all = record {
+      made = λ v is h. g.more (value_of v) h;
+      closed = λ v a is inside leads may.
+          let below = must_below origin.start.task left v a leads in
+          g.has a below v is (pairs a below v is ∙ and_from (must_lead (sys_of origin) left v a) (guard v) leads inside)
+          (subst (λ (f : Function). may_lead (sys_of origin) (λ u. f (value_of u)) v a ≡ true) (sym same) may);
     };
+    each = g.near left guard (states_in x 2) pairs (λ v is h. here v h);
+  };
 }
 
 -- each pass that changes anything leaves fewer states outside

@@ -1,7 +1,6 @@
 -- What a search answers.
-use Rattle.std.proofs.Common.{◌≡◌, ℕ, zero, suc, ◌+◌, ◌*◌, ◌^◌, ◌<◌, ◌≤◌, Bool, true, false, List, [], IfOk, IsErrOf, Result, Ok, Err, length, refl, sym, ap, subst, ◌∙◌, arith}
+use Rattle.std.proofs.Common.{◌≡◌, ℕ, zero, suc, ◌+◌, ◌^◌, ◌≤◌, Bool, true, false, List, [], IfOk, IsErrOf, Result, Ok, Err, refl, sym, subst, ◌∙◌, arith}
 use Rattle.std.specs.List.{list_all}
-use Rattle.dd_sets.specs.Rooms.{IsAtLimit, NoRoom}
 use Rattle.dd_sets.specs.declared.errors.SetErr.{SetErr}
 use Rattle.dd_sets.specs.declared.errors.SetErr.TheVariants.{Full}
 use Rattle.dd_sets.specs.declared.slots.SetId.{SetId}
@@ -9,20 +8,20 @@ use Rattle.encode_task.specs.Made.{MadeOf}
 use Rattle.encode_task.specs.Slots.{Encoded}
 use Rattle.fair_theory.specs.FairSets.{IsFairWin, SetGoal, covers_initial}
 use Rattle.fair_theory.proofs.NoFairPlan.{none_without_cover}
-use Rattle.slot_board.specs.Board.{At, Ends, HasNoRoom, HasNothing, Left, Stayed, Start, TestFits}
+use Rattle.slot_board.specs.Board.{At, Ends, HasNoRoom, Left, Stayed, Start, TestFits}
 use Rattle.task_core.specs.Cubes.{SetOfVectors}
-use Rattle.task_core.specs.Tasks.{action_count, fluent_count, initial_states, system_of}
+use Rattle.task_core.specs.Tasks.{action_count, fluent_count, initial_states}
 use Rattle.task_core.specs.Vectors.{value_of}
 use Rattle.task_core.specs.declared.tasks.Task.{Task}
 use Rattle.task_core.proofs.TaskSystem.{is_system}
-use Rattle.fair_plan.specs.Boards.{IsThere, Origin, Scene, actions_of, set_in, states_in, sys_of}
+use Rattle.fair_plan.specs.Boards.{IsThere, Origin, Scene, set_in, states_in, sys_of}
 use Rattle.fair_plan.specs.Found.{CanBeHad, IfNoPlan, IfPlan, IsAnswer}
 use Rattle.ctl_syntax.specs.declared.context_goals.ContextGoal.{ContextGoal}
 use Rattle.ctl_syntax.specs.declared.context_goals.ContextGoal.TheVariants.{Until, Patrol}
 use Rattle.plan_rules.specs.Plans.{IsContextOf, most_contexts}
 use Rattle.plan_rules.specs.declared.rules.AutoPlan.{AutoPlan}
 use Rattle.fair_plan.specs.Goals.{IsFairGoalOver, contexts_of}
-use Rattle.fair_plan.specs.Places.{place_count, win_place}
+use Rattle.fair_plan.specs.Places.{place_count}
 use Rattle.fair_plan.specs.declared.found.FairFound.{FairFound}
 use Rattle.fair_plan.specs.declared.found.FairFound.TheVariants.{NoPlan, Plan}
 use Rattle.fair_plan.proofs.Boards.{small}

@@ -1,12 +1,11 @@
 -- The rounds of a search for a largest set.
-use Rattle.std.proofs.Common.{◌≡◌, ℕ, zero, suc, ◌+◌, ◌<◌, ◌≤◌, Bool, true, false, not, ◌&&◌, ◌||◌, List, [], ◌∷◌, length, get_or, refl, sym, ap, subst, ◌∙◌, ⊎_elim, arith}
-use Rattle.std.proofs.lemmas.Bool.{and_from, and_parts, cases_eq, false≢true, true≢false}
+use Rattle.std.proofs.Common.{◌≡◌, ℕ, ◌+◌, ◌<◌, ◌≤◌, Bool, true, false, not, ◌&&◌, ◌||◌, [], ◌∷◌, length, get_or, refl, sym, ap, subst, ◌∙◌, ⊎_elim, arith}
+use Rattle.std.proofs.lemmas.Bool.{and_from, and_parts, cases_eq}
 use Rattle.std.proofs.lemmas.List.Elements.{Contains-get_or, at_from_Contains}
-use Rattle.std.specs.List.{Contains}
 use Rattle.dd_nodes.specs.NodeList.{Values}
 use Rattle.dd_nodes.specs.Subfunctions.{Function}
-use Rattle.dd_ops.specs.Operations.{and_of, minus_of}
-use Rattle.fair_theory.specs.FairSets.{Asked, CanComeTo, HasAllComing, IsFairBound, IsFairSet, IsLargestFairSet, all_coming, all_inside, all_staying, anywhere}
+use Rattle.dd_ops.specs.Operations.{and_of}
+use Rattle.fair_theory.specs.FairSets.{Asked, CanComeTo, HasAllComing, IsFairBound, IsLargestFairSet, all_coming, all_inside, all_staying, anywhere}
 use Rattle.preimage.specs.Preimages.{strong_preimage}
 use Rattle.preimage.specs.WorkingSets.{some_below}
 use Rattle.plan_theory.specs.Layers.{must_lead}
@@ -14,7 +13,6 @@ use Rattle.plan_theory.specs.Safe.{some_must_lead}
 use Rattle.plan_theory.proofs.RoundSteps.{held}
 use Rattle.slot_board.specs.declared.board.Operation.TheVariants.{Meet, Minus}
 use Rattle.board_steps.specs.Steps.{Placed, after_step}
-use Rattle.board_steps.specs.declared.steps.Step.{Step}
 use Rattle.board_steps.specs.declared.steps.Step.TheVariants.{Combine, Copy}
 use Rattle.board_steps.proofs.StepLemmas.{with_here, with_other}
 use Rattle.task_core.specs.Cubes.{SetOfVectors}
@@ -24,8 +22,8 @@ use Rattle.task_core.specs.Vectors.{Vector, all_vectors, value_of}
 use Rattle.task_core.proofs.TaskSystem.{is_system}
 use Rattle.fair_plan.specs.Boards.{IsAfter, IsThere, Scene, Origin, actions_of, set_in, states_in, sys_of}
 use Rattle.fair_plan.specs.Places.{pairs_end}
-use Rattle.fair_plan.specs.Rounds.{Begins, BeginsRound, ComesNear, ComesTo, ComesToAll, GoesOn, HasAims, HasNear, HasPairs, HasRound, HasTargets, IsPart, Keeps, KeepsStaying, Pairs, kept_of, led_at}
-use Rattle.fair_plan.proofs.Boards.{low, only, pair_in, pairs_in}
+use Rattle.fair_plan.specs.Rounds.{Begins, BeginsRound, ComesNear, ComesTo, ComesToAll, GoesOn, HasAims, HasNear, HasPairs, HasRound, HasTargets, IsPart, KeepsStaying, Pairs, kept_of, led_at}
+use Rattle.fair_plan.proofs.Boards.{low, only, pair_in}
 use Rattle.fair_plan.proofs.Leading.{comes_as, fewer, same_functions, some_from, some_to, strong_must}
 
 -- a target's states
@@ -221,10 +219,10 @@ begun_on origin asked stays first count x b = record {
 pub is_largest : (origin : Origin) (asked : Asked) (first : ℕ) (x : Scene) → HasRound origin asked first x → set_in x 5 ≡ set_in x 4 → IsLargestFairSet (sys_of origin) asked (states_in x 5)
 is_largest origin asked first x h same = record {
   fair = λ v is inside. record {
-      inside = h.on.inside v is inside;
-      stays = λ stay. subst (λ (f : Function). some_must_lead (sys_of origin) (λ u. f (value_of u)) v ≡ true) (sym same) (h.stays stay v is inside);
-      comes = λ target among. subst (λ (f : Function). CanComeTo (sys_of origin) (λ u. f (value_of u)) asked.guard target v) (sym same) (h.comes target among v is inside);
-    };
+    inside = h.on.inside v is inside;
+    stays = λ stay. subst (λ (f : Function). some_must_lead (sys_of origin) (λ u. f (value_of u)) v ≡ true) (sym same) (h.stays stay v is inside);
+    comes = λ target among. subst (λ (f : Function). CanComeTo (sys_of origin) (λ u. f (value_of u)) asked.guard target v) (sym same) (h.comes target among v is inside);
+  };
   bound = h.on.bound;
 }
 

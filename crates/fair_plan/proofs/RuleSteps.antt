@@ -1,5 +1,5 @@
 -- The rules that are listed are those of a plan for the task.
-use Rattle.std.proofs.Common.{◌≡◌, ℕ, ◌+◌, ◌*◌, ◌<◌, ◌≤◌, List, ◌++◌, All, map, length, IfErr, OnOk, Result, Ok, Err, refl, sym, ap, subst, ◌∙◌, arith}
+use Rattle.std.proofs.Common.{◌≡◌, ℕ, ◌+◌, ◌<◌, ◌≤◌, List, ◌++◌, All, map, IfErr, OnOk, Result, Ok, Err, sym, ap, subst, ◌∙◌, arith}
 use Rattle.std.proofs.lemmas.List.Elements.{All-append, All-map, All-weaker}
 use Rattle.dd_sets.specs.declared.errors.SetErr.{SetErr}
 use Rattle.dd_sets.specs.declared.errors.SetErr.TheVariants.{Full, Memory}
@@ -10,7 +10,7 @@ use Rattle.plan_rules.specs.declared.rules.AutoRule.{AutoRule}
 use Rattle.slot_board.proofs.BoardSizes.{vars_now}
 use Rattle.task_core.specs.Cubes.{SetOfVectors, cubes_of}
 use Rattle.task_core.specs.Tasks.{fluent_count}
-use Rattle.fair_plan.specs.Boards.{IsThere, Leaves, Origin, Scene, actions_of, states_in}
+use Rattle.fair_plan.specs.Boards.{IsThere, Leaves, Origin, Scene, actions_of}
 use Rattle.fair_plan.specs.Rounds.{AreRules, rule_for, rules_for}
 
 pub rules_more : (origin : Origin) (contexts : ℕ) (x : Scene) (context next a : ℕ) (set : SetOfVectors) (before after : List AutoRule) → IsThere origin x → IsContextOf contexts context → IsContextOf contexts next → a < actions_of origin

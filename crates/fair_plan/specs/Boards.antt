@@ -13,7 +13,7 @@ use Rattle.board_steps.specs.declared.steps.Step.TheVariants.{Whole, Fluent, Fix
 use Rattle.task_core.specs.Cubes.{SetOfVectors}
 use Rattle.task_core.specs.Systems.{System}
 use Rattle.task_core.specs.Tasks.{action_count, fluent_count, system_of}
-use Rattle.task_core.specs.Vectors.{Vector, value_of}
+use Rattle.task_core.specs.Vectors.{value_of}
 use Rattle.fair_plan.specs.Places.{place_count}
 
 -- where a search began, for so many stages or visits

@@ -72,7 +72,11 @@ fn meet_rest(enc: &mut Enc, board: &mut Board, met: usize) -> Result<(), SetErr>
     ensures { (origin : Origin) → IsThere origin (enc.old, board.old.slots.items)
         → Leaves origin (enc.new, board.new.slots.items) ⊤ result }
 {
-    make(enc, board, &[Step::Combine(REST, Operation::Meet, REST, met)])
+    make(
+        enc,
+        board,
+        &[Step::Combine(REST, Operation::Meet, REST, met)],
+    )
 }
 
 /// Leaves of them those in which it isn't.
@@ -82,7 +86,11 @@ fn drop_rest(enc: &mut Enc, board: &mut Board, met: usize) -> Result<(), SetErr>
     ensures { (origin : Origin) → IsThere origin (enc.old, board.old.slots.items)
         → Leaves origin (enc.new, board.new.slots.items) ⊤ result }
 {
-    make(enc, board, &[Step::Combine(REST, Operation::Minus, REST, met)])
+    make(
+        enc,
+        board,
+        &[Step::Combine(REST, Operation::Minus, REST, met)],
+    )
 }
 
 /// Looks for the states of a context of an until-chain, counted from 0, that turn to a next one: in

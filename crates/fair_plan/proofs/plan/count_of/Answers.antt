@@ -1,6 +1,6 @@
-use Rattle.std.proofs.Common.{◌≡◌, ◌≤◌, ◌∙◌, ap, arith, subst, sym}
+use Rattle.std.proofs.Common.{arith, subst}
 use Rattle.ctl_syntax.specs.declared.context_goals.ContextGoal.{ContextGoal}
-use Rattle.fair_plan.specs.Goals.{IsFairGoalOver, count_of}
+use Rattle.fair_plan.specs.Goals.{IsFairGoalOver}
 use Rattle.fair_plan.proofs.plan.count_of.Goals as goal
 
 pub stages_of-requires : goal.stages_of-requires

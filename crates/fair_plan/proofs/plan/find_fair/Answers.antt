@@ -1,9 +1,7 @@
 use Rattle.std.proofs.Common.{◌≡◌, ◌∙◌, ◌+◌, ◌^◌, ℕ, [], ap, arith, length, refl, subst, sym}
 use Rattle.encode_task.specs.Slots.{Encoded}
-use Rattle.slot_board.specs.Board.{At}
 use Rattle.slot_board.proofs.BoardSlots.{same_chain}
 use Rattle.task_core.specs.Tasks.{action_count, fluent_count}
-use Rattle.fair_theory.specs.FairPlans.{sets_of_goal}
 use Rattle.fair_plan.specs.Goals.{IsFairGoalOver}
 use Rattle.fair_plan.specs.Places.{place_count}
 use Rattle.fair_plan.proofs.PlanSteps.{ends_at, ends_full, ends_ok, origin_of, wide_enough}

@@ -1,4 +1,4 @@
-use Rattle.std.proofs.Common.{◌≡◌, ℕ, arith, subst, true, false}
+use Rattle.std.proofs.Common.{ℕ, subst}
 use Rattle.std.proofs.lemmas.Result.{err_from_is_err_and}
 use Rattle.board_steps.proofs.StepLemmas.{found_of, passed_on}
 use Rattle.fair_theory.specs.FairPlans.{sets_of_goal}

@@ -1,15 +1,13 @@
-use Rattle.std.proofs.Common.{◌≡◌, ◌∙◌, ◌<◌, ◌≤◌, ◌+◌, ℕ, arith, length, subst}
+use Rattle.std.proofs.Common.{◌≡◌, ◌∙◌, ℕ, arith, subst}
 use Rattle.std.proofs.lemmas.Result.{err_from_is_err_and}
-use Rattle.slot_board.proofs.BoardSlots.{passed, same_actions}
 use Rattle.board_steps.proofs.StepLemmas.{passed_on}
 use Rattle.fair_theory.specs.FairPlans.{sets_of_goal}
-use Rattle.ctl_syntax.specs.declared.context_goals.ContextGoal.{ContextGoal}
-use Rattle.fair_plan.specs.Boards.{IsThere, Scene, actions_of}
+use Rattle.fair_plan.specs.Boards.{Scene, actions_of}
 use Rattle.fair_plan.specs.Goals.{IsFairGoalOver}
 use Rattle.fair_plan.specs.Places.{win_place}
 use Rattle.fair_plan.proofs.Boards.{actions_are, actions_at, done, in_at, vars_at}
 use Rattle.fair_plan.proofs.Goals.{win_in}
-use Rattle.fair_plan.proofs.PlanSteps.{Won, test_fits, won_ends}
+use Rattle.fair_plan.proofs.PlanSteps.{test_fits, won_ends}
 use Rattle.fair_plan.proofs.plan.wins.Goals as goal
 
 pub begin-requires : goal.begin-requires

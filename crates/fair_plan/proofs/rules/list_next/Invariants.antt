@@ -1,4 +1,4 @@
-use Rattle.std.proofs.Common.{◌≡◌, ◌+◌, ◌≤◌}
+use Rattle.std.proofs.Common.{◌+◌, ◌≤◌}
 use Rattle.fair_plan.specs.Boards.{IsThere, Origin}
 use Rattle.fair_plan.specs.Rounds.{Lists}
 use Rattle.fair_plan.proofs.rules.list_next.Given as goal

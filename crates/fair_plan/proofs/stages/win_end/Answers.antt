@@ -4,7 +4,7 @@ use Rattle.slot_board.proofs.BoardSlots.{passed}
 use Rattle.fair_plan.specs.Boards.{Scene, actions_of}
 use Rattle.ctl_syntax.specs.Conditions.{states_of}
 use Rattle.fair_theory.specs.FairSets.{end_asks}
-use Rattle.fair_plan.proofs.Boards.{actions_are, done, in_at, in_start, le_length, leaves_with, low_in}
+use Rattle.fair_plan.proofs.Boards.{actions_are, done, in_start, le_length, leaves_with, low_in}
 use Rattle.fair_plan.proofs.Goals.{end_begins, end_won, kept_can, whole_can}
 use Rattle.fair_plan.proofs.stages.win_end.Goals as goal
 

@@ -1,4 +1,4 @@
-use Rattle.std.proofs.Common.{◌≡◌, ◌∙◌, List, ap, map, subst, sym}
+use Rattle.std.proofs.Common.{◌∙◌, List, ap, map, subst, sym}
 use Rattle.ctl_syntax.specs.Conditions.{states_of}
 use Rattle.ctl_syntax.specs.declared.context_goals.ContextGoal.{ContextGoal}
 use Rattle.fair_theory.specs.FairPlans.{sets_of_goal}

@@ -1,7 +1,7 @@
-use Rattle.std.proofs.Common.{◌≡◌, ◌+◌, ◌<◌, ◌≤◌, ◌∙◌, arith, length}
+use Rattle.std.proofs.Common.{◌≡◌, ◌+◌, ◌∙◌, arith}
 use Rattle.std.proofs.lemmas.Result.{err_from_is_err_and}
 use Rattle.slot_board.proofs.BoardSlots.{passed}
-use Rattle.fair_plan.specs.Boards.{Scene, actions_of}
+use Rattle.fair_plan.specs.Boards.{actions_of}
 use Rattle.fair_plan.proofs.Boards.{actions_are, actions_same, done, in_at, le_length}
 use Rattle.fair_plan.proofs.Goals.{met_in, whole_can, win_in}
 use Rattle.fair_plan.proofs.TakerSteps.{takers_fit}
