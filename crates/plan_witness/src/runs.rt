@@ -59,7 +59,7 @@ pub struct RunStep {
 #[derive(Drop)]
 pub struct Run {
     pub start: State,
-    pub steps: VecDeque<RunStep>,
+    pub steps: Vec<RunStep>,
 }
 
 /// A shortest run from an initial state to the configuration of a number with a mark; `None` where no
@@ -129,7 +129,7 @@ fn run_along(
     let steps = steps_along(alloc, task, plan, graph, way.start, &way.numbers)?;
     Ok(Run {
         start: *graph.state(way.start),
-        steps,
+        steps: Vec::from(steps),
     })
 }
 

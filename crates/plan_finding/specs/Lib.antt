@@ -1,0 +1,4 @@
+pub mod Aims
+pub mod Findings
+pub mod Texts
+pub mod Values
