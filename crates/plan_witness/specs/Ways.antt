@@ -103,6 +103,13 @@ pub record IsOnRound (next : ℕ → List ℕ) (i : ℕ) : Type 0 where
   pub walk : IsWalk next i (follower ∷ rest)
   pub round : last_number follower rest ≡ i
 
+-- Private: some walk from number i comes back to it, and from no number with a shorter way
+pub record IsNearestRound (n : ℕ) (next : ℕ → List ℕ) (lengths : List ℕ) (i : ℕ) : Type 0 where
+  pub below : i < n
+  pub on : IsOnRound next i
+  pub reached : at lengths i < far
+  pub least : (j : ℕ) → j < n → IsOnRound next j → at lengths i ≤ at lengths j
+
 -- Private: a walk from i back to i, by the follower `start`, than which none is shorter
 pub record IsShortestRoundAt (next : ℕ → List ℕ) (i start : ℕ) (numbers : List ℕ) : Type 0 where
   pub follows : Contains (next i) start

@@ -20,7 +20,7 @@ ghost use Rattle.plan_rules.specs.Plans.{IsPlanOf};
 ghost use Rattle.plan_rules.specs.Rules.{plain_of};
 ghost use Rattle.exec_graph.specs.Values.{IsWithinFluents, followers_at, graph_size};
 ghost use Rattle.plan_witness.specs.Lassos.{ComesBack, IsLasso};
-ghost use Rattle.plan_witness.specs.Marked.{IsGraphIn, IsRoundAlong, place_at};
+ghost use Rattle.plan_witness.specs.Marked.{IsGraphIn, IsRoundOf, place_at};
 ghost use Rattle.plan_witness.specs.Runs.{NoneReached};
 ghost use Rattle.plan_witness.specs.Values.{lasso_value, steps_value};
 ghost use Rattle.plan_witness.specs.Ways.{
@@ -108,6 +108,37 @@ fn nearest_round<L: Ledger>(
         }
     }
     Ok(nearest)
+}
+
+/// The steps of a shortest walk from a number back to it.
+fn round_along<L: Ledger>(
+    alloc: Global,
+    task: &Task,
+    plan: &Plan,
+    graph: &Graph,
+    number: u32,
+    steps: &mut Steps<L>,
+) -> Result<Vec<RunStep>, AllocError>
+    requires plan { IsPlanOf (fluent_count task.now) (action_count task.now) plan.now }
+    requires graph { IsGraphIn task.now plan.now graph.now }
+    requires within { IsWithinFluents (fluent_count task.now) graph.now }
+    requires number { number < graph_size graph.now }
+    requires on { IsOnRound (followers_at graph.now) number }
+    ensures round { let n = fluent_count task.now in IfOk result (λ round.
+        IsRoundOf (system_of task.now) (plain_of plan.now) (place_at n graph.now)
+        (followers_at graph.now) number (steps_value n round.items)) }
+    ensures within { IfOk result (λ round.
+        HasStepsWithin (fluent_count task.now) round.items) }
+{
+    match round_at(alloc, graph, number, steps)? {
+        Some(way) => {
+            let first = step_at(task, plan, graph, number, way.start);
+            let mut round = steps_along(alloc, task, plan, graph, way.start, &way.numbers)?;
+            round.push_front(first)?;
+            Ok(Vec::from(round))
+        }
+        None => Ok(Vec::new(alloc)),
+    }
 }
 
 /// Whether some walk from a number comes back to it.

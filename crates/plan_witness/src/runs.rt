@@ -107,7 +107,7 @@ pub(crate) fn starts_of(alloc: Global, graph: &Graph) -> Result<Vec<bool>, Alloc
 }
 
 /// The run along a way.
-fn run_along(
+pub(crate) fn run_along(
     alloc: Global,
     task: &Task,
     plan: &Plan,
@@ -134,7 +134,7 @@ fn run_along(
 }
 
 /// The steps along a way from a number.
-fn steps_along(
+pub(crate) fn steps_along(
     alloc: Global,
     task: &Task,
     plan: &Plan,
@@ -173,7 +173,7 @@ fn number_at(numbers: &[u32], k: usize) -> u32
 }
 
 /// The step from a number to one that follows it.
-fn step_at(task: &Task, plan: &Plan, graph: &Graph, from: u32, to: u32) -> RunStep
+pub(crate) fn step_at(task: &Task, plan: &Plan, graph: &Graph, from: u32, to: u32) -> RunStep
     requires plan { IsPlanOf (fluent_count task.now) (action_count task.now) plan.now }
     requires graph { IsGraphIn task.now plan.now graph.now }
     requires within { IsWithinFluents (fluent_count task.now) graph.now }
