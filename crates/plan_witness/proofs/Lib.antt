@@ -7,4 +7,3 @@ pub mod Counting
 pub mod Meanings
 pub mod FoundRuns
 pub mod Leads
-mod Rounds

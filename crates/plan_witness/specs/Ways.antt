@@ -118,11 +118,3 @@ pub record IsShortestRoundAt (next : ℕ → List ℕ) (i start : ℕ) (numbers 
   pub least : (follower : ℕ) (rest : List ℕ) → IsWalk next i (follower ∷ rest)
       → last_number follower rest ≡ i
       → length numbers ≤ length rest
-
--- Private: ranks never fall from a number below n to those that follow it
-abbrev pub NeverFall : ℕ → (ℕ → List ℕ) → List ℕ → Type 0
-NeverFall n next ranks = (i j : ℕ) → i < n → Contains (next i) j → at ranks i ≤ at ranks j
-
--- Private: each follower of a number has a higher rank
-abbrev pub AllHigher : (ℕ → List ℕ) → List ℕ → ℕ → Type 0
-AllHigher next ranks i = (j : ℕ) → Contains (next i) j → at ranks i < at ranks j

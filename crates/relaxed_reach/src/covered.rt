@@ -95,9 +95,9 @@ fn covers_change(change: &Change, marks: &Marks) -> bool
     has_literals(&change.lits, marks)
 }
 
-/// Whether the values after an outcome are marked.
-fn covers_outcome(outcome: &Outcome, marks: &Marks) -> bool
-    ensures { result ≡ true → CoversOutcome marks.now outcome.now }
+/// Whether what each change of an outcome does is marked.
+fn covers_changes(outcome: &Outcome, marks: &Marks) -> bool
+    ensures { result ≡ true → All (CoversChange marks.now) outcome.now.changes.items }
 {
     for change in &outcome.changes {
         if !covers_change(change, marks) {
@@ -107,13 +107,24 @@ fn covers_outcome(outcome: &Outcome, marks: &Marks) -> bool
     true
 }
 
-/// Whether the values after each outcome of an action are marked.
+/// Whether the values after an outcome are marked.
+fn covers_outcome(outcome: &Outcome, marks: &Marks) -> bool
+    ensures { result ≡ true → CoversOutcome marks.now outcome.now }
+{
+    covers_changes(outcome, marks)
+}
+
+/// Whether the values after each outcome of an action are marked, where its precondition may hold.
 fn covers_action(action: &GroundAction, marks: &Marks) -> bool
     ensures { result ≡ true → CoversAction marks.now action.now }
 {
-    if !may_hold(&action.exec, marks) {
-        return true;
-    }
+    !may_hold(&action.exec, marks) || covers_outcomes(action, marks)
+}
+
+/// Whether the values after each outcome of an action are marked.
+fn covers_outcomes(action: &GroundAction, marks: &Marks) -> bool
+    ensures { result ≡ true → All (CoversOutcome marks.now) action.now.outcomes.items }
+{
     for outcome in &action.outcomes {
         if !covers_outcome(outcome, marks) {
             return false;

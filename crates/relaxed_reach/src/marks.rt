@@ -1,7 +1,7 @@
 //! The values that fluents may have.
 
 ghost use Rattle.relaxed_reach.specs.Marks.{CoversAll, may_have};
-ghost use Rattle.std.specs.Prelude.{◌≡◌, ◌<◌, ℕ, All, Bool, IfOk, map, true};
+ghost use Rattle.std.specs.Prelude.{◌≡◌, ◌<◌, ℕ, All, Bool, IfOk, false, map, true};
 ghost use Rattle.task_core.specs.States.{IsWithin, truth, vector};
 ghost use Rattle.task_core.specs.Tasks.{fluent_count, initial_states, system_of};
 
@@ -22,7 +22,8 @@ pub struct Marks {
 impl Marks {
     /// Whether a fluent may have a value. One that no state holds may have any.
     pub fn may_have(&self, fluent: FluentId, value: bool) -> bool
-        ensures { fluent.0 < 256 → result ≡ may_have self.now fluent.0 value }
+        ensures value { fluent.0 < 256 → result ≡ may_have self.now fluent.0 value }
+        ensures none { result ≡ false → fluent.0 < 256 }
     {
         if fluent.0 >= 256 {
             return true;
