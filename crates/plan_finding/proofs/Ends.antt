@@ -6,7 +6,6 @@ use Rattle.plan_witness.specs.Runs.{end_of}
 use Rattle.plan_witness.specs.Values.{step_value, steps_value}
 use Rattle.plan_witness.specs.declared.runs.RunStep.{RunStep}
 
-
 pub last_step : (n : ℕ) (x : Configuration) (steps : List RunStep) (step : RunStep) → slice_get steps (length steps - 1) ≡ Some step
     → end_of x (steps_value n steps) ≡ (step_value n step).after
 last_step n x [] step is = absurd (none-some step is)

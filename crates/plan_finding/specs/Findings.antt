@@ -69,13 +69,13 @@ CountsAt (automaton contexts rules) x number action = CountsInContext rules x nu
 pub record HasFalseGoal (task : Task) (v : Vector) (parts : List Cond) : Type 0 where
   pub goal : Cond
   pub is : task.goal ≡ Some goal
-  pub parts : AreFalseParts (fluent_count task) goal v parts
+  pub are : AreFalseParts (fluent_count task) goal v parts
 
 -- the parts of an action's precondition that are false in a state
 pub record HasFalsePrecondition (task : Task) (v : Vector) (action : ℕ) (parts : List Cond) : Type 0 where
   pub ground : GroundAction
   pub listed : slice_get task.actions.items action ≡ Some ground
-  pub parts : AreFalseParts (fluent_count task) ground.exec v parts
+  pub are : AreFalseParts (fluent_count task) ground.exec v parts
 
 -- the rule counts at x, and its action can't be executed there; the parts of its precondition that are
 -- false there

@@ -23,12 +23,17 @@ abbrev pub context_note : PlainPlan → ℕ → List ℕ
 context_note (table class rules) context = []
 context_note (automaton contexts rules) context = codes ", context " ++ decimal context
 
--- the lines of a step from a state: as rule 2: (go a b), outcome 0, and a line for each change
+-- the rule, the action and the outcome of a step, as rule 2: (go a b), outcome 0
+abbrev pub move_text : List Name → PlainStep → List ℕ
+move_text actions step =
+    codes "rule " ++ decimal step.rule ++ codes ": " ++ atom_text (name_at actions step.action)
+    ++ codes ", outcome " ++ decimal step.outcome
+
+-- the lines of a step from a state: what it is, and a line for each change
 abbrev pub step_lines : List Name → List Name → PlainPlan → Vector → PlainStep → List ℕ
 step_lines fluents actions plan before step =
-    codes "rule " ++ decimal step.rule ++ codes ": " ++ atom_text (name_at actions step.action)
-    ++ codes ", outcome " ++ decimal step.outcome ++ context_note plan step.after.context
-    ++ line_feed ++ changes_text fluents before step.after.state
+    move_text actions step ++ context_note plan step.after.context ++ line_feed
+    ++ changes_text fluents before step.after.state
 
 abbrev pub steps_text : List Name → List Name → PlainPlan → Vector → List PlainStep → List ℕ
 steps_text fluents actions plan before [] = []

@@ -3,10 +3,10 @@
 ghost use Rattle.exec_graph.specs.Executions.{IsStuckAt, IsUnexecutableAt};
 ghost use Rattle.plan_finding.specs.Aims.{HasGoalFor, IsAimAt};
 ghost use Rattle.plan_finding.specs.Findings.{HasFalseGoal, HasFalsePrecondition, IsEndingAt};
-ghost use Rattle.plan_finding.specs.Values.{ending_value, parts_value};
+ghost use Rattle.plan_finding.specs.Values.{ending_value};
 ghost use Rattle.plan_rules.specs.Plans.{IsPlanOf};
 ghost use Rattle.plan_rules.specs.Rules.{plain_of};
-ghost use Rattle.std.specs.Prelude.{◌<◌, IfOk, IsSome};
+ghost use Rattle.std.specs.Prelude.{◌<◌, IfOk, IsSome, map};
 ghost use Rattle.task_core.specs.States.{IsWithin, vector};
 ghost use Rattle.task_core.specs.Tasks.{action_count, fluent_count, system_of};
 
@@ -68,14 +68,10 @@ pub(crate) fn ending_at<'a>(
 }
 
 /// The parts of the goal that are false in a state.
-fn false_goal<'a>(
-    alloc: Global,
-    task: &'a Task,
-    state: &State,
-) -> Result<Vec<&'a Cond>, AllocError>
+fn false_goal<'a>(alloc: Global, task: &'a Task, state: &State) -> Result<Vec<&'a Cond>, AllocError>
     requires goal { IsSome task.now.goal }
     ensures { let v = vector (fluent_count task.now) state.now in
-        IfOk result (λ parts. HasFalseGoal task.now v (parts_value parts.items)) }
+        IfOk result (λ parts. HasFalseGoal task.now v (map (λ part. part.now) parts.items)) }
 {
     let goal = task.goal.as_ref().unwrap();
     false_parts(alloc, goal, state)
@@ -116,7 +112,7 @@ fn false_precondition<'a>(
 ) -> Result<Vec<&'a Cond>, AllocError>
     requires { action.0 < action_count task.now }
     ensures { let v = vector (fluent_count task.now) state.now in
-        IfOk result (λ parts. HasFalsePrecondition task.now v action.0 (parts_value parts.items)) }
+        IfOk result (λ parts. HasFalsePrecondition task.now v action.0 (map (λ part. part.now) parts.items)) }
 {
     let ground = &task.actions[action.0 as usize];
     false_parts(alloc, &ground.exec, state)

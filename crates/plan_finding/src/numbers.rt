@@ -1,6 +1,7 @@
 //! The number of an initial state.
 
-ghost use Rattle.std.specs.Prelude.{◌≡◌, IfOk, Some, slice_get};
+ghost use Rattle.plan_finding.specs.Places.{place_in};
+ghost use Rattle.std.specs.Prelude.{◌≡◌, All, IfOk, Some, map, slice_get, ℕ};
 ghost use Rattle.std.specs.List.{Contains};
 ghost use Rattle.task_core.specs.States.{IsWithin, vector};
 ghost use Rattle.task_core.specs.Tasks.{fluent_count, initial_states};
@@ -12,11 +13,7 @@ use task_core::{InitErr, State, Task, init_states};
 const MOST_INITIAL: usize = 262_144;
 
 /// The number of an initial state among all, counted from 0. There are no more than are followed.
-pub(crate) fn initial_number(
-    alloc: Global,
-    task: &Task,
-    state: &State,
-) -> Result<usize, AllocError>
+pub(crate) fn initial_number(alloc: Global, task: &Task, state: &State) -> Result<usize, AllocError>
     requires within { IsWithin (fluent_count task.now) state.now }
     requires initial { Contains (initial_states task.now) (vector (fluent_count task.now) state.now) }
     ensures { IfOk result (λ number. slice_get (initial_states task.now) number
@@ -29,15 +26,15 @@ pub(crate) fn initial_number(
     }
 }
 
-/// The first place of a state among some.
+/// The first place of a state among some; how many there are, where it isn't among them.
 fn place_of(states: &[State], state: &State) -> usize
-    requires { Contains states.now state.now }
-    ensures { slice_get states.now result ≡ Some state.now }
+    ensures { (n : ℕ) → All (IsWithin n) states.now → IsWithin n state.now
+        → result ≡ place_in (map (vector n) states.now) (vector n state.now) }
 {
     for place in 0..states.len() {
         if states[place] == *state {
             return place;
         }
     }
-    0
+    states.len()
 }

@@ -24,12 +24,7 @@ pub(crate) struct Chosen {
 }
 
 /// A rule that counts in a state and a context and whose action can't be executed there.
-pub(crate) fn bad_rule(
-    task: &Task,
-    plan: &Plan,
-    state: &State,
-    context: u32,
-) -> Option<Chosen>
+pub(crate) fn bad_rule(task: &Task, plan: &Plan, state: &State, context: u32) -> Option<Chosen>
     requires plan { IsPlanOf (fluent_count task.now) (action_count task.now) plan.now }
     requires inside { IsWithin (fluent_count task.now) state.now }
     ensures counts { let v = vector (fluent_count task.now) state.now in
@@ -94,12 +89,7 @@ fn is_bad_rule(task: &Task, rule: &Rule, state: &State) -> bool
 }
 
 /// The rule that counts in a state and a context, where its action can't be executed there.
-fn bad_context_rule(
-    task: &Task,
-    rules: &[AutoRule],
-    state: &State,
-    context: u32,
-) -> Option<Chosen>
+fn bad_context_rule(task: &Task, rules: &[AutoRule], state: &State, context: u32) -> Option<Chosen>
     requires rules { let n = fluent_count task.now in let m = action_count task.now in
         All (λ rule. IsRunRuleOf n m (context_rule_of rule)) rules.now }
     requires inside { IsWithin (fluent_count task.now) state.now }

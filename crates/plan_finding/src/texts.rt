@@ -7,6 +7,7 @@ ghost use Rattle.plan_finding.specs.Texts.{
   found_text as text_of,
   initial_line,
   is_recorded as is_recorded_run,
+  move_text,
   outcomes_text,
   record_line,
   refusal_note,
@@ -15,7 +16,7 @@ ghost use Rattle.plan_finding.specs.Texts.{
   steps_text,
   takes_first as takes_first_of,
 };
-ghost use Rattle.plan_finding.specs.Values.{ending_value, found_value, parts_value};
+ghost use Rattle.plan_finding.specs.Values.{ending_value, found_value};
 ghost use Rattle.plan_rules.specs.Plans.{IsPlanOf, IsRuleOf};
 ghost use Rattle.plan_rules.specs.Rules.{plain_of, rule_of};
 ghost use Rattle.plan_rules.specs.Texts.{atom_text, name_at};
@@ -101,15 +102,23 @@ fn push_step(
         ++ step_lines (fluent_names task.now) (action_names task.now) (plain_of plan.now)
         (vector n before.now) (step_value n step.now)) }
 {
+    push_move(out, task, step)?;
+    push_context(out, plan, step.context)?;
+    out.push_str("\n")?;
+    push_changes(out, task, before, &step.state)
+}
+
+/// Appends the rule, the action and the outcome of a step.
+fn push_move(out: &mut String, task: &Task, step: &RunStep) -> Result<(), AllocError>
+    ensures { (n : ℕ) → OnOk result (string_bytes out.new ≡ string_bytes out.old
+        ++ move_text (action_names task.now) (step_value n step.now)) }
+{
     out.push_str("rule ")?;
     push_number(out, step.rule)?;
     out.push_str(": ")?;
     push_action(out, task, step.action)?;
     out.push_str(", outcome ")?;
-    push_number(out, step.outcome)?;
-    push_context(out, plan, step.context)?;
-    out.push('\n')?;
-    push_changes(out, task, before, &step.state)
+    push_number(out, step.outcome)
 }
 
 /// Appends a context, where the plan has contexts.
@@ -164,7 +173,7 @@ pub(crate) fn push_sentence(
 /// Appends which parts of a precondition are false.
 fn push_refusal(out: &mut String, task: &Task, parts: &[&Cond]) -> Result<(), AllocError>
     ensures { OnOk result (string_bytes out.new ≡ string_bytes out.old
-        ++ refusal_note (fluent_names task.now) (parts_value parts.now)) }
+        ++ refusal_note (fluent_names task.now) (map (λ part. part.now) parts.now)) }
 {
     if parts.is_empty() {
         return out.push_str("though its precondition holds");
@@ -176,7 +185,7 @@ fn push_refusal(out: &mut String, task: &Task, parts: &[&Cond]) -> Result<(), Al
 /// Appends conditions, each after a space.
 fn push_parts(out: &mut String, task: &Task, parts: &[&Cond]) -> Result<(), AllocError>
     ensures { OnOk result (string_bytes out.new ≡ string_bytes out.old
-        ++ conditions_text (fluent_names task.now) (parts_value parts.now)) }
+        ++ conditions_text (fluent_names task.now) (map (λ part. part.now) parts.now)) }
 {
     for part in parts {
         out.push(' ')?;
@@ -198,7 +207,9 @@ fn push_record(
         ++ record_line (plain_of plan.now) number (run_value (fluent_count task.now) run.now)) }
 {
     if !is_recorded(task, plan, run) {
-        return out.push_str("no record: some step takes a rule that isn't the first that matches\n");
+        return out.push_str(
+            "no record: some step takes a rule that isn't the first that matches\n",
+        );
     }
     out.push_str("(record ")?;
     push_number(out, number)?;
