@@ -4,7 +4,10 @@ use Rattle.plan_io.specs.Held.{Held}
 use Rattle.check_command.specs.CheckCommand.{FetchesToCheck}
 use Rattle.command_base.specs.Answers.{Answer, no_memory, refused}
 use Rattle.command_base.specs.Faults.{IsQuietAt}
-use Rattle.command_base.specs.Fetching.{AsksForPlan, FetchPlan}
+use Rattle.command_base.specs.Fetching.{AsksForPlan, FetchPlan, Stops}
+use Rattle.command_base.specs.Grounding.{GoalThen, GroundThen}
+use Rattle.command_base.specs.PddlTexts.{ReadBoth}
+use Rattle.plan_io.specs.Fetches.{Fetches}
 use Rattle.command_base.specs.Frame.{FailedIn}
 use Rattle.command_base.specs.Words.{Bytes, CheckWords, Command, check}
 use Rattle.command_base.proofs.Frames.{IsGivenFor}
@@ -33,9 +36,14 @@ for_memory held failed fetched asked a before after (x, first, inr (holds, (y, s
 -- what each fetch keeps true is true after all of them
 module _ {S : Type 0} (P : S → Type 0) (held : Bytes → Held) (failed : Bytes → Type 0) (fetched : S → Bytes → S → Type 0)
     (keeps : (before : S) (name : Bytes) (after : S) → fetched before name after → P before → P after) where
+  abbrev Refuses : CheckWords → Answer → Type 0
+  Refuses asked a =
+      Stops (ReadBoth held failed asked.domain asked.problem (λ domain problem. GoalThen asked.kind asked.problem problem (GroundThen domain problem (λ answer. ⊥)))) a
+
   over_plan : (asked : CheckWords) (a : Answer) (before after : S) → FetchPlan held failed fetched asked a before after → P before → P after
   over_plan asked a before after =
-      over_fetch_then P fetched keeps asked.problem _ (AsksForPlan held asked) _ before after (λ y. over_fetches P fetched keeps (asked.plan ∷ []) y after)
+      over_fetch_then P fetched keeps asked.problem (Refuses asked a) (AsksForPlan held asked) (Fetches fetched (asked.plan ∷ [])) before after
+      (λ y. over_fetches P fetched keeps (asked.plan ∷ []) y after)
 
   over_all : (asked : CheckWords) (a : Answer) (before after : S) → FetchesToCheck held failed fetched asked a before after → P before → P after
   over_all asked a before after =

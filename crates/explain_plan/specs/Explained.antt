@@ -1,5 +1,5 @@
 -- Which answer explains the verdict on a plan.
-use Rattle.std.specs.Prelude.{◌≡◌, ◌++◌, ℕ, List, Option, None, Some}
+use Rattle.std.specs.Prelude.{◌≡◌, ◌++◌, [], Option, None, Some}
 use Rattle.check_command.specs.CheckCommand.{ExploreThen, IsVerdictOf, verdict_answer}
 use Rattle.check_command.specs.Judged.{IsTaskVerdict}
 use Rattle.command_base.specs.Answers.{Answer, affirmed, denied, refused}

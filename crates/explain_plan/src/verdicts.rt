@@ -35,9 +35,7 @@ ghost use Rattle.std.specs.Prelude.{
 ghost use Rattle.task_core.specs.Tasks.{action_count, fluent_count, initial_states, system_of};
 
 use check_command::show_verdict;
-use command_base::{
-    CheckWords, Limit, PlanKind, Refusal, Shown, Text, goal_in, no_initial,
-};
+use command_base::{CheckWords, Limit, PlanKind, Refusal, Shown, Text, goal_in, no_initial};
 use exec_graph::{Graph, GraphErr, explore};
 use ground_task::Grounded;
 use pddl_ast::Problem;
