@@ -5,3 +5,4 @@ pub mod Values
 pub mod Ways
 pub mod Marked
 pub mod Leading
+pub mod Within

@@ -11,6 +11,7 @@ use Rattle.exec_graph.specs.Values.{graph_size, plain_graph}
 use Rattle.exec_graph.specs.declared.graphs.Graph.{Graph}
 use Rattle.plan_check.specs.Walks.{IsMarked}
 use Rattle.plan_witness.specs.Runs.{IsRunOf, IsStepOf, PlainStep}
+use Rattle.plan_witness.specs.Ways.{IsShortestRoundAt}
 
 -- the graph is that of the plan in the task
 abbrev pub IsGraphIn : Task → Plan → Graph → Type 0
@@ -43,3 +44,11 @@ pub record IsRoundAlong (sys : System) (plan : PlainPlan) (place : ℕ → Confi
   pub step : IsStepOf sys plan (place i) first
   pub after : first.after ≡ place start
   pub along : IsRunAlong sys plan place start numbers others
+
+-- Private: the steps are a shortest run from the number i back to it
+pub record IsRoundOf (sys : System) (plan : PlainPlan) (place : ℕ → Configuration) (next : ℕ → List ℕ)
+    (i : ℕ) (steps : List PlainStep) : Type 0 where
+  pub start : ℕ
+  pub numbers : List ℕ
+  pub round : IsShortestRoundAt next i start numbers
+  pub along : IsRoundAlong sys plan place i start numbers steps

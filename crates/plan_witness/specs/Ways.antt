@@ -103,6 +103,13 @@ pub record IsOnRound (next : ℕ → List ℕ) (i : ℕ) : Type 0 where
   pub walk : IsWalk next i (follower ∷ rest)
   pub round : last_number follower rest ≡ i
 
+-- Private: some walk from number i comes back to it, and from no number with a shorter way
+pub record IsNearestRound (n : ℕ) (next : ℕ → List ℕ) (lengths : List ℕ) (i : ℕ) : Type 0 where
+  pub below : i < n
+  pub on : IsOnRound next i
+  pub reached : at lengths i < far
+  pub least : (j : ℕ) → j < n → IsOnRound next j → at lengths i ≤ at lengths j
+
 -- Private: a walk from i back to i, by the follower `start`, than which none is shorter
 pub record IsShortestRoundAt (next : ℕ → List ℕ) (i start : ℕ) (numbers : List ℕ) : Type 0 where
   pub follows : Contains (next i) start
@@ -111,11 +118,3 @@ pub record IsShortestRoundAt (next : ℕ → List ℕ) (i start : ℕ) (numbers 
   pub least : (follower : ℕ) (rest : List ℕ) → IsWalk next i (follower ∷ rest)
       → last_number follower rest ≡ i
       → length numbers ≤ length rest
-
--- Private: ranks never fall from a number below n to those that follow it
-abbrev pub NeverFall : ℕ → (ℕ → List ℕ) → List ℕ → Type 0
-NeverFall n next ranks = (i j : ℕ) → i < n → Contains (next i) j → at ranks i ≤ at ranks j
-
--- Private: each follower of a number has a higher rank
-abbrev pub AllHigher : (ℕ → List ℕ) → List ℕ → ℕ → Type 0
-AllHigher next ranks i = (j : ℕ) → Contains (next i) j → at ranks i < at ranks j

@@ -39,6 +39,7 @@ ghost use Rattle.plan_witness.specs.Ends.{IsEndOutside, IsNumberOutside};
 ghost use Rattle.plan_witness.specs.Marked.{IsGraphIn, place_at};
 ghost use Rattle.plan_witness.specs.Runs.{IsShortestRun, NoneReached};
 ghost use Rattle.plan_witness.specs.Values.{run_value};
+ghost use Rattle.plan_witness.specs.Within.{IsRunWithin};
 
 use crate::rules::counting_rule;
 use crate::runs::{Run, shortest_run};
@@ -64,6 +65,7 @@ pub fn unexecutable_run<L: Ledger>(
     ensures shortest { let n = fluent_count task.now in let sys = system_of task.now in
         IfOk result (λ found. IfSome found (λ run. IsShortestRun sys (plain_of plan.now)
         (IsUnexecutableAt sys (plain_of plan.now)) (run_value n run))) }
+    ensures within { IfOk result (λ found. IfSome found (IsRunWithin (fluent_count task.now))) }
     ensures none { let sys = system_of task.now in IfOk result (λ found.
         IfNone found (NoneReached sys (plain_of plan.now) (IsUnexecutableAt sys (plain_of plan.now)))) }
 {
@@ -87,6 +89,7 @@ pub fn terminal_run<L: Ledger>(
     ensures shortest { let n = fluent_count task.now in let sys = system_of task.now in
         IfOk result (λ found. IfSome found (λ run. IsShortestRun sys (plain_of plan.now)
         (IsEndOutside sys (plain_of plan.now)) (run_value n run))) }
+    ensures within { IfOk result (λ found. IfSome found (IsRunWithin (fluent_count task.now))) }
     ensures none { let sys = system_of task.now in IfOk result (λ found.
         IfNone found (NoneReached sys (plain_of plan.now) (IsEndOutside sys (plain_of plan.now)))) }
 {

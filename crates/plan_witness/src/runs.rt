@@ -13,7 +13,7 @@ ghost use Rattle.std.specs.Prelude.{
   ℕ,
 };
 ghost use Rattle.std.specs.List.{Contains};
-ghost use Rattle.task_core.specs.States.{vector};
+ghost use Rattle.task_core.specs.States.{IsWithin, vector};
 ghost use Rattle.task_core.specs.Tasks.{action_count, fluent_count, system_of};
 ghost use Rattle.plan_check.specs.Walks.{IsMarked, IsWalk};
 ghost use Rattle.plan_rules.specs.Plans.{IsPlanOf};
@@ -31,6 +31,7 @@ ghost use Rattle.plan_witness.specs.Marked.{
   place_at,
 };
 ghost use Rattle.plan_witness.specs.Runs.{IsShortestRun, IsStepOf};
+ghost use Rattle.plan_witness.specs.Within.{HasStepsWithin, IsRunWithin};
 ghost use Rattle.plan_witness.specs.Values.{run_value, step_value, steps_value};
 
 use crate::shortest::{Way, shortest_way};
@@ -58,7 +59,7 @@ pub struct RunStep {
 #[derive(Drop)]
 pub struct Run {
     pub start: State,
-    pub steps: VecDeque<RunStep>,
+    pub steps: Vec<RunStep>,
 }
 
 /// A shortest run from an initial state to the configuration of a number with a mark; `None` where no
@@ -78,6 +79,7 @@ pub(crate) fn shortest_run<L: Ledger>(
     ensures shortest { let n = fluent_count task.now in IfOk result (λ found. IfSome found (λ run.
         IsShortestRun (system_of task.now) (plain_of plan.now)
         (IsMarkedPlace n graph.now ends.now) (run_value n run))) }
+    ensures within { IfOk result (λ found. IfSome found (IsRunWithin (fluent_count task.now))) }
     ensures none { IfOk result (λ found. IfNone found ((i : ℕ) → IsMarked ends.now i → ⊥)) }
 {
     let starts = starts_of(alloc, graph)?;
@@ -105,7 +107,7 @@ pub(crate) fn starts_of(alloc: Global, graph: &Graph) -> Result<Vec<bool>, Alloc
 }
 
 /// The run along a way.
-fn run_along(
+pub(crate) fn run_along(
     alloc: Global,
     task: &Task,
     plan: &Plan,
@@ -122,16 +124,17 @@ fn run_along(
     ensures steps { let n = fluent_count task.now in IfOk result (λ run.
         IsRunAlong (system_of task.now) (plain_of plan.now) (place_at n graph.now)
         way.now.start way.now.numbers.items (steps_value n run.steps.items)) }
+    ensures within { IfOk result (IsRunWithin (fluent_count task.now)) }
 {
     let steps = steps_along(alloc, task, plan, graph, way.start, &way.numbers)?;
     Ok(Run {
         start: *graph.state(way.start),
-        steps,
+        steps: Vec::from(steps),
     })
 }
 
 /// The steps along a way from a number.
-fn steps_along(
+pub(crate) fn steps_along(
     alloc: Global,
     task: &Task,
     plan: &Plan,
@@ -144,9 +147,11 @@ fn steps_along(
     requires within { IsWithinFluents (fluent_count task.now) graph.now }
     requires start { start < graph_size graph.now }
     requires walk { IsWalk (followers_at graph.now) start numbers.now }
-    ensures { let n = fluent_count task.now in IfOk result (λ steps.
+    ensures along { let n = fluent_count task.now in IfOk result (λ steps.
         IsRunAlong (system_of task.now) (plain_of plan.now) (place_at n graph.now)
         start numbers.now (steps_value n steps.items)) }
+    ensures within { IfOk result (λ steps.
+        HasStepsWithin (fluent_count task.now) steps.items) }
 {
     let mut steps = VecDeque::new(alloc);
     let mut from = start;
@@ -168,7 +173,7 @@ fn number_at(numbers: &[u32], k: usize) -> u32
 }
 
 /// The step from a number to one that follows it.
-fn step_at(task: &Task, plan: &Plan, graph: &Graph, from: u32, to: u32) -> RunStep
+pub(crate) fn step_at(task: &Task, plan: &Plan, graph: &Graph, from: u32, to: u32) -> RunStep
     requires plan { IsPlanOf (fluent_count task.now) (action_count task.now) plan.now }
     requires graph { IsGraphIn task.now plan.now graph.now }
     requires within { IsWithinFluents (fluent_count task.now) graph.now }
@@ -180,6 +185,7 @@ fn step_at(task: &Task, plan: &Plan, graph: &Graph, from: u32, to: u32) -> RunSt
         (step_value n result) }
     ensures after { let n = fluent_count task.now in
         (step_value n result).after ≡ place_at n graph.now to }
+    ensures within { IsWithin (fluent_count task.now) result.state }
 {
     let source = graph.state(from);
     let target = graph.state(to);

@@ -57,7 +57,12 @@ pub(crate) fn shortest_way<L: Ledger>(
 }
 
 /// The way to a number, read from its end.
-fn way_back(alloc: Global, graph: &Graph, ways: &Ways, end: u32) -> Result<Way, AllocError>
+pub(crate) fn way_back(
+    alloc: Global,
+    graph: &Graph,
+    ways: &Ways,
+    end: u32,
+) -> Result<Way, AllocError>
     requires ways { AreWaysFromSome (graph_size graph.now) (followers_at graph.now)
         ways.now.lengths.items ways.now.before.items }
     requires end { end < graph_size graph.now }

@@ -30,6 +30,7 @@ ghost use Rattle.plan_witness.specs.Ends.{IsLostAt, LosesOutcome};
 ghost use Rattle.plan_witness.specs.Marked.{IsGraphIn, place_at};
 ghost use Rattle.plan_witness.specs.Runs.{IsShortestRun, NoneReached};
 ghost use Rattle.plan_witness.specs.Values.{run_value};
+ghost use Rattle.plan_witness.specs.Within.{IsRunWithin};
 
 use crate::rules::counting_rule;
 use crate::runs::{Run, shortest_run};
@@ -55,6 +56,7 @@ pub fn stuck_run<L: Ledger>(
     ensures shortest { let n = fluent_count task.now in let sys = system_of task.now in
         IfOk result (λ found. IfSome found (λ run. IsShortestRun sys (plain_of plan.now)
         (IsStuckAt sys (plain_of plan.now)) (run_value n run))) }
+    ensures within { IfOk result (λ found. IfSome found (IsRunWithin (fluent_count task.now))) }
     ensures none { let sys = system_of task.now in IfOk result (λ found.
         IfNone found (NoneReached sys (plain_of plan.now) (IsStuckAt sys (plain_of plan.now)))) }
 {

@@ -29,6 +29,7 @@ ghost use Rattle.plan_witness.specs.Leading.{IsMarkedStart};
 ghost use Rattle.plan_witness.specs.Marked.{IsGraphIn};
 ghost use Rattle.plan_witness.specs.Runs.{IsShortestRun, NoneReached};
 ghost use Rattle.plan_witness.specs.Values.{run_value};
+ghost use Rattle.plan_witness.specs.Within.{IsRunWithin};
 
 use crate::leading::leading;
 use crate::runs::{Run, shortest_run};
@@ -53,6 +54,7 @@ pub fn endless_run<L: Ledger>(
     ensures shortest { let n = fluent_count task.now in let sys = system_of task.now in
         IfOk result (λ found. IfSome found (λ run. IsShortestRun sys (plain_of plan.now)
         (IsEndless sys (plain_of plan.now)) (run_value n run))) }
+    ensures within { IfOk result (λ found. IfSome found (IsRunWithin (fluent_count task.now))) }
     ensures none { let sys = system_of task.now in IfOk result (λ found.
         IfNone found (NoneReached sys (plain_of plan.now) (IsEndless sys (plain_of plan.now)))) }
 {
@@ -77,6 +79,7 @@ pub fn lost_run<L: Ledger>(
     ensures shortest { let n = fluent_count task.now in let sys = system_of task.now in
         IfOk result (λ found. IfSome found (λ run. IsShortestRun sys (plain_of plan.now)
         (IsLostStart sys (plain_of plan.now)) (run_value n run))) }
+    ensures within { IfOk result (λ found. IfSome found (IsRunWithin (fluent_count task.now))) }
     ensures none { let sys = system_of task.now in IfOk result (λ found.
         IfNone found (NoneReached sys (plain_of plan.now) (IsLostStart sys (plain_of plan.now)))) }
 {
@@ -102,6 +105,7 @@ pub fn goal_run<L: Ledger>(
     ensures shortest { let n = fluent_count task.now in let sys = system_of task.now in
         IfOk result (λ found. IfSome found (λ run. IsShortestRun sys (plain_of plan.now)
         (IsEndInside sys (plain_of plan.now)) (run_value n run))) }
+    ensures within { IfOk result (λ found. IfSome found (IsRunWithin (fluent_count task.now))) }
     ensures none { let sys = system_of task.now in IfOk result (λ found.
         IfNone found (NoneReached sys (plain_of plan.now) (IsEndInside sys (plain_of plan.now)))) }
 {

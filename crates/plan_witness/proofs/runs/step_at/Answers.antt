@@ -35,3 +35,6 @@ pub returns-clause-after : goal.returns-clause-after
 returns-clause-after c =
     let n = fluent_count c.args.task.now in
     sym (at_place n c.args.graph.now c.args.to _ _ (c.state-target.ensures.state n) (c.context-next.ensures n))
+
+pub returns-clause-within : goal.returns-clause-within
+returns-clause-within c = c.state-target.ensures.within (fluent_count c.args.task.now) c.requires.within

@@ -1,10 +1,14 @@
 use Rattle.std.proofs.Common.{length, sym, ◌∙◌, ap, subst, take, ◌+◌}
 use Rattle.std.proofs.lemmas.Grind.{get_or_default_zero}
+use Rattle.std.proofs.lemmas.List.Elements.{All-push}
+use Rattle.task_core.specs.States.{IsWithin}
 use Rattle.task_core.specs.Tasks.{fluent_count, system_of}
 use Rattle.plan_rules.specs.Rules.{plain_of}
 use Rattle.exec_graph.specs.Values.{followers_at}
 use Rattle.plan_witness.specs.Marked.{IsRunAlong, place_at}
 use Rattle.plan_witness.specs.Values.{steps_value}
+use Rattle.plan_witness.specs.Within.{HasStepsWithin}
+use Rattle.plan_witness.specs.declared.runs.RunStep.{RunStep}
 use Rattle.plan_witness.proofs.FoundRuns.{along_step, last_step, walk_step}
 use Rattle.plan_witness.proofs.runs.steps_along.Goals as goal
 
@@ -36,4 +40,5 @@ loop-k-preserved c =
       last = last_step c.args.start c.args.numbers.now c.loop-k.k number c.loop-k-test.true is;
       along =
           subst (λ steps. IsRunAlong (system_of c.args.task.now) (plain_of c.args.plan.now) (place_at n c.args.graph.now) c.args.start (take (c.loop-k.k + 1) c.args.numbers.now) (steps_value n steps)) (sym c.in_ok-push_back.ensures.items) along;
+      within = subst (HasStepsWithin n) (sym c.in_ok-push_back.ensures.items) (All-push (λ (step : RunStep). IsWithin n step.state) c.loop-k.steps.items c.step_at-step.result c.loop-k.invariant.within c.step_at-step.ensures.within);
     }

@@ -6,6 +6,7 @@ use Rattle.plan_rules.specs.Rules.{plain_of}
 use Rattle.exec_graph.specs.Values.{graph_size}
 use Rattle.plan_witness.specs.Marked.{IsRunAlong, place_at}
 use Rattle.plan_witness.specs.Values.{steps_value}
+use Rattle.plan_witness.specs.Within.{HasStepsWithin}
 use Rattle.plan_witness.proofs.runs.steps_along.Given as goal
 
 abbrev pub invariant-loop-k : goal.invariant-loop-k
@@ -13,4 +14,5 @@ invariant-loop-k l = record {
   below : l.from < graph_size l.graph;
   last : l.from ≡ last_number l.start (take l.k l.numbers);
   along : IsRunAlong (system_of l.task) (plain_of l.plan) (place_at (fluent_count l.task) l.graph) l.start (take l.k l.numbers) (steps_value (fluent_count l.task) l.steps.items);
+  within : HasStepsWithin (fluent_count l.task) l.steps.items;
 }

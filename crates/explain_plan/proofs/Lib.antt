@@ -1,0 +1,3 @@
+mod Answers
+mod Explaining
+mod Finding

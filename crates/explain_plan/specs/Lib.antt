@@ -1,0 +1,4 @@
+pub mod Explained
+pub mod Runs
+pub mod Values
+pub mod Words

@@ -1,0 +1,4 @@
+mod Ends
+mod FalseParts
+mod Placed
+mod Pushed

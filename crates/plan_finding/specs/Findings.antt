@@ -1,0 +1,118 @@
+-- What speaks for a verdict on a plan: a shortest run, and what is the matter at its end.
+use Rattle.std.specs.Prelude.{◌≡◌, ◌<◌, ◌↔◌, ℕ, List, None, Some, false, length, slice_get, true}
+use Rattle.std.specs.List.{All}
+use Rattle.condition_parts.specs.Parts.{IsFalsePart}
+use Rattle.exec_graph.specs.Executions.{IsStuckAt}
+use Rattle.plan_finding.specs.Aims.{IsAimAt}
+use Rattle.plan_finding.specs.declared.aims.Aim.{Aim}
+use Rattle.plan_rules.specs.Denoted.{denoted_contexts}
+use Rattle.plan_rules.specs.Rules.{ContextRule, PlainPlan, PlanRule, automaton, table}
+use Rattle.plan_witness.specs.Ends.{IsEndInside, IsEndOutside, IsEndless, IsLostStart}
+use Rattle.plan_witness.specs.Runs.{IsCounting, IsShortestRun, NoneReached, PlainRun, end_of}
+use Rattle.task_core.specs.Conditions.{holds_in}
+use Rattle.task_core.specs.ContextPlans.{Configuration}
+use Rattle.task_core.specs.Cubes.{matches}
+use Rattle.task_core.specs.States.{vector}
+use Rattle.task_core.specs.Systems.{Exec}
+use Rattle.task_core.specs.Tasks.{fluent_count, initial_states, system_of}
+use Rattle.task_core.specs.Vectors.{Vector}
+use Rattle.task_core.specs.declared.actions.GroundAction.{GroundAction}
+use Rattle.task_core.specs.declared.conditions.Cond.{Cond}
+use Rattle.task_core.specs.declared.states.State.{State}
+use Rattle.task_core.specs.declared.tasks.Task.{Task}
+
+-- what is the matter at the end of a run
+pub data Ending : Type 0 where
+  -- the plan ends there, in the goal
+  in_goal : Ending
+  -- the plan ends there, outside the goal, of which these parts are false
+  outside_goal : List Cond → Ending
+  -- the rule of this number counts there, and its action can't be executed: these parts of its
+  -- precondition are false
+  not_executable : (rule action : ℕ) → List Cond → Ending
+  -- the context has no rule there
+  without_rule : Ending
+  -- the rule of this number counts there, and has no next context for an outcome of its action
+  without_next : (rule action : ℕ) → Ending
+  -- no run from there ends in the goal
+  never_in_goal : Ending
+  -- no run from there ends
+  never_ending : Ending
+
+-- the parts of a condition that are false in a state: each is asked for and false there, and there are
+-- some exactly if the condition is false
+pub record AreFalseParts (n : ℕ) (cond : Cond) (v : Vector) (parts : List Cond) : Type 0 where
+  pub state : State
+  pub is : vector n state ≡ v
+  pub each : All (IsFalsePart cond state) parts
+  pub some : (holds_in cond state ≡ false) ↔ (0 < length parts)
+
+-- the rule of this number, with this action, is one of a table that matches a state
+pub record CountsInTable (rules : List PlanRule) (v : Vector) (number action : ℕ) : Type 0 where
+  pub rule : PlanRule
+  pub numbered : slice_get rules number ≡ Some rule
+  pub matched : matches rule.cube v ≡ true
+  pub acts : rule.action ≡ action
+
+-- it is the first rule of the context of x that matches the state of x
+pub record CountsInContext (rules : List ContextRule) (x : Configuration) (number action : ℕ) : Type 0 where
+  pub rule : ContextRule
+  pub counts : IsCounting rules x number rule
+  pub acts : rule.action ≡ action
+
+-- it counts at x
+abbrev pub CountsAt : PlainPlan → Configuration → ℕ → ℕ → Type 0
+CountsAt (table class rules) x number action = CountsInTable rules x.state number action
+CountsAt (automaton contexts rules) x number action = CountsInContext rules x number action
+
+-- the parts of the goal that are false in a state
+pub record HasFalseGoal (task : Task) (v : Vector) (parts : List Cond) : Type 0 where
+  pub goal : Cond
+  pub is : task.goal ≡ Some goal
+  pub are : AreFalseParts (fluent_count task) goal v parts
+
+-- the parts of an action's precondition that are false in a state
+pub record HasFalsePrecondition (task : Task) (v : Vector) (action : ℕ) (parts : List Cond) : Type 0 where
+  pub ground : GroundAction
+  pub listed : slice_get task.actions.items action ≡ Some ground
+  pub are : AreFalseParts (fluent_count task) ground.exec v parts
+
+-- the rule counts at x, and its action can't be executed there; the parts of its precondition that are
+-- false there
+pub record IsNotExecutableAt (task : Task) (plan : PlainPlan) (x : Configuration) (rule action : ℕ)
+    (parts : List Cond) : Type 0 where
+  pub counts : CountsAt plan x rule action
+  pub refused : Exec (system_of task) x.state action → ⊥
+  pub precondition : HasFalsePrecondition task x.state action parts
+
+-- the context of x has no rule there
+abbrev pub HasNoRuleAt : PlainPlan → Configuration → Type 0
+HasNoRuleAt (table class rules) x = ⊥
+HasNoRuleAt (automaton contexts rules) x =
+    (denoted_contexts rules).act x.state x.context ≡ None
+
+-- what is said of the end of a run is so at x
+abbrev pub IsEndingAt : Task → PlainPlan → Configuration → Ending → Type 0
+IsEndingAt task plan x in_goal = IsEndInside (system_of task) plan x
+IsEndingAt task plan x (outside_goal parts) =
+    IsEndOutside (system_of task) plan x × HasFalseGoal task x.state parts
+IsEndingAt task plan x (not_executable rule action parts) =
+    IsNotExecutableAt task plan x rule action parts
+IsEndingAt task plan x without_rule = HasNoRuleAt plan x
+IsEndingAt task plan x (without_next rule action) =
+    IsStuckAt (system_of task) plan x × CountsAt plan x rule action
+IsEndingAt task plan x never_in_goal = IsLostStart (system_of task) plan x
+IsEndingAt task plan x never_ending = IsEndless (system_of task) plan x
+
+-- a run, the number of the initial state in which it begins, counted from 0, and what is the matter at
+-- its end
+pub record PlainFound : Type 0 where
+  pub number : ℕ
+  pub run : PlainRun
+  pub ending : Ending
+
+-- the run is a shortest one to the aim, and what is said of it is so
+pub record IsFound (aim : Aim) (task : Task) (plan : PlainPlan) (found : PlainFound) : Type 0 where
+  pub numbered : slice_get (initial_states task) found.number ≡ Some found.run.start.state
+  pub shortest : IsShortestRun (system_of task) plan (IsAimAt aim (system_of task) plan) found.run
+  pub ending : IsEndingAt task plan (end_of found.run.start found.run.steps) found.ending

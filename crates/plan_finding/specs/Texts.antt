@@ -1,0 +1,104 @@
+-- The text of a run with what is the matter at its end: what is printed, byte for byte.
+use Rattle.std.specs.Prelude.{◌==◌, ◌&&◌, ℕ, suc, Bool, true, List, [], ◌∷◌, ◌++◌, codes, decimal}
+use Rattle.std.specs.Prelude.{if◌then◌else◌, map, false}
+use Rattle.std.specs.List.{flat_map}
+use Rattle.plan_finding.specs.Findings.{Ending, PlainFound, in_goal, never_ending, never_in_goal}
+use Rattle.plan_finding.specs.Findings.{not_executable, outside_goal, without_next, without_rule}
+use Rattle.plan_rules.specs.Rules.{PlainPlan, PlanRule, automaton, table}
+use Rattle.plan_rules.specs.Texts.{atom_text, line_feed, name_at}
+use Rattle.plan_witness.specs.Runs.{PlainRun, PlainStep}
+use Rattle.state_text.specs.Texts.{after_space, changes_text, condition_text, true_text}
+use Rattle.task_core.specs.Cubes.{matches}
+use Rattle.task_core.specs.Names.{Name}
+use Rattle.task_core.specs.Vectors.{Vector}
+use Rattle.task_core.specs.declared.conditions.Cond.{Cond}
+
+-- the line of the initial state, as initial 0: (at a) (up)
+abbrev pub initial_line : List Name → ℕ → Vector → List ℕ
+initial_line fluents number state =
+    codes "initial " ++ decimal number ++ codes ":" ++ true_text fluents state ++ line_feed
+
+-- the context to which a step leads, where the plan has contexts
+abbrev pub context_note : PlainPlan → ℕ → List ℕ
+context_note (table class rules) context = []
+context_note (automaton contexts rules) context = codes ", context " ++ decimal context
+
+-- the rule, the action and the outcome of a step, as rule 2: (go a b), outcome 0
+abbrev pub move_text : List Name → PlainStep → List ℕ
+move_text actions step =
+    codes "rule " ++ decimal step.rule ++ codes ": " ++ atom_text (name_at actions step.action)
+    ++ codes ", outcome " ++ decimal step.outcome
+
+-- the lines of a step from a state: what it is, and a line for each change
+abbrev pub step_lines : List Name → List Name → PlainPlan → Vector → PlainStep → List ℕ
+step_lines fluents actions plan before step =
+    move_text actions step ++ context_note plan step.after.context ++ line_feed
+    ++ changes_text fluents before step.after.state
+
+abbrev pub steps_text : List Name → List Name → PlainPlan → Vector → List PlainStep → List ℕ
+steps_text fluents actions plan before [] = []
+steps_text fluents actions plan before (step ∷ steps) =
+    step_lines fluents actions plan before step
+    ++ steps_text fluents actions plan step.after.state steps
+
+-- conditions, each after a space
+abbrev pub conditions_text : List Name → List Cond → List ℕ
+conditions_text fluents parts = flat_map after_space (map (condition_text fluents) parts)
+
+-- which parts of a precondition are false; where none is, it holds
+abbrev pub refusal_note : List Name → List Cond → List ℕ
+refusal_note fluents [] = codes "though its precondition holds"
+refusal_note fluents (part ∷ parts) =
+    codes "false is" ++ conditions_text fluents (part ∷ parts)
+
+-- what is the matter at the end of a run
+abbrev pub sentence : List Name → List Name → Ending → List ℕ
+sentence fluents actions in_goal = codes "the plan ends here, in the goal"
+sentence fluents actions (outside_goal parts) =
+    codes "the plan ends here, outside the goal: false is" ++ conditions_text fluents parts
+sentence fluents actions (not_executable rule action parts) =
+    codes "rule " ++ decimal rule ++ codes " counts here, but "
+    ++ atom_text (name_at actions action) ++ codes " can't be executed: "
+    ++ refusal_note fluents parts
+sentence fluents actions without_rule = codes "the context has no rule for this state"
+sentence fluents actions (without_next rule action) =
+    codes "rule " ++ decimal rule ++ codes " counts here, but has no next context for an outcome of "
+    ++ atom_text (name_at actions action)
+sentence fluents actions never_in_goal = codes "no run from here ends in the goal"
+sentence fluents actions never_ending = codes "no run from here ends"
+
+-- the number of the first rule that matches a state
+abbrev pub first_match : List PlanRule → Vector → ℕ
+first_match [] state = 0
+first_match (rule ∷ rules) state =
+    if matches rule.cube state then 0 else suc (first_match rules state)
+
+-- whether each step takes the first rule that matches
+abbrev pub takes_first : List PlanRule → Vector → List PlainStep → Bool
+takes_first rules state [] = true
+takes_first rules state (step ∷ steps) =
+    (first_match rules state == step.rule) && takes_first rules step.after.state steps
+
+-- whether a run takes the rules that a replay of its record takes: an automaton leaves no choice
+abbrev pub is_recorded : PlainPlan → PlainRun → Bool
+is_recorded (table class rules) run = takes_first rules run.start.state run.steps
+is_recorded (automaton contexts rules) run = true
+
+-- the outcome numbers of steps, each after a space
+abbrev pub outcomes_text : List PlainStep → List ℕ
+outcomes_text = flat_map (λ step. after_space (decimal step.outcome))
+
+-- the record of a run, as (record 0 1 0); or that there is none
+abbrev pub record_line : PlainPlan → ℕ → PlainRun → List ℕ
+record_line plan number run =
+    (if is_recorded plan run
+    then codes "(record " ++ decimal number ++ outcomes_text run.steps ++ codes ")"
+    else codes "no record: some step takes a rule that isn't the first that matches") ++ line_feed
+
+-- the whole text: the initial state, the steps, what is the matter at the end, and the record
+abbrev pub found_text : List Name → List Name → PlainPlan → PlainFound → List ℕ
+found_text fluents actions plan found =
+    initial_line fluents found.number found.run.start.state
+    ++ steps_text fluents actions plan found.run.start.state found.run.steps
+    ++ sentence fluents actions found.ending ++ line_feed
+    ++ record_line plan found.number found.run

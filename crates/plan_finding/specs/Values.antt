@@ -1,0 +1,28 @@
+-- Private: what the code's own types stand for, over n fluents.
+use Rattle.std.specs.Prelude.{ℕ, map}
+use Rattle.plan_finding.specs.Findings.{Ending, PlainFound, in_goal, never_ending, never_in_goal}
+use Rattle.plan_finding.specs.Findings.{not_executable, outside_goal, without_next, without_rule}
+use Rattle.plan_finding.specs.declared.endings.Ending.{Ending as CodeEnding}
+use Rattle.plan_finding.specs.declared.endings.Ending.TheVariants.{InGoal, OutsideGoal}
+use Rattle.plan_finding.specs.declared.endings.Ending.TheVariants.{NeverEnding, NeverInGoal}
+use Rattle.plan_finding.specs.declared.endings.Ending.TheVariants.{NotExecutable, WithoutNext}
+use Rattle.plan_finding.specs.declared.endings.Ending.TheVariants.{WithoutRule}
+use Rattle.plan_finding.specs.declared.findings.Found.{Found}
+use Rattle.plan_witness.specs.Values.{run_value}
+
+abbrev pub ending_value : CodeEnding → Ending
+ending_value InGoal = in_goal
+ending_value (OutsideGoal parts) = outside_goal (map (λ part. part.now) parts.items)
+ending_value (NotExecutable rule action parts) =
+    not_executable rule action.0 (map (λ part. part.now) parts.items)
+ending_value WithoutRule = without_rule
+ending_value (WithoutNext rule action) = without_next rule action.0
+ending_value NeverInGoal = never_in_goal
+ending_value NeverEnding = never_ending
+
+abbrev pub found_value : ℕ → Found → PlainFound
+found_value n found = record {
+  number = found.number;
+  run = run_value n found.run;
+  ending = ending_value found.ending;
+}

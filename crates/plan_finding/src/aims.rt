@@ -1,0 +1,53 @@
+//! What a run is to show.
+
+ghost use Rattle.plan_finding.specs.Aims.{class_aim as aim_of_class, context_aim as aim_of_contexts};
+ghost use Rattle.std.specs.Prelude.{◌≡◌};
+
+use plan_check::{Reason, Verdict};
+use task_core::Class;
+
+/// What a run is to show for a verdict on a plan.
+#[derive(Clone, Copy, Debug, PartialEq, Eq)]
+pub enum Aim {
+    /// No run shows it.
+    Nothing,
+    /// The plan ends in the goal.
+    Inside,
+    /// The plan ends outside the goal.
+    Outside,
+    /// A rule counts whose action can't be executed.
+    Bad,
+    /// A plan with contexts doesn't go on.
+    Unfinished,
+    /// No run from an initial state ends in the goal.
+    Lost,
+    /// No run ends from there on.
+    Endless,
+}
+
+/// What shows a verdict on a table as a plan of a class.
+pub fn class_aim(class: Class, verdict: &Verdict) -> Aim
+    ensures { result ≡ aim_of_class class verdict.now }
+{
+    match verdict {
+        Verdict::Yes { bound: _ } => Aim::Inside,
+        Verdict::No(reason) => match (reason, class) {
+            (Reason::Unexecutable, _) => Aim::Bad,
+            (Reason::Terminal, _) => Aim::Outside,
+            (Reason::Unreachable, Class::Weak) => Aim::Lost,
+            (Reason::Unreachable, Class::Cyclic) => Aim::Endless,
+            _ => Aim::Nothing,
+        },
+    }
+}
+
+/// What shows a verdict on a plan with contexts.
+pub fn context_aim(verdict: &Verdict) -> Aim
+    ensures { result ≡ aim_of_contexts verdict.now }
+{
+    match verdict {
+        Verdict::No(Reason::Unexecutable) => Aim::Bad,
+        Verdict::No(Reason::Stuck) => Aim::Unfinished,
+        _ => Aim::Nothing,
+    }
+}

@@ -1,0 +1,138 @@
+//! What is the matter at the end of a run.
+
+ghost use Rattle.exec_graph.specs.Executions.{IsStuckAt, IsUnexecutableAt};
+ghost use Rattle.plan_finding.specs.Aims.{HasGoalFor, IsAimAt};
+ghost use Rattle.plan_finding.specs.Findings.{HasFalseGoal, HasFalsePrecondition, IsEndingAt};
+ghost use Rattle.plan_finding.specs.Values.{ending_value};
+ghost use Rattle.plan_rules.specs.Plans.{IsPlanOf};
+ghost use Rattle.plan_rules.specs.Rules.{plain_of};
+ghost use Rattle.std.specs.Prelude.{◌<◌, IfOk, IsSome, map};
+ghost use Rattle.task_core.specs.States.{IsWithin, vector};
+ghost use Rattle.task_core.specs.Tasks.{action_count, fluent_count, system_of};
+
+use crate::aims::Aim;
+use crate::rules::{bad_rule, context_rule};
+use condition_parts::false_parts;
+use plan_rules::Plan;
+use std::alloc::{AllocError, Global};
+use task_core::{ActionId, Cond, State, Task};
+
+/// What is the matter at the end of a run.
+#[derive(Drop)]
+pub enum Ending<'a> {
+    /// The plan ends there, in the goal.
+    InGoal,
+    /// The plan ends there, outside the goal, of which these parts are false.
+    OutsideGoal(Vec<&'a Cond>),
+    /// The rule of this number counts there, and its action can't be executed: these parts of its
+    /// precondition are false.
+    NotExecutable(usize, ActionId, Vec<&'a Cond>),
+    /// The context has no rule there.
+    WithoutRule,
+    /// The rule of this number counts there, and has no next context for an outcome of its action.
+    WithoutNext(usize, ActionId),
+    /// No run from there ends in the goal.
+    NeverInGoal,
+    /// No run from there ends.
+    NeverEnding,
+}
+
+/// What is the matter in a state and a context that are an aim.
+pub(crate) fn ending_at<'a>(
+    alloc: Global,
+    task: &'a Task,
+    plan: &Plan,
+    aim: Aim,
+    state: &State,
+    context: u32,
+) -> Result<Ending<'a>, AllocError>
+    requires goal { HasGoalFor aim task.now }
+    requires plan { IsPlanOf (fluent_count task.now) (action_count task.now) plan.now }
+    requires inside { IsWithin (fluent_count task.now) state.now }
+    requires aim { let v = vector (fluent_count task.now) state.now in
+        IsAimAt aim (system_of task.now) (plain_of plan.now)
+        (record { state = v; context = context }) }
+    ensures { let v = vector (fluent_count task.now) state.now in
+        IfOk result (λ ending. IsEndingAt task.now (plain_of plan.now)
+        (record { state = v; context = context }) (ending_value ending)) }
+{
+    match aim {
+        Aim::Nothing => Ok(Ending::NeverEnding),
+        Aim::Inside => Ok(Ending::InGoal),
+        Aim::Outside => Ok(Ending::OutsideGoal(false_goal(alloc, task, state)?)),
+        Aim::Bad => not_executable(alloc, task, plan, state, context),
+        Aim::Unfinished => Ok(unfinished(task, plan, state, context)),
+        Aim::Lost => Ok(Ending::NeverInGoal),
+        Aim::Endless => Ok(Ending::NeverEnding),
+    }
+}
+
+/// The parts of the goal that are false in a state.
+fn false_goal<'a>(alloc: Global, task: &'a Task, state: &State) -> Result<Vec<&'a Cond>, AllocError>
+    requires goal { IsSome task.now.goal }
+    ensures { let v = vector (fluent_count task.now) state.now in
+        IfOk result (λ parts. HasFalseGoal task.now v (map (λ part. part.now) parts.items)) }
+{
+    let goal = task.goal.as_ref().unwrap();
+    false_parts(alloc, goal, state)
+}
+
+/// Which rule can't be followed, and the parts of its action's precondition that are false.
+fn not_executable<'a>(
+    alloc: Global,
+    task: &'a Task,
+    plan: &Plan,
+    state: &State,
+    context: u32,
+) -> Result<Ending<'a>, AllocError>
+    requires plan { IsPlanOf (fluent_count task.now) (action_count task.now) plan.now }
+    requires inside { IsWithin (fluent_count task.now) state.now }
+    requires aim { let v = vector (fluent_count task.now) state.now in
+        IsUnexecutableAt (system_of task.now) (plain_of plan.now)
+        (record { state = v; context = context }) }
+    ensures { let v = vector (fluent_count task.now) state.now in
+        IfOk result (λ ending. IsEndingAt task.now (plain_of plan.now)
+        (record { state = v; context = context }) (ending_value ending)) }
+{
+    match bad_rule(task, plan, state, context) {
+        Some(chosen) => {
+            let parts = false_precondition(alloc, task, chosen.action, state)?;
+            Ok(Ending::NotExecutable(chosen.number, chosen.action, parts))
+        }
+        None => Ok(Ending::NeverEnding),
+    }
+}
+
+/// The parts of an action's precondition that are false in a state.
+fn false_precondition<'a>(
+    alloc: Global,
+    task: &'a Task,
+    action: ActionId,
+    state: &State,
+) -> Result<Vec<&'a Cond>, AllocError>
+    requires { action.0 < action_count task.now }
+    ensures { let v = vector (fluent_count task.now) state.now in
+        IfOk result (λ parts. HasFalsePrecondition task.now v action.0 (map (λ part. part.now) parts.items)) }
+{
+    let ground = &task.actions[action.0 as usize];
+    false_parts(alloc, &ground.exec, state)
+}
+
+/// Why a plan with contexts doesn't go on in a state and a context.
+fn unfinished<'a>(task: &Task, plan: &Plan, state: &State, context: u32) -> Ending<'a>
+    requires plan { IsPlanOf (fluent_count task.now) (action_count task.now) plan.now }
+    requires aim { let v = vector (fluent_count task.now) state.now in
+        IsStuckAt (system_of task.now) (plain_of plan.now)
+        (record { state = v; context = context }) }
+    ensures { let v = vector (fluent_count task.now) state.now in
+        IsEndingAt task.now (plain_of plan.now)
+        (record { state = v; context = context }) (ending_value result) }
+{
+    match plan {
+        Plan::Table(_) => Ending::NeverEnding,
+        Plan::Auto(auto) => match context_rule(task, &auto.rules, state, context) {
+            Some(chosen) => Ending::WithoutNext(chosen.number, chosen.action),
+            None => Ending::WithoutRule,
+        },
+    }
+}

@@ -1,0 +1,19 @@
+//! What speaks for a verdict on a plan: a shortest run that shows it, the number of the initial state
+//! in which it begins, and what is the matter at its end; and the text of that.
+//!
+//! `specs/Aims.antt` says what shows which verdict, `specs/Findings.antt` what is said of a run, and
+//! `specs/Texts.antt` what is printed, byte for byte.
+#![tactic(auto)]
+
+mod aims;
+mod endings;
+mod findings;
+mod numbers;
+mod rules;
+mod runs;
+mod texts;
+
+pub use aims::{Aim, class_aim, context_aim};
+pub use endings::Ending;
+pub use findings::{Found, find};
+pub use texts::found_text;
