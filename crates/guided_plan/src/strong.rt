@@ -4,15 +4,18 @@
 //! go round; each becomes a pair with a pattern, which solves other states too.
 
 use crate::bits::{Bits, Part};
+use crate::branches::{Branch, Branches};
 use crate::conditions::support;
 use crate::lessons::Lessons;
+use crate::notes::Hope;
 use crate::numbers::{NONE, at, put, small};
 use crate::policy::{Pair, Policy};
 use crate::queues::Queue;
 use crate::regress::regress;
-use crate::states::Hope;
 use crate::stops::Stop;
-use crate::vertices::{Branch, Branches, Phase, Solved, Vertices};
+use crate::trap::trap_from;
+use crate::vertices::Vertices;
+use crate::views::{Phase, Solved};
 use crate::world::World;
 use std::alloc::{AllocError, Global};
 
@@ -313,7 +316,7 @@ impl AndOrGraph {
 
     /// Looks at the last state of the path.
     fn step_from(&mut self, world: &mut World<'_>, state: u32) -> Result<(), Stop> {
-        world.spent.spend(1)?;
+        world.effort.step()?;
         self.look(world, state)?;
         if !self.is_open(state) {
             self.pop_path(state);
@@ -638,20 +641,15 @@ impl AndOrGraph {
 }
 
 impl AndOrGraph {
-    /// Where all actions were tried, the open states that were met: each action may lead from one to
-    /// another, or to a dead end.
-    pub(crate) fn unsolved(&self, world: &mut World<'_>) -> Result<Vec<Part>, Stop> {
-        let mut set = Vec::new(self.alloc);
-        if !self.is_exhausted {
-            return Ok(set);
-        }
-        for state in 0..self.vertices.len() {
-            let view = self.vertices.view(state);
-            if view.is_known && self.is_open(state) && world.hope(state) == Hope::Open {
-                set.push(world.whole(state))?;
+    /// Where all actions were tried: some open states, an initial one among them, such that each
+    /// action may lead from one to another, or to a dead end.
+    pub(crate) fn unsolved(&mut self, world: &mut World<'_>) -> Result<Vec<Part>, Stop> {
+        if self.is_exhausted {
+            if let Some(first) = self.first_open(world)? {
+                return trap_from(world, &self.vertices, first);
             }
         }
-        Ok(set)
+        Ok(Vec::new(self.alloc))
     }
 }
 
