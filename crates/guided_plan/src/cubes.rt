@@ -19,3 +19,12 @@ pub(crate) fn cube_of(alloc: Global, part: &Part) -> Result<Vec<Lit>, AllocError
     }
     Ok(cube)
 }
+
+/// The partial state of literals; of two that contradict each other the last counts.
+pub(crate) fn part_of(cube: &[Lit]) -> Part {
+    let mut part = Part::none();
+    for literal in cube {
+        part.add(literal.fluent.0, literal.positive);
+    }
+    part
+}

@@ -8,6 +8,7 @@ use crate::planner::Planner;
 use crate::policy::Policy;
 use crate::reach::Reach;
 use crate::refused::refused;
+use crate::shortening::shorter_rules;
 use crate::states::States;
 use crate::stops::Stop;
 use crate::strong::AndOrGraph;
@@ -90,6 +91,10 @@ pub fn plan_guided(
         return Ok(GuidedAnswer::GaveUp);
     };
     match seek(alloc, task, goal, class, allowance) {
+        Ok(GuidedAnswer::Rules(rules)) => {
+            let short = shorter_rules(alloc, task, &rules)?;
+            Ok(GuidedAnswer::Rules(short))
+        }
         Ok(answer) => Ok(answer),
         Err(Stop::GaveUp | Stop::TooMany) => Ok(GuidedAnswer::GaveUp),
         Err(Stop::Memory) => Err(AllocError),

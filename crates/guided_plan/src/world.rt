@@ -3,7 +3,7 @@
 
 use crate::Allowance;
 use crate::actions::Actions;
-use crate::bits::{Bits, Part};
+use crate::bits::{Bits, Part, first_fluents};
 use crate::buried::Buried;
 use crate::effort::Effort;
 use crate::exclusions::Exclusions;
@@ -17,7 +17,7 @@ use crate::states::States;
 use crate::stops::Stop;
 use crate::wave::Wave;
 use std::alloc::{AllocError, Global};
-use task_core::{Class, Cond, Task, init_states};
+use task_core::{Class, Cond, InitSpec, Task, init_states};
 
 /// How many initial states are taken at most.
 const MOST_INITIAL: usize = 65_536;
@@ -31,6 +31,7 @@ pub(crate) struct World<'a> {
     pub(crate) actions: Actions<'a>,
     pub(crate) space: Space<'a>,
     pub(crate) states: States,
+    init: &'a InitSpec,
     pub(crate) initial: Vec<u32>,
     pub(crate) fluents: u32,
     pub(crate) all: Bits,
@@ -64,6 +65,7 @@ impl<'a> World<'a> {
             actions,
             space: Space::new(alloc, task)?,
             states: States::new(alloc, allowance.states),
+            init: &task.init,
             initial: Vec::new(alloc),
             fluents,
             all: first_fluents(fluents),
@@ -257,14 +259,10 @@ impl<'a> World<'a> {
         if self.exclusions.is_some() {
             return Ok(());
         }
-        let mut states = Vec::new(self.alloc);
-        for number in &self.initial {
-            states.push(self.states.bits_of(*number))?;
-        }
         self.exclusions = Some(Exclusions::find(
             self.alloc,
             self.fluents,
-            &states,
+            self.init,
             &self.actions.moves,
         )?);
         Ok(())
@@ -300,13 +298,4 @@ fn drafted(
         draft.add_action(action, actions.first_label(small(number)))?;
     }
     Ok(draft)
-}
-
-/// So many first fluents.
-fn first_fluents(count: u32) -> Bits {
-    let mut all = Bits::none();
-    for fluent in 0..count {
-        all.set(fluent, true);
-    }
-    all
 }
