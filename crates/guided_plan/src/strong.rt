@@ -37,6 +37,9 @@ const DETOUR: u64 = 5 * STEP;
 /// How often states are looked at in vain before the best of all open states is taken.
 const MOST_IDLE: usize = 200;
 
+/// The most open states that are then taken at once.
+const MOST_BURST: u32 = 8;
+
 /// The way from an initial state down to where the search is, and how often it looked in vain.
 #[derive(Drop)]
 struct Path {
@@ -70,6 +73,9 @@ pub(crate) struct AndOrGraph {
     /// The states that aren't tried, by estimate.
     frontier: Queue,
     path: Path,
+    /// How many open states were taken the last time, and how many pairs there were.
+    burst: u32,
+    solved: u32,
     /// The actions that are helpful where the search is: those that have this mark.
     helpful: Vec<u32>,
     mark: u32,
@@ -90,6 +96,8 @@ impl AndOrGraph {
                 states: Vec::new(alloc),
                 idle: 0,
             },
+            burst: 1,
+            solved: NONE,
             helpful: vec![in alloc; 0; actions as usize]?,
             mark: 0,
             is_exhausted: false,
@@ -123,7 +131,7 @@ impl AndOrGraph {
                 return Ok(false);
             }
             self.descend(world, root)?;
-            if self.path.is_stuck() && !self.take_best(world)? {
+            if self.path.is_stuck() && !self.take_some(world)? {
                 self.is_exhausted = true;
                 return Ok(self.first_open(world)?.is_none());
             }
@@ -316,7 +324,7 @@ impl AndOrGraph {
 
     /// Looks at the last state of the path.
     fn step_from(&mut self, world: &mut World<'_>, state: u32) -> Result<(), Stop> {
-        world.effort.step()?;
+        world.effort.spend(1)?;
         self.look(world, state)?;
         if !self.is_open(state) {
             self.pop_path(state);
@@ -604,6 +612,24 @@ impl AndOrGraph {
             world.add_bare(state)?;
         }
         Ok(())
+    }
+
+    /// Tries the actions of the open states with the best estimates: of one after something was solved,
+    /// and else of twice as many as the last time. False where there are no more.
+    fn take_some(&mut self, world: &mut World<'_>) -> Result<bool, Stop> {
+        let solved = self.policy.len();
+        self.burst = if solved == self.solved {
+            self.burst.saturating_mul(2).min(MOST_BURST)
+        } else {
+            1
+        };
+        self.solved = solved;
+        for _ in 0..self.burst {
+            if !self.take_best(world)? {
+                return Ok(false);
+            }
+        }
+        Ok(true)
     }
 
     /// Tries the actions of the open state with the best estimate. False where there is none.
