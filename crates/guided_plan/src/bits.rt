@@ -205,3 +205,12 @@ impl Part {
         other.care.without(&self.care).count()
     }
 }
+
+/// So many first fluents.
+pub(crate) fn first_fluents(count: u32) -> Bits {
+    let mut all = Bits::none();
+    for fluent in 0..count {
+        all.set(fluent, true);
+    }
+    all
+}

@@ -46,7 +46,7 @@ pub(crate) fn closed_pairs(world: &mut World<'_>, policy: &Policy) -> Result<Vec
         closing.add(world, policy, number)?;
     }
     for _ in 0..=policy.len() {
-        world.spent.spend(1 + policy.len() as u64 / 16)?;
+        world.effort.spend(1 + policy.len() as u64 / 16)?;
         if !closing.shrink(policy) {
             break;
         }
@@ -239,7 +239,7 @@ pub(crate) fn strengthen(
         }
     }
     for _ in 0..=policy.len() {
-        world.spent.spend(1 + policy.len() as u64 / 16)?;
+        world.effort.spend(1 + policy.len() as u64 / 16)?;
         if !add_needs(world, policy, closed, &mut able, &followers) {
             break;
         }
@@ -252,7 +252,7 @@ pub(crate) fn strengthen(
 fn order_pairs(world: &mut World<'_>, policy: &mut Policy, closed: &[bool]) -> Result<bool, Stop> {
     let mut is_some = false;
     let mut list = Vec::new(world.alloc);
-    world.spent.spend(1 + policy.len() as u64 / 16)?;
+    world.effort.spend(1 + policy.len() as u64 / 16)?;
     for number in 0..policy.len() {
         if let Some(pair) = policy.pair(number) {
             if !is_marked(closed, number) && world.outcomes(pair.state, pair.action, &mut list)? {

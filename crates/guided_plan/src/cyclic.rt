@@ -4,9 +4,9 @@
 //! and Beck 2012).
 
 use crate::closing::{closed_pairs, is_marked, strengthen};
+use crate::notes::Hope;
 use crate::numbers::{NONE, at, put, small};
 use crate::planner::Planner;
-use crate::states::Hope;
 use crate::stops::Stop;
 use crate::world::World;
 use std::alloc::Global;
@@ -213,7 +213,7 @@ impl Rounds {
         if self.count > self.most {
             return Err(Stop::TooMany);
         }
-        world.spent.spend(1)?;
+        world.effort.spend(1)?;
         world.outcomes(state, action, &mut self.outcomes)?;
         self.make_room(world)?;
         put(&mut self.done, state, self.round);

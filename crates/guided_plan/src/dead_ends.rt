@@ -2,9 +2,9 @@
 
 use crate::bits::{Bits, Part};
 use crate::conditions::support;
+use crate::notes::Hope;
 use crate::numbers::{NONE, at};
 use crate::regress::regress;
-use crate::states::Hope;
 use crate::stops::Stop;
 use crate::world::World;
 
@@ -57,7 +57,7 @@ impl<'a> World<'a> {
     /// Makes a pattern of a state in which each action can't be executed or leads into a pattern of
     /// dead ends. False where there is an action that is neither.
     pub(crate) fn generalise_stuck(&mut self, number: u32) -> Result<bool, Stop> {
-        self.spent.spend(4)?;
+        self.effort.spend(4)?;
         let state = self.bits_of(number);
         let mut part = Part::none();
         support(self.goal.cond, &state, false, &mut part);

@@ -1,10 +1,13 @@
 //! Pairs of fluents that are never true at once: the greatest set of pairs of which no initial state
 //! has one and that no outcome breaks.
 
-use crate::bits::{Bits, Part};
+use crate::bits::{Bits, Part, first_fluents};
 use crate::conditions::{add_sure_literals, known};
+use crate::first_pairs::first_pairs;
 use crate::moves::{Effect, Move};
+use crate::numbers::small;
 use std::alloc::{AllocError, Global};
+use task_core::InitSpec;
 
 /// For each fluent those that are false where it is true.
 #[derive(Drop)]
@@ -30,14 +33,18 @@ impl Exclusions {
         }
     }
 
-    /// Of so many fluents, these initial states and actions.
+    /// Of so many fluents, what is known of the initial states, and the actions.
     pub(crate) fn find(
         alloc: Global,
         fluents: u32,
-        initial: &[Bits],
+        init: &InitSpec,
         moves: &[Move<'_>],
     ) -> Result<Exclusions, AllocError> {
-        let mut exclusions = Exclusions::of_states(alloc, fluents, initial)?;
+        let mut exclusions = Exclusions::of_pairs(
+            alloc,
+            fluents,
+            &first_pairs(alloc, fluents, init)?,
+        )?;
         let additions = additions_of(alloc, moves)?;
         for _ in 0..=65536 {
             let mut is_more = false;
@@ -53,21 +60,13 @@ impl Exclusions {
         Ok(Exclusions::none(alloc))
     }
 
-    /// The pairs of which no state of these has one.
-    fn of_states(alloc: Global, fluents: u32, states: &[Bits]) -> Result<Exclusions, AllocError> {
-        let mut all = Bits::none();
-        for fluent in 0..fluents {
-            all.set(fluent, true);
-        }
+    /// The pairs that aren't among these.
+    fn of_pairs(alloc: Global, fluents: u32, pairs: &[Bits]) -> Result<Exclusions, AllocError> {
+        let all = first_fluents(fluents);
         let mut rows = Vec::new(alloc);
-        for fluent in 0..fluents {
-            let mut row = all;
-            row.set(fluent, false);
-            for state in states {
-                if state.get(fluent) {
-                    row = row.without(state);
-                }
-            }
+        for (fluent, others) in pairs.iter().enumerate() {
+            let mut row = all.without(others);
+            row.set(small(fluent), false);
             rows.push(row)?;
         }
         Ok(Exclusions { rows })

@@ -2,10 +2,10 @@
 //! steps breadth first come before the search by estimates, which keeps two queues: all states, and
 //! those to which a helpful outcome leads (Hoffmann and Nebel 2001; Helmert 2006).
 
+use crate::notes::Hope;
 use crate::numbers::{NONE, at, put, small};
 use crate::policy::Policy;
 use crate::queues::Queue;
-use crate::states::Hope;
 use crate::stops::Stop;
 use crate::world::World;
 use std::alloc::{AllocError, Global};
@@ -227,7 +227,7 @@ impl Finder {
         state: u32,
         order: Order,
     ) -> Result<bool, Stop> {
-        world.spent.spend(1)?;
+        world.effort.spend(1)?;
         for action in 0..world.actions.count() {
             if world.outcomes(state, action, &mut self.outcomes)? {
                 let is_safe = world.class == Class::Weak || !world.some_dead(&self.outcomes);

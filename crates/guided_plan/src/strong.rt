@@ -4,15 +4,18 @@
 //! go round; each becomes a pair with a pattern, which solves other states too.
 
 use crate::bits::{Bits, Part};
+use crate::branches::{Branch, Branches};
 use crate::conditions::support;
 use crate::lessons::Lessons;
+use crate::notes::Hope;
 use crate::numbers::{NONE, at, put, small};
 use crate::policy::{Pair, Policy};
 use crate::queues::Queue;
 use crate::regress::regress;
-use crate::states::Hope;
 use crate::stops::Stop;
-use crate::vertices::{Branch, Branches, Phase, Solved, Vertices};
+use crate::trap::trap_from;
+use crate::vertices::Vertices;
+use crate::views::{Phase, Solved};
 use crate::world::World;
 use std::alloc::{AllocError, Global};
 
@@ -33,6 +36,9 @@ const DETOUR: u64 = 5 * STEP;
 
 /// How often states are looked at in vain before the best of all open states is taken.
 const MOST_IDLE: usize = 200;
+
+/// The most open states that are then taken at once.
+const MOST_BURST: u32 = 8;
 
 /// The way from an initial state down to where the search is, and how often it looked in vain.
 #[derive(Drop)]
@@ -67,6 +73,9 @@ pub(crate) struct AndOrGraph {
     /// The states that aren't tried, by estimate.
     frontier: Queue,
     path: Path,
+    /// How many open states were taken the last time, and how many pairs there were.
+    burst: u32,
+    solved: u32,
     /// The actions that are helpful where the search is: those that have this mark.
     helpful: Vec<u32>,
     mark: u32,
@@ -87,6 +96,8 @@ impl AndOrGraph {
                 states: Vec::new(alloc),
                 idle: 0,
             },
+            burst: 1,
+            solved: NONE,
             helpful: vec![in alloc; 0; actions as usize]?,
             mark: 0,
             is_exhausted: false,
@@ -120,7 +131,7 @@ impl AndOrGraph {
                 return Ok(false);
             }
             self.descend(world, root)?;
-            if self.path.is_stuck() && !self.take_best(world)? {
+            if self.path.is_stuck() && !self.take_some(world)? {
                 self.is_exhausted = true;
                 return Ok(self.first_open(world)?.is_none());
             }
@@ -313,7 +324,7 @@ impl AndOrGraph {
 
     /// Looks at the last state of the path.
     fn step_from(&mut self, world: &mut World<'_>, state: u32) -> Result<(), Stop> {
-        world.spent.spend(1)?;
+        world.effort.spend(1)?;
         self.look(world, state)?;
         if !self.is_open(state) {
             self.pop_path(state);
@@ -603,6 +614,24 @@ impl AndOrGraph {
         Ok(())
     }
 
+    /// Tries the actions of the open states with the best estimates: of one after something was solved,
+    /// and else of twice as many as the last time. False where there are no more.
+    fn take_some(&mut self, world: &mut World<'_>) -> Result<bool, Stop> {
+        let solved = self.policy.len();
+        self.burst = if solved == self.solved {
+            self.burst.saturating_mul(2).min(MOST_BURST)
+        } else {
+            1
+        };
+        self.solved = solved;
+        for _ in 0..self.burst {
+            if !self.take_best(world)? {
+                return Ok(false);
+            }
+        }
+        Ok(true)
+    }
+
     /// Tries the actions of the open state with the best estimate. False where there is none.
     fn take_best(&mut self, world: &mut World<'_>) -> Result<bool, Stop> {
         for _ in 0..u64::MAX {
@@ -638,20 +667,15 @@ impl AndOrGraph {
 }
 
 impl AndOrGraph {
-    /// Where all actions were tried, the open states that were met: each action may lead from one to
-    /// another, or to a dead end.
-    pub(crate) fn unsolved(&self, world: &mut World<'_>) -> Result<Vec<Part>, Stop> {
-        let mut set = Vec::new(self.alloc);
-        if !self.is_exhausted {
-            return Ok(set);
-        }
-        for state in 0..self.vertices.len() {
-            let view = self.vertices.view(state);
-            if view.is_known && self.is_open(state) && world.hope(state) == Hope::Open {
-                set.push(world.whole(state))?;
+    /// Where all actions were tried: some open states, an initial one among them, such that each
+    /// action may lead from one to another, or to a dead end.
+    pub(crate) fn unsolved(&mut self, world: &mut World<'_>) -> Result<Vec<Part>, Stop> {
+        if self.is_exhausted {
+            if let Some(first) = self.first_open(world)? {
+                return trap_from(world, &self.vertices, first);
             }
         }
-        Ok(set)
+        Ok(Vec::new(self.alloc))
     }
 }
 

@@ -2,103 +2,25 @@
 //! of dead ends.
 
 use crate::Allowance;
-use crate::bits::{Bits, Part};
+use crate::actions::Actions;
+use crate::bits::{Bits, Part, first_fluents};
+use crate::buried::Buried;
+use crate::effort::Effort;
 use crate::exclusions::Exclusions;
-use crate::moves::{Effect, Move, Test, moves_of};
+use crate::moves::Test;
 use crate::net::Draft;
+use crate::notes::Hope;
 use crate::numbers::{NONE, at, small};
 use crate::patterns::Patterns;
 use crate::space::Space;
-use crate::states::{Hope, States};
+use crate::states::States;
 use crate::stops::Stop;
 use crate::wave::Wave;
 use std::alloc::{AllocError, Global};
-use task_core::{Class, Cond, Task, init_states};
+use task_core::{Class, Cond, InitSpec, Task, init_states};
 
 /// How many initial states are taken at most.
 const MOST_INITIAL: usize = 65_536;
-
-/// The most partial states of a certificate.
-const MOST_BURIED: usize = 16_384;
-
-/// The actions, and the numbers of their outcomes.
-#[derive(Drop)]
-pub(crate) struct Actions<'a> {
-    pub(crate) moves: Vec<Move<'a>>,
-    /// The label of each action's first outcome, and for each label its action.
-    firsts: Vec<u32>,
-    of_labels: Vec<u32>,
-}
-
-impl<'a> Actions<'a> {
-    fn new(alloc: Global, task: &'a Task) -> Result<Actions<'a>, AllocError> {
-        let moves = moves_of(alloc, task)?;
-        let mut firsts = Vec::new(alloc);
-        let mut of_labels = Vec::new(alloc);
-        for (number, action) in moves.iter().enumerate() {
-            firsts.push(small(of_labels.len()))?;
-            for _ in &action.effects {
-                of_labels.push(small(number))?;
-            }
-        }
-        Ok(Actions {
-            moves,
-            firsts,
-            of_labels,
-        })
-    }
-
-    pub(crate) fn count(&self) -> u32 {
-        small(self.moves.len())
-    }
-
-    pub(crate) fn label_count(&self) -> u32 {
-        small(self.of_labels.len())
-    }
-
-    /// The label of an action's first outcome.
-    pub(crate) fn first_label(&self, action: u32) -> u32 {
-        at(&self.firsts, action)
-    }
-
-    /// The action of an outcome.
-    pub(crate) fn action_of(&self, label: u32) -> u32 {
-        at(&self.of_labels, label)
-    }
-
-    /// The place of an outcome among those of its action.
-    pub(crate) fn place_of(&self, label: u32) -> u32 {
-        label.saturating_sub(self.first_label(self.action_of(label)))
-    }
-
-    pub(crate) fn get(&self, action: u32) -> Option<&Move<'a>> {
-        self.moves.get(action as usize)
-    }
-
-    /// The outcome at a place of an action.
-    pub(crate) fn effect(&self, action: u32, place: u32) -> Option<&Effect<'a>> {
-        let of = self.get(action)?;
-        of.effects.get(place as usize)
-    }
-}
-
-/// How much was done, and how much may be.
-#[derive(Clone, Copy)]
-pub(crate) struct Spent {
-    done: u64,
-    most: u64,
-}
-
-impl Spent {
-    /// Counts so much work.
-    pub(crate) fn spend(&mut self, work: u64) -> Result<(), Stop> {
-        self.done = self.done.saturating_add(work);
-        if self.done > self.most {
-            return Err(Stop::GaveUp);
-        }
-        Ok(())
-    }
-}
 
 /// The task as the searches see it.
 #[derive(Drop)]
@@ -109,17 +31,17 @@ pub(crate) struct World<'a> {
     pub(crate) actions: Actions<'a>,
     pub(crate) space: Space<'a>,
     pub(crate) states: States,
+    init: &'a InitSpec,
     pub(crate) initial: Vec<u32>,
     pub(crate) fluents: u32,
     pub(crate) all: Bits,
     /// Patterns of dead ends, and how many dead states have none.
     pub(crate) deads: Patterns,
     pub(crate) bare: u32,
-    buried: Vec<Vec<Part>>,
-    buried_count: usize,
+    buried: Buried,
     pub(crate) draft: Draft,
     wave: Wave,
-    pub(crate) spent: Spent,
+    pub(crate) effort: Effort,
     pub(crate) exclusions: Option<Exclusions>,
 }
 
@@ -143,19 +65,16 @@ impl<'a> World<'a> {
             actions,
             space: Space::new(alloc, task)?,
             states: States::new(alloc, allowance.states),
+            init: &task.init,
             initial: Vec::new(alloc),
             fluents,
             all: first_fluents(fluents),
             deads: Patterns::new(alloc)?,
             bare: 0,
-            buried: Vec::new(alloc),
-            buried_count: 0,
+            buried: Buried::new(alloc),
             draft,
             wave,
-            spent: Spent {
-                done: 0,
-                most: allowance.expanded as u64,
-            },
+            effort: Effort::new(allowance.expanded),
             exclusions: None,
         };
         world.add_initial(task)?;
@@ -253,7 +172,7 @@ impl<'a> World<'a> {
 
     /// The estimate from a state.
     pub(crate) fn estimate(&mut self, number: u32, helpful: bool) -> Result<Option<u32>, Stop> {
-        self.spent.spend(1)?;
+        self.effort.spend(1)?;
         let state = self.states.bits_of(number);
         let all = self.all;
         Ok(self.wave.estimate(&state, &all, helpful)?)
@@ -262,7 +181,7 @@ impl<'a> World<'a> {
     /// Whether the goal can't be had from a state even where the fluents that don't count may have
     /// either value, in the relaxed task.
     pub(crate) fn is_hopeless(&mut self, state: &Bits, care: &Bits) -> Result<bool, Stop> {
-        self.spent.spend(1)?;
+        self.effort.spend(1)?;
         Ok(self.wave.estimate(state, care, false)?.is_none())
     }
 
@@ -315,20 +234,13 @@ impl<'a> World<'a> {
 
     /// Keeps a set of dead ends as a step of a certificate, unless these are too many.
     pub(crate) fn keep_set(&mut self, set: Vec<Part>) -> Result<(), Stop> {
-        self.buried_count = self.buried_count.saturating_add(set.len());
-        if self.buried_count <= MOST_BURIED {
-            self.buried.push(set)?;
-        }
-        Ok(())
+        Ok(self.buried.push(set)?)
     }
 
     /// The sets of dead ends in the order in which they were found: no action leads out of one but
     /// at the risk of an earlier one. `None` where these are too many.
     pub(crate) fn buried(&self) -> Option<&[Vec<Part>]> {
-        if self.buried_count > MOST_BURIED {
-            return None;
-        }
-        Some(&self.buried)
+        self.buried.sets()
     }
 
     /// Whether some initial state is a dead end.
@@ -347,14 +259,10 @@ impl<'a> World<'a> {
         if self.exclusions.is_some() {
             return Ok(());
         }
-        let mut states = Vec::new(self.alloc);
-        for number in &self.initial {
-            states.push(self.states.bits_of(*number))?;
-        }
         self.exclusions = Some(Exclusions::find(
             self.alloc,
             self.fluents,
-            &states,
+            self.init,
             &self.actions.moves,
         )?);
         Ok(())
@@ -390,13 +298,4 @@ fn drafted(
         draft.add_action(action, actions.first_label(small(number)))?;
     }
     Ok(draft)
-}
-
-/// So many first fluents.
-fn first_fluents(count: u32) -> Bits {
-    let mut all = Bits::none();
-    for fluent in 0..count {
-        all.set(fluent, true);
-    }
-    all
 }
