@@ -1,11 +1,13 @@
 -- The states in which each action may be taken, and those from which a target can be come to.
-use Rattle.std.proofs.Common.{◌≡◌, ℕ, ◌+◌, ◌<◌, Bool, true, false, not, ◌&&◌, ◌||◌, List, [], ◌∷◌, refl, sym, ap, subst, ◌∙◌, ⊎_elim, arith}
+use Rattle.std.proofs.Common.{◌≡◌, ℕ, ◌+◌, ◌<◌, Bool, true, false, not, ◌&&◌, ◌||◌, List, [], ◌∷◌, refl, sym, ap, subst, ◌∙◌, ⊎_elim, arith, ◌↔◌, IsTrue}
 use Rattle.std.proofs.Math.Bool.{or_assoc}
 use Rattle.std.proofs.Math.Numerals.{add-one}
-use Rattle.std.proofs.lemmas.Bool.{and_from, and_parts, cases_eq, or_cases, or_left, or_right}
+use Rattle.std.proofs.lemmas.Bool.{and_from, and_parts, cases_eq, or_cases, or_left, or_right, true≢false}
+use Rattle.std.proofs.Math.Path.{fun_ext}
+use Rattle.dd_sets.specs.LiveSets.{nothing}
 use Rattle.dd_nodes.specs.NodeList.{Values}
 use Rattle.dd_nodes.specs.Subfunctions.{Function}
-use Rattle.dd_ops.specs.Operations.{and_of, or_of}
+use Rattle.dd_ops.specs.Operations.{and_of, or_of, minus_of}
 use Rattle.fair_theory.specs.FairSets.{CanComeTo}
 use Rattle.fair_theory.specs.FairSets.CanComeTo.{here, by}
 use Rattle.list_laws.proofs.Elements.{list_any-witness}
@@ -13,7 +15,7 @@ use Rattle.preimage.specs.Preimages.{strong_preimage, weak_preimage}
 use Rattle.preimage.specs.WorkingSets.{some_below}
 use Rattle.plan_theory.specs.Layers.{may_lead, must_lead}
 use Rattle.plan_theory.proofs.RoundSteps.{held}
-use Rattle.slot_board.specs.declared.board.Operation.TheVariants.{Join, Meet}
+use Rattle.slot_board.specs.declared.board.Operation.TheVariants.{Join, Meet, Minus}
 use Rattle.slot_board.specs.declared.board.Outcomes.{Outcomes}
 use Rattle.board_steps.specs.Steps.{Placed, after_step}
 use Rattle.board_steps.specs.declared.steps.Step.{Step}
@@ -25,7 +27,7 @@ use Rattle.task_core.specs.Vectors.{Vector, all_vectors, value_of}
 use Rattle.task_core.specs.declared.literals.ActionId.{ActionId}
 use Rattle.task_core.proofs.TaskSystem.{is_system}
 use Rattle.fair_plan.specs.Boards.{AreStepsOf, IsAfter, IsThere, Scene, Origin, actions_of, set_in, states_in, sys_of}
-use Rattle.fair_plan.specs.Rounds.{AddsNear, Climbs, ClimbsOnce, Grows, HasNear, IsPart, Pairs, PairsOne, Passes, led_at}
+use Rattle.fair_plan.specs.Rounds.{LooksForRest, AddsNear, Climbs, ClimbsOnce, Grows, HasNear, IsPart, Pairs, PairsOne, Passes, led_at}
 use Rattle.fair_plan.proofs.Boards.{low, only, pair_in}
 use Rattle.fair_plan.proofs.Leading.{fewer_outside, may_more, must_below, same_functions, weak_may}
 
@@ -85,6 +87,76 @@ module _ (origin : Origin) (a : ActionId) (pairs : ℕ) (is : pairs ≡ 8 + a.0)
               after 2 (low origin 2 (omega arith)) ∙ with_here p2 2 _ 2 refl
               ∙ ap (λ (f : Function). or_of f (p2 0)) near ∙ ap (or_of (set_in x 2)) hits;
         }
+
+-- whether there is anything to gain
+abbrev pub rest_steps : ℕ → List Step
+rest_steps pairs = Combine 0 Minus pairs 2 ∷ []
+
+out_of : (f g : Bool) → (f && not g) ≡ false → f ≡ true → g ≡ true
+out_of true true h e = refl
+out_of true false h e = sym h
+out_of false true h e = refl
+out_of false false h e = e
+
+is_none : (empty : Bool) → not empty ≡ false → IsTrue empty
+is_none true h = refl
+is_none false h = absurd (true≢false h)
+
+no_more : (near led pair : Bool) → (pair ≡ true → near ≡ true) → near ≡ (near || (led && pair))
+no_more true led pair h = refl
+no_more false true true h = h refl
+no_more false true false h = refl
+no_more false false pair h = refl
+
+module _ (origin : Origin) (a : ActionId) (pairs : ℕ) (is : pairs ≡ 8 + a.0) (below : a.0 < actions_of origin) where
+  pub rest_can : AreStepsOf origin (rest_steps pairs)
+  rest_can = let p = pair_in origin a.0 below in ((low origin 0 (omega arith), omega arith, low origin 2 (omega arith)), tt)
+
+  pub rest_looked : (x y : Scene) (empty : Bool) → IsThere origin y → (IsTrue empty ↔ (set_in y 0 ≡ nothing)) → IsAfter origin x y (rest_steps pairs) → LooksForRest origin x y a.0 (not empty)
+  rest_looked x y empty there told after = record {
+    there = there;
+    keeps = λ k l n. after k l ∙ with_other (set_in x) 0 _ k n;
+    none = λ no_rest values pair.
+        let bare : set_in y 0 ≡ nothing = told.0 (is_none empty no_rest) in
+        let here : set_in y 0 ≡ minus_of (set_in x pairs) (set_in x 2) = after 0 (low origin 0 (omega arith)) in
+        out_of (set_in x (8 + a.0) values) (set_in x 2 values)
+        (ap (λ (k : ℕ). set_in x k values && not (set_in x 2 values)) (sym is) ∙ sym (ap (λ (f : Function). f values) here) ∙ ap (λ (f : Function). f values) bare) pair;
+  }
+
+-- nothing is added where there is nothing to gain, and the rest as ever
+pub adds_none : (origin : Origin) (x y : Scene) (a : ℕ) (some : Bool) → LooksForRest origin x y a some → some ≡ false → AddsNear origin x y a
+adds_none origin x y a some rest bare = record {
+  keeps = λ k l n m. rest.keeps k l n;
+  near =
+      rest.keeps 2 (low origin 2 (omega arith)) (λ e. absurd (omega arith))
+      ∙ fun_ext (λ values. no_more (set_in x 2 values) (weak_preimage origin.start.task a (set_in x 2) values) (set_in x (8 + a) values) (rest.none bare values));
+}
+
+pub adds_after : (origin : Origin) (x y z : Scene) (a : ℕ) (some : Bool) → a < actions_of origin → LooksForRest origin x y a some → AddsNear origin y z a → AddsNear origin x z a
+adds_after origin x y z a some below rest adds =
+    let near : set_in y 2 ≡ set_in x 2 = rest.keeps 2 (low origin 2 (omega arith)) (λ e. absurd (omega arith)) in
+    let pair : set_in y (8 + a) ≡ set_in x (8 + a) = rest.keeps (8 + a) (pair_in origin a below) (λ e. absurd (omega arith)) in
+    record {
+      keeps = λ k l n m. adds.keeps k l n m ∙ rest.keeps k l n;
+      near =
+          adds.near
+          ∙ ap (λ (f : Function). or_of f (and_of (weak_preimage origin.start.task a f) (set_in y (8 + a)))) near
+          ∙ ap (λ (f : Function). or_of (set_in x 2) (and_of (weak_preimage origin.start.task a (set_in x 2)) f)) pair;
+    }
+
+pub climbs_not : (origin : Origin) (x y : Scene) (a : ℕ) (some : Bool) → LooksForRest origin x y a some → Climbs x y
+climbs_not origin x y a some rest = record {
+  before = rest.keeps 1 (low origin 1 (omega arith)) (λ e. absurd (omega arith));
+  more = λ values h. ap (λ (f : Function). f values) (rest.keeps 2 (low origin 2 (omega arith)) (λ e. absurd (omega arith))) ∙ h;
+}
+
+pub climbs_after : (origin : Origin) (x y z : Scene) (a : ℕ) (some : Bool) → LooksForRest origin x y a some → Climbs y z → Climbs x z
+climbs_after origin x y z a some rest climbs =
+    let still = climbs_not origin x y a some rest in
+    record {
+      before = climbs.before ∙ still.before;
+      more = λ values h. climbs.more values (still.more values h);
+    }
 
 -- the states of the actions so far
 or_none : (b : Bool) → b ≡ (b || false)

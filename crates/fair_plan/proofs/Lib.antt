@@ -6,3 +6,4 @@ pub mod Goals
 pub mod TakerSteps
 pub mod RuleSteps
 pub mod PlanSteps
+pub mod GoalsOver

@@ -1,5 +1,5 @@
 -- Which goals a search takes.
-use Rattle.std.specs.Prelude.{◌≡◌, ℕ, ◌+◌, ◌≤◌, true, All, List, length}
+use Rattle.std.specs.Prelude.{◌≡◌, ℕ, ◌+◌, ◌≤◌, ⊤, true, All, List, length}
 use Rattle.ctl_syntax.specs.GoalValues.{EachInUntil}
 use Rattle.ctl_syntax.specs.declared.context_goals.ContextGoal.{ContextGoal}
 use Rattle.ctl_syntax.specs.declared.context_goals.ContextGoal.TheVariants.{Until, Patrol}
@@ -43,3 +43,12 @@ count_of (Patrol visits) = length visits.items
 abbrev pub contexts_of : ContextGoal → ℕ
 contexts_of (Until chain) = length chain.stages.items + 1
 contexts_of (Patrol visits) = length visits.items
+
+-- how many stages or visits a goal may have, and that a patrol goal has one
+abbrev pub most_of : ContextGoal → ℕ
+most_of (Until chain) = most_stages
+most_of (Patrol visits) = most_visits
+
+abbrev pub HasVisit : ContextGoal → Type 0
+HasVisit (Until chain) = ⊤
+HasVisit (Patrol visits) = 1 ≤ length visits.items

@@ -22,7 +22,7 @@ use Rattle.plan_rules.specs.declared.rules.AutoRule.{AutoRule}
 use Rattle.task_core.specs.Tasks.{fluent_count}
 use Rattle.task_core.specs.Vectors.{Vector, value_of}
 use Rattle.task_core.specs.declared.conditions.Cond.{Cond}
-use Rattle.fair_plan.specs.Boards.{Scene, Origin, actions_of, set_in, states_in, sys_of}
+use Rattle.fair_plan.specs.Boards.{IsThere, Scene, Origin, actions_of, set_in, states_in, sys_of}
 use Rattle.fair_plan.specs.Places.{pairs_end}
 
 -- places from one on, but for one, have their sets
@@ -88,6 +88,13 @@ IsNear origin x left guard target =
 -- a set has all that another has
 abbrev pub IsPart : Function → Function → Type 0
 IsPart f g = (values : Values) → f values ≡ true → g values ≡ true
+
+-- whether an action may be taken in states that aren't near is told; what it needs for that stands at 0
+pub record LooksForRest (origin : Origin) (x y : Scene) (a : ℕ) (some : Bool) : Type 0 where
+  pub there : IsThere origin y
+  pub keeps : (k : ℕ) → k < origin.start.places → (k ≡ 0 → ⊥) → set_in y k ≡ set_in x k
+  pub none : some ≡ false → (values : Values) → set_in x (8 + a) values ≡ true
+      → set_in x 2 values ≡ true
 
 -- the states are added from which an action that may be taken leads to one that is near
 pub record AddsNear (origin : Origin) (x y : Scene) (a : ℕ) : Type 0 where

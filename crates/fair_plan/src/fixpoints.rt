@@ -4,6 +4,8 @@ ghost use Rattle.std.specs.Prelude.{◌≡◌, ◌+◌, ◌<◌, ◌≤◌, leng
 ghost use Rattle.fair_theory.specs.FairSets.{Asked, IsLargestFairSet};
 ghost use Rattle.fair_plan.specs.Boards.{IsThere, Leaves, Origin, actions_of, set_in, states_in, sys_of};
 ghost use Rattle.fair_plan.specs.Rounds.{AddsNear, Begins, BeginsRound, ComesTo, ComesToAll, GoesOn};
+ghost use Rattle.fair_plan.specs.Rounds.{LooksForRest};
+ghost use Rattle.slot_board.specs.Board.{Ends};
 ghost use Rattle.fair_plan.specs.Rounds.{HasNear, HasRound, HasTargets, KeepsStaying, Pairs, PairsOne};
 ghost use Rattle.fair_plan.specs.Rounds.{Passes};
 
@@ -52,8 +54,26 @@ pub(crate) fn pair_all(enc: &mut Enc, board: &mut Board, actions: u32) -> Result
     Ok(())
 }
 
+/// Whether an action may be taken in states that aren't near.
+pub(crate) fn has_rest(enc: &mut Enc, board: &mut Board, a: ActionId) -> Result<bool, SetErr>
+    requires ready { (origin : Origin) × IsThere origin (enc.old, board.old.slots.items) }
+    requires action { a.0 < length enc.old.actions }
+    ensures { (origin : Origin) → IsThere origin (enc.old, board.old.slots.items)
+        → Ends origin.start enc.new board.new.slots.items
+        (LooksForRest origin (enc.old, board.old.slots.items) (enc.new, board.new.slots.items) a.0)
+        result }
+{
+    let pairs = pairs_at(a);
+    make(
+        enc,
+        board,
+        &[Step::Combine(PART, Operation::Minus, pairs, NEAR)],
+    )?;
+    Ok(!board.is_empty(enc, PART))
+}
+
 /// Adds to the states that are near those from which an action that may be taken leads to one.
-fn near_by(enc: &mut Enc, board: &mut Board, a: ActionId) -> Result<(), SetErr>
+fn near_hits(enc: &mut Enc, board: &mut Board, a: ActionId) -> Result<(), SetErr>
     requires ready { (origin : Origin) × IsThere origin (enc.old, board.old.slots.items) }
     requires action { a.0 < length enc.old.actions }
     ensures { (origin : Origin) → IsThere origin (enc.old, board.old.slots.items)
@@ -71,6 +91,21 @@ fn near_by(enc: &mut Enc, board: &mut Board, a: ActionId) -> Result<(), SetErr>
             Step::Combine(NEAR, Operation::Join, NEAR, PART),
         ],
     )
+}
+
+/// The same, with no preimage where no state would be new.
+fn near_by(enc: &mut Enc, board: &mut Board, a: ActionId) -> Result<(), SetErr>
+    requires ready { (origin : Origin) × IsThere origin (enc.old, board.old.slots.items) }
+    requires action { a.0 < length enc.old.actions }
+    ensures { (origin : Origin) → IsThere origin (enc.old, board.old.slots.items)
+        → Leaves origin (enc.new, board.new.slots.items)
+        (AddsNear origin (enc.old, board.old.slots.items) (enc.new, board.new.slots.items) a.0)
+        result }
+{
+    if !has_rest(enc, board, a)? {
+        return Ok(());
+    }
+    near_hits(enc, board, a)
 }
 
 /// Does that by each action.

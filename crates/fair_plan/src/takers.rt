@@ -8,7 +8,7 @@ ghost use Rattle.fair_plan.specs.Goals.{IsChainOver, IsConditionOver, IsFairGoal
 ghost use Rattle.fair_plan.specs.Goals.{most_stages};
 ghost use Rattle.fair_plan.specs.Rounds.{Climbs, ClimbsOnce};
 
-use crate::fixpoints::pair_all;
+use crate::fixpoints::{has_rest, pair_all};
 use crate::places::{BEFORE, GUARD, LAST, NEAR, PART, REST, met_at, pairs_at, takers_at, win_at};
 use crate::steps::{make, put_condition};
 use board_steps::Step;
@@ -54,7 +54,7 @@ fn share(enc: &mut Enc, board: &mut Board, actions: u32, takers: usize) -> Resul
 
 /// Has an action taken by the states that aren't near yet, in which it may be taken, and from which it
 /// may lead to one that was near before.
-fn climb_by(enc: &mut Enc, board: &mut Board, takers: usize, a: ActionId) -> Result<(), SetErr>
+fn climb_hits(enc: &mut Enc, board: &mut Board, takers: usize, a: ActionId) -> Result<(), SetErr>
     requires ready { (origin : Origin) × IsThere origin (enc.old, board.old.slots.items) }
     requires action { a.0 < length enc.old.actions }
     requires places { takers + length enc.old.actions ≤ length board.old.slots.items }
@@ -76,6 +76,22 @@ fn climb_by(enc: &mut Enc, board: &mut Board, takers: usize, a: ActionId) -> Res
             Step::Combine(NEAR, Operation::Join, NEAR, PART),
         ],
     )
+}
+
+/// The same, with no preimage where no state would be new.
+fn climb_by(enc: &mut Enc, board: &mut Board, takers: usize, a: ActionId) -> Result<(), SetErr>
+    requires ready { (origin : Origin) × IsThere origin (enc.old, board.old.slots.items) }
+    requires action { a.0 < length enc.old.actions }
+    requires places { takers + length enc.old.actions ≤ length board.old.slots.items }
+    requires high { 8 ≤ takers }
+    ensures { (origin : Origin) → IsThere origin (enc.old, board.old.slots.items)
+        → Leaves origin (enc.new, board.new.slots.items)
+        (Climbs (enc.old, board.old.slots.items) (enc.new, board.new.slots.items)) result }
+{
+    if !has_rest(enc, board, a)? {
+        return Ok(());
+    }
+    climb_hits(enc, board, takers, a)
 }
 
 /// Does that by each action.

@@ -28,10 +28,6 @@ impl Vertices {
         }
     }
 
-    pub(crate) fn len(&self) -> u32 {
-        small(self.list.len())
-    }
-
     /// Has a vertex for each of so many states.
     pub(crate) fn make_room(&mut self, count: u32) -> Result<(), AllocError> {
         for _ in self.list.len()..count as usize {
