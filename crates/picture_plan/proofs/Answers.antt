@@ -1,5 +1,5 @@
 -- From what follows the reading of both files to the answer, and from the answer to a run.
-use Rattle.std.proofs.Common.{◌≡◌, ◌≢◌, ◌⊎◌, ◌≤◌, ℕ, List, [], ◌∷◌, Contains, get_or, length, map, inl, inr, refl, sym, subst, ap, ◌∙◌, arith, None, Bool, false, true, drop}
+use Rattle.std.proofs.Common.{◌≡◌, codes, ◌≢◌, ◌⊎◌, ◌≤◌, ℕ, List, [], ◌∷◌, Contains, get_or, length, map, inl, inr, refl, sym, subst, ap, ◌∙◌, arith, None, drop}
 use Rattle.exec_graph.specs.Executions.{IsReachedBy, ReachesMoreThan}
 use Rattle.exec_graph.specs.Initials.{HasTooManyInitial}
 use Rattle.pddl_ast.specs.Trees.{DomainTree, ProblemTree}
@@ -19,7 +19,7 @@ use Rattle.task_core.specs.declared.tasks.Task.{Task}
 use Rattle.command_base.specs.Answers.{Answer, Refusal, no_memory, refused}
 use Rattle.command_base.specs.Faults.{IsQuietAt}
 use Rattle.command_base.specs.Following.{HasTooManyStates, most_followed}
-use Rattle.command_base.specs.InitialStates.{InitialThen, empty_init}
+use Rattle.command_base.specs.InitialStates.{empty_init}
 use Rattle.command_base.specs.PlanFiles.{IsFaultyPlan, PlacedPlan, SpellsPlaced}
 use Rattle.command_base.specs.Reading.{ReadThen}
 use Rattle.command_base.specs.Words.{Bytes}
@@ -32,7 +32,7 @@ use Rattle.command_base.proofs.Later.{read_over}
 use Rattle.command_base.proofs.TaskNames.{same_actions, same_fluents}
 use Rattle.picture_plan.specs.Pictures.{DrawnOf, DrawnThen, IsFaultyRun, IsPictureAnswer, IsPictured, RunThen, ShowsPicture, SpellsRun, TaskThen, most_for}
 use Rattle.picture_plan.specs.Runs.{HasPictureCause, HasPictured, PictureRun}
-use Rattle.picture_plan.specs.Words.{AskNothing, PictureForm, PictureWords, SaysPicture, as_graph, as_page, as_page_with, form_words, wrong_picture}
+use Rattle.picture_plan.specs.Words.{AskNothing, PictureForm, PictureWords, SaysPicture, as_graph, as_page, as_page_with, as_rules, form_words, wrong_picture}
 use Rattle.plan_page.specs.Pages.{no_run}
 use Rattle.picture_plan.proofs.PictureFetched.{over_picture, picture_for_memory}
 use Rattle.answer_help.specs.Helped.{IsHelpFor, IsHelpedDelivery}
@@ -49,6 +49,7 @@ read_map held failed name Spells Wrong Then Then' a over (inr (x, holds, then)) 
 run_map : (held : Bytes → Held) (failed : Bytes → Type 0) (form : PictureForm) (Then Then' : Bytes → Answer → Type 0) (a : Answer)
     → ((run : Bytes) → Then run a → Then' run a) → RunThen held failed form Then a → RunThen held failed form Then' a
 run_map held failed as_graph Then Then' a over then = over no_run then
+run_map held failed as_rules Then Then' a over then = over no_run then
 run_map held failed as_page Then Then' a over then = over no_run then
 run_map held failed (as_page_with file) Then Then' a over then = read_map held failed file SpellsRun IsFaultyRun Then Then' a over then
 
@@ -56,6 +57,7 @@ run_map held failed (as_page_with file) Then Then' a over then = read_map held f
 pub run_later : (held held' : Bytes → Held) (failed failed' : Bytes → Type 0) (form : PictureForm) (Then : Bytes → Answer → Type 0) (a : Answer)
     → ((file : Bytes) → held' file ≡ held file) → ((file : Bytes) → failed' file → failed file) → RunThen held' failed' form Then a → RunThen held failed form Then a
 run_later held held' failed failed' as_graph Then a same over then = then
+run_later held held' failed failed' as_rules Then a same over then = then
 run_later held held' failed failed' as_page Then a same over then = then
 run_later held held' failed failed' (as_page_with file) Then a same over then = read_over held held' failed failed' file SpellsRun IsFaultyRun Then a same (over file) then
 
@@ -165,10 +167,17 @@ same_form : (v w : PictureForm) → form_words v ≡ form_words w → v ≡ w
 same_form as_graph as_graph same = refl
 same_form as_graph as_page same = absurd (cc same)
 same_form as_graph (as_page_with x) same = absurd (cc same)
+same_form as_graph as_rules same = absurd (cc same)
+same_form as_rules as_graph same = absurd (cc same)
+same_form as_rules as_rules same = refl
+same_form as_rules as_page same = absurd (let word : codes "--by-rule" ≡ codes "--page" = ap (λ (ws : List Bytes). get_or ws 0 []) same in cc word)
+same_form as_rules (as_page_with x) same = absurd (cc same)
 same_form as_page as_graph same = absurd (cc same)
+same_form as_page as_rules same = absurd (let word : codes "--page" ≡ codes "--by-rule" = ap (λ (ws : List Bytes). get_or ws 0 []) same in cc word)
 same_form as_page as_page same = refl
 same_form as_page (as_page_with x) same = absurd (cc same)
 same_form (as_page_with x) as_graph same = absurd (cc same)
+same_form (as_page_with x) as_rules same = absurd (cc same)
 same_form (as_page_with x) as_page same = absurd (cc same)
 same_form (as_page_with x) (as_page_with y) same = ap as_page_with (ap (λ (ws : List Bytes). get_or ws 1 []) same)
 

@@ -1,11 +1,10 @@
 -- The words of a picture, by their first ones and the rest.
-use Rattle.std.proofs.Common.{◌≡◌, ◌-◌, ◌<◌, ◌≤◌, ◌∙◌, true, codes, List, [], ◌∷◌, map, length, get_or, take, drop, refl, sym, ap, arith}
+use Rattle.std.proofs.Common.{◌≡◌, ◌<◌, ◌≤◌, ◌∙◌, true, codes, List, [], ◌∷◌, map, length, get_or, drop, refl, sym, ap, arith}
 use Rattle.std.proofs.lemmas.Slice.Eq.{bytes_eq-Decides}
 use Rattle.std.specs.Str.{bytes_eq}
-use Rattle.answer_help.specs.WrongWords.{WrongWords, too_few}
+use Rattle.answer_help.specs.WrongWords.{too_few}
 use Rattle.command_base.specs.Words.{Bytes}
-use Rattle.command_base.proofs.WordLists.{first_and_rest}
-use Rattle.picture_plan.specs.Words.{AskNothing, PictureForm, SaysPicture, as_page, as_page_with, form_words, wrong_after_page, wrong_picture}
+use Rattle.picture_plan.specs.Words.{AskNothing, PictureForm, as_page, as_page_with, as_rules, form_words, wrong_after_page, wrong_after_rules, wrong_picture}
 
 -- three words and no form after them
 pub no_picture : (words : List Bytes) (d p q : Bytes) (rest : List Bytes) → words ≡ d ∷ p ∷ q ∷ rest → ((form : PictureForm) → rest ≡ form_words form → ⊥) → AskNothing words
@@ -23,6 +22,15 @@ pub few_after_page : {X : Type 0} (f : X → Bytes) (words : List X) → length 
 few_after_page f [] few = refl
 few_after_page f (a ∷ []) few = refl
 few_after_page f (a ∷ b ∷ words) few = absurd (omega (arith, few))
+
+pub few_after_rules : {X : Type 0} (f : X → Bytes) (words : List X) → length words < 1 → wrong_after_rules (map f words) ≡ too_few
+few_after_rules f [] few = refl
+few_after_rules f (a ∷ words) few = absurd (omega (arith, few))
+
+-- the words of a picture rule by rule
+pub rules_alone : {X : Type 0} (f : X → Bytes) (option : Bytes) (rest : List X) → bytes_eq option (codes "--by-rule") ≡ true → length rest ≡ 0 → option ∷ map f rest ≡ form_words as_rules
+rules_alone f option [] is none = ap (λ (word : Bytes). word ∷ []) ((bytes_eq-Decides option (codes "--by-rule")).0 is)
+rules_alone f option (x ∷ rest) is none = absurd (omega (arith, none))
 
 -- two words and more
 pub first_two : {X Y : Type 0} (f : X → Y) (xs : List X) (a b : X) → 2 ≤ length xs → a ≡ get_or xs 0 a → b ≡ get_or xs 1 b → map f xs ≡ f a ∷ f b ∷ map f (drop 2 xs)

@@ -5,12 +5,12 @@
 -- Example: a door that is opened and passed, where opening may fail:
 --   digraph plan {
 --     start [shape=point];
---     r1 [label="rule 1\n(not (open))\n(open-it)\n"];
---     start -> r1;
---     r1 -> r1 [label=""];
---     r1 -> r2 [label="+ (open)\n"];
+--     r0 [label="rule 0\n(not (open))\n(open-it)\n"];
+--     start -> r0;
+--     r0 -> r0 [label=""];
+--     r0 -> r1 [label="+ (open)\n"];
 --     ..
-use Rattle.std.specs.Prelude.{ℕ, suc, Bool, true, false, List, [], ◌∷◌, ◌++◌, Option, None, Some}
+use Rattle.std.specs.Prelude.{ℕ, Bool, true, false, List, [], ◌∷◌, ◌++◌, Option, None, Some}
 use Rattle.std.specs.Prelude.{codes, decimal, slice_get}
 use Rattle.std.specs.List.{flat_map}
 use Rattle.std.specs.Str.{bytes_eq}
@@ -28,7 +28,7 @@ use Rattle.rule_picture.specs.Rules.{SeenRule, rule_number, seen_rules}
 -- the name of the node for what a rule serves; or of that for the goal states, or for the other states,
 -- in which no rule counts
 abbrev pub place_name : Option ℕ → Bool → List ℕ
-place_name (Some number) goal = codes "r" ++ decimal (suc number)
+place_name (Some number) goal = codes "r" ++ decimal number
 place_name None true = codes "goal"
 place_name None false = codes "end"
 
@@ -48,10 +48,10 @@ literal_line fluents lit = quoted (literal_text fluents lit) ++ label_break
 abbrev pub cube_lines : List Name → Cube → List ℕ
 cube_lines fluents cube = flat_map (literal_line fluents) cube
 
--- what is said of a rule, as: rule 3\n(at a)\n(go a b)\n
+-- what is said of a rule, which are counted from 0, as: rule 3\n(at a)\n(go a b)\n
 abbrev pub rule_label : List Name → List Name → ℕ → SeenRule → List ℕ
 rule_label fluents actions number rule =
-    codes "rule " ++ decimal (suc number) ++ label_break ++ context_line rule.context
+    codes "rule " ++ decimal number ++ label_break ++ context_line rule.context
     ++ cube_lines fluents rule.cube
     ++ quoted (atom_text (name_at actions rule.action)) ++ label_break
 

@@ -46,7 +46,6 @@ ghost use Rattle.std.specs.Prelude.{
   decimal,
   length,
   map,
-  suc,
   ℕ,
 };
 ghost use Rattle.std.specs.Rc.{rc_str_bytes};
@@ -315,13 +314,12 @@ fn push_name_for(
 
 /// Appends the name of the node for what the rule of a number serves.
 fn push_place(out: &mut Vec<u8>, number: Option<usize>, is_goal: bool) -> Result<(), AllocError>
-    requires { IfSome number (λ number. number < 18446744073709551615) }
     ensures { OnOk result (out.new.items ≡ out.old.items ++ place_name number is_goal) }
 {
     match (number, is_goal) {
         (Some(number), _) => {
             push_text(out, "r")?;
-            push_number(out, number + 1)
+            push_number(out, number)
         }
         (None, true) => push_text(out, "goal"),
         (None, false) => push_text(out, "end"),
@@ -366,8 +364,7 @@ fn push_rule_marks(
     number: usize,
     rule: &Seen<'_>,
 ) -> Result<(), AllocError>
-    requires cube { IsCubeOf (fluent_count task.now) rule.now.cube.now }
-    requires number { number < 18446744073709551615 }
+    requires { IsCubeOf (fluent_count task.now) rule.now.cube.now }
     ensures { OnOk result (out.new.items ≡ out.old.items
         ++ rule_marks (fluent_names task.now) (action_names task.now) number
         (Some (seen_value rule.now))) }
@@ -397,14 +394,13 @@ fn push_rule(
     number: usize,
     rule: &Seen<'_>,
 ) -> Result<(), AllocError>
-    requires cube { IsCubeOf (fluent_count task.now) rule.now.cube.now }
-    requires number { number < 18446744073709551615 }
+    requires { IsCubeOf (fluent_count task.now) rule.now.cube.now }
     ensures { OnOk result (out.new.items ≡ out.old.items
         ++ rule_label (fluent_names task.now) (action_names task.now) number
         (seen_value rule.now)) }
 {
     push_text(out, "rule ")?;
-    push_number(out, number + 1)?;
+    push_number(out, number)?;
     push_text(out, "\\n")?;
     push_context_of(out, rule.context)?;
     push_cube(alloc, out, &task.fluents, rule.cube)?;
