@@ -13,18 +13,20 @@ use Rattle.plan_check.specs.declared.verdicts.Reason.TheVariants.{Unexecutable, 
 use Rattle.plan_check.specs.declared.verdicts.Verdict.{Verdict}
 use Rattle.plan_check.specs.declared.verdicts.Verdict.TheVariants.{No, Yes}
 use Rattle.plan_witness.specs.Ends.{IsEndInside, IsEndOutside, IsEndless, IsLostStart}
+use Rattle.plan_witness.specs.Lassos.{ComesBack}
 use Rattle.plan_finding.specs.declared.aims.Aim.{Aim}
 use Rattle.plan_finding.specs.declared.aims.Aim.TheVariants.{Bad, Endless, Inside, Lost, Nothing}
-use Rattle.plan_finding.specs.declared.aims.Aim.TheVariants.{Outside, Unfinished}
+use Rattle.plan_finding.specs.declared.aims.Aim.TheVariants.{Outside, Round, Unfinished}
 
 -- the aim at x: the plan ends there, in the goal or outside it; a rule counts there that can't be
--- followed; the plan doesn't go on there; no run from there ends in the goal, or none ends at all
+-- followed; the plan doesn't go on there; a run from there comes back; no run from there ends in the goal, or none ends at all
 abbrev pub IsAimAt : Aim → System → PlainPlan → Configuration → Type 0
 IsAimAt Nothing sys plan x = ⊥
 IsAimAt Inside sys plan x = IsEndInside sys plan x
 IsAimAt Outside sys plan x = IsEndOutside sys plan x
 IsAimAt Bad sys plan x = IsUnexecutableAt sys plan x
 IsAimAt Unfinished sys plan x = IsStuckAt sys plan x
+IsAimAt Round sys plan x = ComesBack sys plan x
 IsAimAt Lost sys plan x = IsLostStart sys plan x
 IsAimAt Endless sys plan x = IsEndless sys plan x
 
@@ -34,7 +36,7 @@ class_aim class (Yes bound) = Inside
 class_aim class (No Unexecutable) = Bad
 class_aim class (No Stuck) = Nothing
 class_aim class (No Terminal) = Outside
-class_aim class (No Cycle) = Nothing
+class_aim class (No Cycle) = Round
 class_aim Weak (No Unreachable) = Lost
 class_aim Strong (No Unreachable) = Nothing
 class_aim Cyclic (No Unreachable) = Endless
@@ -57,5 +59,6 @@ HasGoalFor Inside task = IsSome task.goal
 HasGoalFor Outside task = IsSome task.goal
 HasGoalFor Bad task = ⊤
 HasGoalFor Unfinished task = ⊤
+HasGoalFor Round task = ⊤
 HasGoalFor Lost task = IsSome task.goal
 HasGoalFor Endless task = ⊤

@@ -8,6 +8,7 @@ use Rattle.plan_finding.specs.declared.aims.Aim.{Aim}
 use Rattle.plan_rules.specs.Denoted.{denoted_contexts}
 use Rattle.plan_rules.specs.Rules.{ContextRule, PlainPlan, PlanRule, automaton, table}
 use Rattle.plan_witness.specs.Ends.{IsEndInside, IsEndOutside, IsEndless, IsLostStart}
+use Rattle.plan_witness.specs.Lassos.{ComesBack}
 use Rattle.plan_witness.specs.Runs.{IsCounting, IsShortestRun, NoneReached, PlainRun, end_of}
 use Rattle.task_core.specs.Conditions.{holds_in}
 use Rattle.task_core.specs.ContextPlans.{Configuration}
@@ -34,6 +35,8 @@ pub data Ending : Type 0 where
   without_rule : Ending
   -- the rule of this number counts there, and has no next context for an outcome of its action
   without_next : (rule action : ℕ) → Ending
+  -- some run from there comes back
+  comes_back : Ending
   -- no run from there ends in the goal
   never_in_goal : Ending
   -- no run from there ends
@@ -101,6 +104,7 @@ IsEndingAt task plan x (not_executable rule action parts) =
 IsEndingAt task plan x without_rule = HasNoRuleAt plan x
 IsEndingAt task plan x (without_next rule action) =
     IsStuckAt (system_of task) plan x × CountsAt plan x rule action
+IsEndingAt task plan x comes_back = ComesBack (system_of task) plan x
 IsEndingAt task plan x never_in_goal = IsLostStart (system_of task) plan x
 IsEndingAt task plan x never_ending = IsEndless (system_of task) plan x
 

@@ -2,7 +2,7 @@
 use Rattle.std.specs.Prelude.{◌==◌, ◌&&◌, ℕ, suc, Bool, true, List, [], ◌∷◌, ◌++◌, codes, decimal}
 use Rattle.std.specs.Prelude.{if◌then◌else◌, map, false}
 use Rattle.std.specs.List.{flat_map}
-use Rattle.plan_finding.specs.Findings.{Ending, PlainFound, in_goal, never_ending, never_in_goal}
+use Rattle.plan_finding.specs.Findings.{Ending, PlainFound, comes_back, in_goal, never_ending, never_in_goal}
 use Rattle.plan_finding.specs.Findings.{not_executable, outside_goal, without_next, without_rule}
 use Rattle.plan_rules.specs.Rules.{PlainPlan, PlanRule, automaton, table}
 use Rattle.plan_rules.specs.Texts.{atom_text, line_feed, name_at}
@@ -64,6 +64,7 @@ sentence fluents actions without_rule = codes "the context has no rule for this 
 sentence fluents actions (without_next rule action) =
     codes "rule " ++ decimal rule ++ codes " counts here, but has no next context for an outcome of "
     ++ atom_text (name_at actions action)
+sentence fluents actions comes_back = codes "some run from here comes back here"
 sentence fluents actions never_in_goal = codes "no run from here ends in the goal"
 sentence fluents actions never_ending = codes "no run from here ends"
 

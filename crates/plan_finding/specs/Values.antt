@@ -1,9 +1,9 @@
 -- Private: what the code's own types stand for, over n fluents.
 use Rattle.std.specs.Prelude.{ℕ, map}
-use Rattle.plan_finding.specs.Findings.{Ending, PlainFound, in_goal, never_ending, never_in_goal}
+use Rattle.plan_finding.specs.Findings.{Ending, PlainFound, comes_back, in_goal, never_ending, never_in_goal}
 use Rattle.plan_finding.specs.Findings.{not_executable, outside_goal, without_next, without_rule}
 use Rattle.plan_finding.specs.declared.endings.Ending.{Ending as CodeEnding}
-use Rattle.plan_finding.specs.declared.endings.Ending.TheVariants.{InGoal, OutsideGoal}
+use Rattle.plan_finding.specs.declared.endings.Ending.TheVariants.{ComesBack, InGoal, OutsideGoal}
 use Rattle.plan_finding.specs.declared.endings.Ending.TheVariants.{NeverEnding, NeverInGoal}
 use Rattle.plan_finding.specs.declared.endings.Ending.TheVariants.{NotExecutable, WithoutNext}
 use Rattle.plan_finding.specs.declared.endings.Ending.TheVariants.{WithoutRule}
@@ -17,6 +17,7 @@ ending_value (NotExecutable rule action parts) =
     not_executable rule action.0 (map (λ part. part.now) parts.items)
 ending_value WithoutRule = without_rule
 ending_value (WithoutNext rule action) = without_next rule action.0
+ending_value ComesBack = comes_back
 ending_value NeverInGoal = never_in_goal
 ending_value NeverEnding = never_ending
 

@@ -19,6 +19,8 @@ pub enum Aim {
     Bad,
     /// A plan with contexts doesn't go on.
     Unfinished,
+    /// A run comes back to where it was.
+    Round,
     /// No run from an initial state ends in the goal.
     Lost,
     /// No run ends from there on.
@@ -34,6 +36,7 @@ pub fn class_aim(class: Class, verdict: &Verdict) -> Aim
         Verdict::No(reason) => match (reason, class) {
             (Reason::Unexecutable, _) => Aim::Bad,
             (Reason::Terminal, _) => Aim::Outside,
+            (Reason::Cycle, _) => Aim::Round,
             (Reason::Unreachable, Class::Weak) => Aim::Lost,
             (Reason::Unreachable, Class::Cyclic) => Aim::Endless,
             _ => Aim::Nothing,

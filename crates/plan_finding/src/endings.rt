@@ -31,6 +31,8 @@ pub enum Ending<'a> {
     WithoutRule,
     /// The rule of this number counts there, and has no next context for an outcome of its action.
     WithoutNext(usize, ActionId),
+    /// Some run from there comes back.
+    ComesBack,
     /// No run from there ends in the goal.
     NeverInGoal,
     /// No run from there ends.
@@ -62,6 +64,7 @@ pub(crate) fn ending_at<'a>(
         Aim::Outside => Ok(Ending::OutsideGoal(false_goal(alloc, task, state)?)),
         Aim::Bad => not_executable(alloc, task, plan, state, context),
         Aim::Unfinished => Ok(unfinished(task, plan, state, context)),
+        Aim::Round => Ok(Ending::ComesBack),
         Aim::Lost => Ok(Ending::NeverInGoal),
         Aim::Endless => Ok(Ending::NeverEnding),
     }

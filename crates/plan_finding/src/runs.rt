@@ -4,6 +4,7 @@ ghost use Rattle.exec_graph.specs.Values.{IsWithinFluents};
 ghost use Rattle.plan_finding.specs.Aims.{HasGoalFor, IsAimAt};
 ghost use Rattle.plan_rules.specs.Plans.{IsPlanOf};
 ghost use Rattle.plan_rules.specs.Rules.{plain_of};
+ghost use Rattle.plan_witness.specs.Lassos.{ComesBack};
 ghost use Rattle.plan_witness.specs.Marked.{IsGraphIn};
 ghost use Rattle.plan_witness.specs.Runs.{IsShortestRun, NoneReached, end_of};
 ghost use Rattle.plan_witness.specs.Values.{run_value};
@@ -16,7 +17,7 @@ use crate::aims::Aim;
 use exec_graph::{Graph, Steps};
 use plan_rules::Plan;
 use plan_witness::{
-    Run, endless_run, goal_run, lost_run, stuck_run, terminal_run, unexecutable_run,
+    Run, cycle_run, endless_run, goal_run, lost_run, stuck_run, terminal_run, unexecutable_run,
 };
 use std::alloc::{AllocError, Global};
 use std::marker::Brand;
@@ -75,8 +76,33 @@ fn run_in<L: Ledger>(
         Aim::Outside => terminal_run(alloc, task, plan, graph, &mut steps),
         Aim::Bad => unexecutable_run(alloc, task, plan, graph, &mut steps),
         Aim::Unfinished => stuck_run(alloc, task, plan, graph, &mut steps),
+        Aim::Round => back_run(alloc, task, plan, graph, &mut steps),
         Aim::Lost => lost_run(alloc, task, plan, graph, &mut steps),
         Aim::Endless => endless_run(alloc, task, plan, graph, &mut steps),
+    }
+}
+
+/// A shortest run to a configuration from which the plan may come back to it.
+fn back_run<L: Ledger>(
+    alloc: Global,
+    task: &Task,
+    plan: &Plan,
+    graph: &Graph,
+    steps: &mut Steps<L>,
+) -> Result<Option<Run>, AllocError>
+    requires plan { IsPlanOf (fluent_count task.now) (action_count task.now) plan.now }
+    requires graph { IsGraphIn task.now plan.now graph.now }
+    requires inside { IsWithinFluents (fluent_count task.now) graph.now }
+    ensures shortest { let n = fluent_count task.now in let sys = system_of task.now in
+        IfOk result (λ found. IfSome found (λ run. IsShortestRun sys (plain_of plan.now)
+        (ComesBack sys (plain_of plan.now)) (run_value n run))) }
+    ensures within { IfOk result (λ found. IfSome found (IsRunWithin (fluent_count task.now))) }
+    ensures none { let sys = system_of task.now in IfOk result (λ found.
+        IfNone found (NoneReached sys (plain_of plan.now) (ComesBack sys (plain_of plan.now)))) }
+{
+    match cycle_run(alloc, task, plan, graph, steps)? {
+        Some(lasso) => Ok(Some(lasso.stem)),
+        None => Ok(None),
     }
 }
 

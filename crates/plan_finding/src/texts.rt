@@ -165,6 +165,7 @@ pub(crate) fn push_sentence(
             out.push_str(" counts here, but has no next context for an outcome of ")?;
             push_action(out, task, *action)
         }
+        Ending::ComesBack => out.push_str("some run from here comes back here"),
         Ending::NeverInGoal => out.push_str("no run from here ends in the goal"),
         Ending::NeverEnding => out.push_str("no run from here ends"),
     }

@@ -7,3 +7,4 @@ pub mod Counting
 pub mod Meanings
 pub mod FoundRuns
 pub mod Leads
+pub mod Everywhere

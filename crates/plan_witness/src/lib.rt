@@ -6,6 +6,7 @@
 //! and `specs/Ends.antt` what its end shows.
 #![tactic(auto)]
 
+mod cycles;
 mod leading;
 mod reasons;
 mod rules;
@@ -16,6 +17,7 @@ mod stuck;
 mod unreachable;
 mod ways;
 
+pub use cycles::{Lasso, cycle_run};
 pub use reasons::{terminal_run, unexecutable_run};
 pub use rules::counting_rule;
 pub use runs::{Run, RunStep};

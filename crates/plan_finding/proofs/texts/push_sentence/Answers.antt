@@ -25,6 +25,12 @@ returns-in-WithoutRule c =
     subst (λ (e : CodeEnding). OnOk c.push_str-in-WithoutRule.result (string_bytes c.push_str-in-WithoutRule.new.self ≡ string_bytes c.args.out.now ++ sentence (fluent_names task) (action_names task) (ending_value e)))
     (sym c.in-WithoutRule.is) (when_ok c.push_str-in-WithoutRule.result (string_bytes c.args.out.now) (codes "the context has no rule for this state") (string_bytes c.push_str-in-WithoutRule.new.self) c.push_str-in-WithoutRule.ensures.bytes)
 
+pub returns-in-ComesBack : goal.returns-in-ComesBack
+returns-in-ComesBack c =
+    let task = c.args.task.now in
+    subst (λ (e : CodeEnding). OnOk c.push_str-in-ComesBack.result (string_bytes c.push_str-in-ComesBack.new.self ≡ string_bytes c.args.out.now ++ sentence (fluent_names task) (action_names task) (ending_value e)))
+    (sym c.in-ComesBack.is) (when_ok c.push_str-in-ComesBack.result (string_bytes c.args.out.now) (codes "some run from here comes back here") (string_bytes c.push_str-in-ComesBack.new.self) c.push_str-in-ComesBack.ensures.bytes)
+
 pub returns-in-NeverInGoal : goal.returns-in-NeverInGoal
 returns-in-NeverInGoal c =
     let task = c.args.task.now in

@@ -1,0 +1,255 @@
+//! The shortest run that comes back to where it was.
+
+ghost use Rattle.std.specs.Prelude.{
+  ◌≡◌,
+  ◌<◌,
+  ◌≤◌,
+  ◌↔◌,
+  IfNone,
+  IfOk,
+  IfSome,
+  false,
+  length,
+  true,
+  ℕ,
+};
+ghost use Rattle.std.specs.List.{Contains};
+ghost use Rattle.task_core.specs.Tasks.{action_count, fluent_count, system_of};
+ghost use Rattle.plan_check.specs.Plain.{HasFollowersInside};
+ghost use Rattle.plan_check.specs.Walks.{IsMarked, last_number};
+ghost use Rattle.plan_rules.specs.Plans.{IsPlanOf};
+ghost use Rattle.plan_rules.specs.Rules.{plain_of};
+ghost use Rattle.exec_graph.specs.Values.{IsWithinFluents, followers_at, graph_size};
+ghost use Rattle.plan_witness.specs.Lassos.{ComesBack, IsLasso};
+ghost use Rattle.plan_witness.specs.Marked.{IsGraphIn, IsRoundOf, place_at};
+ghost use Rattle.plan_witness.specs.Runs.{NoneReached};
+ghost use Rattle.plan_witness.specs.Values.{lasso_value, steps_value};
+ghost use Rattle.plan_witness.specs.Ways.{
+  AreWaysFromSome,
+  IsNearestRound,
+  IsOnRound,
+  IsShortestRoundAt,
+  at,
+};
+ghost use Rattle.plan_witness.specs.Within.{HasStepsWithin, IsRunWithin};
+
+use crate::runs::{Run, RunStep, run_along, starts_of, step_at, steps_along};
+use crate::shortest::{Way, shortest_way, way_back};
+use crate::ways::{FAR, Ways, ways_from};
+use exec_graph::{Graph, Steps};
+use plan_rules::Plan;
+use std::alloc::{AllocError, Global};
+use std::sync::ledger::Ledger;
+use task_core::Task;
+
+/// A run that comes back: the run to a configuration, and the steps from there back to it.
+#[derive(Drop)]
+pub struct Lasso {
+    pub stem: Run,
+    pub round: Vec<RunStep>,
+}
+
+/// A shortest run to a configuration from which the plan may come back to it, and from there a
+/// shortest run back; `None` exactly where the plan may reach no such configuration.
+///
+/// Each configuration that is as near as the one that is found, or nearer, is tried by a search of its
+/// own.
+pub fn cycle_run<L: Ledger>(
+    alloc: Global,
+    task: &Task,
+    plan: &Plan,
+    graph: &Graph,
+    steps: &mut Steps<L>,
+) -> Result<Option<Lasso>, AllocError>
+    requires plan { IsPlanOf (fluent_count task.now) (action_count task.now) plan.now }
+    requires graph { IsGraphIn task.now plan.now graph.now }
+    requires within { IsWithinFluents (fluent_count task.now) graph.now }
+    ensures lasso { let n = fluent_count task.now in IfOk result (λ found. IfSome found (λ lasso.
+        IsLasso (system_of task.now) (plain_of plan.now) (lasso_value n lasso))) }
+    ensures within { IfOk result (λ found. IfSome found (λ lasso.
+        IsRunWithin (fluent_count task.now) lasso.stem)) }
+    ensures back_within { IfOk result (λ found. IfSome found (λ lasso.
+        HasStepsWithin (fluent_count task.now) lasso.round.items)) }
+    ensures none { let sys = system_of task.now in IfOk result (λ found.
+        IfNone found (NoneReached sys (plain_of plan.now) (ComesBack sys (plain_of plan.now)))) }
+{
+    let starts = starts_of(alloc, graph)?;
+    let ways = ways_from(alloc, graph, &starts, steps)?;
+    match nearest_round(alloc, graph, &ways, steps)? {
+        Some(end) => {
+            let way = way_back(alloc, graph, &ways, end)?;
+            let stem = run_along(alloc, task, plan, graph, &way)?;
+            let round = round_along(alloc, task, plan, graph, end, steps)?;
+            Ok(Some(Lasso { stem, round }))
+        }
+        None => Ok(None),
+    }
+}
+
+/// The nearest number from which some walk comes back.
+fn nearest_round<L: Ledger>(
+    alloc: Global,
+    graph: &Graph,
+    ways: &Ways,
+    steps: &mut Steps<L>,
+) -> Result<Option<u32>, AllocError>
+    requires inside { HasFollowersInside graph.now }
+    requires count { length ways.now.lengths.items ≡ graph_size graph.now }
+    ensures some { IfOk result (λ found. IfSome found
+        (IsNearestRound (graph_size graph.now) (followers_at graph.now) ways.now.lengths.items)) }
+    ensures none { IfOk result (λ found. IfNone found ((i : ℕ) → i < graph_size graph.now
+        → IsOnRound (followers_at graph.now) i → at ways.now.lengths.items i < FAR → ⊥)) }
+{
+    let mut nearest = None;
+    let mut least = FAR;
+    for i in 0..graph.len() {
+        if is_nearer(alloc, graph, ways, i, least, steps)? {
+            least = ways.length_at(i);
+            nearest = Some(i);
+        }
+    }
+    Ok(nearest)
+}
+
+/// Whether the way to a number is shorter than a length, and some walk from the number comes back.
+fn is_nearer<L: Ledger>(
+    alloc: Global,
+    graph: &Graph,
+    ways: &Ways,
+    number: u32,
+    bound: u32,
+    steps: &mut Steps<L>,
+) -> Result<bool, AllocError>
+    requires inside { HasFollowersInside graph.now }
+    requires count { length ways.now.lengths.items ≡ graph_size graph.now }
+    requires number { number < graph_size graph.now }
+    ensures nearer { IfOk result (λ nearer.
+        nearer ≡ true → at ways.now.lengths.items number < bound) }
+    ensures on { IfOk result (λ nearer. nearer ≡ true → IsOnRound (followers_at graph.now) number) }
+    ensures not { IfOk result (λ nearer. nearer ≡ false → IsOnRound (followers_at graph.now) number
+        → bound ≤ at ways.now.lengths.items number) }
+{
+    if ways.length_at(number) >= bound {
+        return Ok(false);
+    }
+    is_on_round(alloc, graph, number, steps)
+}
+
+/// The steps of a shortest walk from a number back to it.
+fn round_along<L: Ledger>(
+    alloc: Global,
+    task: &Task,
+    plan: &Plan,
+    graph: &Graph,
+    number: u32,
+    steps: &mut Steps<L>,
+) -> Result<Vec<RunStep>, AllocError>
+    requires plan { IsPlanOf (fluent_count task.now) (action_count task.now) plan.now }
+    requires graph { IsGraphIn task.now plan.now graph.now }
+    requires within { IsWithinFluents (fluent_count task.now) graph.now }
+    requires number { number < graph_size graph.now }
+    requires on { IsOnRound (followers_at graph.now) number }
+    ensures round { let n = fluent_count task.now in IfOk result (λ round.
+        IsRoundOf (system_of task.now) (plain_of plan.now) (place_at n graph.now)
+        (followers_at graph.now) number (steps_value n round.items)) }
+    ensures within { IfOk result (λ round.
+        HasStepsWithin (fluent_count task.now) round.items) }
+{
+    match round_at(alloc, graph, number, steps)? {
+        Some(way) => {
+            let first = step_at(task, plan, graph, number, way.start);
+            let mut round = steps_along(alloc, task, plan, graph, way.start, &way.numbers)?;
+            round.push_front(first)?;
+            Ok(Vec::from(round))
+        }
+        None => Ok(Vec::new(alloc)),
+    }
+}
+
+/// Whether some walk from a number comes back to it.
+fn is_on_round<L: Ledger>(
+    alloc: Global,
+    graph: &Graph,
+    number: u32,
+    steps: &mut Steps<L>,
+) -> Result<bool, AllocError>
+    requires inside { HasFollowersInside graph.now }
+    requires number { number < graph_size graph.now }
+    ensures { IfOk result (λ is. (is ≡ true) ↔ IsOnRound (followers_at graph.now) number) }
+{
+    let round = round_at(alloc, graph, number, steps)?;
+    Ok(round.is_some())
+}
+
+/// A shortest walk from a number back to it, from the follower by which it goes on.
+fn round_at<L: Ledger>(
+    alloc: Global,
+    graph: &Graph,
+    number: u32,
+    steps: &mut Steps<L>,
+) -> Result<Option<Way>, AllocError>
+    requires inside { HasFollowersInside graph.now }
+    requires number { number < graph_size graph.now }
+    ensures some { IfOk result (λ found. IfSome found (λ way.
+        IsShortestRoundAt (followers_at graph.now) number way.start way.numbers.items)) }
+    ensures none { IfOk result (λ found.
+        IfNone found (IsOnRound (followers_at graph.now) number → ⊥)) }
+{
+    let followers = follower_marks(alloc, graph, number, steps)?;
+    let only = only_mark(alloc, graph, number)?;
+    shortest_way(alloc, graph, &followers, &only, steps)
+}
+
+/// A mark for each number that follows one.
+fn follower_marks<L: Ledger>(
+    alloc: Global,
+    graph: &Graph,
+    number: u32,
+    steps: &mut Steps<L>,
+) -> Result<Vec<bool>, AllocError>
+    requires inside { HasFollowersInside graph.now }
+    requires number { number < graph_size graph.now }
+    ensures count { IfOk result (λ marks. length marks.items ≡ graph_size graph.now) }
+    ensures marked { IfOk result (λ marks. (i : ℕ) → i < graph_size graph.now
+        → IsMarked marks.items i ↔ Contains (followers_at graph.now number) i) }
+{
+    let mut marks = Vec::new(alloc);
+    for i in 0..graph.len() {
+        marks.push(follows(graph, number, i, steps))?;
+    }
+    Ok(marks)
+}
+
+/// Whether a number follows another.
+fn follows<L: Ledger>(graph: &Graph, number: u32, other: u32, steps: &mut Steps<L>) -> bool
+    requires { number < graph_size graph.now }
+    ensures { (result ≡ true) ↔ Contains (followers_at graph.now number) other }
+{
+    for k in 0..graph.next_len(number) {
+        if graph.next_at(number, k, steps) == other {
+            return true;
+        }
+    }
+    false
+}
+
+/// A mark for one number alone.
+fn only_mark(alloc: Global, graph: &Graph, number: u32) -> Result<Vec<bool>, AllocError>
+    requires { number < graph_size graph.now }
+    ensures count { IfOk result (λ marks. length marks.items ≡ graph_size graph.now) }
+    ensures marked { IfOk result (λ marks. (i : ℕ) → i < graph_size graph.now
+        → IsMarked marks.items i ↔ (i ≡ number)) }
+{
+    let mut marks = Vec::new(alloc);
+    for i in 0..graph.len() {
+        marks.push(is_number(i, number))?;
+    }
+    Ok(marks)
+}
+
+/// Whether two numbers are the same.
+fn is_number(number: u32, other: u32) -> bool
+    ensures { (result ≡ true) ↔ (number ≡ other) }
+{
+    number == other
+}
