@@ -1,60 +1,99 @@
 -- No words ask for two controllers.
-use Rattle.std.proofs.Common.{◌≡◌, ◌⊎◌, ◌++◌, ◌∙◌, ◌+◌, ℕ, suc, Bool, true, false, List, ◌∷◌, length, inl, inr, refl, sym, ap, arith, codes, subst}
-use Rattle.std.proofs.lemmas.List.{append_cancel_right, length-append}
-use Rattle.command_base.specs.Words.{Bytes, PlanOptions, PlanWords, SaysOptions, SaysPlan, plan}
+use Rattle.std.proofs.Common.{◌≡◌, ◌++◌, ◌∙◌, ℕ, Bool, true, false, List, [], ◌∷◌, length, take, drop, get_or, inl, inr, refl, sym, ap, arith, codes, subst, append_assoc, decimal}
+use Rattle.std.specs.Prelude.{◌==◌, ◌||◌}
+use Rattle.std.proofs.lemmas.List.{append_cancel_right}
+use Rattle.command_base.specs.Words.{Bytes, PlanOptions, PlanWords, SaysOptions, SaysPlan, cert_words, kind_word, plan}
 use Rattle.command_base.proofs.OneCommand.{one_command}
 use Rattle.command_base.proofs.WordLists.{as_plain}
-use Rattle.controller_plan.specs.Words.{ControlWords, SaysControl, json_word}
+use Rattle.controller_plan.specs.Words.{ControlWords, SaysControl, json_word, uncertified}
 
-plan_same : (a b : PlanWords) → plan a ≡ plan b → a ≡ b
+pub plan_same : (a b : PlanWords) → plan a ≡ plan b → a ≡ b
 plan_same a b is = cc
 
--- the options are no words or two
-options_long : (rest : List Bytes) (options : PlanOptions) → SaysOptions rest options → (length rest ≡ 0) ⊎ (length rest ≡ 2)
-options_long rest options (inl said) = inl (ap (λ (ws : List Bytes). length ws) said.0)
-options_long rest options (inr said) = inr (ap (λ (ws : List Bytes). length ws) said)
+-- the words after the options
+abbrev last_words : Bool → Bool → List Bytes
+last_words certified json = cert_words certified ++ json_word json
 
--- and so a plan is asked for by three words or five
-front_long : (front : List Bytes) (a : PlanWords) → a.certified ≡ false → SaysPlan (codes "plan" ∷ front) a → (length front ≡ 3) ⊎ (length front ≡ 5)
-front_long front a plain says =
-    let long : suc (length front) ≡ suc (suc (suc (suc (length says.rest)))) = ap (λ (ws : List Bytes). length ws) (as_plain (codes "plan" ∷ front) a plain says) in
-    go (options_long says.rest a.options says.options) long where
-      go : (length says.rest ≡ 0) ⊎ (length says.rest ≡ 2) → suc (length front) ≡ suc (suc (suc (suc (length says.rest)))) → (length front ≡ 3) ⊎ (length front ≡ 5)
-      go (inl none) long = inl (omega (arith, none, long))
-      go (inr two) long = inr (omega (arith, two, long))
+-- the third letter of the first word, which tells the options apart
+abbrev third_letter : List Bytes → ℕ
+third_letter words = get_or (get_or words 0 []) 2 0
 
-not_both : (n m : ℕ) → (n ≡ 3) ⊎ (n ≡ 5) → (m ≡ 3) ⊎ (m ≡ 5) → n + 1 ≡ m → ⊥
-not_both n m (inl a) (inl b) is = omega (arith, a, b, is)
-not_both n m (inl a) (inr b) is = omega (arith, a, b, is)
-not_both n m (inr a) (inl b) is = omega (arith, a, b, is)
-not_both n m (inr a) (inr b) is = omega (arith, a, b, is)
+-- what they ask for
+cert_told : (c j : Bool) → c ≡ third_letter (last_words c j) == 99
+cert_told true true = refl
+cert_told true false = refl
+cert_told false true = refl
+cert_told false false = refl
 
--- the words with and without the last one
-lengths_differ : (front other : List Bytes) (a b : PlanWords) → a.certified ≡ false → b.certified ≡ false → SaysPlan (codes "plan" ∷ front) a → SaysPlan (codes "plan" ∷ other) b
-    → front ++ json_word true ≡ other ++ json_word false → ⊥
-lengths_differ front other a b plain plain' says said is =
-    let longer = length-append front (json_word true) in
-    let same = length-append other (json_word false) in
-    let equal : length (front ++ json_word true) ≡ length (other ++ json_word false) = ap (λ (ws : List Bytes). length ws) is in
-    not_both (length front) (length other) (front_long front a plain says) (front_long other b plain' said) (omega (arith, sym longer ∙ equal ∙ same))
+json_told : (c j : Bool) → j ≡ (length (last_words c j) == 2 || third_letter (last_words c j) == 106)
+json_told true true = refl
+json_told true false = refl
+json_told false true = refl
+json_told false false = refl
 
-same_plan : (j : Bool) (front other : List Bytes) (a b : PlanWords) → SaysPlan (codes "plan" ∷ front) a → SaysPlan (codes "plan" ∷ other) b
-    → front ++ json_word j ≡ other ++ json_word j → a ≡ b
-same_plan j front other a b says said is =
-    let one = append_cancel_right front other (json_word j) is in
-    plan_same a b (one_command (codes "plan" ∷ other) (plan a) (plan b) (subst (λ (ws : List Bytes). SaysPlan (codes "plan" ∷ ws) a) one says) said)
+not_nodes : (c j : Bool) → third_letter (last_words c j) ≡ 110 → ⊥
+not_nodes true true is = let e : 99 ≡ 110 = is in omega (arith, e)
+not_nodes true false is = let e : 99 ≡ 110 = is in omega (arith, e)
+not_nodes false true is = let e : 106 ≡ 110 = is in omega (arith, e)
+not_nodes false false is = let e : 0 ≡ 110 = is in omega (arith, e)
 
-asked_same : (j k : Bool) (front other : List Bytes) (a b : PlanWords) → a.certified ≡ false → b.certified ≡ false → SaysPlan (codes "plan" ∷ front) a → SaysPlan (codes "plan" ∷ other) b
-    → front ++ json_word j ≡ other ++ json_word k → (j ≡ k) × (a ≡ b)
-asked_same true true front other a b plain plain' says said is = (refl, same_plan true front other a b says said is)
-asked_same false false front other a b plain plain' says said is = (refl, same_plan false front other a b says said is)
-asked_same true false front other a b plain plain' says said is = absurd (lengths_differ front other a b plain plain' says said is)
-asked_same false true front other a b plain plain' says said is = absurd (lengths_differ other front b a plain' plain said says (sym is))
+-- the options of `plan` end where these words begin
+same_last : (rest other : List Bytes) (v w : PlanOptions) (c j d k : Bool) → SaysOptions rest v → SaysOptions other w → rest ++ last_words c j ≡ other ++ last_words d k
+    → last_words c j ≡ last_words d k
+same_last rest other v w c j d k (inl (none, nodes)) (inl (none', nodes')) is =
+    sym (ap (λ (ws : List Bytes). ws ++ last_words c j) none) ∙ is ∙ ap (λ (ws : List Bytes). ws ++ last_words d k) none'
+same_last rest other v w c j d k (inl (none, nodes)) (inr some) is =
+    let both : last_words c j ≡ codes "--nodes" ∷ decimal w.nodes ∷ last_words d k =
+    sym (ap (λ (ws : List Bytes). ws ++ last_words c j) none) ∙ is ∙ ap (λ (ws : List Bytes). ws ++ last_words d k) some in
+    absurd (not_nodes c j (ap third_letter both))
+same_last rest other v w c j d k (inr some) (inl (none, nodes)) is =
+    let both : last_words d k ≡ codes "--nodes" ∷ decimal v.nodes ∷ last_words c j =
+    sym (ap (λ (ws : List Bytes). ws ++ last_words d k) none) ∙ sym is ∙ ap (λ (ws : List Bytes). ws ++ last_words c j) some in
+    absurd (not_nodes d k (ap third_letter both))
+same_last rest other v w c j d k (inr some) (inr some') is =
+    let both : codes "--nodes" ∷ decimal v.nodes ∷ last_words c j ≡ codes "--nodes" ∷ decimal w.nodes ∷ last_words d k =
+    sym (ap (λ (ws : List Bytes). ws ++ last_words c j) some) ∙ is ∙ ap (λ (ws : List Bytes). ws ++ last_words d k) some' in
+    ap (λ (ws : List Bytes). drop 2 ws) both
+
+-- the words, one after another
+module _ (words : List Bytes) (a : ControlWords) (says : SaysControl words a) where
+  -- those before the last ones
+  abbrev front : List Bytes
+  front = says.plan.front
+
+  split : words ≡ front ++ last_words a.plan.certified a.json
+  split =
+      says.written ∙ ap (λ (ws : List Bytes). ws ++ json_word a.json) says.plan.written
+      ∙ append_assoc front (cert_words a.plan.certified) (json_word a.json)
+
+  front_is : front ≡ kind_word a.plan.kind ∷ a.plan.domain ∷ a.plan.problem ∷ says.plan.plan.rest
+  front_is = ap (λ (ws : List Bytes). drop 1 ws) (as_plain (codes "plan" ∷ front) (uncertified a.plan) refl says.plan.plan)
+
+  after_three : drop 3 words ≡ says.plan.plan.rest ++ last_words a.plan.certified a.json
+  after_three = ap (λ (ws : List Bytes). drop 3 ws) (split ∙ ap (λ (ws : List Bytes). ws ++ last_words a.plan.certified a.json) front_is)
+
+-- a plan is the same with its certificate
+plan_is : (a b : PlanWords) → uncertified a ≡ uncertified b → a.certified ≡ b.certified → a ≡ b
+plan_is a b same certified =
+    let kinds = ap (λ (p : PlanWords). p.kind) same in
+    let domains = ap (λ (p : PlanWords). p.domain) same in
+    let problems = ap (λ (p : PlanWords). p.problem) same in
+    let options = ap (λ (p : PlanWords). p.options) same in
+    λ i. record { kind = kinds i; domain = domains i; problem = problems i; options = options i; certified = certified i }
 
 asked_is : (a b : ControlWords) → a.json ≡ b.json → a.plan ≡ b.plan → a ≡ b
 asked_is a b json plan_is = λ i. record { plan = plan_is i; json = json i }
 
 pub one_asked : (words : List Bytes) (a b : ControlWords) → SaysControl words a → SaysControl words b → a ≡ b
 one_asked words a b says said =
-    let same = asked_same a.json b.json says.front said.front a.plan b.plan says.plain said.plain says.plan said.plan (sym says.written ∙ said.written) in
-    asked_is a b same.0 same.1
+    let tails = sym (after_three words a says) ∙ after_three words b said in
+    let lasts = same_last says.plan.plan.rest said.plan.plan.rest a.plan.options b.plan.options a.plan.certified a.json b.plan.certified b.json says.plan.plan.options said.plan.plan.options tails in
+    let certified = cert_told a.plan.certified a.json ∙ ap (λ (ws : List Bytes). third_letter ws == 99) lasts ∙ sym (cert_told b.plan.certified b.json) in
+    let json = json_told a.plan.certified a.json ∙ ap (λ (ws : List Bytes). length ws == 2 || third_letter ws == 106) lasts ∙ sym (json_told b.plan.certified b.json) in
+    let both : says.plan.front ++ last_words b.plan.certified b.json ≡ said.plan.front ++ last_words b.plan.certified b.json =
+    ap (λ (ws : List Bytes). says.plan.front ++ ws) (sym lasts) ∙ sym (split words a says) ∙ split words b said in
+    let fronts = append_cancel_right says.plan.front said.plan.front (last_words b.plan.certified b.json) both in
+    let plans : uncertified a.plan ≡ uncertified b.plan = plan_same (uncertified a.plan) (uncertified b.plan)
+    (one_command (codes "plan" ∷ said.plan.front) (plan (uncertified a.plan)) (plan (uncertified b.plan))
+    (subst (λ (ws : List Bytes). SaysPlan (codes "plan" ∷ ws) (uncertified a.plan)) fronts says.plan.plan) said.plan.plan) in
+    asked_is a b json (plan_is a.plan b.plan plans certified)

@@ -5,10 +5,12 @@
 //! initial states (`followed`, `searches`, `context_searches`), and makes rules of what it does there
 //! (`rules`, `plans`). None of that is trusted: the plan is judged by the proved checker, and what isn't
 //! found to be a controller isn't shown (`judged`, and `controller_rules` for what its rules are to be
-//! beside). All other answers are those of the command `plan`: that there is no plan, and each refusal.
+//! beside). All other answers are those of the command `plan`: that there is no plan, and each refusal,
+//! below which `answer_help` says more.
 //!
-//! `specs/` says what the call answers: `Words` which words say what is wanted, `Controllers` the
-//! answer, `Runs` a run with its cause, and `Laws` what follows of each run.
+//! `specs/` says what the call answers: `Words` which words say what is wanted, `WrongWords` what is
+//! wrong with others, `Controllers` the answer, `Runs` a run with its cause, and `Laws` what follows of
+//! each run.
 #![tactic(auto)]
 
 mod commands;
@@ -27,6 +29,7 @@ mod set_judge;
 mod state_plans;
 mod top;
 mod words;
+mod wrong_words;
 
 pub use laws::{controllers_meet, no_plan_is_there};
 pub use top::control;
