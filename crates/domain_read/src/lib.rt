@@ -17,13 +17,9 @@ mod checks;
 mod edits;
 mod laws;
 mod plain_laws;
-#[cfg(test)]
-mod plain_tests;
 mod plain_text;
 mod reading;
 mod roles;
-#[cfg(test)]
-mod tests;
 mod weights;
 
 pub use laws::domain_or_fault;

@@ -16,8 +16,6 @@ mod numbers;
 mod rows;
 mod rules;
 mod steps;
-#[cfg(test)]
-mod tests;
 
 pub use exploration::{GraphErr, MAX_CONFIGURATIONS, explore};
 pub use graphs::Graph;

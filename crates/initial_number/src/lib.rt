@@ -9,7 +9,5 @@ mod choices;
 mod chosen;
 mod fluents;
 mod numbered;
-#[cfg(test)]
-mod tests;
 
 pub use numbered::{Numbered, numbered_initial};

@@ -17,10 +17,6 @@ mod loops;
 mod predicates;
 mod schemas;
 mod sections;
-#[cfg(test)]
-mod tests;
-#[cfg(test)]
-mod tree_tests;
 mod types;
 
 pub use domains::read_domain;

@@ -5,6 +5,5 @@ mod PassLemmas
 mod Orders
 mod Ordered
 mod Answered
-mod TownLemmas
 mod Fitting
 pub mod WordNames

@@ -10,16 +10,12 @@
 
 mod definitions;
 mod faults;
-#[cfg(test)]
-mod goal_tests;
 mod init;
 mod laws;
 mod objects;
 mod problems;
 mod read;
 mod sections;
-#[cfg(test)]
-mod tests;
 
 pub use laws::one_answer;
 pub use read::read_problem;

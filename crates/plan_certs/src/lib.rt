@@ -14,8 +14,6 @@ mod items;
 mod judging;
 mod laws;
 mod reader;
-#[cfg(test)]
-mod tests;
 mod text;
 
 pub use certificates::{Certificate, CertificateRead, StateSet};

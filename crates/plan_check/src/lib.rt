@@ -10,8 +10,6 @@ mod classes;
 mod contexts;
 mod counted;
 mod ends;
-#[cfg(test)]
-mod goal_tests;
 mod goals;
 mod labelling;
 mod laws;
@@ -19,8 +17,6 @@ mod longest;
 mod reaching;
 mod search;
 mod spreading;
-#[cfg(test)]
-mod tests;
 mod verdicts;
 
 pub use classes::check_class;

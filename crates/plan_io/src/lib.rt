@@ -14,8 +14,6 @@ mod schedule;
 mod shelves;
 mod sinks;
 mod std_sink;
-#[cfg(test)]
-mod tests;
 
 pub use disk_shelf::DiskShelf;
 pub use mem_shelf::MemShelf;

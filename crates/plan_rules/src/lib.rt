@@ -20,8 +20,6 @@ mod names;
 mod reader;
 mod rules;
 mod table_reader;
-#[cfg(test)]
-mod tests;
 mod text;
 
 pub use auto_reader::MAX_CONTEXTS;

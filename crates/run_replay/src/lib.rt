@@ -10,11 +10,7 @@
 mod laws;
 mod monitors;
 mod records;
-#[cfg(test)]
-mod run_tests;
 mod runs;
-#[cfg(test)]
-mod tests;
 mod text;
 mod traces;
 mod turns;

@@ -21,8 +21,6 @@ mod numerals;
 mod parts;
 mod read;
 mod scan;
-#[cfg(test)]
-mod tests;
 mod texts;
 
 pub use faults::{FaultKind, InputFault, ReadErr};

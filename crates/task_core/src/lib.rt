@@ -18,8 +18,6 @@ mod literals;
 mod states;
 mod steps;
 mod tasks;
-#[cfg(test)]
-mod tests;
 
 pub use actions::{Alternative, Change, GroundAction, InitSpec, Outcome};
 pub use classes::Class;
