@@ -4,8 +4,8 @@
 //! `control` finds the plan with the planners of `plan_command`, as sets of states, follows it from the
 //! initial states (`followed`, `searches`, `context_searches`), and makes rules of what it does there
 //! (`rules`, `plans`). None of that is trusted: the plan is judged by the proved checker, and what isn't
-//! found to be a controller isn't shown (`judged`, and `controller_rules` for what its rules are to be
-//! beside). All other answers are those of the command `plan`: that there is no plan, and each refusal,
+//! found to be a controller isn't shown (`made`, `judged`, and `controller_rules` for what its rules are
+//! to be beside). All other answers are those of the command `plan`: that there is no plan, and each refusal,
 //! below which `answer_help` says more.
 //!
 //! `specs/` says what the call answers: `Words` which words say what is wanted, `WrongWords` what is
@@ -18,6 +18,7 @@ mod context_searches;
 mod followed;
 mod judged;
 mod laws;
+mod made;
 mod own_states;
 mod plans;
 mod reach;
