@@ -1,99 +1,90 @@
 -- No words ask for two controllers.
-use Rattle.std.proofs.Common.{◌≡◌, ◌++◌, ◌∙◌, ℕ, Bool, true, false, List, [], ◌∷◌, length, take, drop, get_or, inl, inr, refl, sym, ap, arith, codes, subst, append_assoc, decimal}
-use Rattle.std.specs.Prelude.{◌==◌, ◌||◌}
+use Rattle.std.proofs.Common.{◌≡◌, ◌++◌, ◌∙◌, ℕ, Bool, true, false, List, [], ◌∷◌, length, drop, get_or, inl, inr, refl, sym, ap, codes, subst, append_assoc}
+use Rattle.std.specs.Prelude.{◌==◌, if◌then◌else◌}
 use Rattle.std.proofs.lemmas.List.{append_cancel_right}
 use Rattle.command_base.specs.Words.{Bytes, PlanOptions, PlanWords, SaysOptions, SaysPlan, cert_words, kind_word, plan}
 use Rattle.command_base.proofs.OneCommand.{one_command}
-use Rattle.command_base.proofs.WordLists.{as_plain}
-use Rattle.controller_plan.specs.Words.{ControlWords, SaysControl, json_word, uncertified}
+use Rattle.controller_plan.specs.Words.{ControlWords, SaysControl, json_word}
 
-pub plan_same : (a b : PlanWords) → plan a ≡ plan b → a ≡ b
+plan_same : (a b : PlanWords) → plan a ≡ plan b → a ≡ b
 plan_same a b is = cc
 
--- the words after the options
-abbrev last_words : Bool → Bool → List Bytes
-last_words certified json = cert_words certified ++ json_word json
-
--- the third letter of the first word, which tells the options apart
+-- the third letter of the first word tells the options apart
 abbrev third_letter : List Bytes → ℕ
 third_letter words = get_or (get_or words 0 []) 2 0
 
--- what they ask for
-cert_told : (c j : Bool) → c ≡ third_letter (last_words c j) == 99
-cert_told true true = refl
-cert_told true false = refl
-cert_told false true = refl
-cert_told false false = refl
+-- words begin with `--cert`
+abbrev begins_cert : List Bytes → Bool
+begins_cert words = third_letter words == 99
 
-json_told : (c j : Bool) → j ≡ (length (last_words c j) == 2 || third_letter (last_words c j) == 106)
-json_told true true = refl
-json_told true false = refl
-json_told false true = refl
-json_told false false = refl
+-- words after `--nodes` and its number, where they begin with that
+abbrev after_nodes : List Bytes → List Bytes
+after_nodes words = if third_letter words == 110 then drop 2 words else words
 
-not_nodes : (c j : Bool) → third_letter (last_words c j) ≡ 110 → ⊥
-not_nodes true true is = let e : 99 ≡ 110 = is in omega (arith, e)
-not_nodes true false is = let e : 99 ≡ 110 = is in omega (arith, e)
-not_nodes false true is = let e : 106 ≡ 110 = is in omega (arith, e)
-not_nodes false false is = let e : 0 ≡ 110 = is in omega (arith, e)
+json_told : (j : Bool) → j ≡ length (json_word j) == 1
+json_told true = refl
+json_told false = refl
 
--- the options of `plan` end where these words begin
-same_last : (rest other : List Bytes) (v w : PlanOptions) (c j d k : Bool) → SaysOptions rest v → SaysOptions other w → rest ++ last_words c j ≡ other ++ last_words d k
-    → last_words c j ≡ last_words d k
-same_last rest other v w c j d k (inl (none, nodes)) (inl (none', nodes')) is =
-    sym (ap (λ (ws : List Bytes). ws ++ last_words c j) none) ∙ is ∙ ap (λ (ws : List Bytes). ws ++ last_words d k) none'
-same_last rest other v w c j d k (inl (none, nodes)) (inr some) is =
-    let both : last_words c j ≡ codes "--nodes" ∷ decimal w.nodes ∷ last_words d k =
-    sym (ap (λ (ws : List Bytes). ws ++ last_words c j) none) ∙ is ∙ ap (λ (ws : List Bytes). ws ++ last_words d k) some in
-    absurd (not_nodes c j (ap third_letter both))
-same_last rest other v w c j d k (inr some) (inl (none, nodes)) is =
-    let both : last_words d k ≡ codes "--nodes" ∷ decimal v.nodes ∷ last_words c j =
-    sym (ap (λ (ws : List Bytes). ws ++ last_words d k) none) ∙ sym is ∙ ap (λ (ws : List Bytes). ws ++ last_words c j) some in
-    absurd (not_nodes d k (ap third_letter both))
-same_last rest other v w c j d k (inr some) (inr some') is =
-    let both : codes "--nodes" ∷ decimal v.nodes ∷ last_words c j ≡ codes "--nodes" ∷ decimal w.nodes ∷ last_words d k =
-    sym (ap (λ (ws : List Bytes). ws ++ last_words c j) some) ∙ is ∙ ap (λ (ws : List Bytes). ws ++ last_words d k) some' in
-    ap (λ (ws : List Bytes). drop 2 ws) both
+-- of the options of `plan` and the last word
+module _ (rest : List Bytes) (options : PlanOptions) where
+  no_cert : SaysOptions rest options → (j : Bool) → begins_cert (rest ++ json_word j) ≡ false
+  no_cert (inl (none, nodes)) true = ap (λ (ws : List Bytes). begins_cert (ws ++ json_word true)) none
+  no_cert (inl (none, nodes)) false = ap (λ (ws : List Bytes). begins_cert (ws ++ json_word false)) none
+  no_cert (inr some) j = ap (λ (ws : List Bytes). begins_cert (ws ++ json_word j)) some
+
+  json_is : SaysOptions rest options → (j : Bool) → after_nodes (rest ++ json_word j) ≡ json_word j
+  json_is (inl (none, nodes)) true = ap (λ (ws : List Bytes). after_nodes (ws ++ json_word true)) none
+  json_is (inl (none, nodes)) false = ap (λ (ws : List Bytes). after_nodes (ws ++ json_word false)) none
+  json_is (inr some) j = ap (λ (ws : List Bytes). after_nodes (ws ++ json_word j)) some
+
+-- words that may begin with `--cert`
+cert_told : (c : Bool) (ws : List Bytes) → begins_cert ws ≡ false → c ≡ begins_cert (cert_words c ++ ws)
+cert_told true ws none = refl
+cert_told false ws none = sym none
+
+abbrev after_cert : Bool → List Bytes → List Bytes
+after_cert true words = drop 1 words
+after_cert false words = words
+
+rest_told : (c : Bool) (ws : List Bytes) → after_cert c (cert_words c ++ ws) ≡ ws
+rest_told true ws = refl
+rest_told false ws = refl
 
 -- the words, one after another
 module _ (words : List Bytes) (a : ControlWords) (says : SaysControl words a) where
-  -- those before the last ones
-  abbrev front : List Bytes
-  front = says.plan.front
+  abbrev last : List Bytes
+  last = says.plan.rest ++ json_word a.json
 
-  split : words ≡ front ++ last_words a.plan.certified a.json
-  split =
-      says.written ∙ ap (λ (ws : List Bytes). ws ++ json_word a.json) says.plan.written
-      ∙ append_assoc front (cert_words a.plan.certified) (json_word a.json)
+  front_is : says.front ≡ kind_word a.plan.kind ∷ a.plan.domain ∷ a.plan.problem ∷ (cert_words a.plan.certified ++ says.plan.rest)
+  front_is = ap (λ (ws : List Bytes). drop 1 ws) says.plan.written
 
-  front_is : front ≡ kind_word a.plan.kind ∷ a.plan.domain ∷ a.plan.problem ∷ says.plan.plan.rest
-  front_is = ap (λ (ws : List Bytes). drop 1 ws) (as_plain (codes "plan" ∷ front) (uncertified a.plan) refl says.plan.plan)
+  whole : words ≡ kind_word a.plan.kind ∷ a.plan.domain ∷ a.plan.problem ∷ ((cert_words a.plan.certified ++ says.plan.rest) ++ json_word a.json)
+  whole = says.written ∙ ap (λ (ws : List Bytes). ws ++ json_word a.json) front_is
 
-  after_three : drop 3 words ≡ says.plan.plan.rest ++ last_words a.plan.certified a.json
-  after_three = ap (λ (ws : List Bytes). drop 3 ws) (split ∙ ap (λ (ws : List Bytes). ws ++ last_words a.plan.certified a.json) front_is)
+  after_three : drop 3 words ≡ cert_words a.plan.certified ++ last
+  after_three = ap (λ (ws : List Bytes). drop 3 ws) whole ∙ append_assoc (cert_words a.plan.certified) says.plan.rest (json_word a.json)
 
--- a plan is the same with its certificate
-plan_is : (a b : PlanWords) → uncertified a ≡ uncertified b → a.certified ≡ b.certified → a ≡ b
-plan_is a b same certified =
-    let kinds = ap (λ (p : PlanWords). p.kind) same in
-    let domains = ap (λ (p : PlanWords). p.domain) same in
-    let problems = ap (λ (p : PlanWords). p.problem) same in
-    let options = ap (λ (p : PlanWords). p.options) same in
-    λ i. record { kind = kinds i; domain = domains i; problem = problems i; options = options i; certified = certified i }
+  certified_is : a.plan.certified ≡ begins_cert (drop 3 words)
+  certified_is =
+      cert_told a.plan.certified last (no_cert says.plan.rest a.plan.options says.plan.options a.json) ∙ ap begins_cert (sym after_three)
+
+  last_is : last ≡ after_cert a.plan.certified (drop 3 words)
+  last_is = sym (rest_told a.plan.certified last) ∙ ap (after_cert a.plan.certified) (sym after_three)
+
+  asks_json : a.json ≡ length (after_nodes last) == 1
+  asks_json = json_told a.json ∙ ap (λ (ws : List Bytes). length ws == 1) (sym (json_is says.plan.rest a.plan.options says.plan.options a.json))
 
 asked_is : (a b : ControlWords) → a.json ≡ b.json → a.plan ≡ b.plan → a ≡ b
 asked_is a b json plan_is = λ i. record { plan = plan_is i; json = json i }
 
 pub one_asked : (words : List Bytes) (a b : ControlWords) → SaysControl words a → SaysControl words b → a ≡ b
 one_asked words a b says said =
-    let tails = sym (after_three words a says) ∙ after_three words b said in
-    let lasts = same_last says.plan.plan.rest said.plan.plan.rest a.plan.options b.plan.options a.plan.certified a.json b.plan.certified b.json says.plan.plan.options said.plan.plan.options tails in
-    let certified = cert_told a.plan.certified a.json ∙ ap (λ (ws : List Bytes). third_letter ws == 99) lasts ∙ sym (cert_told b.plan.certified b.json) in
-    let json = json_told a.plan.certified a.json ∙ ap (λ (ws : List Bytes). length ws == 2 || third_letter ws == 106) lasts ∙ sym (json_told b.plan.certified b.json) in
-    let both : says.plan.front ++ last_words b.plan.certified b.json ≡ said.plan.front ++ last_words b.plan.certified b.json =
-    ap (λ (ws : List Bytes). says.plan.front ++ ws) (sym lasts) ∙ sym (split words a says) ∙ split words b said in
-    let fronts = append_cancel_right says.plan.front said.plan.front (last_words b.plan.certified b.json) both in
-    let plans : uncertified a.plan ≡ uncertified b.plan = plan_same (uncertified a.plan) (uncertified b.plan)
-    (one_command (codes "plan" ∷ said.plan.front) (plan (uncertified a.plan)) (plan (uncertified b.plan))
-    (subst (λ (ws : List Bytes). SaysPlan (codes "plan" ∷ ws) (uncertified a.plan)) fronts says.plan.plan) said.plan.plan) in
-    asked_is a b json (plan_is a.plan b.plan plans certified)
+    let certified : a.plan.certified ≡ b.plan.certified = certified_is words a says ∙ sym (certified_is words b said) in
+    let lasts = last_is words a says ∙ ap (λ (c : Bool). after_cert c (drop 3 words)) certified ∙ sym (last_is words b said) in
+    let json : a.json ≡ b.json = asks_json words a says ∙ ap (λ (ws : List Bytes). length (after_nodes ws) == 1) lasts ∙ sym (asks_json words b said) in
+    let both : says.front ++ json_word b.json ≡ said.front ++ json_word b.json =
+    ap (λ (j : Bool). says.front ++ json_word j) (sym json) ∙ sym says.written ∙ said.written in
+    let fronts = append_cancel_right says.front said.front (json_word b.json) both in
+    let plans = plan_same a.plan b.plan
+    (one_command (codes "plan" ∷ said.front) (plan a.plan) (plan b.plan) (subst (λ (ws : List Bytes). SaysPlan (codes "plan" ∷ ws) a.plan) fronts says.plan) said.plan) in
+    asked_is a b json plans

@@ -36,31 +36,29 @@ wrong_from_json otherwise (word ∷ words) =
     if bytes_eq word (codes "--json") then wrong_after_all otherwise words
     else wrong word (option_reason word)
 
--- what is wrong with `--cert` and the words after it, after this kind
-abbrev pub wrong_at_cert : Bytes → WrongWords → Bytes → List Bytes → WrongWords
-wrong_at_cert kind otherwise word words =
-    if bytes_eq kind (codes "ctl") then wrong word NO_CERTIFICATE.now
-    else wrong_from_json otherwise words
-
--- what is wrong where `--cert` may stand, and `--json` after it
-abbrev pub wrong_from_cert : Bytes → WrongWords → List Bytes → WrongWords
-wrong_from_cert kind otherwise [] = otherwise
-wrong_from_cert kind otherwise (word ∷ words) =
-    if bytes_eq word (codes "--cert") then wrong_at_cert kind otherwise word words
-    else wrong_from_json otherwise (word ∷ words)
-
 -- what is wrong with the words after `--nodes`, which is this word
-abbrev pub wrong_after_nodes : Bytes → Bytes → List Bytes → WrongWords
-wrong_after_nodes kind nodes [] = wrong nodes NO_VALUE.now
-wrong_after_nodes kind nodes (number ∷ words) =
-    wrong_from_cert kind (wrong number NO_NODES.now) words
+abbrev pub wrong_after_nodes : Bytes → List Bytes → WrongWords
+wrong_after_nodes nodes [] = wrong nodes NO_VALUE.now
+wrong_after_nodes nodes (number ∷ words) = wrong_from_json (wrong number NO_NODES.now) words
+
+-- what is wrong where `--nodes` may stand, and `--json` after it
+abbrev pub wrong_from_nodes : List Bytes → WrongWords
+wrong_from_nodes [] = too_few
+wrong_from_nodes (word ∷ words) =
+    if bytes_eq word (codes "--nodes") then wrong_after_nodes word words
+    else wrong_from_json too_few (word ∷ words)
+
+-- what is wrong with `--cert`, which is this word, and the words after it, after this kind
+abbrev pub wrong_at_cert : Bytes → Bytes → List Bytes → WrongWords
+wrong_at_cert kind word words =
+    if bytes_eq kind (codes "ctl") then wrong word NO_CERTIFICATE.now else wrong_from_nodes words
 
 -- what is wrong with the options
 abbrev pub wrong_options : Bytes → List Bytes → WrongWords
 wrong_options kind [] = too_few
 wrong_options kind (word ∷ words) =
-    if bytes_eq word (codes "--nodes") then wrong_after_nodes kind word words
-    else wrong_from_cert kind too_few (word ∷ words)
+    if bytes_eq word (codes "--cert") then wrong_at_cert kind word words
+    else wrong_from_nodes (word ∷ words)
 
 -- what is wrong with the words after a kind
 abbrev pub wrong_after_kind : Bytes → List Bytes → WrongWords

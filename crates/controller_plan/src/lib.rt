@@ -19,6 +19,7 @@ mod followed;
 mod judged;
 mod laws;
 mod made;
+mod node_words;
 mod own_states;
 mod plans;
 mod reach;

@@ -13,7 +13,7 @@ use std::alloc::Global;
 
 /// Makes the controller that the words ask for, writes it, and gives the exit status.
 ///
-/// The words are `KIND DOMAIN PROBLEM`, then `--nodes N` or nothing, then for a class `--cert` or
+/// The words are `KIND DOMAIN PROBLEM`, then for a class `--cert` or nothing, then `--nodes N` or
 /// nothing, and then `--json` or nothing, where KIND, DOMAIN, PROBLEM and N are those of `mbp plan`.
 /// The controller, or `no plan`, goes to `out`. Every other answer goes to `err`: one line, and below
 /// it, where it is a fault in a file or in the words, what helps to find it. The statuses are those of

@@ -1,17 +1,24 @@
 //! The words: which controller is wanted.
 
 ghost use Rattle.controller_plan.specs.Values.{control_words_of};
-ghost use Rattle.controller_plan.specs.Words.{
-  ControlWords as AskedControl,
-  SaysCertified,
-  SaysControl,
-  uncertified,
+ghost use Rattle.controller_plan.specs.Words.{ControlWords as AskedControl, SaysControl};
+ghost use Rattle.command_base.specs.Values.{plan_words_of};
+ghost use Rattle.command_base.specs.Words.{IsNodeLimit, PlanWords as AskedPlan, SaysPlan};
+ghost use Rattle.plan_rules.specs.Texts.{class_word};
+ghost use Rattle.std.specs.Prelude.{
+  ◌≡◌,
+  ◌∷◌,
+  IfSome,
+  MatchOption,
+  codes,
+  map,
+  string_bytes,
+  true,
 };
-ghost use Rattle.command_base.specs.Values.{kind_of, plan_words_of};
-ghost use Rattle.command_base.specs.Words.{IsNodeLimit, MayBeCertified, PlanWords as AskedPlan, with_contexts};
-ghost use Rattle.std.specs.Prelude.{◌≡◌, IfSome, MatchOption, false, map, string_bytes, true};
 
-use command_base::{PlanKind, PlanWords, plain_plan_words};
+use crate::node_words::nodes_in;
+use command_base::{PlanKind, PlanOptions, PlanWords, plain_plan_words};
+use task_core::Class;
 
 /// What is asked: a controller from a plan, as `mbp plan` is asked for one, and whether as a JSON
 /// document.
@@ -21,7 +28,7 @@ pub(crate) struct ControlWords<'a> {
     pub(crate) json: bool,
 }
 
-/// What the words ask: `KIND DOMAIN PROBLEM`, then `--nodes N` or nothing, then for a class `--cert` or
+/// What the words ask: `KIND DOMAIN PROBLEM`, then for a class `--cert` or nothing, then `--nodes N` or
 /// nothing, and then `--json` or nothing.
 pub(crate) fn read_words<'a>(words: &'a [String]) -> Option<ControlWords<'a>>
     ensures room { IfSome result (λ asked. IsNodeLimit asked.plan.options.nodes) }
@@ -58,9 +65,9 @@ fn json_words<'a>(words: &'a [String]) -> Option<ControlWords<'a>>
 /// What the words ask that don't end with `--json`.
 fn plan_words<'a>(words: &'a [String]) -> Option<PlanWords<'a>>
     ensures room { IfSome result (λ asked. IsNodeLimit asked.options.nodes) }
-    ensures said { let said = map string_bytes words.now in
-        MatchOption result ((asked : AskedPlan) → SaysCertified said asked → ⊥)
-        (λ asked. SaysCertified said (plan_words_of asked)) }
+    ensures said { let said = codes "plan" ∷ map string_bytes words.now in
+        MatchOption result ((asked : AskedPlan) → SaysPlan said asked → ⊥)
+        (λ asked. SaysPlan said (plan_words_of asked)) }
 {
     match plain_plan_words(words) {
         Some(plan) => Some(plan),
@@ -68,44 +75,44 @@ fn plan_words<'a>(words: &'a [String]) -> Option<PlanWords<'a>>
     }
 }
 
-/// What the words ask that end with `--cert`.
+/// The same where a certificate is asked for.
 fn certified_words<'a>(words: &'a [String]) -> Option<PlanWords<'a>>
     ensures room { IfSome result (λ asked. IsNodeLimit asked.options.nodes) }
-    ensures said { let said = map string_bytes words.now in
+    ensures said { let said = codes "plan" ∷ map string_bytes words.now in
         MatchOption result
-        ((asked : AskedPlan) → asked.certified ≡ true → SaysCertified said asked → ⊥)
-        (λ asked. SaysCertified said (plan_words_of asked)) }
+        ((asked : AskedPlan) → asked.certified ≡ true → SaysPlan said asked → ⊥)
+        (λ asked. SaysPlan said (plan_words_of asked)) }
 {
-    let [front @ .., last] = words else {
+    let [class, domain, problem, option, rest @ ..] = words else {
         return None;
     };
-    if last.as_str() != "--cert" {
+    if option.as_str() != "--cert" {
         return None;
     }
-    match plain_plan_words(front) {
-        Some(plan) => certified(plan),
-        None => None,
-    }
+    Some(PlanWords {
+        kind: PlanKind::Class(class_named(class)?),
+        domain,
+        problem,
+        options: PlanOptions {
+            nodes: nodes_in(rest)?,
+        },
+        certified: true,
+    })
 }
 
-/// The same plan, and the certificate where there is none, if certificates are made of the kind.
-fn certified<'a>(plan: PlanWords<'a>) -> Option<PlanWords<'a>>
-    requires plain { plan.certified ≡ false }
-    ensures room { IfSome result (λ asked. asked.options.nodes ≡ plan.options.nodes) }
-    ensures wanted { MatchOption result (kind_of plan.kind ≡ with_contexts)
-        (λ asked. asked.certified ≡ true) }
-    ensures same { IfSome result (λ asked.
-        uncertified (plan_words_of asked) ≡ plan_words_of plan) }
-    ensures for_class { IfSome result (λ asked. MayBeCertified (kind_of asked.kind) true) }
+/// The class of this name.
+fn class_named(word: &str) -> Option<Class>
+    ensures { MatchOption result ((class : Class) → word.now ≡ class_word class → ⊥)
+        (λ class. word.now ≡ class_word class) }
 {
-    match plan.kind {
-        PlanKind::Class(class) => Some(PlanWords {
-            kind: PlanKind::Class(class),
-            domain: plan.domain,
-            problem: plan.problem,
-            options: plan.options,
-            certified: true,
-        }),
-        PlanKind::Contexts => None,
+    if word == "weak" {
+        return Some(Class::Weak);
     }
+    if word == "strong" {
+        return Some(Class::Strong);
+    }
+    if word == "cyclic" {
+        return Some(Class::Cyclic);
+    }
+    None
 }

@@ -10,7 +10,7 @@ ghost use Rattle.controller_plan.specs.WrongWords.{
   wrong_after_nodes as wrong_behind_nodes,
   wrong_at_cert as wrong_by_cert,
   wrong_control as wrong_in,
-  wrong_from_cert as wrong_in_cert,
+  wrong_from_nodes as wrong_in_nodes,
   wrong_from_json as wrong_in_json,
   wrong_options as wrong_in_options,
 };
@@ -20,7 +20,7 @@ use answer_help::{NO_KIND, NO_NODES, NO_OPTION, NO_VALUE, WrongWords};
 
 /// Why an option is wrong that stands where another one has to, or none.
 pub(crate) const WRONG_ORDER: &str =
-    "the options are `--nodes N`, `--cert` and `--json`, in this order, each once";
+    "the options are `--cert`, `--nodes N` and `--json`, in this order, each once";
 
 /// Why `--cert` is wrong after `ctl`.
 pub(crate) const NO_CERTIFICATE: &str = "there are no certificates for `ctl`";
@@ -65,16 +65,41 @@ fn wrong_options<'a>(kind: &str, words: &'a [String]) -> WrongWords<'a>
     let [word, rest @ ..] = words else {
         return WrongWords::TooFew;
     };
-    if word.as_str() == "--nodes" {
-        return wrong_after_nodes(kind, word, rest);
+    if word.as_str() == "--cert" {
+        return wrong_at_cert(kind, word, rest);
     }
-    wrong_from_cert(kind, WrongWords::TooFew, words)
+    wrong_from_nodes(words)
+}
+
+/// What is wrong with `--cert`, which is this word, and the words after it.
+fn wrong_at_cert<'a>(kind: &str, word: &'a str, words: &'a [String]) -> WrongWords<'a>
+    ensures { wrong_of result ≡ wrong_by_cert kind.now word.now (map string_bytes words.now) }
+{
+    if kind == "ctl" {
+        return WrongWords::Word {
+            word,
+            why: NO_CERTIFICATE,
+        };
+    }
+    wrong_from_nodes(words)
+}
+
+/// What is wrong where `--nodes` may stand, and `--json` after it.
+fn wrong_from_nodes<'a>(words: &'a [String]) -> WrongWords<'a>
+    ensures { wrong_of result ≡ wrong_in_nodes (map string_bytes words.now) }
+{
+    let [word, rest @ ..] = words else {
+        return WrongWords::TooFew;
+    };
+    if word.as_str() == "--nodes" {
+        return wrong_after_nodes(word, rest);
+    }
+    wrong_from_json(WrongWords::TooFew, words)
 }
 
 /// What is wrong with the words after `--nodes`, which is this word.
-fn wrong_after_nodes<'a>(kind: &str, nodes: &'a str, words: &'a [String]) -> WrongWords<'a>
-    ensures { wrong_of result
-        ≡ wrong_behind_nodes kind.now nodes.now (map string_bytes words.now) }
+fn wrong_after_nodes<'a>(nodes: &'a str, words: &'a [String]) -> WrongWords<'a>
+    ensures { wrong_of result ≡ wrong_behind_nodes nodes.now (map string_bytes words.now) }
 {
     let [number, rest @ ..] = words else {
         return WrongWords::Word {
@@ -86,47 +111,10 @@ fn wrong_after_nodes<'a>(kind: &str, nodes: &'a str, words: &'a [String]) -> Wro
         word: number,
         why: NO_NODES,
     };
-    wrong_from_cert(kind, no_number, rest)
+    wrong_from_json(no_number, rest)
 }
 
-/// What is wrong where `--cert` may stand, and `--json` after it; `otherwise` where it is nothing.
-fn wrong_from_cert<'a>(
-    kind: &str,
-    otherwise: WrongWords<'a>,
-    words: &'a [String],
-) -> WrongWords<'a>
-    ensures { wrong_of result
-        ≡ wrong_in_cert kind.now (wrong_of otherwise) (map string_bytes words.now) }
-{
-    let [word, rest @ ..] = words else {
-        return otherwise;
-    };
-    if word.as_str() == "--cert" {
-        return wrong_at_cert(kind, otherwise, word, rest);
-    }
-    wrong_from_json(otherwise, words)
-}
-
-/// What is wrong with `--cert`, which is this word, and the words after it.
-fn wrong_at_cert<'a>(
-    kind: &str,
-    otherwise: WrongWords<'a>,
-    word: &'a str,
-    words: &'a [String],
-) -> WrongWords<'a>
-    ensures { wrong_of result
-        ≡ wrong_by_cert kind.now (wrong_of otherwise) word.now (map string_bytes words.now) }
-{
-    if kind == "ctl" {
-        return WrongWords::Word {
-            word,
-            why: NO_CERTIFICATE,
-        };
-    }
-    wrong_from_json(otherwise, words)
-}
-
-/// What is wrong where `--json` may stand.
+/// What is wrong where `--json` may stand; `otherwise` where it is nothing.
 fn wrong_from_json<'a>(otherwise: WrongWords<'a>, words: &'a [String]) -> WrongWords<'a>
     ensures { wrong_of result
         ≡ wrong_in_json (wrong_of otherwise) (map string_bytes words.now) }
@@ -143,7 +131,7 @@ fn wrong_from_json<'a>(otherwise: WrongWords<'a>, words: &'a [String]) -> WrongW
     }
 }
 
-/// What is wrong with words after which none may stand.
+/// What is wrong with words after which none may stand; `otherwise` where there are none.
 fn wrong_after_all<'a>(otherwise: WrongWords<'a>, words: &'a [String]) -> WrongWords<'a>
     ensures { wrong_of result
         ≡ wrong_after_them (wrong_of otherwise) (map string_bytes words.now) }

@@ -1,20 +1,22 @@
-use Rattle.std.proofs.Common.{codes, length, map, rules, string_bytes, take, ◌-◌, ◌≡◌}
+use Rattle.std.proofs.Common.{◌-◌, ◌≡◌, codes, drop, length, map, refl, rules, string_bytes, take}
 use Rattle.std.specs.declared.alloc.Global.{Global}
-use Rattle.command_base.specs.Values.{plan_words_of}
-use Rattle.controller_plan.proofs.WordLists.{cert_none, certified_said, last_and_front}
+use Rattle.command_base.proofs.WordLists.{first_four, no_certified, says_certified}
 use Rattle.controller_plan.proofs.words.certified_words.Goals as goal
 
-pub returns-in-Some-clause-said : goal.returns-in-Some-clause-said
-returns-in-Some-clause-said c =
+pub returns-in_err-nodes_in-clause-said : goal.returns-in_err-nodes_in-clause-said
+returns-in_err-nodes_in-clause-said c =
     let words = c.args.words.now in
-    let split = last_and_front (string_bytes {Z = Global}) words c.last-item.result c.in-len1-up.len_at_least c.last-item.is in
-    let last : string_bytes c.last-item.result ≡ codes "--cert" = search rules in
-    certified_said (map (string_bytes {Z = Global}) words) (map (string_bytes {Z = Global}) (take (length words - 1) words)) (string_bytes c.last-item.result) c.in-Some.plan c.certified.result split last
-    c.in-Some.ensures.said c.certified.ensures.wanted c.certified.ensures.same c.certified.ensures.for_class
+    let parts = first_four (string_bytes {Z = Global}) words c.class-item.result c.domain-item.result c.problem-item.result c.option-item.result c.in-len4-up.len_at_least
+    c.class-item.is c.domain-item.is c.problem-item.is c.option-item.is in
+    let none = no_certified (map (string_bytes {Z = Global}) words) (string_bytes c.class-item.result) (string_bytes c.domain-item.result) (string_bytes c.problem-item.result) (string_bytes c.option-item.result)
+    (map (string_bytes {Z = Global}) (take (length words - 4) (drop 4 words))) parts (search rules) in
+    search (rules, none)
 
-pub returns-in-None-clause-said : goal.returns-in-None-clause-said
-returns-in-None-clause-said c =
+pub returns-clause-said : goal.returns-clause-said
+returns-clause-said c =
     let words = c.args.words.now in
-    let split = last_and_front (string_bytes {Z = Global}) words c.last-item.result c.in-len1-up.len_at_least c.last-item.is in
-    let last : string_bytes c.last-item.result ≡ codes "--cert" = search rules in
-    cert_none (map (string_bytes {Z = Global}) words) (map (string_bytes {Z = Global}) (take (length words - 1) words)) (string_bytes c.last-item.result) split last c.in-None.ensures.said
+    let parts = first_four (string_bytes {Z = Global}) words c.class-item.result c.domain-item.result c.problem-item.result c.option-item.result c.in-len4-up.len_at_least
+    c.class-item.is c.domain-item.is c.problem-item.is c.option-item.is in
+    let cert : string_bytes c.option-item.result ≡ codes "--cert" = search rules in
+    says_certified (map (string_bytes {Z = Global}) words) (string_bytes c.class-item.result) (string_bytes c.domain-item.result) (string_bytes c.problem-item.result) (string_bytes c.option-item.result)
+    (map (string_bytes {Z = Global}) (take (length words - 4) (drop 4 words))) _ _ parts cert refl (search rules) (search rules) (search rules) refl (search rules) (search rules)
