@@ -21,7 +21,7 @@ begins_cert words = third_letter words == 99
 abbrev after_nodes : List Bytes → List Bytes
 after_nodes words = if third_letter words == 110 then drop 2 words else words
 
-json_told : (j : Bool) → j ≡ length (json_word j) == 1
+json_told : (j : Bool) → j ≡ (length (json_word j) == 1)
 json_told true = refl
 json_told false = refl
 
@@ -71,7 +71,7 @@ module _ (words : List Bytes) (a : ControlWords) (says : SaysControl words a) wh
   last_is : last ≡ after_cert a.plan.certified (drop 3 words)
   last_is = sym (rest_told a.plan.certified last) ∙ ap (after_cert a.plan.certified) (sym after_three)
 
-  asks_json : a.json ≡ length (after_nodes last) == 1
+  asks_json : a.json ≡ (length (after_nodes last) == 1)
   asks_json = json_told a.json ∙ ap (λ (ws : List Bytes). length ws == 1) (sym (json_is says.plan.rest a.plan.options says.plan.options a.json))
 
 asked_is : (a b : ControlWords) → a.json ≡ b.json → a.plan ≡ b.plan → a ≡ b
