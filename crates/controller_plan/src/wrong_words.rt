@@ -117,7 +117,7 @@ fn wrong_after_nodes<'a>(nodes: &'a str, words: &'a [String]) -> WrongWords<'a>
 /// What is wrong where `--json` may stand; `otherwise` where it is nothing.
 fn wrong_from_json<'a>(otherwise: WrongWords<'a>, words: &'a [String]) -> WrongWords<'a>
     ensures { wrong_of result
-        ≡ wrong_in_json (wrong_of otherwise) (map string_bytes words.now) }
+        ≡ wrong_in_json (wrong_of otherwise.entry) (map string_bytes words.now) }
 {
     let [word, rest @ ..] = words else {
         return otherwise;
@@ -134,7 +134,7 @@ fn wrong_from_json<'a>(otherwise: WrongWords<'a>, words: &'a [String]) -> WrongW
 /// What is wrong with words after which none may stand; `otherwise` where there are none.
 fn wrong_after_all<'a>(otherwise: WrongWords<'a>, words: &'a [String]) -> WrongWords<'a>
     ensures { wrong_of result
-        ≡ wrong_after_them (wrong_of otherwise) (map string_bytes words.now) }
+        ≡ wrong_after_them (wrong_of otherwise.entry) (map string_bytes words.now) }
 {
     let [word, ..] = words else {
         return otherwise;
