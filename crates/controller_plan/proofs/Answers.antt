@@ -3,7 +3,7 @@ use Rattle.std.proofs.Common.{◌≡◌, ◌⊎◌, ◌≤◌, ℕ, List, [], in
 use Rattle.std.specs.Prelude.{IfErr, IfOk, IfSome, Option, Result, Ok, Err, Some, ⊤}
 use Rattle.pddl_ast.specs.Trees.{DomainTree, ProblemTree}
 use Rattle.pddl_system.specs.Sizes.{first_passed}
-use Rattle.plan_io.specs.Fetches.{FetchesNothing}
+use Rattle.plan_io.specs.Fetches.{FetchesNothing, MayFetch}
 use Rattle.plan_io.specs.Held.{Held}
 use Rattle.command_base.specs.Answers.{Answer, Refusal, affirmed, denied, full, no_memory, refused}
 use Rattle.command_base.specs.Faults.{IsQuietAt}
@@ -131,7 +131,7 @@ module _ {S : Type 0} (held : S → Bytes → Held) (failed : Bytes → Type 0) 
   over_both : (domain problem : Bytes) (before after : KeepingShelf S) → FetchesBoth (held_by held before) (KeepsAfter held fetched) domain problem FetchesNothing before after
       → IsTold held before → IsTold held after
   over_both domain problem before after =
-      over_may_fetch (IsTold held) (KeepsAfter held fetched) (told_fetch held fetched) ⊤ domain _ before after (λ between. over_may_fetch (IsTold held) (KeepsAfter held fetched) (told_fetch held fetched)
+      over_may_fetch (IsTold held) (KeepsAfter held fetched) (told_fetch held fetched) ⊤ domain (MayFetch (KeepsAfter held fetched) (HoldsDomain (held_by held before) domain) problem FetchesNothing) before after (λ between. over_may_fetch (IsTold held) (KeepsAfter held fetched) (told_fetch held fetched)
       (HoldsDomain (held_by held before) domain) problem FetchesNothing between after (λ last same told. subst (IsTold held) (sym same) told))
 
   pub told_after : (words : List Bytes) (answer : Answer) (before after : KeepingShelf S) → kept_in before ≡ []
